@@ -1,0 +1,3 @@
+pub mod Results
+pub mod Segments
+pub mod Texts

@@ -1,0 +1,28 @@
+-- What the codes have in common: groups of digits, right numbers, and the order of faults.
+use Rattle.std.specs.Prelude.{ℕ, ◌&&◌, ◌==◌, Bool, true, false, nat_lt, nat_le, nat_eq, not, List, [], ◌∷◌, length, drop, take_while, Option, Some, None, if◌then◌else◌}
+use Rattle.std.specs.Char.{is_ascii_digit}
+use Rattle.std.specs.List.{starts_with, list_all}
+use Rattle.codes_core.specs.declared.fault.CodeFault.{CodeFault}
+use Rattle.codes_core.specs.declared.fault.CodeFault.TheVariants.{Empty, BadShape, BadNumber}
+
+-- the digits at the front
+abbrev pub front_digits : List ℕ → List ℕ
+front_digits text = take_while is_ascii_digit text
+
+-- what follows them
+abbrev pub after_digits : List ℕ → List ℕ
+after_digits text = drop (length (front_digits text)) text
+
+-- one or more digits and nothing else
+abbrev pub is_digits : List ℕ → Bool
+is_digits text = nat_lt 0 (length text) && list_all is_ascii_digit text
+
+-- from 1 to 999,999, without a 0 before it
+abbrev pub is_right_number : List ℕ → Bool
+is_right_number digits = nat_le (length digits) 6 && not (starts_with nat_eq digits (48 ∷ []))
+
+-- the first fault of a text, which has its code's shape or not, with right numbers or not
+abbrev pub code_fault : Bool → Bool → List ℕ → Option CodeFault
+code_fault has_shape has_numbers [] = Some Empty
+code_fault has_shape has_numbers (b ∷ bs) =
+    if has_shape then (if has_numbers then None else Some BadNumber) else Some BadShape

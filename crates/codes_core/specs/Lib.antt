@@ -1,0 +1,6 @@
+pub mod Grammar
+pub mod Thing
+pub mod Loan
+pub mod Place
+pub mod Name
+pub mod Padded

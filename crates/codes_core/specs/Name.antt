@@ -1,0 +1,22 @@
+-- Names as people give them.
+use Rattle.std.specs.Prelude.{ℕ, ◌≡◌, ◌<◌, ◌≤◌, ◌==◌, ◌&&◌, not, nat_le, Bool, List, length, IsUtf8, IsTrue}
+use Rattle.std.specs.List.{list_all}
+use Rattle.codes_core.specs.declared.fault.NameFault.{NameFault}
+use Rattle.codes_core.specs.declared.fault.NameFault.TheVariants.{Empty, BadShape, NoMemory}
+
+-- no control byte
+abbrev pub is_name_byte : ℕ → Bool
+is_name_byte b = nat_le 32 b && not (b == 127)
+
+-- UTF-8 of 1 to 60 bytes, none of them a control
+pub record IsName (text : List ℕ) : Type 0 where
+  pub utf8 : IsUtf8 text
+  pub some : 0 < length text
+  pub few : length text ≤ 60
+  pub plain : IsTrue (list_all is_name_byte text)
+
+-- why the text is no name; a growth may be refused for any that is one
+abbrev pub IsNameFault : NameFault → List ℕ → Type 0
+IsNameFault Empty text = length text ≡ 0
+IsNameFault BadShape text = (0 < length text) × ¬ (IsName text)
+IsNameFault NoMemory text = IsName text

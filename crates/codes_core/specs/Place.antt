@@ -1,0 +1,41 @@
+-- Codes of places: one to four segments, from the building down to the shelf (S1-A).
+use Rattle.std.specs.Prelude.{ℕ, ◌&&◌, ◌||◌, ◌==◌, Bool, true, false, nat_lt, nat_le, List, [], ◌∷◌, length, Option, if◌then◌else◌}
+use Rattle.std.specs.Char.{is_ascii_digit, is_ascii_uppercase}
+use Rattle.std.specs.List.{starts_with, list_all}
+use Rattle.std.specs.Str.{bytes_eq}
+use Rattle.codes_core.specs.declared.fault.CodeFault.{CodeFault}
+use Rattle.codes_core.specs.Grammar.{code_fault}
+
+-- one more byte in front of the first segment
+abbrev pub in_first : ℕ → List (List ℕ) → List (List ℕ)
+in_first b [] = (b ∷ []) ∷ []
+in_first b (s ∷ ss) = (b ∷ s) ∷ ss
+
+-- the parts between the dashes
+abbrev pub segments : List ℕ → List (List ℕ)
+segments [] = [] ∷ []
+segments (b ∷ bs) = if b == 45 then [] ∷ segments bs else in_first b (segments bs)
+
+abbrev pub is_segment_byte : ℕ → Bool
+is_segment_byte b = is_ascii_uppercase b || is_ascii_digit b
+
+-- 1 to 8 of A-Z and 0-9
+abbrev pub is_segment : List ℕ → Bool
+is_segment s = nat_lt 0 (length s) && nat_le (length s) 8 && list_all is_segment_byte s
+
+-- one to n segments, joined by dashes
+abbrev pub is_place_shape : ℕ → List ℕ → Bool
+is_place_shape n text = nat_le (length (segments text)) n && list_all is_segment (segments text)
+
+-- why the text is no place's code; without a fault it is the code
+abbrev pub place_fault : List ℕ → Option CodeFault
+place_fault text = code_fault (is_place_shape 4 text) true text
+
+-- a place lies in another where the other's segments are the first of its own
+abbrev pub lies_in : List ℕ → List ℕ → Bool
+lies_in place other = starts_with bytes_eq (segments place) (segments other)
+
+-- what follows a whole segment: nothing, or a dash
+abbrev pub ends_segment : List ℕ → Bool
+ends_segment [] = true
+ends_segment (b ∷ bs) = b == 45

@@ -1,0 +1,19 @@
+//! The museum's codes: text that was read once and is right from then on.
+//!
+//! Each code has one spelling, so a code is its spelling: two codes are equal where their bytes are,
+//! and writing a code gives back the very bytes that it was read from.
+#![tactic(auto)]
+
+mod digits;
+mod fault;
+mod loan;
+mod name;
+mod place;
+mod spelling;
+mod thing;
+
+pub use fault::{CodeFault, NameFault, NoMemory};
+pub use loan::LoanCode;
+pub use name::Name;
+pub use place::PlaceCode;
+pub use thing::{ThingCode, ThingKind};

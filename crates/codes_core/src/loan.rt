@@ -1,0 +1,90 @@
+//! Codes of loans.
+ghost use Rattle.std.specs.Prelude.{◌≡◌, ◌++◌, ◌∷◌, [], None, Some, OnOk, OnErr, MatchResult, string_bytes};
+ghost use Rattle.codes_core.specs.Loan.{is_out, is_last_group, is_loan_shape, has_loan_number, loan_fault};
+
+use crate::digits::{count_digits, is_digits, is_right_number};
+use crate::fault::test;
+use crate::spelling::Spelling;
+use crate::{CodeFault, NoMemory};
+use std::alloc::Global;
+use std::marker::Model;
+
+/// A loan's code, seen as its one spelling: of a loan out (`LO2024.1`) or a loan in (`LI2024.1`).
+#[derive(Clone, Copy, Debug, PartialEq, Eq, Hash)]
+pub struct LoanCode {
+    spelling: Spelling<13>,
+}
+
+impl Model for LoanCode {
+    ghost use Rattle.std.specs.Prelude.{List, ℕ, ◌≡◌, None};
+    ghost use Rattle.codes_core.specs.Loan.{loan_fault};
+
+    ghost Value = { List ℕ };
+
+    ghost view = { λ c. c.spelling };
+
+    ghost invariant = { λ c. loan_fault c.spelling ≡ None };
+
+    ghost inverse = { λ v. record { spelling = v } };
+}
+
+impl LoanCode {
+    /// The code that the bytes spell, else their first fault: Empty, BadShape or BadNumber.
+    pub fn parse(bytes: &[u8]) -> Result<LoanCode, CodeFault>
+        // What is read is the bytes themselves, and nothing else is a code.
+        ensures exact { MatchResult result (λ code. (code ≡ bytes.now) × (loan_fault bytes.now ≡ None))
+            (λ fault. loan_fault bytes.now ≡ Some fault) }
+    {
+        test(bytes, is_loan_shape(bytes), has_loan_number(bytes))?;
+        Ok(LoanCode {
+            spelling: Spelling::new(bytes),
+        })
+    }
+
+    /// Appends the code's one spelling; after NoMemory the text is unchanged.
+    pub fn write(&self, _alloc: Global, out: &mut String) -> Result<(), NoMemory>
+        ensures ok { OnOk result (string_bytes out.new ≡ string_bytes out.old ++ self.now) }
+        ensures err { OnErr result (string_bytes out.new ≡ string_bytes out.old) }
+    {
+        self.spelling.write(out)
+    }
+
+    /// Whether it is a loan out; else it is a loan in.
+    pub fn is_out(&self) -> bool
+        ensures { result ≡ is_out self.now }
+    {
+        is_out(self.spelling.as_bytes())
+    }
+}
+
+fn is_out(text: &[u8]) -> bool
+    ensures { result ≡ is_out text.now }
+{
+    text.starts_with(b"LO")
+}
+
+fn is_last_group(text: &[u8]) -> bool
+    ensures { result ≡ is_last_group text.now }
+{
+    match text {
+        [b'.', rest @ ..] => is_digits(rest),
+        _ => false,
+    }
+}
+
+fn is_loan_shape(text: &[u8]) -> bool
+    ensures { result ≡ is_loan_shape text.now }
+{
+    if !is_out(text) && !text.starts_with(b"LI") {
+        return false;
+    }
+    let rest = &text[2..];
+    let count = count_digits(rest);
+    count == 4 && is_last_group(&rest[count..])
+}
+
+fn has_loan_number(text: &[u8]) -> bool
+    ensures { result ≡ has_loan_number text.now }
+{
+    is_right_number(text.get(7..).unwrap_or(&[]))
+}

@@ -1,0 +1,113 @@
+//! Codes of places.
+ghost use Rattle.std.specs.Prelude.{◌≡◌, ◌++◌, ◌∷◌, ◌≤◌, [], not, ◌==◌, length, take, drop, None, Some, OnOk, OnErr, MatchResult, string_bytes};
+ghost use Rattle.std.specs.Prelude.{take_while};
+ghost use Rattle.std.specs.List.{list_all};
+ghost use Rattle.codes_core.specs.Place.{is_segment, is_segment_byte, is_place_shape, place_fault, lies_in, ends_segment};
+
+use crate::fault::test;
+use crate::spelling::Spelling;
+use crate::{CodeFault, NoMemory};
+use std::alloc::Global;
+use std::marker::Model;
+
+/// A place's code, seen as its one spelling: segments from the building down to the shelf (`S1-A`).
+#[derive(Clone, Copy, Debug, PartialEq, Eq, Hash)]
+pub struct PlaceCode {
+    spelling: Spelling<35>,
+}
+
+impl Model for PlaceCode {
+    ghost use Rattle.std.specs.Prelude.{List, ℕ, ◌≡◌, None};
+    ghost use Rattle.codes_core.specs.Place.{place_fault};
+
+    ghost Value = { List ℕ };
+
+    ghost view = { λ c. c.spelling };
+
+    ghost invariant = { λ c. place_fault c.spelling ≡ None };
+
+    ghost inverse = { λ v. record { spelling = v } };
+}
+
+impl PlaceCode {
+    /// The code that the bytes spell, else their first fault: Empty or BadShape.
+    pub fn parse(bytes: &[u8]) -> Result<PlaceCode, CodeFault>
+        // What is read is the bytes themselves, and nothing else is a code.
+        ensures exact { MatchResult result (λ code. (code ≡ bytes.now) × (place_fault bytes.now ≡ None))
+            (λ fault. place_fault bytes.now ≡ Some fault) }
+    {
+        test(bytes, is_place_shape(bytes, 4), true)?;
+        Ok(PlaceCode {
+            spelling: Spelling::new(bytes),
+        })
+    }
+
+    /// Appends the code's one spelling; after NoMemory the text is unchanged.
+    pub fn write(&self, _alloc: Global, out: &mut String) -> Result<(), NoMemory>
+        ensures ok { OnOk result (string_bytes out.new ≡ string_bytes out.old ++ self.now) }
+        ensures err { OnErr result (string_bytes out.new ≡ string_bytes out.old) }
+    {
+        self.spelling.write(out)
+    }
+
+    /// Whether the place is the other or lies in it: S1-A lies in S1, S10 does not.
+    pub fn lies_in(&self, other: &PlaceCode) -> bool
+        ensures { result ≡ lies_in self.now other.now }
+    {
+        lies_in(self.spelling.as_bytes(), other.spelling.as_bytes())
+    }
+}
+
+fn lies_in(place: &[u8], other: &[u8]) -> bool
+    ensures { result ≡ lies_in place.now other.now }
+{
+    match place.strip_prefix(other) {
+        None => false,
+        Some(behind) => ends_segment(behind),
+    }
+}
+
+fn ends_segment(behind: &[u8]) -> bool
+    ensures { result ≡ ends_segment behind.now }
+{
+    match behind {
+        [] => true,
+        [b, ..] => *b == b'-',
+    }
+}
+
+/// How many bytes stand before the first dash.
+fn segment_length(text: &[u8]) -> usize
+    ensures count { result ≡ length (take_while (λ b. not (b == 45)) text.now) }
+    ensures within { result ≤ length text.now }
+{
+    text.iter().take_while(|b| **b != b'-').count()
+}
+
+fn are_segment_bytes(text: &[u8]) -> bool
+    ensures { result ≡ list_all is_segment_byte text.now }
+{
+    text.iter().all(|b| b.is_ascii_uppercase() || b.is_ascii_digit())
+}
+
+fn is_segment(text: &[u8]) -> bool
+    ensures { result ≡ is_segment text.now }
+{
+    text.len() > 0 && text.len() <= 8 && are_segment_bytes(text)
+}
+
+fn is_place_shape(text: &[u8], segments: u32) -> bool
+    ensures { result ≡ is_place_shape segments text.now }
+{
+    if segments == 0 {
+        return false;
+    }
+    let (first, rest) = text.split_at(segment_length(text));
+    if !is_segment(first) {
+        return false;
+    }
+    match rest {
+        [] => true,
+        [_, after @ ..] => is_place_shape(after, segments - 1),
+    }
+}

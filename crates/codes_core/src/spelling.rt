@@ -1,0 +1,109 @@
+//! A short text that is kept in place.
+ghost use Rattle.std.specs.Prelude.{◌≡◌, ◌++◌, ◌≤◌, ◌-◌, length, replicate, OnOk, OnErr, string_bytes};
+ghost use Rattle.std.specs.Str.{bytes_eq, IsAscii};
+ghost use Rattle.std.specs.Hash as fed;
+ghost use Rattle.std.specs.Cmp.Rules.{comparing, hashing};
+ghost use Rattle.std.proofs.Common.{rules};
+
+use crate::NoMemory;
+use std::fmt;
+use std::hash::{Hash, Hasher};
+use std::marker::Model;
+
+/// A text of at most N bytes of ASCII, seen as its bytes.
+#[derive(Clone, Copy)]
+pub(crate) struct Spelling<const N: usize> {
+    text: [u8; N],
+    len: usize,
+}
+
+impl<const N: usize> Model for Spelling<N> {
+    ghost use Rattle.std.specs.Prelude.{List, ℕ, ◌≤◌, ◌≡◌, ◌-◌, ◌++◌, take, drop, length, replicate};
+    ghost use Rattle.std.specs.Str.{IsAscii};
+    ghost use Rattle.codes_core.specs.Padded.{padded-take};
+
+    ghost Value = { List ℕ };
+
+    ghost view = { λ s. take s.len s.text };
+
+    ghost invariant = { λ s. IsAscii (take s.len s.text) × (length s.text ≡ N) × (s.len ≤ N) × (drop s.len s.text ≡ replicate (N - s.len) 0) };
+
+    ghost inverse = { λ v. record { text = v ++ replicate (N - length v) 0; len = length v } };
+
+    ghost inverse_ok = { λ a h. padded-take N a h.1 h.2 h.3 };
+}
+
+impl<const N: usize> Spelling<N> {
+    /// The text itself.
+    pub fn new(text: &[u8]) -> Spelling<N>
+        requires fits { length text.now ≤ N }
+        requires ascii { IsAscii text.now }
+        ensures { result ≡ text.now }
+    {
+        Spelling {
+            text: padded(text),
+            len: text.len(),
+        }
+    }
+
+    pub fn as_bytes(&self) -> &[u8]
+        ensures { result.now ≡ self.now }
+    {
+        &self.text[..self.len]
+    }
+
+    pub fn as_str(&self) -> &str
+        ensures { result.now ≡ self.now }
+    {
+        str::from_utf8(&self.text[..self.len]).unwrap()
+    }
+
+    /// Appends the text.
+    pub fn write(&self, out: &mut String) -> Result<(), NoMemory>
+        ensures ok { OnOk result (string_bytes out.new ≡ string_bytes out.old ++ self.now) }
+        ensures err { OnErr result (string_bytes out.new ≡ string_bytes out.old) }
+    {
+        out.push_str(self.as_str())?;
+        Ok(())
+    }
+}
+
+/// The text with zeros behind it.
+fn padded<const N: usize>(text: &[u8]) -> [u8; N]
+    requires { length text.now ≤ N }
+    ensures { result ≡ text.now ++ replicate (N - length text.now) 0 }
+{
+    let mut all = [0u8; N];
+    all[..text.len()].copy_from_slice(text);
+    all
+}
+
+impl<const N: usize> PartialEq for Spelling<N> {
+    ghost eq = { bytes_eq };
+
+    ghost laws = { Prim.search (comparing, rules) };
+
+    fn eq(&self, other: &Spelling<N>) -> bool {
+        self.as_bytes() == other.as_bytes()
+    }
+}
+
+impl<const N: usize> Eq for Spelling<N> {
+    ghost laws = { Prim.search (comparing, rules) };
+}
+
+impl<const N: usize> Hash for Spelling<N> {
+    ghost hash_input = { λ text. fed.slice fed.u8 text };
+
+    ghost respects_eq = { Prim.search (hashing, rules) };
+
+    fn hash<H: Hasher>(&self, state: &mut H) {
+        self.as_bytes().hash(state);
+    }
+}
+
+impl<const N: usize> fmt::Debug for Spelling<N> {
+    fn fmt<W: fmt::Write>(&self, f: &mut fmt::Formatter<W>) -> fmt::Result {
+        f.write_str(self.as_str())
+    }
+}

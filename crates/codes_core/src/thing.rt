@@ -1,0 +1,149 @@
+//! Codes of things.
+ghost use Rattle.std.specs.Prelude.{◌≡◌, ◌++◌, ◌∷◌, [], nat_eq, None, Some, OnOk, OnErr, MatchResult, string_bytes};
+ghost use Rattle.std.specs.List.{starts_with};
+ghost use Rattle.codes_core.specs.Thing.{thing_kind, is_ending, is_tail, is_object_shape, has_right_groups, has_object_numbers, is_thing_shape, has_thing_numbers, thing_fault};
+
+use crate::digits::{count_digits, is_digits, is_right_number};
+use crate::fault::test;
+use crate::spelling::Spelling;
+use crate::{CodeFault, NoMemory};
+use std::alloc::Global;
+use std::marker::Model;
+
+/// What a thing is: an object of the museum's own, an object on loan to it, or a crate, box or tray.
+#[derive(Clone, Copy, Debug, PartialEq, Eq)]
+pub enum ThingKind {
+    Own,
+    Borrowed,
+    Container,
+}
+
+/// A thing's code, seen as its one spelling: an own object's number (`2001.4.2a`), a borrowed object's
+/// (`L1999.7`) or a container's (`C17`).
+#[derive(Clone, Copy, Debug, PartialEq, Eq, Hash)]
+pub struct ThingCode {
+    spelling: Spelling<27>,
+}
+
+impl Model for ThingCode {
+    ghost use Rattle.std.specs.Prelude.{List, ℕ, ◌≡◌, None};
+    ghost use Rattle.codes_core.specs.Thing.{thing_fault};
+
+    ghost Value = { List ℕ };
+
+    ghost view = { λ c. c.spelling };
+
+    ghost invariant = { λ c. thing_fault c.spelling ≡ None };
+
+    ghost inverse = { λ v. record { spelling = v } };
+}
+
+impl ThingCode {
+    /// The code that the bytes spell, else their first fault: Empty, BadShape or BadNumber.
+    pub fn parse(bytes: &[u8]) -> Result<ThingCode, CodeFault>
+        // What is read is the bytes themselves, and nothing else is a code.
+        ensures exact { MatchResult result (λ code. (code ≡ bytes.now) × (thing_fault bytes.now ≡ None))
+            (λ fault. thing_fault bytes.now ≡ Some fault) }
+    {
+        test(bytes, is_thing_shape(bytes), has_thing_numbers(bytes))?;
+        Ok(ThingCode {
+            spelling: Spelling::new(bytes),
+        })
+    }
+
+    /// Appends the code's one spelling; after NoMemory the text is unchanged.
+    pub fn write(&self, _alloc: Global, out: &mut String) -> Result<(), NoMemory>
+        ensures ok { OnOk result (string_bytes out.new ≡ string_bytes out.old ++ self.now) }
+        ensures err { OnErr result (string_bytes out.new ≡ string_bytes out.old) }
+    {
+        self.spelling.write(out)
+    }
+
+    /// What the code says the thing is.
+    pub fn kind(&self) -> ThingKind
+        ensures { result ≡ thing_kind self.now }
+    {
+        match self.spelling.as_bytes() {
+            [b'C', ..] => ThingKind::Container,
+            [b'L', ..] => ThingKind::Borrowed,
+            _ => ThingKind::Own,
+        }
+    }
+}
+
+fn is_ending_text(text: &[u8]) -> bool
+    ensures { result ≡ is_ending text.now }
+{
+    match text {
+        [] => true,
+        [b] => b.is_ascii_lowercase(),
+        _ => false,
+    }
+}
+
+fn is_tail_text(text: &[u8], groups: u32) -> bool
+    ensures { result ≡ is_tail groups text.now }
+{
+    match text {
+        [b'.', rest @ ..] if groups > 0 => {
+            let count = count_digits(rest);
+            count > 0 && is_tail_text(&rest[count..], groups - 1)
+        }
+        _ => is_ending_text(text),
+    }
+}
+
+fn starts_with_dot(text: &[u8]) -> bool
+    ensures { result ≡ starts_with nat_eq text.now (46 ∷ []) }
+{
+    matches!(text, [b'.', ..])
+}
+
+fn is_object_shape(text: &[u8]) -> bool
+    ensures { result ≡ is_object_shape text.now }
+{
+    let count = count_digits(text);
+    let rest = &text[count..];
+    count == 4 && starts_with_dot(rest) && is_tail_text(rest, 3)
+}
+
+fn has_right_groups(text: &[u8], groups: u32) -> bool
+    ensures { result ≡ has_right_groups groups text.now }
+{
+    match text {
+        [b'.', rest @ ..] if groups > 0 => {
+            let count = count_digits(rest);
+            is_right_number(&rest[..count]) && has_right_groups(&rest[count..], groups - 1)
+        }
+        _ => true,
+    }
+}
+
+fn has_object_numbers(text: &[u8]) -> bool
+    ensures { result ≡ has_object_numbers text.now }
+{
+    let count = count_digits(text);
+    has_right_groups(&text[count..], 3)
+}
+
+fn is_thing_shape(text: &[u8]) -> bool
+    ensures { result ≡ is_thing_shape text.now }
+{
+    match text {
+        [] => false,
+        [b'C', rest @ ..] => is_digits(rest),
+        [b'L', rest @ ..] => is_object_shape(rest),
+        _ => is_object_shape(text),
+    }
+}
+
+fn has_thing_numbers(text: &[u8]) -> bool
+    ensures { result ≡ has_thing_numbers text.now }
+{
+    match text {
+        [] => true,
+        [b'C', rest @ ..] => is_right_number(rest),
+        [b'L', rest @ ..] => has_object_numbers(rest),
+        _ => has_object_numbers(text),
+    }
+}
