@@ -1,3 +1,4 @@
+pub mod Days
 pub mod Results
 pub mod Segments
 pub mod Texts

@@ -11,6 +11,7 @@ use Rattle.std.proofs.lemmas.List.Sums.{prefix_len-le-length}
 use Rattle.std.proofs.lemmas.Str.Ascii.{IsAscii-nil}
 use Rattle.std.specs.Str.{IsAscii}
 use Rattle.std.specs.Prelude.{None, ◌*◌}
+use Rattle.codes_core.specs.declared.fault.CodeFault.TheVariants.{BadNumber}
 use Rattle.codes_core.specs.Grammar.{code_fault}
 use Rattle.codes_core.proofs.Texts.{and_parts, no_fault, IsShort, ascii_cons}
 use Rattle.codes_core.specs.Place.{is_segment_byte, segments, in_first, is_segment, is_place_shape, lies_in, ends_segment}
@@ -34,24 +35,24 @@ step : (b : ℕ) (bs : List ℕ) (n : ℕ) → n ≡ length (take n bs) → in_f
 step b bs n whole =
     let more : suc n ≡ 1 + n = omega arith in
     subst (λ m. in_first b (take n bs ∷ following (drop n bs)) ≡ take m (b ∷ bs) ∷ following (drop (length (take m (b ∷ bs))) (b ∷ bs))) more
-      (rw (← whole) refl)
+    (rw (← whole) refl)
 
 pub segments-front : (text : List ℕ) → segments text ≡ front text ∷ following (rest text)
 segments-front [] = refl
 segments-front (b ∷ bs) =
     elim (b == 45) as (λ t. cond t ([] ∷ segments bs) (in_first b (segments bs)) ≡ take (cond (not t) (1 + prefix_len is_plain bs) 0) (b ∷ bs) ∷ following (drop (length (take (cond (not t) (1 + prefix_len is_plain bs) 0) (b ∷ bs))) (b ∷ bs))) [
-      true ↦ refl
-    | false ↦ ap (in_first b) (segments-front bs)
-        ∙ ap (λ n. in_first b (front bs ∷ following (drop n bs))) (length-prefix_len is_plain bs)
-        ∙ step b bs (prefix_len is_plain bs) (sym (length-prefix_len is_plain bs))
+      | true ↦ refl
+      | false ↦ ap (in_first b) (segments-front bs)
+          ∙ ap (λ n. in_first b (front bs ∷ following (drop n bs))) (length-prefix_len is_plain bs)
+          ∙ step b bs (prefix_len is_plain bs) (sym (length-prefix_len is_plain bs))
     ]
 
 -- no text lies in a place
 empty-lies_in : (b : ℕ) (bs : List ℕ) → lies_in [] (b ∷ bs) ≡ false
 empty-lies_in b bs =
     elim (b == 45) as (λ t. pointwise bytes_eq (cond t ([] ∷ segments bs) (in_first b (segments bs))) (take (length (cond t ([] ∷ segments bs) (in_first b (segments bs)))) ([] ∷ [])) ≡ false) [
-      true ↦ rw (segments-front bs) refl
-    | false ↦ rw (segments-front bs) refl
+      | true ↦ rw (segments-front bs) refl
+      | false ↦ rw (segments-front bs) refl
     ]
 
 -- the other is in front, up to the end of a segment
@@ -90,22 +91,22 @@ pub lies_in_front : (place other : List ℕ) → lies_in place other ≡ is_fron
 lies_in_front [] [] = refl
 lies_in_front (a ∷ place) [] =
     elim (a == 45) as (λ t. pointwise bytes_eq ([] ∷ []) (take 1 (cond t ([] ∷ segments place) (in_first a (segments place)))) ≡ t) [
-      true ↦ refl
-    | false ↦ rw (segments-front place) refl
+      | true ↦ refl
+      | false ↦ rw (segments-front place) refl
     ]
 lies_in_front [] (b ∷ other) = empty-lies_in b other
 lies_in_front (a ∷ place) (b ∷ other) = elim (b == 45) as (λ t. b == 45 ≡ t → from (cond t ([] ∷ segments other) (in_first b (segments other))) (segments (a ∷ place)) ≡ is_front (a ∷ place) (b ∷ other)) [
-    true ↦ λ f. let dash : b ≡ 45 = is_dash b f in elim (a == 45) as (λ t. a == 45 ≡ t → from ([] ∷ segments other) (cond t ([] ∷ segments place) (in_first a (segments place))) ≡ is_front (a ∷ place) (b ∷ other)) [
-        true ↦ λ e. let first : a ≡ 45 = is_dash a e in rw (eq_true a b (first ∙ sym dash)) (lies_in_front place other)
-      | false ↦ λ e. rw (segments-front place, eq_false a b (λ h. no_dash a e (h ∙ dash))) refl
-      ] refl
-  | false ↦ λ f. elim (a == 45) as (λ t. a == 45 ≡ t → from (in_first b (segments other)) (cond t ([] ∷ segments place) (in_first a (segments place))) ≡ is_front (a ∷ place) (b ∷ other)) [
-        true ↦ λ e. let first : a ≡ 45 = is_dash a e in rw (segments-front other, eq_false a b (λ h. no_dash b f (sym h ∙ first))) refl
-      | false ↦ λ e. rw (segments-front place, segments-front other) (both_in a b (front place) (front other) (following (rest place)) (following (rest other)) (is_front place other)
-          (rw (segments-front place, segments-front other) at (lies_in_front place other))
-          ∙ sym (and_assoc (a == b) (pointwise nat_eq (take (length other) place) other) (ends_segment (drop (length other) place))))
-      ] refl
+  | true ↦ λ f. let dash : b ≡ 45 = is_dash b f in elim (a == 45) as (λ t. a == 45 ≡ t → from ([] ∷ segments other) (cond t ([] ∷ segments place) (in_first a (segments place))) ≡ is_front (a ∷ place) (b ∷ other)) [
+    | true ↦ λ e. let first : a ≡ 45 = is_dash a e in rw (eq_true a b (first ∙ sym dash)) (lies_in_front place other)
+    | false ↦ λ e. rw (segments-front place, eq_false a b (λ h. no_dash a e (h ∙ dash))) refl
   ] refl
+  | false ↦ λ f. elim (a == 45) as (λ t. a == 45 ≡ t → from (in_first b (segments other)) (cond t ([] ∷ segments place) (in_first a (segments place))) ≡ is_front (a ∷ place) (b ∷ other)) [
+    | true ↦ λ e. let first : a ≡ 45 = is_dash a e in rw (segments-front other, eq_false a b (λ h. no_dash b f (sym h ∙ first))) refl
+    | false ↦ λ e. rw (segments-front place, segments-front other) (both_in a b (front place) (front other) (following (rest place)) (following (rest other)) (is_front place other)
+        (rw (segments-front place, segments-front other) at (lies_in_front place other))
+        ∙ sym (and_assoc (a == b) (pointwise nat_eq (take (length other) place) other) (ends_segment (drop (length other) place))))
+  ] refl
+] refl
 
 -- the same by what follows the other's text
 pub lies_in_behind : (place other behind : List ℕ) → pointwise nat_eq (take (length other) place) other ≡ true → behind ≡ drop (length other) place → lies_in place other ≡ ends_segment behind
@@ -139,8 +140,8 @@ is_place_shape-zero n text none = rw (none, segments-front text, no_less (length
 first_then : (n : ℕ) (text : List ℕ) → is_place_shape (suc n) text ≡ is_segment (front text) && goes_on n (rest text)
 first_then n text =
     rw (segments-front text, le_step (length (following (rest text))) n)
-      (swapped (nat_le (length (following (rest text))) n) (is_segment (front text)) (list_all is_segment (following (rest text)))
-      ∙ ap (λ t. is_segment (front text) && t) (tail_shape n (rest text)))
+    (swapped (nat_le (length (following (rest text))) n) (is_segment (front text)) (list_all is_segment (following (rest text)))
+    ∙ ap (λ t. is_segment (front text) && t) (tail_shape n (rest text)))
 
 front_taken : (text : List ℕ) → take (length (front text)) text ≡ front text
 front_taken text = rw (length-prefix_len is_plain text) refl
@@ -216,16 +217,16 @@ segment_ascii b h = grind (arith, nat_tests)
 all_ascii : (text : List ℕ) → list_all (list_all is_segment_byte) (segments text) ≡ true → IsAscii text
 all_ascii [] h = IsAscii-nil
 all_ascii (b ∷ bs) h = elim (b == 45) as (λ t. b == 45 ≡ t → list_all (list_all is_segment_byte) (cond t ([] ∷ segments bs) (in_first b (segments bs))) ≡ true → IsAscii (b ∷ bs)) [
-      true ↦ λ e g. let dash : b ≡ 45 = is_dash b e in ascii_cons b bs (omega arith) (all_ascii bs g)
-    | false ↦ λ e g.
-        let both : ((is_segment_byte b && list_all is_segment_byte (front bs)) ≡ true) × (list_all (list_all is_segment_byte) (following (rest bs)) ≡ true) = and_parts _ _ (rw (segments-front bs) at g) in
-        let first : (is_segment_byte b ≡ true) × (list_all is_segment_byte (front bs) ≡ true) = and_parts _ _ both.0 in
-        ascii_cons b bs (segment_ascii b first.0) (all_ascii bs (rw (segments-front bs, first.1, both.1) refl))
-    ] refl h
+  | true ↦ λ e g. let dash : b ≡ 45 = is_dash b e in ascii_cons b bs (omega arith) (all_ascii bs g)
+  | false ↦ λ e g.
+      let both : ((is_segment_byte b && list_all is_segment_byte (front bs)) ≡ true) × (list_all (list_all is_segment_byte) (following (rest bs)) ≡ true) = and_parts _ _ (rw (segments-front bs) at g) in
+      let first : (is_segment_byte b ≡ true) × (list_all is_segment_byte (front bs) ≡ true) = and_parts _ _ both.0 in
+      ascii_cons b bs (segment_ascii b first.0) (all_ascii bs (rw (segments-front bs, first.1, both.1) refl))
+] refl h
 
 -- a place's code has at most 35 bytes
-pub place_text : (shape : Bool) (bs : List ℕ) → shape ≡ is_place_shape 4 bs → code_fault shape true bs ≡ None → IsShort 35 bs
+pub place_text : (shape : Bool) (bs : List ℕ) → shape ≡ is_place_shape 4 bs → code_fault BadNumber shape true bs ≡ None → IsShort 35 bs
 place_text shape bs s h =
-    let is : is_place_shape 4 bs ≡ true = sym s ∙ (no_fault shape true bs h).0 in
+    let is : is_place_shape 4 bs ≡ true = sym s ∙ (no_fault BadNumber shape true bs h).0 in
     let few : length bs + 1 ≤ 9 * 4 = place_length 4 bs is in
     record { ascii = all_ascii bs (are_plain (segments bs) (and_parts _ _ is).1); short = omega arith }

@@ -12,6 +12,7 @@ use Rattle.std.specs.List.{starts_with, list_all, prefix_len}
 use Rattle.std.specs.Char.{is_ascii_digit, is_ascii_lowercase}
 use Rattle.std.specs.Prelude.{take_while}
 use Rattle.codes_core.specs.declared.fault.CodeFault.{CodeFault}
+use Rattle.codes_core.specs.declared.fault.CodeFault.TheVariants.{BadNumber}
 use Rattle.codes_core.specs.Grammar.{front_digits, after_digits, is_digits, is_right_number, code_fault}
 use Rattle.codes_core.specs.Loan.{is_out, is_last_group, is_loan_shape, has_loan_number}
 use Rattle.codes_core.specs.Thing.{is_ending, is_tail, is_object_shape, has_right_groups, has_object_numbers, is_thing_shape, has_thing_numbers, thing_fault}
@@ -48,9 +49,9 @@ one_taken p b bs n first rest =
 all_taken : (p : ℕ → Bool) (bs : List ℕ) → list_all p (take_while p bs) ≡ true
 all_taken p [] = refl
 all_taken p (b ∷ bs) = elim (p b) as (λ t. p b ≡ t → list_all p (take (cond t (1 + prefix_len p bs) 0) (b ∷ bs)) ≡ true) [
-    true ↦ λ e. one_taken p b bs (prefix_len p bs) e (all_taken p bs)
+  | true ↦ λ e. one_taken p b bs (prefix_len p bs) e (all_taken p bs)
   | false ↦ λ e. refl
-  ] refl
+] refl
 
 taken_front : (p : ℕ → Bool) (bs : List ℕ) → take_while p bs ++ drop (length (take_while p bs)) bs ≡ bs
 taken_front p bs = rw (length-prefix_len p bs) (take-append-drop (prefix_len p bs) bs)
@@ -65,9 +66,9 @@ digits_and_rest bs =
 
 pub digits_then : (n m k : ℕ) (bs : List ℕ) → length (front_digits bs) ≤ n → IsShort m (after_digits bs) → n + m ≤ k → IsShort k bs
 digits_then n m k bs few rest fits = record {
-    ascii = subst IsAscii (taken_front is_ascii_digit bs) (IsAscii-append (front_digits bs) (after_digits bs) (front_ascii bs) rest.ascii);
-    short = omega (arith, digits_and_rest bs);
-  }
+  ascii = subst IsAscii (taken_front is_ascii_digit bs) (IsAscii-append (front_digits bs) (after_digits bs) (front_ascii bs) rest.ascii);
+  short = omega (arith, digits_and_rest bs);
+}
 
 pub one_more : (n k b : ℕ) (bs : List ℕ) → b < 128 → IsShort n bs → n + 1 ≤ k → IsShort k (b ∷ bs)
 one_more n k b bs h rest fits = record { ascii = ascii_cons b bs h rest.ascii; short = omega arith }
@@ -92,12 +93,12 @@ tail_short zero bs tail right = ending_short bs tail
 tail_short (suc n) [] tail right = record { ascii = IsAscii-nil; short = omega arith }
 tail_short (suc n) (b ∷ bs) tail right =
     elim (b == 46) as (λ t. b == 46 ≡ t → cond t (nat_lt 0 (length (front_digits bs)) && is_tail n (after_digits bs)) (is_ending (b ∷ bs)) ≡ true → cond t (is_right_number (front_digits bs) && has_right_groups n (after_digits bs)) true ≡ true → IsShort (7 * suc n + 1) (b ∷ bs)) [
-      true ↦ λ e t r. let dot : b ≡ 46 = grind (arith, nat_tests) in
-        let ts : (nat_lt 0 (length (front_digits bs)) ≡ true) × (is_tail n (after_digits bs) ≡ true) = and_parts _ _ t in
-        let rs : (is_right_number (front_digits bs) ≡ true) × (has_right_groups n (after_digits bs) ≡ true) = and_parts _ _ r in
-        one_more (7 * n + 7) (7 * suc n + 1) b bs (omega arith)
+      | true ↦ λ e t r. let dot : b ≡ 46 = grind (arith, nat_tests) in
+          let ts : (nat_lt 0 (length (front_digits bs)) ≡ true) × (is_tail n (after_digits bs) ≡ true) = and_parts _ _ t in
+          let rs : (is_right_number (front_digits bs) ≡ true) × (has_right_groups n (after_digits bs) ≡ true) = and_parts _ _ r in
+          one_more (7 * n + 7) (7 * suc n + 1) b bs (omega arith)
           (digits_then 6 (7 * n + 1) (7 * n + 7) bs (number_short (front_digits bs) rs.0) (tail_short n (after_digits bs) ts.1 rs.1) (omega arith)) (omega arith)
-    | false ↦ λ e t r. longer 1 (7 * suc n + 1) (b ∷ bs) (ending_short (b ∷ bs) t) (omega arith)
+      | false ↦ λ e t r. longer 1 (7 * suc n + 1) (b ∷ bs) (ending_short (b ∷ bs) t) (omega arith)
     ] refl tail right
 
 object_short : (bs : List ℕ) → is_object_shape bs ≡ true → has_object_numbers bs ≡ true → IsShort 26 bs
@@ -111,20 +112,20 @@ thing_short : (bs : List ℕ) → is_thing_shape bs ≡ true → has_thing_numbe
 thing_short [] shape right = absurd (cc)
 thing_short (b ∷ bs) shape right =
     elim (b == 67) as (λ t. b == 67 ≡ t → cond t (is_digits bs) (cond (b == 76) (is_object_shape bs) (is_object_shape (b ∷ bs))) ≡ true → cond t (is_right_number bs) (cond (b == 76) (has_object_numbers bs) (has_object_numbers (b ∷ bs))) ≡ true → IsShort 27 (b ∷ bs)) [
-      true ↦ λ e s r. let c : b ≡ 67 = grind (arith, nat_tests) in one_more 6 27 b bs (omega arith) (digits_short bs s r) (omega arith)
-    | false ↦ λ e s r. elim (b == 76) as (λ t. b == 76 ≡ t → cond t (is_object_shape bs) (is_object_shape (b ∷ bs)) ≡ true → cond t (has_object_numbers bs) (has_object_numbers (b ∷ bs)) ≡ true → IsShort 27 (b ∷ bs)) [
-        true ↦ λ f s' r'. let l : b ≡ 76 = grind (arith, nat_tests) in one_more 26 27 b bs (omega arith) (object_short bs s' r') (omega arith)
-      | false ↦ λ f s' r'. longer 26 27 (b ∷ bs) (object_short (b ∷ bs) s' r') (omega arith)
+      | true ↦ λ e s r. let c : b ≡ 67 = grind (arith, nat_tests) in one_more 6 27 b bs (omega arith) (digits_short bs s r) (omega arith)
+      | false ↦ λ e s r. elim (b == 76) as (λ t. b == 76 ≡ t → cond t (is_object_shape bs) (is_object_shape (b ∷ bs)) ≡ true → cond t (has_object_numbers bs) (has_object_numbers (b ∷ bs)) ≡ true → IsShort 27 (b ∷ bs)) [
+        | true ↦ λ f s' r'. let l : b ≡ 76 = grind (arith, nat_tests) in one_more 26 27 b bs (omega arith) (object_short bs s' r') (omega arith)
+        | false ↦ λ f s' r'. longer 26 27 (b ∷ bs) (object_short (b ∷ bs) s' r') (omega arith)
       ] refl s r
     ] refl shape right
 
 -- a text without a fault has its code's shape and right numbers
-pub no_fault : (shape right : Bool) (bs : List ℕ) → code_fault shape right bs ≡ None → (shape ≡ true) × (right ≡ true)
-no_fault true true bs h = (refl, refl)
-no_fault true false [] h = absurd (cc)
-no_fault true false (b ∷ bs) h = absurd (cc)
-no_fault false right [] h = absurd (cc)
-no_fault false right (b ∷ bs) h = absurd (cc)
+pub no_fault : (last : CodeFault) (shape right : Bool) (bs : List ℕ) → code_fault last shape right bs ≡ None → (shape ≡ true) × (right ≡ true)
+no_fault last true true bs h = (refl, refl)
+no_fault last true false [] h = absurd (cc)
+no_fault last true false (b ∷ bs) h = absurd (cc)
+no_fault last false right [] h = absurd (cc)
+no_fault last false right (b ∷ bs) h = absurd (cc)
 
 last_group_short : (bs : List ℕ) → is_last_group bs ≡ true → length bs ≤ 7 → IsShort 7 bs
 last_group_short [] h few = record { ascii = IsAscii-nil; short = omega arith }
@@ -160,17 +161,17 @@ loan_short bs shape right =
     let is : length (front_digits (drop 2 bs)) ≡ 4 = grind (arith, nat_tests) in
     let few = number_short (drop 7 bs) right in
     let last : IsShort 7 (after_digits (drop 2 bs)) = last_group_short (after_digits (drop 2 bs)) parts.1
-          (omega (arith, digits_and_rest (drop 2 bs), length-drop 7 bs, length-drop 2 bs)) in
+    (omega (arith, digits_and_rest (drop 2 bs), length-drop 7 bs, length-drop 2 bs)) in
     let rest : IsShort 11 (drop 2 bs) = digits_then 4 7 11 (drop 2 bs) (omega arith) last (omega arith) in
     elim (or_parts (is_out bs) (starts_with nat_eq bs (codes "LI")) front.0) [
-      inl out ↦ front_two bs 76 79 (omega arith) (omega arith) out rest
-    | inr loan_in ↦ front_two bs 76 73 (omega arith) (omega arith) loan_in rest
+      | inl out ↦ front_two bs 76 79 (omega arith) (omega arith) out rest
+      | inr loan_in ↦ front_two bs 76 73 (omega arith) (omega arith) loan_in rest
     ]
 
 -- a thing's code has at most 27 bytes
-pub thing_text : (shape right : Bool) (bs : List ℕ) → shape ≡ is_thing_shape bs → right ≡ has_thing_numbers bs → code_fault shape right bs ≡ None → IsShort 27 bs
-thing_text shape right bs s r h = let is = no_fault shape right bs h in thing_short bs (sym s ∙ is.0) (sym r ∙ is.1)
+pub thing_text : (shape right : Bool) (bs : List ℕ) → shape ≡ is_thing_shape bs → right ≡ has_thing_numbers bs → code_fault BadNumber shape right bs ≡ None → IsShort 27 bs
+thing_text shape right bs s r h = let is = no_fault BadNumber shape right bs h in thing_short bs (sym s ∙ is.0) (sym r ∙ is.1)
 
 -- a loan's code has at most 13 bytes
-pub loan_text : (shape right : Bool) (bs : List ℕ) → shape ≡ is_loan_shape bs → right ≡ has_loan_number bs → code_fault shape right bs ≡ None → IsShort 13 bs
-loan_text shape right bs s r h = let is = no_fault shape right bs h in loan_short bs (sym s ∙ is.0) (sym r ∙ is.1)
+pub loan_text : (shape right : Bool) (bs : List ℕ) → shape ≡ is_loan_shape bs → right ≡ has_loan_number bs → code_fault BadNumber shape right bs ≡ None → IsShort 13 bs
+loan_text shape right bs s r h = let is = no_fault BadNumber shape right bs h in loan_short bs (sym s ∙ is.0) (sym r ∙ is.1)

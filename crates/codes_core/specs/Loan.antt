@@ -2,6 +2,7 @@
 use Rattle.std.specs.Prelude.{ℕ, ◌&&◌, ◌||◌, ◌==◌, Bool, true, false, nat_eq, List, [], ◌∷◌, length, drop, take, Option, codes}
 use Rattle.std.specs.List.{starts_with}
 use Rattle.codes_core.specs.declared.fault.CodeFault.{CodeFault}
+use Rattle.codes_core.specs.declared.fault.CodeFault.TheVariants.{BadNumber}
 use Rattle.codes_core.specs.Grammar.{front_digits, after_digits, is_digits, is_right_number, code_fault}
 
 -- LO is a loan out
@@ -25,4 +26,4 @@ has_loan_number text = is_right_number (drop 7 text)
 
 -- why the text is no loan's code; without a fault it is the code
 abbrev pub loan_fault : List ℕ → Option CodeFault
-loan_fault text = code_fault (is_loan_shape text) (has_loan_number text) text
+loan_fault text = code_fault BadNumber (is_loan_shape text) (has_loan_number text) text

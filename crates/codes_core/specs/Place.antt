@@ -4,6 +4,7 @@ use Rattle.std.specs.Char.{is_ascii_digit, is_ascii_uppercase}
 use Rattle.std.specs.List.{starts_with, list_all}
 use Rattle.std.specs.Str.{bytes_eq}
 use Rattle.codes_core.specs.declared.fault.CodeFault.{CodeFault}
+use Rattle.codes_core.specs.declared.fault.CodeFault.TheVariants.{BadNumber}
 use Rattle.codes_core.specs.Grammar.{code_fault}
 
 -- one more byte in front of the first segment
@@ -29,7 +30,7 @@ is_place_shape n text = nat_le (length (segments text)) n && list_all is_segment
 
 -- why the text is no place's code; without a fault it is the code
 abbrev pub place_fault : List ℕ → Option CodeFault
-place_fault text = code_fault (is_place_shape 4 text) true text
+place_fault text = code_fault BadNumber (is_place_shape 4 text) true text
 
 -- a place lies in another where the other's segments are the first of its own
 abbrev pub lies_in : List ℕ → List ℕ → Bool

@@ -3,6 +3,7 @@ use Rattle.std.specs.Prelude.{ℕ, zero, suc, ◌&&◌, ◌==◌, Bool, true, fa
 use Rattle.std.specs.Char.{is_ascii_lowercase}
 use Rattle.std.specs.List.{starts_with}
 use Rattle.codes_core.specs.declared.fault.CodeFault.{CodeFault}
+use Rattle.codes_core.specs.declared.fault.CodeFault.TheVariants.{BadNumber}
 use Rattle.codes_core.specs.declared.thing.ThingKind.{ThingKind}
 use Rattle.codes_core.specs.declared.thing.ThingKind.TheVariants.{Own, Borrowed, Container}
 use Rattle.codes_core.specs.Grammar.{front_digits, after_digits, is_digits, is_right_number, code_fault}
@@ -53,4 +54,4 @@ has_thing_numbers (b ∷ bs) =
 
 -- why the text is no thing's code; without a fault it is the code
 abbrev pub thing_fault : List ℕ → Option CodeFault
-thing_fault text = code_fault (is_thing_shape text) (has_thing_numbers text) text
+thing_fault text = code_fault BadNumber (is_thing_shape text) (has_thing_numbers text) text

@@ -1,8 +1,8 @@
 //! Groups of digits.
-ghost use Rattle.std.specs.Prelude.{◌≡◌, ◌≤◌, length};
+ghost use Rattle.std.specs.Prelude.{◌≡◌, ◌≤◌, ◌<◌, ◌^◌, length, IsTrue};
 ghost use Rattle.std.specs.Char.{is_ascii_digit};
 ghost use Rattle.std.specs.List.{list_all};
-ghost use Rattle.codes_core.specs.Grammar.{front_digits, is_digits, is_right_number};
+ghost use Rattle.codes_core.specs.Grammar.{front_digits, is_digits, is_right_number, number_of};
 
 /// How many digits stand at the front.
 pub(crate) fn count_digits(text: &[u8]) -> usize
@@ -19,7 +19,8 @@ pub(crate) fn is_digits(text: &[u8]) -> bool
     text.len() > 0 && are_digits(text)
 }
 
-fn are_digits(text: &[u8]) -> bool
+/// Whether each byte is a digit.
+pub(crate) fn are_digits(text: &[u8]) -> bool
     ensures { result ≡ list_all is_ascii_digit text.now }
 {
     text.iter().all(|b| b.is_ascii_digit())
@@ -30,4 +31,18 @@ pub(crate) fn is_right_number(digits: &[u8]) -> bool
     ensures { result ≡ is_right_number digits.now }
 {
     digits.len() <= 6 && !digits.starts_with(b"0")
+}
+
+/// The number that at most four digits spell.
+pub(crate) fn number_of(digits: &[u8]) -> u16
+    requires digits { IsTrue (list_all is_ascii_digit digits.now) }
+    requires few { length digits.now ≤ 4 }
+    ensures value { result ≡ number_of digits.now }
+    ensures bound { result < 10 ^ length digits.now }
+{
+    let mut number = 0;
+    for digit in digits {
+        number = 10 * number + (*digit - b'0') as u16;
+    }
+    number
 }

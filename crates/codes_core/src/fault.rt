@@ -57,10 +57,15 @@ impl From<AllocError> for NameFault {
     }
 }
 
-/// The first fault of a text, which has its code's shape or not, with right numbers or not.
-pub(crate) fn test(bytes: &[u8], has_shape: bool, has_numbers: bool) -> Result<(), CodeFault>
-    ensures { MatchResult result (λ _. code_fault has_shape has_numbers bytes.now ≡ None)
-        (λ fault. code_fault has_shape has_numbers bytes.now ≡ Some fault) }
+/// The first fault of a text that has its code's shape or not, and is otherwise right or has this last fault.
+pub(crate) fn test(
+    bytes: &[u8],
+    has_shape: bool,
+    is_right: bool,
+    last: CodeFault,
+) -> Result<(), CodeFault>
+    ensures { MatchResult result (λ _. code_fault last has_shape is_right bytes.now ≡ None)
+        (λ fault. code_fault last has_shape is_right bytes.now ≡ Some fault) }
 {
     if bytes.is_empty() {
         return Err(CodeFault::Empty);
@@ -68,8 +73,8 @@ pub(crate) fn test(bytes: &[u8], has_shape: bool, has_numbers: bool) -> Result<(
     if !has_shape {
         return Err(CodeFault::BadShape);
     }
-    if !has_numbers {
-        return Err(CodeFault::BadNumber);
+    if !is_right {
+        return Err(last);
     }
     Ok(())
 }

@@ -4,6 +4,7 @@
 //! and writing a code gives back the very bytes that it was read from.
 #![tactic(auto)]
 
+mod day;
 mod digits;
 mod fault;
 mod loan;
@@ -12,6 +13,7 @@ mod place;
 mod spelling;
 mod thing;
 
+pub use day::Day;
 pub use fault::{CodeFault, NameFault, NoMemory};
 pub use loan::LoanCode;
 pub use name::Name;

@@ -35,7 +35,12 @@ impl LoanCode {
         ensures exact { MatchResult result (λ code. (code ≡ bytes.now) × (loan_fault bytes.now ≡ None))
             (λ fault. loan_fault bytes.now ≡ Some fault) }
     {
-        test(bytes, is_loan_shape(bytes), has_loan_number(bytes))?;
+        test(
+            bytes,
+            is_loan_shape(bytes),
+            has_loan_number(bytes),
+            CodeFault::BadNumber,
+        )?;
         Ok(LoanCode {
             spelling: Spelling::new(bytes),
         })

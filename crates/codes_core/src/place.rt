@@ -36,7 +36,7 @@ impl PlaceCode {
         ensures exact { MatchResult result (λ code. (code ≡ bytes.now) × (place_fault bytes.now ≡ None))
             (λ fault. place_fault bytes.now ≡ Some fault) }
     {
-        test(bytes, is_place_shape(bytes, 4), true)?;
+        test(bytes, is_place_shape(bytes, 4), true, CodeFault::BadNumber)?;
         Ok(PlaceCode {
             spelling: Spelling::new(bytes),
         })
@@ -87,7 +87,8 @@ fn segment_length(text: &[u8]) -> usize
 fn are_segment_bytes(text: &[u8]) -> bool
     ensures { result ≡ list_all is_segment_byte text.now }
 {
-    text.iter().all(|b| b.is_ascii_uppercase() || b.is_ascii_digit())
+    text.iter()
+        .all(|b| b.is_ascii_uppercase() || b.is_ascii_digit())
 }
 
 fn is_segment(text: &[u8]) -> bool

@@ -45,7 +45,12 @@ impl ThingCode {
         ensures exact { MatchResult result (λ code. (code ≡ bytes.now) × (thing_fault bytes.now ≡ None))
             (λ fault. thing_fault bytes.now ≡ Some fault) }
     {
-        test(bytes, is_thing_shape(bytes), has_thing_numbers(bytes))?;
+        test(
+            bytes,
+            is_thing_shape(bytes),
+            has_thing_numbers(bytes),
+            CodeFault::BadNumber,
+        )?;
         Ok(ThingCode {
             spelling: Spelling::new(bytes),
         })

@@ -1,0 +1,53 @@
+-- Civil days (2024-05-01), each seen as its number from 1970-01-01.
+use Rattle.std.specs.Prelude.{ℕ, ℤ, pos, ◌≡◌, ◌+◌, ◌*◌, ◌/◌, ◌%◌, ◌&&◌, ◌==◌, Bool, nat_lt, nat_le, List, [], ◌∷◌, ◌++◌, length, take, drop, slice_index, slice_range, Option, None}
+use Rattle.std.specs.Char.{is_ascii_digit}
+use Rattle.std.specs.List.{list_all}
+use Rattle.jiff_core.specs.Calendar.{days_in_month, days_from_civil}
+use Rattle.codes_core.specs.declared.fault.CodeFault.{CodeFault}
+use Rattle.codes_core.specs.declared.fault.CodeFault.TheVariants.{NoSuchDay}
+use Rattle.codes_core.specs.Grammar.{number_of, code_fault}
+
+-- four digits, a dash, two digits, a dash, two digits
+abbrev pub is_day_shape : List ℕ → Bool
+is_day_shape text =
+    (length text == 10) && list_all is_ascii_digit (take 4 text) && (slice_index text 4 == 45)
+    && list_all is_ascii_digit (slice_range text 5 7) && (slice_index text 7 == 45) && list_all is_ascii_digit (drop 8 text)
+
+abbrev pub year_of : List ℕ → ℕ
+year_of text = number_of (take 4 text)
+
+abbrev pub month_of : List ℕ → ℕ
+month_of text = number_of (slice_range text 5 7)
+
+abbrev pub date_of : List ℕ → ℕ
+date_of text = number_of (drop 8 text)
+
+-- the calendar has this day, in the years 1 to 9999
+abbrev pub is_civil : ℕ → ℕ → ℕ → Bool
+is_civil year month date =
+    nat_lt 0 year && nat_lt 0 month && nat_le month 12 && nat_lt 0 date && nat_le date (days_in_month (pos year) month)
+
+-- why the text is no day; without a fault it is the day of this number
+abbrev pub day_fault : List ℕ → Option CodeFault
+day_fault text = code_fault NoSuchDay (is_day_shape text) (is_civil (year_of text) (month_of text) (date_of text)) text
+
+abbrev pub day_number : List ℕ → ℤ
+day_number text = days_from_civil (pos (year_of text)) (month_of text) (date_of text)
+
+-- the text spells the day of this number
+abbrev pub SpellsDay : List ℕ → ℤ → Type 0
+SpellsDay text number = (day_fault text ≡ None) × (day_number text ≡ number)
+
+-- and no other text does
+pub record IsOnlySpelling (text : List ℕ) (number : ℤ) : Type 0 where
+  pub spells : SpellsDay text number
+  pub only : (other : List ℕ) → SpellsDay other number → other ≡ text
+
+-- a number in two digits
+abbrev pub two_digits : ℕ → List ℕ
+two_digits n = (48 + n / 10 % 10) ∷ (48 + n % 10) ∷ []
+
+-- the text of a civil day
+abbrev pub date_text : ℕ → ℕ → ℕ → List ℕ
+date_text year month date =
+    two_digits (year / 100) ++ two_digits year ++ 45 ∷ two_digits month ++ 45 ∷ two_digits date

@@ -1,0 +1,124 @@
+//! Civil days.
+ghost use Rattle.std.specs.Prelude.{◌≡◌, true, false, ◌++◌, ◌∷◌, ◌-ℤ◌, ◌≤◌, ◌<◌, ◌↔◌, pos, [], List, ℕ, IsTrue, None, Some, OnOk, OnErr, MatchResult, MatchOption, length, string_bytes};
+ghost use Rattle.std.specs.List.{list_all};
+ghost use Rattle.std.specs.Char.{is_ascii_digit};
+ghost use Rattle.jiff_core.specs.Calendar.{days_from_civil};
+ghost use Rattle.codes_core.specs.Grammar.{number_of};
+ghost use Rattle.codes_core.specs.Day.{is_day_shape, is_civil, year_of, month_of, date_of, day_fault, day_number, IsOnlySpelling, date_text, two_digits};
+
+use crate::digits::{are_digits, number_of};
+use crate::spelling::Spelling;
+use crate::{CodeFault, NoMemory};
+use jiff_core::civil::Date;
+use std::alloc::Global;
+use std::marker::Model;
+
+/// A civil day of the years 1 to 9999, seen as its number: 0 is 1970-01-01.
+#[derive(Clone, Copy, Debug, PartialEq, Eq, PartialOrd, Ord, Hash)]
+pub struct Day {
+    number: i32,
+}
+
+impl Model for Day {
+    ghost use Rattle.std.specs.Prelude.{ℤ, pos, negsuc, ◌≤ℤ◌};
+
+    ghost Value = { ℤ };
+
+    ghost view = { λ d. d.number };
+
+    // 0001-01-01 to 9999-12-31
+    ghost invariant = { λ d. (negsuc 719161 ≤ℤ d.number) × (d.number ≤ℤ pos 2932896) };
+
+    ghost inverse = { λ n. record { number = n } };
+}
+
+impl Day {
+    /// The day that the bytes spell, else their first fault: Empty, BadShape or NoSuchDay.
+    pub fn parse(bytes: &[u8]) -> Result<Day, CodeFault>
+        ensures exact { MatchResult result (λ day. (day ≡ day_number bytes.now) × (day_fault bytes.now ≡ None))
+            (λ fault. day_fault bytes.now ≡ Some fault) }
+    {
+        if bytes.is_empty() {
+            return Err(CodeFault::Empty);
+        }
+        if !is_day_shape(bytes) {
+            return Err(CodeFault::BadShape);
+        }
+        let year = number_of(&bytes[..4]);
+        let month = number_of(&bytes[5..7]);
+        let date = number_of(&bytes[8..]);
+        match civil_day(year, month, date) {
+            Some(day) => Ok(day),
+            None => Err(CodeFault::NoSuchDay),
+        }
+    }
+
+    /// Appends the day's one spelling; after NoMemory the text is unchanged.
+    pub fn write(&self, _alloc: Global, out: &mut String) -> Result<(), NoMemory>
+        ensures ok { OnOk result ((text : List ℕ) × IsOnlySpelling text self.now × (string_bytes out.new ≡ string_bytes out.old ++ text)) }
+        ensures err { OnErr result (string_bytes out.new ≡ string_bytes out.old) }
+    {
+        self.spelling().write(out)
+    }
+
+    fn spelling(&self) -> Spelling<10>
+        ensures { IsOnlySpelling result self.now }
+    {
+        let date = Date::from_unix_epoch_day(self.number as i64).unwrap();
+        Spelling::new(&text_of(date.year.unsigned_abs(), date.month, date.day))
+    }
+
+    /// How many days this day is after the other, negative where it is before it.
+    pub fn days_after(self, other: Day) -> i32
+        ensures { result ≡ self -ℤ other }
+    {
+        self.number - other.number
+    }
+}
+
+/// The day of the calendar, if it has it.
+fn civil_day(year: u16, month: u16, date: u16) -> Option<Day>
+    requires year { year ≤ 9999 }
+    requires month { month ≤ 99 }
+    requires date { date ≤ 99 }
+    ensures { MatchOption result (is_civil year month date ≡ false)
+        (λ day. (is_civil year month date ≡ true) × (day ≡ days_from_civil (pos year) month date)) }
+{
+    if year == 0 {
+        return None;
+    }
+    match Date::new(year as i16, month as i8, date as i8) {
+        Ok(date) => Some(Day {
+            number: date.to_unix_epoch_day(),
+        }),
+        Err(_) => None,
+    }
+}
+
+fn is_day_shape(text: &[u8]) -> bool
+    ensures { result ≡ is_day_shape text.now }
+{
+    text.len() == 10
+        && are_digits(&text[..4])
+        && text[4] == b'-'
+        && are_digits(&text[5..7])
+        && text[7] == b'-'
+        && are_digits(&text[8..])
+}
+
+/// The text of a civil day.
+fn text_of(year: u16, month: u8, date: u8) -> [u8; 10]
+    ensures { result ≡ date_text year month date }
+{
+    let [y1, y2] = two_digits(year / 100);
+    let [y3, y4] = two_digits(year);
+    let [m1, m2] = two_digits(month as u16);
+    let [d1, d2] = two_digits(date as u16);
+    [y1, y2, y3, y4, b'-', m1, m2, b'-', d1, d2]
+}
+
+fn two_digits(n: u16) -> [u8; 2]
+    ensures { result ≡ two_digits n }
+{
+    [b'0' + (n / 10 % 10) as u8, b'0' + (n % 10) as u8]
+}
