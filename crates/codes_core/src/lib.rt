@@ -18,4 +18,5 @@ pub use fault::{CodeFault, NameFault, NoMemory};
 pub use loan::LoanCode;
 pub use name::Name;
 pub use place::PlaceCode;
+pub use spelling::Spelling;
 pub use thing::{ThingCode, ThingKind};

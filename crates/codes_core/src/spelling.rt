@@ -12,7 +12,7 @@ use std::marker::Model;
 
 /// A text of at most N bytes of ASCII, seen as its bytes.
 #[derive(Clone, Copy)]
-pub(crate) struct Spelling<const N: usize> {
+pub struct Spelling<const N: usize> {
     text: [u8; N],
     len: usize,
 }

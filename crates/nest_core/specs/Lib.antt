@@ -1,0 +1,2 @@
+pub mod Museum
+pub mod StationName
