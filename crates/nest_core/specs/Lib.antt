@@ -1,2 +1,3 @@
 pub mod Museum
 pub mod StationName
+pub mod Puts
