@@ -1,0 +1,4 @@
+pub mod Flat
+pub mod Posted
+pub mod Rooms
+pub mod Written

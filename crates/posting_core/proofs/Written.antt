@@ -1,0 +1,107 @@
+-- What writing the new spots of an entry leaves in the rows.
+use Rattle.std.specs.Prelude.{ℕ, ℤ, ◌≡◌, ◌+◌, ◌<◌, ◌≤◌, ◌==◌, Bool, true, false, cond, if◌then◌else◌, List, [], ◌∷◌, ◌++◌, Option, None, Some, length, zero, suc, refl, slice_get, slice_set}
+use Rattle.std.specs.List.{filter_map, range_with_len, cons_option}
+use Rattle.std.specs.Option.{option_map, option_map_or, option_to_list}
+use Rattle.std.proofs.Common.{ap, ◌∙◌, sym, subst, arith, ◌⊎◌, inl, inr, length-set}
+use Rattle.std.proofs.lemmas.Bool.{cases_eq}
+use Rattle.std.proofs.lemmas.Bool.Decides.{nat_tests}
+use Rattle.std.proofs.lemmas.List.{append-nil}
+use Rattle.posting_core.specs.declared.entry.Spot.{Spot}
+use Rattle.posting_core.specs.declared.entry.NewSpot.{NewSpot}
+use Rattle.posting_core.specs.History.{spot_from, is_same_place}
+use Rattle.posting_core.specs.Book.{new_spot}
+use Rattle.posting_core.specs.Rows.{row_of, rows_after, AreAscending}
+use Rattle.posting_core.proofs.Rooms.{get_set_same, get_set_other}
+
+-- each spot of f is of its own thing
+abbrev pub IsOwn : (ℕ → Option NewSpot) → Type 0
+IsOwn f = (y : ℕ) (s : NewSpot) → f y ≡ Some s → s.thing ≡ y
+
+none_some : {X : Type 0} {x : X} → None ≡ Some x → ⊥
+none_some {X} {x} e = cc
+
+some_same : {X : Type 0} {x y : X} → Some x ≡ Some y → x ≡ y
+some_same {X} {x} {y} e = cc
+
+row_other : (R : List (List Spot)) (i x : ℕ) (row : List Spot) → (i ≡ x → ⊥) → row_of (slice_set R i row) x ≡ row_of R x
+row_other R i x row n = ap (λ (o : Option (List Spot)). option_map_or (λ spots. spots) o []) (get_set_other R i x row n)
+
+row_same : (R : List (List Spot)) (i : ℕ) (row : List Spot) → i < length R → row_of (slice_set R i row) i ≡ row
+row_same R i row less = ap (λ (o : Option (List Spot)). option_map_or (λ spots. spots) o []) (get_set_same R i row less)
+
+-- spots of later things leave a row as it is
+rows_before : (R : List (List Spot)) (f : ℕ → Option NewSpot) (a n x : ℕ) → IsOwn f → x < a → row_of (rows_after R (filter_map f (range_with_len a n))) x ≡ row_of R x
+rows_before R f a zero x own less = refl
+rows_before R f a (suc n) x own less = elim (f a) as (λ o. f a ≡ o → row_of (rows_after R (cons_option o (filter_map f (range_with_len (a + 1) n)))) x ≡ row_of R x) [
+    None ↦ λ e. rows_before R f (a + 1) n x own (omega arith)
+  | Some s ↦ λ e. let t : s.thing ≡ a = own a s e in
+      rows_before (slice_set R s.thing (row_of R s.thing ++ s.spot ∷ [])) f (a + 1) n x own (omega arith) ∙ row_other R s.thing x (row_of R s.thing ++ s.spot ∷ []) (λ h. absurd (omega arith))
+  ] refl
+
+abbrev spot_at : (ℕ → Option NewSpot) → ℕ → List Spot
+spot_at f x = option_to_list (option_map (λ s. s.spot) (f x))
+
+-- each row gets its thing's spot
+pub rows_written : (R : List (List Spot)) (f : ℕ → Option NewSpot) (a n x : ℕ) → IsOwn f → a + n ≤ length R → a ≤ x → x < a + n →
+  row_of (rows_after R (filter_map f (range_with_len a n))) x ≡ row_of R x ++ spot_at f x
+rows_written R f a zero x own fits low high = absurd (omega arith)
+rows_written R f a (suc n) x own fits low high = elim (f a) as (λ o. f a ≡ o → row_of (rows_after R (cons_option o (filter_map f (range_with_len (a + 1) n)))) x ≡ row_of R x ++ spot_at f x) [
+    None ↦ λ e. elim (cases_eq a x) [
+        inl same ↦ rows_before R f (a + 1) n x own (omega arith) ∙ sym (subst (λ y. row_of R x ++ spot_at f y ≡ row_of R x) same (rw e (append-nil (row_of R x))))
+      | inr n' ↦ rows_written R f (a + 1) n x own (omega arith) (omega arith) (omega arith)
+      ]
+  | Some s ↦ λ e. let t : s.thing ≡ a = own a s e in let row = row_of R s.thing ++ s.spot ∷ [] in elim (cases_eq a x) [
+        inl same ↦ rows_before (slice_set R s.thing row) f (a + 1) n x own (omega arith)
+          ∙ subst (λ y. row_of (slice_set R s.thing row) y ≡ row_of R y ++ spot_at f y) same
+              (subst (λ y. row_of (slice_set R s.thing row) y ≡ row_of R y ++ spot_at f a) t (rw e (row_same R s.thing row (omega arith))))
+      | inr n' ↦ rows_written (slice_set R s.thing row) f (a + 1) n x own (omega (arith, length-set R s.thing row)) (omega arith) (omega arith)
+          ∙ ap (λ (r : List Spot). r ++ spot_at f x) (row_other R s.thing x row (λ h. n' (sym t ∙ h)))
+      ]
+  ] refl
+
+pub chosen_spot : (number count : ℕ) (before after : Option ℕ) (day : Option ℤ) (x : ℕ) → option_map (λ s. s.spot) (new_spot number count before after day x) ≡ spot_from number before after day
+chosen_spot number count before after day x = elim (spot_from number before after day) as (λ o. option_map (λ (s : NewSpot). s.spot) (option_map (λ spot. let s : NewSpot = record { thing = x; k = count + 1; spot = spot } in s) o) ≡ o) [ None ↦ refl | Some spot ↦ refl ]
+
+pub own_spot : (number count : ℕ) (before after : Option ℕ) (day : Option ℤ) (x : ℕ) (s : NewSpot) → new_spot number count before after day x ≡ Some s → s.thing ≡ x
+own_spot number count before after day x s = elim (spot_from number before after day) as (λ o. option_map (λ spot. let t : NewSpot = record { thing = x; k = count + 1; spot = spot } in t) o ≡ Some s → s.thing ≡ x) [
+    None ↦ λ e. absurd (none_some e)
+  | Some spot ↦ λ e. sym (ap (λ (t : NewSpot). t.thing) (some_same e))
+  ]
+
+-- an entry that leaves the place writes no spot
+pub same_place : (number : ℕ) (p : Option ℕ) (day : Option ℤ) → spot_from number p p day ≡ None
+same_place number None day = refl
+same_place number (Some p) None = refl
+same_place number (Some p) (Some day) = let same : (p == p) ≡ true = grind (arith, nat_tests) in rw same refl
+
+-- spots of a range of things ascend, and are of things in it
+pub own_ascending : (f : ℕ → Option NewSpot) (from a n things : ℕ) → IsOwn f → from ≤ a → a + n ≤ things → AreAscending from things (filter_map f (range_with_len a n))
+own_ascending f from a zero things own low high = tt
+own_ascending f from a (suc n) things own low high = elim (f a) as (λ o. f a ≡ o → AreAscending from things (cons_option o (filter_map f (range_with_len (a + 1) n)))) [
+    None ↦ λ e. own_ascending f from (a + 1) n things own (omega arith) (omega arith)
+  | Some s ↦ λ e. let t : s.thing ≡ a = own a s e in (omega arith, omega arith, own_ascending f (s.thing + 1) (a + 1) n things own (omega arith) (omega arith))
+  ] refl
+
+-- where only x has a spot, it is all that a range has
+none_from : (f : ℕ → Option NewSpot) (x a n : ℕ) → x < a → ((y : ℕ) → (y ≡ x → ⊥) → f y ≡ None) → filter_map f (range_with_len a n) ≡ []
+none_from f x a zero less none = refl
+none_from f x a (suc n) less none =
+    ap (λ o. cons_option o (filter_map f (range_with_len (a + 1) n))) (none a (λ e. absurd (omega arith))) ∙ none_from f x (a + 1) n (omega arith) none
+
+only_from : (f : ℕ → Option NewSpot) (x a n : ℕ) → a ≤ x → x < a + n → ((y : ℕ) → (y ≡ x → ⊥) → f y ≡ None) → filter_map f (range_with_len a n) ≡ option_to_list (f x)
+only_from f x a zero low high none = absurd (omega arith)
+only_from f x a (suc n) low high none = elim (cases_eq a x) [
+    inl same ↦ ap (cons_option (f a)) (none_from f x (a + 1) n (omega arith) none) ∙ subst (λ y. cons_option (f a) [] ≡ option_to_list (f y)) same (alone (f a))
+  | inr other ↦ ap (λ o. cons_option o (filter_map f (range_with_len (a + 1) n))) (none a other) ∙ only_from f x (a + 1) n (omega arith) (omega arith) none
+  ]
+  where
+    alone : (o : Option NewSpot) → cons_option o [] ≡ option_to_list o
+    alone None = refl
+    alone (Some s) = refl
+
+pub only_spot : (f : ℕ → Option NewSpot) (x n : ℕ) → x < n → ((y : ℕ) → (y ≡ x → ⊥) → f y ≡ None) → filter_map f (range_with_len 0 n) ≡ option_to_list (f x)
+only_spot f x n less none = only_from f x 0 n (omega arith) (omega arith) none
+
+pub no_spot : (f : ℕ → Option NewSpot) (a n : ℕ) → ((y : ℕ) → f y ≡ None) → filter_map f (range_with_len a n) ≡ []
+no_spot f a zero none = refl
+no_spot f a (suc n) none = ap (λ o. cons_option o (filter_map f (range_with_len (a + 1) n))) (none a) ∙ no_spot f (a + 1) n none

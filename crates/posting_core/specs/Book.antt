@@ -1,0 +1,55 @@
+-- What a ledger is, what posting a message changes in it, and what it answers.
+use Rattle.std.specs.Prelude.{ℕ, ℤ, ◌+◌, Bool, List, [], length, Option, Some, None, if◌then◌else◌}
+use Rattle.std.specs.List.{range_with_len, filter_map}
+use Rattle.std.specs.Option.{option_map}
+use Rattle.nest_core.specs.Museum.{Museum}
+use Rattle.nest_core.specs.Puts.{place, with_put}
+use Rattle.posting_core.specs.declared.message.Message.{Message}
+use Rattle.posting_core.specs.declared.verdict.Verdict.{Verdict}
+use Rattle.posting_core.specs.declared.entry.Entry.{Entry}
+use Rattle.posting_core.specs.declared.entry.Spot.{Spot}
+use Rattle.posting_core.specs.declared.entry.NewSpot.{NewSpot}
+use Rattle.posting_core.specs.declared.entry.Changes.{Changes}
+use Rattle.posting_core.specs.Messages.{day_of}
+use Rattle.posting_core.specs.History.{puts, put_in, place_at, spots, spot_from, is_applied}
+use Rattle.posting_core.specs.Verdicts.{verdict}
+
+-- what a ledger is: the setup, the depth limit, and the posted entries, the newest first
+pub record Book : Type 0 where
+  pub museum : Museum
+  pub depth : ℕ
+  pub posted : List Entry
+
+-- the answers of a ledger, by looking back through its entries
+abbrev pub place_in : Book → ℕ → Option ℕ
+place_in B x = place_at B.museum B.posted x
+
+abbrev pub spots_in : Book → ℕ → List Spot
+spots_in B x = spots B.museum B.posted x
+
+abbrev pub verdict_in : Book → Message → Verdict
+verdict_in B m = verdict B.museum B.depth B.posted m
+
+-- a thing's place when the message is applied after P
+abbrev pub place_after : Museum → List Entry → Message → ℕ → Option ℕ
+place_after S P m x = place (length S.things) (with_put (put_in S P m) (puts S P)) x
+
+-- a thing's new spot where it moves from one place to another, numbered from 1 in the thing's list
+abbrev pub new_spot : ℕ → ℕ → Option ℕ → Option ℕ → Option ℤ → ℕ → Option NewSpot
+new_spot number count before after day x =
+    option_map (λ spot. record { thing = x; k = count + 1; spot = spot }) (spot_from number before after day)
+
+-- the new spots that the message writes where it is applied after P, ascending by thing
+abbrev pub new_spots : Museum → List Entry → Message → List NewSpot
+new_spots S P m = filter_map
+    (λ x. new_spot (length P + 1) (length (spots S P x)) (place_at S P x) (place_after S P m x) (day_of m) x)
+    (range_with_len 0 (length S.things))
+
+-- what posting the message changes; a refused one writes nothing
+abbrev pub changes_of : Book → Message → Changes
+changes_of B m =
+    let v = verdict_in B m in record {
+      entry = length B.posted + 1;
+      verdict = v;
+      spots = if is_applied v then new_spots B.museum B.posted m else [];
+    }

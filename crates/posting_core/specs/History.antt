@@ -1,0 +1,63 @@
+-- Looking back through the posted entries. The newest stands first, so looking back is going down the list.
+use Rattle.std.specs.Prelude.{ℕ, ℤ, ◌+◌, ◌==◌, Bool, true, false, List, [], ◌∷◌, ◌++◌, length, Option, Some, None, if◌then◌else◌}
+use Rattle.std.specs.Option.{option_to_list}
+use Rattle.nest_core.specs.declared.put.Target.TheVariants.{At}
+use Rattle.nest_core.specs.declared.put.Put.{Put}
+use Rattle.nest_core.specs.Museum.{Museum}
+use Rattle.nest_core.specs.Puts.{with_put, chain, place, carried}
+use Rattle.posting_core.specs.declared.message.Message.{Message}
+use Rattle.posting_core.specs.declared.message.Message.TheVariants.{Move, SignOff}
+use Rattle.posting_core.specs.declared.verdict.Verdict.{Verdict}
+use Rattle.posting_core.specs.declared.verdict.Verdict.TheVariants.{Applied}
+use Rattle.posting_core.specs.declared.entry.Entry.{Entry}
+use Rattle.posting_core.specs.declared.entry.Spot.{Spot}
+use Rattle.posting_core.specs.Messages.{thing_no, place_no, day_of}
+
+abbrev pub is_applied : Verdict → Bool
+is_applied Applied = true
+is_applied _ = false
+
+-- where a message puts its thing, after the entries P
+abbrev pub put_in : Museum → List Entry → Message → Option Put
+put_in S P (Move x p day) = Some (record { thing = thing_no S x; to = At (place_no S p) })
+put_in S P (SignOff name) = None
+
+-- where it puts its thing under this verdict: a refused message places nothing
+abbrev pub put_by : Museum → List Entry → Verdict → Message → Option Put
+put_by S P verdict m = if is_applied verdict then put_in S P m else None
+
+-- the puts of the applied entries
+abbrev pub puts : Museum → List Entry → List Put
+puts S [] = []
+puts S (e ∷ P) = with_put (put_by S P e.verdict e.message) (puts S P)
+
+-- the containers above a thing, innermost first
+abbrev pub chain_at : Museum → List Entry → ℕ → List ℕ
+chain_at S P x = chain (length S.things) (puts S P) x
+
+-- the place in which they end
+abbrev pub place_at : Museum → List Entry → ℕ → Option ℕ
+place_at S P x = place (length S.things) (puts S P) x
+
+-- the thing with all that is in it
+abbrev pub carried_at : Museum → List Entry → ℕ → List ℕ
+carried_at S P x = carried (length S.things) (puts S P) x
+
+abbrev pub is_same_place : Option ℕ → Option ℕ → Bool
+is_same_place (Some a) (Some b) = a == b
+is_same_place None None = true
+is_same_place (Some a) None = false
+is_same_place None (Some b) = false
+
+-- the spot that the entry of this number writes for a thing, where its place differs from the one before
+abbrev pub spot_from : ℕ → Option ℕ → Option ℕ → Option ℤ → Option Spot
+spot_from number before (Some p) (Some day) =
+    if is_same_place before (Some p) then None else Some (record { entry = number; place = p; day = day })
+spot_from number before (Some p) None = None
+spot_from number before None day = None
+
+-- a thing's spots, oldest first: the last is its current place, the others are its former ones
+abbrev pub spots : Museum → List Entry → ℕ → List Spot
+spots S [] x = []
+spots S (e ∷ P) x =
+    spots S P x ++ option_to_list (spot_from (length P + 1) (place_at S P x) (place_at S (e ∷ P) x) (day_of e.message))

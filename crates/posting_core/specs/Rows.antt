@@ -1,0 +1,57 @@
+-- What a ledger's fields keep of its entries: for each thing by number where it is put, and its spots.
+use Rattle.std.specs.Prelude.{ℕ, ◌≡◌, ◌+◌, ◌<◌, ◌≤◌, ◌++◌, List, [], ◌∷◌, Option, Some, None, length, map, slice_get, slice_set, Vec, vec_len, vec_capacity, IfSome}
+use Rattle.std.specs.Option.{option_map_or}
+use Rattle.std.specs.declared.alloc.Global.{Global}
+use Rattle.nest_core.specs.declared.put.Target.{Target}
+use Rattle.nest_core.specs.declared.put.Put.{Put}
+use Rattle.nest_core.specs.Museum.{Museum}
+use Rattle.nest_core.specs.Puts.{last}
+use Rattle.posting_core.specs.declared.entry.Entry.{Entry}
+use Rattle.posting_core.specs.declared.entry.Spot.{Spot}
+use Rattle.posting_core.specs.declared.entry.NewSpot.{NewSpot}
+use Rattle.posting_core.specs.History.{puts, spots}
+use Rattle.posting_core.specs.Lawful.{IsLawful}
+
+-- where a thing is put, as a list by number says
+abbrev pub listed : List (Option Target) → ℕ → Option Target
+listed targets x = option_map_or (λ t. t) (slice_get targets x) None
+
+-- the list after a put, where there is one
+abbrev pub targets_after : List (Option Target) → Option Put → List (Option Target)
+targets_after targets None = targets
+targets_after targets (Some put) = slice_set targets put.thing (Some put.to)
+
+-- the spots of a thing that a list by number has
+abbrev pub row_of : List (List Spot) → ℕ → List Spot
+row_of rows x = option_map_or (λ spots. spots) (slice_get rows x) []
+
+-- each spot at the end of its thing's row
+abbrev pub rows_after : List (List Spot) → List NewSpot → List (List Spot)
+rows_after rows [] = rows
+rows_after rows (s ∷ ss) = rows_after (slice_set rows s.thing (row_of rows s.thing ++ s.spot ∷ [])) ss
+
+-- the rows that are kept, as lists
+abbrev pub lists : List (Vec Spot Global) → List (List Spot)
+lists rows = map (λ row. row.items) rows
+
+-- new spots of things in ascending order, each at most once, from this number on and below so many
+abbrev pub AreAscending : ℕ → ℕ → List NewSpot → Type 0
+AreAscending from things [] = Unit {0}
+AreAscending from things (s ∷ ss) = (from ≤ s.thing) × (s.thing < things) × AreAscending (s.thing + 1) things ss
+
+-- the thing's row has room for one more spot
+abbrev pub HasRoom : List (Vec Spot Global) → ℕ → Type 0
+HasRoom rows x = IfSome (slice_get rows x) (λ row. vec_len row + 1 ≤ vec_capacity row)
+
+-- each new spot can be written: its thing has a row with room, and none stands twice
+abbrev pub AreReady : List (Vec Spot Global) → ℕ → List NewSpot → Type 0
+AreReady rows from [] = Unit {0}
+AreReady rows from (s ∷ ss) = (from ≤ s.thing) × (s.thing < length rows) × HasRoom rows s.thing × AreReady rows (s.thing + 1) ss
+
+-- what the fields keep
+pub record IsKept (S : Museum) (depth : ℕ) (P : List Entry) (targets : List (Option Target)) (rows : List (List Spot)) : Type 0 where
+  pub lawful : IsLawful S depth P
+  pub sized : length targets ≡ length S.things
+  pub rowed : length rows ≡ length S.things
+  pub current : listed targets ≡ last (puts S P)
+  pub row : (x : ℕ) → x < length S.things → row_of rows x ≡ spots S P x

@@ -1,0 +1,108 @@
+-- The verdict on a message after the entries P: the first of its kind's rows that holds.
+use Rattle.std.specs.Prelude.{ℕ, Bool, true, false, not, List, [], ◌∷◌, Option, Some, None, if◌then◌else◌, is_some, codes}
+use Rattle.nest_core.specs.Museum.{Museum, find_thing, find_place, is_elsewhere, is_borrowed}
+use Rattle.posting_core.specs.declared.message.Message.{Message}
+use Rattle.posting_core.specs.declared.message.Message.TheVariants.{Move, SignOff}
+use Rattle.posting_core.specs.declared.verdict.Verdict.{Verdict}
+use Rattle.posting_core.specs.declared.verdict.Verdict.TheVariants.{Applied, UnknownThing, UnknownPlace, ElsewherePlace, UnknownContainer, UnknownLoan, LoanKnown, InsidePartner, NoObjects, NotObject, Repeated, WrongOwner, BadTerm, AlreadyAuthorised, NotAuthorised, WrongDirection, NotHere, ContainerNotHere, Cycle, TooDeep, NotWithPartner, AlreadyHere, NotListed, WrongStage, TermOver, NotLater}
+use Rattle.posting_core.specs.declared.entry.Entry.{Entry}
+use Rattle.posting_core.specs.Messages.{thing_no, place_no}
+use Rattle.posting_core.specs.History.{place_at}
+
+-- a refusal, and whether its cause holds
+pub record Row : Type 0 where
+  pub verdict : Verdict
+  pub holds : Bool
+
+infixl 10 ◌if◌
+abbrev pub ◌if◌ : Verdict → Bool → Row
+v if b = record { verdict = v; holds = b }
+
+-- the first that holds; where none does, the message is applied
+abbrev pub first_of : List Row → Verdict
+first_of [] = Applied
+first_of (row ∷ rows) = if row.holds then row.verdict else first_of rows
+
+abbrev pub is_known : Museum → List ℕ → Bool
+is_known S x = is_some (find_thing S x)
+
+abbrev pub is_known_place : Museum → List ℕ → Bool
+is_known_place S p = is_some (find_place S p)
+
+-- a thing with this place is elsewhere, or is borrowed and has no place yet
+abbrev pub is_away : Museum → ℕ → Option ℕ → Bool
+is_away S x (Some p) = is_elsewhere S p
+is_away S x None = is_borrowed S x
+
+abbrev pub is_not_here : Museum → List Entry → List ℕ → Bool
+is_not_here S P x = is_away S (thing_no S x) (place_at S P (thing_no S x))
+
+-- the rows of a Move of thing x to place p
+abbrev pub move_rows : Museum → List Entry → List ℕ → List ℕ → List Row
+move_rows S P x p =
+    (UnknownThing if not (is_known S x))
+    ∷ (UnknownPlace if not (is_known_place S p))
+    ∷ (ElsewherePlace if is_elsewhere S (place_no S p))
+    ∷ (NotHere if is_not_here S P x)
+    ∷ []
+
+-- the verdict, under a depth limit
+abbrev pub verdict : Museum → ℕ → List Entry → Message → Verdict
+verdict S depth P (Move x p day) = first_of (move_rows S P x p)
+verdict S depth P (SignOff name) = Applied
+
+abbrev pub verdict_number : Verdict → ℕ
+verdict_number Applied = 0
+verdict_number UnknownThing = 1
+verdict_number UnknownPlace = 2
+verdict_number ElsewherePlace = 3
+verdict_number UnknownContainer = 4
+verdict_number UnknownLoan = 5
+verdict_number LoanKnown = 6
+verdict_number InsidePartner = 7
+verdict_number NoObjects = 8
+verdict_number NotObject = 9
+verdict_number Repeated = 10
+verdict_number WrongOwner = 11
+verdict_number BadTerm = 12
+verdict_number AlreadyAuthorised = 13
+verdict_number NotAuthorised = 14
+verdict_number WrongDirection = 15
+verdict_number NotHere = 16
+verdict_number ContainerNotHere = 17
+verdict_number Cycle = 18
+verdict_number TooDeep = 19
+verdict_number NotWithPartner = 20
+verdict_number AlreadyHere = 21
+verdict_number NotListed = 22
+verdict_number WrongStage = 23
+verdict_number TermOver = 24
+verdict_number NotLater = 25
+
+abbrev pub verdict_name : Verdict → List ℕ
+verdict_name Applied = codes "Applied"
+verdict_name UnknownThing = codes "UnknownThing"
+verdict_name UnknownPlace = codes "UnknownPlace"
+verdict_name ElsewherePlace = codes "ElsewherePlace"
+verdict_name UnknownContainer = codes "UnknownContainer"
+verdict_name UnknownLoan = codes "UnknownLoan"
+verdict_name LoanKnown = codes "LoanKnown"
+verdict_name InsidePartner = codes "InsidePartner"
+verdict_name NoObjects = codes "NoObjects"
+verdict_name NotObject = codes "NotObject"
+verdict_name Repeated = codes "Repeated"
+verdict_name WrongOwner = codes "WrongOwner"
+verdict_name BadTerm = codes "BadTerm"
+verdict_name AlreadyAuthorised = codes "AlreadyAuthorised"
+verdict_name NotAuthorised = codes "NotAuthorised"
+verdict_name WrongDirection = codes "WrongDirection"
+verdict_name NotHere = codes "NotHere"
+verdict_name ContainerNotHere = codes "ContainerNotHere"
+verdict_name Cycle = codes "Cycle"
+verdict_name TooDeep = codes "TooDeep"
+verdict_name NotWithPartner = codes "NotWithPartner"
+verdict_name AlreadyHere = codes "AlreadyHere"
+verdict_name NotListed = codes "NotListed"
+verdict_name WrongStage = codes "WrongStage"
+verdict_name TermOver = codes "TermOver"
+verdict_name NotLater = codes "NotLater"

@@ -1,0 +1,84 @@
+//! What is posted, and what a posting changes.
+
+use crate::{Message, Verdict};
+use codes_core::{Day, NoMemory};
+use nest_core::{PlaceNo, StationNo, ThingNo};
+use std::alloc::Global;
+use std::marker::Model;
+
+/// A posted message: its station, its number there, from 1, and its verdict.
+#[derive(Drop)]
+pub struct Entry {
+    pub station: StationNo,
+    pub n: u32,
+    pub message: Message,
+    pub verdict: Verdict,
+}
+
+/// A place at which a thing came to be: the number of the entry, from 1, that brought it there, and the day.
+#[derive(Clone, Copy, Debug, PartialEq, Eq)]
+pub struct Spot {
+    pub entry: u64,
+    pub place: PlaceNo,
+    pub day: Day,
+}
+
+/// A new spot of a thing, with its number, from 1, in the thing's list.
+#[derive(Clone, Copy, Debug, PartialEq, Eq)]
+pub struct NewSpot {
+    pub thing: ThingNo,
+    pub k: u64,
+    pub spot: Spot,
+}
+
+/// New spots, ascending by thing, at most one of each; seen as their list.
+#[derive(Debug, Drop)]
+pub struct NewSpots {
+    items: Vec<NewSpot>,
+}
+
+impl Model for NewSpots {
+    ghost use Rattle.std.specs.Prelude.{List};
+    ghost use Rattle.posting_core.specs.declared.entry.NewSpot.{NewSpot};
+
+    ghost Value = { List NewSpot };
+
+    ghost view = { λ s. s.items.items };
+}
+
+impl NewSpots {
+    ghost use Rattle.std.specs.Prelude.{◌≡◌, ◌++◌, ◌∷◌, [], OnOk, OnErr};
+
+    /// None. Takes no memory.
+    pub fn new(alloc: Global) -> NewSpots
+        ensures { result ≡ [] }
+    {
+        NewSpots {
+            items: Vec::new(alloc),
+        }
+    }
+
+    /// One more; after NoMemory they are unchanged.
+    pub fn push(&mut self, spot: NewSpot) -> Result<(), NoMemory>
+        ensures ok { OnOk result (self.new ≡ self.old ++ spot ∷ []) }
+        ensures err { OnErr result (self.new ≡ self.old) }
+    {
+        self.items.push(spot)?;
+        Ok(())
+    }
+
+    pub fn as_slice(&self) -> &[NewSpot]
+        ensures { result.now ≡ self.now }
+    {
+        &self.items
+    }
+}
+
+/// What posting a message changes: the number of its entry, from 1, its verdict, and the new spots,
+/// none where it is refused.
+#[derive(Debug, Drop)]
+pub struct Changes {
+    pub entry: u64,
+    pub verdict: Verdict,
+    pub spots: NewSpots,
+}

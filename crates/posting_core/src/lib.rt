@@ -1,0 +1,13 @@
+//! The rules of posting, and the ledger that keeps what was posted.
+#![tactic(auto)]
+
+mod entry;
+mod ledger;
+mod message;
+mod spot_rows;
+mod verdict;
+
+pub use entry::{Changes, Entry, NewSpot, NewSpots, Spot};
+pub use ledger::Ledger;
+pub use message::Message;
+pub use verdict::Verdict;

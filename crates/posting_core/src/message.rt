@@ -1,0 +1,12 @@
+//! What a station tells.
+
+use codes_core::{Day, Name, PlaceCode, ThingCode};
+
+/// A message of a station.
+#[derive(Drop)]
+pub enum Message {
+    /// The thing is put straight at the place.
+    Move { thing: ThingCode, place: PlaceCode, day: Day },
+    /// The station's last message.
+    SignOff { name: Name },
+}
