@@ -1,0 +1,18 @@
+use Rattle.std.proofs.Common.{rules, ◌≡◌, Option, ok_or, ap, sym, ◌∙◌, ℤ, subst, MatchResult, Result, List, ℕ, None, Some}
+use Rattle.std.specs.Result.{result_ok}
+use Rattle.codes_core.specs.declared.fault.CodeFault.{CodeFault}
+use Rattle.codes_core.specs.Day.{day_number, day_fault}
+use Rattle.register_store.specs.declared.fault.ReadFault.TheVariants.{BadField}
+use Rattle.register_store.specs.Kinds.{text_at}
+use Rattle.serde_json.specs.View.{view}
+use Rattle.register_store.proofs.Fields.{read_there, day_there}
+use Rattle.register_store.proofs.message_reader.day_at.Goals as goal
+
+pub returns : goal.returns
+returns c =
+    let text = c.in_ok-text.ensures.exact in
+    let day = day_there _ _ text in
+    let bytes = c.as_bytes.ensures.value in
+    let read = rw (bytes, ← day) at c.parse.ensures.exact in
+    let answer = c.ok_or.ensures.value ∙ ap (λ (o : Option ℤ). ok_or o (BadField c.args.key)) c.ok.ensures.value in
+    record { exact = rw answer (read_there c.args.key day_fault _ c.parse.result _ c.in_ok-text.text.now text read) }

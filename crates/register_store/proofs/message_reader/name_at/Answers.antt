@@ -1,0 +1,17 @@
+use Rattle.std.proofs.Common.{rules, arith, ◌≡◌, true, ap, sym, subst, ◌∙◌, Some, None, unwrap_or, if◌then◌else◌, Option, List, [], ℕ}
+use Rattle.codes_core.specs.Name.{IsName}
+use Rattle.register_store.proofs.Fields.{text_fault, name_passes}
+use Rattle.register_store.specs.Spelling.{is_name}
+use Rattle.register_store.proofs.message_reader.name_at.Goals as goal
+
+pub returns-in-Ok : goal.returns-in-Ok
+returns-in-Ok c =
+    let text = c.in_ok-text.ensures.exact in
+    let bytes = c.as_bytes.ensures.value in
+    let named : is_name c.in_ok-text.text.now ≡ true = name_passes _ (subst IsName bytes c.in-Ok.ensures.exact.1) in
+    record {
+      exact = (
+        text_fault c.args.key is_name _ _ text ∙ rw named,
+        c.in-Ok.ensures.exact.0 ∙ bytes ∙ sym (ap (λ (o : Option (List ℕ)). unwrap_or o []) text),
+      );
+    }

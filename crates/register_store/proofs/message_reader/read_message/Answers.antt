@@ -1,0 +1,32 @@
+use Rattle.std.proofs.Common.{rules, ◌≡◌, List, ℕ, Bool, true, false, refl, ap, sym, ◌∙◌, Result, Some, None, Ok, Err, if◌then◌else◌}
+use Rattle.std.specs.Str.{is_utf8, IsUtf8}
+use Rattle.std.proofs.lemmas.Str.{is_utf8-from_IsUtf8, IsUtf8-from_is_utf8}
+use Rattle.serde_json.specs.Data.{Data}
+use Rattle.serde_json.specs.Read.{read}
+use Rattle.posting_core.specs.declared.message.Message.{Message}
+use Rattle.register_store.specs.declared.fault.ReadFault.{ReadFault}
+use Rattle.register_store.specs.declared.fault.ReadFault.TheVariants.{NotJson}
+use Rattle.register_store.specs.Kinds.{of_bytes, of_json, of_read}
+use Rattle.register_store.proofs.message_reader.read_message.Goals as goal
+
+-- UTF-8 that is JSON says what its value says
+of_value : (bytes : List ℕ) (d : Data) → is_utf8 bytes ≡ true → read bytes ≡ Some d → of_bytes bytes ≡ of_json d
+of_value bytes d utf8 value = rw (utf8, value) refl
+
+refused : (b : Bool) (bytes : List ℕ) → (b ≡ true → read bytes ≡ None) → (if b then of_read (read bytes) else Err NotJson) ≡ Err NotJson
+refused true bytes none = ap of_read (none refl)
+refused false bytes none = refl
+
+-- what isn't UTF-8 or isn't JSON is refused
+of_none : (bytes : List ℕ) → (IsUtf8 bytes → read bytes ≡ None) → of_bytes bytes ≡ Err NotJson
+of_none bytes none = refused (is_utf8 bytes) bytes (λ utf8. none (IsUtf8-from_is_utf8 bytes utf8))
+
+pub returns-in-Ok : goal.returns-in-Ok
+returns-in-Ok c =
+    let same = of_value _ _ (is_utf8-from_IsUtf8 _ c.in-Ok.ensures.ok.0) c.in-Ok.ensures.ok.1 in
+    rw same c.message_of.ensures
+
+pub returns-in-Err-2 : goal.returns-in-Err-2
+returns-in-Err-2 c =
+    let memory = c.is_memory.ensures.1 in
+    record { exact = λ _. of_none _ (c.in-Err.ensures.err (λ e. let is = memory e in cc)) }

@@ -1,0 +1,102 @@
+-- The table of kinds, and the message that a JSON value spells by it.
+use Rattle.std.specs.Prelude.{ℕ, Bool, true, false, List, [], ◌∷◌, Option, Some, None, option_and_then, unwrap_or, Result, Ok, Err, if◌then◌else◌, codes}
+use Rattle.std.specs.Option.{option_map_or}
+use Rattle.std.specs.Str.{bytes_eq, is_utf8}
+use Rattle.serde_json.specs.Data.{Data, null, boolean, number, string, array, object}
+use Rattle.serde_json.specs.Find.{get, as_str}
+use Rattle.serde_json.specs.Read.{read}
+use Rattle.codes_core.specs.Day.{day_number}
+use Rattle.posting_core.specs.declared.message.Message as message
+use Rattle.posting_core.specs.declared.message.Message.TheVariants.{Move, SignOff}
+use Rattle.register_store.specs.declared.fault.ReadFault.{ReadFault}
+use Rattle.register_store.specs.declared.fault.ReadFault.TheVariants.{NotJson, Missing, BadKind, BadField}
+use Rattle.register_store.specs.declared.key.Key.{Key}
+use Rattle.register_store.specs.declared.key.Key.TheVariants.{Kind, Thing, Place, Day, By}
+use Rattle.register_store.specs.Spelling.{key_name, is_thing, is_place, is_day, is_name}
+
+-- a key that a kind asks for, and which values may stand there
+pub record Field : Type 0 where
+  pub key : Key
+  pub fits : Data → Bool
+
+infixl 10 ◌spells◌
+-- a string of such a text
+abbrev pub ◌spells◌ : Key → (List ℕ → Bool) → Field
+key spells test = record { key = key; fits = λ value. option_map_or test (as_str value) false }
+
+-- the text at a key of an object
+abbrev pub text_at : Data → Key → List ℕ
+text_at d key = unwrap_or (option_and_then as_str (get (key_name key) d)) []
+
+-- a kind: its name, its keys in their order, and the message of an object in which each has a value that fits
+pub record Row : Type 0 where
+  pub name : List ℕ
+  pub fields : List Field
+  pub message : Data → message.Message
+
+abbrev pub move_row : Row
+move_row = record {
+  name = codes "move";
+  fields = (Thing spells is_thing) ∷ (Place spells is_place) ∷ (Day spells is_day) ∷ [];
+  message = λ d. Move (text_at d Thing) (text_at d Place) (day_number (text_at d Day));
+}
+
+abbrev pub sign_off_row : Row
+sign_off_row = record {
+  name = codes "signoff";
+  fields = (By spells is_name) ∷ [];
+  message = λ d. SignOff (text_at d By);
+}
+
+abbrev pub kinds : List Row
+kinds = move_row ∷ sign_off_row ∷ []
+
+abbrev pub kind_named : List Row → List ℕ → Option Row
+kind_named [] name = None
+kind_named (row ∷ rows) name = if bytes_eq name row.name then Some row else kind_named rows name
+
+-- why a key is refused: it is missing, or its value doesn't fit
+abbrev pub value_fault : Field → Option Data → Option ReadFault
+value_fault field None = Some (Missing field.key)
+value_fault field (Some value) = if field.fits value then None else Some (BadField field.key)
+
+abbrev pub fault_at : Data → Field → Option ReadFault
+fault_at d field = value_fault field (get (key_name field.key) d)
+
+-- the answer where the fields are asked in their order: the first fault, else the message
+abbrev pub unless_fault : Option ReadFault → Result message.Message ReadFault → Result message.Message ReadFault
+unless_fault None answer = answer
+unless_fault (Some fault) answer = Err fault
+
+abbrev pub of_fields : Data → List Field → message.Message → Result message.Message ReadFault
+of_fields d [] m = Ok m
+of_fields d (field ∷ fields) m = unless_fault (fault_at d field) (of_fields d fields m)
+
+abbrev pub of_row : Data → Row → Result message.Message ReadFault
+of_row d row = of_fields d row.fields (row.message d)
+
+abbrev pub of_named : Data → Option Row → Result message.Message ReadFault
+of_named d None = Err BadKind
+of_named d (Some row) = of_row d row
+
+-- by the value of the object's kind
+abbrev pub of_kind : Data → Option Data → Result message.Message ReadFault
+of_kind d None = Err (Missing Kind)
+of_kind d (Some kind) = of_named d (option_and_then (kind_named kinds) (as_str kind))
+
+-- the message that a value spells, else its first fault
+abbrev pub of_json : Data → Result message.Message ReadFault
+of_json null = Err NotJson
+of_json (boolean b) = Err NotJson
+of_json (number n) = Err NotJson
+of_json (string s) = Err NotJson
+of_json (array ds) = Err NotJson
+of_json (object ms) = of_kind (object ms) (get (key_name Kind) (object ms))
+
+abbrev pub of_read : Option Data → Result message.Message ReadFault
+of_read None = Err NotJson
+of_read (Some d) = of_json d
+
+-- the message that bytes spell: they are UTF-8, and JSON
+abbrev pub of_bytes : List ℕ → Result message.Message ReadFault
+of_bytes bytes = if is_utf8 bytes then of_read (read bytes) else Err NotJson

@@ -1,0 +1,37 @@
+-- The words of the objects that spell messages: their keys, and which texts may stand there.
+use Rattle.std.specs.Prelude.{ℕ, ◌&&◌, nat_lt, nat_le, Bool, List, length, is_none, codes}
+use Rattle.std.specs.List.{list_all}
+use Rattle.std.specs.Str.{is_utf8}
+use Rattle.codes_core.specs.Thing.{thing_fault}
+use Rattle.codes_core.specs.Place.{place_fault}
+use Rattle.codes_core.specs.Day.{day_fault}
+use Rattle.codes_core.specs.Name.{is_name_byte}
+use Rattle.register_store.specs.declared.key.Key.{Key}
+use Rattle.register_store.specs.declared.key.Key.TheVariants.{Kind, Thing, Place, Day, By, Station, N, Message, Ask}
+
+abbrev pub key_name : Key → List ℕ
+key_name Kind = codes "kind"
+key_name Thing = codes "thing"
+key_name Place = codes "place"
+key_name Day = codes "day"
+key_name By = codes "by"
+key_name Station = codes "station"
+key_name N = codes "n"
+key_name Message = codes "message"
+key_name Ask = codes "ask"
+
+-- the text is a thing's code
+abbrev pub is_thing : List ℕ → Bool
+is_thing text = is_none (thing_fault text)
+
+-- a place's code
+abbrev pub is_place : List ℕ → Bool
+is_place text = is_none (place_fault text)
+
+-- a day of the calendar
+abbrev pub is_day : List ℕ → Bool
+is_day text = is_none (day_fault text)
+
+-- a name: UTF-8 of 1 to 60 bytes, none of them a control
+abbrev pub is_name : List ℕ → Bool
+is_name text = is_utf8 text && nat_lt 0 (length text) && nat_le (length text) 60 && list_all is_name_byte text

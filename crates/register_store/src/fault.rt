@@ -1,0 +1,50 @@
+//! Why a text is no message.
+
+use crate::Key;
+use codes_core::NoMemory;
+use std::alloc::AllocError;
+use std::fmt;
+use thiserror::Error;
+
+/// Why a text is no message, or a growth was refused.
+#[derive(Clone, Copy, Debug, PartialEq, Eq, Error)]
+pub enum ReadFault {
+    #[error("no JSON object")]
+    NotJson,
+    #[error("no key {0}")]
+    Missing(Key),
+    #[error("no such kind of message")]
+    BadKind,
+    #[error("a wrong value at the key {0}")]
+    BadField(Key),
+    #[error("out of memory")]
+    NoMemory,
+}
+
+impl fmt::Display for Key {
+    fn fmt<W: fmt::Write>(&self, f: &mut fmt::Formatter<W>) -> fmt::Result {
+        f.write_str(self.name())
+    }
+}
+
+impl From<AllocError> for ReadFault {
+    ghost use Rattle.std.specs.Prelude.{◌≡◌};
+    ghost use Rattle.register_store.specs.declared.fault.ReadFault.TheVariants as faults;
+
+    ghost from_gives = { λ _ e. e ≡ faults.NoMemory };
+
+    fn from(_error: AllocError) -> ReadFault {
+        ReadFault::NoMemory
+    }
+}
+
+impl From<NoMemory> for ReadFault {
+    ghost use Rattle.std.specs.Prelude.{◌≡◌};
+    ghost use Rattle.register_store.specs.declared.fault.ReadFault.TheVariants as faults;
+
+    ghost from_gives = { λ _ e. e ≡ faults.NoMemory };
+
+    fn from(_error: NoMemory) -> ReadFault {
+        ReadFault::NoMemory
+    }
+}

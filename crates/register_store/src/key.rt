@@ -1,0 +1,36 @@
+//! The keys of messages and of lines.
+ghost use Rattle.std.specs.Prelude.{◌≡◌};
+ghost use Rattle.register_store.specs.Spelling.{key_name};
+
+/// A key of a message's object, or of the line that bears it.
+#[derive(Clone, Copy, Debug, PartialEq, Eq)]
+pub enum Key {
+    Kind,
+    Thing,
+    Place,
+    Day,
+    By,
+    Station,
+    N,
+    Message,
+    Ask,
+}
+
+impl Key {
+    /// The key as it stands in the text.
+    pub fn name(self) -> &'static str
+        ensures { result.now ≡ key_name self }
+    {
+        match self {
+            Key::Kind => "kind",
+            Key::Thing => "thing",
+            Key::Place => "place",
+            Key::Day => "day",
+            Key::By => "by",
+            Key::Station => "station",
+            Key::N => "n",
+            Key::Message => "message",
+            Key::Ask => "ask",
+        }
+    }
+}

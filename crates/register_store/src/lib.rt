@@ -1,0 +1,10 @@
+//! The text of messages, and what keeps a register.
+#![tactic(auto)]
+
+mod fault;
+mod key;
+mod message_reader;
+
+pub use fault::ReadFault;
+pub use key::Key;
+pub use message_reader::{message_of, read_message};
