@@ -1,0 +1,4 @@
+pub mod Slots
+pub mod Tests
+pub mod RunLemmas
+pub mod SeriesLemmas

@@ -1,0 +1,101 @@
+//! The series of all stations.
+ghost use Rattle.std.specs.Prelude.{◌≡◌, ℕ, ◌+◌, ◌<◌, ◌≤◌, ◌↔◌, IfOk, IfNone, IfSome, OnSome, All, map, length, slice_set, None, Some};
+ghost use Rattle.station_core.specs.declared.TheConstants.{LAST};
+ghost use Rattle.station_core.specs.Series.{opened, refusal_of, series_at, slot_at, with_held, counted, closed};
+
+use crate::series::Station;
+use crate::{Refusal, Start, Taken};
+use std::alloc::{AllocError, Global};
+use std::marker::Model;
+
+/// The stations of a hub, numbered from 0, each with its own series.
+#[derive(Drop)]
+pub struct Sequences<M> {
+    stations: Vec<Station<M>>,
+}
+
+impl<M> Model for Sequences<M> {
+    ghost use Rattle.std.specs.Prelude.{List};
+    ghost use Rattle.std.specs.Coded.{coded_list};
+    ghost use Rattle.station_core.specs.Series.{Series, series_code};
+
+    ghost Value = { List (Series M) };
+
+    ghost coded = { coded_list (series_code M.code) };
+
+    ghost view = { λ a. a.stations.items };
+}
+
+impl<M: Drop> Sequences<M> {
+    /// Each station as it starts, with nothing held. No later call takes memory.
+    pub fn new(alloc: Global, starts: &[Start]) -> Result<Self, AllocError>
+        requires { All (λ s. s.posted ≤ LAST) starts.now }
+        ensures { IfOk result (λ all. all ≡ map opened starts.now) }
+    {
+        let mut stations = Vec::new(alloc);
+        for start in starts {
+            stations.push(Station::new(alloc, *start)?)?;
+        }
+        Ok(Sequences { stations })
+    }
+
+    /// The first refusal of number `n` of station `s` that holds. There may be no such station.
+    pub fn test(&self, s: u32, n: u64) -> Option<Refusal>
+        ensures { result ≡ refusal_of self.now s n }
+    {
+        match self.stations.get(s as usize) {
+            None => Some(Refusal::UnknownStation),
+            Some(station) => station.test(n),
+        }
+    }
+
+    /// Holds message `n` of station `s`, which `test` doesn't refuse. It is `Ready` where it is the
+    /// station's next.
+    pub fn take(&mut self, s: u32, n: u64, message: M) -> Taken
+        requires { refusal_of self.old s n ≡ None }
+        ensures held { self.new ≡ slice_set self.old s (with_held (series_at self.old s) n message) }
+        ensures ready { result ≡ Taken.Ready ↔ (n ≡ (series_at self.old s).posted + 1) }
+    {
+        self.stations[s as usize].take(n, message)
+    }
+
+    /// The next message of station `s` with its number, where it is held; it counts as posted from
+    /// then on.
+    pub fn next_due(&mut self, s: u32) -> Option<(u32, M)>
+        requires { s < length self.old }
+        ensures none { IfNone result ((slot_at (series_at self.old s).slots 0 ≡ None) × (self.new ≡ self.old)) }
+        ensures message { IfSome result (λ d. slot_at (series_at self.old s).slots 0 ≡ Some d.1) }
+        ensures number { IfSome result (λ d. (d.0 ≡ (series_at self.old s).posted + 1) × (d.0 ≤ LAST)) }
+        ensures counted { OnSome result (self.new ≡ slice_set self.old s (counted (series_at self.old s))) }
+    {
+        let Some(due) = self.stations[s as usize].next_due() else {
+            return None;
+        };
+        Some(due)
+    }
+
+    /// Signs station `s` off, and gives up what it held.
+    pub fn sign_off(&mut self, s: u32)
+        requires { s < length self.old }
+        ensures { self.new ≡ slice_set self.old s (closed (series_at self.old s)) }
+    {
+        self.stations[s as usize].sign_off()
+    }
+
+    /// How many messages of station `s` are posted.
+    pub fn posted_count(&self, s: u32) -> u32
+        requires { s < length self.now }
+        ensures count { result ≡ (series_at self.now s).posted }
+        ensures within { result ≤ LAST }
+    {
+        self.stations[s as usize].posted_count()
+    }
+
+    /// Whether the sign-off of station `s` is posted.
+    pub fn is_signed(&self, s: u32) -> bool
+        requires { s < length self.now }
+        ensures { result ≡ (series_at self.now s).signed }
+    {
+        self.stations[s as usize].is_signed()
+    }
+}
