@@ -2,3 +2,4 @@ pub mod Slots
 pub mod Tests
 pub mod RunLemmas
 pub mod SeriesLemmas
+pub mod StationLemmas

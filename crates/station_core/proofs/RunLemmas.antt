@@ -53,7 +53,7 @@ module _ {M : Type 0} where
   highest_bound [] s n h = absurd (cc)
   highest_bound (r ∷ rs) s n h =
       highest_step (is_number s n r) r.message (message_at rs s n) n r.n (highest rs)
-        (λ e. let q : (r.n == n) ≡ true = and_right (r.station == s) (r.n == n) e in grind (arith, nat_tests)) (highest_bound rs s n) h
+      (λ e. let q : (r.n == n) ≡ true = and_right (r.station == s) (r.n == n) e in grind (arith, nat_tests)) (highest_bound rs s n) h
 
   -- an unbroken run, one message shorter
   pub unbroken_down : (signs : M → Bool) (rs : List (Arrived M)) (s j : ℕ) → unbroken signs rs s (suc j) ≡ true → unbroken signs rs s j ≡ true
@@ -79,8 +79,8 @@ module _ {M : Type 0} where
   pub ready_fails : (signs : M → Bool) (rs : List (Arrived M)) (s : ℕ) → unbroken signs rs s (suc (ready signs rs s)) ≡ false
   ready_fails signs rs s =
       ⊎_elim (greatest_fails (unbroken signs rs s) (highest rs))
-        (λ ge. not_true (unbroken signs rs s (suc (ready signs rs s))) (λ on. let h = bound_of signs rs s (suc (ready signs rs s)) on in (omega arith)))
-        (cases_lt (ready signs rs s) (highest rs))
+      (λ ge. not_true (unbroken signs rs s (suc (ready signs rs s))) (λ on. let h = bound_of signs rs s (suc (ready signs rs s)) on in (omega arith)))
+      (cases_lt (ready signs rs s) (highest rs))
 
   -- a run stops at a sign-off, and where a number is missing
   pub stops_at_sign_off : (signs : M → Bool) (rs : List (Arrived M)) (s j : ℕ) → ends signs rs s j ≡ true → unbroken signs rs s (suc j) ≡ false
@@ -106,8 +106,8 @@ module _ {M : Type 0} where
   pub ready_same : (signs : M → Bool) (rs qs : List (Arrived M)) (s : ℕ) → ((n : ℕ) → n ≤ suc (ready signs rs s) → message_at qs s n ≡ message_at rs s n) → ready signs qs s ≡ ready signs rs s
   ready_same signs rs qs s f =
       ready_is signs qs s (ready signs rs s)
-        (unbroken_same signs rs qs s (ready signs rs s) (λ n h. f n (omega arith)) ∙ ready_holds signs rs s)
-        (unbroken_same signs rs qs s (suc (ready signs rs s)) f ∙ ready_fails signs rs s)
+      (unbroken_same signs rs qs s (ready signs rs s) (λ n h. f n (omega arith)) ∙ ready_holds signs rs s)
+      (unbroken_same signs rs qs s (suc (ready signs rs s)) f ∙ ready_fails signs rs s)
 
   pub due_same : (rs qs : List (Arrived M)) (s k d : ℕ) → ((n : ℕ) → n ≤ k + d → message_at qs s n ≡ message_at rs s n) → due qs s k d ≡ due rs s k d
   due_same rs qs s k zero f = refl

@@ -61,9 +61,9 @@ module _ {M : Type 0} where
         width = length-set q.slots (r.n - q.posted - 1) (Some r.message) ∙ ms.width;
         held = record {
           inside = λ i h. ⊎_elim
-            (λ lt. held_other i h (λ e. absurd (omega arith)))
-            (λ ge. ⊎_elim (λ lt. held_other i h (λ e. absurd (omega arith))) (λ ge'. held_here i h (omega arith)) (cases_lt (r.n - q.posted - 1) i))
-            (cases_lt i (r.n - q.posted - 1));
+              (λ lt. held_other i h (λ e. absurd (omega arith)))
+              (λ ge. ⊎_elim (λ lt. held_other i h (λ e. absurd (omega arith))) (λ ge'. held_here i h (omega arith)) (cases_lt (r.n - q.posted - 1) i))
+              (cases_lt i (r.n - q.posted - 1));
           above = λ n h. at_other_number taken r s n (λ e. absurd (omega arith)) ∙ (ms.held off).above n h;
         };
       }
@@ -72,6 +72,7 @@ module _ {M : Type 0} where
       held_other i h ne =
           slot_set_other q.slots (r.n - q.posted - 1) i r.message ne
           ∙ ((ms.held off).inside i h ∙ sym (at_other_number taken r r.station (q.posted + (i + 1)) (λ e. ne (omega arith))))
+
       held_here : (i : ℕ) → i < window → i ≡ r.n - q.posted - 1 → slot_at (slice_set q.slots (r.n - q.posted - 1) (Some r.message)) i ≡ message_at (taken ++ r ∷ []) r.station (q.posted + (i + 1))
       held_here i h e =
           let n : q.posted + (i + 1) ≡ r.n = omega arith in
@@ -83,14 +84,14 @@ module _ {M : Type 0} where
 
   shifted : (taken : List (Arrived M)) (s : ℕ) (q : Series M) → length q.slots ≡ window → HoldsAbove taken s q → HoldsAbove taken s (counted q)
   shifted taken s q width held = record {
-      inside = λ i h.
+    inside = λ i h.
         slot_shift q.slots i
         ∙ ⊎_elim
-          (λ lt. let e : q.posted + (suc i + 1) ≡ q.posted + 1 + (i + 1) = omega arith in rw e at (held.inside (suc i) lt))
-          (λ ge. slot_past q.slots (suc i) (omega arith) ∙ sym (held.above (q.posted + 1 + (i + 1)) (omega arith)))
-          (cases_lt (suc i) window);
-      above = λ n h. held.above n (omega arith);
-    }
+        (λ lt. let e : q.posted + (suc i + 1) ≡ q.posted + 1 + (i + 1) = omega arith in rw e at (held.inside (suc i) lt))
+        (λ ge. slot_past q.slots (suc i) (omega arith) ∙ sym (held.above (q.posted + 1 + (i + 1)) (omega arith)))
+        (cases_lt (suc i) window);
+    above = λ n h. held.above n (omega arith);
+  }
 
   counted_width : (q : Series M) → length q.slots ≡ window → length (counted q).slots ≡ window
   counted_width q width = omega (arith, window_is, width, length-append (drop 1 q.slots) (None ∷ []), length-drop 1 q.slots)
@@ -150,8 +151,8 @@ module _ {M : Type 0} where
       let lt : nat_lt q.posted n ≡ true = grind (arith, nat_tests) in
       let place : q.posted + (n - q.posted - 1 + 1) ≡ n = omega arith in
       by_bool q.signed
-        (λ e. rw (lt, e, ms.empty e (n - q.posted - 1)) refl)
-        (λ e. ⊎_elim
-          (λ h. rw (lt, e, (ms.held e).inside (n - q.posted - 1) h, place) refl)
-          (λ h. rw (lt, e, slot_past q.slots (n - q.posted - 1) (omega (arith, ms.width)), (ms.held e).above n (omega arith)) refl)
-          (cases_lt (n - q.posted - 1) window))
+      (λ e. rw (lt, e, ms.empty e (n - q.posted - 1)) refl)
+      (λ e. ⊎_elim
+      (λ h. rw (lt, e, (ms.held e).inside (n - q.posted - 1) h, place) refl)
+      (λ h. rw (lt, e, slot_past q.slots (n - q.posted - 1) (omega (arith, ms.width)), (ms.held e).above n (omega arith)) refl)
+      (cases_lt (n - q.posted - 1) window))

@@ -1,12 +1,12 @@
 -- Lemmas on the places of a window.
 use Rattle.std.proofs.Common.{◌≡◌, ◌≢◌, ℕ, ◌+◌, ◌-◌, ◌<◌, ◌≤◌, List, [], ◌∷◌, ◌++◌, length, drop, replicate, Option, Some, None, refl, ap, ◌∙◌, sym, arith, rules, zero, suc, get_or}
-use Rattle.std.specs.Prelude.{slice_get, slice_set, option_and_then}
+use Rattle.std.specs.Prelude.{slice_get, slice_set, option_and_then, unwrap_or, false}
 use Rattle.std.proofs.lemmas.Option.{slice_get_past}
 use Rattle.circular_buffer.proofs.Places.{slice_get-set_same, slice_get-set_other}
 use Rattle.station_core.specs.declared.TheConstants.{WINDOW, LAST}
 use Rattle.circular_buffer.specs.Buffer.{Buffer, buffer}
 use Rattle.std.proofs.lemmas.List.{length-replicate}
-use Rattle.station_core.specs.Series.{Series, slot_at, series_at, window, FitsWindow}
+use Rattle.station_core.specs.Series.{Series, series, slot_at, series_at, window, FitsWindow}
 
 -- the window's one number
 pub window_is : window ≡ WINDOW
@@ -36,11 +36,14 @@ module _ {M : Type 0} where
   slot_empty (suc n) zero = refl
   slot_empty (suc n) (suc i) = slot_empty n i
 
-  -- what a read of the list of stations says of `series_at`
+  -- what a read of the list of stations says
+  pub slice_get_read : (xs : List (Series M)) (s : ℕ) (q : Series M) → q ≡ get_or xs s q → s < length xs → slice_get xs s ≡ Some q
+  slice_get_read [] s q h l = absurd (omega arith)
+  slice_get_read (x ∷ xs) zero q h l = ap Some (sym h)
+  slice_get_read (x ∷ xs) (suc s) q h l = slice_get_read xs s q h (omega arith)
+
   pub series_at_read : (xs : List (Series M)) (s : ℕ) (q : Series M) → q ≡ get_or xs s q → s < length xs → series_at xs s ≡ q
-  series_at_read [] s q h l = absurd (omega arith)
-  series_at_read (x ∷ xs) zero q h l = sym h
-  series_at_read (x ∷ xs) (suc s) q h l = series_at_read xs s q h (omega arith)
+  series_at_read xs s q h l = ap (λ (o : Option (Series M)). unwrap_or o (series 0 false [])) (slice_get_read xs s q h l)
 
   pub slot_past : (xs : List (Option M)) (i : ℕ) → length xs ≤ i → slot_at xs i ≡ None
   slot_past xs i h = ap (option_and_then (λ x. x)) (slice_get_past xs i h)

@@ -80,10 +80,10 @@ greatest_is p n k f none on off le =
     let g : ℕ = greatest p n in
     let here : p g ≡ true = greatest_holds p n none in
     let above : k < g → ⊥ = λ lt.
-        let e : g ≡ suc k + (g - suc k) = omega arith in
-        let t : p (suc k) ≡ true = down p f (suc k) (g - suc k) (rw e at here) in (cc) in
+    let e : g ≡ suc k + (g - suc k) = omega arith in
+    let t : p (suc k) ≡ true = down p f (suc k) (g - suc k) (rw e at here) in (cc) in
     let below : g < k → ⊥ = λ lt.
-        let e : k ≡ suc g + (k - suc g) = omega arith in
-        let t : p (suc g) ≡ true = down p f (suc g) (k - suc g) (rw e at on) in
-        let u : p (suc g) ≡ false = greatest_fails p n (omega arith) in (cc) in
+    let e : k ≡ suc g + (k - suc g) = omega arith in
+    let t : p (suc g) ≡ true = down p f (suc g) (k - suc g) (rw e at on) in
+    let u : p (suc g) ≡ false = greatest_fails p n (omega arith) in (cc) in
     ⊎_elim (λ lt. absurd (below lt)) (λ ge. ⊎_elim (λ lt. absurd (above lt)) (λ ge'. (omega arith)) (cases_lt k g)) (cases_lt g k)

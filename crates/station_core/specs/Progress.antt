@@ -1,5 +1,6 @@
 -- What a series holds of a list of what was taken, between arrivals and while messages come due.
-use Rattle.std.specs.Prelude.{◌≡◌, ◌≢◌, ℕ, ◌+◌, ◌<◌, Bool, true, false, List, length, Option, None}
+use Rattle.std.specs.Prelude.{◌≡◌, ◌≢◌, ℕ, ◌+◌, ◌<◌, Bool, true, false, List, length, slice_get, Option, Some, None}
+use Rattle.station_core.specs.declared.Start.{Start}
 use Rattle.station_core.specs.Series.{Series, window, slot_at, series_at}
 use Rattle.station_core.specs.Runs.{Arrived, message_at, ends, unbroken, ready, is_signed}
 
@@ -31,6 +32,16 @@ module _ {M : Type 0} where
     pub ended : ends signs taken s q.posted ≡ true
     pub width : length q.slots ≡ window
 
+  -- a station may start so from a list of what is posted
+  pub record StartsFrom (signs : M → Bool) (taken : List (Arrived M)) (s : ℕ) (start : Start) : Type 0 where
+    pub whole : unbroken signs taken s start.posted ≡ true
+    pub sign : start.signed ≡ ends signs taken s start.posted
+    pub none_above : (n : ℕ) → start.posted < n → message_at taken s n ≡ None
+
+  -- all stations may
+  pub record AllStart (signs : M → Bool) (taken : List (Arrived M)) (starts : List Start) : Type 0 where
+    pub each : (s : ℕ) (start : Start) → slice_get starts s ≡ Some start → StartsFrom signs taken s start
+
   -- every station holds what was taken
   pub record AllMatch (signs : M → Bool) (taken : List (Arrived M)) (all : List (Series M)) : Type 0 where
     pub each : (s : ℕ) → s < length all → Matches signs taken s (series_at all s)
@@ -46,3 +57,9 @@ module _ {M : Type 0} where
     pub within : s < length all
     pub here : Ending signs taken s (series_at all s)
     pub others : (t : ℕ) → t < length all → t ≢ s → Matches signs taken t (series_at all t)
+
+  -- number n comes due with its message: it was taken so, and the station goes on or ends with it
+  pub record ComesDue (signs : M → Bool) (taken : List (Arrived M)) (s n : ℕ) (m : M) (all : List (Series M)) : Type 0 where
+    pub message : message_at taken s n ≡ Some m
+    pub goes_on : signs m ≡ false → IsPosting signs taken s all
+    pub ends : signs m ≡ true → IsEnding signs taken s all

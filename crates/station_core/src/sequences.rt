@@ -1,7 +1,9 @@
 //! The series of all stations.
-ghost use Rattle.std.specs.Prelude.{◌≡◌, ℕ, ◌+◌, ◌<◌, ◌≤◌, ◌↔◌, IfOk, IfNone, IfSome, OnSome, All, map, length, slice_set, None, Some};
+ghost use Rattle.std.specs.Prelude.{◌≡◌, ℕ, ◌+◌, ◌<◌, ◌≤◌, ◌↔◌, Bool, List, [], ◌∷◌, ◌++◌, IfOk, IfNone, IfSome, OnSome, All, map, length, slice_set, None, Some};
 ghost use Rattle.station_core.specs.declared.TheConstants.{LAST};
 ghost use Rattle.station_core.specs.Series.{opened, refusal_of, series_at, slot_at, with_held, counted, closed};
+ghost use Rattle.station_core.specs.Runs.{Arrived, arrived, refusal};
+ghost use Rattle.station_core.specs.Progress.{AllStart, AllMatch, IsPosting, IsEnding, ComesDue};
 
 use crate::series::Station;
 use crate::{Refusal, Start, Taken};
@@ -30,7 +32,8 @@ impl<M: Drop> Sequences<M> {
     /// Each station as it starts, with nothing held. No later call takes memory.
     pub fn new(alloc: Global, starts: &[Start]) -> Result<Self, AllocError>
         requires { All (λ s. s.posted ≤ LAST) starts.now }
-        ensures { IfOk result (λ all. all ≡ map opened starts.now) }
+        ensures opened { IfOk result (λ all. all ≡ map opened starts.now) }
+        ensures taken { IfOk result (λ all. (signs : M → Bool) (taken : List (Arrived M)) → AllStart signs taken starts.now → AllMatch signs taken all) }
     {
         let mut stations = Vec::new(alloc);
         for start in starts {
@@ -41,7 +44,8 @@ impl<M: Drop> Sequences<M> {
 
     /// The first refusal of number `n` of station `s` that holds. There may be no such station.
     pub fn test(&self, s: u32, n: u64) -> Option<Refusal>
-        ensures { result ≡ refusal_of self.now s n }
+        ensures table { result ≡ refusal_of self.now s n }
+        ensures taken { (signs : M → Bool) (taken : List (Arrived M)) → AllMatch signs taken self.now → result ≡ refusal signs (length self.now) taken s n }
     {
         match self.stations.get(s as usize) {
             None => Some(Refusal::UnknownStation),
@@ -55,6 +59,7 @@ impl<M: Drop> Sequences<M> {
         requires { refusal_of self.old s n ≡ None }
         ensures held { self.new ≡ slice_set self.old s (with_held (series_at self.old s) n message) }
         ensures ready { result ≡ Taken.Ready ↔ (n ≡ (series_at self.old s).posted + 1) }
+        ensures taken { (signs : M → Bool) (taken : List (Arrived M)) → AllMatch signs taken self.old → IsPosting signs (taken ++ arrived s n message ∷ []) s self.new }
     {
         self.stations[s as usize].take(n, message)
     }
@@ -67,6 +72,8 @@ impl<M: Drop> Sequences<M> {
         ensures message { IfSome result (λ d. slot_at (series_at self.old s).slots 0 ≡ Some d.1) }
         ensures number { IfSome result (λ d. (d.0 ≡ (series_at self.old s).posted + 1) × (d.0 ≤ LAST)) }
         ensures counted { OnSome result (self.new ≡ slice_set self.old s (counted (series_at self.old s))) }
+        ensures posted { IfNone result ((signs : M → Bool) (taken : List (Arrived M)) → IsPosting signs taken s self.old → AllMatch signs taken self.new) }
+        ensures due { IfSome result (λ d. (signs : M → Bool) (taken : List (Arrived M)) → IsPosting signs taken s self.old → ComesDue signs taken s d.0 d.1 self.new) }
     {
         let Some(due) = self.stations[s as usize].next_due() else {
             return None;
@@ -77,7 +84,8 @@ impl<M: Drop> Sequences<M> {
     /// Signs station `s` off, and gives up what it held.
     pub fn sign_off(&mut self, s: u32)
         requires { s < length self.old }
-        ensures { self.new ≡ slice_set self.old s (closed (series_at self.old s)) }
+        ensures closed { self.new ≡ slice_set self.old s (closed (series_at self.old s)) }
+        ensures taken { (signs : M → Bool) (taken : List (Arrived M)) → IsEnding signs taken s self.old → AllMatch signs taken self.new }
     {
         self.stations[s as usize].sign_off()
     }

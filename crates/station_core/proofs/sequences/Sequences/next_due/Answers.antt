@@ -2,6 +2,7 @@ use Rattle.std.proofs.Common.{◌≡◌, ◌<◌, length, rules}
 use Rattle.std.proofs.lemmas.List.{set-get_or}
 use Rattle.station_core.specs.Series.{series_at}
 use Rattle.station_core.proofs.Slots.{series_at_read}
+use Rattle.station_core.proofs.StationLemmas.{all_posted, comes_due}
 use Rattle.station_core.proofs.sequences.Sequences.next_due.Goals as goal
 
 pub returns-clause-message : goal.returns-clause-message
@@ -27,3 +28,12 @@ returns-in_default-clause-none g c =
     let within : c.args.s < length c.self.inside.stations.items = rw c.self.view_is c.requires in
     let e : series_at c.args.self.now c.args.s ≡ c.index_mut.result.now = rw (← c.self.view_is) (series_at_read _ _ _ c.index_mut.ensures.value within) in
     (rw e c.in_default.ensures.none.0, rw (c.in_default.ensures.none.1, c.index_mut.ensures.value, set-get_or) c.self.view_is)
+
+pub returns-in_default-clause-posted : goal.returns-in_default-clause-posted
+returns-in_default-clause-posted g c = λ signs taken posting.
+    let none = returns-in_default-clause-none g c in
+    rw none.1 (all_posted signs taken _ _ posting none.0)
+
+pub returns-clause-due : goal.returns-clause-due
+returns-clause-due g c = λ signs taken posting.
+    rw (returns-clause-counted g c) (comes_due signs taken _ _ _ _ posting (returns-clause-message g c) (returns-clause-number g c).0)
