@@ -3,3 +3,4 @@ pub mod Tests
 pub mod RunLemmas
 pub mod SeriesLemmas
 pub mod StationLemmas
+pub mod GrowLemmas
