@@ -4,3 +4,4 @@ pub mod RunLemmas
 pub mod SeriesLemmas
 pub mod StationLemmas
 pub mod GrowLemmas
+pub mod Rows

@@ -42,6 +42,13 @@ impl<M: Drop> Sequences<M> {
         Ok(Sequences { stations })
     }
 
+    /// How many stations there are.
+    pub fn len(&self) -> usize
+        ensures { result ≡ length self.now }
+    {
+        self.stations.len()
+    }
+
     /// The first refusal of number `n` of station `s` that holds. There may be no such station.
     pub fn test(&self, s: u32, n: u64) -> Option<Refusal>
         ensures table { result ≡ refusal_of self.now s n }
@@ -107,3 +114,6 @@ impl<M: Drop> Sequences<M> {
         self.stations[s as usize].is_signed()
     }
 }
+
+#[cfg(test)]
+mod tests;
