@@ -6,7 +6,7 @@ use Rattle.station_core.specs.declared.Start.{Start}
 use Rattle.station_core.specs.Runs.{Arrived, arrived, message_at, stops, ends, unbroken, ready, numbered, due, run}
 use Rattle.station_core.specs.Progress.{StartsFrom}
 use Rattle.station_core.proofs.RunLemmas.{at_other_number, at_other_station, at_its_number, unbroken_down, unbroken_found, unbroken_goes_on, ready_holds, ready_fails, ready_same, unbroken_same, ends_same, due_same, due_split}
-use Rattle.station_core.proofs.Tests.{down, or_false}
+use Rattle.station_core.proofs.BoolLemmas.{down, or_false}
 
 module _ {M : Type 0} where
   -- what is posted stays posted
@@ -16,13 +16,13 @@ module _ {M : Type 0} where
       let qs : List (Arrived M) = rs ++ r ∷ [] in
       let here : unbroken signs qs s (ready signs rs s) ≡ true = unbroken_same signs rs qs s (ready signs rs s) (λ n h. at_other_number rs r s n (λ e. absurd (omega arith))) ∙ ready_holds signs rs s in
       ⊎_elim
-        (λ lt.
-          let e : ready signs rs s ≡ suc (ready signs qs s) + (ready signs rs s - suc (ready signs qs s)) = omega arith in
-          let on : unbroken signs qs s (suc (ready signs qs s)) ≡ true = down (unbroken signs qs s) (unbroken_down signs qs s) (suc (ready signs qs s)) (ready signs rs s - suc (ready signs qs s)) (rw e at here) in
-          let off : unbroken signs qs s (suc (ready signs qs s)) ≡ false = ready_fails signs qs s in
-          absurd (cc))
-        (λ ge. ge)
-        (cases_lt (ready signs qs s) (ready signs rs s))
+      (λ lt.
+      let e : ready signs rs s ≡ suc (ready signs qs s) + (ready signs rs s - suc (ready signs qs s)) = omega arith in
+      let on : unbroken signs qs s (suc (ready signs qs s)) ≡ true = down (unbroken signs qs s) (unbroken_down signs qs s) (suc (ready signs qs s)) (ready signs rs s - suc (ready signs qs s)) (rw e at here) in
+      let off : unbroken signs qs s (suc (ready signs qs s)) ≡ false = ready_fails signs qs s in
+      absurd (cc))
+      (λ ge. ge)
+      (cases_lt (ready signs qs s) (ready signs rs s))
 
   -- a run is the run before it, and what came due
   pub run_grows : (signs : M → Bool) (rs : List (Arrived M)) (r : Arrived M) → ready signs rs r.station < r.n

@@ -1,7 +1,7 @@
-pub mod Slots
-pub mod Tests
+pub mod BoolLemmas
+pub mod SlotLemmas
 pub mod RunLemmas
+pub mod GrowLemmas
 pub mod SeriesLemmas
 pub mod StationLemmas
-pub mod GrowLemmas
 pub mod Rows

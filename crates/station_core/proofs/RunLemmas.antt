@@ -3,7 +3,7 @@ use Rattle.std.proofs.Common.{◌≡◌, ◌≢◌, ℕ, zero, suc, ◌+◌, ◌
 use Rattle.std.proofs.lemmas.Bool.{cases_lt}
 use Rattle.std.proofs.lemmas.Bool.Decides.{nat_tests}
 use Rattle.station_core.specs.Runs.{Arrived, arrived, is_number, message_at, stops, ends, unbroken, highest, ready, is_signed, numbered, due, run}
-use Rattle.station_core.proofs.Tests.{and_left, and_right, and_both, not_true, not_false, ended_test, greatest_holds, greatest_fails, greatest_is, down}
+use Rattle.station_core.proofs.BoolLemmas.{and_left, and_right, and_both, not_true, not_false, ended_test, greatest_holds, greatest_fails, greatest_is, down}
 
 module _ {M : Type 0} where
   -- another number after one more arrival

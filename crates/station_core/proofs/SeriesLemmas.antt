@@ -9,8 +9,8 @@ use Rattle.station_core.specs.declared.Start.{Start}
 use Rattle.station_core.specs.Series.{Series, window, slot_at, held_at, refusal_at, opened, with_held, counted, closed}
 use Rattle.station_core.specs.Runs.{Arrived, arrived, message_at, ends, unbroken, ready, is_signed, is_double}
 use Rattle.station_core.specs.Progress.{HoldsAbove, Matches, Pending, Ending}
-use Rattle.station_core.proofs.Slots.{window_is, slot_set_same, slot_set_other, slot_shift, slot_empty, slot_past}
-use Rattle.station_core.proofs.Tests.{by_bool}
+use Rattle.station_core.proofs.SlotLemmas.{window_is, slot_set_same, slot_set_other, slot_shift, slot_empty, slot_past}
+use Rattle.station_core.proofs.BoolLemmas.{by_bool}
 use Rattle.station_core.proofs.RunLemmas.{at_other_number, at_other_station, at_its_number, ends_same, unbroken_same, ready_is, ready_holds, ready_same, stops_at_sign_off, stops_at_missing}
 
 module _ {M : Type 0} where

@@ -13,7 +13,7 @@ use Rattle.station_core.specs.declared.Refusal.TheVariants.{UnknownStation, BadN
 use Rattle.station_core.specs.Series.{Series, series, window, slot_at, series_at, held_at, refusal_at, refusal_in, refusal_of, opened, with_held, counted, closed}
 use Rattle.station_core.specs.Runs.{Arrived, arrived, message_at, ends, ready, is_signed, is_double, refusal, taken_after}
 use Rattle.station_core.specs.Progress.{Matches, Pending, Ending, AllMatch, IsPosting, IsEnding, ComesDue, StartsFrom, AllStart}
-use Rattle.station_core.proofs.Tests.{by_bool, or_false, none_there}
+use Rattle.station_core.proofs.BoolLemmas.{by_bool, or_false, none_there}
 use Rattle.station_core.proofs.SeriesLemmas.{matches_opened, matches_other, pending_taken, pending_counted, ending_counted, matches_pending, matches_closed, next_of, held_is_taken}
 
 -- a test that refuses nothing
@@ -141,10 +141,10 @@ module _ {M : Type 0} where
   pub comes_due : (signs : M → Bool) (taken : List (Arrived M)) (all : List (Series M)) (s n : ℕ) (m : M) → IsPosting signs taken s all → slot_at (series_at all s).slots 0 ≡ Some m → n ≡ (series_at all s).posted + 1
       → ComesDue signs taken s n m (slice_set all s (counted (series_at all s)))
   comes_due signs taken all s n m p here e = record {
-      message = rw (e, add-one) (sym (next_of signs taken s (series_at all s) p.here) ∙ here);
-      goes_on = posting_counted signs taken all s m p here;
-      ends = posting_ending signs taken all s m p here;
-    }
+    message = rw (e, add-one) (sym (next_of signs taken s (series_at all s) p.here) ∙ here);
+    goes_on = posting_counted signs taken all s m p here;
+    ends = posting_ending signs taken all s m p here;
+  }
 
   -- one station and the others are all
   all_from : (signs : M → Bool) (taken : List (Arrived M)) (all : List (Series M)) (s : ℕ) → Matches signs taken s (series_at all s) → ((t : ℕ) → t < length all → t ≢ s → Matches signs taken t (series_at all t)) → AllMatch signs taken all

@@ -30,7 +30,7 @@ impl<M> Model for Station<M> {
 
 impl<M: Drop> Station<M> {
     /// A station as it starts, with nothing held. It takes all its memory here.
-    #[tactic(auto, using(crate::proofs::Slots::window_is))]
+    #[tactic(auto, using(crate::proofs::SlotLemmas::window_is))]
     pub fn new(alloc: Global, start: Start) -> Result<Self, AllocError>
         requires { start.posted ≤ LAST }
         ensures { IfOk result (λ q. q ≡ opened start) }
@@ -60,7 +60,7 @@ impl<M: Drop> Station<M> {
     }
 
     /// The first refusal of number `n` that holds.
-    #[tactic(auto, using(crate::proofs::Slots::window_is))]
+    #[tactic(auto, using(crate::proofs::SlotLemmas::window_is))]
     pub fn test(&self, n: u64) -> Option<Refusal>
         ensures { result ≡ refusal_at self.now n }
     {

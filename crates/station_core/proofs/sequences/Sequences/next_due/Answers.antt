@@ -1,33 +1,27 @@
-use Rattle.std.proofs.Common.{◌≡◌, ◌<◌, length, rules}
 use Rattle.std.proofs.lemmas.List.{set-get_or}
-use Rattle.station_core.specs.Series.{series_at}
-use Rattle.station_core.proofs.Slots.{series_at_read}
+use Rattle.station_core.proofs.SlotLemmas.{series_at_read}
 use Rattle.station_core.proofs.StationLemmas.{all_posted, comes_due}
 use Rattle.station_core.proofs.sequences.Sequences.next_due.Goals as goal
 
 pub returns-clause-message : goal.returns-clause-message
 returns-clause-message g c =
-    let within : c.args.s < length c.self.inside.stations.items = rw c.self.view_is c.requires in
-    let e : series_at c.args.self.now c.args.s ≡ c.index_mut.result.now = rw (← c.self.view_is) (series_at_read _ _ _ c.index_mut.ensures.value within) in
-    rw e c.in-Some.ensures.message
+    let here = series_at_read c.args.self.now _ _ _ c.self.view_is c.index_mut.ensures.value c.requires in
+    rw here c.in-Some.ensures.message
 
 pub returns-clause-number : goal.returns-clause-number
 returns-clause-number g c =
-    let within : c.args.s < length c.self.inside.stations.items = rw c.self.view_is c.requires in
-    let e : series_at c.args.self.now c.args.s ≡ c.index_mut.result.now = rw (← c.self.view_is) (series_at_read _ _ _ c.index_mut.ensures.value within) in
-    rw e c.in-Some.ensures.number
+    let here = series_at_read c.args.self.now _ _ _ c.self.view_is c.index_mut.ensures.value c.requires in
+    rw here c.in-Some.ensures.number
 
 pub returns-clause-counted : goal.returns-clause-counted
 returns-clause-counted g c =
-    let within : c.args.s < length c.self.inside.stations.items = rw c.self.view_is c.requires in
-    let e : series_at c.args.self.now c.args.s ≡ c.index_mut.result.now = rw (← c.self.view_is) (series_at_read _ _ _ c.index_mut.ensures.value within) in
-    rw (e, c.in-Some.ensures.counted, c.self.view_is)
+    let here = series_at_read c.args.self.now _ _ _ c.self.view_is c.index_mut.ensures.value c.requires in
+    rw (here, c.in-Some.ensures.counted, c.self.view_is)
 
 pub returns-in_default-clause-none : goal.returns-in_default-clause-none
 returns-in_default-clause-none g c =
-    let within : c.args.s < length c.self.inside.stations.items = rw c.self.view_is c.requires in
-    let e : series_at c.args.self.now c.args.s ≡ c.index_mut.result.now = rw (← c.self.view_is) (series_at_read _ _ _ c.index_mut.ensures.value within) in
-    (rw e c.in_default.ensures.none.0, rw (c.in_default.ensures.none.1, c.index_mut.ensures.value, set-get_or) c.self.view_is)
+    let here = series_at_read c.args.self.now _ _ _ c.self.view_is c.index_mut.ensures.value c.requires in
+    (rw here c.in_default.ensures.none.0, rw (c.in_default.ensures.none.1, c.index_mut.ensures.value, set-get_or) c.self.view_is)
 
 pub returns-in_default-clause-posted : goal.returns-in_default-clause-posted
 returns-in_default-clause-posted g c = λ signs taken posting.

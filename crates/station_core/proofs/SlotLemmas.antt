@@ -42,9 +42,12 @@ module _ {M : Type 0} where
   slice_get_read (x ∷ xs) zero q h l = ap Some (sym h)
   slice_get_read (x ∷ xs) (suc s) q h l = slice_get_read xs s q h (omega arith)
 
-  pub series_at_read : (xs : List (Series M)) (s : ℕ) (q : Series M) → q ≡ get_or xs s q → s < length xs → series_at xs s ≡ q
-  series_at_read xs s q h l = ap (λ (o : Option (Series M)). unwrap_or o (series 0 false [])) (slice_get_read xs s q h l)
+  pub series_at_read : (all items : List (Series M)) (s : ℕ) (q : Series M) → items ≡ all → q ≡ get_or items s q → s < length all → series_at all s ≡ q
+  series_at_read all items s q same read within =
+      let here : s < length items = rw same within in
+      rw (← same) (ap (λ (o : Option (Series M)). unwrap_or o (series 0 false [])) (slice_get_read items s q read here))
 
+  -- a place past the window's end
   pub slot_past : (xs : List (Option M)) (i : ℕ) → length xs ≤ i → slot_at xs i ≡ None
   slot_past xs i h = ap (option_and_then (λ x. x)) (slice_get_past xs i h)
 
