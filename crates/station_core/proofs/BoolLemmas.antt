@@ -1,5 +1,5 @@
 -- Lemmas on tests, and on the greatest number that passes one.
-use Rattle.std.proofs.Common.{◌≡◌, ℕ, zero, suc, ◌+◌, ◌-◌, ◌<◌, ◌≤◌, ◌&&◌, ◌||◌, not, Bool, true, false, if◌then◌else◌, Option, Some, None, is_some, refl, ap, ◌∙◌, sym, arith, ⊎_elim, add-zero, add-suc}
+use Rattle.std.proofs.Common.{◌≡◌, ℕ, zero, suc, ◌+◌, ◌-◌, ◌<◌, ◌≤◌, ◌&&◌, ◌||◌, not, Bool, true, false, if◌then◌else◌, Option, Some, None, is_some, refl, arith, ⊎_elim, add-zero, add-suc}
 use Rattle.std.proofs.lemmas.Bool.{cases_lt}
 use Rattle.station_core.specs.Runs.{greatest}
 

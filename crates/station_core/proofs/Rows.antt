@@ -1,7 +1,6 @@
 -- Worked rows of the definitions. A message is a number, and 9 signs off.
-use Rattle.std.proofs.Common.{◌≡◌, ℕ, ◌==◌, Bool, true, false, List, [], ◌∷◌, Option, Some, None, refl, subst, slice_get, zero, suc}
+use Rattle.std.proofs.Common.{◌≡◌, ℕ, ◌==◌, Bool, true, false, List, [], ◌∷◌, Some, None, refl, subst, slice_get, zero, suc}
 use Rattle.std.specs.Prelude.{map}
-use Rattle.station_core.specs.declared.Refusal.{Refusal}
 use Rattle.station_core.specs.declared.Refusal.TheVariants.{UnknownStation, BadNumber, Double, SignedOff, TooEarly}
 use Rattle.station_core.specs.declared.Start.{Start}
 use Rattle.station_core.specs.Series.{window, opened}

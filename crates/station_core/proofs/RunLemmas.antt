@@ -1,9 +1,9 @@
 -- Lemmas on numbers found in a list of what was taken.
-use Rattle.std.proofs.Common.{◌≡◌, ◌≢◌, ℕ, zero, suc, ◌+◌, ◌-◌, ◌<◌, ◌≤◌, ◌&&◌, ◌||◌, ◌==◌, not, max, Bool, true, false, if◌then◌else◌, List, [], ◌∷◌, ◌++◌, Option, Some, None, is_some, is_none, refl, ap, ◌∙◌, sym, arith, ⊎_elim, add-zero, add-suc, append-nil, append_assoc, add_assoc}
+use Rattle.std.proofs.Common.{◌≡◌, ◌≢◌, ℕ, zero, suc, ◌+◌, ◌-◌, ◌≤◌, ◌&&◌, ◌==◌, not, max, Bool, true, false, if◌then◌else◌, List, [], ◌∷◌, ◌++◌, Option, Some, None, is_some, refl, ap, ◌∙◌, arith, ⊎_elim, add-zero, add-suc, append-nil, append_assoc, add_assoc}
 use Rattle.std.proofs.lemmas.Bool.{cases_lt}
 use Rattle.std.proofs.lemmas.Bool.Decides.{nat_tests}
-use Rattle.station_core.specs.Runs.{Arrived, arrived, is_number, message_at, stops, ends, unbroken, highest, ready, is_signed, numbered, due, run}
-use Rattle.station_core.proofs.BoolLemmas.{and_left, and_right, and_both, not_true, not_false, ended_test, greatest_holds, greatest_fails, greatest_is, down}
+use Rattle.station_core.specs.Runs.{Arrived, arrived, is_number, message_at, stops, ends, unbroken, highest, ready, due}
+use Rattle.station_core.proofs.BoolLemmas.{and_left, and_right, and_both, not_true, not_false, ended_test, greatest_holds, greatest_fails, greatest_is}
 
 module _ {M : Type 0} where
   -- another number after one more arrival

@@ -1,13 +1,12 @@
 -- What one station's series holds of what was taken, call by call.
-use Rattle.std.proofs.Common.{◌≡◌, ◌≢◌, ℕ, zero, suc, ◌+◌, ◌-◌, ◌<◌, ◌≤◌, ◌&&◌, ◌||◌, ◌==◌, not, nat_lt, nat_le, Bool, true, false, if◌then◌else◌, List, [], ◌∷◌, ◌++◌, length, drop, replicate, Option, Some, None, is_some, refl, ap, ◌∙◌, sym, arith, ⊎_elim, add-one, length-append, length-drop, length-set}
+use Rattle.std.proofs.Common.{◌≡◌, ◌≢◌, ℕ, suc, ◌+◌, ◌-◌, ◌<◌, ◌≤◌, ◌&&◌, not, nat_lt, Bool, true, false, List, [], ◌∷◌, ◌++◌, length, drop, Some, None, is_some, refl, ap, ◌∙◌, sym, arith, ⊎_elim, add-one, length-append, length-drop, length-set}
 use Rattle.std.proofs.lemmas.List.{length-replicate}
 use Rattle.std.proofs.lemmas.Bool.{cases_lt}
 use Rattle.std.proofs.lemmas.Bool.Decides.{nat_tests}
 use Rattle.std.specs.Prelude.{slice_set}
-use Rattle.station_core.specs.declared.TheConstants.{LAST}
 use Rattle.station_core.specs.declared.Start.{Start}
-use Rattle.station_core.specs.Series.{Series, window, slot_at, held_at, refusal_at, opened, with_held, counted, closed}
-use Rattle.station_core.specs.Runs.{Arrived, arrived, message_at, ends, unbroken, ready, is_signed, is_double}
+use Rattle.station_core.specs.Series.{Series, window, slot_at, held_at, opened, with_held, counted, closed}
+use Rattle.station_core.specs.Runs.{Arrived, message_at, ends, unbroken, ready}
 use Rattle.station_core.specs.Progress.{HoldsAbove, Matches, Pending, Ending}
 use Rattle.station_core.proofs.SlotLemmas.{window_is, slot_set_same, slot_set_other, slot_shift, slot_empty, slot_past}
 use Rattle.station_core.proofs.BoolLemmas.{by_bool}

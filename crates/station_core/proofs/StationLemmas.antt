@@ -1,18 +1,19 @@
 -- What the series of all stations hold of what was taken, call by call.
-use Rattle.std.proofs.Common.{◌≡◌, ◌≢◌, ℕ, zero, suc, ◌+◌, ◌-◌, ◌<◌, ◌≤◌, ◌&&◌, ◌||◌, ◌==◌, not, nat_lt, nat_le, Bool, true, false, if◌then◌else◌, List, [], ◌∷◌, ◌++◌, length, map, Option, Some, None, is_some, is_none, refl, ap, ◌∙◌, sym, arith, ⊎_elim, add-one, length-set}
+use Rattle.std.proofs.Common.{◌≡◌, ◌≢◌, ℕ, zero, suc, ◌+◌, ◌<◌, ◌≤◌, ◌&&◌, ◌||◌, ◌==◌, not, nat_lt, nat_le, Bool, true, false, if◌then◌else◌, List, [], ◌∷◌, ◌++◌, length, map, Option, Some, None, is_some, refl, ap, ◌∙◌, sym, arith, ⊎_elim, add-one, length-set}
 use Rattle.std.proofs.lemmas.Bool.{cases_lt}
 use Rattle.std.proofs.lemmas.Bool.Decides.{nat_tests}
 use Rattle.std.proofs.lemmas.List.{length-map}
-use Rattle.std.specs.Prelude.{slice_set, slice_get, unwrap_or}
+use Rattle.std.specs.Prelude.{slice_set, slice_get, unwrap_or, IfSome, IfNone, OnSome, get_or}
+use Rattle.std.proofs.lemmas.List.{set-get_or}
 use Rattle.std.proofs.lemmas.Option.{slice_get_past}
 use Rattle.circular_buffer.proofs.Places.{slice_get-set_same, slice_get-set_other, slice_get-some}
 use Rattle.station_core.specs.declared.TheConstants.{LAST}
 use Rattle.station_core.specs.declared.Start.{Start}
 use Rattle.station_core.specs.declared.Refusal.{Refusal}
 use Rattle.station_core.specs.declared.Refusal.TheVariants.{UnknownStation, BadNumber, Double, SignedOff, TooEarly}
-use Rattle.station_core.specs.Series.{Series, series, window, slot_at, series_at, held_at, refusal_at, refusal_in, refusal_of, opened, with_held, counted, closed}
+use Rattle.station_core.specs.Series.{Series, series, window, slot_at, series_at, refusal_of, opened, with_held, counted, closed}
 use Rattle.station_core.specs.Runs.{Arrived, arrived, message_at, ends, ready, is_signed, is_double, refusal, taken_after}
-use Rattle.station_core.specs.Progress.{Matches, Pending, Ending, AllMatch, IsPosting, IsEnding, ComesDue, StartsFrom, AllStart}
+use Rattle.station_core.specs.Progress.{Matches, AllMatch, IsPosting, IsEnding, ComesDue, StartsFrom, AllStart}
 use Rattle.station_core.proofs.BoolLemmas.{by_bool, or_false, none_there}
 use Rattle.station_core.proofs.SeriesLemmas.{matches_opened, matches_other, pending_taken, pending_counted, ending_counted, matches_pending, matches_closed, next_of, held_is_taken}
 
@@ -157,6 +158,24 @@ module _ {M : Type 0} where
   -- nothing more comes due
   pub all_posted : (signs : M → Bool) (taken : List (Arrived M)) (all : List (Series M)) (s : ℕ) → IsPosting signs taken s all → slot_at (series_at all s).slots 0 ≡ None → AllMatch signs taken all
   all_posted signs taken all s p here = all_from signs taken all s (matches_pending signs taken s (series_at all s) p.here here) p.others
+
+  -- what a call on one station says of all: what comes due, or that nothing does
+  pub counted_among : (o : Option (ℕ × M)) (all items : List (Series M)) (s : ℕ) (q new : Series M) → items ≡ all → series_at all s ≡ q → OnSome o (new ≡ counted q) → OnSome o (slice_set items s new ≡ slice_set all s (counted (series_at all s)))
+  counted_among None all items s q new same here e = tt
+  counted_among (Some d) all items s q new same here e = rw (same, here, e) refl
+
+  pub unchanged_among : (o : Option (ℕ × M)) (all items : List (Series M)) (s : ℕ) (q new : Series M) → items ≡ all → series_at all s ≡ q → q ≡ get_or items s q → IfNone o ((slot_at q.slots 0 ≡ None) × (new ≡ q)) → IfNone o ((slot_at (series_at all s).slots 0 ≡ None) × (slice_set items s new ≡ all))
+  unchanged_among None all items s q new same here read e = (rw here e.0, rw (e.1, read, set-get_or) same)
+  unchanged_among (Some d) all items s q new same here read e = tt
+
+  pub due_among : (o : Option (ℕ × M)) (all new : List (Series M)) (s : ℕ) → IfSome o (λ d. slot_at (series_at all s).slots 0 ≡ Some d.1) → IfSome o (λ d. (d.0 ≡ (series_at all s).posted + 1) × (d.0 ≤ LAST)) → OnSome o (new ≡ slice_set all s (counted (series_at all s)))
+      → IfSome o (λ d. (signs : M → Bool) (taken : List (Arrived M)) → IsPosting signs taken s all → ComesDue signs taken s d.0 d.1 new)
+  due_among None all new s message number e = tt
+  due_among (Some d) all new s message number e = λ signs taken posting. rw e (comes_due signs taken all s d.0 d.1 posting message number.0)
+
+  pub posted_among : (o : Option (ℕ × M)) (all new : List (Series M)) (s : ℕ) → IfNone o ((slot_at (series_at all s).slots 0 ≡ None) × (new ≡ all)) → IfNone o ((signs : M → Bool) (taken : List (Arrived M)) → IsPosting signs taken s all → AllMatch signs taken new)
+  posted_among None all new s none = λ signs taken posting. rw none.1 (all_posted signs taken all s posting none.0)
+  posted_among (Some d) all new s none = tt
 
   -- the station is signed off
   pub all_closed : (signs : M → Bool) (taken : List (Arrived M)) (all : List (Series M)) (s : ℕ) → IsEnding signs taken s all → AllMatch signs taken (slice_set all s (closed (series_at all s)))

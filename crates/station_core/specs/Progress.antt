@@ -1,5 +1,5 @@
 -- What a series holds of a list of what was taken, between arrivals and while messages come due.
-use Rattle.std.specs.Prelude.{◌≡◌, ◌≢◌, ℕ, ◌+◌, ◌<◌, Bool, true, false, List, length, slice_get, Option, Some, None}
+use Rattle.std.specs.Prelude.{◌≡◌, ◌≢◌, ℕ, ◌+◌, ◌<◌, Bool, true, false, List, length, slice_get, Some, None}
 use Rattle.station_core.specs.declared.Start.{Start}
 use Rattle.station_core.specs.Series.{Series, window, slot_at, series_at}
 use Rattle.station_core.specs.Runs.{Arrived, message_at, ends, unbroken, ready, is_signed}

@@ -1,5 +1,5 @@
 -- What a contract sees of a station: a count of posted messages, a mark, and a window of held ones.
-use Rattle.std.specs.Prelude.{◌≡◌, ℕ, ◌+◌, ◌-◌, ◌<◌, ◌≤◌, ◌==◌, ◌||◌, nat_lt, nat_le, Bool, true, false, if◌then◌else◌, List, [], ◌∷◌, ◌++◌, length, drop, replicate, slice_get, slice_set, Option, Some, None, is_some, option_and_then, unwrap_or, refl}
+use Rattle.std.specs.Prelude.{◌≡◌, ℕ, ◌+◌, ◌-◌, ◌≤◌, ◌==◌, ◌||◌, nat_lt, nat_le, Bool, true, false, if◌then◌else◌, List, [], ◌∷◌, ◌++◌, length, drop, replicate, slice_get, slice_set, Option, Some, None, is_some, option_and_then, unwrap_or, refl}
 use Rattle.std.specs.Coded.{Coded, code_by, coded×, coded_list, coded_option, coded_bool, coded_ℕ}
 use Rattle.circular_buffer.specs.Buffer.{Buffer}
 use Rattle.station_core.specs.declared.TheConstants.{WINDOW, LAST}
@@ -7,7 +7,7 @@ use Rattle.station_core.specs.declared.Refusal.{Refusal}
 use Rattle.station_core.specs.declared.Refusal.TheVariants.{UnknownStation, BadNumber, Double, SignedOff, TooEarly}
 use Rattle.station_core.specs.declared.Start.{Start}
 
--- how many numbers above the posted ones a station may send
+-- how many numbers above the posted ones a station may send; proofs take it as a word
 unfoldable pub window : ℕ
 window = WINDOW
 
@@ -29,7 +29,8 @@ module _ {M : Type 0} where
   abbrev pub slot_at : List (Option M) → ℕ → Option M
   slot_at slots i = option_and_then (λ x. x) (slice_get slots i)
 
-  -- as many are posted as there are numbers, the window is whole, and no message above the last number is held
+  -- no more are posted than there are numbers, the ring has a place for each number of the window,
+  -- and nothing is held above the last number
   pub record FitsWindow (posted : ℕ) (ring : Buffer (Option M)) : Type 0 where
     pub count : posted ≤ LAST
     pub width : length ring.items ≡ window

@@ -103,10 +103,7 @@ impl<M: Drop> Sequences<M> {
             (signs : M → Bool) (taken : List (Arrived M)) →
             IsPosting signs taken s self.old → AllMatch signs taken self.new) }
     {
-        let Some(due) = self.stations[s as usize].next_due() else {
-            return None;
-        };
-        Some(due)
+        self.stations[s as usize].next_due()
     }
 
     /// Signs station `s` off, and gives up what it held. There is a station `s`.

@@ -1,33 +1,29 @@
-use Rattle.std.proofs.lemmas.List.{set-get_or}
 use Rattle.station_core.proofs.SlotLemmas.{series_at_read}
-use Rattle.station_core.proofs.StationLemmas.{all_posted, comes_due}
+use Rattle.station_core.proofs.StationLemmas.{counted_among, unchanged_among, due_among, posted_among}
 use Rattle.station_core.proofs.sequences.Sequences.next_due.Goals as goal
+
+pub returns-clause-none : goal.returns-clause-none
+returns-clause-none g c =
+    let here = series_at_read c.args.self.now _ _ _ c.self.view_is c.index_mut.ensures.value c.requires in
+    unchanged_among _ _ _ _ _ _ c.self.view_is here c.index_mut.ensures.value c.next_due.ensures.none
 
 pub returns-clause-message : goal.returns-clause-message
 returns-clause-message g c =
     let here = series_at_read c.args.self.now _ _ _ c.self.view_is c.index_mut.ensures.value c.requires in
-    rw here c.in-Some.ensures.message
+    rw here c.next_due.ensures.message
 
 pub returns-clause-number : goal.returns-clause-number
 returns-clause-number g c =
     let here = series_at_read c.args.self.now _ _ _ c.self.view_is c.index_mut.ensures.value c.requires in
-    rw here c.in-Some.ensures.number
+    rw here c.next_due.ensures.number
 
 pub returns-clause-counted : goal.returns-clause-counted
 returns-clause-counted g c =
     let here = series_at_read c.args.self.now _ _ _ c.self.view_is c.index_mut.ensures.value c.requires in
-    rw (here, c.in-Some.ensures.counted, c.self.view_is)
-
-pub returns-in_default-clause-none : goal.returns-in_default-clause-none
-returns-in_default-clause-none g c =
-    let here = series_at_read c.args.self.now _ _ _ c.self.view_is c.index_mut.ensures.value c.requires in
-    (rw here c.in_default.ensures.none.0, rw (c.in_default.ensures.none.1, c.index_mut.ensures.value, set-get_or) c.self.view_is)
-
-pub returns-in_default-clause-posted : goal.returns-in_default-clause-posted
-returns-in_default-clause-posted g c = λ signs taken posting.
-    let none = returns-in_default-clause-none g c in
-    rw none.1 (all_posted signs taken _ _ posting none.0)
+    counted_among _ _ _ _ _ _ c.self.view_is here c.next_due.ensures.counted
 
 pub returns-clause-due : goal.returns-clause-due
-returns-clause-due g c = λ signs taken posting.
-    rw (returns-clause-counted g c) (comes_due signs taken _ _ _ _ posting (returns-clause-message g c) (returns-clause-number g c).0)
+returns-clause-due g c = due_among _ _ _ _ (returns-clause-message g c) (returns-clause-number g c) (returns-clause-counted g c)
+
+pub returns-clause-posted : goal.returns-clause-posted
+returns-clause-posted g c = posted_among _ _ _ _ (returns-clause-none g c)

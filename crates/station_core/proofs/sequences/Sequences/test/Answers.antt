@@ -1,4 +1,4 @@
-use Rattle.std.proofs.Common.{◌≡◌, ◌∙◌, Some, slice_get, rules}
+use Rattle.std.proofs.Common.{◌≡◌, ◌∙◌, Some, slice_get}
 use Rattle.station_core.proofs.SlotLemmas.{slice_get_read}
 use Rattle.station_core.proofs.StationLemmas.{refusal_agrees}
 use Rattle.station_core.proofs.sequences.Sequences.test.Goals as goal
