@@ -10,7 +10,7 @@ module _ {M : Type 0} where
     pub inside : (i : ℕ) → i < window → slot_at q.slots i ≡ message_at taken s (q.posted + (i + 1))
     pub above : (n : ℕ) → q.posted + window < n → message_at taken s n ≡ None
 
-  -- between arrivals: what is ready is posted, and what was taken above it is held until the sign-off
+  -- between arrivals: what is ready is posted, and until the sign-off what was taken above is held
   pub record Matches (signs : M → Bool) (taken : List (Arrived M)) (s : ℕ) (q : Series M) : Type 0 where
     pub count : q.posted ≡ ready signs taken s
     pub sign : q.signed ≡ is_signed signs taken s

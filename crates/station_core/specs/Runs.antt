@@ -17,6 +17,7 @@ greatest p zero = zero
 greatest p (suc n) = if p (suc n) then suc n else greatest p n
 
 module _ {M : Type 0} where
+  -- message n of station s
   abbrev pub arrived : ℕ → ℕ → M → Arrived M
   arrived s n m = record { station = s; n = n; message = m }
 
@@ -47,7 +48,8 @@ module _ {M : Type 0} where
   -- every number from 1 to k of station s was taken, and none of 1 to k - 1 is a sign-off
   abbrev pub unbroken : (M → Bool) → List (Arrived M) → ℕ → ℕ → Bool
   unbroken signs taken s zero = true
-  unbroken signs taken s (suc k) = unbroken signs taken s k && (is_some (message_at taken s (suc k)) && not (ends signs taken s k))
+  unbroken signs taken s (suc k) =
+      unbroken signs taken s k && (is_some (message_at taken s (suc k)) && not (ends signs taken s k))
 
   -- how many messages of station s are posted
   abbrev pub ready : (M → Bool) → List (Arrived M) → ℕ → ℕ
@@ -59,7 +61,8 @@ module _ {M : Type 0} where
 
   -- the number is posted or, before the sign-off is posted, taken
   abbrev pub is_double : (M → Bool) → List (Arrived M) → ℕ → ℕ → Bool
-  is_double signs taken s n = nat_le n (ready signs taken s) || (not (is_signed signs taken s) && is_some (message_at taken s n))
+  is_double signs taken s n =
+      nat_le n (ready signs taken s) || (not (is_signed signs taken s) && is_some (message_at taken s n))
 
   -- the first refusal of number n of station s that holds, with this many stations
   abbrev pub refusal : (M → Bool) → ℕ → List (Arrived M) → ℕ → ℕ → Option Refusal
@@ -72,7 +75,8 @@ module _ {M : Type 0} where
 
   -- what is taken after one more arrival
   abbrev pub taken_after : (M → Bool) → ℕ → List (Arrived M) → Arrived M → List (Arrived M)
-  taken_after signs stations taken r = if is_none (refusal signs stations taken r.station r.n) then taken ++ r ∷ [] else taken
+  taken_after signs stations taken r =
+      if is_none (refusal signs stations taken r.station r.n) then taken ++ r ∷ [] else taken
 
   -- number n of station s, where there is a message
   abbrev pub numbered : ℕ → ℕ → Option M → List (Arrived M)

@@ -11,19 +11,24 @@ use Rattle.station_core.specs.declared.Start.{Start}
 unfoldable pub window : ℕ
 window = WINDOW
 
--- messages 1 to `posted` are posted; place i of `slots` has message posted + 1 + i, where it is held
+-- messages 1 to `posted` are posted, and `signed` where the last of them is a sign-off;
+-- place i of `slots` has message posted + 1 + i, where it is held
 pub record Series (M : Type 0) : Type 0 where
   pub posted : ℕ
   pub signed : Bool
   pub slots : List (Option M)
 
 module _ {M : Type 0} where
+  -- a series by its three parts
   abbrev pub series : ℕ → Bool → List (Option M) → Series M
   series k b xs = record { posted = k; signed = b; slots = xs }
 
-  -- a series is told by its three parts
+  -- two series are one where their three parts are
   abbrev pub series_code : Coded M → Coded (Series M)
-  series_code c = code_by (ℕ × (Bool × List (Option M))) (coded× coded_ℕ (coded× coded_bool (coded_list (coded_option c)))) (λ q. (q.posted, (q.signed, q.slots))) (λ p. series p.0 p.1.0 p.1.1) (λ _. refl)
+  series_code c =
+      code_by (ℕ × (Bool × List (Option M)))
+      (coded× coded_ℕ (coded× coded_bool (coded_list (coded_option c))))
+      (λ q. (q.posted, (q.signed, q.slots))) (λ p. series p.0 p.1.0 p.1.1) (λ _. refl)
 
   -- the message held in a place of the window
   abbrev pub slot_at : List (Option M) → ℕ → Option M
@@ -36,6 +41,10 @@ module _ {M : Type 0} where
     pub width : length ring.items ≡ window
     pub room : ring.capacity ≡ window
     pub none_above : (i : ℕ) → LAST ≤ posted + i → slot_at ring.items i ≡ None
+
+  -- the message held under the next number, which is that of the window's first place
+  abbrev pub next_held : Series M → Option M
+  next_held q = slot_at q.slots 0
 
   -- the message held under number n
   abbrev pub held_at : Series M → ℕ → Option M

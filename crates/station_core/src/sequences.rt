@@ -1,7 +1,7 @@
 //! The series of all stations.
 ghost use Rattle.std.specs.Prelude.{◌≡◌, ℕ, ◌+◌, ◌<◌, ◌≤◌, ◌↔◌, Bool, List, [], ◌∷◌, ◌++◌, IfOk, IfNone, IfSome, OnSome, All, map, length, slice_set, None, Some};
 ghost use Rattle.station_core.specs.declared.TheConstants.{LAST};
-ghost use Rattle.station_core.specs.Series.{opened, refusal_of, series_at, slot_at, with_held, counted, closed};
+ghost use Rattle.station_core.specs.Series.{opened, refusal_of, series_at, next_held, with_held, counted, closed};
 ghost use Rattle.station_core.specs.Runs.{Arrived, arrived, refusal};
 ghost use Rattle.station_core.specs.Progress.{AllStart, AllMatch, IsPosting, IsEnding, ComesDue};
 
@@ -29,9 +29,9 @@ impl<M> Model for Sequences<M> {
 }
 
 impl<M: Drop> Sequences<M> {
-    /// The stations, one for each start, with nothing held. A start has at most [`LAST`](crate::LAST)
-    /// messages posted. It takes all the memory that they need, and no later call takes any; its
-    /// only fault is that there isn't enough.
+    /// The stations, one for each start, with nothing held. A start has at most
+    /// [`LAST`](crate::LAST) messages posted. It takes all the memory that they need, and no later
+    /// call takes any; its only fault is that there isn't enough.
     pub fn new(alloc: Global, starts: &[Start]) -> Result<Self, AllocError>
         requires { All (λ s. s.posted ≤ LAST) starts.now }
         ensures opened { IfOk result (λ all. all ≡ map opened starts.now) }
@@ -89,10 +89,13 @@ impl<M: Drop> Sequences<M> {
     /// then on. `None` changes nothing. There is a station `s`.
     pub fn next_due(&mut self, s: u32) -> Option<(u32, M)>
         requires { s < length self.old }
-        ensures none { IfNone result ((slot_at (series_at self.old s).slots 0 ≡ None) × (self.new ≡ self.old)) }
-        ensures message { IfSome result (λ d. slot_at (series_at self.old s).slots 0 ≡ Some d.1) }
-        ensures number { IfSome result (λ d. (d.0 ≡ (series_at self.old s).posted + 1) × (d.0 ≤ LAST)) }
-        ensures counted { OnSome result (self.new ≡ slice_set self.old s (counted (series_at self.old s))) }
+        ensures none { IfNone result (
+            (next_held (series_at self.old s) ≡ None) × (self.new ≡ self.old)) }
+        ensures message { IfSome result (λ d. next_held (series_at self.old s) ≡ Some d.1) }
+        ensures number { IfSome result (λ d.
+            (d.0 ≡ (series_at self.old s).posted + 1) × (d.0 ≤ LAST)) }
+        ensures counted { OnSome result (
+            self.new ≡ slice_set self.old s (counted (series_at self.old s))) }
 
         // It is the message that was taken under that number; after the last, all is posted that
         // is ready.

@@ -1,7 +1,7 @@
 //! The series of one station: a count of posted messages and a window of held ones.
 ghost use Rattle.std.specs.Prelude.{◌≡◌, ℕ, ◌+◌, ◌-◌, ◌<◌, ◌≤◌, ◌↔◌, [], IfOk, IfNone, IfSome, OnSome, length, replicate, slice_set, Some, None};
 ghost use Rattle.circular_buffer.specs.Buffer.{buffer};
-ghost use Rattle.station_core.specs.Series.{opened, refusal_at, slot_at, with_held, counted, closed};
+ghost use Rattle.station_core.specs.Series.{opened, refusal_at, next_held, with_held, counted, closed};
 
 use crate::{LAST, Refusal, Start, Taken, WINDOW};
 use circular_buffer::HeapCircularBuffer;
@@ -93,8 +93,8 @@ impl<M: Drop> Station<M> {
 
     /// The next message, where it is held; it counts as posted from then on.
     pub fn next_due(&mut self) -> Option<(u32, M)>
-        ensures none { IfNone result ((slot_at self.old.slots 0 ≡ None) × (self.new ≡ self.old)) }
-        ensures message { IfSome result (λ d. slot_at self.old.slots 0 ≡ Some d.1) }
+        ensures none { IfNone result ((next_held self.old ≡ None) × (self.new ≡ self.old)) }
+        ensures message { IfSome result (λ d. next_held self.old ≡ Some d.1) }
         ensures number { IfSome result (λ d. (d.0 ≡ self.old.posted + 1) × (d.0 ≤ LAST)) }
         ensures counted { OnSome result (self.new ≡ counted self.old) }
     {
