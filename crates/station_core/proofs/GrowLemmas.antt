@@ -3,7 +3,7 @@ use Rattle.std.proofs.Common.{◌≡◌, ◌≢◌, ℕ, zero, suc, ◌+◌, ◌
 use Rattle.std.proofs.lemmas.Bool.{cases_lt}
 use Rattle.std.specs.List.{list_any}
 use Rattle.station_core.specs.declared.Start.{Start}
-use Rattle.station_core.specs.Runs.{Arrived, arrived, message_at, stops, ends, unbroken, ready, numbered, due, run}
+use Rattle.station_core.specs.Runs.{Arrived, message_at, stops, ends, unbroken, ready, numbered, due, run}
 use Rattle.station_core.specs.Progress.{StartsFrom}
 use Rattle.station_core.proofs.RunLemmas.{at_other_number, at_other_station, at_its_number, unbroken_down, unbroken_found, unbroken_goes_on, ready_holds, ready_fails, ready_same, unbroken_same, ends_same, due_same, due_split}
 use Rattle.station_core.proofs.BoolLemmas.{down, or_false}
@@ -92,18 +92,19 @@ module _ {M : Type 0} where
         none_above = λ n h. same n ∙ from.none_above n h;
       }
 
-  pub starts_next : (signs : M → Bool) (rs : List (Arrived M)) (s n : ℕ) (m : M) (start : Start) → StartsFrom signs rs s start → start.signed ≡ false → n ≡ start.posted + 1 → StartsFrom signs (rs ++ arrived s n m ∷ []) s (record { posted = n; signed = signs m })
-  starts_next signs rs s n m start from off e =
-      let qs : List (Arrived M) = rs ++ arrived s n m ∷ [] in
-      let k : n ≡ suc start.posted = omega arith in
-      let same : (i : ℕ) → i ≤ start.posted → message_at qs s i ≡ message_at rs s i = λ i h. at_other_number rs (arrived s n m) s i (λ q. absurd (omega arith)) in
-      let at : message_at qs s n ≡ Some m = at_its_number rs (arrived s n m) (from.none_above n (omega arith)) in
-      let at' : message_at qs s (suc start.posted) ≡ Some m = ap (message_at qs s) (sym k) ∙ at in
+  pub starts_next : (signs : M → Bool) (rs : List (Arrived M)) (r : Arrived M) (start : Start) → StartsFrom signs rs r.station start → start.signed ≡ false → r.n ≡ start.posted + 1 → StartsFrom signs (rs ++ r ∷ []) r.station (record { posted = r.n; signed = signs r.message })
+  starts_next signs rs r start from off e =
+      let s : ℕ = r.station in
+      let qs : List (Arrived M) = rs ++ r ∷ [] in
+      let k : r.n ≡ suc start.posted = omega arith in
+      let same : (i : ℕ) → i ≤ start.posted → message_at qs s i ≡ message_at rs s i = λ i h. at_other_number rs r s i (λ q. absurd (omega arith)) in
+      let at : message_at qs s r.n ≡ Some r.message = at_its_number rs r (from.none_above r.n (omega arith)) in
+      let at' : message_at qs s (suc start.posted) ≡ Some r.message = ap (message_at qs s) (sym k) ∙ at in
       let before : unbroken signs qs s start.posted ≡ true = unbroken_same signs rs qs s start.posted same ∙ from.whole in
       let on : ends signs qs s start.posted ≡ false = ends_same signs rs qs s start.posted same ∙ (sym from.sign ∙ off) in
       let whole : unbroken signs qs s (suc start.posted) ≡ true = rw (before, at', on) refl in
       record {
         whole = ap (unbroken signs qs s) k ∙ whole;
         sign = sym (ap (ends signs qs s) k ∙ ap (stops signs) at');
-        none_above = λ i h. at_other_number rs (arrived s n m) s i (λ q. absurd (omega arith)) ∙ from.none_above i (omega arith);
+        none_above = λ i h. at_other_number rs r s i (λ q. absurd (omega arith)) ∙ from.none_above i (omega arith);
       }
