@@ -21,7 +21,7 @@ module _ {M : Type 0} where
   abbrev pub arrived : ℕ → ℕ → M → Arrived M
   arrived s n m = record { station = s; n = n; message = m }
 
-  -- it is number n of station s
+  -- what arrived is number n of station s
   abbrev pub is_number : ℕ → ℕ → Arrived M → Bool
   is_number s n r = (r.station == s) && (r.n == n)
 
@@ -51,11 +51,11 @@ module _ {M : Type 0} where
   unbroken signs taken s (suc k) =
       unbroken signs taken s k && (is_some (message_at taken s (suc k)) && not (ends signs taken s k))
 
-  -- how many messages of station s are posted
+  -- how many messages of station s are posted: the greatest number up to which its run is unbroken
   abbrev pub ready : (M → Bool) → List (Arrived M) → ℕ → ℕ
   ready signs taken s = greatest (unbroken signs taken s) (highest taken)
 
-  -- the last of them is a sign-off
+  -- the last posted message of station s is a sign-off
   abbrev pub is_signed : (M → Bool) → List (Arrived M) → ℕ → Bool
   is_signed signs taken s = ends signs taken s (ready signs taken s)
 
@@ -78,7 +78,7 @@ module _ {M : Type 0} where
   taken_after signs stations taken r =
       if is_none (refusal signs stations taken r.station r.n) then taken ++ r ∷ [] else taken
 
-  -- number n of station s, where there is a message
+  -- message n of station s as a list of one, or of none where there is no message
   abbrev pub numbered : ℕ → ℕ → Option M → List (Arrived M)
   numbered s n None = []
   numbered s n (Some m) = arrived s n m ∷ []
