@@ -1,2 +1,5 @@
 pub mod Museum
+pub mod SetupFaults
+pub mod SetupRows
+pub mod SetupTexts
 pub mod StationName

@@ -2,6 +2,11 @@
 #![tactic(auto)]
 
 mod setup;
+mod setup_fault;
+mod setup_reader;
+mod setup_row;
+mod setup_text;
 mod station_name;
 
 pub use setup::{PlaceNo, Setup, StationNo, ThingNo};
+pub use setup_fault::SetupFault;
