@@ -193,7 +193,7 @@ fn names(rt: HostRuntime) -> Result<(), Fail> {
     Ok(())
 }
 
-/// Writes append the spelling, behind what the text has.
+/// Writes append the spelling, behind what the text has. A failed test shows a code's text.
 #[test]
 fn spellings(rt: HostRuntime) -> Result<(), Fail> {
     let alloc = rt.alloc();
@@ -210,6 +210,8 @@ fn spellings(rt: HostRuntime) -> Result<(), Fail> {
         text.as_str(),
         "at 2001.4.2aL1999.7C17LI2024.1S1-A0987-06-05Ada B."
     );
+    let shown = format!(in alloc; "{:?}", PlaceCode::parse(b"S1-A")?)?;
+    assert_eq!(rt; shown.as_str(), "PlaceCode { spelling: S1-A }");
     Ok(())
 }
 
