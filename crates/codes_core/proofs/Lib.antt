@@ -1,4 +1,4 @@
 pub mod Days
-pub mod Results
+pub mod DayTexts
 pub mod Segments
 pub mod Texts

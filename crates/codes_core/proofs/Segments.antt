@@ -1,19 +1,21 @@
 -- A place's text from segment to segment.
 use Rattle.std.specs.Prelude.{◌≡◌, ℕ, ◌+◌, ◌-◌, ◌<◌, ◌≤◌, ◌==◌, ◌&&◌, Bool, true, false, nat_le, nat_lt, nat_eq, not, cond, List, [], ◌∷◌, length, suc, zero, take, drop, take_while, refl}
-use Rattle.std.specs.List.{list_all, prefix_len}
+use Rattle.std.specs.List.{list_all}
 use Rattle.std.specs.Cmp.Lexicographic.{pointwise}
 use Rattle.std.specs.Str.{bytes_eq}
 use Rattle.std.proofs.Math.Seq.{take-length}
-use Rattle.std.proofs.Common.{arith, length-drop, subst, ap, sym, ◌∙◌}
+use Rattle.std.proofs.Common.{arith, length-drop, ap, sym, ◌∙◌}
+use Rattle.std.proofs.lemmas.Bool.{and_parts, eqb-true, eqb-false, eq-eqb, ne_eqb, leb-true, false≢true}
 use Rattle.std.proofs.lemmas.Bool.Decides.{nat_tests}
+use Rattle.std.proofs.Math.Bool.{and_assoc}
 use Rattle.std.proofs.lemmas.List.Folds.{length-prefix_len}
-use Rattle.std.proofs.lemmas.List.Sums.{prefix_len-le-length}
-use Rattle.std.proofs.lemmas.Str.Ascii.{IsAscii-nil}
+use Rattle.std.proofs.lemmas.List.Sums.{prefix_len-le-length, take_while-cons}
+use Rattle.std.proofs.lemmas.Str.Ascii.{IsAscii-nil, IsAscii-cons}
 use Rattle.std.specs.Str.{IsAscii}
 use Rattle.std.specs.Prelude.{None, ◌*◌}
 use Rattle.codes_core.specs.declared.fault.CodeFault.TheVariants.{BadNumber}
 use Rattle.codes_core.specs.Grammar.{code_fault}
-use Rattle.codes_core.proofs.Texts.{and_parts, no_fault, IsShort, ascii_cons}
+use Rattle.codes_core.proofs.Texts.{no_fault, IsShort}
 use Rattle.codes_core.specs.Place.{is_segment_byte, segments, in_first, is_segment, is_place_shape, lies_in, ends_segment}
 
 abbrev pub is_plain : ℕ → Bool
@@ -31,23 +33,16 @@ abbrev pub following : List ℕ → List (List ℕ)
 following [] = []
 following (b ∷ bs) = segments bs
 
-step : (b : ℕ) (bs : List ℕ) (n : ℕ) → n ≡ length (take n bs) → in_first b (take n bs ∷ following (drop n bs)) ≡ take (1 + n) (b ∷ bs) ∷ following (drop (length (take (1 + n) (b ∷ bs))) (b ∷ bs))
-step b bs n whole =
-    let more : suc n ≡ 1 + n = omega arith in
-    subst (λ m. in_first b (take n bs ∷ following (drop n bs)) ≡ take m (b ∷ bs) ∷ following (drop (length (take m (b ∷ bs))) (b ∷ bs))) more
-    (rw (← whole) refl)
-
 pub segments-front : (text : List ℕ) → segments text ≡ front text ∷ following (rest text)
 segments-front [] = refl
 segments-front (b ∷ bs) =
-    elim (b == 45) as (λ t. cond t ([] ∷ segments bs) (in_first b (segments bs)) ≡ take (cond (not t) (1 + prefix_len is_plain bs) 0) (b ∷ bs) ∷ following (drop (length (take (cond (not t) (1 + prefix_len is_plain bs) 0) (b ∷ bs))) (b ∷ bs))) [
+    rw (take_while-cons is_plain b bs)
+    (elim (b == 45) as (λ t. cond t ([] ∷ segments bs) (in_first b (segments bs)) ≡ cond (not t) (b ∷ front bs) [] ∷ following (drop (length (cond (not t) (b ∷ front bs) [])) (b ∷ bs))) [
       | true ↦ refl
       | false ↦ ap (in_first b) (segments-front bs)
-          ∙ ap (λ n. in_first b (front bs ∷ following (drop n bs))) (length-prefix_len is_plain bs)
-          ∙ step b bs (prefix_len is_plain bs) (sym (length-prefix_len is_plain bs))
-    ]
+    ])
 
--- no text lies in a place
+-- the empty text lies in no place
 empty-lies_in : (b : ℕ) (bs : List ℕ) → lies_in [] (b ∷ bs) ≡ false
 empty-lies_in b bs =
     elim (b == 45) as (λ t. pointwise bytes_eq (cond t ([] ∷ segments bs) (in_first b (segments bs))) (take (length (cond t ([] ∷ segments bs) (in_first b (segments bs)))) ([] ∷ [])) ≡ false) [
@@ -59,25 +54,9 @@ empty-lies_in b bs =
 abbrev pub is_front : List ℕ → List ℕ → Bool
 is_front place other = pointwise nat_eq (take (length other) place) other && ends_segment (drop (length other) place)
 
-eq_true : (a b : ℕ) → a ≡ b → a == b ≡ true
-eq_true a b h = grind (arith, nat_tests)
-
-eq_false : (a b : ℕ) → (a ≡ b → ⊥) → a == b ≡ false
-eq_false a b h = grind (arith, nat_tests)
-
-is_dash : (b : ℕ) → b == 45 ≡ true → b ≡ 45
-is_dash b h = grind (arith, nat_tests)
-
-no_dash : (b : ℕ) → b == 45 ≡ false → b ≡ 45 → ⊥
-no_dash b h e = absurd (grind (arith, nat_tests))
-
 -- the segments begin with the others
 abbrev from : List (List ℕ) → List (List ℕ) → Bool
 from others all = pointwise bytes_eq others (take (length others) all)
-
-and_assoc : (a b c : Bool) → (a && b) && c ≡ a && (b && c)
-and_assoc true b c = refl
-and_assoc false b c = refl
 
 eq_turned : (a b : ℕ) → b == a ≡ a == b
 eq_turned a b = grind (arith, nat_tests)
@@ -96,12 +75,12 @@ lies_in_front (a ∷ place) [] =
     ]
 lies_in_front [] (b ∷ other) = empty-lies_in b other
 lies_in_front (a ∷ place) (b ∷ other) = elim (b == 45) as (λ t. b == 45 ≡ t → from (cond t ([] ∷ segments other) (in_first b (segments other))) (segments (a ∷ place)) ≡ is_front (a ∷ place) (b ∷ other)) [
-  | true ↦ λ f. let dash : b ≡ 45 = is_dash b f in elim (a == 45) as (λ t. a == 45 ≡ t → from ([] ∷ segments other) (cond t ([] ∷ segments place) (in_first a (segments place))) ≡ is_front (a ∷ place) (b ∷ other)) [
-    | true ↦ λ e. let first : a ≡ 45 = is_dash a e in rw (eq_true a b (first ∙ sym dash)) (lies_in_front place other)
-    | false ↦ λ e. rw (segments-front place, eq_false a b (λ h. no_dash a e (h ∙ dash))) refl
+  | true ↦ λ f. let dash = eqb-true b 45 f in elim (a == 45) as (λ t. a == 45 ≡ t → from ([] ∷ segments other) (cond t ([] ∷ segments place) (in_first a (segments place))) ≡ is_front (a ∷ place) (b ∷ other)) [
+    | true ↦ λ e. let first = eqb-true a 45 e in rw (eq-eqb a b (first ∙ sym dash)) (lies_in_front place other)
+    | false ↦ λ e. rw (segments-front place, ne_eqb a b (λ h. eqb-false a 45 e (h ∙ dash))) refl
   ] refl
   | false ↦ λ f. elim (a == 45) as (λ t. a == 45 ≡ t → from (in_first b (segments other)) (cond t ([] ∷ segments place) (in_first a (segments place))) ≡ is_front (a ∷ place) (b ∷ other)) [
-    | true ↦ λ e. let first : a ≡ 45 = is_dash a e in rw (segments-front other, eq_false a b (λ h. no_dash b f (sym h ∙ first))) refl
+    | true ↦ λ e. let first = eqb-true a 45 e in rw (segments-front other, ne_eqb a b (λ h. eqb-false b 45 f (sym h ∙ first))) refl
     | false ↦ λ e. rw (segments-front place, segments-front other) (both_in a b (front place) (front other) (following (rest place)) (following (rest other)) (is_front place other)
         (rw (segments-front place, segments-front other) at (lies_in_front place other))
         ∙ sym (and_assoc (a == b) (pointwise nat_eq (take (length other) place) other) (ends_segment (drop (length other) place))))
@@ -133,7 +112,7 @@ tail_shape : (n : ℕ) (bs : List ℕ) → nat_le (length (following bs)) n && l
 tail_shape n [] = let none : nat_le 0 n ≡ true = grind (arith, nat_tests) in rw none refl
 tail_shape n (b ∷ bs) = refl
 
--- no text has no segment
+-- a text has a segment at least
 pub is_place_shape-zero : (n : ℕ) (text : List ℕ) → n ≡ 0 → is_place_shape n text ≡ false
 is_place_shape-zero n text none = rw (none, segments-front text, no_less (length (following (rest text)))) refl
 
@@ -183,15 +162,11 @@ all_taken n bs = rw (← length-drop n bs) (take-length (drop n bs))
 
 segment_length : (s : List ℕ) → is_segment s ≡ true → length s ≤ 8
 segment_length s e =
-    let parts : ((nat_lt 0 (length s) && nat_le (length s) 8) ≡ true) × (list_all is_segment_byte s ≡ true) = and_parts _ _ e in
-    let small : nat_le (length s) 8 ≡ true = (and_parts _ _ parts.0).1 in
-    grind (arith, nat_tests)
+    let sized : (nat_lt 0 (length s) && nat_le (length s) 8) ≡ true = (and_parts _ (list_all is_segment_byte s) e).0 in
+    leb-true (length s) 8 (and_parts (nat_lt 0 (length s)) _ sized).1
 
 front_and_rest : (bs : List ℕ) → length (front bs) + length (rest bs) ≡ length bs
 front_and_rest bs = omega (arith, length-prefix_len is_plain bs, length-drop (length (front bs)) bs, prefix_len-le-length is_plain bs)
-
-none_true : false ≡ true → ⊥
-none_true e = cc
 
 segment_more : (n : ℕ) → ((bs : List ℕ) → is_place_shape n bs ≡ true → length bs + 1 ≤ 9 * n) → (bs : List ℕ) → goes_on n bs ≡ true → length bs ≤ 9 * n
 segment_more n shorter [] h = omega arith
@@ -199,7 +174,7 @@ segment_more n shorter (b ∷ bs) h = omega (arith, shorter bs h)
 
 -- so many segments are a short text
 place_length : (n : ℕ) (text : List ℕ) → is_place_shape n text ≡ true → length text + 1 ≤ 9 * n
-place_length zero text h = absurd (none_true (sym (is_place_shape-zero zero text refl) ∙ h))
+place_length zero text h = absurd (false≢true (sym (is_place_shape-zero zero text refl) ∙ h))
 place_length (suc n) text h =
     let both : (is_segment (front text) ≡ true) × (goes_on n (rest text) ≡ true) = and_parts _ _ (sym (first_then n text) ∙ h) in
     omega (arith, segment_length (front text) both.0, front_and_rest text, segment_more n (place_length n) (rest text) both.1)
@@ -217,11 +192,11 @@ segment_ascii b h = grind (arith, nat_tests)
 all_ascii : (text : List ℕ) → list_all (list_all is_segment_byte) (segments text) ≡ true → IsAscii text
 all_ascii [] h = IsAscii-nil
 all_ascii (b ∷ bs) h = elim (b == 45) as (λ t. b == 45 ≡ t → list_all (list_all is_segment_byte) (cond t ([] ∷ segments bs) (in_first b (segments bs))) ≡ true → IsAscii (b ∷ bs)) [
-  | true ↦ λ e g. let dash : b ≡ 45 = is_dash b e in ascii_cons b bs (omega arith) (all_ascii bs g)
+  | true ↦ λ e g. let dash = eqb-true b 45 e in IsAscii-cons b bs (omega arith) (all_ascii bs g)
   | false ↦ λ e g.
       let both : ((is_segment_byte b && list_all is_segment_byte (front bs)) ≡ true) × (list_all (list_all is_segment_byte) (following (rest bs)) ≡ true) = and_parts _ _ (rw (segments-front bs) at g) in
       let first : (is_segment_byte b ≡ true) × (list_all is_segment_byte (front bs) ≡ true) = and_parts _ _ both.0 in
-      ascii_cons b bs (segment_ascii b first.0) (all_ascii bs (rw (segments-front bs, first.1, both.1) refl))
+      IsAscii-cons b bs (segment_ascii b first.0) (all_ascii bs (rw (segments-front bs, first.1, both.1) refl))
 ] refl h
 
 -- a place's code has at most 35 bytes

@@ -1,5 +1,5 @@
 -- What the codes have in common: groups of digits, right numbers, and the order of faults.
-use Rattle.std.specs.Prelude.{ℕ, ◌+◌, ◌-◌, ◌*◌, fold, ◌&&◌, ◌==◌, Bool, true, false, nat_lt, nat_le, nat_eq, not, List, [], ◌∷◌, length, drop, take_while, Option, Some, None, if◌then◌else◌}
+use Rattle.std.specs.Prelude.{ℕ, ◌+◌, ◌-◌, ◌*◌, fold, ◌&&◌, Bool, nat_lt, nat_le, nat_eq, not, List, [], ◌∷◌, length, drop, take_while, Option, Some, None, if◌then◌else◌}
 use Rattle.std.specs.Char.{is_ascii_digit}
 use Rattle.std.specs.List.{starts_with, list_all}
 use Rattle.codes_core.specs.declared.fault.CodeFault.{CodeFault}

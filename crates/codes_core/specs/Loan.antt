@@ -1,5 +1,5 @@
 -- Codes of loans: out (LO2024.1) and in (LI2024.1).
-use Rattle.std.specs.Prelude.{ℕ, ◌&&◌, ◌||◌, ◌==◌, Bool, true, false, nat_eq, List, [], ◌∷◌, length, drop, take, Option, codes}
+use Rattle.std.specs.Prelude.{ℕ, ◌&&◌, ◌||◌, ◌==◌, Bool, false, nat_eq, List, [], ◌∷◌, length, drop, Option, codes}
 use Rattle.std.specs.List.{starts_with}
 use Rattle.codes_core.specs.declared.fault.CodeFault.{CodeFault}
 use Rattle.codes_core.specs.declared.fault.CodeFault.TheVariants.{BadNumber}

@@ -1,5 +1,5 @@
 -- Codes of places: one to four segments, from the building down to the shelf (S1-A).
-use Rattle.std.specs.Prelude.{ℕ, ◌&&◌, ◌||◌, ◌==◌, Bool, true, false, nat_lt, nat_le, List, [], ◌∷◌, length, Option, if◌then◌else◌}
+use Rattle.std.specs.Prelude.{ℕ, ◌&&◌, ◌||◌, ◌==◌, Bool, true, nat_lt, nat_le, List, [], ◌∷◌, length, Option, if◌then◌else◌}
 use Rattle.std.specs.Char.{is_ascii_digit, is_ascii_uppercase}
 use Rattle.std.specs.List.{starts_with, list_all}
 use Rattle.std.specs.Str.{bytes_eq}

@@ -13,7 +13,8 @@ use jiff_core::civil::Date;
 use std::alloc::Global;
 use std::marker::Model;
 
-/// A civil day of the years 1 to 9999, seen as its number: 0 is 1970-01-01.
+/// A civil day of the years 1 to 9999, seen as its number: 0 is 1970-01-01, and each later day is one more.
+/// Its spelling is the year in four digits, the month and the date in two, with dashes between (`2024-05-01`).
 #[derive(Clone, Copy, Debug, PartialEq, Eq, PartialOrd, Ord, Hash)]
 pub struct Day {
     number: i32,
@@ -33,7 +34,8 @@ impl Model for Day {
 }
 
 impl Day {
-    /// The day that the bytes spell, else their first fault: Empty, BadShape or NoSuchDay.
+    /// The day that the bytes spell, else their first fault: Empty, BadShape, or NoSuchDay where the year is
+    /// 0000 or the calendar has no such day.
     pub fn parse(bytes: &[u8]) -> Result<Day, CodeFault>
         ensures exact { MatchResult result (λ day. (day ≡ day_number bytes.now) × (day_fault bytes.now ≡ None))
             (λ fault. day_fault bytes.now ≡ Some fault) }

@@ -11,6 +11,8 @@ mod loan;
 mod name;
 mod place;
 mod spelling;
+#[cfg(test)]
+mod tests;
 mod thing;
 
 pub use day::Day;

@@ -9,7 +9,8 @@ use crate::{CodeFault, NoMemory};
 use std::alloc::Global;
 use std::marker::Model;
 
-/// A loan's code, seen as its one spelling: of a loan out (`LO2024.1`) or a loan in (`LI2024.1`).
+/// A loan's code, seen as its one spelling: `LO` for a loan out or `LI` for a loan in, four digits, which may be
+/// any, a dot, and a number from 1 to 999,999 without a 0 before it (`LO2024.1`).
 #[derive(Clone, Copy, Debug, PartialEq, Eq, Hash)]
 pub struct LoanCode {
     spelling: Spelling<13>,

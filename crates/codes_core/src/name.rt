@@ -7,7 +7,7 @@ use crate::{NameFault, NoMemory};
 use std::alloc::Global;
 use std::marker::Model;
 
-/// A name as somebody gave it, seen as its bytes.
+/// A name as somebody gave it, seen as its bytes: UTF-8 of 1 to 60 bytes, none below 32 and none 127.
 #[derive(Debug, Drop)]
 pub struct Name {
     text: String,
@@ -25,7 +25,7 @@ impl Model for Name {
 }
 
 impl Name {
-    /// The name that the bytes are, else their first fault: Empty, BadShape, or NoMemory.
+    /// The name that the bytes are, else their first fault: Empty, BadShape, or NoMemory where a growth was refused.
     pub fn new(alloc: Global, bytes: &[u8]) -> Result<Name, NameFault>
         // NoMemory can come of any bytes that are a name.
         ensures exact { MatchResult result (λ name. (name ≡ bytes.now) × IsName bytes.now) (λ fault. IsNameFault fault bytes.now) }

@@ -10,7 +10,8 @@ use crate::{CodeFault, NoMemory};
 use std::alloc::Global;
 use std::marker::Model;
 
-/// A place's code, seen as its one spelling: segments from the building down to the shelf (`S1-A`).
+/// A place's code, seen as its one spelling: one to four segments from the building down to the shelf, each
+/// of 1 to 8 of A-Z and 0-9, joined by dashes (`S1-A`).
 #[derive(Clone, Copy, Debug, PartialEq, Eq, Hash)]
 pub struct PlaceCode {
     spelling: Spelling<35>,

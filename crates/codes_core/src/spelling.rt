@@ -34,7 +34,7 @@ impl<const N: usize> Model for Spelling<N> {
 }
 
 impl<const N: usize> Spelling<N> {
-    /// The text itself.
+    /// The text itself, which is ASCII of at most N bytes.
     pub fn new(text: &[u8]) -> Spelling<N>
         requires fits { length text.now ≤ N }
         requires ascii { IsAscii text.now }
@@ -46,19 +46,21 @@ impl<const N: usize> Spelling<N> {
         }
     }
 
+    /// The text's bytes, without what pads them.
     pub fn as_bytes(&self) -> &[u8]
         ensures { result.now ≡ self.now }
     {
         &self.text[..self.len]
     }
 
+    /// The text.
     pub fn as_str(&self) -> &str
         ensures { result.now ≡ self.now }
     {
         str::from_utf8(&self.text[..self.len]).unwrap()
     }
 
-    /// Appends the text.
+    /// Appends the text; after NoMemory what was there is unchanged.
     pub fn write(&self, out: &mut String) -> Result<(), NoMemory>
         ensures ok { OnOk result (string_bytes out.new ≡ string_bytes out.old ++ self.now) }
         ensures err { OnErr result (string_bytes out.new ≡ string_bytes out.old) }

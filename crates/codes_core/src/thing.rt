@@ -18,8 +18,11 @@ pub enum ThingKind {
     Container,
 }
 
-/// A thing's code, seen as its one spelling: an own object's number (`2001.4.2a`), a borrowed object's
-/// (`L1999.7`) or a container's (`C17`).
+/// A thing's code, seen as its one spelling.
+///
+/// An own object's is four digits, one to three times a dot and a number, and at most one letter a-z
+/// (`2001.4.2a`); a borrowed object's is `L` and the same (`L1999.7`); a container's is `C` and a number (`C17`).
+/// A number is from 1 to 999,999 without a 0 before it. The four digits may be any.
 #[derive(Clone, Copy, Debug, PartialEq, Eq, Hash)]
 pub struct ThingCode {
     spelling: Spelling<27>,

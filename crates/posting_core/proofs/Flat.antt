@@ -17,7 +17,7 @@ use Rattle.posting_core.specs.declared.verdict.Verdict.{Verdict}
 use Rattle.posting_core.specs.declared.verdict.Verdict.TheVariants.{Applied, UnknownThing, UnknownPlace, ElsewherePlace, NotHere}
 use Rattle.posting_core.specs.declared.entry.Entry.{Entry}
 use Rattle.posting_core.specs.Messages.{thing_no, place_no}
-use Rattle.posting_core.specs.History.{puts, put_in, put_by, is_applied, place_at}
+use Rattle.posting_core.specs.History.{puts, put_in, put_by, is_applied, place_at, chain_at}
 use Rattle.posting_core.specs.Verdicts.{Row, first_of, ◌if◌, verdict, move_rows, is_known, is_known_place, is_not_here}
 use Rattle.posting_core.specs.Lawful.{Follows, IsLawful}
 
@@ -113,3 +113,7 @@ pub places_known : (S : Museum) (depth : ℕ) (P : List Entry) → IsLawful S de
 places_known S depth [] lawful y = tt
 places_known S depth (e ∷ P) (follows, lawful) y =
     known_with S (put_by S P e.verdict e.message) (puts S P) y (put_known S depth P e.verdict e.message follows.judged) (places_known S depth P lawful y)
+
+-- nothing stands above a thing
+pub chain_flat : (S : Museum) (P : List Entry) (y : ℕ) → chain_at S P y ≡ []
+chain_flat S P y = above_flat (last (puts S P)) (length S.things) y (flat_puts S P)

@@ -1,6 +1,5 @@
-use Rattle.std.proofs.Common.{arith, rules, ◌∙◌, FitsSigned, w8, w16, w32, ◌≡◌, to_z, of_z, pos}
+use Rattle.std.proofs.Common.{arith, rules, ◌∙◌, FitsSigned, w8, w16, w32, ◌≡◌, to_z, pos}
 use Rattle.std.proofs.lemmas.Int.{ints, to_z-of_z}
-use Rattle.jiff_core.proofs.SignedLemmas.{signed_arith}
 use Rattle.codes_core.proofs.Days.{made}
 use Rattle.codes_core.proofs.day.civil_day.Goals as goal
 

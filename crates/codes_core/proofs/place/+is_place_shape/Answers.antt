@@ -1,4 +1,4 @@
-use Rattle.std.proofs.Common.{◌∙◌, ap, sym, arith, ◌≡◌, ◌-◌}
+use Rattle.std.proofs.Common.{◌∙◌, ap, sym, ◌-◌}
 use Rattle.codes_core.specs.Place.{is_place_shape}
 use Rattle.codes_core.proofs.Segments.{cut_at, is_place_shape-zero, shape_refused, shape_goes_on, goes_on-nil, goes_on-cons, all_taken}
 use Rattle.codes_core.proofs.place.+is_place_shape.Goals as goal

@@ -1,4 +1,4 @@
-use Rattle.std.proofs.Common.{◌∙◌, ap, sym, ◌≡◌, ◌&&◌, drop, length}
+use Rattle.std.proofs.Common.{◌∙◌, ap, sym, ◌&&◌, drop, length}
 use Rattle.codes_core.specs.Place.{ends_segment}
 use Rattle.codes_core.proofs.Segments.{lies_in_front, lies_in_behind}
 use Rattle.codes_core.proofs.place.lies_in.Goals as goal

@@ -1,0 +1,3 @@
+pub mod OpenLemmas
+pub mod PostLemmas
+pub mod StandLemmas

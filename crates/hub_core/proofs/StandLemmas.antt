@@ -1,0 +1,100 @@
+-- What a hub stands for, after one more arrival.
+use Rattle.std.proofs.Common.{◌≡◌, ◌≢◌, ℕ, ◌+◌, ◌-◌, ◌<◌, ◌≤◌, ◌==◌, Bool, true, false, if◌then◌else◌, List, [], ◌∷◌, ◌++◌, length, Option, Some, None, refl, ap, ◌∙◌, sym, subst, arith, length-set}
+use Rattle.std.proofs.lemmas.Bool.Decides.{nat_tests}
+use Rattle.std.specs.Prelude.{fold, slice_set, map, reverse}
+use Rattle.std.proofs.lemmas.List.Sums.{fold_push}
+use Rattle.std.proofs.lemmas.List.{length-reverse}
+use Rattle.nest_core.specs.Museum.{Museum}
+use Rattle.posting_core.specs.declared.message.Message.{Message}
+use Rattle.posting_core.specs.declared.entry.Entry.{Entry}
+use Rattle.posting_core.specs.Messages.{is_sign_off}
+use Rattle.posting_core.specs.Book.{Book}
+use Rattle.station_core.specs.Series.{Series, series_at, with_held}
+use Rattle.station_core.specs.Runs.{Arrived, arrived, ready, refusal, taken_after, due}
+use Rattle.station_core.specs.Progress.{IsPosting, AllMatch}
+use Rattle.station_core.specs.declared.Refusal.{Refusal}
+use Rattle.station_core.proofs.StationLemmas.{taken_refused, taken_accepted, series_at_set_same, accepted}
+use Rattle.hub_core.specs.declared.answer.Arrival.{Arrival}
+use Rattle.hub_core.specs.declared.answer.Answer.{Answer}
+use Rattle.hub_core.specs.declared.answer.Answer.TheVariants.{Refused, Held, Posted}
+use Rattle.hub_core.specs.Points.{seen, post, Point, point_with, point_after, point, reply, reply_from, arrival_of}
+use Rattle.hub_core.specs.StandsFor.{State, StandsFor, InStep, Done}
+
+abbrev refused_at : Museum → Point → Arrival → Option Refusal
+refused_at S p r = refusal is_sign_off (length S.stations) p.taken r.station r.n
+
+point_refused : (S : Museum) (depth : ℕ) (p : Point) (r : Arrival) (f : Refusal) → refused_at S p r ≡ Some f → point_after S depth p r ≡ p
+point_refused S depth p r f h =
+    let z : ready is_sign_off p.taken r.station - ready is_sign_off p.taken r.station ≡ 0 = omega arith in
+    ap (point_with S depth p r.station) (taken_refused is_sign_off (length S.stations) p.taken (seen r) f h) ∙ rw z refl
+
+point_accepted : (S : Museum) (depth : ℕ) (p : Point) (r : Arrival) → refused_at S p r ≡ None → point_after S depth p r ≡ point_with S depth p r.station (p.taken ++ seen r ∷ [])
+point_accepted S depth p r h = ap (point_with S depth p r.station) (taken_accepted is_sign_off (length S.stations) p.taken (seen r) h)
+
+point_more : (S : Museum) (depth : ℕ) (O : List Entry) (A : List Arrival) (r : Arrival) → point S depth O (A ++ r ∷ []) ≡ point_after S depth (point S depth O A) r
+point_more S depth O A r = fold_push (point_after S depth) (record { posted = O; taken = map arrival_of (reverse O) }) A r
+
+-- an arrival that is refused
+pub stands_refused : (hub : State) (O : List Entry) (A : List Arrival) (r : Arrival) (f : Refusal) → StandsFor hub O A → refused_at hub.book.museum (point hub.book.museum hub.book.depth O A) r ≡ Some f
+    → (Refused f ≡ reply hub.book.museum hub.book.depth O A r) × StandsFor hub O (A ++ r ∷ [])
+stands_refused hub O A r f st h =
+    let S = hub.book.museum in
+    let p : Point = point S hub.book.depth O A in
+    let same : p ≡ point S hub.book.depth O (A ++ r ∷ []) = sym (point_more S hub.book.depth O A r ∙ point_refused S hub.book.depth p r f h) in
+    (
+      rw h refl,
+      record {
+        up = st.up;
+        list = st.list ∙ ap (λ (x : Point). x.posted) same;
+        series = subst (λ (x : Point). AllMatch is_sign_off x.taken hub.sequences) same st.series;
+      },
+    )
+
+-- an arrival that is taken
+pub stands_taken : (hub new : State) (mid : List (Series Message)) (O : List Entry) (A : List Arrival) (r : Arrival) → StandsFor hub O A
+    → length hub.sequences ≡ length hub.book.museum.stations
+    → refused_at hub.book.museum (point hub.book.museum hub.book.depth O A) r ≡ None
+    → new.down ≡ false → new.book.museum ≡ hub.book.museum → new.book.depth ≡ hub.book.depth
+    → mid ≡ slice_set hub.sequences r.station (with_held (series_at hub.sequences r.station) r.n r.message)
+    → ((taken : List (Arrived Message)) → AllMatch is_sign_off taken hub.sequences → IsPosting is_sign_off (taken ++ seen r ∷ []) r.station mid)
+    → ((taken : List (Arrived Message)) → IsPosting is_sign_off taken r.station mid → Done hub.book.museum hub.book.depth taken r.station (series_at mid r.station).posted hub.book.posted new.sequences new.book.posted)
+    → (reply_from None (length hub.book.posted) (length new.book.posted) ≡ reply hub.book.museum hub.book.depth O A r) × StandsFor new O (A ++ r ∷ [])
+stands_taken hub new mid O A r st stations h up museum depth m take done =
+    let S = hub.book.museum in
+    let d' = hub.book.depth in
+    let p : Point = point S d' O A in
+    let s : ℕ = r.station in
+    let q : Series Message = with_held (series_at hub.sequences s) r.n r.message in
+    let within : s < length hub.sequences = subst (λ n. s < n) (sym stations) (accepted is_sign_off (length S.stations) p.taken s r.n h).within in
+    let d : Done S d' (p.taken ++ seen r ∷ []) s (series_at mid s).posted hub.book.posted new.sequences new.book.posted = done (p.taken ++ seen r ∷ []) (take p.taken st.series) in
+    let k : (series_at mid s).posted ≡ ready is_sign_off p.taken s = ap (λ (x : List (Series Message)). (series_at x s).posted) m ∙ (ap (λ (x : Series Message). x.posted) (series_at_set_same hub.sequences s q within) ∙ (st.series.each s within).count) in
+    let list : new.book.posted ≡ (point_with S d' p s (p.taken ++ seen r ∷ [])).posted = d.list ∙ rw (k, st.list) refl in
+    let same : point_with S d' p s (p.taken ++ seen r ∷ []) ≡ point S d' O (A ++ r ∷ []) = sym (point_more S d' O A r ∙ point_accepted S d' p r h) in
+    let after : point_after S d' p r ≡ point_with S d' p s (p.taken ++ seen r ∷ []) = point_accepted S d' p r h in
+    let new_list : new.book.posted ≡ (point S d' O (A ++ r ∷ [])).posted = list ∙ ap (λ (x : Point). x.posted) same in
+    let new_series : AllMatch is_sign_off (point S d' O (A ++ r ∷ [])).taken new.sequences = subst (λ (x : Point). AllMatch is_sign_off x.taken new.sequences) same d.matches in
+    (
+      ap (λ (x : List Entry). reply_from None (length x) (length new.book.posted)) st.list
+        ∙ (ap (λ (x : List Entry). reply_from None (length p.posted) (length x)) (list ∙ ap (λ (x : Point). x.posted) (sym after))
+        ∙ ap (λ (o : Option Refusal). reply_from o (length p.posted) (length (point_after S d' p r).posted)) (sym h)),
+      record {
+        up = up;
+        list = subst (λ (S' : Museum). new.book.posted ≡ (point S' new.book.depth O (A ++ r ∷ [])).posted) (sym museum) (subst (λ n. new.book.posted ≡ (point S n O (A ++ r ∷ [])).posted) (sym depth) new_list);
+        series = subst (λ (S' : Museum). AllMatch is_sign_off (point S' new.book.depth O (A ++ r ∷ [])).taken new.sequences) (sym museum) (subst (λ n. AllMatch is_sign_off (point S n O (A ++ r ∷ [])).taken new.sequences) (sym depth) new_series);
+      },
+    )
+
+pub reply_posted : (before now x y : ℕ) → x ≡ before → y ≡ now → (x ≡ y → ⊥) → Posted (x + 1) y ≡ reply_from None before now
+reply_posted before now x y p q h = let t : (before == now) ≡ false = grind (arith, nat_tests) in rw (t, p, q) refl
+
+pub reply_held : (before now x y : ℕ) → x ≡ before → y ≡ now → x ≡ y → Held ≡ reply_from None before now
+reply_held before now x y p q h = let t : (before == now) ≡ true = grind (arith, nat_tests) in rw t refl
+
+-- what the stations refuse is what looking back refuses
+pub refused_by : (hub : State) (O : List Entry) (A : List Arrival) (r : Arrival) (o X : Option Refusal) → InStep hub.sequences hub.book.museum hub.book.posted →
+    o ≡ refusal is_sign_off (length hub.sequences) (point hub.book.museum hub.book.depth O A).taken r.station r.n → o ≡ X → refused_at hub.book.museum (point hub.book.museum hub.book.depth O A) r ≡ X
+refused_by hub O A r o X step told is =
+    subst (λ n. refusal is_sign_off n (point hub.book.museum hub.book.depth O A).taken r.station r.n ≡ X) step.stations (sym told ∙ is)
+
+pub length_back : (es P : List Entry) → reverse es ≡ P → length es ≡ length P
+length_back es P back = sym (length-reverse es) ∙ ap length back

@@ -1,0 +1,88 @@
+//! What a station sends, and what it gets back.
+
+use nest_core::{PlaceNo, StationNo, ThingNo};
+use posting_core::Message;
+use station_core::Refusal;
+use std::alloc::Global;
+use std::marker::Model;
+use thiserror::Error;
+
+/// A message as it arrives: from any station, known or not, under any number.
+#[derive(Drop)]
+pub struct Arrival {
+    pub station: StationNo,
+    pub n: u64,
+    pub message: Message,
+}
+
+/// What the hub says to an arrival: why it isn't taken, that it waits for a number below it, or the numbers, from 1,
+/// of the first and the last entry that were posted.
+#[derive(Clone, Copy, Debug, PartialEq, Eq)]
+pub enum Answer {
+    Refused(Refusal),
+    Held,
+    Posted { first: u64, last: u64 },
+}
+
+/// Where a thing is: no thing of the setup, never placed, or at a place in the containers above it.
+#[derive(Debug, Drop)]
+pub enum Where {
+    UnknownThing,
+    Unplaced,
+    At { place: PlaceNo, chain: Chain },
+}
+
+/// The containers above a thing, innermost first; seen as their list.
+#[derive(Debug, Drop)]
+pub struct Chain {
+    containers: Vec<ThingNo>,
+}
+
+impl Model for Chain {
+    ghost use Rattle.std.specs.Prelude.{List, ℕ};
+
+    ghost Value = { List ℕ };
+
+    ghost view = { λ c. c.containers.items };
+}
+
+impl Chain {
+    ghost use Rattle.std.specs.Prelude.{◌≡◌, []};
+
+    /// No container. Takes no memory.
+    pub fn none(alloc: Global) -> Chain
+        ensures { result ≡ [] }
+    {
+        Chain {
+            containers: Vec::new(alloc),
+        }
+    }
+
+    pub fn as_slice(&self) -> &[ThingNo]
+        ensures { result.now ≡ self.now }
+    {
+        &self.containers
+    }
+}
+
+/// Why the hub gives no answer. Where several hold, the first in this order is told.
+#[derive(Clone, Copy, Debug, PartialEq, Eq, Error)]
+pub enum HubFault {
+    /// A growth was refused.
+    #[error("out of memory")]
+    NoMemory,
+    /// The hub has met a fault before, and answers nothing since.
+    #[error("the hub is down")]
+    Down,
+}
+
+impl From<codes_core::NoMemory> for HubFault {
+    ghost use Rattle.std.specs.Prelude.{◌≡◌};
+    ghost use Rattle.hub_core.specs.declared.answer.HubFault.TheVariants as faults;
+
+    ghost from_gives = { λ _ e. e ≡ faults.NoMemory };
+
+    fn from(_fault: codes_core::NoMemory) -> HubFault {
+        HubFault::NoMemory
+    }
+}

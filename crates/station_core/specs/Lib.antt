@@ -1,0 +1,4 @@
+pub mod Refusals
+pub mod Series
+pub mod Runs
+pub mod Progress

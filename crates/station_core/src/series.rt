@@ -1,0 +1,141 @@
+//! The series of one station: a count of posted messages and a window of held ones.
+ghost use Rattle.std.specs.Prelude.{◌≡◌, ℕ, ◌+◌, ◌-◌, ◌<◌, ◌≤◌, ◌↔◌, [], IfOk, IfNone, IfSome, OnSome, length, replicate, slice_set, Some, None};
+ghost use Rattle.circular_buffer.specs.Buffer.{buffer};
+ghost use Rattle.station_core.specs.Series.{opened, refusal_at, next_held, with_held, counted, closed};
+
+use crate::{LAST, Refusal, Start, Taken, WINDOW};
+use circular_buffer::HeapCircularBuffer;
+use std::alloc::{AllocError, Global};
+use std::marker::Model;
+
+/// One station. Its ring is always full: place `i` is that of number `posted + 1 + i`.
+#[derive(Drop)]
+pub struct Station<M> {
+    posted: u32,
+    signed: bool,
+    slots: HeapCircularBuffer<Option<M>>,
+}
+
+impl<M> Model for Station<M> {
+    ghost use Rattle.station_core.specs.Series.{Series, series, series_code, FitsWindow};
+
+    ghost Value = { Series M };
+
+    ghost coded = { series_code M.code };
+
+    ghost view = { λ a. series a.posted a.signed a.slots.items };
+
+    ghost invariant = { λ a. FitsWindow a.posted a.slots };
+}
+
+impl<M: Drop> Station<M> {
+    /// A station as it starts, with nothing held. It takes all its memory here.
+    #[tactic(auto, using(crate::proofs::SlotLemmas::window_is))]
+    pub fn new(alloc: Global, start: Start) -> Result<Self, AllocError>
+        requires { start.posted ≤ LAST }
+        ensures { IfOk result (λ q. q ≡ opened start) }
+    {
+        let mut slots = HeapCircularBuffer::with_capacity(alloc, WINDOW)?;
+        fill_empty(&mut slots);
+        Ok(Station {
+            posted: start.posted,
+            signed: start.signed,
+            slots,
+        })
+    }
+
+    /// How many messages are posted.
+    pub fn posted_count(&self) -> u32
+        ensures count { result ≡ self.now.posted }
+        ensures within { result ≤ LAST }
+    {
+        self.posted
+    }
+
+    /// Whether the station's sign-off is posted.
+    pub fn is_signed(&self) -> bool
+        ensures { result ≡ self.now.signed }
+    {
+        self.signed
+    }
+
+    /// The first refusal of number `n` that holds.
+    #[tactic(auto, using(crate::proofs::SlotLemmas::window_is))]
+    pub fn test(&self, n: u64) -> Option<Refusal>
+        ensures { result ≡ refusal_at self.now n }
+    {
+        if n == 0 || n > LAST as u64 {
+            return Some(Refusal::BadNumber);
+        }
+        let posted = self.posted as u64;
+        if n <= posted || matches!(self.slots.get((n - posted - 1) as usize), Some(Some(_))) {
+            return Some(Refusal::Double);
+        }
+        if self.signed {
+            return Some(Refusal::SignedOff);
+        }
+        if n > posted + WINDOW as u64 {
+            return Some(Refusal::TooEarly);
+        }
+        None
+    }
+
+    /// Holds a message.
+    pub fn take(&mut self, n: u64, message: M) -> Taken
+        requires { refusal_at self.old n ≡ None }
+        ensures held { self.new ≡ with_held self.old n message }
+        ensures ready { result ≡ Taken.Ready ↔ (n ≡ self.old.posted + 1) }
+    {
+        let i = n - self.posted as u64 - 1;
+        put(&mut self.slots, i as usize, message);
+        if i == 0 { Taken::Ready } else { Taken::Held }
+    }
+
+    /// The next message, where it is held; it counts as posted from then on.
+    pub fn next_due(&mut self) -> Option<(u32, M)>
+        ensures none { IfNone result ((next_held self.old ≡ None) × (self.new ≡ self.old)) }
+        ensures message { IfSome result (λ d. next_held self.old ≡ Some d.1) }
+        ensures number { IfSome result (λ d. (d.0 ≡ self.old.posted + 1) × (d.0 ≤ LAST)) }
+        ensures counted { OnSome result (self.new ≡ counted self.old) }
+    {
+        if !matches!(self.slots.front(), Some(Some(_))) {
+            return None;
+        }
+        let first = self.slots.pop_front();
+        self.slots.push_back(None);
+        let Some(Some(message)) = first else {
+            unreachable!()
+        };
+        self.posted += 1;
+        Some((self.posted, message))
+    }
+
+    /// Signs the station off, and gives up what it held.
+    pub fn sign_off(&mut self)
+        ensures { self.new ≡ closed self.old }
+    {
+        self.signed = true;
+        self.slots.clear();
+        fill_empty(&mut self.slots);
+    }
+}
+
+/// Fills an empty ring with places where nothing is held.
+fn fill_empty<M: Drop>(slots: &mut HeapCircularBuffer<Option<M>>)
+    requires { slots.old.items ≡ [] }
+    ensures { slots.new ≡ buffer (replicate slots.old.capacity None) slots.old.capacity }
+{
+    for _ in 0..slots.capacity() {
+        slots.push_back(None);
+    }
+}
+
+/// Holds a message in a place of a ring.
+fn put<M: Drop>(slots: &mut HeapCircularBuffer<Option<M>>, i: usize, message: M)
+    requires { i < length slots.old.items }
+    ensures { slots.new ≡ buffer (slice_set slots.old.items i (Some message)) slots.old.capacity }
+{
+    if let Some(slot) = slots.get_mut(i) {
+        *slot = Some(message);
+    }
+}
