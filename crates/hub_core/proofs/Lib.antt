@@ -1,3 +1,4 @@
 pub mod OpenLemmas
 pub mod PostLemmas
 pub mod StandLemmas
+pub mod TextLemmas

@@ -1,2 +1,4 @@
+pub mod Lines
 pub mod Points
+pub mod Replies
 pub mod StandsFor

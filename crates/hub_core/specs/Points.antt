@@ -1,5 +1,5 @@
 -- Where a list of arrivals leads, from a list of posted entries; entries stand newest first.
-use Rattle.std.specs.Prelude.{ℕ, ◌+◌, ◌-◌, ◌==◌, Bool, true, false, if◌then◌else◌, List, [], ◌∷◌, ◌++◌, length, fold, map, reverse, Option, Some, None, unwrap_or}
+use Rattle.std.specs.Prelude.{ℕ, ◌<◌, All, ◌+◌, ◌-◌, ◌==◌, Bool, true, false, if◌then◌else◌, List, [], ◌∷◌, ◌++◌, length, fold, map, reverse, Option, Some, None, unwrap_or}
 use Rattle.std.specs.Option.{option_map_or}
 use Rattle.nest_core.specs.Museum.{Museum, find_thing}
 use Rattle.posting_core.specs.declared.message.Message.{Message}
@@ -74,3 +74,9 @@ whereabouts S P code = option_map_or (λ x. where_from (place_at S P x) (chain_a
 abbrev pub cut : ℕ → List Entry → List (Arrived Message)
 cut s [] = []
 cut s (e ∷ P) = if e.station == s then cut s P ++ arrival_of e ∷ [] else cut s P
+
+-- the place and the containers are the setup's
+abbrev pub IsPlaced : Museum → Where → Type 0
+IsPlaced S UnknownThing = Unit {0}
+IsPlaced S Unplaced = Unit {0}
+IsPlaced S (At place chain) = (place < length S.places) × All (λ c. c < length S.things) chain

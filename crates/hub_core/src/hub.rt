@@ -2,7 +2,7 @@
 ghost use Rattle.std.specs.Prelude.{◌≡◌, ◌↔◌, List, [], ◌∷◌, ◌++◌, length, reverse, replicate, true, false, IfOk, OnOk, OnErr, IsErr, IsErrOf, IfErr, Ok, Err};
 ghost use Rattle.posting_core.specs.declared.entry.Entry.{Entry};
 ghost use Rattle.hub_core.specs.declared.answer.Arrival.{Arrival};
-ghost use Rattle.hub_core.specs.Points.{reply, whereabouts};
+ghost use Rattle.hub_core.specs.Points.{reply, whereabouts, IsPlaced};
 
 use crate::posting::post_due;
 use crate::{Answer, Arrival, Chain, HubFault, Where};
@@ -56,6 +56,7 @@ impl Hub {
         // For every list of arrivals: the reply is that of looking back, and the hub stands for the list with this one.
         ensures headline { IfOk result (λ answer. (O : List Entry) (A : List Arrival) → StandsFor self.old O A →
             (answer ≡ reply self.old.book.museum self.old.book.depth O A arrival) × StandsFor self.new O (A ++ arrival ∷ [])) }
+        ensures up { OnOk result (self.new.down ≡ false) }
         ensures down { IsErrOf result HubFault.Down ↔ (self.old.down ≡ true) }
         ensures fault { OnErr result (self.new.down ≡ true) }
         ensures museum { self.new.book.museum ≡ self.old.book.museum }
@@ -87,6 +88,7 @@ impl Hub {
     /// Where the thing with the code is. Down where the hub is down.
     pub fn ask(&self, alloc: Global, code: &ThingCode) -> Result<Where, HubFault>
         ensures answer { IfOk result (λ place. place ≡ whereabouts self.now.book.museum self.now.book.posted code.now) }
+        ensures placed { IfOk result (IsPlaced self.now.book.museum) }
         ensures down { IsErrOf result HubFault.Down ↔ (self.now.down ≡ true) }
     {
         if self.down {
@@ -130,7 +132,8 @@ fn no_starts(alloc: Global, stations: u32) -> Result<Vec<Start>, NoMemory>
 
 /// Where the thing with the code is, by the ledger.
 fn whereabouts(alloc: Global, ledger: &Ledger, code: &ThingCode) -> Where
-    ensures { result ≡ whereabouts ledger.now.museum ledger.now.posted code.now }
+    ensures answer { result ≡ whereabouts ledger.now.museum ledger.now.posted code.now }
+    ensures placed { IsPlaced ledger.now.museum result }
 {
     let Some(thing) = ledger.setup().thing(code) else {
         return Where::UnknownThing;

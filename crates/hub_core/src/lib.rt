@@ -4,6 +4,13 @@
 mod answer;
 mod hub;
 mod posting;
+mod reader;
+mod replies;
+
+mod session;
+mod split;
 
 pub use answer::{Answer, Arrival, Chain, HubFault, Where};
-pub use hub::Hub;
+pub use hub::{DEPTH, Hub};
+pub use reader::{Line, Request, read_line};
+pub use session::{LONGEST_HEAD, LONGEST_LINE, RunFault, run};

@@ -7,4 +7,4 @@ mod message_reader;
 
 pub use fault::ReadFault;
 pub use key::Key;
-pub use message_reader::{message_of, read_message};
+pub use message_reader::{message_of, read_message, text_at, thing_at, value_at};

@@ -59,7 +59,8 @@ fn sign_off_of(alloc: Global, object: &Value) -> Result<Message, ReadFault>
     Ok(Message::SignOff { name })
 }
 
-fn thing_at(object: &Value, key: Key) -> Result<ThingCode, ReadFault>
+/// The thing code at a key of an object, else Missing or BadField of that key.
+pub fn thing_at(object: &Value, key: Key) -> Result<ThingCode, ReadFault>
     ensures exact { MatchResult result
         (λ code. (fault_at (view object.now) (key spells is_thing) ≡ None) × (code ≡ text_at (view object.now) key))
         (λ fault. fault_at (view object.now) (key spells is_thing) ≡ Some fault) }
@@ -105,8 +106,8 @@ fn name_at(alloc: Global, object: &Value, key: Key) -> Result<Name, ReadFault>
     }
 }
 
-/// The text at a key.
-fn text_at<'a>(object: &'a Value, key: Key) -> Result<&'a str, ReadFault>
+/// The text at a key of an object, else Missing or BadField of that key.
+pub fn text_at<'a>(object: &'a Value, key: Key) -> Result<&'a str, ReadFault>
     ensures exact { MatchResult result
         (λ text. option_and_then as_str (get (key_name key) (view object.now)) ≡ Some text.now)
         (λ fault. (test : List ℕ → Bool) → fault_at (view object.now) (key spells test) ≡ Some fault) }
@@ -116,8 +117,8 @@ fn text_at<'a>(object: &'a Value, key: Key) -> Result<&'a str, ReadFault>
         .ok_or(ReadFault::BadField(key))
 }
 
-/// The value at a key.
-fn value_at<'a>(object: &'a Value, key: Key) -> Result<&'a Value, ReadFault>
+/// The value at a key of an object, else Missing of that key.
+pub fn value_at<'a>(object: &'a Value, key: Key) -> Result<&'a Value, ReadFault>
     ensures exact { MatchResult result
         (λ value. get (key_name key) (view object.now) ≡ Some (view value.now))
         (λ fault. (get (key_name key) (view object.now) ≡ None) × (fault ≡ ReadFault.Missing key)) }

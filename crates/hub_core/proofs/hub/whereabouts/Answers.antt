@@ -7,8 +7,8 @@ use Rattle.hub_core.specs.declared.answer.Where.TheVariants.{UnknownThing, At}
 use Rattle.hub_core.specs.Points.{where_from}
 use Rattle.hub_core.proofs.hub.whereabouts.Goals as goal
 
-pub returns-in-Some-place_of : goal.returns-in-Some-place_of
-returns-in-Some-place_of c =
+pub returns-in-Some-place_of-clause-answer : goal.returns-in-Some-place_of-clause-answer
+returns-in-Some-place_of-clause-answer c =
     let S = c.args.ledger.now.museum in
     let P = c.args.ledger.now.posted in
     let x = c.in-Some.thing in
