@@ -46,7 +46,8 @@ impl Name {
 
     /// The name's text.
     pub fn as_str(&self) -> &str
-        ensures { result.now ≡ self.now }
+        ensures text { result.now ≡ self.now }
+        ensures name { IsName self.now }
     {
         self.text.as_str()
     }

@@ -43,6 +43,14 @@ impl PlaceCode {
         })
     }
 
+    /// The code's one spelling.
+    pub fn as_str(&self) -> &str
+        ensures text { result.now ≡ self.now }
+        ensures code { place_fault self.now ≡ None }
+    {
+        self.spelling.as_str()
+    }
+
     /// Appends the code's one spelling; after NoMemory the text is unchanged.
     pub fn write(&self, _alloc: Global, out: &mut String) -> Result<(), NoMemory>
         ensures ok { OnOk result (string_bytes out.new ≡ string_bytes out.old ++ self.now) }

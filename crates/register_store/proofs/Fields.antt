@@ -7,6 +7,7 @@ use Rattle.std.proofs.lemmas.Bool.{and_from}
 use Rattle.std.proofs.lemmas.Str.{is_utf8-from_IsUtf8}
 use Rattle.serde_json.specs.Data.{Data}
 use Rattle.serde_json.specs.Find.{as_str}
+use Rattle.serde_json.specs.Read.{read}
 use Rattle.codes_core.specs.declared.fault.CodeFault.{CodeFault}
 use Rattle.codes_core.specs.Name.{IsName, is_name_byte}
 use Rattle.codes_core.specs.Day.{day_number}
@@ -14,7 +15,7 @@ use Rattle.register_store.specs.declared.fault.ReadFault.{ReadFault}
 use Rattle.register_store.specs.declared.fault.ReadFault.TheVariants.{BadField}
 use Rattle.register_store.specs.declared.key.Key.{Key}
 use Rattle.register_store.specs.Spelling.{is_name}
-use Rattle.register_store.specs.Kinds.{◌spells◌, value_fault}
+use Rattle.register_store.specs.Kinds.{◌spells◌, value_fault, of_json, of_bytes}
 
 -- a string's fault is that of its text
 pub text_fault : (key : Key) (test : List ℕ → Bool) (o : Option Data) (text : List ℕ) → option_and_then as_str o ≡ Some text → value_fault (key spells test) o ≡ (if test text then None else Some (BadField key))
@@ -36,3 +37,7 @@ pub read_there : {T : Type 0} (key : Key) (fault_of : List ℕ → Option CodeFa
     → MatchResult (ok_or (result_ok read) (BadField key)) (λ x. (value_fault (key spells (λ t. is_none (fault_of t))) o ≡ None) × Is x) (λ fault. value_fault (key spells (λ t. is_none (fault_of t))) o ≡ Some fault)
 read_there key fault_of Is (Ok x) o text e h = (text_fault key (λ t. is_none (fault_of t)) o text e ∙ rw h.1, h.0)
 read_there key fault_of Is (Err fault) o text e h = text_fault key (λ t. is_none (fault_of t)) o text e ∙ rw h
+
+-- UTF-8 that is JSON says what its value says
+pub of_value : (bytes : List ℕ) (d : Data) → is_utf8 bytes ≡ true → read bytes ≡ Some d → of_bytes bytes ≡ of_json d
+of_value bytes d utf8 value = rw (utf8, value) refl

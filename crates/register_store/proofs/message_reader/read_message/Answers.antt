@@ -7,11 +7,8 @@ use Rattle.posting_core.specs.declared.message.Message.{Message}
 use Rattle.register_store.specs.declared.fault.ReadFault.{ReadFault}
 use Rattle.register_store.specs.declared.fault.ReadFault.TheVariants.{NotJson}
 use Rattle.register_store.specs.Kinds.{of_bytes, of_json, of_read}
+use Rattle.register_store.proofs.Fields.{of_value}
 use Rattle.register_store.proofs.message_reader.read_message.Goals as goal
-
--- UTF-8 that is JSON says what its value says
-of_value : (bytes : List ℕ) (d : Data) → is_utf8 bytes ≡ true → read bytes ≡ Some d → of_bytes bytes ≡ of_json d
-of_value bytes d utf8 value = rw (utf8, value) refl
 
 refused : (b : Bool) (bytes : List ℕ) → (b ≡ true → read bytes ≡ None) → (if b then of_read (read bytes) else Err NotJson) ≡ Err NotJson
 refused true bytes none = ap of_read (none refl)

@@ -1,0 +1,85 @@
+//! Messages written as JSON.
+ghost use Rattle.std.specs.Prelude.{◌≡◌, IfOk, OnOk, Ok, string_bytes};
+ghost use Rattle.serde_json.specs.Data.{string, object, no_members, put};
+ghost use Rattle.serde_json.specs.View.{view, members_view};
+ghost use Rattle.codes_core.specs.Day.{IsOnlySpelling};
+ghost use Rattle.register_store.specs.Spelling.{key_name};
+ghost use Rattle.register_store.specs.Kinds.{of_json, of_bytes};
+ghost use Rattle.register_store.specs.MessageText.{IsJson, IsTextOf};
+
+use crate::Key;
+use codes_core::{Day, Name, NoMemory, PlaceCode, ThingCode};
+use posting_core::Message;
+use serde_json::{Map, Value};
+use std::alloc::Global;
+
+/// The text of a message: compact JSON, its keys in ascending order.
+pub fn message_text(alloc: Global, message: &Message) -> Result<String, NoMemory>
+    ensures text { IfOk result (λ text. IsTextOf message.now (string_bytes text)) }
+    ensures reads_back { IfOk result (λ text. of_bytes (string_bytes text) ≡ Ok message.now) }
+{
+    let object = object_of(alloc, message)?;
+    Ok(object.to_string(alloc)?)
+}
+
+/// The object of a message.
+fn object_of(alloc: Global, message: &Message) -> Result<Value, NoMemory>
+    ensures object { IfOk result (λ value. IsJson message.now (view value)) }
+    ensures reads_back { IfOk result (λ value. of_json (view value) ≡ Ok message.now) }
+{
+    match message {
+        Message::Move { thing, place, day } => move_object(alloc, thing, place, *day),
+        Message::SignOff { name } => sign_off_object(alloc, name),
+    }
+}
+
+fn move_object(
+    alloc: Global,
+    thing: &ThingCode,
+    place: &PlaceCode,
+    day: Day,
+) -> Result<Value, NoMemory>
+    ensures object { IfOk result (λ value. IsJson (Message.Move thing.now place.now day) (view value)) }
+    ensures reads_back { IfOk result (λ value. of_json (view value) ≡ Ok (Message.Move thing.now place.now day)) }
+{
+    let mut object = Map::new(alloc);
+    put_text(alloc, &mut object, Key::Kind, "move")?;
+    put_text(alloc, &mut object, Key::Thing, thing.as_str())?;
+    put_text(alloc, &mut object, Key::Place, place.as_str())?;
+    put_text(alloc, &mut object, Key::Day, day_text(alloc, day)?.as_str())?;
+    Ok(Value::Object(object))
+}
+
+fn sign_off_object(alloc: Global, name: &Name) -> Result<Value, NoMemory>
+    ensures object { IfOk result (λ value. IsJson (Message.SignOff name.now) (view value)) }
+    ensures reads_back { IfOk result (λ value. of_json (view value) ≡ Ok (Message.SignOff name.now)) }
+{
+    let mut object = Map::new(alloc);
+    put_text(alloc, &mut object, Key::Kind, "signoff")?;
+    put_text(alloc, &mut object, Key::By, name.as_str())?;
+    Ok(Value::Object(object))
+}
+
+/// Puts a string into an object.
+fn put_text(
+    alloc: Global,
+    object: &mut Map<String, Value>,
+    key: Key,
+    text: &str,
+) -> Result<(), NoMemory>
+    ensures { OnOk result (members_view object.new.entries
+        ≡ put (key_name key) (string text.now) (members_view object.old.entries)) }
+{
+    let value = Value::try_from_str(alloc, text)?;
+    serde_json::put(object, alloc, key.name(), value)?;
+    Ok(())
+}
+
+/// The one text that spells a day.
+fn day_text(alloc: Global, day: Day) -> Result<String, NoMemory>
+    ensures { IfOk result (λ text. IsOnlySpelling (string_bytes text) day) }
+{
+    let mut text = String::new(alloc);
+    day.write(alloc, &mut text)?;
+    Ok(text)
+}
