@@ -4,7 +4,7 @@ ghost use Rattle.std.specs.Prelude.{◌≡◌, ◌<◌, length, IfOk, IfSome};
 use codes_core::ThingCode;
 use nest_core::{Setup, StationNo};
 use posting_core::Message;
-use register_store::{Key, ReadFault, message_of, text_at, thing_at, value_at};
+use register_store::{Key, ReadFault, message_of, string_at, thing_at, value_at};
 use serde_json::Value;
 use std::alloc::Global;
 
@@ -36,7 +36,7 @@ pub fn read_line(alloc: Global, setup: &Setup, bytes: &[u8]) -> Result<Line, Rea
     if !value.is_object() {
         return Err(ReadFault::NotJson);
     }
-    let station = setup.station(text_at(&value, Key::Station)?);
+    let station = setup.station(string_at(&value, Key::Station)?);
     let request = request_of(alloc, &value)?;
     Ok(Line { station, request })
 }

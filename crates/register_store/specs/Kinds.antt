@@ -24,7 +24,7 @@ infixl 10 ◌spells◌
 abbrev pub ◌spells◌ : Key → (List ℕ → Bool) → Field
 key spells test = record { key = key; fits = λ value. option_map_or test (as_str value) false }
 
--- the text at a key of an object
+-- the string at a key of an object; no bytes where there is none
 abbrev pub text_at : Data → Key → List ℕ
 text_at d key = unwrap_or (option_and_then as_str (get (key_name key) d)) []
 
@@ -63,11 +63,11 @@ value_fault field (Some value) = if field.fits value then None else Some (BadFie
 abbrev pub fault_at : Data → Field → Option ReadFault
 fault_at d field = value_fault field (get (key_name field.key) d)
 
--- the answer where the fields are asked in their order: the first fault, else the message
 abbrev pub unless_fault : Option ReadFault → Result message.Message ReadFault → Result message.Message ReadFault
 unless_fault None answer = answer
 unless_fault (Some fault) answer = Err fault
 
+-- the fields are asked in their order: the first fault, else the message
 abbrev pub of_fields : Data → List Field → message.Message → Result message.Message ReadFault
 of_fields d [] m = Ok m
 of_fields d (field ∷ fields) m = unless_fault (fault_at d field) (of_fields d fields m)

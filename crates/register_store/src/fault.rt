@@ -3,7 +3,6 @@
 use crate::Key;
 use codes_core::NoMemory;
 use std::alloc::AllocError;
-use std::fmt;
 use thiserror::Error;
 
 /// Why a text is no message, or a growth was refused.
@@ -19,12 +18,6 @@ pub enum ReadFault {
     BadField(Key),
     #[error("out of memory")]
     NoMemory,
-}
-
-impl fmt::Display for Key {
-    fn fmt<W: fmt::Write>(&self, f: &mut fmt::Formatter<W>) -> fmt::Result {
-        f.write_str(self.name())
-    }
 }
 
 impl From<AllocError> for ReadFault {

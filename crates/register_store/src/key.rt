@@ -2,6 +2,8 @@
 ghost use Rattle.std.specs.Prelude.{◌≡◌};
 ghost use Rattle.register_store.specs.Spelling.{key_name};
 
+use std::fmt;
+
 /// A key of a message's object, or of the line that bears it.
 #[derive(Clone, Copy, Debug, PartialEq, Eq)]
 pub enum Key {
@@ -32,5 +34,11 @@ impl Key {
             Key::Message => "message",
             Key::Ask => "ask",
         }
+    }
+}
+
+impl fmt::Display for Key {
+    fn fmt<W: fmt::Write>(&self, f: &mut fmt::Formatter<W>) -> fmt::Result {
+        f.write_str(self.name())
     }
 }

@@ -2,11 +2,15 @@
 #![tactic(auto)]
 
 mod fault;
+mod field;
 mod key;
 mod message_reader;
 mod message_writer;
+#[cfg(test)]
+mod tests;
 
 pub use fault::ReadFault;
+pub use field::{string_at, thing_at, value_at};
 pub use key::Key;
-pub use message_reader::{message_of, read_message, text_at, thing_at, value_at};
+pub use message_reader::{message_of, read_message};
 pub use message_writer::message_text;

@@ -2,7 +2,7 @@ use Rattle.std.proofs.Common.{rules, arith, ◌≡◌, true, ap, sym, subst, ◌
 use Rattle.codes_core.specs.Name.{IsName}
 use Rattle.register_store.proofs.Fields.{text_fault, name_passes}
 use Rattle.register_store.specs.Spelling.{is_name}
-use Rattle.register_store.proofs.message_reader.name_at.Goals as goal
+use Rattle.register_store.proofs.field.name_at.Goals as goal
 
 pub returns-in-Ok : goal.returns-in-Ok
 returns-in-Ok c =

@@ -6,7 +6,7 @@ use Rattle.register_store.specs.declared.fault.ReadFault.TheVariants.{BadField}
 use Rattle.register_store.specs.Kinds.{text_at}
 use Rattle.serde_json.specs.View.{view}
 use Rattle.register_store.proofs.Fields.{read_there, day_there}
-use Rattle.register_store.proofs.message_reader.day_at.Goals as goal
+use Rattle.register_store.proofs.field.day_at.Goals as goal
 
 pub returns : goal.returns
 returns c =
