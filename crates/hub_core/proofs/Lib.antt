@@ -2,3 +2,4 @@ pub mod OpenLemmas
 pub mod PostLemmas
 pub mod StandLemmas
 pub mod TextLemmas
+pub mod CutLemmas

@@ -20,15 +20,15 @@ use Rattle.hub_core.specs.declared.answer.Answer.TheVariants.{Refused, Held, Pos
 use Rattle.hub_core.specs.Points.{seen, post, Point, point_with, point_after, point, reply, reply_from, arrival_of}
 use Rattle.hub_core.specs.StandsFor.{State, StandsFor, InStep, Done}
 
-abbrev refused_at : Museum → Point → Arrival → Option Refusal
+abbrev pub refused_at : Museum → Point → Arrival → Option Refusal
 refused_at S p r = refusal is_sign_off (length S.stations) p.taken r.station r.n
 
-point_refused : (S : Museum) (depth : ℕ) (p : Point) (r : Arrival) (f : Refusal) → refused_at S p r ≡ Some f → point_after S depth p r ≡ p
+pub point_refused : (S : Museum) (depth : ℕ) (p : Point) (r : Arrival) (f : Refusal) → refused_at S p r ≡ Some f → point_after S depth p r ≡ p
 point_refused S depth p r f h =
     let z : ready is_sign_off p.taken r.station - ready is_sign_off p.taken r.station ≡ 0 = omega arith in
     ap (point_with S depth p r.station) (taken_refused is_sign_off (length S.stations) p.taken (seen r) f h) ∙ rw z refl
 
-point_accepted : (S : Museum) (depth : ℕ) (p : Point) (r : Arrival) → refused_at S p r ≡ None → point_after S depth p r ≡ point_with S depth p r.station (p.taken ++ seen r ∷ [])
+pub point_accepted : (S : Museum) (depth : ℕ) (p : Point) (r : Arrival) → refused_at S p r ≡ None → point_after S depth p r ≡ point_with S depth p r.station (p.taken ++ seen r ∷ [])
 point_accepted S depth p r h = ap (point_with S depth p r.station) (taken_accepted is_sign_off (length S.stations) p.taken (seen r) h)
 
 point_more : (S : Museum) (depth : ℕ) (O : List Entry) (A : List Arrival) (r : Arrival) → point S depth O (A ++ r ∷ []) ≡ point_after S depth (point S depth O A) r

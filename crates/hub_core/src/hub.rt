@@ -1,8 +1,10 @@
 //! The hub.
-ghost use Rattle.std.specs.Prelude.{◌≡◌, ◌↔◌, List, [], ◌∷◌, ◌++◌, length, reverse, replicate, true, false, IfOk, OnOk, OnErr, IsErr, IsErrOf, IfErr, Ok, Err};
+ghost use Rattle.std.specs.Prelude.{◌≡◌, ◌↔◌, List, [], ◌∷◌, ◌++◌, ℕ, length, reverse, replicate, true, false, IfOk, OnOk, OnErr, IsErr, IsErrOf, IfErr, Ok, Err};
 ghost use Rattle.posting_core.specs.declared.entry.Entry.{Entry};
 ghost use Rattle.hub_core.specs.declared.answer.Arrival.{Arrival};
-ghost use Rattle.hub_core.specs.Points.{reply, whereabouts, IsPlaced};
+ghost use Rattle.posting_core.specs.Messages.{is_sign_off};
+ghost use Rattle.station_core.specs.Runs.{run};
+ghost use Rattle.hub_core.specs.Points.{point, reply, whereabouts, cut, IsPlaced};
 
 use crate::posting::post_due;
 use crate::{Answer, Arrival, Chain, HubFault, Where};
@@ -99,7 +101,10 @@ impl Hub {
 
     /// The posted entries, oldest first.
     pub fn posted(&self) -> &[Entry]
-        ensures { reverse result.now ≡ self.now.book.posted }
+        ensures list { reverse result.now ≡ self.now.book.posted }
+        // For every list of arrivals: the entries of each station are the longest unbroken run of what it sent.
+        ensures runs { (A : List Arrival) → StandsFor self.now [] A → (s : ℕ) →
+            cut s self.now.book.posted ≡ run is_sign_off (point self.now.book.museum self.now.book.depth [] A).taken s }
     {
         self.ledger.posted()
     }

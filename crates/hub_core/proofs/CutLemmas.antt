@@ -1,0 +1,76 @@
+-- The posted list cut to one station is that station's run.
+use Rattle.std.proofs.Common.{◌≡◌, ◌≢◌, ℕ, zero, suc, ◌+◌, ◌-◌, ◌<◌, ◌==◌, Bool, true, false, List, [], ◌∷◌, ◌++◌, length, Option, Some, None, refl, ap, ◌∙◌, sym, subst, arith, append_assoc, append-nil}
+use Rattle.std.proofs.lemmas.Bool.Decides.{nat_tests}
+use Rattle.std.specs.Prelude.{fold, map, reverse}
+use Rattle.std.proofs.lemmas.List.Sums.{fold-append}
+use Rattle.nest_core.specs.Museum.{Museum}
+use Rattle.posting_core.specs.declared.message.Message.{Message}
+use Rattle.posting_core.specs.declared.entry.Entry.{Entry}
+use Rattle.posting_core.specs.Messages.{is_sign_off}
+use Rattle.station_core.specs.declared.Refusal.{Refusal}
+use Rattle.station_core.specs.Runs.{Arrived, arrived, message_at, ready, refusal, numbered, due, run}
+use Rattle.station_core.proofs.BoolLemmas.{by_bool}
+use Rattle.station_core.proofs.StationLemmas.{accepted}
+use Rattle.station_core.proofs.GrowLemmas.{run_grows, run_other}
+use Rattle.hub_core.specs.declared.answer.Arrival.{Arrival}
+use Rattle.hub_core.specs.Points.{seen, arrival_of, post, Point, point_with, point_after, point, cut}
+use Rattle.hub_core.proofs.StandLemmas.{point_refused, point_accepted}
+
+module _ (S : Museum) (depth : ℕ) where
+  abbrev AreRuns : Point → Type 0
+  AreRuns p = (s : ℕ) → cut s p.posted ≡ run is_sign_off p.taken s
+
+  cut_post_same : (s : ℕ) (P : List Entry) (r : Arrived Message) → r.station ≡ s → cut s (post S depth P r) ≡ cut s P ++ r ∷ []
+  cut_post_same s P r h = let e : (r.station == s) ≡ true = grind (arith, nat_tests) in rw e refl
+
+  cut_post_other : (s : ℕ) (P : List Entry) (r : Arrived Message) → r.station ≢ s → cut s (post S depth P r) ≡ cut s P
+  cut_post_other s P r h =
+      let e : (r.station == s) ≡ false = by_bool (r.station == s) (λ t. let q : r.station ≡ s = grind (arith, nat_tests) in absurd (h q)) (λ f. f) in
+      rw e refl
+
+  cut_numbered_same : (s n : ℕ) (o : Option Message) (P : List Entry) → cut s (fold (post S depth) P (numbered s n o)) ≡ cut s P ++ numbered s n o
+  cut_numbered_same s n None P = sym (append-nil (cut s P))
+  cut_numbered_same s n (Some m) P = cut_post_same s P (arrived s n m) refl
+
+  cut_numbered_other : (s t n : ℕ) (o : Option Message) (P : List Entry) → s ≢ t → cut t (fold (post S depth) P (numbered s n o)) ≡ cut t P
+  cut_numbered_other s t n None P h = refl
+  cut_numbered_other s t n (Some m) P h = cut_post_other t P (arrived s n m) h
+
+  cut_due_same : (taken : List (Arrived Message)) (s k d : ℕ) (P : List Entry) → cut s (fold (post S depth) P (due taken s k d)) ≡ cut s P ++ due taken s k d
+  cut_due_same taken s k zero P = sym (append-nil (cut s P))
+  cut_due_same taken s k (suc d) P =
+      ap (cut s) (fold-append (post S depth) P (due taken s k d) (numbered s (k + suc d) (message_at taken s (k + suc d))))
+      ∙ (cut_numbered_same s (k + suc d) (message_at taken s (k + suc d)) _ ∙ rw (cut_due_same taken s k d P, append_assoc) refl)
+
+  cut_due_other : (taken : List (Arrived Message)) (s t k d : ℕ) (P : List Entry) → s ≢ t → cut t (fold (post S depth) P (due taken s k d)) ≡ cut t P
+  cut_due_other taken s t k zero P h = refl
+  cut_due_other taken s t k (suc d) P h =
+      ap (cut t) (fold-append (post S depth) P (due taken s k d) (numbered s (k + suc d) (message_at taken s (k + suc d))))
+      ∙ (cut_numbered_other s t (k + suc d) (message_at taken s (k + suc d)) _ h ∙ cut_due_other taken s t k d P h)
+
+  runs_accepted : (p : Point) (r : Arrival) → ready is_sign_off p.taken r.station < r.n → AreRuns p → AreRuns (point_with S depth p r.station (p.taken ++ seen r ∷ []))
+  runs_accepted p r low runs s =
+      let taken = p.taken ++ seen r ∷ [] in
+      let k = ready is_sign_off p.taken r.station in
+      let d = ready is_sign_off taken r.station - k in
+      by_bool (r.station == s)
+        (λ t. let e : r.station ≡ s = grind (arith, nat_tests) in
+          rw (← e) (cut_due_same taken r.station k d p.posted ∙ rw (runs r.station) (sym (run_grows is_sign_off p.taken (seen r) low))))
+        (λ f. let other : r.station ≢ s = grind (arith, nat_tests) in
+          cut_due_other taken r.station s k d p.posted other ∙ (runs s ∙ sym (run_other is_sign_off p.taken (seen r) s other)))
+
+  runs_after : (p : Point) (r : Arrival) → AreRuns p → AreRuns (point_after S depth p r)
+  runs_after p r runs = by_refusal (refusal is_sign_off (length S.stations) p.taken r.station r.n) refl
+    where
+      by_refusal : (o : Option Refusal) → refusal is_sign_off (length S.stations) p.taken r.station r.n ≡ o → AreRuns (point_after S depth p r)
+      by_refusal None h =
+          subst AreRuns (sym (point_accepted S depth p r h))
+            (runs_accepted p r (accepted is_sign_off (length S.stations) p.taken r.station r.n h).low runs)
+      by_refusal (Some f) h = subst AreRuns (sym (point_refused S depth p r f h)) runs
+
+  runs_all : (p : Point) (A : List Arrival) → AreRuns p → AreRuns (fold (point_after S depth) p A)
+  runs_all p [] runs = runs
+  runs_all p (r ∷ A) runs = runs_all (point_after S depth p r) A (runs_after p r runs)
+
+  pub each_run : (A : List Arrival) (s : ℕ) → cut s (point S depth [] A).posted ≡ run is_sign_off (point S depth [] A).taken s
+  each_run A = runs_all _ A (λ s. refl)
