@@ -10,3 +10,6 @@ mod station_name;
 
 pub use setup::{PlaceNo, Setup, StationNo, ThingNo};
 pub use setup_fault::SetupFault;
+
+#[cfg(test)]
+mod tests;
