@@ -8,3 +8,4 @@ pub mod Positions
 pub mod Reading
 pub mod RowTexts
 pub mod Tables
+pub mod WorkedRows

@@ -12,3 +12,6 @@ mod station_name;
 pub use put::{Put, Target};
 pub use setup::{PlaceNo, Setup, StationNo, ThingNo};
 pub use setup_fault::SetupFault;
+
+#[cfg(test)]
+mod tests;
