@@ -71,12 +71,12 @@ done_sign S depth taken s k n before now now' all mid all' m c e d close on step
 pub next_follows : (S : Museum) (depth : ℕ) (P : List Entry) (all : List (Series Message)) (s n : ℕ) (m : Message) (v : Verdict) → InStep all S P → s < length all → (series_at all s).signed ≡ false →
     n ≡ (series_at all s).posted + 1 → n ≤ LAST → v ≡ verdict S depth P m → Follows S depth P (record { station = s; n = n; message = m; verdict = v })
 next_follows S depth P all s n m v step within unsigned next few judged = record {
-    known = omega (arith, step.stations);
-    next = omega (arith, step.count s within);
-    few = few;
-    unsigned = sym (step.sign s within) ∙ unsigned;
-    judged = judged;
-  }
+  known = omega (arith, step.stations);
+  next = omega (arith, step.count s within);
+  few = few;
+  unsigned = sym (step.sign s within) ∙ unsigned;
+  judged = judged;
+}
 
 -- counts and marks after one more entry
 count_same : (s : ℕ) (e : Entry) (P : List Entry) → e.station ≡ s → count_at s (e ∷ P) ≡ count_at s P + 1
@@ -103,17 +103,17 @@ pub record IsWritten (all all' : List (Series Message)) (s : ℕ) (q : Series Me
 
 pub written : (all all' : List (Series Message)) (s : ℕ) (q : Series Message) → s < length all → all' ≡ slice_set all s q → IsWritten all all' s q
 written all all' s q within set = record {
-    same_length = ap length set ∙ length-set all s q;
-    here = ap (λ (x : List (Series Message)). series_at x s) set ∙ series_at_set_same all s q within;
-    others = λ t n. ap (λ (x : List (Series Message)). series_at x t) set ∙ series_at_set_other all s t q n;
-  }
+  same_length = ap length set ∙ length-set all s q;
+  here = ap (λ (x : List (Series Message)). series_at x s) set ∙ series_at_set_same all s q within;
+  others = λ t n. ap (λ (x : List (Series Message)). series_at x t) set ∙ series_at_set_other all s t q n;
+}
 
 pub written_again : (all mid all' : List (Series Message)) (s : ℕ) (q q' : Series Message) → IsWritten all mid s q → IsWritten mid all' s q' → IsWritten all all' s q'
 written_again all mid all' s q q' first second = record {
-    same_length = second.same_length ∙ first.same_length;
-    here = second.here;
-    others = λ t n. second.others t n ∙ first.others t n;
-  }
+  same_length = second.same_length ∙ first.same_length;
+  here = second.here;
+  others = λ t n. second.others t n ∙ first.others t n;
+}
 
 -- the stations stay in step where an entry of the next number is posted
 pub step_written : (S : Museum) (P : List Entry) (all all' : List (Series Message)) (q : Series Message) (e : Entry) → InStep all S P → e.station < length all → IsWritten all all' e.station q →
@@ -123,13 +123,13 @@ step_written S P all all' q e step within is posted sign unsigned =
     record {
       stations = is.same_length ∙ step.stations;
       count = λ t less. elim (cases_eq s t) [
-          inl same ↦ subst (λ (u : ℕ). (series_at all' u).posted ≡ count_at u (e ∷ P)) same (ap (λ (x : Series Message). x.posted) is.here ∙ posted ∙ ap (λ n. n + 1) (step.count s within) ∙ sym (count_same s e P refl))
+        | inl same ↦ subst (λ (u : ℕ). (series_at all' u).posted ≡ count_at u (e ∷ P)) same (ap (λ (x : Series Message). x.posted) is.here ∙ posted ∙ ap (λ n. n + 1) (step.count s within) ∙ sym (count_same s e P refl))
         | inr other ↦ ap (λ (x : Series Message). x.posted) (is.others t (λ h. other (sym h))) ∙ step.count t (subst (λ n. t < n) is.same_length less) ∙ sym (count_other t e P other)
-        ];
+      ];
       sign = λ t less. elim (cases_eq s t) [
-          inl same ↦ subst (λ (u : ℕ). (series_at all' u).signed ≡ is_signed_off u (e ∷ P)) same (ap (λ (x : Series Message). x.signed) is.here ∙ sign ∙ sym (signed_same s e P (is_sign_off e.message) refl refl (sym (step.sign s within) ∙ unsigned)))
+        | inl same ↦ subst (λ (u : ℕ). (series_at all' u).signed ≡ is_signed_off u (e ∷ P)) same (ap (λ (x : Series Message). x.signed) is.here ∙ sign ∙ sym (signed_same s e P (is_sign_off e.message) refl refl (sym (step.sign s within) ∙ unsigned)))
         | inr other ↦ ap (λ (x : Series Message). x.signed) (is.others t (λ h. other (sym h))) ∙ step.sign t (subst (λ n. t < n) is.same_length less) ∙ sym (signed_other t e P other)
-        ];
+      ];
     }
 
 -- the ledger has one more entry: that of a station's next message, with its verdict
@@ -140,28 +140,28 @@ pub record IsPosted (L L' : Book) (s n : ℕ) (m : Message) (changes : Changes) 
 pub posted_list : (L L' : Book) (S : Museum) (depth s n : ℕ) (m : Message) (changes : Changes) → IsPosted L L' s n m changes → L.museum ≡ S → L.depth ≡ depth → L'.posted ≡ post S depth L.posted (arrived s n m)
 posted_list L L' S depth s n m changes is museum limit =
     ap (λ (b : Book). b.posted) is.book ∙ ap (λ (v : Verdict). let e : Entry = record { station = s; n = n; message = m; verdict = v } in e ∷ L.posted)
-      (ap (λ (c : Changes). c.verdict) is.planned ∙ ap (λ (S' : Museum). verdict S' L.depth L.posted m) museum ∙ ap (λ d. verdict S d L.posted m) limit)
+    (ap (λ (c : Changes). c.verdict) is.planned ∙ ap (λ (S' : Museum). verdict S' L.depth L.posted m) museum ∙ ap (λ d. verdict S d L.posted m) limit)
 
 pub posted_step : (L L' : Book) (s n : ℕ) (m : Message) (changes : Changes) (all all' : List (Series Message)) (q : Series Message) → IsPosted L L' s n m changes → InStep all L.museum L.posted → s < length all → IsWritten all all' s q →
     q.posted ≡ (series_at all s).posted + 1 → q.signed ≡ is_sign_off m → (series_at all s).signed ≡ false → InStep all' L'.museum L'.posted
 posted_step L L' s n m changes all all' q is step within written posted sign unsigned =
     subst (λ (b : Book). InStep all' b.museum b.posted) (sym is.book)
-      (step_written L.museum L.posted all all' q (record { station = s; n = n; message = m; verdict = changes.verdict }) step within written posted sign unsigned)
+    (step_written L.museum L.posted all all' q (record { station = s; n = n; message = m; verdict = changes.verdict }) step within written posted sign unsigned)
 
 -- and where a message is held
 pub step_held : (S : Museum) (P : List Entry) (all all' : List (Series Message)) (s : ℕ) (q : Series Message) → InStep all S P → s < length all → IsWritten all all' s q →
     q.posted ≡ (series_at all s).posted → q.signed ≡ (series_at all s).signed → InStep all' S P
 step_held S P all all' s q step within is posted sign = record {
-    stations = is.same_length ∙ step.stations;
-    count = λ t less. elim (cases_eq s t) [
-        inl same ↦ subst (λ (u : ℕ). (series_at all' u).posted ≡ count_at u P) same (ap (λ (x : Series Message). x.posted) is.here ∙ posted ∙ step.count s within)
-      | inr other ↦ ap (λ (x : Series Message). x.posted) (is.others t (λ h. other (sym h))) ∙ step.count t (subst (λ n. t < n) is.same_length less)
-      ];
-    sign = λ t less. elim (cases_eq s t) [
-        inl same ↦ subst (λ (u : ℕ). (series_at all' u).signed ≡ is_signed_off u P) same (ap (λ (x : Series Message). x.signed) is.here ∙ sign ∙ step.sign s within)
-      | inr other ↦ ap (λ (x : Series Message). x.signed) (is.others t (λ h. other (sym h))) ∙ step.sign t (subst (λ n. t < n) is.same_length less)
-      ];
-  }
+  stations = is.same_length ∙ step.stations;
+  count = λ t less. elim (cases_eq s t) [
+    | inl same ↦ subst (λ (u : ℕ). (series_at all' u).posted ≡ count_at u P) same (ap (λ (x : Series Message). x.posted) is.here ∙ posted ∙ step.count s within)
+    | inr other ↦ ap (λ (x : Series Message). x.posted) (is.others t (λ h. other (sym h))) ∙ step.count t (subst (λ n. t < n) is.same_length less)
+  ];
+  sign = λ t less. elim (cases_eq s t) [
+    | inl same ↦ subst (λ (u : ℕ). (series_at all' u).signed ≡ is_signed_off u P) same (ap (λ (x : Series Message). x.signed) is.here ∙ sign ∙ step.sign s within)
+    | inr other ↦ ap (λ (x : Series Message). x.signed) (is.others t (λ h. other (sym h))) ∙ step.sign t (subst (λ n. t < n) is.same_length less)
+  ];
+}
 
 some_none : {X : Type 0} {x : X} → Some x ≡ None → ⊥
 some_none {X} {x} e = cc
@@ -175,6 +175,6 @@ unsigned_if false false false d h = refl
 -- a station whose message is taken isn't signed off
 pub taken_unsigned : (all : List (Series Message)) (s n : ℕ) → refusal_of all s n ≡ None → (series_at all s).signed ≡ false
 taken_unsigned all s n = elim (slice_get all s) as (λ o. refusal_in o n ≡ None → (unwrap_or o (series 0 false [])).signed ≡ false) [
-    None ↦ λ h. absurd (some_none h)
+  | None ↦ λ h. absurd (some_none h)
   | Some q ↦ λ h. unsigned_if ((n == 0) || nat_lt LAST n) (nat_le n q.posted || is_some (held_at q n)) q.signed (nat_lt (q.posted + window) n) h
-  ]
+]

@@ -40,8 +40,7 @@ pub stands_refused : (hub : State) (O : List Entry) (A : List Arrival) (r : Arri
 stands_refused hub O A r f st h =
     let S = hub.book.museum in
     let p : Point = point S hub.book.depth O A in
-    let same : p ≡ point S hub.book.depth O (A ++ r ∷ []) = sym (point_more S hub.book.depth O A r ∙ point_refused S hub.book.depth p r f h) in
-    (
+    let same : p ≡ point S hub.book.depth O (A ++ r ∷ []) = sym (point_more S hub.book.depth O A r ∙ point_refused S hub.book.depth p r f h) in (
       rw h refl,
       record {
         up = st.up;
@@ -72,11 +71,10 @@ stands_taken hub new mid O A r st stations h up museum depth m take done =
     let same : point_with S d' p s (p.taken ++ seen r ∷ []) ≡ point S d' O (A ++ r ∷ []) = sym (point_more S d' O A r ∙ point_accepted S d' p r h) in
     let after : point_after S d' p r ≡ point_with S d' p s (p.taken ++ seen r ∷ []) = point_accepted S d' p r h in
     let new_list : new.book.posted ≡ (point S d' O (A ++ r ∷ [])).posted = list ∙ ap (λ (x : Point). x.posted) same in
-    let new_series : AllMatch is_sign_off (point S d' O (A ++ r ∷ [])).taken new.sequences = subst (λ (x : Point). AllMatch is_sign_off x.taken new.sequences) same d.matches in
-    (
+    let new_series : AllMatch is_sign_off (point S d' O (A ++ r ∷ [])).taken new.sequences = subst (λ (x : Point). AllMatch is_sign_off x.taken new.sequences) same d.matches in (
       ap (λ (x : List Entry). reply_from None (length x) (length new.book.posted)) st.list
-        ∙ (ap (λ (x : List Entry). reply_from None (length p.posted) (length x)) (list ∙ ap (λ (x : Point). x.posted) (sym after))
-        ∙ ap (λ (o : Option Refusal). reply_from o (length p.posted) (length (point_after S d' p r).posted)) (sym h)),
+          ∙ (ap (λ (x : List Entry). reply_from None (length p.posted) (length x)) (list ∙ ap (λ (x : Point). x.posted) (sym after))
+          ∙ ap (λ (o : Option Refusal). reply_from o (length p.posted) (length (point_after S d' p r).posted)) (sym h)),
       record {
         up = up;
         list = subst (λ (S' : Museum). new.book.posted ≡ (point S' new.book.depth O (A ++ r ∷ [])).posted) (sym museum) (subst (λ n. new.book.posted ≡ (point S n O (A ++ r ∷ [])).posted) (sym depth) new_list);

@@ -35,9 +35,9 @@ pub record Point : Type 0 where
 -- the point at which this is taken: what came due of station s is posted
 abbrev pub point_with : Museum → ℕ → Point → ℕ → List (Arrived Message) → Point
 point_with S depth p s taken = record {
-    posted = fold (post S depth) p.posted (due taken s (ready is_sign_off p.taken s) (ready is_sign_off taken s - ready is_sign_off p.taken s));
-    taken = taken;
-  }
+  posted = fold (post S depth) p.posted (due taken s (ready is_sign_off p.taken s) (ready is_sign_off taken s - ready is_sign_off p.taken s));
+  taken = taken;
+}
 
 -- the point after one more arrival
 abbrev pub point_after : Museum → ℕ → Point → Arrival → Point

@@ -93,7 +93,7 @@ impl Hub {
         ensures placed { IfOk result (IsPlaced self.now.book.museum) }
         ensures down { IsErrOf result HubFault.Down ↔ (self.now.down ≡ true) }
     {
-        if self.down {
+        if self.is_down() {
             return Err(HubFault::Down);
         }
         Ok(whereabouts(alloc, &self.ledger, code))

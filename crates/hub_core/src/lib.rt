@@ -6,9 +6,10 @@ mod hub;
 mod posting;
 mod reader;
 mod replies;
-
 mod session;
 mod split;
+#[cfg(test)]
+mod tests;
 
 pub use answer::{Answer, Arrival, Chain, HubFault, Where};
 pub use hub::{DEPTH, Hub};

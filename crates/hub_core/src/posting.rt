@@ -14,7 +14,12 @@ use station_core::Sequences;
 use std::alloc::Global;
 
 /// Posts what is due at a station, one message after the other; a sign-off is the last.
-pub(crate) fn post_due(alloc: Global, sequences: &mut Sequences<Message>, ledger: &mut Ledger, station: StationNo) -> Result<(), NoMemory>
+pub(crate) fn post_due(
+    alloc: Global,
+    sequences: &mut Sequences<Message>,
+    ledger: &mut Ledger,
+    station: StationNo,
+) -> Result<(), NoMemory>
     requires known { station < length sequences.old }
     requires unsigned { (series_at sequences.old station).signed ≡ false }
     requires in_step { InStep sequences.old ledger.old.museum ledger.old.posted }

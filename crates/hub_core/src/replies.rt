@@ -18,11 +18,19 @@ pub(crate) fn joined(alloc: Global, parts: &[&str]) -> Result<String, AllocError
 }
 
 /// The reply to a message that isn't taken: `STATION n refused NAME`.
-pub(crate) fn refused(alloc: Global, station: &str, n: u64, refusal: &str) -> Result<String, AllocError>
+pub(crate) fn refused(
+    alloc: Global,
+    station: &str,
+    n: u64,
+    refusal: &str,
+) -> Result<String, AllocError>
     ensures { IfOk result (λ line. string_bytes line ≡ refused_line station.now n refusal.now) }
 {
     let n = n.to_string(alloc)?;
-    joined(alloc, &[station, " ", n.as_str(), " refused ", refusal, "\n"])
+    joined(
+        alloc,
+        &[station, " ", n.as_str(), " refused ", refusal, "\n"],
+    )
 }
 
 /// The reply to a line of a station that the setup doesn't have: `line K refused UnknownStation`.
@@ -30,7 +38,10 @@ pub(crate) fn unknown_station(alloc: Global, number: u64) -> Result<String, Allo
     ensures { IfOk result (λ line. string_bytes line ≡ unknown_station_line number) }
 {
     let number = number.to_string(alloc)?;
-    joined(alloc, &["line ", number.as_str(), " refused UnknownStation\n"])
+    joined(
+        alloc,
+        &["line ", number.as_str(), " refused UnknownStation\n"],
+    )
 }
 
 /// The reply to a message that waits: `STATION n held`.
@@ -42,12 +53,30 @@ pub(crate) fn held(alloc: Global, station: &str, n: u64) -> Result<String, Alloc
 }
 
 /// The reply for a posted entry: `STATION n posted ENTRY VERDICT`.
-pub(crate) fn posted(alloc: Global, station: &str, n: u32, entry: u64, verdict: &str) -> Result<String, AllocError>
+pub(crate) fn posted(
+    alloc: Global,
+    station: &str,
+    n: u32,
+    entry: u64,
+    verdict: &str,
+) -> Result<String, AllocError>
     ensures { IfOk result (λ line. string_bytes line ≡ posted_line station.now n entry verdict.now) }
 {
     let n = n.to_string(alloc)?;
     let entry = entry.to_string(alloc)?;
-    joined(alloc, &[station, " ", n.as_str(), " posted ", entry.as_str(), " ", verdict, "\n"])
+    joined(
+        alloc,
+        &[
+            station,
+            " ",
+            n.as_str(),
+            " posted ",
+            entry.as_str(),
+            " ",
+            verdict,
+            "\n",
+        ],
+    )
 }
 
 /// The reply to a faulty line: `line K bad FAULT`.
@@ -59,7 +88,12 @@ pub(crate) fn bad(alloc: Global, number: u64, fault: &str) -> Result<String, All
 }
 
 /// The reply to a question: `STATION ask CODE PLACE`, where PLACE is what is said of where the thing is.
-pub(crate) fn asked(alloc: Global, station: &str, code: &str, place: &str) -> Result<String, AllocError>
+pub(crate) fn asked(
+    alloc: Global,
+    station: &str,
+    code: &str,
+    place: &str,
+) -> Result<String, AllocError>
     ensures { IfOk result (λ line. string_bytes line ≡ asked_line station.now code.now place.now) }
 {
     joined(alloc, &[station, " ask ", code, " ", place, "\n"])

@@ -63,7 +63,11 @@ impl From<NoMemory> for RunFault {
 
 /// Reads a setup and lines to their end, and answers the lines over a new hub. The faults come in this order:
 /// ReadFailed and NoMemory of the reading, HeadTooLong, Setup, then NoMemory and WriteFailed of the lines.
-pub fn run<R: BufRead, W: Write>(alloc: Global, input: &mut R, output: &mut W) -> Result<(), RunFault> {
+pub fn run<R: BufRead, W: Write>(
+    alloc: Global,
+    input: &mut R,
+    output: &mut W,
+) -> Result<(), RunFault> {
     let bytes = read_all(alloc, input)?;
     let (head, lines) = split_head(bytes.as_slice());
     if head.len() > LONGEST_HEAD {
@@ -96,7 +100,12 @@ fn read_all<R: BufRead>(alloc: Global, input: &mut R) -> Result<Vec<u8>, RunFaul
 }
 
 /// Answers each line in turn. Lines are numbered from 1.
-fn answer_all<W: Write>(alloc: Global, lines: &[u8], output: &mut W, hub: &mut Hub) -> Result<(), RunFault>
+fn answer_all<W: Write>(
+    alloc: Global,
+    lines: &[u8],
+    output: &mut W,
+    hub: &mut Hub,
+) -> Result<(), RunFault>
     requires { hub.old.down ≡ false }
 {
     let mut number = 0u64;
@@ -111,7 +120,13 @@ fn answer_all<W: Write>(alloc: Global, lines: &[u8], output: &mut W, hub: &mut H
 }
 
 /// Answers a line; an empty one has no reply.
-fn answer_line<W: Write>(alloc: Global, number: u64, line: &[u8], output: &mut W, hub: &mut Hub) -> Result<(), RunFault>
+fn answer_line<W: Write>(
+    alloc: Global,
+    number: u64,
+    line: &[u8],
+    output: &mut W,
+    hub: &mut Hub,
+) -> Result<(), RunFault>
     requires { hub.old.down ≡ false }
     ensures { OnOk result (hub.new.down ≡ false) }
 {
@@ -123,10 +138,12 @@ fn answer_line<W: Write>(alloc: Global, number: u64, line: &[u8], output: &mut W
     }
     match read_line(alloc, hub.ledger().setup(), line) {
         Ok(Line { station: None, .. }) => write(output, replies::unknown_station(alloc, number)?),
-        Ok(Line {
-            station: Some(station),
-            request,
-        }) => answer(alloc, station, request, output, hub),
+        Ok(
+            Line {
+                station: Some(station),
+                request,
+            },
+        ) => answer(alloc, station, request, output, hub),
         Err(ReadFault::NoMemory) => Err(RunFault::NoMemory),
         Err(fault) => {
             let text = fault_text(alloc, fault)?;
@@ -146,7 +163,13 @@ fn fault_text(alloc: Global, fault: ReadFault) -> Result<String, AllocError> {
     }
 }
 
-fn answer<W: Write>(alloc: Global, station: StationNo, request: Request, output: &mut W, hub: &mut Hub) -> Result<(), RunFault>
+fn answer<W: Write>(
+    alloc: Global,
+    station: StationNo,
+    request: Request,
+    output: &mut W,
+    hub: &mut Hub,
+) -> Result<(), RunFault>
     requires up { hub.old.down ≡ false }
     requires known { station < length hub.old.book.museum.stations }
     ensures { OnOk result (hub.new.down ≡ false) }
@@ -157,35 +180,71 @@ fn answer<W: Write>(alloc: Global, station: StationNo, request: Request, output:
     }
 }
 
-fn answer_scan<W: Write>(alloc: Global, station: StationNo, n: u64, message: Message, output: &mut W, hub: &mut Hub) -> Result<(), RunFault>
+fn answer_scan<W: Write>(
+    alloc: Global,
+    station: StationNo,
+    n: u64,
+    message: Message,
+    output: &mut W,
+    hub: &mut Hub,
+) -> Result<(), RunFault>
     requires up { hub.old.down ≡ false }
     requires known { station < length hub.old.book.museum.stations }
     ensures { OnOk result (hub.new.down ≡ false) }
 {
-    let answer = match hub.arrive(alloc, Arrival { station, n, message }) {
+    let answer = match hub.arrive(
+        alloc,
+        Arrival {
+            station,
+            n,
+            message,
+        },
+    ) {
         Ok(answer) => answer,
         Err(HubFault::NoMemory) => return Err(RunFault::NoMemory),
         Err(HubFault::Down) => unreachable!(),
     };
     let name = hub.ledger().setup().station_name(station);
     match answer {
-        Answer::Refused(refusal) => write(output, replies::refused(alloc, name, n, refusal.name())?),
+        Answer::Refused(refusal) => write(
+            output,
+            replies::refused(alloc, name, n, refusal.name())?,
+        ),
         Answer::Held => write(output, replies::held(alloc, name, n)?),
         Answer::Posted { first, .. } => write_posted(alloc, name, first, output, hub),
     }
 }
 
 /// Writes a line for each entry from this number on.
-fn write_posted<W: Write>(alloc: Global, name: &str, first: u64, output: &mut W, hub: &Hub) -> Result<(), RunFault> {
+fn write_posted<W: Write>(
+    alloc: Global,
+    name: &str,
+    first: u64,
+    output: &mut W,
+    hub: &Hub,
+) -> Result<(), RunFault> {
     let mut entry_number = first;
-    for entry in hub.posted().get(first.saturating_sub(1) as usize..).unwrap_or(&[]) {
-        write(output, replies::posted(alloc, name, entry.n, entry_number, entry.verdict.name())?)?;
+    for entry in hub
+        .posted()
+        .get(first.saturating_sub(1) as usize..)
+        .unwrap_or(&[])
+    {
+        write(
+            output,
+            replies::posted(alloc, name, entry.n, entry_number, entry.verdict.name())?,
+        )?;
         entry_number = entry_number.saturating_add(1);
     }
     Ok(())
 }
 
-fn answer_question<W: Write>(alloc: Global, station: StationNo, code: &ThingCode, output: &mut W, hub: &Hub) -> Result<(), RunFault>
+fn answer_question<W: Write>(
+    alloc: Global,
+    station: StationNo,
+    code: &ThingCode,
+    output: &mut W,
+    hub: &Hub,
+) -> Result<(), RunFault>
     requires up { hub.now.down ≡ false }
     requires known { station < length hub.now.book.museum.stations }
 {
@@ -198,7 +257,15 @@ fn answer_question<W: Write>(alloc: Global, station: StationNo, code: &ThingCode
     let text = place_text(alloc, setup, &place)?;
     let mut asked = String::new(alloc);
     code.write(alloc, &mut asked)?;
-    write(output, replies::asked(alloc, setup.station_name(station), asked.as_str(), text.as_str())?)
+    write(
+        output,
+        replies::asked(
+            alloc,
+            setup.station_name(station),
+            asked.as_str(),
+            text.as_str(),
+        )?,
+    )
 }
 
 /// What is said of where a thing is: `unknown`, `unplaced`, `at PLACE`, or `at PLACE in` its containers, innermost first.
@@ -218,7 +285,12 @@ fn place_text(alloc: Global, setup: &Setup, place: &Where) -> Result<String, Run
     Ok(text)
 }
 
-fn write_chain(alloc: Global, setup: &Setup, chain: &[u32], text: &mut String) -> Result<(), RunFault>
+fn write_chain(
+    alloc: Global,
+    setup: &Setup,
+    chain: &[u32],
+    text: &mut String,
+) -> Result<(), RunFault>
     requires { All (λ c. c < length setup.now.things) chain.now }
 {
     if chain.is_empty() {

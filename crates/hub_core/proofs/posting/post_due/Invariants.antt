@@ -15,7 +15,7 @@ invariant-loop-n l = record {
   unsigned : (series_at l.sequences l.station).signed ≡ false;
   in_step : InStep l.sequences l.ledger.museum l.ledger.posted;
   caught : (taken : List (Arrived Message)) → IsPosting is_sign_off taken l.station l.fn.sequences →
-    Caught l.fn.ledger.museum l.fn.ledger.depth taken l.station (series_at l.fn.sequences l.station).posted l.fn.ledger.posted l.sequences l.ledger.posted;
+      Caught l.fn.ledger.museum l.fn.ledger.depth taken l.station (series_at l.fn.sequences l.station).posted l.fn.ledger.posted l.sequences l.ledger.posted;
 }
 
 abbrev pub decreases-loop-n : goal.decreases-loop-n

@@ -16,8 +16,8 @@ pub returns-in-Some-clause-headline : goal.returns-in-Some-clause-headline
 returns-in-Some-clause-headline c =
     let hub : State = record { sequences = c.self.inside.sequences; book = c.self.inside.ledger; down = c.self.inside.down } in
     subst (λ (h : State). (O : List Entry) (A : List Arrival) → StandsFor h O A → (Refused c.in-Some.refusal ≡ reply h.book.museum h.book.depth O A c.args.arrival) × StandsFor h O (A ++ c.args.arrival ∷ [])) c.self.view_is
-      (λ O A st. stands_refused hub O A c.args.arrival c.in-Some.refusal st
-        (refused_by hub O A c.args.arrival _ _ (c.self.invariant c.if-self.false) (c.test.ensures.taken is_sign_off _ st.series) c.in-Some.is))
+    (λ O A st. stands_refused hub O A c.args.arrival c.in-Some.refusal st
+    (refused_by hub O A c.args.arrival _ _ (c.self.invariant c.if-self.false) (c.test.ensures.taken is_sign_off _ st.series) c.in-Some.is))
 
 pub post_due-requires-clause-known : goal.post_due-requires-clause-known
 post_due-requires-clause-known c =
@@ -51,12 +51,14 @@ returns-then-before-now-clause-headline c =
     let step = c.self.invariant c.if-self.false in
     let due = c.in_default-post_due.ensures in
     subst (λ (h : State). (O : List Entry) (A : List Arrival) → StandsFor h O A → (Held ≡ reply h.book.museum h.book.depth O A c.args.arrival) × StandsFor new O (A ++ c.args.arrival ∷ [])) c.self.view_is
-      (λ O A st.
-        let h = stands_taken hub new c.take.new.self O A c.args.arrival st step.stations
-            (refused_by hub O A c.args.arrival _ _ step (c.test.ensures.taken is_sign_off _ st.series) c.in_default.is)
-            c.if-self.false due.museum due.depth c.take.ensures.held (c.take.ensures.taken is_sign_off) due.done in
-        (reply_held (length hub.book.posted) (length new.book.posted) (length c.posted.result.now) (length c.posted-2.result.now)
-          (length_back c.posted.result.now hub.book.posted c.posted.ensures) (length_back c.posted-2.result.now new.book.posted c.posted-2.ensures) c.if-before-now.true ∙ h.0, h.1))
+    (λ O A st.
+    let h = stands_taken hub new c.take.new.self O A c.args.arrival st step.stations
+    (refused_by hub O A c.args.arrival _ _ step (c.test.ensures.taken is_sign_off _ st.series) c.in_default.is)
+    c.if-self.false due.museum due.depth c.take.ensures.held (c.take.ensures.taken is_sign_off) due.done in (
+      reply_held (length hub.book.posted) (length new.book.posted) (length c.posted.result.now) (length c.posted-2.result.now)
+          (length_back c.posted.result.now hub.book.posted c.posted.ensures) (length_back c.posted-2.result.now new.book.posted c.posted-2.ensures) c.if-before-now.true ∙ h.0,
+      h.1,
+    ))
 
 pub returns-clause-headline : goal.returns-clause-headline
 returns-clause-headline c =
@@ -65,9 +67,11 @@ returns-clause-headline c =
     let step = c.self.invariant c.if-self.false in
     let due = c.in_default-post_due.ensures in
     subst (λ (h : State). (O : List Entry) (A : List Arrival) → StandsFor h O A → (Posted (length c.posted.result.now + 1) (length c.posted-2.result.now) ≡ reply h.book.museum h.book.depth O A c.args.arrival) × StandsFor new O (A ++ c.args.arrival ∷ [])) c.self.view_is
-      (λ O A st.
-        let h = stands_taken hub new c.take.new.self O A c.args.arrival st step.stations
-            (refused_by hub O A c.args.arrival _ _ step (c.test.ensures.taken is_sign_off _ st.series) c.in_default.is)
-            c.if-self.false due.museum due.depth c.take.ensures.held (c.take.ensures.taken is_sign_off) due.done in
-        (reply_posted (length hub.book.posted) (length new.book.posted) (length c.posted.result.now) (length c.posted-2.result.now)
-          (length_back c.posted.result.now hub.book.posted c.posted.ensures) (length_back c.posted-2.result.now new.book.posted c.posted-2.ensures) c.if-before-now.false ∙ h.0, h.1))
+    (λ O A st.
+    let h = stands_taken hub new c.take.new.self O A c.args.arrival st step.stations
+    (refused_by hub O A c.args.arrival _ _ step (c.test.ensures.taken is_sign_off _ st.series) c.in_default.is)
+    c.if-self.false due.museum due.depth c.take.ensures.held (c.take.ensures.taken is_sign_off) due.done in (
+      reply_posted (length hub.book.posted) (length new.book.posted) (length c.posted.result.now) (length c.posted-2.result.now)
+          (length_back c.posted.result.now hub.book.posted c.posted.ensures) (length_back c.posted-2.result.now new.book.posted c.posted-2.ensures) c.if-before-now.false ∙ h.0,
+      h.1,
+    ))

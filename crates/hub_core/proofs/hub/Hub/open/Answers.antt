@@ -9,7 +9,7 @@ pub invariant_of-result : goal.invariant_of-result
 invariant_of-result c = λ up.
     let book = c.in_ok-new.ensures in
     new_step c.in_ok-new.field-0.museum c.in_ok-new.field-0.posted c.stations.result c.in_ok-no_starts.field-0.items c.in_ok-sequences.sequences
-      (c.stations.ensures.count ∙ ap (λ (b : Book). length b.museum.stations) (sym book)) (ap (λ (b : Book). b.posted) book) c.in_ok-no_starts.ensures (c.in_ok-sequences.ensures.opened ∙ ap (map opened) c.deref.ensures.value)
+    (c.stations.ensures.count ∙ ap (λ (b : Book). length b.museum.stations) (sym book)) (ap (λ (b : Book). b.posted) book) c.in_ok-no_starts.ensures (c.in_ok-sequences.ensures.opened ∙ ap (map opened) c.deref.ensures.value)
 
 pub returns-clause-stands : goal.returns-clause-stands
 returns-clause-stands c =
