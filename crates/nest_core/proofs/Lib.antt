@@ -1,2 +1,10 @@
-pub mod Positions
+pub mod Choices
+pub mod CsvRows
+pub mod Fields
+pub mod Listings
 pub mod Museums
+pub mod Outcomes
+pub mod Positions
+pub mod Reading
+pub mod RowTexts
+pub mod Tables

@@ -1,7 +1,12 @@
 //! The setup: what the museum lists, and the look-ups in it.
-ghost use Rattle.std.specs.Prelude.{◌≡◌, ◌<◌, ◌≤◌, length, Some, IfSome};
-ghost use Rattle.nest_core.specs.Museum.{IsMuseum, find_station, find_place, find_thing, station_name_of, place_code_of, thing_code_of, is_inside, kind_of, normal_of, row_count, place_codes, thing_codes, no_museum};
+ghost use Rattle.std.specs.Prelude.{◌≡◌, ◌≢◌, ◌<◌, ◌≤◌, true, length, None, Some, IfSome, OnOk, IfErr};
+ghost use Rattle.std.specs.Option.{option_and_then};
+ghost use Rattle.nest_core.specs.Museum.{IsMuseum, find_station, find_place, find_thing, station_name_of, place_code_of, thing_code_of, is_inside, kind_of, normal_of, row_count, no_museum};
+ghost use Rattle.nest_core.specs.SetupRows.{is_place_code, is_right, listing_fault, with_listed};
+ghost use Rattle.nest_core.specs.StationName.{is_station_name};
 
+use crate::setup_fault::SetupFault;
+use crate::setup_row::SetupRow;
 use crate::station_name::StationName;
 use codes_core::{PlaceCode, ThingCode, ThingKind};
 use indexmap::{IndexMap, IndexSet};
@@ -26,6 +31,7 @@ pub struct Setup {
 }
 
 impl Model for Setup {
+    ghost use Rattle.std.specs.Option.{option_and_then};
     ghost use Rattle.nest_core.specs.Museum.{Museum, IsMuseum};
 
     ghost Value = { Museum };
@@ -151,5 +157,93 @@ impl Setup {
         ensures within { IfSome result (λ p. p < length self.now.places) }
     {
         *self.things.get_index(thing as usize).unwrap().1
+    }
+
+    /// A setup that lists nothing yet.
+    pub(crate) fn new(alloc: Global) -> Setup
+        ensures { result ≡ no_museum }
+    {
+        Setup {
+            stations: IndexSet::new(alloc),
+            places: IndexMap::new(alloc),
+            things: IndexMap::new(alloc),
+        }
+    }
+
+    /// Adds what row `number` lists behind the rest; else the first fault: Repeated, UnknownNormal, TooMany
+    /// or NoMemory.
+    pub(crate) fn add(&mut self, number: u64, row: SetupRow) -> Result<(), SetupFault>
+        requires { is_right row ≡ true }
+        ensures ok { OnOk result ((listing_fault self.old number row ≡ None) × (self.new ≡ with_listed self.old row)) }
+        ensures fault { IfErr result (λ fault. fault ≢ SetupFault.NoMemory → listing_fault self.old number row ≡ Some fault) }
+    {
+        match row {
+            SetupRow::Station(name) => self.add_station(number, name),
+            SetupRow::Place(code, inside) => self.add_place(number, code, inside),
+            SetupRow::Thing(code, normal) => self.add_thing(number, code, normal),
+        }
+    }
+
+    fn add_station(&mut self, number: u64, name: StationName) -> Result<(), SetupFault>
+        requires { is_station_name name ≡ true }
+        ensures ok { OnOk result ((listing_fault self.old number (SetupRow.Station name) ≡ None) × (self.new ≡ with_listed self.old (SetupRow.Station name))) }
+        ensures fault { IfErr result (λ fault. fault ≢ SetupFault.NoMemory → listing_fault self.old number (SetupRow.Station name) ≡ Some fault) }
+    {
+        if self.stations.get_index_of(&name).is_some() {
+            return Err(SetupFault::Repeated(number));
+        }
+        if self.stations.len() >= 64 {
+            return Err(SetupFault::TooMany(number));
+        }
+        self.stations.insert(name)?;
+        Ok(())
+    }
+
+    fn add_place(&mut self, number: u64, code: PlaceCode, inside: bool) -> Result<(), SetupFault>
+        requires { is_place_code code ≡ true }
+        ensures ok { OnOk result ((listing_fault self.old number (SetupRow.Place code inside) ≡ None) × (self.new ≡ with_listed self.old (SetupRow.Place code inside))) }
+        ensures fault { IfErr result (λ fault. fault ≢ SetupFault.NoMemory → listing_fault self.old number (SetupRow.Place code inside) ≡ Some fault) }
+    {
+        if self.places.get_index_of(&code).is_some() {
+            return Err(SetupFault::Repeated(number));
+        }
+        if self.places.len() >= 10000 {
+            return Err(SetupFault::TooMany(number));
+        }
+        self.places.insert(code, inside)?;
+        Ok(())
+    }
+
+    fn normal_no(&self, normal: Option<PlaceCode>) -> Option<PlaceNo>
+        ensures { result ≡ option_and_then (find_place self.now) normal }
+    {
+        match normal {
+            Some(place) => self.place(&place),
+            None => None,
+        }
+    }
+
+    fn add_thing(
+        &mut self,
+        number: u64,
+        code: ThingCode,
+        normal: Option<PlaceCode>,
+    ) -> Result<(), SetupFault>
+        requires { is_right (SetupRow.Thing code normal) ≡ true }
+        ensures ok { OnOk result ((listing_fault self.old number (SetupRow.Thing code normal) ≡ None) × (self.new ≡ with_listed self.old (SetupRow.Thing code normal))) }
+        ensures fault { IfErr result (λ fault. fault ≢ SetupFault.NoMemory → listing_fault self.old number (SetupRow.Thing code normal) ≡ Some fault) }
+    {
+        if self.things.get_index_of(&code).is_some() {
+            return Err(SetupFault::Repeated(number));
+        }
+        let normal_no = self.normal_no(normal);
+        if normal.is_some() && normal_no.is_none() {
+            return Err(SetupFault::UnknownNormal(number));
+        }
+        if self.things.len() >= 100000 {
+            return Err(SetupFault::TooMany(number));
+        }
+        self.things.insert(code, normal_no)?;
+        Ok(())
     }
 }

@@ -1,0 +1,10 @@
+use Rattle.std.proofs.Common.{◌≡◌, ℕ, List, Some}
+use Rattle.csv.specs.Reading.{Ready, default_config, reader_config, reader_state, reader_trim, source_of, strip_bom}
+use Rattle.csv.specs.declared.reader.Trim.TheVariants as trim
+use Rattle.nest_core.proofs.Reading.{IsUpTo}
+use Rattle.nest_core.proofs.setup_reader.read_rows.Given as goal
+
+-- the rows before this one are listed, and the reader stands behind them
+abbrev pub invariant-loop-number : goal.invariant-loop-number
+invariant-loop-number l = (reader_trim l.reader ≡ trim.None) × Ready l.reader × (reader_config l.reader ≡ default_config)
+    × (xs : List ℕ) × (source_of (λ s. Some s.now) l.reader ≡ Some xs) × IsUpTo (strip_bom l.fn.bytes) l.setup l.number (reader_state l.reader) xs

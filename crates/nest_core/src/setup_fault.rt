@@ -1,0 +1,86 @@
+//! Why bytes are no setup.
+ghost use Rattle.std.specs.Prelude.{◌≡◌};
+ghost use Rattle.nest_core.specs.SetupFaults.{name_of, row_of};
+
+use std::alloc::{AllocError, AllocFailed};
+use thiserror::Error;
+
+/// Why bytes are no setup. Where several hold, the first row with a fault is told, and of it the first in this
+/// order; each fault of a row has the row's number from 1 among those that `csv` gives.
+#[derive(Clone, Copy, Debug, PartialEq, Eq, Error)]
+pub enum SetupFault {
+    #[error("not UTF-8")]
+    NotCsv,
+    #[error("row {0}: not station, place, box, own or lent")]
+    BadKind(u64),
+    #[error("row {0}: not the fields of its kind")]
+    BadFields(u64),
+    #[error("row {0}: not a code or name as its kind wants it")]
+    BadCode(u64),
+    #[error("row {0}: listed in an earlier row")]
+    Repeated(u64),
+    #[error("row {0}: no earlier row lists the normal place")]
+    UnknownNormal(u64),
+    #[error("row {0}: one more than there may be")]
+    TooMany(u64),
+    #[error("no station")]
+    NoStation,
+    #[error("out of memory")]
+    NoMemory,
+}
+
+impl SetupFault {
+    /// The fault's name.
+    pub fn name(&self) -> &'static str
+        ensures { result.now ≡ name_of self.now }
+    {
+        match self {
+            SetupFault::NotCsv => "NotCsv",
+            SetupFault::BadKind(_) => "BadKind",
+            SetupFault::BadFields(_) => "BadFields",
+            SetupFault::BadCode(_) => "BadCode",
+            SetupFault::Repeated(_) => "Repeated",
+            SetupFault::UnknownNormal(_) => "UnknownNormal",
+            SetupFault::TooMany(_) => "TooMany",
+            SetupFault::NoStation => "NoStation",
+            SetupFault::NoMemory => "NoMemory",
+        }
+    }
+
+    /// The number of the row with the fault, from 1, if it is a row's.
+    pub fn row(&self) -> Option<u64>
+        ensures { result ≡ row_of self.now }
+    {
+        match self {
+            SetupFault::BadKind(row)
+            | SetupFault::BadFields(row)
+            | SetupFault::BadCode(row)
+            | SetupFault::Repeated(row)
+            | SetupFault::UnknownNormal(row)
+            | SetupFault::TooMany(row) => Some(*row),
+            SetupFault::NotCsv | SetupFault::NoStation | SetupFault::NoMemory => None,
+        }
+    }
+}
+
+impl From<AllocError> for SetupFault {
+    ghost use Rattle.std.specs.Prelude.{◌≡◌};
+    ghost use Rattle.nest_core.specs.declared.setup_fault.SetupFault.TheVariants.{NoMemory};
+
+    ghost from_gives = { λ _ e. e ≡ NoMemory };
+
+    fn from(_error: AllocError) -> SetupFault {
+        SetupFault::NoMemory
+    }
+}
+
+impl<T: Drop> From<AllocFailed<T>> for SetupFault {
+    ghost use Rattle.std.specs.Prelude.{◌≡◌};
+    ghost use Rattle.nest_core.specs.declared.setup_fault.SetupFault.TheVariants.{NoMemory};
+
+    ghost from_gives = { λ _ e. e ≡ NoMemory };
+
+    fn from(_error: AllocFailed<T>) -> SetupFault {
+        SetupFault::NoMemory
+    }
+}

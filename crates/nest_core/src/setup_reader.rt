@@ -1,0 +1,72 @@
+//! Reading a setup file.
+ghost use Rattle.std.specs.Prelude.{◌≡◌, ◌≢◌, [], false, None, Some, OnOk, IfErr, MatchResult};
+ghost use Rattle.std.specs.Str.{is_utf8};
+ghost use Rattle.csv.specs.Records.{fields_of};
+ghost use Rattle.nest_core.specs.SetupRows.{first_fault, museum_of, row_fault, rows_of, setup_fault, with_row};
+
+use crate::setup::Setup;
+use crate::setup_fault::SetupFault;
+use crate::setup_row::SetupRow;
+use csv::{ByteRecord, ReaderBuilder};
+use std::alloc::Global;
+
+impl Setup {
+    /// The setup that the bytes list, one station, place, container, own or borrowed object a row: rows as `csv`
+    /// gives them, without a header and with one byte order mark dropped. Empty fields at a row's end don't count,
+    /// and a row without a field is skipped.
+    ///
+    /// Else the first fault: NotCsv; then the first row with one, with BadKind, BadFields, BadCode, Repeated,
+    /// UnknownNormal and TooMany in this order; then NoStation. NoMemory can stand in place of any but NotCsv.
+    pub fn read(alloc: Global, bytes: &[u8]) -> Result<Setup, SetupFault>
+        ensures exact { MatchResult result
+            (λ setup. (setup_fault bytes.now ≡ None) × (setup ≡ museum_of (rows_of bytes.now)))
+            (λ fault. fault ≢ SetupFault.NoMemory → setup_fault bytes.now ≡ Some fault) }
+        ensures not_csv { is_utf8 bytes.now ≡ false → result ≡ Err SetupFault.NotCsv }
+    {
+        let Ok(_) = str::from_utf8(bytes) else {
+            return Err(SetupFault::NotCsv);
+        };
+        let setup = read_rows(alloc, bytes)?;
+        if setup.stations() == 0 {
+            return Err(SetupFault::NoStation);
+        }
+        Ok(setup)
+    }
+}
+
+/// What the rows list, else the fault of the first that has one, or NoMemory.
+fn read_rows(alloc: Global, bytes: &[u8]) -> Result<Setup, SetupFault>
+    ensures { MatchResult result
+        (λ setup. (first_fault [] (rows_of bytes.now) ≡ None) × (setup ≡ museum_of (rows_of bytes.now)))
+        (λ fault. fault ≢ SetupFault.NoMemory → first_fault [] (rows_of bytes.now) ≡ Some fault) }
+{
+    let mut setup = Setup::new(alloc);
+    let mut reader = ReaderBuilder::new()
+        .has_headers(false)
+        .flexible(true)
+        .from_reader(alloc, bytes);
+    let mut row = ByteRecord::new(alloc);
+    for number in 1..u64::MAX {
+        // Bytes in memory are read without a fault but for memory.
+        let Ok(found) = reader.read_byte_record(&mut row) else {
+            return Err(SetupFault::NoMemory);
+        };
+        if !found {
+            return Ok(setup);
+        }
+        add_row(&mut setup, number, &row)?;
+    }
+    // No memory holds so many rows.
+    Err(SetupFault::NoMemory)
+}
+
+/// Adds what row `number` lists, if it isn't skipped; else its first fault, or NoMemory.
+fn add_row(setup: &mut Setup, number: u64, row: &ByteRecord) -> Result<(), SetupFault>
+    ensures ok { OnOk result ((row_fault setup.old number (fields_of row.now) ≡ None) × (setup.new ≡ with_row setup.old (fields_of row.now))) }
+    ensures fault { IfErr result (λ fault. fault ≢ SetupFault.NoMemory → row_fault setup.old number (fields_of row.now) ≡ Some fault) }
+{
+    match SetupRow::read(number, row)? {
+        Some(item) => setup.add(number, item),
+        None => Ok(()),
+    }
+}
