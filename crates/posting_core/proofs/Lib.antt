@@ -1,4 +1,5 @@
 pub mod Flat
 pub mod Posted
 pub mod Rooms
+mod WorkedRows
 pub mod Written

@@ -6,7 +6,7 @@ use nest_core::{PlaceNo, StationNo, ThingNo};
 use std::alloc::Global;
 use std::marker::Model;
 
-/// A posted message: its station, its number there, from 1, and its verdict.
+/// A posted message: its station by number, its own number among that station's, from 1, and its verdict.
 #[derive(Drop)]
 pub struct Entry {
     pub station: StationNo,
@@ -67,6 +67,7 @@ impl NewSpots {
         Ok(())
     }
 
+    /// The new spots, in their order.
     pub fn as_slice(&self) -> &[NewSpot]
         ensures { result.now ≡ self.now }
     {

@@ -42,7 +42,8 @@ impl Model for Ledger {
 }
 
 impl Ledger {
-    /// Nothing posted yet, over this setup and under this depth limit.
+    /// Nothing posted yet, over this setup and under this limit of containers above a thing. After NoMemory the
+    /// setup is dropped.
     pub fn new(alloc: Global, setup: Setup, depth: u32) -> Result<Ledger, NoMemory>
         ensures { IfOk result (λ ledger. ledger ≡ record { museum = setup; depth = depth; posted = [] }) }
     {
@@ -65,7 +66,7 @@ impl Ledger {
         &self.setup
     }
 
-    /// The posted entries, oldest first.
+    /// The posted entries, oldest first: entry 1 stands at index 0. Refused messages are among them.
     pub fn posted(&self) -> &[Entry]
         ensures { reverse result.now ≡ self.now.posted }
     {
@@ -79,7 +80,7 @@ impl Ledger {
         let _ = &self.posted;
     }
 
-    /// A thing's current place, or none while it was never placed.
+    /// A thing's current place, or none while it was never placed. The thing's number is below the setup's count.
     pub fn place_of(&self, thing: ThingNo) -> Option<PlaceNo>
         requires { thing < length self.now.museum.things }
         ensures place { result ≡ place_in self.now thing }
@@ -88,7 +89,8 @@ impl Ledger {
         place_of_target(target_of(&self.targets, thing))
     }
 
-    /// A thing's spots, oldest first: the last is its current place, the others are its former ones.
+    /// A thing's spots, oldest first: the last is its current place, the others are its former ones. The thing's
+    /// number is below the setup's count.
     pub fn spots(&self, thing: ThingNo) -> &[Spot]
         requires { thing < length self.now.museum.things }
         ensures { result.now ≡ spots_in self.now thing }
@@ -96,7 +98,7 @@ impl Ledger {
         &self.spots[thing as usize]
     }
 
-    /// The verdict that the message would get if it were posted now.
+    /// The verdict that the message would get if it were posted now; else NoMemory.
     pub fn judge(&self, _alloc: Global, message: &Message) -> Result<Verdict, NoMemory>
         ensures { IfOk result (λ verdict. verdict ≡ verdict_in self.now message.now) }
     {
@@ -135,7 +137,8 @@ impl Ledger {
         }
     }
 
-    /// What posting the message now would change.
+    /// What posting the message now would change: the number of its entry, from 1, its verdict and, where it is
+    /// applied, the new spots; else NoMemory.
     pub fn plan(&self, alloc: Global, message: &Message) -> Result<Changes, NoMemory>
         ensures { IfOk result (λ changes. changes ≡ changes_of self.now message.now) }
     {
@@ -225,8 +228,11 @@ impl Ledger {
         }
     }
 
-    /// Posts an entry with what it changes. All growths come first: after NoMemory the ledger is unchanged, and the
-    /// entry and its changes are dropped.
+    /// Posts an entry with what it changes, as `plan` told it for the entry's message on this ledger. The entry's
+    /// station is in the setup and has not signed off, its number is the station's next and at most 999,999, and its
+    /// verdict is that of `judge`.
+    ///
+    /// All growths come first: after NoMemory the ledger is unchanged, and the entry and its changes are dropped.
     pub fn apply(&mut self, _alloc: Global, entry: Entry, changes: Changes) -> Result<(), NoMemory>
         requires follows { Follows self.old.museum self.old.depth self.old.posted entry }
         requires planned { changes ≡ changes_of self.old entry.message }

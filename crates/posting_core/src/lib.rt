@@ -5,6 +5,8 @@ mod entry;
 mod ledger;
 mod message;
 mod spot_rows;
+#[cfg(test)]
+mod tests;
 mod verdict;
 
 pub use entry::{Changes, Entry, NewSpot, NewSpots, Spot};

@@ -5,8 +5,8 @@ use codes_core::{Day, Name, PlaceCode, ThingCode};
 /// A message of a station.
 #[derive(Drop)]
 pub enum Message {
-    /// The thing is put straight at the place.
+    /// The thing is put straight at the place, on this day.
     Move { thing: ThingCode, place: PlaceCode, day: Day },
-    /// The station's last message.
+    /// The station's last message, and who signs it.
     SignOff { name: Name },
 }
