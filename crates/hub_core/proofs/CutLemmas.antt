@@ -54,10 +54,10 @@ module _ (S : Museum) (depth : ℕ) where
       let k = ready is_sign_off p.taken r.station in
       let d = ready is_sign_off taken r.station - k in
       by_bool (r.station == s)
-        (λ t. let e : r.station ≡ s = grind (arith, nat_tests) in
-          rw (← e) (cut_due_same taken r.station k d p.posted ∙ rw (runs r.station) (sym (run_grows is_sign_off p.taken (seen r) low))))
-        (λ f. let other : r.station ≢ s = grind (arith, nat_tests) in
-          cut_due_other taken r.station s k d p.posted other ∙ (runs s ∙ sym (run_other is_sign_off p.taken (seen r) s other)))
+      (λ t. let e : r.station ≡ s = grind (arith, nat_tests) in
+      rw (← e) (cut_due_same taken r.station k d p.posted ∙ rw (runs r.station) (sym (run_grows is_sign_off p.taken (seen r) low))))
+      (λ f. let other : r.station ≢ s = grind (arith, nat_tests) in
+      cut_due_other taken r.station s k d p.posted other ∙ (runs s ∙ sym (run_other is_sign_off p.taken (seen r) s other)))
 
   runs_after : (p : Point) (r : Arrival) → AreRuns p → AreRuns (point_after S depth p r)
   runs_after p r runs = by_refusal (refusal is_sign_off (length S.stations) p.taken r.station r.n) refl
@@ -65,7 +65,7 @@ module _ (S : Museum) (depth : ℕ) where
       by_refusal : (o : Option Refusal) → refusal is_sign_off (length S.stations) p.taken r.station r.n ≡ o → AreRuns (point_after S depth p r)
       by_refusal None h =
           subst AreRuns (sym (point_accepted S depth p r h))
-            (runs_accepted p r (accepted is_sign_off (length S.stations) p.taken r.station r.n h).low runs)
+          (runs_accepted p r (accepted is_sign_off (length S.stations) p.taken r.station r.n h).low runs)
       by_refusal (Some f) h = subst AreRuns (sym (point_refused S depth p r f h)) runs
 
   runs_all : (p : Point) (A : List Arrival) → AreRuns p → AreRuns (fold (point_after S depth) p A)

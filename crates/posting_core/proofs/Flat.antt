@@ -61,9 +61,9 @@ below (x ∷ xs) code i e = (position-Some (bytes_eq code) (x ∷ xs) i x e).0
 
 found_below : (xs : List (List ℕ)) (code : List ℕ) (n : ℕ) → n ≡ length xs → is_some (position (bytes_eq code) xs) ≡ true → unwrap_or (position (bytes_eq code) xs) n < n
 found_below xs code n same = elim (position (bytes_eq code) xs) as (λ o. position (bytes_eq code) xs ≡ o → is_some o ≡ true → unwrap_or o n < n) [
-    None ↦ λ e h. absurd (false_true h)
+  | None ↦ λ e h. absurd (false_true h)
   | Some i ↦ λ e h. subst (λ k. i < k) (sym same) (below xs code i e)
-  ] refl
+] refl
 
 pub thing_below : (S : Museum) (x : List ℕ) → is_known S x ≡ true → thing_no S x < length S.things
 thing_below S x known = found_below (thing_codes S) x (length S.things) (sym (length-map S.things (λ row. row.0))) known
@@ -99,8 +99,8 @@ put_applied S depth P (SignOff name) h = tt
 pub put_known : (S : Museum) (depth : ℕ) (P : List Entry) (v : Verdict) (m : Message) → v ≡ verdict S depth P m → IfSome (put_by S P v m) (IsKnownPut S)
 put_known S depth P v m judged =
     elim (is_applied v) as (λ t. is_applied v ≡ t → IfSome (if t then put_in S P m else None) (IsKnownPut S)) [
-      true ↦ λ e. put_applied S depth P m (sym judged ∙ applied_is v e)
-    | false ↦ λ e. tt
+      | true ↦ λ e. put_applied S depth P m (sym judged ∙ applied_is v e)
+      | false ↦ λ e. tt
     ] refl
 
 known_with : (S : Museum) (o : Option Put) (Q : List Put) (y : ℕ) → IfSome o (IsKnownPut S) → IfSome (place_of (last Q y)) (λ p. p < length S.places) → IfSome (place_of (last (with_put o Q) y)) (λ p. p < length S.places)

@@ -33,32 +33,32 @@ use Rattle.posting_core.proofs.Written.{rows_written, chosen_spot, own_spot, sam
 -- the list after a write says what it said, with one more put
 listed_after : (T : List (Option Target)) (put : Put) → put.thing < length T → listed (targets_after T (Some put)) ≡ (λ x. if put.thing == x then Some put.to else listed T x)
 listed_after T put less = fun_ext (λ x. elim (cases_eq put.thing x) [
-    inl e ↦ let same : (put.thing == x) ≡ true = grind (arith, nat_tests) in
+  | inl e ↦ let same : (put.thing == x) ≡ true = grind (arith, nat_tests) in
       let there : slice_get (slice_set T put.thing (Some put.to)) x ≡ Some (Some put.to) = subst (λ j. slice_get (slice_set T put.thing (Some put.to)) j ≡ Some (Some put.to)) e (get_set_same T put.thing (Some put.to) less) in
       rw (there, same) refl
   | inr n ↦ let other : (put.thing == x) ≡ false = grind (arith, nat_tests) in rw (get_set_other T put.thing x (Some put.to) n, other) refl
-  ])
+])
 
 -- the kept list after a put
 current_after : (T : List (Option Target)) (Q : List Put) → listed T ≡ last Q → (o : Option Put) → IfSome o (λ p. p.thing < length T) →
-  listed (targets_after T o) ≡ last (with_put o Q)
+    listed (targets_after T o) ≡ last (with_put o Q)
 current_after T Q same None h = same
 current_after T Q same (Some put) h = listed_after T put h ∙ ap (λ (at : ℕ → Option Target). λ x. if put.thing == x then Some put.to else at x) same
 
 -- the place that the kept list tells is that of looking back
 pub place_kept : (K B : Book) (T items : List (Option Target)) (R : List (List Spot)) (x : ℕ) (target : Option Target) (r : Option ℕ) → K ≡ B → IsKept K.museum K.depth K.posted T R →
-  items ≡ T → target ≡ listed items x → r ≡ place_of target → r ≡ place_in B x
+    items ≡ T → target ≡ listed items x → r ≡ place_of target → r ≡ place_in B x
 place_kept K B T items R x target r same kept e t h =
     subst (λ (C : Book). r ≡ place_in C x) same
-      (h ∙ ap place_of (t ∙ rw e (ap (λ (at : ℕ → Option Target). at x) kept.current)) ∙ sym (place_flat (last (puts K.museum K.posted)) (length K.museum.things) x (flat_puts K.museum K.posted)))
+    (h ∙ ap place_of (t ∙ rw e (ap (λ (at : ℕ → Option Target). at x) kept.current)) ∙ sym (place_flat (last (puts K.museum K.posted)) (length K.museum.things) x (flat_puts K.museum K.posted)))
 
 -- and is one of the setup's
 pub place_within : (K B : Book) (T : List (Option Target)) (R : List (List Spot)) (x : ℕ) (r : Option ℕ) → K ≡ B → IsKept K.museum K.depth K.posted T R →
-  r ≡ place_in B x → IfSome r (λ p. p < length B.museum.places)
+    r ≡ place_in B x → IfSome r (λ p. p < length B.museum.places)
 place_within K B T R x r same kept h =
     subst (λ o. IfSome o (λ p. p < length B.museum.places)) (sym h) (subst (λ (C : Book). IfSome (place_in C x) (λ p. p < length C.museum.places)) same
-      (subst (λ o. IfSome o (λ p. p < length K.museum.places)) (sym (place_flat (last (puts K.museum K.posted)) (length K.museum.things) x (flat_puts K.museum K.posted)))
-        (places_known K.museum K.depth K.posted kept.lawful x)))
+    (subst (λ o. IfSome o (λ p. p < length K.museum.places)) (sym (place_flat (last (puts K.museum K.posted)) (length K.museum.things) x (flat_puts K.museum K.posted)))
+    (places_known K.museum K.depth K.posted kept.lawful x)))
 
 abbrev spot_for : Museum → List Entry → Message → ℕ → Option NewSpot
 spot_for S P m x = new_spot (length P + 1) (length (spots S P x)) (place_at S P x) (place_after S P m x) (day_of m) x
@@ -69,13 +69,13 @@ after_move S P x p day y =
     let n = length S.things in
     place_flat (last (with_put (put_in S P (Move x p day)) (puts S P))) n y (flat_after S P (Move x p day))
     ∙ elim (thing_no S x == y) as (λ t. place_of (if t then Some (At (place_no S p)) else last (puts S P) y) ≡ (if t then Some (place_no S p) else place_at S P y)) [
-        true ↦ refl
+      | true ↦ refl
       | false ↦ sym (place_flat (last (puts S P)) n y (flat_puts S P))
-      ]
+    ]
 
 move_spot : (B : Book) (x p : List ℕ) (day : ℤ) (number : ℕ) (r : Option NewSpot) → verdict_in B (Move x p day) ≡ Applied → number ≡ length B.posted + 1 →
-  r ≡ new_spot number (length (spots_in B (thing_no B.museum x))) (place_in B (thing_no B.museum x)) (Some (place_no B.museum p)) (Some day) (thing_no B.museum x) →
-  option_to_list r ≡ new_spots B.museum B.posted (Move x p day)
+    r ≡ new_spot number (length (spots_in B (thing_no B.museum x))) (place_in B (thing_no B.museum x)) (Some (place_no B.museum p)) (Some day) (thing_no B.museum x) →
+    option_to_list r ≡ new_spots B.museum B.posted (Move x p day)
 move_spot B x p day number r applied counted h =
     let S = B.museum in
     let P = B.posted in
@@ -83,26 +83,28 @@ move_spot B x p day number r applied counted h =
     let known = move_applied S P x p applied in
     let here : (i == i) ≡ true = same_self i in
     ap option_to_list (h ∙ ap (λ n. new_spot n (length (spots S P i)) (place_at S P i) (Some (place_no S p)) (Some day) i) counted
-      ∙ sym (ap (λ o. new_spot (length P + 1) (length (spots S P i)) (place_at S P i) o (Some day) i) (after_move S P x p day i ∙ ap (λ t. if t then Some (place_no S p) else place_at S P i) here)))
+    ∙ sym (ap (λ o. new_spot (length P + 1) (length (spots S P i)) (place_at S P i) o (Some day) i) (after_move S P x p day i ∙ ap (λ t. if t then Some (place_no S p) else place_at S P i) here)))
     ∙ sym (only_spot (spot_for S P (Move x p day)) i (length S.things) (thing_below S x known.0)
-        (λ y other. ap (λ o. new_spot (length P + 1) (length (spots S P y)) (place_at S P y) o (Some day) y) (after_move S P x p day y ∙ ap (λ t. if t then Some (place_no S p) else place_at S P y) (not_self i y other))
-          ∙ unmoved (length P + 1) (length (spots S P y)) (place_at S P y) (Some day) y))
+    (λ y other. ap (λ o. new_spot (length P + 1) (length (spots S P y)) (place_at S P y) o (Some day) y) (after_move S P x p day y ∙ ap (λ t. if t then Some (place_no S p) else place_at S P y) (not_self i y other))
+    ∙ unmoved (length P + 1) (length (spots S P y)) (place_at S P y) (Some day) y))
   where
     same_self : (n : ℕ) → (n == n) ≡ true
     same_self n = grind (arith, nat_tests)
+
     not_self : (n y : ℕ) → (y ≡ n → ⊥) → (n == y) ≡ false
     not_self n y other = grind (arith, nat_tests)
+
     unmoved : (number count : ℕ) (o : Option ℕ) (day : Option ℤ) (y : ℕ) → new_spot number count o o day y ≡ None
     unmoved number count o day y = rw (same_place number o day) refl
 
 -- the same by the numbers that were found
 pub found_spot : (B : Book) (x p : List ℕ) (day : ℤ) (number i q : ℕ) (r : Option NewSpot) → verdict_in B (Move x p day) ≡ Applied → number ≡ length B.posted + 1 →
-  i ≡ thing_no B.museum x → q ≡ place_no B.museum p → r ≡ new_spot number (length (spots_in B i)) (place_in B i) (Some q) (Some day) i →
-  option_to_list r ≡ new_spots B.museum B.posted (Move x p day)
+    i ≡ thing_no B.museum x → q ≡ place_no B.museum p → r ≡ new_spot number (length (spots_in B i)) (place_in B i) (Some q) (Some day) i →
+    option_to_list r ≡ new_spots B.museum B.posted (Move x p day)
 found_spot B x p day number i q r applied counted thing there h =
     move_spot B x p day number r applied counted
-      (h ∙ ap (λ k. new_spot number (length (spots_in B i)) (place_in B i) (Some k) (Some day) i) there
-        ∙ ap (λ k. new_spot number (length (spots_in B k)) (place_in B k) (Some (place_no B.museum p)) (Some day) k) thing)
+    (h ∙ ap (λ k. new_spot number (length (spots_in B i)) (place_in B i) (Some k) (Some day) i) there
+    ∙ ap (λ k. new_spot number (length (spots_in B k)) (place_in B k) (Some (place_no B.museum p)) (Some day) k) thing)
 
 undated : (number count : ℕ) (before after : Option ℕ) (y : ℕ) → new_spot number count before after None y ≡ None
 undated number count before None y = refl
@@ -118,7 +120,7 @@ news_under S P v m = if is_applied v then new_spots S P m else []
 
 -- the kept rows after the spots of an entry
 rows_after_entry : (B : Book) (T : List (Option Target)) (R : List (List Spot)) (e : Entry) → IsKept B.museum B.depth B.posted T R →
-  (x : ℕ) → x < length B.museum.things → row_of (rows_after R (news_under B.museum B.posted e.verdict e.message)) x ≡ spots B.museum (e ∷ B.posted) x
+    (x : ℕ) → x < length B.museum.things → row_of (rows_after R (news_under B.museum B.posted e.verdict e.message)) x ≡ spots B.museum (e ∷ B.posted) x
 rows_after_entry B T R e kept x less =
     let S = B.museum in
     let P = B.posted in
@@ -126,18 +128,18 @@ rows_after_entry B T R e kept x less =
     let things = length S.things in
     let day = day_of e.message in
     elim (is_applied e.verdict) as (λ b. row_of (rows_after R (if b then new_spots S P e.message else [])) x
-        ≡ spots S P x ++ option_to_list (spot_from number (place_at S P x) (place things (with_put (if b then put_in S P e.message else None) (puts S P)) x) day)) [
-      true ↦ rows_written R (spot_for S P e.message) 0 things x (λ y s h. own_spot number (length (spots S P y)) (place_at S P y) (place_after S P e.message y) day y s h) (omega (arith, kept.rowed)) (omega arith) (omega arith)
-        ∙ ap (λ (r : List Spot). r ++ option_to_list (option_map (λ s. s.spot) (spot_for S P e.message x))) (kept.row x less)
-        ∙ ap (λ (o : Option Spot). spots S P x ++ option_to_list o) (chosen_spot number (length (spots S P x)) (place_at S P x) (place_after S P e.message x) day x)
-    | false ↦ kept.row x less ∙ sym (ap (λ (o : Option Spot). spots S P x ++ option_to_list o) (same_place number (place_at S P x) day) ∙ append-nil (spots S P x))
+    ≡ spots S P x ++ option_to_list (spot_from number (place_at S P x) (place things (with_put (if b then put_in S P e.message else None) (puts S P)) x) day)) [
+      | true ↦ rows_written R (spot_for S P e.message) 0 things x (λ y s h. own_spot number (length (spots S P y)) (place_at S P y) (place_after S P e.message y) day y s h) (omega (arith, kept.rowed)) (omega arith) (omega arith)
+          ∙ ap (λ (r : List Spot). r ++ option_to_list (option_map (λ s. s.spot) (spot_for S P e.message x))) (kept.row x less)
+          ∙ ap (λ (o : Option Spot). spots S P x ++ option_to_list o) (chosen_spot number (length (spots S P x)) (place_at S P x) (place_after S P e.message x) day x)
+      | false ↦ kept.row x less ∙ sym (ap (λ (o : Option Spot). spots S P x ++ option_to_list o) (same_place number (place_at S P x) day) ∙ append-nil (spots S P x))
     ]
 
 news_ascending : (S : Museum) (P : List Entry) (v : Verdict) (m : Message) → AreAscending 0 (length S.things) (news_under S P v m)
 news_ascending S P v m = elim (is_applied v) as (λ b. AreAscending 0 (length S.things) (if b then new_spots S P m else [])) [
-      true ↦ own_ascending (spot_for S P m) 0 0 (length S.things) (length S.things) (λ y s h. own_spot (length P + 1) (length (spots S P y)) (place_at S P y) (place_after S P m y) (day_of m) y s h) (omega arith) (omega arith)
-    | false ↦ tt
-    ]
+  | true ↦ own_ascending (spot_for S P m) 0 0 (length S.things) (length S.things) (λ y s h. own_spot (length P + 1) (length (spots S P y)) (place_at S P y) (place_after S P m y) (day_of m) y s h) (omega arith) (omega arith)
+  | false ↦ tt
+]
 
 rows_length : (R : List (List Spot)) (ss : List NewSpot) → length (rows_after R ss) ≡ length R
 rows_length R [] = refl
@@ -152,7 +154,7 @@ thing_within S n None same known = tt
 thing_within S n (Some put) same known = let less : put.thing < length S.things = known.thing in omega arith
 
 news_are : (B : Book) (e : Entry) (changes : Changes) (news : List NewSpot) → news ≡ changes.spots → changes ≡ changes_of B e.message → Follows B.museum B.depth B.posted e →
-  news ≡ news_under B.museum B.posted e.verdict e.message
+    news ≡ news_under B.museum B.posted e.verdict e.message
 news_are B e changes news h p follows =
     h ∙ ap (λ (c : Changes). c.spots) p ∙ ap (λ (v : Verdict). news_under B.museum B.posted v e.message) (sym follows.judged)
 
@@ -163,7 +165,7 @@ pub record IsPlanned (K : Book) (T : List (Option Target)) (R : List (List Spot)
   pub news_is : news ≡ news_under K.museum K.posted e.verdict e.message
 
 pub planned : (K B : Book) (T : List (Option Target)) (R : List (List Spot)) (e : Entry) (changes : Changes) (news : List NewSpot) → K ≡ B → IsKept K.museum K.depth K.posted T R →
-  Follows B.museum B.depth B.posted e → changes ≡ changes_of B e.message → news ≡ changes.spots → IsPlanned K T R e news
+    Follows B.museum B.depth B.posted e → changes ≡ changes_of B e.message → news ≡ changes.spots → IsPlanned K T R e news
 planned K B T R e changes news same kept follows plan h =
     let back : B ≡ K = sym same in
     let follows' : Follows K.museum K.depth K.posted e = subst (λ (C : Book). Follows C.museum C.depth C.posted e) back follows in
@@ -174,17 +176,17 @@ planned_ascending K T R e news n is sized =
     rw (is.news_is, sized, is.kept.rowed) (news_ascending K.museum K.posted e.verdict e.message)
 
 pub planned_put : (K B : Book) (T : List (Option Target)) (R : List (List Spot)) (e : Entry) (news : List NewSpot) (put : Option Put) → K ≡ B → IsPlanned K T R e news → put ≡ put_by B.museum B.posted e.verdict e.message →
-  IfSome put (λ p. p.thing < length T)
+    IfSome put (λ p. p.thing < length T)
 planned_put K B T R e news put same is h =
     subst (λ o. IfSome o (λ p. p.thing < length T)) (sym (put_is K B e put same h))
-      (thing_within K.museum (length T) (put_by K.museum K.posted e.verdict e.message) is.kept.sized (put_known K.museum K.depth K.posted e.verdict e.message is.follows.judged))
+    (thing_within K.museum (length T) (put_by K.museum K.posted e.verdict e.message) is.kept.sized (put_known K.museum K.depth K.posted e.verdict e.message is.follows.judged))
   where
     put_is : (K B : Book) (e : Entry) (put : Option Put) → K ≡ B → put ≡ put_by B.museum B.posted e.verdict e.message → put ≡ put_by K.museum K.posted e.verdict e.message
     put_is K B e put same h = subst (λ (C : Book). put ≡ put_by C.museum C.posted e.verdict e.message) (sym same) h
 
 -- what is kept after an entry
 pub kept_after : (K B : Book) (T T' : List (Option Target)) (R R' : List (List Spot)) (P' : List Entry) (e : Entry) (news : List NewSpot) (put : Option Put) → K ≡ B → IsPlanned K T R e news →
-  put ≡ put_by B.museum B.posted e.verdict e.message → P' ≡ e ∷ K.posted → T' ≡ targets_after T put → R' ≡ rows_after R news → IsKept K.museum K.depth P' T' R'
+    put ≡ put_by B.museum B.posted e.verdict e.message → P' ≡ e ∷ K.posted → T' ≡ targets_after T put → R' ≡ rows_after R news → IsKept K.museum K.depth P' T' R'
 kept_after K B T T' R R' P' e news put same is h p t r =
     let by : put ≡ put_by K.museum K.posted e.verdict e.message = subst (λ (C : Book). put ≡ put_by C.museum C.posted e.verdict e.message) (sym same) h in
     subst (λ (P : List Entry). IsKept K.museum K.depth P T' R') (sym p) (record {

@@ -26,9 +26,9 @@ get_set_other (x ∷ xs) (suc i) (suc k) y n = get_set_other xs i k y (λ e. n (
 -- what holds of the new element and of the others holds after a write
 pub holds_set : {X : Type 0} (Q : X → Type 0) (xs : List X) (i : ℕ) (y : X) (k : ℕ) → Q y → i < length xs → ((i ≡ k → ⊥) → IfSome (slice_get xs k) Q) → IfSome (slice_get (slice_set xs i y) k) Q
 holds_set Q xs i y k q less h = elim (cases_eq i k) [
-    inl e ↦ subst (λ j. IfSome (slice_get (slice_set xs i y) j) Q) e (subst (λ o. IfSome o Q) (sym (get_set_same xs i y less)) q)
+  | inl e ↦ subst (λ j. IfSome (slice_get (slice_set xs i y) j) Q) e (subst (λ o. IfSome o Q) (sym (get_set_same xs i y less)) q)
   | inr n ↦ subst (λ o. IfSome o Q) (sym (get_set_other xs i k y n)) (h n)
-  ]
+]
 
 -- what holds where there is an element holds of it
 pub holds_at : {X : Type 0} (Q : X → Type 0) (o : Option X) (x : X) → o ≡ Some x → IfSome o Q → Q x
@@ -36,15 +36,15 @@ holds_at Q o x e h = subst (λ p. IfSome p Q) e h
 
 -- one more spot written is the next of the list
 pub row_written : (rows : List (Vec Spot Global)) (s : NewSpot) (ss : List NewSpot) (old new : Vec Spot Global) → s.thing < length rows → slice_get rows s.thing ≡ Some old → new.items ≡ old.items ++ s.spot ∷ [] →
-  rows_after (lists (slice_set rows s.thing new)) ss ≡ rows_after (lists rows) (s ∷ ss)
+    rows_after (lists (slice_set rows s.thing new)) ss ≡ rows_after (lists rows) (s ∷ ss)
 row_written rows s ss old new less at items =
     ap (λ rs. rows_after rs ss) (map-set (λ v. v.items) rows s.thing new
-      ∙ ap (slice_set (lists rows) s.thing) (items ∙ ap (λ (front : List Spot). front ++ s.spot ∷ [])
-          (sym (let row : row_of (lists rows) s.thing ≡ old.items = rw (slice_get-map (λ (v : Vec Spot Global). v.items) rows s.thing, at) refl in row))))
+    ∙ ap (slice_set (lists rows) s.thing) (items ∙ ap (λ (front : List Spot). front ++ s.spot ∷ [])
+    (sym (let row : row_of (lists rows) s.thing ≡ old.items = rw (slice_get-map (λ (v : Vec Spot Global). v.items) rows s.thing, at) refl in row))))
 
 -- a write to an earlier row leaves the others ready
 pub ready_kept : (rows rows' : List (Vec Spot Global)) (t : ℕ) → length rows' ≡ length rows → ((x : ℕ) → t < x → HasRoom rows x → HasRoom rows' x) →
-  (from : ℕ) (ss : List NewSpot) → t < from → AreReady rows from ss → AreReady rows' from ss
+    (from : ℕ) (ss : List NewSpot) → t < from → AreReady rows from ss → AreReady rows' from ss
 ready_kept rows rows' t same kept from [] later ready = tt
 ready_kept rows rows' t same kept from (s ∷ ss) later (low, within, room, rest) =
     (low, omega arith, kept s.thing (omega arith) room, ready_kept rows rows' t same kept (s.thing + 1) ss (omega arith) rest)

@@ -27,22 +27,31 @@ museum = record {
 -- numbers in it
 abbrev pack : ℕ
 pack = 0
+
 abbrev gal : ℕ
 gal = 1
+
 abbrev s1 : ℕ
 s1 = 0
+
 abbrev s1_a : ℕ
 s1_a = 1
+
 abbrev s2 : ℕ
 s2 = 2
+
 abbrev crate_1 : ℕ
 crate_1 = 0
+
 abbrev crate_2 : ℕ
 crate_2 = 1
+
 abbrev object_1 : ℕ
 object_1 = 2
+
 abbrev object_2 : ℕ
 object_2 = 3
+
 abbrev borrowed : ℕ
 borrowed = 5
 
@@ -100,17 +109,17 @@ held_then_posted-places : map (place_in (book held_then_posted)) (object_1 ∷ o
 held_then_posted-places = refl
 
 held_then_posted-puts : puts museum held_then_posted ≡
-  record { thing = object_1; to = At s1_a } ∷ record { thing = object_2; to = At s2 } ∷ record { thing = object_1; to = At s1 } ∷ []
+    record { thing = object_1; to = At s1_a } ∷ record { thing = object_2; to = At s2 } ∷ record { thing = object_1; to = At s1 } ∷ []
 held_then_posted-puts = refl
 
 -- what one more message would change: a spot with the next number of its thing's list
 held_then_posted-change : changes_of (book held_then_posted) (moved (codes "2001.4.1") (codes "S2")) ≡
-  record { entry = 4; verdict = Applied; spots = record { thing = object_1; k = 3; spot = spot 4 s2 } ∷ [] }
+    record { entry = 4; verdict = Applied; spots = record { thing = object_1; k = 3; spot = spot 4 s2 } ∷ [] }
 held_then_posted-change = refl
 
 -- a first placement has the number 1
 held_then_posted-first : changes_of (book held_then_posted) (moved (codes "2001.4.3") (codes "S2")) ≡
-  record { entry = 4; verdict = Applied; spots = record { thing = 4; k = 1; spot = spot 4 s2 } ∷ [] }
+    record { entry = 4; verdict = Applied; spots = record { thing = 4; k = 1; spot = spot 4 s2 } ∷ [] }
 held_then_posted-first = refl
 
 -- a Move to the place where the thing is changes nothing but the posted list
@@ -220,10 +229,13 @@ follows P station m known few unsigned = record { known = known; next = refl; fe
 lawful-tour : IsLawful museum 8 (run [] ((pack, moved (codes "2001.4.1") (codes "S9")) ∷ (gal, signed_off) ∷ (pack, moved (codes "2001.4.1") (codes "S1")) ∷ []))
 lawful-tour =
     let P1 = entry_of [] pack (moved (codes "2001.4.1") (codes "S9")) ∷ [] in
-    let P2 = entry_of P1 gal signed_off ∷ P1 in
-    (follows P2 pack (moved (codes "2001.4.1") (codes "S1")) (omega arith) (omega arith) refl,
-      (follows P1 gal signed_off (omega arith) (omega arith) refl,
-        (follows [] pack (moved (codes "2001.4.1") (codes "S9")) (omega arith) (omega arith) refl, tt)))
+    let P2 = entry_of P1 gal signed_off ∷ P1 in (
+      follows P2 pack (moved (codes "2001.4.1") (codes "S1")) (omega arith) (omega arith) refl,
+      (
+        follows P1 gal signed_off (omega arith) (omega arith) refl,
+        (follows [] pack (moved (codes "2001.4.1") (codes "S9")) (omega arith) (omega arith) refl, tt),
+      ),
+    )
 
 -- an entry with a sign-off
 abbrev told : ℕ → ℕ → Verdict → Entry

@@ -33,40 +33,40 @@ row_same R i row less = ap (λ (o : Option (List Spot)). option_map_or (λ spots
 rows_before : (R : List (List Spot)) (f : ℕ → Option NewSpot) (a n x : ℕ) → IsOwn f → x < a → row_of (rows_after R (filter_map f (range_with_len a n))) x ≡ row_of R x
 rows_before R f a zero x own less = refl
 rows_before R f a (suc n) x own less = elim (f a) as (λ o. f a ≡ o → row_of (rows_after R (cons_option o (filter_map f (range_with_len (a + 1) n)))) x ≡ row_of R x) [
-    None ↦ λ e. rows_before R f (a + 1) n x own (omega arith)
+  | None ↦ λ e. rows_before R f (a + 1) n x own (omega arith)
   | Some s ↦ λ e. let t : s.thing ≡ a = own a s e in
       rows_before (slice_set R s.thing (row_of R s.thing ++ s.spot ∷ [])) f (a + 1) n x own (omega arith) ∙ row_other R s.thing x (row_of R s.thing ++ s.spot ∷ []) (λ h. absurd (omega arith))
-  ] refl
+] refl
 
 abbrev spot_at : (ℕ → Option NewSpot) → ℕ → List Spot
 spot_at f x = option_to_list (option_map (λ s. s.spot) (f x))
 
 -- each row gets its thing's spot
 pub rows_written : (R : List (List Spot)) (f : ℕ → Option NewSpot) (a n x : ℕ) → IsOwn f → a + n ≤ length R → a ≤ x → x < a + n →
-  row_of (rows_after R (filter_map f (range_with_len a n))) x ≡ row_of R x ++ spot_at f x
+    row_of (rows_after R (filter_map f (range_with_len a n))) x ≡ row_of R x ++ spot_at f x
 rows_written R f a zero x own fits low high = absurd (omega arith)
 rows_written R f a (suc n) x own fits low high = elim (f a) as (λ o. f a ≡ o → row_of (rows_after R (cons_option o (filter_map f (range_with_len (a + 1) n)))) x ≡ row_of R x ++ spot_at f x) [
-    None ↦ λ e. elim (cases_eq a x) [
-        inl same ↦ rows_before R f (a + 1) n x own (omega arith) ∙ sym (subst (λ y. row_of R x ++ spot_at f y ≡ row_of R x) same (rw e (append-nil (row_of R x))))
-      | inr n' ↦ rows_written R f (a + 1) n x own (omega arith) (omega arith) (omega arith)
-      ]
+  | None ↦ λ e. elim (cases_eq a x) [
+    | inl same ↦ rows_before R f (a + 1) n x own (omega arith) ∙ sym (subst (λ y. row_of R x ++ spot_at f y ≡ row_of R x) same (rw e (append-nil (row_of R x))))
+    | inr n' ↦ rows_written R f (a + 1) n x own (omega arith) (omega arith) (omega arith)
+  ]
   | Some s ↦ λ e. let t : s.thing ≡ a = own a s e in let row = row_of R s.thing ++ s.spot ∷ [] in elim (cases_eq a x) [
-        inl same ↦ rows_before (slice_set R s.thing row) f (a + 1) n x own (omega arith)
-          ∙ subst (λ y. row_of (slice_set R s.thing row) y ≡ row_of R y ++ spot_at f y) same
-              (subst (λ y. row_of (slice_set R s.thing row) y ≡ row_of R y ++ spot_at f a) t (rw e (row_same R s.thing row (omega arith))))
-      | inr n' ↦ rows_written (slice_set R s.thing row) f (a + 1) n x own (omega (arith, length-set R s.thing row)) (omega arith) (omega arith)
-          ∙ ap (λ (r : List Spot). r ++ spot_at f x) (row_other R s.thing x row (λ h. n' (sym t ∙ h)))
-      ]
-  ] refl
+    | inl same ↦ rows_before (slice_set R s.thing row) f (a + 1) n x own (omega arith)
+        ∙ subst (λ y. row_of (slice_set R s.thing row) y ≡ row_of R y ++ spot_at f y) same
+        (subst (λ y. row_of (slice_set R s.thing row) y ≡ row_of R y ++ spot_at f a) t (rw e (row_same R s.thing row (omega arith))))
+    | inr n' ↦ rows_written (slice_set R s.thing row) f (a + 1) n x own (omega (arith, length-set R s.thing row)) (omega arith) (omega arith)
+        ∙ ap (λ (r : List Spot). r ++ spot_at f x) (row_other R s.thing x row (λ h. n' (sym t ∙ h)))
+  ]
+] refl
 
 pub chosen_spot : (number count : ℕ) (before after : Option ℕ) (day : Option ℤ) (x : ℕ) → option_map (λ s. s.spot) (new_spot number count before after day x) ≡ spot_from number before after day
 chosen_spot number count before after day x = elim (spot_from number before after day) as (λ o. option_map (λ (s : NewSpot). s.spot) (option_map (λ spot. let s : NewSpot = record { thing = x; k = count + 1; spot = spot } in s) o) ≡ o) [ None ↦ refl | Some spot ↦ refl ]
 
 pub own_spot : (number count : ℕ) (before after : Option ℕ) (day : Option ℤ) (x : ℕ) (s : NewSpot) → new_spot number count before after day x ≡ Some s → s.thing ≡ x
 own_spot number count before after day x s = elim (spot_from number before after day) as (λ o. option_map (λ spot. let t : NewSpot = record { thing = x; k = count + 1; spot = spot } in t) o ≡ Some s → s.thing ≡ x) [
-    None ↦ λ e. absurd (none_some e)
+  | None ↦ λ e. absurd (none_some e)
   | Some spot ↦ λ e. sym (ap (λ (t : NewSpot). t.thing) (some_same e))
-  ]
+]
 
 -- an entry that leaves the place writes no spot
 pub same_place : (number : ℕ) (p : Option ℕ) (day : Option ℤ) → spot_from number p p day ≡ None
@@ -78,9 +78,9 @@ same_place number (Some p) (Some day) = let same : (p == p) ≡ true = grind (ar
 pub own_ascending : (f : ℕ → Option NewSpot) (from a n things : ℕ) → IsOwn f → from ≤ a → a + n ≤ things → AreAscending from things (filter_map f (range_with_len a n))
 own_ascending f from a zero things own low high = tt
 own_ascending f from a (suc n) things own low high = elim (f a) as (λ o. f a ≡ o → AreAscending from things (cons_option o (filter_map f (range_with_len (a + 1) n)))) [
-    None ↦ λ e. own_ascending f from (a + 1) n things own (omega arith) (omega arith)
+  | None ↦ λ e. own_ascending f from (a + 1) n things own (omega arith) (omega arith)
   | Some s ↦ λ e. let t : s.thing ≡ a = own a s e in (omega arith, omega arith, own_ascending f (s.thing + 1) (a + 1) n things own (omega arith) (omega arith))
-  ] refl
+] refl
 
 -- where only x has a spot, it is all that a range has
 none_from : (f : ℕ → Option NewSpot) (x a n : ℕ) → x < a → ((y : ℕ) → (y ≡ x → ⊥) → f y ≡ None) → filter_map f (range_with_len a n) ≡ []
@@ -91,9 +91,9 @@ none_from f x a (suc n) less none =
 only_from : (f : ℕ → Option NewSpot) (x a n : ℕ) → a ≤ x → x < a + n → ((y : ℕ) → (y ≡ x → ⊥) → f y ≡ None) → filter_map f (range_with_len a n) ≡ option_to_list (f x)
 only_from f x a zero low high none = absurd (omega arith)
 only_from f x a (suc n) low high none = elim (cases_eq a x) [
-    inl same ↦ ap (cons_option (f a)) (none_from f x (a + 1) n (omega arith) none) ∙ subst (λ y. cons_option (f a) [] ≡ option_to_list (f y)) same (alone (f a))
+  | inl same ↦ ap (cons_option (f a)) (none_from f x (a + 1) n (omega arith) none) ∙ subst (λ y. cons_option (f a) [] ≡ option_to_list (f y)) same (alone (f a))
   | inr other ↦ ap (λ o. cons_option o (filter_map f (range_with_len (a + 1) n))) (none a other) ∙ only_from f x (a + 1) n (omega arith) (omega arith) none
-  ]
+]
   where
     alone : (o : Option NewSpot) → cons_option o [] ≡ option_to_list o
     alone None = refl

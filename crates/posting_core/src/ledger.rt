@@ -145,10 +145,20 @@ impl Ledger {
         let verdict = self.judge(alloc, message)?;
         let entry = self.posted.len() as u64 + 1;
         let spots = self.spots_under(alloc, message, verdict, entry)?;
-        Ok(Changes { entry, verdict, spots })
+        Ok(Changes {
+            entry,
+            verdict,
+            spots,
+        })
     }
 
-    fn spots_under(&self, alloc: Global, message: &Message, verdict: Verdict, entry: u64) -> Result<NewSpots, NoMemory>
+    fn spots_under(
+        &self,
+        alloc: Global,
+        message: &Message,
+        verdict: Verdict,
+        entry: u64,
+    ) -> Result<NewSpots, NoMemory>
         requires judged { verdict ≡ verdict_in self.now message.now }
         requires number { entry ≡ length self.now.posted + 1 }
         ensures { IfOk result (λ spots. spots ≡ (if is_applied verdict then new_spots self.now.museum self.now.posted message.now else [])) }
@@ -169,7 +179,12 @@ impl Ledger {
         ensures { option_to_list result ≡ new_spots self.now.museum self.now.posted message.now }
     {
         match message {
-            Message::Move { thing, place, day } => self.spot_at(self.thing_no(thing), self.place_no(place), *day, entry),
+            Message::Move { thing, place, day } => self.spot_at(
+                self.thing_no(thing),
+                self.place_no(place),
+                *day,
+                entry,
+            ),
             Message::SignOff { .. } => None,
         }
     }

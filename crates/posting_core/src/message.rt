@@ -6,7 +6,13 @@ use codes_core::{Day, Name, PlaceCode, ThingCode};
 #[derive(Drop)]
 pub enum Message {
     /// The thing is put straight at the place, on this day.
-    Move { thing: ThingCode, place: PlaceCode, day: Day },
+    Move {
+        thing: ThingCode,
+        place: PlaceCode,
+        day: Day,
+    },
     /// The station's last message, and who signs it.
-    SignOff { name: Name },
+    SignOff {
+        name: Name,
+    },
 }

@@ -9,11 +9,13 @@ use std::alloc::Global;
 use std::process::Abort;
 use std::test::Fail;
 
-const SETUP: &str = "station,PACK\nstation,GAL\nplace,S1,inside\nplace,S1-A,inside\nplace,S2,inside\n\
+const SETUP: &str =
+    "station,PACK\nstation,GAL\nplace,S1,inside\nplace,S1-A,inside\nplace,S2,inside\n\
     place,MUSEUM-X,elsewhere\nplace,LENDER-Y,elsewhere\nbox,C1\nbox,C2\nown,2001.4.1,S1-A\nown,2001.4.2,S1-A\n\
     own,2001.4.3,S1-A\nlent,L1999.7\n";
 
 const PACK: StationNo = 0;
+
 const GAL: StationNo = 1;
 
 fn empty(alloc: Global) -> Result<Ledger, Fail> {
@@ -91,14 +93,23 @@ fn spots_of<'a>(ledger: &'a Ledger, thing: &str) -> Result<&'a [Spot], Fail> {
 }
 
 /// A thing's spots are these, each the number of its entry and its place, and the last place is its current one.
-fn assert_spots(rt: &impl Abort, ledger: &Ledger, thing: &str, want: &[(u64, &str)]) -> Result<(), Fail> {
+fn assert_spots(
+    rt: &impl Abort,
+    ledger: &Ledger,
+    thing: &str,
+    want: &[(u64, &str)],
+) -> Result<(), Fail> {
     let spots = spots_of(ledger, thing)?;
     assert_eq!(rt; spots.len(), want.len(), "of {thing}");
     let mut current = None;
     for (spot, (entry, place)) in spots.iter().zip(want.iter()) {
         let place = PlaceCode::parse(place.as_bytes())?;
         assert_eq!(rt; spot.entry, *entry, "of {thing}");
-        assert_eq!(rt; Some(spot.place), ledger.setup().place(&place), "of {thing}");
+        assert_eq!(rt;
+            Some(spot.place),
+            ledger.setup().place(&place),
+            "of {thing}"
+        );
         assert_eq!(rt; spot.day, day()?, "of {thing}");
         current = Some(place);
     }
@@ -148,7 +159,14 @@ fn planned(rt: HostRuntime) -> Result<(), Fail> {
     assert_eq!(rt; changes.spots.as_slice().len(), 1);
     let new = changes.spots.as_slice()[0];
     assert_eq!(rt; (new.thing, new.k), (2, 3));
-    assert_eq!(rt; new.spot, Spot { entry: 3, place: 1, day: day()? });
+    assert_eq!(rt;
+        new.spot,
+        Spot {
+            entry: 3,
+            place: 1,
+            day: day()?
+        }
+    );
     // A plan posts nothing.
     assert_eq!(rt; ledger.posted().len(), 2);
     assert_spots(&rt, &ledger, "2001.4.1", &[(1, "S1"), (2, "S2")])

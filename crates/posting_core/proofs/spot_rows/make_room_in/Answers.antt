@@ -9,7 +9,7 @@ pub bounds-rows-news : goal.bounds-rows-news
 bounds-rows-news c =
     let within = ascending_within 0 (length c.args.rows.now) c.args.news.now c.requires in
     let less : (get_or c.args.news.now c.loop-i.i c.index-news-i.result).thing < length c.args.rows.now =
-        All-get_or (λ s. s.thing < length c.args.rows.now) c.args.news.now c.loop-i.i c.index-news-i.result c.loop-i-test.true within in
+    All-get_or (λ s. s.thing < length c.args.rows.now) c.args.news.now c.loop-i.i c.index-news-i.result c.loop-i-test.true within in
     omega arith
 
 pub returns-in_err-reserve-clause-items : goal.returns-in_err-reserve-clause-items
@@ -21,17 +21,17 @@ loop-i-preserved c =
     let thing = (get_or c.args.news.now c.loop-i.i c.index-news-i.result).thing in
     let within = ascending_within 0 (length c.args.rows.now) c.args.news.now c.requires in
     let listed : thing < length c.args.rows.now =
-        All-get_or (λ s. s.thing < length c.args.rows.now) c.args.news.now c.loop-i.i c.index-news-i.result c.loop-i-test.true within in
+    All-get_or (λ s. s.thing < length c.args.rows.now) c.args.news.now c.loop-i.i c.index-news-i.result c.loop-i-test.true within in
     let less : thing < length c.loop-i.rows = omega arith in
     record {
       same = map-set_same (λ v. v.items) c.loop-i.rows _ c.reserve.new.self c.index-rows-news.result c.reserve.ensures.items ∙ c.loop-i.invariant.same;
       room = All-more (λ s. HasRoom (slice_set c.loop-i.rows thing c.reserve.new.self) s.thing) c.args.news.now c.loop-i.i c.index-news-i.result c.loop-i-test.true
-        (All-weaker (λ s. HasRoom c.loop-i.rows s.thing) (λ s. HasRoom (slice_set c.loop-i.rows thing c.reserve.new.self) s.thing)
+          (All-weaker (λ s. HasRoom c.loop-i.rows s.thing) (λ s. HasRoom (slice_set c.loop-i.rows thing c.reserve.new.self) s.thing)
           (λ s. room_set c.loop-i.rows thing c.reserve.new.self s.thing less c.in_ok-reserve.ensures.ok) (take c.loop-i.i c.args.news.now) c.loop-i.invariant.room)
-        (room_here c.loop-i.rows thing c.reserve.new.self less c.in_ok-reserve.ensures.ok);
+          (room_here c.loop-i.rows thing c.reserve.new.self less c.in_ok-reserve.ensures.ok);
     }
 
 pub returns-clause-ready : goal.returns-clause-ready
 returns-clause-ready c =
     all_ready c.loop-i.rows 0 c.args.news.now (subst (λ n. AreAscending 0 n c.args.news.now) (sym c.loop-i.auto.rows) c.requires)
-      (whole_take (λ s. HasRoom c.loop-i.rows s.thing) c.args.news.now c.loop-i.i c.loop-i-test.false c.loop-i.auto.i-end c.loop-i.invariant.room)
+    (whole_take (λ s. HasRoom c.loop-i.rows s.thing) c.args.news.now c.loop-i.i c.loop-i-test.false c.loop-i.auto.i-end c.loop-i.invariant.room)

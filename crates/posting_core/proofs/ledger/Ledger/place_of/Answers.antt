@@ -8,4 +8,4 @@ returns-clause-place c =
 pub returns-clause-within : goal.returns-clause-within
 returns-clause-within c =
     place_within _ _ c.self.inside.targets.items _ c.args.thing _ c.self.view_is c.self.invariant
-      (place_kept _ _ c.self.inside.targets.items c.deref.result.now _ c.args.thing _ _ c.self.view_is c.self.invariant c.deref.ensures.value c.target_of.ensures c.place_of_target.ensures)
+    (place_kept _ _ c.self.inside.targets.items c.deref.result.now _ c.args.thing _ _ c.self.view_is c.self.invariant c.deref.ensures.value c.target_of.ensures c.place_of_target.ensures)

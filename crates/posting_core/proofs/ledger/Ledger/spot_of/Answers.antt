@@ -9,7 +9,7 @@ pub returns-in-Move : goal.returns-in-Move
 returns-in-Move c =
     let B = c.args.self.now in
     subst (λ m. verdict_in B m ≡ Applied → option_to_list c.spot_at.result ≡ new_spots B.museum B.posted m) (sym c.in-Move.is)
-      (λ applied. found_spot B c.in-Move.thing c.in-Move.place c.in-Move.day c.args.entry c.thing_no.result c.place_no.result c.spot_at.result applied c.requires.number c.thing_no.ensures c.place_no.ensures c.spot_at.ensures) c.requires.applied
+    (λ applied. found_spot B c.in-Move.thing c.in-Move.place c.in-Move.day c.args.entry c.thing_no.result c.place_no.result c.spot_at.result applied c.requires.number c.thing_no.ensures c.place_no.ensures c.spot_at.ensures) c.requires.applied
 
 pub returns-in-SignOff : goal.returns-in-SignOff
 returns-in-SignOff c =
