@@ -19,32 +19,60 @@ const WHOLE: &str =
     place,MUSEUM-X,elsewhere\nplace,LENDER-Y,elsewhere\nbox,C1\nbox,C2\n\
     own,2001.4.1,S1-A\nown,2001.4.2,S1-A\nown,2001.4.3,S1-A\nlent,L1999.7\n";
 
-/// What a line of a run says.
-#[derive(Clone, Copy)]
-enum Sent {
-    /// A station's number, and the thing that is put straight at a place.
-    Move(&'static str, u64, &'static str, &'static str),
-    /// A station's number, its last.
-    SignOff(&'static str, u64),
-    /// A station's question where a thing is.
-    Ask(&'static str, &'static str),
-    /// These bytes.
-    Text(&'static str),
-}
+const ASKED: &str = "GAL 2001.4.1\nGAL 2009.1\n";
 
-/// The line's text, with its line feed.
-fn line(alloc: Global, sent: &Sent) -> Result<String, AllocError> {
-    match sent {
-        Sent::Move(station, n, thing, place) => format!(in alloc;
-            "{{\"station\":\"{station}\",\"n\":{n},\"message\":{{\"kind\":\"move\",\"thing\":\"{thing}\",\"place\":\"{place}\",\"day\":\"2024-05-01\"}}}}\n"
+const ASKED_REPLIES: &str = "GAL ask 2001.4.1 unplaced\nGAL ask 2009.1 unknown\n";
+
+const HELD: &str = "GAL 3 2001.4.1 S1-A\nGAL 2 2001.4.2 S2\nGAL 1 2001.4.1 S1\n";
+
+const HELD_REPLIES: &str =
+    "GAL 3 held\nGAL 2 held\nGAL 1 posted 1 Applied\nGAL 2 posted 2 Applied\nGAL 3 posted 3 Applied\n";
+
+const DOUBLE: &str =
+    "GAL 1 2001.4.1 S1\nGAL 1 2001.4.1 S2\nGAL 2001.4.1\nGAL 3 2001.4.1 S1\nGAL 3 2001.4.1 S1\n";
+
+const DOUBLE_REPLIES: &str =
+    "GAL 1 posted 1 Applied\nGAL 1 refused Double\nGAL ask 2001.4.1 at S1\nGAL 3 held\n\
+    GAL 3 refused Double\n";
+
+const EDGES: &str =
+    "GAL 257 2001.4.1 S1\nGAL 256 2001.4.1 S1\nGAL 0 2001.4.1 S1\nGAL 1000000 2001.4.1 S1\n\
+    NONE 1 2001.4.1 S1\n";
+
+const EDGES_REPLIES: &str =
+    "GAL 257 refused TooEarly\nGAL 256 held\nGAL 0 refused BadNumber\nGAL 1000000 refused BadNumber\n\
+    line 5 refused UnknownStation\n";
+
+const SIGN_OFF: &str =
+    "GAL 4 2001.4.1 S1\nGAL 5 2001.4.1 S1\nGAL 1 2001.4.1 S1\nGAL 2 2001.4.1 S1\nGAL 3 signoff\n\
+    GAL 4 2001.4.1 S1\nGAL 2 2001.4.1 S1\nGAL 68 2001.4.1 S1\nPACK 1 2001.4.1 S1\n";
+
+const SIGN_OFF_REPLIES: &str =
+    "GAL 4 held\nGAL 5 held\nGAL 1 posted 1 Applied\nGAL 2 posted 2 Applied\nGAL 3 posted 3 Applied\n\
+    GAL 4 refused SignedOff\nGAL 2 refused Double\nGAL 68 refused SignedOff\n\
+    PACK 1 posted 4 Applied\n";
+
+const ELSEWHERE: &str =
+    "GAL 2 2001.4.1 S1\nGAL 1 2001.4.1 M\nGAL 2 2001.4.1 S1\nGAL 2 2001.4.1 S1\nGAL 2001.4.1\n";
+
+const ELSEWHERE_REPLIES: &str =
+    "GAL 2 held\nGAL 1 posted 1 ElsewherePlace\nGAL 2 posted 2 Applied\nGAL 2 refused Double\n\
+    GAL 2 refused Double\nGAL ask 2001.4.1 at S1\n";
+
+/// A line of a run, with its line feed: `STATION n THING PLACE` stands for a move, `STATION n signoff` for the station's
+/// last message, and `STATION THING` for the question where the thing is.
+fn line(alloc: Global, short: &str) -> Result<String, AllocError> {
+    let mut words = short.split(' ');
+    let station = words.next().unwrap_or("");
+    let second = words.next().unwrap_or("");
+    match (words.next(), words.next()) {
+        (Some(thing), Some(place)) => format!(in alloc;
+            "{{\"station\":\"{station}\",\"n\":{second},\"message\":{{\"kind\":\"move\",\"thing\":\"{thing}\",\"place\":\"{place}\",\"day\":\"2024-05-01\"}}}}\n"
         ),
-        Sent::SignOff(station, n) => format!(in alloc;
-            "{{\"station\":\"{station}\",\"n\":{n},\"message\":{{\"kind\":\"signoff\",\"by\":\"Ann\"}}}}\n"
+        (Some(_), None) => format!(in alloc;
+            "{{\"station\":\"{station}\",\"n\":{second},\"message\":{{\"kind\":\"signoff\",\"by\":\"Ann\"}}}}\n"
         ),
-        Sent::Ask(station, thing) => format!(in alloc;
-            "{{\"station\":\"{station}\",\"ask\":\"{thing}\"}}\n"
-        ),
-        Sent::Text(text) => format!(in alloc; "{text}\n"),
+        _ => format!(in alloc; "{{\"station\":\"{station}\",\"ask\":\"{second}\"}}\n"),
     }
 }
 
@@ -60,8 +88,8 @@ fn replies(
     let mut writer = Vec::new(alloc);
     let ended = run(alloc, &mut reader, &mut writer);
     let written = String::from_utf8(writer)?;
+    assert_eq!(rt; ended, Ok(()), "end of {name}, after {written:?}");
     assert_eq!(rt; written.as_str(), want, "replies of {name}");
-    assert_eq!(rt; ended, Ok(()), "end of {name}");
     Ok(())
 }
 
@@ -79,125 +107,39 @@ fn first_run(rt: HostRuntime) -> Result<(), Fail> {
     )
 }
 
+/// Runs over the setup and these lines, each in short, and compares all replies.
+fn row(
+    rt: &impl Abort,
+    alloc: Global,
+    name: &str,
+    setup: &str,
+    sent: &str,
+    want: &str,
+) -> Result<(), Fail> {
+    let mut input = format!(in alloc; "{setup}\n")?;
+    for short in sent.lines() {
+        input.push_str(line(alloc, short)?.as_str())?;
+    }
+    replies(rt, alloc, name, input.as_str(), want)
+}
+
 #[test]
 fn rows(rt: HostRuntime) -> Result<(), Fail> {
-    let rows: &[(&str, &str, &[Sent], &[&str])] = &[
-        ("no_lines", WHOLE, &[], &[]),
-        (
-            "nothing_posted",
-            WHOLE,
-            &[Sent::Ask("GAL", "2001.4.1"), Sent::Ask("GAL", "2009.1")],
-            &["GAL ask 2001.4.1 unplaced", "GAL ask 2009.1 unknown"],
-        ),
-        (
-            "held_then_posted",
-            WHOLE,
-            &[
-                Sent::Move("GAL", 3, "2001.4.1", "S1-A"),
-                Sent::Move("GAL", 2, "2001.4.2", "S2"),
-                Sent::Move("GAL", 1, "2001.4.1", "S1"),
-            ],
-            &[
-                "GAL 3 held",
-                "GAL 2 held",
-                "GAL 1 posted 1 Applied",
-                "GAL 2 posted 2 Applied",
-                "GAL 3 posted 3 Applied",
-            ],
-        ),
-        (
-            "double",
-            WHOLE,
-            &[
-                Sent::Move("GAL", 1, "2001.4.1", "S1"),
-                Sent::Move("GAL", 1, "2001.4.1", "S2"),
-                Sent::Ask("GAL", "2001.4.1"),
-                Sent::Move("GAL", 3, "2001.4.1", "S1"),
-                Sent::Move("GAL", 3, "2001.4.1", "S1"),
-            ],
-            &[
-                "GAL 1 posted 1 Applied",
-                "GAL 1 refused Double",
-                "GAL ask 2001.4.1 at S1",
-                "GAL 3 held",
-                "GAL 3 refused Double",
-            ],
-        ),
-        (
-            "window_edges",
-            WHOLE,
-            &[
-                Sent::Move("GAL", 257, "2001.4.1", "S1"),
-                Sent::Move("GAL", 256, "2001.4.1", "S1"),
-                Sent::Move("GAL", 0, "2001.4.1", "S1"),
-                Sent::Move("GAL", 1_000_000, "2001.4.1", "S1"),
-                Sent::Move("NONE", 1, "2001.4.1", "S1"),
-            ],
-            &[
-                "GAL 257 refused TooEarly",
-                "GAL 256 held",
-                "GAL 0 refused BadNumber",
-                "GAL 1000000 refused BadNumber",
-                "line 5 refused UnknownStation",
-            ],
-        ),
-        (
-            "sign_off",
-            WHOLE,
-            &[
-                Sent::Move("GAL", 4, "2001.4.1", "S1"),
-                Sent::Move("GAL", 5, "2001.4.1", "S1"),
-                Sent::Move("GAL", 1, "2001.4.1", "S1"),
-                Sent::Move("GAL", 2, "2001.4.1", "S1"),
-                Sent::SignOff("GAL", 3),
-                Sent::Move("GAL", 4, "2001.4.1", "S1"),
-                Sent::Move("GAL", 2, "2001.4.1", "S1"),
-                Sent::Move("GAL", 68, "2001.4.1", "S1"),
-                Sent::Move("PACK", 1, "2001.4.1", "S1"),
-            ],
-            &[
-                "GAL 4 held",
-                "GAL 5 held",
-                "GAL 1 posted 1 Applied",
-                "GAL 2 posted 2 Applied",
-                "GAL 3 posted 3 Applied",
-                "GAL 4 refused SignedOff",
-                "GAL 2 refused Double",
-                "GAL 68 refused SignedOff",
-                "PACK 1 posted 4 Applied",
-            ],
-        ),
+    for (name, setup, sent, want) in [
+        ("no_lines", WHOLE, "", ""),
+        ("nothing_posted", WHOLE, ASKED, ASKED_REPLIES),
+        ("held_then_posted", WHOLE, HELD, HELD_REPLIES),
+        ("double", WHOLE, DOUBLE, DOUBLE_REPLIES),
+        ("window_edges", WHOLE, EDGES, EDGES_REPLIES),
+        ("sign_off", WHOLE, SIGN_OFF, SIGN_OFF_REPLIES),
         (
             "window_of_one",
             WITH_ELSEWHERE,
-            &[
-                Sent::Move("GAL", 2, "2001.4.1", "S1"),
-                Sent::Move("GAL", 1, "2001.4.1", "M"),
-                Sent::Move("GAL", 2, "2001.4.1", "S1"),
-                Sent::Move("GAL", 2, "2001.4.1", "S1"),
-                Sent::Ask("GAL", "2001.4.1"),
-            ],
-            &[
-                "GAL 2 held",
-                "GAL 1 posted 1 ElsewherePlace",
-                "GAL 2 posted 2 Applied",
-                "GAL 2 refused Double",
-                "GAL 2 refused Double",
-                "GAL ask 2001.4.1 at S1",
-            ],
+            ELSEWHERE,
+            ELSEWHERE_REPLIES,
         ),
-    ];
-    for (name, setup, sent, want) in rows {
-        let mut input = format!(in rt.alloc(); "{setup}\n")?;
-        for sent in *sent {
-            input.push_str(line(rt.alloc(), sent)?.as_str())?;
-        }
-        let mut text = String::new(rt.alloc());
-        for reply in *want {
-            text.push_str(reply)?;
-            text.push_str("\n")?;
-        }
-        replies(&rt, rt.alloc(), name, input.as_str(), text.as_str())?;
+    ] {
+        row(&rt, rt.alloc(), name, setup, sent, want)?;
     }
     Ok(())
 }
@@ -205,19 +147,12 @@ fn rows(rt: HostRuntime) -> Result<(), Fail> {
 #[test]
 fn bad_lines(rt: HostRuntime) -> Result<(), Fail> {
     let mut input = format!(in rt.alloc(); "{SMALL}\n")?;
-    for sent in [
-        Sent::Text("{\"station\":\"GAL\""),
-        Sent::Text(""),
-        Sent::Text("{\"n\":1}"),
-        Sent::Text("{\"station\":\"GAL\",\"n\":1}"),
-        Sent::Text("{\"station\":\"GAL\",\"n\":1,\"message\":{\"kind\":\"lend\"}}"),
-        Sent::Text(
-            "{\"station\":\"GAL\",\"n\":1,\"message\":{\"kind\":\"move\",\"thing\":\"2001.4.1\",\"place\":\"S1\",\"day\":\"2023-02-29\"}}",
-        ),
-        Sent::Ask("NONE", "2001.4.1"),
-    ] {
-        input.push_str(line(rt.alloc(), &sent)?.as_str())?;
-    }
+    input.push_str("{\"station\":\"GAL\"\n\n{\"n\":1}\n{\"station\":\"GAL\",\"n\":1}\n")?;
+    input.push_str("{\"station\":\"GAL\",\"n\":1,\"message\":{\"kind\":\"lend\"}}\n")?;
+    input.push_str(
+        "{\"station\":\"GAL\",\"n\":1,\"message\":{\"kind\":\"move\",\"thing\":\"2001.4.1\",\"place\":\"S1\",\"day\":\"2023-02-29\"}}\n",
+    )?;
+    input.push_str("{\"station\":\"NONE\",\"ask\":\"2001.4.1\"}\n")?;
     for _ in 0..16_385 {
         input.push_str("x")?;
     }
@@ -236,21 +171,22 @@ fn bad_lines(rt: HostRuntime) -> Result<(), Fail> {
 
 #[test]
 fn window_full(rt: HostRuntime) -> Result<(), Fail> {
-    let mut input = format!(in rt.alloc(); "{SMALL}\n")?;
+    let mut sent = String::new(rt.alloc());
     let mut want = String::new(rt.alloc());
     for n in 2..257u64 {
-        input.push_str(line(rt.alloc(), &Sent::Move("GAL", n, "2001.4.1", "S1"))?.as_str())?;
+        sent.push_str(format!(in rt.alloc(); "GAL {n} 2001.4.1 S1\n")?.as_str())?;
         want.push_str(format!(in rt.alloc(); "GAL {n} held\n")?.as_str())?;
     }
-    input.push_str(line(rt.alloc(), &Sent::Move("GAL", 1, "2001.4.1", "S1"))?.as_str())?;
+    sent.push_str("GAL 1 2001.4.1 S1\n")?;
     for n in 1..257u64 {
         want.push_str(format!(in rt.alloc(); "GAL {n} posted {n} Applied\n")?.as_str())?;
     }
-    replies(
+    row(
         &rt,
         rt.alloc(),
         "window_full",
-        input.as_str(),
+        SMALL,
+        sent.as_str(),
         want.as_str(),
     )
 }
