@@ -1,8 +1,7 @@
 -- What a ledger's fields keep, before and after an entry.
-use Rattle.std.specs.Prelude.{ℕ, ℤ, ◌≡◌, ◌+◌, ◌<◌, ◌==◌, Bool, true, false, if◌then◌else◌, List, [], ◌∷◌, ◌++◌, Option, None, Some, length, replicate, zero, suc, refl, IfSome, slice_get, slice_set}
-use Rattle.std.specs.List.{filter_map, range_with_len}
-use Rattle.std.specs.Option.{option_map, option_map_or, option_to_list}
-use Rattle.std.proofs.Common.{ap, ◌∙◌, sym, subst, arith, ◌⊎◌, inl, inr, length-set}
+use Rattle.std.specs.Prelude.{ℕ, ℤ, ◌≡◌, ◌+◌, ◌<◌, ◌==◌, true, false, if◌then◌else◌, List, [], ◌∷◌, ◌++◌, Option, None, Some, length, replicate, zero, suc, refl, IfSome, slice_get, slice_set}
+use Rattle.std.specs.Option.{option_map, option_to_list}
+use Rattle.std.proofs.Common.{ap, ◌∙◌, sym, subst, arith, inl, inr, length-set}
 use Rattle.std.proofs.Math.Path.{fun_ext}
 use Rattle.std.proofs.lemmas.Bool.{cases_eq}
 use Rattle.std.proofs.lemmas.Bool.Decides.{nat_tests}
@@ -11,7 +10,7 @@ use Rattle.nest_core.specs.declared.put.Target.{Target}
 use Rattle.nest_core.specs.declared.put.Target.TheVariants.{At}
 use Rattle.nest_core.specs.declared.put.Put.{Put}
 use Rattle.nest_core.specs.Museum.{Museum}
-use Rattle.nest_core.specs.Puts.{last, with_put, place, place_of, place_by}
+use Rattle.nest_core.specs.Puts.{last, with_put, place, place_of}
 use Rattle.posting_core.specs.declared.message.Message.{Message}
 use Rattle.posting_core.specs.declared.message.Message.TheVariants.{Move, SignOff}
 use Rattle.posting_core.specs.declared.verdict.Verdict.{Verdict}
@@ -22,8 +21,7 @@ use Rattle.posting_core.specs.declared.entry.NewSpot.{NewSpot}
 use Rattle.posting_core.specs.declared.entry.Changes.{Changes}
 use Rattle.posting_core.specs.Messages.{thing_no, place_no, day_of}
 use Rattle.posting_core.specs.History.{puts, put_in, put_by, is_applied, spots, spot_from, place_at}
-use Rattle.posting_core.specs.Verdicts.{verdict}
-use Rattle.posting_core.specs.Lawful.{Follows, IsLawful}
+use Rattle.posting_core.specs.Lawful.{Follows}
 use Rattle.posting_core.specs.Book.{Book, place_in, spots_in, verdict_in, place_after, new_spot, new_spots, changes_of}
 use Rattle.posting_core.specs.Rows.{listed, targets_after, row_of, rows_after, AreAscending, IsKept}
 use Rattle.posting_core.proofs.Flat.{flat_puts, flat_after, place_flat, put_known, IsKnownPut, places_known, move_applied, thing_below}

@@ -1,7 +1,6 @@
 -- The definitions computed on worked rows: what a reader can follow by hand, each proved by computing.
-use Rattle.std.specs.Prelude.{ℕ, ℤ, pos, ◌+◌, ◌≡◌, ◌<◌, ◌≤◌, Bool, true, false, List, [], ◌∷◌, Option, Some, None, map, length, reverse, refl, codes}
+use Rattle.std.specs.Prelude.{ℕ, ℤ, pos, ◌+◌, ◌≡◌, ◌<◌, ◌≤◌, true, false, List, [], ◌∷◌, Some, None, map, reverse, refl, codes}
 use Rattle.std.proofs.Common.{arith, sym}
-use Rattle.nest_core.specs.declared.put.Put.{Put}
 use Rattle.nest_core.specs.declared.put.Target.TheVariants.{At}
 use Rattle.nest_core.specs.Museum.{Museum}
 use Rattle.posting_core.specs.declared.message.Message.{Message}
@@ -10,11 +9,10 @@ use Rattle.posting_core.specs.declared.verdict.Verdict.{Verdict}
 use Rattle.posting_core.specs.declared.verdict.Verdict.TheVariants.{Applied, UnknownThing, UnknownPlace, ElsewherePlace, NotHere}
 use Rattle.posting_core.specs.declared.entry.Entry.{Entry}
 use Rattle.posting_core.specs.declared.entry.Spot.{Spot}
-use Rattle.posting_core.specs.Messages.{thing_no, place_no}
-use Rattle.posting_core.specs.History.{puts, chain_at, place_at, carried_at, spots}
+use Rattle.posting_core.specs.History.{puts, chain_at, carried_at, spots}
 use Rattle.posting_core.specs.Verdicts.{verdict}
 use Rattle.posting_core.specs.Lawful.{Follows, IsLawful, count_at, is_signed_off}
-use Rattle.posting_core.specs.Book.{Book, place_in, spots_in, verdict_in, changes_of}
+use Rattle.posting_core.specs.Book.{Book, place_in, changes_of}
 
 -- two stations, three places of the museum's own and two partners', two crates, three own objects and a borrowed one
 abbrev museum : Museum

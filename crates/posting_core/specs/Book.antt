@@ -1,5 +1,5 @@
 -- What a ledger is, what posting a message changes in it, and what it answers.
-use Rattle.std.specs.Prelude.{ℕ, ℤ, ◌+◌, Bool, List, [], length, Option, Some, None, if◌then◌else◌}
+use Rattle.std.specs.Prelude.{ℕ, ℤ, ◌+◌, List, [], length, Option, if◌then◌else◌}
 use Rattle.std.specs.List.{range_with_len, filter_map}
 use Rattle.std.specs.Option.{option_map}
 use Rattle.nest_core.specs.Museum.{Museum}

@@ -1,5 +1,5 @@
 -- The verdict on a message after the entries P: the first of its kind's rows that holds.
-use Rattle.std.specs.Prelude.{ℕ, Bool, true, false, not, List, [], ◌∷◌, Option, Some, None, if◌then◌else◌, is_some, codes}
+use Rattle.std.specs.Prelude.{ℕ, Bool, not, List, [], ◌∷◌, Option, Some, None, if◌then◌else◌, is_some, codes}
 use Rattle.nest_core.specs.Museum.{Museum, find_thing, find_place, is_elsewhere, is_borrowed}
 use Rattle.posting_core.specs.declared.message.Message.{Message}
 use Rattle.posting_core.specs.declared.message.Message.TheVariants.{Move, SignOff}

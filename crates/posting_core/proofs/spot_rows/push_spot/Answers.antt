@@ -1,8 +1,6 @@
 use Rattle.std.proofs.Common.{subst, sym, IfSome, [], ◌≤◌, ◌+◌, vec_len, vec_capacity, arith, get_or}
-use Rattle.std.specs.List.{slice_get}
 use Rattle.std.proofs.lemmas.Option.{slice_get-get_or}
 use Rattle.posting_core.proofs.Rooms.{holds_at, row_written, get_set_other}
-use Rattle.posting_core.specs.Rows.{HasRoom}
 use Rattle.posting_core.proofs.spot_rows.push_spot.Goals as goal
 
 pub unwrap-requires : goal.unwrap-requires

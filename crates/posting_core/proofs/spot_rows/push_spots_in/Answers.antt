@@ -1,4 +1,4 @@
-use Rattle.std.proofs.Common.{◌∙◌, ◌+◌, sym, subst, ap, arith, drop, get_or}
+use Rattle.std.proofs.Common.{◌∙◌, ◌+◌, sym, subst, ap, arith, drop}
 use Rattle.posting_core.specs.Rows.{AreReady, lists, rows_after}
 use Rattle.posting_core.proofs.Rooms.{next_drop, ready_kept}
 use Rattle.posting_core.proofs.spot_rows.push_spots_in.Goals as goal

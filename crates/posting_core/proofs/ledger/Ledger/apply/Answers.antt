@@ -1,4 +1,4 @@
-use Rattle.std.proofs.Common.{ap, ◌∙◌, sym, reverse, length, refl, List, ◌∷◌, ◌++◌, []}
+use Rattle.std.proofs.Common.{ap, ◌∙◌, sym, reverse, List, ◌∷◌, ◌++◌, []}
 use Rattle.std.proofs.lemmas.List.{length-map, reverse-append}
 use Rattle.posting_core.specs.declared.entry.Entry.{Entry}
 use Rattle.posting_core.specs.declared.entry.Spot.{Spot}

@@ -1,5 +1,4 @@
 use Rattle.std.proofs.Common.{ap, reverse}
-use Rattle.posting_core.specs.Rows.{lists}
 use Rattle.posting_core.proofs.Posted.{kept_new}
 use Rattle.posting_core.proofs.ledger.Ledger.new.Goals as goal
 
