@@ -1,7 +1,7 @@
 -- The posted list cut to one station is that station's run.
-use Rattle.std.proofs.Common.{◌≡◌, ◌≢◌, ℕ, zero, suc, ◌+◌, ◌-◌, ◌<◌, ◌==◌, Bool, true, false, List, [], ◌∷◌, ◌++◌, length, Option, Some, None, refl, ap, ◌∙◌, sym, subst, arith, append_assoc, append-nil}
+use Rattle.std.proofs.Common.{◌≡◌, ◌≢◌, ℕ, zero, suc, ◌+◌, ◌-◌, ◌<◌, ◌==◌, true, false, List, [], ◌∷◌, ◌++◌, length, Option, Some, None, refl, ap, ◌∙◌, sym, subst, arith, append_assoc, append-nil}
 use Rattle.std.proofs.lemmas.Bool.Decides.{nat_tests}
-use Rattle.std.specs.Prelude.{fold, map, reverse}
+use Rattle.std.specs.Prelude.{fold}
 use Rattle.std.proofs.lemmas.List.Sums.{fold-append}
 use Rattle.nest_core.specs.Museum.{Museum}
 use Rattle.posting_core.specs.declared.message.Message.{Message}
@@ -13,7 +13,7 @@ use Rattle.station_core.proofs.BoolLemmas.{by_bool}
 use Rattle.station_core.proofs.StationLemmas.{accepted}
 use Rattle.station_core.proofs.GrowLemmas.{run_grows, run_other}
 use Rattle.hub_core.specs.declared.answer.Arrival.{Arrival}
-use Rattle.hub_core.specs.Points.{seen, arrival_of, post, Point, point_with, point_after, point, cut}
+use Rattle.hub_core.specs.Points.{seen, post, Point, point_with, point_after, point, cut}
 use Rattle.hub_core.proofs.StandLemmas.{point_refused, point_accepted}
 
 module _ (S : Museum) (depth : ℕ) where

@@ -3,3 +3,4 @@ pub mod PostLemmas
 pub mod StandLemmas
 pub mod TextLemmas
 pub mod CutLemmas
+pub mod RequestLemmas

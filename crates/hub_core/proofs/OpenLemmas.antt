@@ -1,17 +1,16 @@
 -- A hub with nothing posted.
-use Rattle.std.proofs.Common.{◌≡◌, ℕ, zero, suc, ◌<◌, Bool, true, false, List, [], ◌∷◌, length, Option, Some, None, refl, ap, ◌∙◌, sym, subst, arith}
+use Rattle.std.proofs.Common.{◌≡◌, ℕ, zero, suc, ◌<◌, false, List, [], length, Some, None, refl, ap, ◌∙◌, sym, subst, arith}
 use Rattle.std.specs.Prelude.{map, replicate, slice_get}
 use Rattle.std.proofs.lemmas.List.{length-map, length-replicate}
 use Rattle.nest_core.specs.Museum.{Museum}
 use Rattle.posting_core.specs.declared.message.Message.{Message}
 use Rattle.posting_core.specs.declared.entry.Entry.{Entry}
 use Rattle.posting_core.specs.Messages.{is_sign_off}
-use Rattle.posting_core.specs.Book.{Book}
 use Rattle.station_core.specs.declared.Start.{Start}
 use Rattle.station_core.specs.Series.{Series, series_at, opened}
-use Rattle.station_core.specs.Progress.{StartsFrom, AllStart, AllMatch}
+use Rattle.station_core.specs.Progress.{StartsFrom, AllStart}
 use Rattle.station_core.proofs.GrowLemmas.{starts_empty}
-use Rattle.hub_core.specs.StandsFor.{State, StandsFor, InStep}
+use Rattle.hub_core.specs.StandsFor.{InStep}
 
 abbrev fresh : Start
 fresh = record { posted = 0; signed = false }

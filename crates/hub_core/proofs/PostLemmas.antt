@@ -1,7 +1,6 @@
 -- The posting of what is due.
-use Rattle.std.proofs.Common.{◌≡◌, ◌≢◌, ℕ, zero, suc, ◌+◌, ◌-◌, ◌<◌, ◌≤◌, ◌==◌, ◌&&◌, ◌||◌, ◌⊎◌, inl, inr, Bool, true, false, List, [], ◌∷◌, ◌++◌, length, Option, Some, None, refl, ap, ◌∙◌, sym, subst, arith, add-one, length-set, if◌then◌else◌}
+use Rattle.std.proofs.Common.{◌≡◌, ◌≢◌, ℕ, suc, ◌+◌, ◌-◌, ◌<◌, ◌≤◌, ◌==◌, ◌||◌, inl, inr, Bool, true, false, List, [], ◌∷◌, length, Some, None, refl, ap, ◌∙◌, sym, subst, arith, length-set, if◌then◌else◌}
 use Rattle.std.specs.Prelude.{fold, slice_set}
-use Rattle.std.specs.List.{list_any}
 use Rattle.std.proofs.lemmas.List.Sums.{fold-append}
 use Rattle.std.proofs.lemmas.Bool.{cases_eq}
 use Rattle.std.proofs.lemmas.Bool.Decides.{nat_tests}
@@ -19,7 +18,7 @@ use Rattle.std.specs.Prelude.{slice_get, unwrap_or, is_some, nat_lt, nat_le}
 use Rattle.station_core.specs.declared.Refusal.TheVariants.{BadNumber, Double, SignedOff, TooEarly}
 use Rattle.station_core.specs.Series.{Series, series, series_at, counted, closed, refusal_of, refusal_in, held_at, window}
 use Rattle.station_core.specs.Runs.{Arrived, arrived, message_at, ready, due}
-use Rattle.station_core.specs.Progress.{IsPosting, IsEnding, AllMatch, ComesDue}
+use Rattle.station_core.specs.Progress.{IsEnding, AllMatch, ComesDue}
 use Rattle.station_core.proofs.BoolLemmas.{by_bool}
 use Rattle.station_core.proofs.RunLemmas.{due_next}
 use Rattle.station_core.proofs.StationLemmas.{series_at_set_same, series_at_set_other}

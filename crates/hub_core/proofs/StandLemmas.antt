@@ -1,23 +1,21 @@
 -- What a hub stands for, after one more arrival.
-use Rattle.std.proofs.Common.{◌≡◌, ◌≢◌, ℕ, ◌+◌, ◌-◌, ◌<◌, ◌≤◌, ◌==◌, Bool, true, false, if◌then◌else◌, List, [], ◌∷◌, ◌++◌, length, Option, Some, None, refl, ap, ◌∙◌, sym, subst, arith, length-set}
+use Rattle.std.proofs.Common.{◌≡◌, ℕ, ◌+◌, ◌-◌, ◌<◌, ◌==◌, true, false, List, [], ◌∷◌, ◌++◌, length, Option, Some, None, refl, ap, ◌∙◌, sym, subst, arith}
 use Rattle.std.proofs.lemmas.Bool.Decides.{nat_tests}
-use Rattle.std.specs.Prelude.{fold, slice_set, map, reverse}
+use Rattle.std.specs.Prelude.{slice_set, map, reverse}
 use Rattle.std.proofs.lemmas.List.Sums.{fold_push}
 use Rattle.std.proofs.lemmas.List.{length-reverse}
 use Rattle.nest_core.specs.Museum.{Museum}
 use Rattle.posting_core.specs.declared.message.Message.{Message}
 use Rattle.posting_core.specs.declared.entry.Entry.{Entry}
 use Rattle.posting_core.specs.Messages.{is_sign_off}
-use Rattle.posting_core.specs.Book.{Book}
 use Rattle.station_core.specs.Series.{Series, series_at, with_held}
-use Rattle.station_core.specs.Runs.{Arrived, arrived, ready, refusal, taken_after, due}
+use Rattle.station_core.specs.Runs.{Arrived, ready, refusal}
 use Rattle.station_core.specs.Progress.{IsPosting, AllMatch}
 use Rattle.station_core.specs.declared.Refusal.{Refusal}
 use Rattle.station_core.proofs.StationLemmas.{taken_refused, taken_accepted, series_at_set_same, accepted}
 use Rattle.hub_core.specs.declared.answer.Arrival.{Arrival}
-use Rattle.hub_core.specs.declared.answer.Answer.{Answer}
 use Rattle.hub_core.specs.declared.answer.Answer.TheVariants.{Refused, Held, Posted}
-use Rattle.hub_core.specs.Points.{seen, post, Point, point_with, point_after, point, reply, reply_from, arrival_of}
+use Rattle.hub_core.specs.Points.{seen, Point, point_with, point_after, point, reply, reply_from, arrival_of}
 use Rattle.hub_core.specs.StandsFor.{State, StandsFor, InStep, Done}
 
 abbrev pub refused_at : Museum → Point → Arrival → Option Refusal

@@ -1,5 +1,5 @@
 -- Texts joined of parts.
-use Rattle.std.proofs.Common.{◌≡◌, ℕ, ◌+◌, ◌<◌, zero, suc, List, [], ◌∷◌, ◌++◌, length, take, map, get_or, refl, ap, ◌∙◌, sym, arith, append_assoc, append-nil, Bor}
+use Rattle.std.proofs.Common.{◌≡◌, ℕ, ◌+◌, ◌<◌, List, [], ◌∷◌, ◌++◌, length, take, map, get_or, refl, ap, ◌∙◌, sym, append_assoc, append-nil, Bor}
 use Rattle.std.proofs.lemmas.List.{take_more}
 use Rattle.std.specs.List.{concat}
 

@@ -1,5 +1,9 @@
 //! Lines read: what a station asks by one.
-ghost use Rattle.std.specs.Prelude.{◌≡◌, ◌<◌, length, IfOk, IfSome};
+ghost use Rattle.std.specs.Prelude.{◌≡◌, ◌≢◌, ◌<◌, length, Ok, Err, IfOk, IfSome, MatchResult};
+ghost use Rattle.serde_json.specs.View.{view};
+ghost use Rattle.serde_json.specs.Find.{get};
+ghost use Rattle.register_store.specs.Spelling.{key_name};
+ghost use Rattle.hub_core.specs.Requests.{number_from, message_from, request_of, line_of, line_in};
 
 use codes_core::ThingCode;
 use nest_core::{Setup, StationNo};
@@ -26,38 +30,63 @@ pub struct Line {
 /// BadField of what it asks; of a scan Missing and BadField of the number, then of the message, then the message's
 /// own. NoMemory may stand in place of any answer.
 pub fn read_line(alloc: Global, setup: &Setup, bytes: &[u8]) -> Result<Line, ReadFault>
-    ensures { IfOk result (λ line. IfSome line.station (λ s. s < length setup.now.stations)) }
+    ensures exact { MatchResult result (λ line. line_in setup.now bytes.now ≡ Ok line)
+        (λ fault. fault ≢ ReadFault.NoMemory → line_in setup.now bytes.now ≡ Err fault) }
+    ensures within { IfOk result (λ line. IfSome line.station (λ s. s < length setup.now.stations)) }
 {
-    let value = match Value::from_slice(alloc, bytes) {
-        Ok(value) => value,
-        Err(error) if error.is_memory() => return Err(ReadFault::NoMemory),
-        Err(_) => return Err(ReadFault::NotJson),
-    };
+    match Value::from_slice(alloc, bytes) {
+        Ok(value) => line_of(alloc, setup, &value),
+        Err(error) if error.is_memory() => Err(ReadFault::NoMemory),
+        Err(_) => Err(ReadFault::NotJson),
+    }
+}
+
+/// What a value asks.
+fn line_of(alloc: Global, setup: &Setup, value: &Value) -> Result<Line, ReadFault>
+    ensures exact { MatchResult result (λ line. line_of setup.now (view value.now) ≡ Ok line)
+        (λ fault. fault ≢ ReadFault.NoMemory → line_of setup.now (view value.now) ≡ Err fault) }
+    ensures within { IfOk result (λ line. IfSome line.station (λ s. s < length setup.now.stations)) }
+{
     if !value.is_object() {
         return Err(ReadFault::NotJson);
     }
-    let station = setup.station(string_at(&value, Key::Station)?);
-    let request = request_of(alloc, &value)?;
+    let station = setup.station(string_at(value, Key::Station)?);
+    let request = request_of(alloc, value)?;
     Ok(Line { station, request })
 }
 
-fn request_of(alloc: Global, object: &Value) -> Result<Request, ReadFault> {
+/// What an object asks.
+fn request_of(alloc: Global, object: &Value) -> Result<Request, ReadFault>
+    ensures exact { MatchResult result (λ request. request_of (view object.now) ≡ Ok request)
+        (λ fault. fault ≢ ReadFault.NoMemory → request_of (view object.now) ≡ Err fault) }
+{
     if object.get(Key::Ask.name()).is_some() {
         let code = thing_at(object, Key::Ask)?;
         return Ok(Request::Ask { code });
     }
-    let n = number_at(object, Key::N)?;
+    let n = number_of(object)?;
+    let message = message_at(alloc, object)?;
+    Ok(Request::Scan { n, message })
+}
+
+/// The number of a message, else Missing or BadField.
+fn number_of(object: &Value) -> Result<u64, ReadFault>
+    ensures exact { MatchResult result (λ n. number_from (get (key_name Key.N) (view object.now)) ≡ Ok n)
+        (λ fault. number_from (get (key_name Key.N) (view object.now)) ≡ Err fault) }
+{
+    value_at(object, Key::N)?
+        .as_u64()
+        .ok_or(ReadFault::BadField(Key::N))
+}
+
+/// The message of an object, else Missing or BadField of its key, or the message's own fault.
+fn message_at(alloc: Global, object: &Value) -> Result<Message, ReadFault>
+    ensures exact { MatchResult result (λ message. message_from (get (key_name Key.Message) (view object.now)) ≡ Ok message)
+        (λ fault. fault ≢ ReadFault.NoMemory → message_from (get (key_name Key.Message) (view object.now)) ≡ Err fault) }
+{
     let message = value_at(object, Key::Message)?;
     if !message.is_object() {
         return Err(ReadFault::BadField(Key::Message));
     }
-    let message = message_of(alloc, message)?;
-    Ok(Request::Scan { n, message })
-}
-
-/// The whole number at a key.
-fn number_at(object: &Value, key: Key) -> Result<u64, ReadFault> {
-    value_at(object, key)?
-        .as_u64()
-        .ok_or(ReadFault::BadField(key))
+    message_of(alloc, message)
 }

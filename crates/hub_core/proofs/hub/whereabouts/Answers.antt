@@ -1,4 +1,4 @@
-use Rattle.std.proofs.Common.{◌≡◌, ◌∙◌, ap, sym, Option, List, ℕ, []}
+use Rattle.std.proofs.Common.{◌∙◌, ap, sym, Option, List, ℕ}
 use Rattle.std.specs.Option.{option_map_or}
 use Rattle.nest_core.specs.Museum.{Museum, find_thing}
 use Rattle.posting_core.proofs.Flat.{chain_flat}

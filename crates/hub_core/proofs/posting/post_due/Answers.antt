@@ -1,9 +1,8 @@
-use Rattle.std.proofs.Common.{◌≡◌, ◌+◌, ◌<◌, ◌∙◌, sym, ap, subst, arith, length, List, ◌∷◌, refl}
+use Rattle.std.proofs.Common.{◌≡◌, ◌+◌, ◌<◌, ◌∙◌, sym, ap, subst, arith, length, refl}
 use Rattle.station_core.specs.Series.{series_at, Series, counted, closed}
-use Rattle.station_core.specs.Runs.{arrived}
 use Rattle.posting_core.specs.declared.message.Message.{Message}
 use Rattle.posting_core.specs.Book.{Book}
-use Rattle.hub_core.proofs.PostLemmas.{IsPosted, written, written_again, posted_list, posted_step, caught_next, done_stop, done_sign}
+use Rattle.hub_core.proofs.PostLemmas.{IsPosted, written, written_again, posted_list, posted_step, caught_next, done_sign}
 use Rattle.hub_core.proofs.posting.post_due.Goals as goal
 
 pub loop-n-smaller : goal.loop-n-smaller

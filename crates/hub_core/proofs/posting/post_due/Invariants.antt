@@ -1,4 +1,4 @@
-use Rattle.std.proofs.Common.{◌≡◌, ◌-◌, ℕ, List, length, false}
+use Rattle.std.proofs.Common.{◌≡◌, ◌-◌, List, length, false}
 use Rattle.posting_core.specs.declared.message.Message.{Message}
 use Rattle.posting_core.specs.Messages.{is_sign_off}
 use Rattle.station_core.specs.Series.{series_at}

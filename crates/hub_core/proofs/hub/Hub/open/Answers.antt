@@ -1,4 +1,4 @@
-use Rattle.std.proofs.Common.{ap, ◌∙◌, refl, sym, subst, [], length, map}
+use Rattle.std.proofs.Common.{ap, ◌∙◌, refl, sym, [], length, map}
 use Rattle.posting_core.specs.Book.{Book}
 use Rattle.posting_core.specs.Messages.{is_sign_off}
 use Rattle.station_core.specs.Series.{opened}

@@ -1,0 +1,68 @@
+-- What the bytes of a line ask, else their first fault.
+use Rattle.std.specs.Prelude.{ℕ, true, List, Option, Some, None, option_and_then, is_some, Result, Ok, Err, if◌then◌else◌}
+use Rattle.std.specs.Str.{is_utf8}
+use Rattle.serde_json.specs.Data.{Data}
+use Rattle.serde_json.specs.Find.{get, as_number, as_u64, as_object}
+use Rattle.serde_json.specs.Read.{read}
+use Rattle.nest_core.specs.Museum.{Museum, find_station}
+use Rattle.posting_core.specs.declared.message.Message as message
+use Rattle.register_store.specs.declared.fault.ReadFault.{ReadFault}
+use Rattle.register_store.specs.declared.fault.ReadFault.TheVariants.{NotJson, Missing, BadField}
+use Rattle.register_store.specs.declared.key.Key.TheVariants.{Station, N, Message, Ask}
+use Rattle.register_store.specs.Spelling.{key_name, is_thing}
+use Rattle.register_store.specs.Kinds.{◌spells◌, text_at, fault_at, of_json}
+use Rattle.hub_core.specs.declared.reader.Line.{Line}
+use Rattle.hub_core.specs.declared.reader.Request.{Request}
+use Rattle.hub_core.specs.declared.reader.Request.TheVariants as asks
+
+-- an answer, where there is no fault before it
+abbrev pub unless : {T : Type 0} → Option ReadFault → Result T ReadFault → Result T ReadFault
+unless None answer = answer
+unless (Some fault) answer = Err fault
+
+-- the whole number of 64 bits that a value is
+abbrev pub whole_number : Data → Option ℕ
+whole_number d = option_and_then as_u64 (as_number d)
+
+abbrev pub number_or : Option ℕ → Result ℕ ReadFault
+number_or None = Err (BadField N)
+number_or (Some n) = Ok n
+
+abbrev pub number_from : Option Data → Result ℕ ReadFault
+number_from None = Err (Missing N)
+number_from (Some d) = number_or (whole_number d)
+
+-- a message is an object
+abbrev pub message_from : Option Data → Result message.Message ReadFault
+message_from None = Err (Missing Message)
+message_from (Some d) = if is_some (as_object d) then of_json d else Err (BadField Message)
+
+-- the number's fault comes before the message's
+abbrev pub scan_of : Result ℕ ReadFault → Result message.Message ReadFault → Result Request ReadFault
+scan_of (Err fault) m = Err fault
+scan_of (Ok n) (Err fault) = Err fault
+scan_of (Ok n) (Ok m) = Ok (asks.Scan n m)
+
+-- where a question is there, a number and a message aren't looked at
+abbrev pub request_of : Data → Result Request ReadFault
+request_of d =
+    if is_some (get (key_name Ask) d) then unless (fault_at d (Ask spells is_thing)) (Ok (asks.Ask (text_at d Ask)))
+    else scan_of (number_from (get (key_name N) d)) (message_from (get (key_name Message) d))
+
+abbrev pub line_with : Option ℕ → Result Request ReadFault → Result Line ReadFault
+line_with station (Ok request) = Ok (record { station = station; request = request })
+line_with station (Err fault) = Err fault
+
+-- the station is any string; which one it is comes last
+abbrev pub line_of : Museum → Data → Result Line ReadFault
+line_of S d =
+    if is_some (as_object d)
+    then unless (fault_at d (Station spells (λ text. true))) (line_with (find_station S (text_at d Station)) (request_of d))
+    else Err NotJson
+
+abbrev pub line_read : Museum → Option Data → Result Line ReadFault
+line_read S None = Err NotJson
+line_read S (Some d) = line_of S d
+
+abbrev pub line_in : Museum → List ℕ → Result Line ReadFault
+line_in S bytes = if is_utf8 bytes then line_read S (read bytes) else Err NotJson
