@@ -4,3 +4,4 @@ pub mod StandLemmas
 pub mod TextLemmas
 pub mod CutLemmas
 pub mod RequestLemmas
+pub mod WorkedRows

@@ -1,0 +1,113 @@
+-- The definitions computed on worked rows.
+use Rattle.std.specs.Fmt.{digits}
+use Rattle.std.specs.Prelude.{ℕ, pos, ◌≡◌, true, [], ◌∷◌, Some, refl, codes, Ok, Err}
+use Rattle.serde_json.specs.Data.{Data, Members, string, number, unsigned, array, object, no_items, no_members, put}
+use Rattle.nest_core.specs.Museum.{Museum}
+use Rattle.posting_core.specs.declared.message.Message.TheVariants.{Move}
+use Rattle.station_core.specs.declared.Refusal.TheVariants.{BadNumber, Double, TooEarly}
+use Rattle.station_core.specs.Series.{window}
+use Rattle.station_core.specs.Runs.{arrived}
+use Rattle.register_store.specs.declared.fault.ReadFault.TheVariants.{NotJson, Missing, BadField}
+use Rattle.register_store.specs.declared.key.Key.TheVariants as key
+use Rattle.hub_core.specs.declared.answer.Arrival.{Arrival}
+use Rattle.hub_core.specs.declared.answer.Answer.TheVariants.{Refused, Held, Posted}
+use Rattle.hub_core.specs.declared.answer.Where.TheVariants.{UnknownThing, Unplaced, At}
+use Rattle.hub_core.specs.declared.reader.Request.TheVariants.{Ask}
+use Rattle.hub_core.specs.Lines.{without_return}
+use Rattle.hub_core.specs.Requests.{line_of}
+use Rattle.hub_core.specs.Points.{reply, posted, whereabouts, cut}
+use Rattle.hub_core.specs.Replies.{refused_line, unknown_station_line, held_line, posted_line, bad_line, asked_line}
+
+abbrev museum : Museum
+museum = record {
+  stations = codes "GAL" ∷ [];
+  places = (codes "S1", true) ∷ [];
+  things = (codes "2001.4.1", Some 0) ∷ [];
+}
+
+-- number n of GAL moves the object to S1
+abbrev moved : ℕ → Arrival
+moved n = record { station = 0; n = n; message = Move (codes "2001.4.1") (codes "S1") (pos 19844) }
+
+pub held : reply museum 12 [] [] (moved 2) ≡ Held
+unfolding window
+held = refl
+
+pub held_then_posted : reply museum 12 [] (moved 2 ∷ []) (moved 1) ≡ Posted 1 2
+unfolding window
+held_then_posted = refl
+
+pub double : reply museum 12 [] (moved 2 ∷ []) (moved 2) ≡ Refused Double
+unfolding window
+double = refl
+
+pub window_edge : reply museum 12 [] [] (moved 257) ≡ Refused TooEarly
+unfolding window
+window_edge = refl
+
+pub no_number : reply museum 12 [] [] (moved 0) ≡ Refused BadNumber
+unfolding window
+no_number = refl
+
+-- in whatever order they come, GAL's messages are posted in theirs
+pub one_station : cut 0 (posted museum 12 [] (moved 2 ∷ moved 1 ∷ [])) ≡ arrived 0 1 (moved 1).message ∷ arrived 0 2 (moved 2).message ∷ []
+unfolding window
+one_station = refl
+
+pub at_a_place : whereabouts museum (posted museum 12 [] (moved 1 ∷ [])) (codes "2001.4.1") ≡ At 0 []
+unfolding window
+at_a_place = refl
+
+pub nothing_posted : whereabouts museum [] (codes "2001.4.1") ≡ Unplaced
+nothing_posted = refl
+
+pub not_in_the_setup : whereabouts museum [] (codes "2009.1") ≡ UnknownThing
+not_in_the_setup = refl
+
+pub returned : without_return (codes "a\r") ≡ codes "a"
+returned = refl
+
+-- a line of GAL with these members beside
+abbrev of_gal : Members → Data
+of_gal members = object (put (codes "station") (string (codes "GAL")) members)
+
+pub question : line_of museum (of_gal (put (codes "ask") (string (codes "2001.4.1")) no_members)) ≡ Ok (record { station = Some 0; request = Ask (codes "2001.4.1") })
+question = refl
+
+pub wrong_question : line_of museum (of_gal (put (codes "ask") (string (codes "2001.04")) no_members)) ≡ Err (BadField key.Ask)
+wrong_question = refl
+
+pub no_request : line_of museum (of_gal no_members) ≡ Err (Missing key.N)
+no_request = refl
+
+pub no_message : line_of museum (of_gal (put (codes "n") (number (unsigned 1)) no_members)) ≡ Err (Missing key.Message)
+no_message = refl
+
+pub no_station : line_of museum (object no_members) ≡ Err (Missing key.Station)
+no_station = refl
+
+pub a_list : line_of museum (array no_items) ≡ Err NotJson
+a_list = refl
+
+pub first_run : posted_line (codes "GAL") 1 1 (codes "Applied") ≡ codes "GAL 1 posted 1 Applied\n"
+unfolding digits
+first_run = refl
+
+pub first_run_asked : asked_line (codes "GAL") (codes "2001.4.1") (codes "at S1") ≡ codes "GAL ask 2001.4.1 at S1\n"
+first_run_asked = refl
+
+pub held_text : held_line (codes "GAL") 3 ≡ codes "GAL 3 held\n"
+unfolding digits
+held_text = refl
+
+pub refused_text : refused_line (codes "GAL") 0 (codes "BadNumber") ≡ codes "GAL 0 refused BadNumber\n"
+unfolding digits
+refused_text = refl
+
+pub unknown_station : unknown_station_line 5 ≡ codes "line 5 refused UnknownStation\n"
+unfolding digits
+unknown_station = refl
+
+pub bad_text : bad_line 4 (codes "Missing n") ≡ codes "line 4 bad Missing n\n"
+unfolding digits
+bad_text = refl
