@@ -1,0 +1,78 @@
+-- The definitions computed on worked texts: each code beside its nearest wrong neighbours.
+use Rattle.std.specs.Prelude.{◌≡◌, true, false, Some, None, [], refl, codes}
+use Rattle.codes_core.specs.declared.fault.CodeFault.TheVariants.{Empty, BadShape, BadNumber, NoSuchDay}
+use Rattle.codes_core.specs.declared.thing.ThingKind.TheVariants.{Own, Borrowed, Container}
+use Rattle.codes_core.specs.Thing.{thing_kind, thing_fault}
+use Rattle.codes_core.specs.Loan.{is_out, loan_fault}
+use Rattle.codes_core.specs.Place.{place_fault, lies_in}
+use Rattle.codes_core.specs.Day.{day_fault}
+
+pub own : thing_fault (codes "2001.4.2a") ≡ None
+own = refl
+
+pub own_kind : thing_kind (codes "2001.4.2a") ≡ Own
+own_kind = refl
+
+pub year_alone : thing_fault (codes "2001") ≡ Some BadShape
+year_alone = refl
+
+pub leading_zero : thing_fault (codes "2001.04") ≡ Some BadNumber
+leading_zero = refl
+
+pub seven_digits : thing_fault (codes "2001.1000000") ≡ Some BadNumber
+seven_digits = refl
+
+pub borrowed : thing_fault (codes "L1999.7") ≡ None
+borrowed = refl
+
+pub borrowed_kind : thing_kind (codes "L1999.7") ≡ Borrowed
+borrowed_kind = refl
+
+pub container : thing_fault (codes "C17") ≡ None
+container = refl
+
+pub container_kind : thing_kind (codes "C17") ≡ Container
+container_kind = refl
+
+pub container_zero : thing_fault (codes "C0") ≡ Some BadNumber
+container_zero = refl
+
+pub nothing : thing_fault [] ≡ Some Empty
+nothing = refl
+
+pub loan_out : loan_fault (codes "LO2024.1") ≡ None
+loan_out = refl
+
+pub loan_out_is_out : is_out (codes "LO2024.1") ≡ true
+loan_out_is_out = refl
+
+pub loan_in_is_not : is_out (codes "LI2024.1") ≡ false
+loan_in_is_not = refl
+
+pub loan_zero : loan_fault (codes "LO2024.01") ≡ Some BadNumber
+loan_zero = refl
+
+pub loan_letter : loan_fault (codes "LO2024.1a") ≡ Some BadShape
+loan_letter = refl
+
+pub four_segments : place_fault (codes "A-B-C-D") ≡ None
+four_segments = refl
+
+pub five_segments : place_fault (codes "A-B-C-D-E") ≡ Some BadShape
+five_segments = refl
+
+-- a place lies in a place by segments, not by bytes
+pub shelf_in_store : lies_in (codes "S1-A") (codes "S1") ≡ true
+shelf_in_store = refl
+
+pub ten_not_in_one : lies_in (codes "S10") (codes "S1") ≡ false
+ten_not_in_one = refl
+
+pub a_day : day_fault (codes "2024-05-01") ≡ None
+a_day = refl
+
+pub no_leap_day : day_fault (codes "2023-02-29") ≡ Some NoSuchDay
+no_leap_day = refl
+
+pub short_month : day_fault (codes "2024-5-01") ≡ Some BadShape
+short_month = refl
