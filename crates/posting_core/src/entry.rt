@@ -16,7 +16,7 @@ pub struct Entry {
 }
 
 /// A place at which a thing came to be: the number of the entry, from 1, that brought it there, and the day.
-#[derive(Clone, Copy, Debug, PartialEq, Eq)]
+#[derive(Clone, Copy, Debug, PartialEq, Eq, PartialOrd, Ord)]
 pub struct Spot {
     pub entry: u64,
     pub place: PlaceNo,
@@ -24,7 +24,7 @@ pub struct Spot {
 }
 
 /// A new spot of a thing, with its number, from 1, in the thing's list.
-#[derive(Clone, Copy, Debug, PartialEq, Eq)]
+#[derive(Clone, Copy, Debug, PartialEq, Eq, PartialOrd, Ord)]
 pub struct NewSpot {
     pub thing: ThingNo,
     pub k: u64,

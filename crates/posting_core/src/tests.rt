@@ -258,5 +258,6 @@ fn verdicts_by_number(rt: HostRuntime) {
     for (number, (verdict, name)) in all.iter().enumerate() {
         assert_eq!(rt; verdict.number() as usize, number);
         assert_eq!(rt; verdict.name(), *name);
+        assert_eq!(rt; Verdict::numbered(number as u32), Some(*verdict));
     }
 }

@@ -1,5 +1,5 @@
 //! The verdicts.
-ghost use Rattle.std.specs.Prelude.{◌≡◌};
+ghost use Rattle.std.specs.Prelude.{◌≡◌, ◌≢◌, IfSome, IfNone};
 ghost use Rattle.posting_core.specs.Verdicts.{verdict_number, verdict_name};
 
 /// What the rules say to a message, in the order in which they are asked: the first refusal that holds, else Applied.
@@ -34,6 +34,8 @@ pub enum Verdict {
 }
 
 impl Verdict {
+    ghost use Rattle.posting_core.specs.declared.verdict.Verdict.{Verdict};
+
     /// Its number in the table of verdicts, from 0, which is Applied.
     pub fn number(self) -> u32
         ensures { result ≡ verdict_number self }
@@ -65,6 +67,42 @@ impl Verdict {
             Verdict::WrongStage => 23,
             Verdict::TermOver => 24,
             Verdict::NotLater => 25,
+        }
+    }
+
+    /// The verdict of a number of the table; none above 25.
+    pub fn numbered(number: u32) -> Option<Verdict>
+        ensures some { IfSome result (λ verdict. verdict_number verdict ≡ number) }
+        ensures none { IfNone result ((verdict : Verdict) → verdict_number verdict ≢ number) }
+    {
+        match number {
+            0 => Some(Verdict::Applied),
+            1 => Some(Verdict::UnknownThing),
+            2 => Some(Verdict::UnknownPlace),
+            3 => Some(Verdict::ElsewherePlace),
+            4 => Some(Verdict::UnknownContainer),
+            5 => Some(Verdict::UnknownLoan),
+            6 => Some(Verdict::LoanKnown),
+            7 => Some(Verdict::InsidePartner),
+            8 => Some(Verdict::NoObjects),
+            9 => Some(Verdict::NotObject),
+            10 => Some(Verdict::Repeated),
+            11 => Some(Verdict::WrongOwner),
+            12 => Some(Verdict::BadTerm),
+            13 => Some(Verdict::AlreadyAuthorised),
+            14 => Some(Verdict::NotAuthorised),
+            15 => Some(Verdict::WrongDirection),
+            16 => Some(Verdict::NotHere),
+            17 => Some(Verdict::ContainerNotHere),
+            18 => Some(Verdict::Cycle),
+            19 => Some(Verdict::TooDeep),
+            20 => Some(Verdict::NotWithPartner),
+            21 => Some(Verdict::AlreadyHere),
+            22 => Some(Verdict::NotListed),
+            23 => Some(Verdict::WrongStage),
+            24 => Some(Verdict::TermOver),
+            25 => Some(Verdict::NotLater),
+            _ => None,
         }
     }
 

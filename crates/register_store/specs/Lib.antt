@@ -1,3 +1,5 @@
 pub mod Spelling
 pub mod Kinds
 pub mod MessageText
+pub mod StoredRows
+pub mod Registers

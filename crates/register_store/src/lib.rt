@@ -1,4 +1,4 @@
-//! The text of messages, and what keeps a register.
+//! The text of messages, and what keeps a posted list.
 #![tactic(auto)]
 
 mod fault;
@@ -6,6 +6,8 @@ mod field;
 mod key;
 mod message_reader;
 mod message_writer;
+mod register;
+mod store_fault;
 #[cfg(test)]
 mod tests;
 
@@ -14,3 +16,5 @@ pub use field::{string_at, thing_at, value_at};
 pub use key::Key;
 pub use message_reader::{message_of, read_message};
 pub use message_writer::message_text;
+pub use register::Register;
+pub use store_fault::StoreFault;
