@@ -1,6 +1,5 @@
 -- What the texts at an object's keys spell.
-use Rattle.std.proofs.Common.{◌≡◌, ℕ, ◌<◌, ◌≤◌, nat_lt, nat_le, ◌&&◌, Bool, true, false, List, [], length, Option, Some, None, option_and_then, unwrap_or, if◌then◌else◌, Result, Ok, Err, MatchResult, ok_or, is_none, refl, ap, sym, ◌∙◌, rules, arith, lt-ltb, le-leb}
-use Rattle.std.specs.List.{list_all}
+use Rattle.std.proofs.Common.{◌≡◌, ℕ, Bool, true, List, [], Option, Some, None, option_and_then, unwrap_or, if◌then◌else◌, Result, Ok, Err, MatchResult, ok_or, is_none, refl, ap, ◌∙◌, lt-ltb, le-leb}
 use Rattle.std.specs.Str.{is_utf8}
 use Rattle.std.specs.Result.{result_ok}
 use Rattle.std.proofs.lemmas.Bool.{and_from}
@@ -9,9 +8,8 @@ use Rattle.serde_json.specs.Data.{Data}
 use Rattle.serde_json.specs.Find.{as_str}
 use Rattle.serde_json.specs.Read.{read}
 use Rattle.codes_core.specs.declared.fault.CodeFault.{CodeFault}
-use Rattle.codes_core.specs.Name.{IsName, is_name_byte}
+use Rattle.codes_core.specs.Name.{IsName}
 use Rattle.codes_core.specs.Day.{day_number}
-use Rattle.register_store.specs.declared.fault.ReadFault.{ReadFault}
 use Rattle.register_store.specs.declared.fault.ReadFault.TheVariants.{BadField}
 use Rattle.register_store.specs.declared.key.Key.{Key}
 use Rattle.register_store.specs.Spelling.{is_name}

@@ -1,2 +1,8 @@
 pub mod Fields
 pub mod RoundTrip
+pub mod Lists
+pub mod OneList
+pub mod ListedRows
+pub mod SpotRows
+pub mod SpotOrder
+pub mod Kept

@@ -1,5 +1,6 @@
 -- A message has one object and one text.
-use Rattle.std.proofs.Common.{◌≡◌, ℕ, ◌≤◌, false, List, [], ◌∷◌, codes, sym, ap, ◌∙◌, arith}
+use Rattle.std.proofs.Common.{◌≡◌, ℕ, ◌≤◌, false, List, [], ◌∷◌, codes, Ok, sym, ap, ◌∙◌, arith}
+use Rattle.register_store.specs.Kinds.{of_bytes}
 use Rattle.serde_json.specs.Data.{Data, object, depth}
 use Rattle.serde_json.specs.Read.{max_depth}
 use Rattle.serde_json.specs.Written.{has_float, compact_text}
@@ -23,3 +24,7 @@ one_object (SignOff name) d e h k = h ∙ sym k
 
 pub one_text : (m : message.Message) (a b : List ℕ) → IsTextOf m a → IsTextOf m b → a ≡ b
 one_text m a b h k = h.2 ∙ ap compact_text (one_object m h.0 k.0 h.1 k.1) ∙ sym k.2
+
+-- bytes spell one message
+pub one_message : (m n : message.Message) (bytes : List ℕ) → of_bytes bytes ≡ Ok m → of_bytes bytes ≡ Ok n → m ≡ n
+one_message m n bytes h k = cc

@@ -3,3 +3,4 @@ pub mod Kinds
 pub mod MessageText
 pub mod StoredRows
 pub mod Registers
+pub mod Plain

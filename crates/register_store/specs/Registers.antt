@@ -1,7 +1,7 @@
 -- What a register promises of its faults and of what they leave.
-use Rattle.std.specs.Prelude.{ℕ, ◌≡◌, ◌≢◌, ◌⊎◌, ◌+◌, ◌-◌, ◌^◌, ◌<◌, ◌≤◌, ◌==◌, ◌&&◌, min, Bool, true, false, not, nat_lt, List, [], ◌∷◌, ◌++◌, length, reverse, All, Result, Ok, Err, codes}
+use Rattle.std.specs.Prelude.{ℕ, ◌≡◌, ◌+◌, ◌-◌, ◌^◌, ◌<◌, ◌≤◌, ◌==◌, ◌&&◌, min, Bool, true, false, not, List, [], ◌∷◌, ◌++◌, length, reverse, All, Result, Ok, Err, codes}
 use Rattle.std.specs.List.{list_any}
-use Rattle.std.specs.List.Sorted.{IsPermutation, IsSortedBy}
+use Rattle.std.specs.List.Sorted.{IsPermutation, IsNonDecreasingBy}
 use Rattle.std.specs.Str.{bytes_eq}
 use Rattle.nest_core.specs.Museum.{Museum}
 use Rattle.posting_core.specs.declared.entry.Entry.{Entry}
@@ -25,6 +25,14 @@ is_failure Store = true
 is_failure OtherSetup = false
 is_failure (Damaged at) = false
 is_failure OtherVersion = false
+
+-- what only a store outside can answer
+abbrev pub is_of_store : StoreFault → Bool
+is_of_store NoMemory = false
+is_of_store Store = true
+is_of_store OtherSetup = false
+is_of_store (Damaged at) = false
+is_of_store OtherVersion = true
 
 -- the store is new: it says nothing of itself
 abbrev pub is_new : List MetaRow → Bool
@@ -60,18 +68,28 @@ pub record IsOfStation (stations : ℕ) (e : Entry) : Type 0 where
   pub first : 1 ≤ e.n
   pub few : e.n ≤ 999999
 
--- in the order of the rows' numbers, this is the first that is no row of an entry
-pub record IsFirstWrong (stations at : ℕ) (c : Content) : Type 0 where
+-- no entry of these stations has such a row under this number
+abbrev pub IsWrongRow : ℕ → ℕ → PostingRow → Type 0
+IsWrongRow stations number row = (e : Entry) → IsPostingRow number e row → IsOfStation stations e → ⊥
+
+-- of these rows, oldest first, the first wrong one has this number
+pub record IsWrongAt (stations at : ℕ) (rows : List PostingRow) : Type 0 where
   pub before : List PostingRow
   pub row : PostingRow
   pub after : List PostingRow
-  pub all : IsPermutation (before ++ row ∷ after) c.postings
-  pub order : IsSortedBy (λ a b. nat_lt a.id b.id) (before ++ row ∷ after)
-  pub count : length before + 1 ≡ at
+  pub split : rows ≡ before ++ row ∷ after
+  pub number : length before + 1 ≡ at
   pub entries : List Entry
   pub right : ArePostings entries (reverse before)
   pub stationed : All (IsOfStation stations) entries
-  pub wrong : (e : Entry) → IsPostingRow at e row → IsOfStation stations e → ⊥
+  pub wrong : IsWrongRow stations at row
+
+-- in the order of the rows' numbers, the first wrong row has this number
+pub record IsFirstWrong (stations at : ℕ) (c : Content) : Type 0 where
+  pub rows : List PostingRow
+  pub all : IsPermutation rows c.postings
+  pub order : IsNonDecreasingBy (λ row. row.id) rows
+  pub first : IsWrongAt stations at rows
 
 -- why a store can't list its entries
 abbrev pub IsListFault : ℕ → Content → StoreFault → Type 0

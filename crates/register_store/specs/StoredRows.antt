@@ -1,11 +1,13 @@
 -- What a register keeps of a posted list, row by row. Rows stand newest first; a store may hold them in any order.
 use Rattle.std.specs.Prelude.{ℕ, ◌≡◌, ◌+◌, ◌==◌, ◌||◌, Bool, true, Ok, List, [], ◌∷◌, ◌++◌, length, reverse, if◌then◌else◌, codes}
+use Rattle.std.specs.List.{flat_map, range_with_len}
 use Rattle.std.specs.List.Sorted.{IsPermutation}
 use Rattle.nest_core.specs.Museum.{Museum}
 use Rattle.nest_core.specs.SetupTexts.{setup_rows}
 use Rattle.posting_core.specs.declared.entry.Entry.{Entry}
+use Rattle.posting_core.specs.declared.entry.Spot.{Spot}
 use Rattle.posting_core.specs.declared.entry.NewSpot.{NewSpot}
-use Rattle.posting_core.specs.History.{is_applied}
+use Rattle.posting_core.specs.History.{is_applied, spots}
 use Rattle.posting_core.specs.Verdicts.{verdict_number}
 use Rattle.posting_core.specs.Book.{new_spots}
 use Rattle.register_store.specs.Kinds.{of_bytes}
@@ -83,6 +85,15 @@ written S P e = if is_applied e.verdict then new_spots S P e.message else []
 abbrev pub rows_of_spots : Museum → List Entry → List NewSpot
 rows_of_spots S [] = []
 rows_of_spots S (e ∷ P) = reverse (written S P e) ++ rows_of_spots S P
+
+-- a thing's spots as rows, each with its number in the thing's list
+abbrev pub rows_of_thing : ℕ → ℕ → List Spot → List NewSpot
+rows_of_thing x k [] = []
+rows_of_thing x k (spot ∷ spots) = record { thing = x; k = k; spot = spot } ∷ rows_of_thing x (k + 1) spots
+
+-- the spots of all things, by looking back
+abbrev pub rows_by_thing : Museum → List Entry → List NewSpot
+rows_by_thing S P = flat_map (λ x. rows_of_thing x 1 (spots S P x)) (range_with_len 0 (length S.things))
 
 -- the store has this list of entries
 pub record HasList (P : List Entry) (c : Content) : Type 0 where

@@ -6,7 +6,9 @@ mod field;
 mod key;
 mod message_reader;
 mod message_writer;
+mod plain;
 mod register;
+mod rows;
 mod store_fault;
 #[cfg(test)]
 mod tests;
@@ -16,5 +18,6 @@ pub use field::{string_at, thing_at, value_at};
 pub use key::Key;
 pub use message_reader::{message_of, read_message};
 pub use message_writer::message_text;
+pub use plain::{NEW_DEPTH, PlainRegister};
 pub use register::Register;
 pub use store_fault::StoreFault;

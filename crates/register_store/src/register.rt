@@ -3,7 +3,7 @@ ghost use Rattle.std.specs.Prelude.{◌≡◌, ◌↔◌, ◌⊎◌, ℕ, Bool, 
 ghost use Rattle.std.specs.Bool.{Decides};
 ghost use Rattle.std.specs.List.Sorted.{IsPermutation};
 ghost use Rattle.register_store.specs.StoredRows.{Content, PostingRow, IsBoundTo, HasList, IsPostingRow, rows_of_spots, with_posted};
-ghost use Rattle.register_store.specs.Registers.{CountsRefusal, is_failure, bound_to, IsBindFault, IsOfStation, IsListFault};
+ghost use Rattle.register_store.specs.Registers.{CountsRefusal, is_failure, is_of_store, bound_to, IsBindFault, IsOfStation, IsListFault};
 
 use crate::StoreFault;
 use nest_core::Setup;
@@ -31,6 +31,9 @@ pub trait Register {
     /// How often it has answered Store, up to the last number of 64 bits.
     ghost refusals: { Self → ℕ };
 
+    /// Such a register can answer Store and OtherVersion.
+    ghost can_refuse: { Bool };
+
     /// Makes a new store for the setup, with the depth limit 12, or compares an old one, which stays as it is; answers
     /// the store's depth limit. The faults, first that holds: OtherVersion; Damaged(0), where what the store says of
     /// itself isn't whole; OtherSetup. NoMemory and Store can stand in place of any answer.
@@ -44,7 +47,8 @@ pub trait Register {
         ensures refused { is_quiet self.new → IfErr result (λ fault. is_failure fault ≡ false → (c : Content) → holds self.old c → holds self.new c) }
         ensures ready { OnOk result ((is_bound self.new ≡ true) × (stations self.new ≡ length setup.now.stations)) }
         ensures not_ready { OnErr result ((is_bound self.new ≡ is_bound self.old) × (stations self.new ≡ stations self.old)) }
-        ensures count { CountsRefusal (refusals self.old) (refusals self.new) result };
+        ensures count { CountsRefusal (refusals self.old) (refusals self.new) result }
+        ensures able { IfErr result (λ fault. is_of_store fault ≡ true → can_refuse ≡ true) };
 
     /// All entries, oldest first. Damaged(i) for the least i, in the order of the rows' numbers, whose row hasn't
     /// number i, a station of the setup, a number 1 to 999,999, a verdict's number, and a message's one text.
@@ -56,7 +60,8 @@ pub trait Register {
         ensures cause { is_quiet self.new → IfErr result (λ fault. (c : Content) → holds self.new c → IsListFault (stations self.old) c fault) }
         ensures unchanged { is_quiet self.new → (c : Content) → holds self.old c ↔ holds self.new c }
         ensures still { (is_bound self.new ≡ true) × (stations self.new ≡ stations self.old) }
-        ensures count { CountsRefusal (refusals self.old) (refusals self.new) result };
+        ensures count { CountsRefusal (refusals self.old) (refusals self.new) result }
+        ensures able { IfErr result (λ fault. is_of_store fault ≡ true → can_refuse ≡ true) };
 
     /// Adds an entry and the spots of its changes, whole or, where it answers NoMemory or Store, perhaps not at all.
     fn post(&mut self, alloc: Global, entry: &Entry, changes: &Changes) -> Result<(), StoreFault>
@@ -68,7 +73,8 @@ pub trait Register {
             ⊎ ((row : PostingRow) × IsPostingRow changes.now.entry entry.now row × holds self.new (with_posted row changes.now.spots c))) }
         ensures faults { IfErr result (λ fault. is_failure fault ≡ true) }
         ensures still { (is_bound self.new ≡ true) × (stations self.new ≡ stations self.old) }
-        ensures count { CountsRefusal (refusals self.old) (refusals self.new) result };
+        ensures count { CountsRefusal (refusals self.old) (refusals self.new) result }
+        ensures able { IfErr result (λ fault. is_of_store fault ≡ true → can_refuse ≡ true) };
 
     /// Whether the rows of spots are exactly those of the ledger.
     fn agrees(&mut self, alloc: Global, ledger: &Ledger) -> Result<bool, StoreFault>
@@ -80,5 +86,6 @@ pub trait Register {
         ensures faults { IfErr result (λ fault. is_failure fault ≡ true) }
         ensures unchanged { is_quiet self.new → (c : Content) → holds self.old c ↔ holds self.new c }
         ensures still { (is_bound self.new ≡ true) × (stations self.new ≡ stations self.old) }
-        ensures count { CountsRefusal (refusals self.old) (refusals self.new) result };
+        ensures count { CountsRefusal (refusals self.old) (refusals self.new) result }
+        ensures able { IfErr result (λ fault. is_of_store fault ≡ true → can_refuse ≡ true) };
 }

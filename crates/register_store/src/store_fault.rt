@@ -1,7 +1,7 @@
 //! Why a register gives no answer.
 
 use codes_core::NoMemory;
-use std::alloc::AllocError;
+use std::alloc::{AllocError, AllocFailed};
 use thiserror::Error;
 
 /// Why a register gives no answer.
@@ -42,6 +42,17 @@ impl From<NoMemory> for StoreFault {
     ghost from_gives = { λ _ e. e ≡ faults.NoMemory };
 
     fn from(_fault: NoMemory) -> StoreFault {
+        StoreFault::NoMemory
+    }
+}
+
+impl<T: Drop> From<AllocFailed<T>> for StoreFault {
+    ghost use Rattle.std.specs.Prelude.{◌≡◌};
+    ghost use Rattle.register_store.specs.declared.store_fault.StoreFault.TheVariants as faults;
+
+    ghost from_gives = { λ _ e. e ≡ faults.NoMemory };
+
+    fn from(_error: AllocFailed<T>) -> StoreFault {
         StoreFault::NoMemory
     }
 }

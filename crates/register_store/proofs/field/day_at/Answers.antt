@@ -1,10 +1,6 @@
-use Rattle.std.proofs.Common.{rules, ◌≡◌, Option, ok_or, ap, sym, ◌∙◌, ℤ, subst, MatchResult, Result, List, ℕ, None, Some}
-use Rattle.std.specs.Result.{result_ok}
-use Rattle.codes_core.specs.declared.fault.CodeFault.{CodeFault}
-use Rattle.codes_core.specs.Day.{day_number, day_fault}
+use Rattle.std.proofs.Common.{Option, ok_or, ap, ◌∙◌, ℤ}
+use Rattle.codes_core.specs.Day.{day_fault}
 use Rattle.register_store.specs.declared.fault.ReadFault.TheVariants.{BadField}
-use Rattle.register_store.specs.Kinds.{text_at}
-use Rattle.serde_json.specs.View.{view}
 use Rattle.register_store.proofs.Fields.{read_there, day_there}
 use Rattle.register_store.proofs.field.day_at.Goals as goal
 

@@ -1,4 +1,4 @@
-use Rattle.std.proofs.Common.{rules, arith, ◌≡◌, true, ap, sym, subst, ◌∙◌, Some, None, unwrap_or, if◌then◌else◌, Option, List, [], ℕ}
+use Rattle.std.proofs.Common.{◌≡◌, true, ap, sym, subst, ◌∙◌, unwrap_or, Option, List, [], ℕ}
 use Rattle.codes_core.specs.Name.{IsName}
 use Rattle.register_store.proofs.Fields.{text_fault, name_passes}
 use Rattle.register_store.specs.Spelling.{is_name}

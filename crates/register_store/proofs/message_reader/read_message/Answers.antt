@@ -1,12 +1,9 @@
-use Rattle.std.proofs.Common.{rules, ◌≡◌, List, ℕ, Bool, true, false, refl, ap, sym, ◌∙◌, Result, Some, None, Ok, Err, if◌then◌else◌}
+use Rattle.std.proofs.Common.{◌≡◌, List, ℕ, Bool, true, false, refl, ap, None, Err, if◌then◌else◌}
 use Rattle.std.specs.Str.{is_utf8, IsUtf8}
 use Rattle.std.proofs.lemmas.Str.{is_utf8-from_IsUtf8, IsUtf8-from_is_utf8}
-use Rattle.serde_json.specs.Data.{Data}
 use Rattle.serde_json.specs.Read.{read}
-use Rattle.posting_core.specs.declared.message.Message.{Message}
-use Rattle.register_store.specs.declared.fault.ReadFault.{ReadFault}
 use Rattle.register_store.specs.declared.fault.ReadFault.TheVariants.{NotJson}
-use Rattle.register_store.specs.Kinds.{of_bytes, of_json, of_read}
+use Rattle.register_store.specs.Kinds.{of_bytes, of_read}
 use Rattle.register_store.proofs.Fields.{of_value}
 use Rattle.register_store.proofs.message_reader.read_message.Goals as goal
 

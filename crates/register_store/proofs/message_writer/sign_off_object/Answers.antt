@@ -1,4 +1,4 @@
-use Rattle.std.proofs.Common.{rules, arith, ◌≡◌, true}
+use Rattle.std.proofs.Common.{rules, ◌≡◌, true}
 use Rattle.serde_json.specs.declared.value.Value.{the_lemmas}
 use Rattle.register_store.specs.Spelling.{is_name}
 use Rattle.register_store.proofs.Fields.{name_passes}

@@ -1,0 +1,34 @@
+use Rattle.std.proofs.Common.{rules, ◌+◌, reverse, take, drop, ap}
+use Rattle.std.proofs.lemmas.List.Sorted.{IsPermutation-reverse, All-permutation}
+use Rattle.register_store.specs.Registers.{IsOfStation}
+use Rattle.register_store.proofs.Lists.{split_at}
+use Rattle.register_store.proofs.ListedRows.{next_row, all_next, taken_length}
+use Rattle.register_store.proofs.plain.entries_of.Goals as goal
+
+pub loop-i-preserved : goal.loop-i-preserved
+loop-i-preserved c =
+    let rows = c.args.rows.now in
+    let entry = c.in-Ok.entry in
+    record {
+      kept = next_row c.loop-i.entries.items c.push.new.self.items rows c.loop-i.i entry c.index-rows-i.result c.loop-i-test.true c.index-rows-i.is (search rules) (search rules) c.loop-i.invariant.kept;
+      stationed = all_next (IsOfStation c.args.stations) c.loop-i.entries.items c.push.new.self.items entry (search rules) (search rules) c.loop-i.invariant.stationed;
+    }
+
+pub returns-in-Err-clause-faults : goal.returns-in-Err-clause-faults
+returns-in-Err-clause-faults c other =
+    let rows = c.args.rows.now in
+    let i = c.loop-i.i in (
+      i + 1,
+      search rules,
+      record {
+        before = take i rows;
+        row = c.index-rows-i.result;
+        after = drop (i + 1) rows;
+        split = split_at rows i c.index-rows-i.result c.loop-i-test.true c.index-rows-i.is;
+        number = ap (λ n. n + 1) (taken_length rows i c.loop-i-test.true);
+        entries = reverse c.loop-i.entries.items;
+        right = c.loop-i.invariant.kept;
+        stationed = All-permutation (IsOfStation c.args.stations) c.loop-i.entries.items _ (IsPermutation-reverse c.loop-i.entries.items) c.loop-i.invariant.stationed;
+        wrong = search rules;
+      },
+    )

@@ -1,0 +1,205 @@
+//! A register in memory.
+ghost use Rattle.std.specs.Prelude.{◌≡◌, ◌≢◌, ◌↔◌, ◌⊎◌, ◌+◌, ◌∷◌, ◌++◌, [], ℕ, true, false, length, map, reverse, take, All, MatchOption, IfOk, IfErr, OnOk, OnErr, string_bytes};
+ghost use Rattle.std.specs.Bool.{Decides};
+ghost use Rattle.std.specs.List.Sorted.{IsPermutation, IsNonDecreasingBy};
+ghost use Rattle.std.specs.declared.cmp.Ordering.TheVariants.{Less};
+ghost use Rattle.sqlite_trees.specs.Tree.{IsAscending};
+ghost use Rattle.posting_core.specs.declared.entry.Entry.{Entry};
+ghost use Rattle.nest_core.specs.SetupTexts.{setup_rows};
+ghost use Rattle.register_store.specs.StoredRows.{Content, IsBoundTo, HasList, IsPostingRow, ArePostings, rows_of_spots, rows_of_thing, rows_by_thing, with_posted};
+ghost use Rattle.register_store.specs.Registers.{CountsRefusal, is_failure, bound_to, IsBindFault, IsOfStation, IsListFault, IsWrongAt};
+
+use crate::rows::{PostingRow, entry_of, is_same, row_of};
+use crate::{Register, StoreFault};
+use codes_core::NoMemory;
+use nest_core::{Setup, ThingNo};
+use posting_core::{Changes, Entry, Ledger, NewSpot, Spot};
+use std::alloc::Global;
+use std::marker::Model;
+
+/// The depth limit of a new store: how many containers may stand above a thing.
+pub const NEW_DEPTH: u32 = 12;
+
+/// A register that keeps its rows in memory, and loses them when it is dropped. It never answers Store or OtherVersion.
+#[derive(Drop)]
+pub struct PlainRegister {
+    /// The setup's rows, once it is bound.
+    setup: Option<Vec<String>>,
+    postings: Vec<PostingRow>,
+    spots: Vec<NewSpot>,
+    bound: bool,
+    stations: u32,
+}
+
+impl Model for PlainRegister {
+    ghost use Rattle.std.specs.Prelude.{reverse};
+    ghost use Rattle.register_store.specs.Plain.{Kept, texts_of, meta_of};
+    ghost use Rattle.register_store.specs.StoredRows.{numbered};
+
+    ghost Value = { Kept };
+
+    ghost view = { λ r. record {
+      content = record { setup = numbered (reverse (texts_of r.setup)); meta = meta_of r.setup; postings = reverse r.postings.items; spots = reverse r.spots.items };
+      bound = r.bound;
+      stations = r.stations;
+    } };
+}
+
+impl PlainRegister {
+    ghost use Rattle.register_store.specs.Plain.{Kept};
+
+    /// A new store, with nothing kept and no setup bound. Takes no memory.
+    pub fn new(alloc: Global) -> PlainRegister
+        ensures { result ≡ record { content = record { setup = []; meta = []; postings = []; spots = [] }; bound = false; stations = 0 } }
+    {
+        PlainRegister {
+            setup: None,
+            postings: Vec::new(alloc),
+            spots: Vec::new(alloc),
+            bound: false,
+            stations: 0,
+        }
+    }
+}
+
+impl Register for PlainRegister {
+    ghost use Rattle.std.specs.Prelude.{false, ⊤};
+    ghost use Rattle.register_store.specs.StoredRows.{AreSame};
+
+    ghost holds = { λ r c. AreSame r.content c };
+
+    ghost is_quiet = { λ r. ⊤ };
+
+    ghost is_bound = { λ r. r.bound };
+
+    ghost stations = { λ r. r.stations };
+
+    ghost refusals = { λ r. 0 };
+
+    ghost can_refuse = { false };
+
+    fn bind(&mut self, alloc: Global, setup: &Setup) -> Result<u32, StoreFault> {
+        let texts = row_texts(alloc, setup)?;
+        if !fits(&self.setup, &texts) {
+            return Err(StoreFault::OtherSetup);
+        }
+        self.setup = Some(texts);
+        self.bound = true;
+        self.stations = setup.stations();
+        Ok(NEW_DEPTH)
+    }
+
+    fn all(&mut self, alloc: Global) -> Result<Vec<Entry>, StoreFault> {
+        sort_rows(&mut self.postings);
+        entries_of(alloc, &self.postings, self.stations)
+    }
+
+    fn post(&mut self, alloc: Global, entry: &Entry, changes: &Changes) -> Result<(), StoreFault> {
+        let row = row_of(alloc, changes.entry, entry)?;
+        self.postings.reserve(1)?;
+        self.spots.extend_from_slice(changes.spots.as_slice())?;
+        self.postings.push(row).unwrap();
+        Ok(())
+    }
+
+    fn agrees(&mut self, alloc: Global, ledger: &Ledger) -> Result<bool, StoreFault> {
+        let wanted = spot_rows(alloc, ledger)?;
+        Ok(has_rows(&mut self.spots, &wanted))
+    }
+}
+
+/// The texts of a setup's rows.
+fn row_texts(alloc: Global, setup: &Setup) -> Result<Vec<String>, NoMemory>
+    ensures { IfOk result (λ texts. map string_bytes texts.items ≡ setup_rows setup.now) }
+{
+    let mut texts = Vec::new(alloc);
+    for i in 0..setup.rows() {
+        texts.push(setup.row_text(alloc, i + 1)?)?;
+    }
+    Ok(texts)
+}
+
+/// Whether the kept texts, if there are some, are these.
+fn fits(kept: &Option<Vec<String>>, texts: &[String]) -> bool
+    ensures { MatchOption kept.now (result ≡ true) (λ old. Decides result (map string_bytes old.items ≡ map string_bytes texts.now)) }
+{
+    match kept {
+        Some(old) => are_same(old, texts),
+        None => true,
+    }
+}
+
+/// Whether these are the same texts.
+fn are_same(a: &[String], b: &[String]) -> bool
+    ensures { Decides result (map string_bytes a.now ≡ map string_bytes b.now) }
+{
+    if a.len() != b.len() {
+        return false;
+    }
+    for i in 0..a.len() {
+        if !is_same(&a[i], &b[i]) {
+            return false;
+        }
+    }
+    true
+}
+
+/// The rows in the order of their numbers.
+fn sort_rows(rows: &mut Vec<PostingRow>)
+    ensures same { IsPermutation rows.old.items rows.new.items }
+    ensures order { IsNonDecreasingBy (λ row. row.id) rows.new.items }
+{
+    rows.sort_unstable_by_key(|row| row.id);
+}
+
+/// The entries of rows, oldest first; Damaged at the first that is no row of an entry of these stations.
+fn entries_of(alloc: Global, rows: &[PostingRow], stations: u32) -> Result<Vec<Entry>, StoreFault>
+    ensures kept { IfOk result (λ entries. ArePostings (reverse entries.items) (reverse rows.now)) }
+    ensures stationed { IfOk result (λ entries. All (IsOfStation stations) entries.items) }
+    ensures faults { IfErr result (λ fault. fault ≢ StoreFault.NoMemory → (at : ℕ) × (fault ≡ StoreFault.Damaged at) × IsWrongAt stations at rows.now) }
+{
+    let mut entries = Vec::new(alloc);
+    for i in 0..rows.len() {
+        match entry_of(alloc, &rows[i], i as u64 + 1, stations) {
+            Ok(entry) => entries.push(entry)?,
+            Err(fault) => return Err(fault),
+        }
+    }
+    Ok(entries)
+}
+
+/// The spots of all things as rows, ascending.
+fn spot_rows(alloc: Global, ledger: &Ledger) -> Result<Vec<NewSpot>, NoMemory>
+    ensures { IfOk result (λ rows. rows.items ≡ rows_by_thing ledger.now.museum ledger.now.posted) }
+{
+    let mut rows = Vec::new(alloc);
+    for thing in 0..ledger.setup().things() {
+        push_spots(&mut rows, thing, ledger.spots(thing))?;
+    }
+    Ok(rows)
+}
+
+/// Adds the spots of a thing as rows.
+fn push_spots(rows: &mut Vec<NewSpot>, thing: ThingNo, spots: &[Spot]) -> Result<(), NoMemory>
+    ensures { OnOk result (rows.new.items ≡ rows.old.items ++ rows_of_thing thing 1 spots.now) }
+{
+    for i in 0..spots.len() {
+        rows.push(NewSpot {
+            thing,
+            k: i as u64 + 1,
+            spot: spots[i],
+        })?;
+    }
+    Ok(())
+}
+
+/// Whether these rows, which are put in order, are the wanted ones in some order.
+fn has_rows<T: Ord + Drop>(rows: &mut Vec<T>, wanted: &[T]) -> bool
+    requires ascending { IsAscending (λ a b. T.cmp a b ≡ Less) wanted.now }
+    requires exact { (a b : _) → Decides (T.eq a b) (a ≡ b) }
+    ensures same { IsPermutation rows.old.items rows.new.items }
+    ensures told { Decides result (IsPermutation wanted.now rows.new.items) }
+{
+    rows.sort_unstable();
+    rows.as_slice() == wanted
+}

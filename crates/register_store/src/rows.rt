@@ -1,0 +1,102 @@
+//! Rows of posted entries.
+ghost use Rattle.std.specs.Prelude.{◌≡◌, ◌≢◌, IfOk, IfErr, IfSome, IfNone, Ok};
+ghost use Rattle.std.specs.Bool.{Decides};
+ghost use Rattle.posting_core.specs.declared.message.Message.{Message};
+ghost use Rattle.register_store.specs.Kinds.{of_bytes};
+ghost use Rattle.register_store.specs.MessageText.{IsTextOf};
+ghost use Rattle.register_store.specs.StoredRows.{IsPostingRow};
+ghost use Rattle.register_store.specs.Registers.{IsOfStation, IsWrongRow};
+
+use crate::{ReadFault, StoreFault, message_text, read_message};
+use codes_core::NoMemory;
+use posting_core::{Entry, Message, Verdict};
+use std::alloc::Global;
+use std::marker::Model;
+
+/// A row of the table of postings: the entry's number, from 1, and the entry with its message as text and its verdict
+/// by number.
+#[derive(Drop)]
+pub(crate) struct PostingRow {
+    pub(crate) id: u64,
+    pub(crate) station: u32,
+    pub(crate) n: u32,
+    pub(crate) body: String,
+    pub(crate) verdict: u32,
+}
+
+impl Model for PostingRow {
+    ghost use Rattle.std.specs.Prelude.{string_bytes};
+    ghost use Rattle.register_store.specs.StoredRows as rows;
+
+    ghost Value = { rows.PostingRow };
+
+    ghost view = { λ r. record { id = r.id; station = r.station; n = r.n; body = string_bytes r.body; verdict = r.verdict } };
+}
+
+/// The row of an entry.
+pub(crate) fn row_of(alloc: Global, number: u64, entry: &Entry) -> Result<PostingRow, NoMemory>
+    ensures { IfOk result (IsPostingRow number entry.now) }
+{
+    Ok(PostingRow {
+        id: number,
+        station: entry.station,
+        n: entry.n,
+        body: message_text(alloc, &entry.message)?,
+        verdict: entry.verdict.number(),
+    })
+}
+
+/// The entry of a row that is to have this number; Damaged where it is no row of an entry of these stations.
+pub(crate) fn entry_of(
+    alloc: Global,
+    row: &PostingRow,
+    number: u64,
+    stations: u32,
+) -> Result<Entry, StoreFault>
+    ensures kept { IfOk result (λ entry. IsPostingRow number entry row.now) }
+    ensures stationed { IfOk result (IsOfStation stations) }
+    ensures damaged { IfErr result (λ fault. fault ≢ StoreFault.NoMemory → fault ≡ StoreFault.Damaged number) }
+    ensures wrong { IfErr result (λ fault. fault ≢ StoreFault.NoMemory → IsWrongRow stations number row.now) }
+{
+    if row.id != number || row.station >= stations || row.n == 0 || row.n > 999_999 {
+        return Err(StoreFault::Damaged(number));
+    }
+    let Some(verdict) = Verdict::numbered(row.verdict) else {
+        return Err(StoreFault::Damaged(number));
+    };
+    let Some(message) = message_in(alloc, &row.body)? else {
+        return Err(StoreFault::Damaged(number));
+    };
+    Ok(Entry {
+        station: row.station,
+        n: row.n,
+        message,
+        verdict,
+    })
+}
+
+/// The message of which this is the one text, if it is one's.
+fn message_in(alloc: Global, body: &str) -> Result<Option<Message>, NoMemory>
+    ensures reads { IfOk result (λ found. IfSome found (λ message. of_bytes body.now ≡ Ok message)) }
+    ensures text { IfOk result (λ found. IfSome found (λ message. IsTextOf message body.now)) }
+    ensures none { IfOk result (λ found. IfNone found ((message : Message) → IsTextOf message body.now → of_bytes body.now ≡ Ok message → ⊥)) }
+{
+    let message = match read_message(alloc, body.as_bytes()) {
+        Ok(message) => message,
+        Err(ReadFault::NoMemory) => return Err(NoMemory),
+        Err(_) => return Ok(None),
+    };
+    let text = message_text(alloc, &message)?;
+    if is_same(&text, body) {
+        Ok(Some(message))
+    } else {
+        Ok(None)
+    }
+}
+
+/// Whether two texts have the same bytes.
+pub(crate) fn is_same(a: &str, b: &str) -> bool
+    ensures { Decides result (a.now ≡ b.now) }
+{
+    a == b
+}
