@@ -8,12 +8,17 @@ use Rattle.posting_core.specs.declared.message.Message.{Message}
 use Rattle.posting_core.specs.declared.entry.Entry.{Entry}
 use Rattle.posting_core.specs.Messages.{is_sign_off}
 use Rattle.station_core.specs.declared.Refusal.{Refusal}
-use Rattle.station_core.specs.Runs.{Arrived, arrived, message_at, ready, refusal, numbered, due, run}
+use Rattle.station_core.specs.Runs.{Arrived, arrived, message_at, ready, refusal, taken_after, numbered, due, run}
 use Rattle.station_core.proofs.BoolLemmas.{by_bool}
 use Rattle.station_core.proofs.StationLemmas.{accepted}
-use Rattle.station_core.proofs.GrowLemmas.{run_grows, run_other}
+use Rattle.station_core.proofs.GrowLemmas.{starts_next, run_grows, run_other}
+use Rattle.station_core.proofs.RunLemmas.{at_its_number, ready_is, stops_at_missing}
+use Rattle.station_core.specs.declared.Start.{Start}
+use Rattle.station_core.specs.Progress.{StartsFrom}
+use Rattle.posting_core.specs.Lawful.{count_at, Follows, IsLawful}
 use Rattle.hub_core.specs.declared.answer.Arrival.{Arrival}
-use Rattle.hub_core.specs.Points.{seen, post, Point, point_with, point_after, point, cut}
+use Rattle.hub_core.specs.Points.{seen, arrival_of, post, Point, point_with, point_after, point, cut}
+use Rattle.hub_core.proofs.OpenLemmas.{sent, sent_next, lawful_start}
 use Rattle.hub_core.proofs.StandLemmas.{point_refused, point_accepted}
 
 module _ (S : Museum) (depth : ℕ) where
@@ -72,5 +77,49 @@ module _ (S : Museum) (depth : ℕ) where
   runs_all p [] runs = runs
   runs_all p (r ∷ A) runs = runs_all (point_after S depth p r) A (runs_after p r runs)
 
-  pub each_run : (A : List Arrival) (s : ℕ) → cut s (point S depth [] A).posted ≡ run is_sign_off (point S depth [] A).taken s
-  each_run A = runs_all _ A (λ s. refl)
+  -- what is due of one number
+  due_one : (taken : List (Arrived Message)) (s k n : ℕ) (m : Message) → n ≡ k + 1 → message_at taken s n ≡ Some m → due taken s k 1 ≡ arrived s n m ∷ []
+  due_one taken s k n m e at = let q : k + 1 ≡ n = sym e in rw (q, at) refl
+
+  ready_start : (taken : List (Arrived Message)) (s : ℕ) (start : Start) → StartsFrom is_sign_off taken s start → ready is_sign_off taken s ≡ start.posted
+  ready_start taken s start from = ready_is is_sign_off taken s start.posted from.whole (stops_at_missing is_sign_off taken s start.posted (from.none_above (suc start.posted) (omega arith)))
+
+  run_next : (e : Entry) (P : List Entry) → Follows S depth P e → IsLawful S depth P → run is_sign_off (sent P ++ arrival_of e ∷ []) e.station ≡ run is_sign_off (sent P) e.station ++ arrival_of e ∷ []
+  run_next e P f law =
+      let s : ℕ = e.station in
+      let taken : List (Arrived Message) = sent P ++ arrival_of e ∷ [] in
+      let from = lawful_start S depth P s law in
+      let k : ready is_sign_off (sent P) s ≡ count_at s P = ready_start (sent P) s _ from in
+      let k' : ready is_sign_off taken s ≡ e.n = ready_start taken s _ (starts_next is_sign_off (sent P) (arrival_of e) _ from f.unsigned f.next) in
+      let one : ready is_sign_off taken s - ready is_sign_off (sent P) s ≡ 1 = omega (arith, k, k', f.next) in
+      let next : e.n ≡ ready is_sign_off (sent P) s + 1 = omega (arith, k, f.next) in
+      let at : message_at taken s e.n ≡ Some e.message = at_its_number (sent P) (arrival_of e) (from.none_above e.n (omega (arith, f.next))) in
+      run_grows is_sign_off (sent P) (arrival_of e) (omega (arith, next))
+      ∙ ap (λ xs. run is_sign_off (sent P) s ++ xs) (ap (due taken s (ready is_sign_off (sent P) s)) one ∙ due_one taken s (ready is_sign_off (sent P) s) e.n e.message next at)
+
+  -- a lawful list, taken as what arrived, is ready to its end
+  pub lawful_run : (P : List Entry) (s : ℕ) → IsLawful S depth P → cut s P ≡ run is_sign_off (sent P) s
+  lawful_run [] s law = refl
+  lawful_run (e ∷ P) s law =
+      (by_bool (e.station == s)
+      (λ t. let q : e.station ≡ s = grind (arith, nat_tests) in
+      subst (λ u. cut u (e ∷ P) ≡ run is_sign_off (sent P ++ arrival_of e ∷ []) u) q
+      (cut_post_same e.station P (arrival_of e) refl ∙ (ap (λ xs. xs ++ arrival_of e ∷ []) (lawful_run P e.station law.1) ∙ sym (run_next e P law.0 law.1))))
+      (λ f. let q : e.station ≢ s = grind (arith, nat_tests) in
+      cut_post_other s P (arrival_of e) q ∙ (lawful_run P s law.1 ∙ sym (run_other is_sign_off (sent P) (arrival_of e) s q))))
+      ∙ ap (λ (taken : List (Arrived Message)). run is_sign_off taken s) (sym (sent_next e P))
+
+  -- a lawful list was lawful before
+  posts_lawful : (P : List Entry) (xs : List (Arrived Message)) → IsLawful S depth (fold (post S depth) P xs) → IsLawful S depth P
+  posts_lawful P [] law = law
+  posts_lawful P (x ∷ xs) law = (posts_lawful (post S depth P x) xs law).1
+
+  point_lawful : (p : Point) (A : List Arrival) → IsLawful S depth (fold (point_after S depth) p A).posted → IsLawful S depth p.posted
+  point_lawful p [] law = law
+  point_lawful p (r ∷ A) law =
+      let taken : List (Arrived Message) = taken_after is_sign_off (length S.stations) p.taken (seen r) in
+      let k : ℕ = ready is_sign_off p.taken r.station in
+      posts_lawful p.posted (due taken r.station k (ready is_sign_off taken r.station - k)) (point_lawful (point_after S depth p r) A law)
+
+  pub each_run : (O : List Entry) (A : List Arrival) (s : ℕ) → IsLawful S depth (point S depth O A).posted → cut s (point S depth O A).posted ≡ run is_sign_off (point S depth O A).taken s
+  each_run O A s law = runs_all (record { posted = O; taken = sent O }) A (λ t. lawful_run O t (point_lawful (record { posted = O; taken = sent O }) A law)) s

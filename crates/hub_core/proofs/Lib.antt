@@ -1,7 +1,10 @@
-pub mod OpenLemmas
+pub mod StoreLemmas
 pub mod PostLemmas
+pub mod OpenLemmas
+pub mod StopLemmas
 pub mod StandLemmas
 pub mod TextLemmas
 pub mod CutLemmas
+pub mod LawLemmas
 pub mod RequestLemmas
 pub mod WorkedRows

@@ -10,8 +10,7 @@ use Rattle.posting_core.specs.declared.entry.Entry.{Entry}
 use Rattle.posting_core.specs.declared.verdict.Verdict.{Verdict}
 use Rattle.posting_core.specs.Messages.{is_sign_off}
 use Rattle.posting_core.specs.Verdicts.{verdict}
-use Rattle.posting_core.specs.declared.entry.Changes.{Changes}
-use Rattle.posting_core.specs.Book.{Book, changes_of}
+use Rattle.posting_core.specs.Book.{Book}
 use Rattle.posting_core.specs.Lawful.{count_at, is_signed_off, Follows}
 use Rattle.station_core.specs.declared.TheConstants.{LAST}
 use Rattle.std.specs.Prelude.{slice_get, unwrap_or, is_some, nat_lt, nat_le}
@@ -22,7 +21,7 @@ use Rattle.station_core.specs.Progress.{IsEnding, AllMatch, ComesDue}
 use Rattle.station_core.proofs.BoolLemmas.{by_bool}
 use Rattle.station_core.proofs.RunLemmas.{due_next}
 use Rattle.station_core.proofs.StationLemmas.{series_at_set_same, series_at_set_other}
-use Rattle.hub_core.specs.Points.{post}
+use Rattle.hub_core.specs.Points.{entry_of, post}
 use Rattle.hub_core.specs.StandsFor.{InStep, Caught, Done}
 
 posted_next : (S : Museum) (depth : ℕ) (taken : List (Arrived Message)) (s k j n : ℕ) (before now : List Entry) (m : Message) → k ≤ j → n ≡ j + 1 → message_at taken s n ≡ Some m → now ≡ fold (post S depth) before (due taken s k (j - k))
@@ -78,20 +77,20 @@ next_follows S depth P all s n m v step within unsigned next few judged = record
 }
 
 -- counts and marks after one more entry
-count_same : (s : ℕ) (e : Entry) (P : List Entry) → e.station ≡ s → count_at s (e ∷ P) ≡ count_at s P + 1
+pub count_same : (s : ℕ) (e : Entry) (P : List Entry) → e.station ≡ s → count_at s (e ∷ P) ≡ count_at s P + 1
 count_same s e P h = let here : (e.station == s) ≡ true = grind (arith, nat_tests) in rw here (omega arith)
 
-count_other : (s : ℕ) (e : Entry) (P : List Entry) → e.station ≢ s → count_at s (e ∷ P) ≡ count_at s P
+pub count_other : (s : ℕ) (e : Entry) (P : List Entry) → e.station ≢ s → count_at s (e ∷ P) ≡ count_at s P
 count_other s e P h = let there : (e.station == s) ≡ false = by_bool (e.station == s) (λ t. let q : e.station ≡ s = grind (arith, nat_tests) in absurd (h q)) (λ f. f) in rw there (omega arith)
 
-signed_same : (s : ℕ) (e : Entry) (P : List Entry) (b : Bool) → e.station ≡ s → is_sign_off e.message ≡ b → is_signed_off s P ≡ false → is_signed_off s (e ∷ P) ≡ b
+pub signed_same : (s : ℕ) (e : Entry) (P : List Entry) (b : Bool) → e.station ≡ s → is_sign_off e.message ≡ b → is_signed_off s P ≡ false → is_signed_off s (e ∷ P) ≡ b
 signed_same s e P b h sign off = let here : (e.station == s) ≡ true = grind (arith, nat_tests) in rw (here, sign, off) (or_nothing b)
   where
     or_nothing : (b : Bool) → (b || false) ≡ b
     or_nothing true = refl
     or_nothing false = refl
 
-signed_other : (s : ℕ) (e : Entry) (P : List Entry) → e.station ≢ s → is_signed_off s (e ∷ P) ≡ is_signed_off s P
+pub signed_other : (s : ℕ) (e : Entry) (P : List Entry) → e.station ≢ s → is_signed_off s (e ∷ P) ≡ is_signed_off s P
 signed_other s e P h = let there : (e.station == s) ≡ false = by_bool (e.station == s) (λ t. let q : e.station ≡ s = grind (arith, nat_tests) in absurd (h q)) (λ f. f) in rw there refl
 
 -- one station's series is this one, and the others are as before
@@ -132,20 +131,18 @@ step_written S P all all' q e step within is posted sign unsigned =
     }
 
 -- the ledger has one more entry: that of a station's next message, with its verdict
-pub record IsPosted (L L' : Book) (s n : ℕ) (m : Message) (changes : Changes) : Type 0 where
-  pub book : L' ≡ record L { posted = record { station = s; n = n; message = m; verdict = changes.verdict } ∷ L.posted }
-  pub planned : changes ≡ changes_of L m
+abbrev pub IsPosted : Book → Book → Arrived Message → Type 0
+IsPosted L L' r = L' ≡ record L { posted = post L.museum L.depth L.posted r }
 
-pub posted_list : (L L' : Book) (S : Museum) (depth s n : ℕ) (m : Message) (changes : Changes) → IsPosted L L' s n m changes → L.museum ≡ S → L.depth ≡ depth → L'.posted ≡ post S depth L.posted (arrived s n m)
-posted_list L L' S depth s n m changes is museum limit =
-    ap (λ (b : Book). b.posted) is.book ∙ ap (λ (v : Verdict). let e : Entry = record { station = s; n = n; message = m; verdict = v } in e ∷ L.posted)
-    (ap (λ (c : Changes). c.verdict) is.planned ∙ ap (λ (S' : Museum). verdict S' L.depth L.posted m) museum ∙ ap (λ d. verdict S d L.posted m) limit)
+pub posted_list : (L L' : Book) (S : Museum) (depth : ℕ) (r : Arrived Message) → IsPosted L L' r → L.museum ≡ S → L.depth ≡ depth → L'.posted ≡ post S depth L.posted r
+posted_list L L' S depth r is museum limit =
+    ap (λ (b : Book). b.posted) is ∙ (ap (λ (S' : Museum). post S' L.depth L.posted r) museum ∙ ap (λ d. post S d L.posted r) limit)
 
-pub posted_step : (L L' : Book) (s n : ℕ) (m : Message) (changes : Changes) (all all' : List (Series Message)) (q : Series Message) → IsPosted L L' s n m changes → InStep all L.museum L.posted → s < length all → IsWritten all all' s q →
-    q.posted ≡ (series_at all s).posted + 1 → q.signed ≡ is_sign_off m → (series_at all s).signed ≡ false → InStep all' L'.museum L'.posted
-posted_step L L' s n m changes all all' q is step within written posted sign unsigned =
-    subst (λ (b : Book). InStep all' b.museum b.posted) (sym is.book)
-    (step_written L.museum L.posted all all' q (record { station = s; n = n; message = m; verdict = changes.verdict }) step within written posted sign unsigned)
+pub posted_step : (L L' : Book) (r : Arrived Message) (all all' : List (Series Message)) (q : Series Message) → IsPosted L L' r → InStep all L.museum L.posted → r.station < length all → IsWritten all all' r.station q →
+    q.posted ≡ (series_at all r.station).posted + 1 → q.signed ≡ is_sign_off r.message → (series_at all r.station).signed ≡ false → InStep all' L'.museum L'.posted
+posted_step L L' r all all' q is step within written posted sign unsigned =
+    subst (λ (b : Book). InStep all' b.museum b.posted) (sym is)
+    (step_written L.museum L.posted all all' q (entry_of L.museum L.depth L.posted r) step within written posted sign unsigned)
 
 -- and where a message is held
 pub step_held : (S : Museum) (P : List Entry) (all all' : List (Series Message)) (s : ℕ) (q : Series Message) → InStep all S P → s < length all → IsWritten all all' s q →

@@ -24,8 +24,11 @@ abbrev pub arrival_of : Entry → Arrived Message
 arrival_of e = arrived e.station e.n e.message
 
 -- a message is posted with its verdict over the entries before it
+abbrev pub entry_of : Museum → ℕ → List Entry → Arrived Message → Entry
+entry_of S depth P r = record { station = r.station; n = r.n; message = r.message; verdict = verdict S depth P r.message }
+
 abbrev pub post : Museum → ℕ → List Entry → Arrived Message → List Entry
-post S depth P r = record { station = r.station; n = r.n; message = r.message; verdict = verdict S depth P r.message } ∷ P
+post S depth P r = entry_of S depth P r ∷ P
 
 -- what is posted, and what was taken
 pub record Point : Type 0 where
@@ -46,6 +49,13 @@ point_after S depth p r = point_with S depth p r.station (taken_after is_sign_of
 -- the point after the arrivals A, from the posted list O
 abbrev pub point : Museum → ℕ → List Entry → List Arrival → Point
 point S depth O A = fold (point_after S depth) (record { posted = O; taken = map arrival_of (reverse O) }) A
+
+-- what comes due with one more arrival
+abbrev pub due_with : Museum → ℕ → List Entry → List Arrival → Arrival → List (Arrived Message)
+due_with S depth O A r =
+    let before = (point S depth O A).taken in
+    let taken = taken_after is_sign_off (length S.stations) before (seen r) in
+    due taken r.station (ready is_sign_off before r.station) (ready is_sign_off taken r.station - ready is_sign_off before r.station)
 
 -- the posted list
 abbrev pub posted : Museum → ℕ → List Entry → List Arrival → List Entry

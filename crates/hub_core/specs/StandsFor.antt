@@ -1,5 +1,5 @@
 -- What a hub stands for.
-use Rattle.std.specs.Prelude.{ℕ, ◌≡◌, ◌-◌, ◌<◌, ◌≤◌, Bool, false, List, length, fold}
+use Rattle.std.specs.Prelude.{ℕ, ◌≡◌, ◌-◌, ◌<◌, ◌≤◌, ◌⊎◌, ◌++◌, ◌∷◌, Bool, false, List, length, fold}
 use Rattle.nest_core.specs.Museum.{Museum}
 use Rattle.posting_core.specs.declared.message.Message.{Message}
 use Rattle.posting_core.specs.declared.entry.Entry.{Entry}
@@ -9,20 +9,38 @@ use Rattle.posting_core.specs.Book.{Book}
 use Rattle.station_core.specs.Series.{Series, series_at}
 use Rattle.station_core.specs.Runs.{Arrived, ready, due}
 use Rattle.station_core.specs.Progress.{IsPosting, AllMatch}
+use Rattle.register_store.specs.StoredRows.{Content, IsStoreOf}
 use Rattle.hub_core.specs.declared.answer.Arrival.{Arrival}
 use Rattle.hub_core.specs.Points.{point, post}
 
--- what a hub is: its stations' series, its ledger's book, and whether it is down
-pub record State : Type 0 where
+-- what a hub is: its stations' series, its ledger's book, its register, and whether it is down
+pub record State (R : Type 0) : Type 0 where
   pub sequences : List (Series Message)
   pub book : Book
+  pub register : R
   pub down : Bool
 
--- the hub isn't down, its posted list is that of the arrivals A from the posted list O, and it holds what was taken above
-pub record StandsFor (hub : State) (O : List Entry) (A : List Arrival) : Type 0 where
+-- where the register is quiet, it holds the stored rows of the book
+abbrev pub HasStore : {R : Type 0} → (R → Type 0) → (R → Content → Type 0) → R → Book → Type 0
+HasStore quiet holds register book = quiet register → (c : Content) × holds register c × IsStoreOf book.museum book.depth book.posted c
+
+-- the hub isn't down, its posted list is that of the arrivals A from the posted list O, it holds what was taken above,
+-- and its register has the posted list
+pub record StandsFor {R : Type 0} (quiet : R → Type 0) (holds : R → Content → Type 0) (hub : State R) (O : List Entry) (A : List Arrival) : Type 0 where
   pub up : hub.down ≡ false
   pub list : hub.book.posted ≡ (point hub.book.museum hub.book.depth O A).posted
   pub series : AllMatch is_sign_off (point hub.book.museum hub.book.depth O A).taken hub.sequences
+  pub stored : HasStore quiet holds hub.register hub.book
+
+-- a fault stopped the posting of these messages at `next`: those before it are posted, and the register, where it is
+-- quiet, has that list, or that with `next`
+pub record Stopped {R : Type 0} (quiet : R → Type 0) (holds : R → Content → Type 0) (register : R) (S : Museum) (depth : ℕ) (before : List Entry) (messages : List (Arrived Message)) (now : List Entry) : Type 0 where
+  pub done : List (Arrived Message)
+  pub next : Arrived Message
+  pub rest : List (Arrived Message)
+  pub all : messages ≡ done ++ next ∷ rest
+  pub list : now ≡ fold (post S depth) before done
+  pub stored : quiet register → (c : Content) × holds register c × (IsStoreOf S depth now c ⊎ IsStoreOf S depth (post S depth now next) c)
 
 -- the stations' counts and marks are those of the posted list
 pub record InStep (sequences : List (Series Message)) (S : Museum) (P : List Entry) : Type 0 where

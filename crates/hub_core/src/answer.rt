@@ -71,6 +71,9 @@ pub enum HubFault {
     /// A growth was refused.
     #[error("out of memory")]
     NoMemory,
+    /// The register's store refused, for another cause than memory.
+    #[error("the store refused")]
+    Store,
     /// The hub has met a fault before, and answers nothing since.
     #[error("the hub is down")]
     Down,

@@ -1,66 +1,109 @@
 //! The hub.
-ghost use Rattle.std.specs.Prelude.{◌≡◌, ◌↔◌, List, [], ◌∷◌, ◌++◌, ℕ, length, reverse, replicate, true, false, IfOk, OnOk, OnErr, IsErr, IsErrOf, IfErr, Ok, Err};
+ghost use Rattle.std.specs.Prelude.{◌≡◌, ◌≢◌, ◌↔◌, List, [], ◌∷◌, ◌++◌, ℕ, length, reverse, replicate, true, false, IfOk, OnOk, OnErr, IsErr, IsErrOf, IfErr, Ok, Err};
 ghost use Rattle.posting_core.specs.declared.entry.Entry.{Entry};
 ghost use Rattle.hub_core.specs.declared.answer.Arrival.{Arrival};
 ghost use Rattle.posting_core.specs.Messages.{is_sign_off};
+ghost use Rattle.posting_core.specs.Lawful.{IsLawful};
 ghost use Rattle.station_core.specs.Runs.{run};
-ghost use Rattle.hub_core.specs.Points.{point, reply, whereabouts, cut, IsPlaced};
+ghost use Rattle.station_core.specs.declared.Refusal.{Refusal};
+ghost use Rattle.register_store.specs.StoredRows.{Content, HasList};
+ghost use Rattle.register_store.specs.Registers.{bound_to};
+ghost use Rattle.hub_core.specs.Openings.{IsOpenFault, CountsFault};
+ghost use Rattle.hub_core.specs.Faults.{CountsStore};
+ghost use Rattle.hub_core.specs.Points.{point, reply, due_with, whereabouts, cut, IsPlaced};
 
+use crate::opening::prepare;
 use crate::posting::post_due;
 use crate::{Answer, Arrival, Chain, HubFault, Where};
-use codes_core::{NoMemory, ThingCode};
+use codes_core::ThingCode;
 use nest_core::Setup;
 use posting_core::{Entry, Ledger, Message};
-use station_core::{Sequences, Start};
+use register_store::{Register, StoreFault};
+use station_core::Sequences;
 use std::alloc::Global;
 use std::marker::Model;
 
-/// The depth limit of a new hub: how many containers may stand above a thing.
-pub const DEPTH: u32 = 12;
-
-/// The hub: it takes arrivals from all stations, holds back what is early, and posts the rest in each station's order.
+/// The hub: it takes arrivals from all stations, holds back what is early, and posts the rest in each station's order,
+/// each entry in the register and in the ledger.
 #[derive(Drop)]
-pub struct Hub {
+pub struct Hub<R: Register> {
     sequences: Sequences<Message>,
     ledger: Ledger,
+    register: R,
     down: bool,
 }
 
-impl Model for Hub {
-    ghost use Rattle.std.specs.Prelude.{◌≡◌, false};
+impl<R: Register> Model for Hub<R> {
+    ghost use Rattle.std.specs.Prelude.{◌≡◌, true, false};
     ghost use Rattle.hub_core.specs.StandsFor.{State, InStep};
 
-    ghost Value = { State };
+    ghost Value = { State R };
 
-    ghost view = { λ h. record { sequences = h.sequences; book = h.ledger; down = h.down } };
+    ghost view = { λ h. record { sequences = h.sequences; book = h.ledger; register = h.register; down = h.down } };
 
-    ghost invariant = { λ h. h.down ≡ false → InStep h.sequences h.ledger.museum h.ledger.posted };
+    ghost invariant = { λ h. (h.down ≡ false → InStep h.sequences h.ledger.museum h.ledger.posted) × (R.is_bound h.register ≡ true) };
 }
 
-impl Hub {
-    ghost use Rattle.hub_core.specs.StandsFor.{State, StandsFor};
+/// Why a hub could not be opened, and its register, which it hands back.
+#[derive(Debug, Drop)]
+pub struct OpenFault<R> {
+    pub fault: StoreFault,
+    pub register: R,
+}
 
-    /// A hub over this setup, with nothing posted.
-    pub fn open(alloc: Global, setup: Setup) -> Result<Hub, NoMemory>
-        ensures setup { IfOk result (λ hub. hub.book ≡ record { museum = setup; depth = DEPTH; posted = [] }) }
-        ensures stands { IfOk result (λ hub. StandsFor hub [] []) }
+impl<R: Register> Hub<R> {
+    ghost use Rattle.hub_core.specs.StandsFor.{State, StandsFor, Stopped};
+
+    /// A hub over this setup and what the register has. Binds the register, reads all its entries, judges them again in
+    /// their order, and compares its spots. The faults, first that holds: those of the binding; those of the reading;
+    /// Damaged(i) for the first entry, from 1, whose station, number or verdict isn't what the rules give; Damaged(0)
+    /// where the rows of spots aren't those of the entries. NoMemory and Store can stand in place of any. A refused
+    /// opening may have bound a new store; the setup is dropped.
+    pub fn open(alloc: Global, setup: Setup, register: R) -> Result<Hub<R>, OpenFault<R>>
+        ensures setup { IfOk result (λ hub. hub.book.museum ≡ setup) }
+        ensures stands { IfOk result (λ hub. StandsFor R.is_quiet R.holds hub hub.book.posted []) }
+        // It stands for every list of entries that the register had, which then has nothing but the binding besides.
+        ensures opened { IfOk result (λ hub. R.is_quiet hub.register → (c : Content) (O : List Entry) → R.holds register c → HasList O c →
+            StandsFor R.is_quiet R.holds hub O []) }
+        ensures kept { IfOk result (λ hub. R.is_quiet hub.register → (c : Content) → R.holds register c → R.holds hub.register (bound_to setup c)) }
+        ensures refused { IfErr result (λ failed. R.is_quiet failed.register → (c : Content) → R.holds register c → IsOpenFault setup c failed.fault) }
+        ensures quiet { IfOk result (λ hub. R.is_quiet hub.register → R.is_quiet register) }
+        ensures quiet_before { IfErr result (λ failed. R.is_quiet failed.register → R.is_quiet register) }
+        ensures uncounted { IfOk result (λ hub. R.refusals hub.register ≡ R.refusals register) }
+        ensures counted { IfErr result (λ failed. CountsFault (R.refusals register) (R.refusals failed.register) failed.fault) }
     {
-        let sequences = Sequences::new(alloc, &no_starts(alloc, setup.stations())?)?;
-        Ok(Hub {
-            sequences,
-            ledger: Ledger::new(alloc, setup, DEPTH)?,
-            down: false,
-        })
+        let mut register = register;
+        match prepare(alloc, setup, &mut register) {
+            Ok((sequences, ledger)) => Ok(Hub {
+                sequences,
+                ledger,
+                register,
+                down: false,
+            }),
+            Err(fault) => Err(OpenFault { fault, register }),
+        }
     }
 
-    /// Takes an arrival, and posts what is due. After NoMemory the hub is down, and answers Down from then on.
+    /// Takes an arrival, and posts what is due. After NoMemory or Store the hub is down, and answers Down from then on.
+    /// What is refused or held takes no memory, and always succeeds on a hub that isn't down.
     pub fn arrive(&mut self, alloc: Global, arrival: Arrival) -> Result<Answer, HubFault>
         // For every list of arrivals: the reply is that of looking back, and the hub stands for the list with this one.
-        ensures headline { IfOk result (λ answer. (O : List Entry) (A : List Arrival) → StandsFor self.old O A →
-            (answer ≡ reply self.old.book.museum self.old.book.depth O A arrival) × StandsFor self.new O (A ++ arrival ∷ [])) }
+        ensures headline { IfOk result (λ answer. (O : List Entry) (A : List Arrival) → StandsFor R.is_quiet R.holds self.old O A →
+            (answer ≡ reply self.old.book.museum self.old.book.depth O A arrival) × StandsFor R.is_quiet R.holds self.new O (A ++ arrival ∷ [])) }
         ensures up { OnOk result (self.new.down ≡ false) }
         ensures down { IsErrOf result HubFault.Down ↔ (self.old.down ≡ true) }
         ensures fault { OnErr result (self.new.down ≡ true) }
+        // A fault comes while messages are due: those before one of them are posted, and the register has that list, or
+        // that with the one.
+        ensures after_fault { OnErr result ((O : List Entry) (A : List Arrival) → StandsFor R.is_quiet R.holds self.old O A →
+            Stopped R.is_quiet R.holds self.new.register self.old.book.museum self.old.book.depth self.old.book.posted
+            (due_with self.old.book.museum self.old.book.depth O A arrival) self.new.book.posted) }
+        // What is refused or held meets no fault.
+        ensures answers { OnErr result ((O : List Entry) (A : List Arrival) → StandsFor R.is_quiet R.holds self.old O A →
+            (first : ℕ) × (last : ℕ) × (reply self.old.book.museum self.old.book.depth O A arrival ≡ Answer.Posted first last)) }
+        ensures refused { IfOk result (λ answer. (refusal : Refusal) → answer ≡ Answer.Refused refusal → self.new ≡ self.old) }
+        ensures quiet { R.is_quiet self.new.register → R.is_quiet self.old.register }
+        ensures count { CountsStore (R.refusals self.old.register) (R.refusals self.new.register) result }
         ensures museum { self.new.book.museum ≡ self.old.book.museum }
         ensures depth { self.new.book.depth ≡ self.old.book.depth }
     {
@@ -73,9 +116,15 @@ impl Hub {
         let before = self.ledger.posted().len() as u64;
         let station = arrival.station;
         self.sequences.take(station, arrival.n, arrival.message);
-        if let Err(fault) = post_due(alloc, &mut self.sequences, &mut self.ledger, station) {
+        if let Err(fault) = post_due(
+            alloc,
+            &mut self.sequences,
+            &mut self.ledger,
+            &mut self.register,
+            station,
+        ) {
             self.down = true;
-            return Err(HubFault::from(fault));
+            return Err(fault);
         }
         let now = self.ledger.posted().len() as u64;
         if before == now {
@@ -92,6 +141,7 @@ impl Hub {
         ensures answer { IfOk result (λ place. place ≡ whereabouts self.now.book.museum self.now.book.posted code.now) }
         ensures placed { IfOk result (IsPlaced self.now.book.museum) }
         ensures down { IsErrOf result HubFault.Down ↔ (self.now.down ≡ true) }
+        ensures never_store { IfErr result (λ fault. fault ≢ HubFault.Store) }
     {
         if self.is_down() {
             return Err(HubFault::Down);
@@ -102,10 +152,12 @@ impl Hub {
     /// The posted entries, oldest first.
     pub fn posted(&self) -> &[Entry]
         ensures list { reverse result.now ≡ self.now.book.posted }
-        // For every list of arrivals: the entries of each station are the longest unbroken run of what it sent.
-        ensures runs { (A : List Arrival) → StandsFor self.now [] A → (s : ℕ) →
-            cut s self.now.book.posted ≡ run is_sign_off (point self.now.book.museum self.now.book.depth [] A).taken s }
+        ensures lawful { IsLawful self.now.book.museum self.now.book.depth self.now.book.posted }
+        // For all that the hub stands for: the entries of each station are the longest unbroken run of what it sent.
+        ensures runs { (O : List Entry) (A : List Arrival) → StandsFor R.is_quiet R.holds self.now O A → (s : ℕ) →
+            cut s self.now.book.posted ≡ run is_sign_off (point self.now.book.museum self.now.book.depth O A).taken s }
     {
+        self.ledger.is_lawful();
         self.ledger.posted()
     }
 
@@ -122,17 +174,13 @@ impl Hub {
     {
         self.down
     }
-}
 
-/// A start for each station, with nothing posted.
-fn no_starts(alloc: Global, stations: u32) -> Result<Vec<Start>, NoMemory>
-    ensures { IfOk result (λ starts. starts.items ≡ replicate stations (record { posted = 0; signed = false })) }
-{
-    let start = Start {
-        posted: 0,
-        signed: false,
-    };
-    Ok(vec![in alloc; start; stations as usize]?)
+    /// Gives the register back, as it is.
+    pub fn close(self) -> R
+        ensures { result ≡ self.register }
+    {
+        self.register
+    }
 }
 
 /// Where the thing with the code is, by the ledger.

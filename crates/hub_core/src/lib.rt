@@ -3,6 +3,9 @@
 
 mod answer;
 mod hub;
+mod judging;
+pub mod laws;
+mod opening;
 mod posting;
 mod reader;
 mod replies;
@@ -12,6 +15,6 @@ mod split;
 mod tests;
 
 pub use answer::{Answer, Arrival, Chain, HubFault, Where};
-pub use hub::{DEPTH, Hub};
+pub use hub::{Hub, OpenFault};
 pub use reader::{Line, Request, read_line};
 pub use session::{LONGEST_HEAD, LONGEST_LINE, RunFault, run};

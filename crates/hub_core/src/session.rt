@@ -8,7 +8,7 @@ use crate::{Answer, Arrival, Hub, HubFault, Where, replies};
 use codes_core::{NoMemory, ThingCode};
 use nest_core::{Setup, SetupFault, StationNo};
 use posting_core::Message;
-use register_store::ReadFault;
+use register_store::{PlainRegister, ReadFault, Register, StoreFault};
 use std::alloc::{AllocError, Global};
 use std::io::{BufRead, Write};
 use thiserror::Error;
@@ -25,6 +25,9 @@ pub enum RunFault {
     /// A growth was refused.
     #[error("out of memory")]
     NoMemory,
+    /// The register's store refused, for another cause than memory.
+    #[error("the store refused")]
+    Store,
     /// The reader failed, or gave no end within 4,294,967,295 reads.
     #[error("the input could not be read")]
     ReadFailed,
@@ -78,7 +81,11 @@ pub fn run<R: BufRead, W: Write>(
         Err(SetupFault::NoMemory) => return Err(RunFault::NoMemory),
         Err(fault) => return Err(RunFault::Setup(fault)),
     };
-    let mut hub = Hub::open(alloc, setup)?;
+    let mut hub = match Hub::open(alloc, setup, PlainRegister::new(alloc)) {
+        Ok(hub) => hub,
+        Err(failed) if failed.fault == StoreFault::NoMemory => return Err(RunFault::NoMemory),
+        Err(_) => return Err(RunFault::Store),
+    };
     answer_all(alloc, lines, output, &mut hub)
 }
 
@@ -100,11 +107,11 @@ fn read_all<R: BufRead>(alloc: Global, input: &mut R) -> Result<Vec<u8>, RunFaul
 }
 
 /// Answers each line in turn. Lines are numbered from 1.
-fn answer_all<W: Write>(
+fn answer_all<R: Register, W: Write>(
     alloc: Global,
     lines: &[u8],
     output: &mut W,
-    hub: &mut Hub,
+    hub: &mut Hub<R>,
 ) -> Result<(), RunFault>
     requires { hub.old.down ≡ false }
 {
@@ -120,12 +127,12 @@ fn answer_all<W: Write>(
 }
 
 /// Answers a line; an empty one has no reply.
-fn answer_line<W: Write>(
+fn answer_line<R: Register, W: Write>(
     alloc: Global,
     number: u64,
     line: &[u8],
     output: &mut W,
-    hub: &mut Hub,
+    hub: &mut Hub<R>,
 ) -> Result<(), RunFault>
     requires { hub.old.down ≡ false }
     ensures { OnOk result (hub.new.down ≡ false) }
@@ -163,12 +170,12 @@ fn fault_text(alloc: Global, fault: ReadFault) -> Result<String, AllocError> {
     }
 }
 
-fn answer<W: Write>(
+fn answer<R: Register, W: Write>(
     alloc: Global,
     station: StationNo,
     request: Request,
     output: &mut W,
-    hub: &mut Hub,
+    hub: &mut Hub<R>,
 ) -> Result<(), RunFault>
     requires up { hub.old.down ≡ false }
     requires known { station < length hub.old.book.museum.stations }
@@ -180,13 +187,13 @@ fn answer<W: Write>(
     }
 }
 
-fn answer_scan<W: Write>(
+fn answer_scan<R: Register, W: Write>(
     alloc: Global,
     station: StationNo,
     n: u64,
     message: Message,
     output: &mut W,
-    hub: &mut Hub,
+    hub: &mut Hub<R>,
 ) -> Result<(), RunFault>
     requires up { hub.old.down ≡ false }
     requires known { station < length hub.old.book.museum.stations }
@@ -202,6 +209,7 @@ fn answer_scan<W: Write>(
     ) {
         Ok(answer) => answer,
         Err(HubFault::NoMemory) => return Err(RunFault::NoMemory),
+        Err(HubFault::Store) => return Err(RunFault::Store),
         Err(HubFault::Down) => unreachable!(),
     };
     let name = hub.ledger().setup().station_name(station);
@@ -216,12 +224,12 @@ fn answer_scan<W: Write>(
 }
 
 /// Writes a line for each entry from this number on.
-fn write_posted<W: Write>(
+fn write_posted<R: Register, W: Write>(
     alloc: Global,
     name: &str,
     first: u64,
     output: &mut W,
-    hub: &Hub,
+    hub: &Hub<R>,
 ) -> Result<(), RunFault> {
     let mut entry_number = first;
     for entry in hub
@@ -238,12 +246,12 @@ fn write_posted<W: Write>(
     Ok(())
 }
 
-fn answer_question<W: Write>(
+fn answer_question<R: Register, W: Write>(
     alloc: Global,
     station: StationNo,
     code: &ThingCode,
     output: &mut W,
-    hub: &Hub,
+    hub: &Hub<R>,
 ) -> Result<(), RunFault>
     requires up { hub.now.down ≡ false }
     requires known { station < length hub.now.book.museum.stations }
@@ -251,6 +259,7 @@ fn answer_question<W: Write>(
     let place = match hub.ask(alloc, code) {
         Ok(place) => place,
         Err(HubFault::NoMemory) => return Err(RunFault::NoMemory),
+        Err(HubFault::Store) => return Err(RunFault::Store),
         Err(HubFault::Down) => unreachable!(),
     };
     let setup = hub.ledger().setup();

@@ -3,6 +3,8 @@ use crate::{Answer, Arrival, Hub, RunFault, Where, run};
 use codes_core::{Day, PlaceCode, ThingCode};
 use nest_core::{Setup, SetupFault};
 use posting_core::{Message, Spot, Verdict};
+use register_store::{PlainRegister, StoreFault};
+use station_core::Refusal;
 use std::alloc::{AllocError, Global};
 use std::process::Abort;
 use std::test::Fail;
@@ -226,13 +228,20 @@ fn moved(n: u64, place: &str, day: Day) -> Result<Arrival, Fail> {
     })
 }
 
+/// A hub over the whole setup and this register.
+fn opened(alloc: Global, register: PlainRegister) -> Result<Hub<PlainRegister>, Fail> {
+    match Hub::open(alloc, Setup::read(alloc, WHOLE.as_bytes())?, register) {
+        Ok(hub) => Ok(hub),
+        Err(_) => Err(Fail::from("not opened")),
+    }
+}
+
 /// Each call once, and the spots of what was held and then posted.
 #[test]
 fn a_hub(rt: HostRuntime) -> Result<(), Fail> {
     let day = Day::parse(b"2024-05-01")?;
     let code = ThingCode::parse(b"2001.4.1")?;
-    let setup = Setup::read(rt.alloc(), WHOLE.as_bytes())?;
-    let mut hub = Hub::open(rt.alloc(), setup)?;
+    let mut hub = opened(rt.alloc(), PlainRegister::new(rt.alloc()))?;
     assert_eq!(rt; hub.posted().len(), 0);
     assert!(rt; matches!(hub.ask(rt.alloc(), &code)?, Where::Unplaced));
     assert_eq!(rt;
@@ -276,7 +285,7 @@ fn a_hub(rt: HostRuntime) -> Result<(), Fail> {
 #[test]
 fn window_full_spots(rt: HostRuntime) -> Result<(), Fail> {
     let day = Day::parse(b"2024-05-01")?;
-    let mut hub = Hub::open(rt.alloc(), Setup::read(rt.alloc(), WHOLE.as_bytes())?)?;
+    let mut hub = opened(rt.alloc(), PlainRegister::new(rt.alloc()))?;
     for n in (2..257u64).rev() {
         assert_eq!(rt;
             hub.arrive(rt.alloc(), moved(n, "S1", day)?),
@@ -299,5 +308,31 @@ fn window_full_spots(rt: HostRuntime) -> Result<(), Fail> {
     let ledger = hub.ledger();
     assert!(rt; ledger.setup().things() > 2);
     assert_eq!(rt; ledger.spots(2).len(), 1);
+    Ok(())
+}
+
+/// A hub that is opened again goes on from what was posted; what was only held is gone.
+#[test]
+fn opened_again(rt: HostRuntime) -> Result<(), Fail> {
+    let day = Day::parse(b"2024-05-01")?;
+    let mut hub = opened(rt.alloc(), PlainRegister::new(rt.alloc()))?;
+    hub.arrive(rt.alloc(), moved(1, "S1", day)?)?;
+    hub.arrive(rt.alloc(), moved(2, "S1-A", day)?)?;
+    hub.arrive(rt.alloc(), moved(4, "S1", day)?)?;
+    let mut again = opened(rt.alloc(), hub.close())?;
+    assert_eq!(rt; again.posted().len(), 2);
+    assert_eq!(rt;
+        again.arrive(rt.alloc(), moved(2, "S1-A", day)?),
+        Ok(Answer::Refused(Refusal::Double))
+    );
+    assert_eq!(rt;
+        again.arrive(rt.alloc(), moved(3, "S1", day)?),
+        Ok(Answer::Posted { first: 3, last: 3 })
+    );
+    let small = Setup::read(rt.alloc(), SMALL.as_bytes())?;
+    match Hub::open(rt.alloc(), small, again.close()) {
+        Ok(_) => return Err(Fail::from("opened")),
+        Err(failed) => assert_eq!(rt; failed.fault, StoreFault::OtherSetup),
+    }
     Ok(())
 }

@@ -8,6 +8,7 @@ use std::io;
 pub fn print(rt: &impl Eprint, fault: RunFault) -> io::Result<()> {
     match fault {
         RunFault::NoMemory => eprintln!(rt; "fault memory"),
+        RunFault::Store => eprintln!(rt; "fault store Store"),
         RunFault::ReadFailed => eprintln!(rt; "fault read"),
         RunFault::WriteFailed => eprintln!(rt; "fault write"),
         RunFault::HeadTooLong => eprintln!(rt; "fault head"),

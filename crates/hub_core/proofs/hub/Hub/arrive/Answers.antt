@@ -1,4 +1,4 @@
-use Rattle.std.proofs.Common.{◌≡◌, ◌∙◌, ◌<◌, ◌+◌, ◌++◌, ◌∷◌, [], sym, ap, subst, refl, length, List}
+use Rattle.std.proofs.Common.{◌≡◌, ◌∙◌, ◌<◌, ◌+◌, ◌++◌, ◌∷◌, [], sym, ap, subst, refl, length, List, ℕ}
 use Rattle.posting_core.specs.declared.entry.Entry.{Entry}
 use Rattle.posting_core.specs.declared.message.Message.{Message}
 use Rattle.posting_core.specs.Messages.{is_sign_off}
@@ -6,21 +6,21 @@ use Rattle.station_core.specs.Series.{series_at, Series, with_held}
 use Rattle.station_core.proofs.StationLemmas.{accepted_within}
 use Rattle.hub_core.specs.declared.answer.Arrival.{Arrival}
 use Rattle.hub_core.specs.declared.answer.Answer.TheVariants.{Refused, Held, Posted}
-use Rattle.hub_core.specs.Points.{reply}
-use Rattle.hub_core.specs.StandsFor.{State, StandsFor}
+use Rattle.hub_core.specs.Points.{reply, due_with}
+use Rattle.hub_core.specs.StandsFor.{State, StandsFor, Stopped}
 use Rattle.hub_core.proofs.PostLemmas.{written, step_held, taken_unsigned}
-use Rattle.hub_core.proofs.StandLemmas.{refused_by, stands_refused, stands_taken, reply_posted, reply_held, length_back}
+use Rattle.hub_core.proofs.StandLemmas.{refused_by, stands_refused, stands_taken, stands_stopped, reply_due, reply_posted, reply_held, length_back}
 use Rattle.hub_core.proofs.hub.Hub.arrive.Goals as goal
 
 pub returns-in-Some-clause-headline : goal.returns-in-Some-clause-headline
-returns-in-Some-clause-headline c =
-    let hub : State = record { sequences = c.self.inside.sequences; book = c.self.inside.ledger; down = c.self.inside.down } in
-    subst (λ (h : State). (O : List Entry) (A : List Arrival) → StandsFor h O A → (Refused c.in-Some.refusal ≡ reply h.book.museum h.book.depth O A c.args.arrival) × StandsFor h O (A ++ c.args.arrival ∷ [])) c.self.view_is
-    (λ O A st. stands_refused hub O A c.args.arrival c.in-Some.refusal st
-    (refused_by hub O A c.args.arrival _ _ (c.self.invariant c.if-self.false) (c.test.ensures.taken is_sign_off _ st.series) c.in-Some.is))
+returns-in-Some-clause-headline g c =
+    let hub : State g.row.R.Denot = record { sequences = c.self.inside.sequences; book = c.self.inside.ledger; register = c.self.inside.register; down = c.self.inside.down } in
+    subst (λ (h : State g.row.R.Denot). (O : List Entry) (A : List Arrival) → StandsFor g.R.Register.is_quiet g.R.Register.holds h O A → (Refused c.in-Some.refusal ≡ reply h.book.museum h.book.depth O A c.args.arrival) × StandsFor g.R.Register.is_quiet g.R.Register.holds h O (A ++ c.args.arrival ∷ [])) c.self.view_is
+    (λ O A st. stands_refused g.R.Register.is_quiet g.R.Register.holds hub O A c.args.arrival c.in-Some.refusal st
+    (refused_by hub O A c.args.arrival _ _ (c.self.invariant.0 c.if-self.false) (c.test.ensures.taken is_sign_off _ st.series) c.in-Some.is))
 
 pub post_due-requires-clause-known : goal.post_due-requires-clause-known
-post_due-requires-clause-known c =
+post_due-requires-clause-known g c =
     let all = c.self.inside.sequences in
     let s = c.args.arrival.station in
     let within : s < length all = accepted_within all s c.args.arrival.n (sym c.test.ensures.table ∙ c.in_default.is) in
@@ -28,7 +28,7 @@ post_due-requires-clause-known c =
     subst (λ n. s < n) (sym is.same_length) within
 
 pub post_due-requires-clause-unsigned : goal.post_due-requires-clause-unsigned
-post_due-requires-clause-unsigned c =
+post_due-requires-clause-unsigned g c =
     let all = c.self.inside.sequences in
     let s = c.args.arrival.station in
     let refused = sym c.test.ensures.table ∙ c.in_default.is in
@@ -37,41 +37,63 @@ post_due-requires-clause-unsigned c =
     ap (λ (x : Series Message). x.signed) is.here ∙ taken_unsigned all s c.args.arrival.n refused
 
 pub post_due-requires-clause-in_step : goal.post_due-requires-clause-in_step
-post_due-requires-clause-in_step c =
+post_due-requires-clause-in_step g c =
     let all = c.self.inside.sequences in
     let s = c.args.arrival.station in
     let within : s < length all = accepted_within all s c.args.arrival.n (sym c.test.ensures.table ∙ c.in_default.is) in
     let is = written all c.take.new.self s (with_held (series_at all s) c.args.arrival.n c.args.arrival.message) within c.take.ensures.held in
-    step_held c.self.inside.ledger.museum c.self.inside.ledger.posted all c.take.new.self s _ (c.self.invariant c.if-self.false) within is refl refl
+    step_held c.self.inside.ledger.museum c.self.inside.ledger.posted all c.take.new.self s _ (c.self.invariant.0 c.if-self.false) within is refl refl
 
 pub returns-then-before-now-clause-headline : goal.returns-then-before-now-clause-headline
-returns-then-before-now-clause-headline c =
-    let hub : State = record { sequences = c.self.inside.sequences; book = c.self.inside.ledger; down = c.self.inside.down } in
-    let new : State = record { sequences = c.post_due.new.sequences; book = c.post_due.new.ledger; down = c.self.inside.down } in
-    let step = c.self.invariant c.if-self.false in
+returns-then-before-now-clause-headline g c =
+    let hub : State g.row.R.Denot = record { sequences = c.self.inside.sequences; book = c.self.inside.ledger; register = c.self.inside.register; down = c.self.inside.down } in
+    let new : State g.row.R.Denot = record { sequences = c.post_due.new.sequences; book = c.post_due.new.ledger; register = c.post_due.new.register; down = c.self.inside.down } in
+    let step = c.self.invariant.0 c.if-self.false in
     let due = c.in_default-post_due.ensures in
-    subst (λ (h : State). (O : List Entry) (A : List Arrival) → StandsFor h O A → (Held ≡ reply h.book.museum h.book.depth O A c.args.arrival) × StandsFor new O (A ++ c.args.arrival ∷ [])) c.self.view_is
+    subst (λ (h : State g.row.R.Denot). (O : List Entry) (A : List Arrival) → StandsFor g.R.Register.is_quiet g.R.Register.holds h O A → (Held ≡ reply h.book.museum h.book.depth O A c.args.arrival) × StandsFor g.R.Register.is_quiet g.R.Register.holds new O (A ++ c.args.arrival ∷ [])) c.self.view_is
     (λ O A st.
-    let h = stands_taken hub new c.take.new.self O A c.args.arrival st step.stations
+    let h = stands_taken g.R.Register.is_quiet g.R.Register.holds hub new c.take.new.self O A c.args.arrival st step.stations
     (refused_by hub O A c.args.arrival _ _ step (c.test.ensures.taken is_sign_off _ st.series) c.in_default.is)
-    c.if-self.false due.museum due.depth c.take.ensures.held (c.take.ensures.taken is_sign_off) due.done in (
+    c.if-self.false due.museum due.depth c.take.ensures.held (c.take.ensures.taken is_sign_off) due.done due.stored in (
       reply_held (length hub.book.posted) (length new.book.posted) (length c.posted.result.now) (length c.posted-2.result.now)
           (length_back c.posted.result.now hub.book.posted c.posted.ensures) (length_back c.posted-2.result.now new.book.posted c.posted-2.ensures) c.if-before-now.true ∙ h.0,
       h.1,
     ))
 
 pub returns-clause-headline : goal.returns-clause-headline
-returns-clause-headline c =
-    let hub : State = record { sequences = c.self.inside.sequences; book = c.self.inside.ledger; down = c.self.inside.down } in
-    let new : State = record { sequences = c.post_due.new.sequences; book = c.post_due.new.ledger; down = c.self.inside.down } in
-    let step = c.self.invariant c.if-self.false in
+returns-clause-headline g c =
+    let hub : State g.row.R.Denot = record { sequences = c.self.inside.sequences; book = c.self.inside.ledger; register = c.self.inside.register; down = c.self.inside.down } in
+    let new : State g.row.R.Denot = record { sequences = c.post_due.new.sequences; book = c.post_due.new.ledger; register = c.post_due.new.register; down = c.self.inside.down } in
+    let step = c.self.invariant.0 c.if-self.false in
     let due = c.in_default-post_due.ensures in
-    subst (λ (h : State). (O : List Entry) (A : List Arrival) → StandsFor h O A → (Posted (length c.posted.result.now + 1) (length c.posted-2.result.now) ≡ reply h.book.museum h.book.depth O A c.args.arrival) × StandsFor new O (A ++ c.args.arrival ∷ [])) c.self.view_is
+    subst (λ (h : State g.row.R.Denot). (O : List Entry) (A : List Arrival) → StandsFor g.R.Register.is_quiet g.R.Register.holds h O A → (Posted (length c.posted.result.now + 1) (length c.posted-2.result.now) ≡ reply h.book.museum h.book.depth O A c.args.arrival) × StandsFor g.R.Register.is_quiet g.R.Register.holds new O (A ++ c.args.arrival ∷ [])) c.self.view_is
     (λ O A st.
-    let h = stands_taken hub new c.take.new.self O A c.args.arrival st step.stations
+    let h = stands_taken g.R.Register.is_quiet g.R.Register.holds hub new c.take.new.self O A c.args.arrival st step.stations
     (refused_by hub O A c.args.arrival _ _ step (c.test.ensures.taken is_sign_off _ st.series) c.in_default.is)
-    c.if-self.false due.museum due.depth c.take.ensures.held (c.take.ensures.taken is_sign_off) due.done in (
+    c.if-self.false due.museum due.depth c.take.ensures.held (c.take.ensures.taken is_sign_off) due.done due.stored in (
       reply_posted (length hub.book.posted) (length new.book.posted) (length c.posted.result.now) (length c.posted-2.result.now)
           (length_back c.posted.result.now hub.book.posted c.posted.ensures) (length_back c.posted-2.result.now new.book.posted c.posted-2.ensures) c.if-before-now.false ∙ h.0,
       h.1,
     ))
+
+pub returns-in-Err-clause-after_fault : goal.returns-in-Err-clause-after_fault
+returns-in-Err-clause-after_fault g c =
+    let hub : State g.row.R.Denot = record { sequences = c.self.inside.sequences; book = c.self.inside.ledger; register = c.self.inside.register; down = c.self.inside.down } in
+    let step = c.self.invariant.0 c.if-self.false in
+    subst (λ (h : State g.row.R.Denot). (O : List Entry) (A : List Arrival) → StandsFor g.R.Register.is_quiet g.R.Register.holds h O A
+    → Stopped g.R.Register.is_quiet g.R.Register.holds c.post_due.new.register h.book.museum h.book.depth h.book.posted (due_with h.book.museum h.book.depth O A c.args.arrival) c.post_due.new.ledger.posted) c.self.view_is
+    (λ O A st. stands_stopped g.R.Register.is_quiet g.R.Register.holds hub c.post_due.new.register c.take.new.self c.post_due.new.ledger.posted O A c.args.arrival st step.stations
+    (refused_by hub O A c.args.arrival _ _ step (c.test.ensures.taken is_sign_off _ st.series) c.in_default.is)
+    c.take.ensures.held (c.take.ensures.taken is_sign_off) c.in-Err.ensures.stopped)
+
+pub returns-in-Err-clause-answers : goal.returns-in-Err-clause-answers
+returns-in-Err-clause-answers g c =
+    let hub : State g.row.R.Denot = record { sequences = c.self.inside.sequences; book = c.self.inside.ledger; register = c.self.inside.register; down = c.self.inside.down } in
+    let step = c.self.invariant.0 c.if-self.false in
+    subst (λ (h : State g.row.R.Denot). (O : List Entry) (A : List Arrival) → StandsFor g.R.Register.is_quiet g.R.Register.holds h O A
+    → (first : ℕ) × (last : ℕ) × (reply h.book.museum h.book.depth O A c.args.arrival ≡ Posted first last)) c.self.view_is
+    (λ O A st.
+    let none = refused_by hub O A c.args.arrival _ _ step (c.test.ensures.taken is_sign_off _ st.series) c.in_default.is in
+    let stop = stands_stopped g.R.Register.is_quiet g.R.Register.holds hub c.post_due.new.register c.take.new.self c.post_due.new.ledger.posted O A c.args.arrival st step.stations none
+    c.take.ensures.held (c.take.ensures.taken is_sign_off) c.in-Err.ensures.stopped in
+    reply_due hub.book.museum hub.book.depth O A c.args.arrival stop.done stop.next stop.rest none stop.all)

@@ -1,21 +1,19 @@
-use Rattle.std.proofs.Common.{ap, ◌∙◌, refl, sym, [], length, map}
-use Rattle.posting_core.specs.Book.{Book}
+use Rattle.std.proofs.Common.{◌≡◌, refl, subst, List}
+use Rattle.posting_core.specs.declared.entry.Entry.{Entry}
 use Rattle.posting_core.specs.Messages.{is_sign_off}
-use Rattle.station_core.specs.Series.{opened}
-use Rattle.hub_core.proofs.OpenLemmas.{all_fresh, new_step}
+use Rattle.register_store.proofs.OneList.{one_list}
+use Rattle.register_store.specs.Registers.{bound_to}
+use Rattle.station_core.specs.Progress.{AllMatch}
+use Rattle.hub_core.proofs.OpenLemmas.{sent, list_bound}
 use Rattle.hub_core.proofs.hub.Hub.open.Goals as goal
 
-pub invariant_of-result : goal.invariant_of-result
-invariant_of-result c = λ up.
-    let book = c.in_ok-new.ensures in
-    new_step c.in_ok-new.field-0.museum c.in_ok-new.field-0.posted c.stations.result c.in_ok-no_starts.field-0.items c.in_ok-sequences.sequences
-    (c.stations.ensures.count ∙ ap (λ (b : Book). length b.museum.stations) (sym book)) (ap (λ (b : Book). b.posted) book) c.in_ok-no_starts.ensures (c.in_ok-sequences.ensures.opened ∙ ap (map opened) c.deref.ensures.value)
-
-pub returns-clause-stands : goal.returns-clause-stands
-returns-clause-stands c =
-    let book = c.in_ok-new.ensures in
+pub returns-in-Ok-clause-opened : goal.returns-in-Ok-clause-opened
+returns-in-Ok-clause-opened g c calm k O had list =
+    let found = c.in-Ok.ensures.list calm k had in
+    let same : c.in-Ok.ledger.posted ≡ O = one_list c.in-Ok.ledger.posted O (bound_to c.args.setup k) found.1 (list_bound c.args.setup k O list) in
     record {
       up = refl;
-      list = ap (λ (b : Book). b.posted) book;
-      series = c.in_ok-sequences.ensures.taken is_sign_off [] (all_fresh c.stations.result c.deref.result.now (c.deref.ensures.value ∙ c.in_ok-no_starts.ensures));
+      list = same;
+      series = subst (λ (P : List Entry). AllMatch is_sign_off (sent P) c.in-Ok.sequences) same c.in-Ok.ensures.series;
+      stored = c.in-Ok.ensures.stored;
     }

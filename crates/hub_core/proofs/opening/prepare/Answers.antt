@@ -1,0 +1,45 @@
+use Rattle.std.proofs.Common.{sym, subst, refl, inr, List}
+use Rattle.std.specs.Prelude.{reverse, All, ◌≤◌}
+use Rattle.posting_core.specs.declared.entry.Entry.{Entry}
+use Rattle.posting_core.specs.Messages.{is_sign_off}
+use Rattle.station_core.specs.declared.Start.{Start}
+use Rattle.station_core.specs.declared.TheConstants.{LAST}
+use Rattle.station_core.specs.Progress.{AllMatch, AllStart}
+use Rattle.register_store.specs.Registers.{bound_to}
+use Rattle.hub_core.proofs.OpenLemmas.{sent, all_start, all_few, same_spots}
+use Rattle.hub_core.proofs.opening.prepare.Goals as goal
+
+pub returns-then-not-branch-clause-cause : goal.returns-then-not-branch-clause-cause
+returns-then-not-branch-clause-cause g c calm k had =
+    let S = c.args.setup in
+    let calm2 = c.agrees.ensures.quiet calm in
+    let calm1 = c.all.ensures.quiet calm2 in
+    let held : g.R.Register.holds c.bind.new.self (bound_to S k) = c.in_ok-depth.ensures.kept calm1 k had in
+    let listed : g.R.Register.holds c.all.new.self (bound_to S k) = (c.all.ensures.unchanged calm2 (bound_to S k)).0 held in
+    let now : g.R.Register.holds c.agrees.new.self (bound_to S k) = (c.agrees.ensures.unchanged calm (bound_to S k)).0 listed in
+    let told = c.in_ok-agrees.ensures.told calm (bound_to S k) now in
+    let law = c.in_ok-starts.ensures in
+    inr (inr (inr (record {
+      zero = refl;
+      depth = c.in_ok-depth.depth;
+      bound = c.in_ok-depth.ensures.bound calm1 (bound_to S k) held;
+      entries = reverse c.in_ok-entries.entries.items;
+      list = c.in_ok-entries.ensures.listed calm2 (bound_to S k) listed;
+      lawful = law.lawful;
+      wrong = λ perm.
+          let on = told.1 (same_spots S (reverse c.in_ok-entries.entries.items) c.in_ok-starts.ledger _ law.museum law.posted perm) in
+          let off = c.if-not-branch.true in
+          absurd (cc);
+    })))
+
+pub new-requires : goal.new-requires
+new-requires g c =
+    let law = c.in_ok-starts.ensures in
+    subst (λ (xs : List Start). All (λ s. s.posted ≤ LAST) xs) (sym c.deref.ensures.value) (all_few c.args.setup c.in_ok-depth.depth (reverse c.in_ok-entries.entries.items) c.in_ok-starts.starts.items law.lawful law.in_step)
+
+pub returns-clause-series : goal.returns-clause-series
+returns-clause-series g c =
+    let law = c.in_ok-starts.ensures in
+    subst (λ (P : List Entry). AllMatch is_sign_off (sent P) c.in-Ok.sequences) (sym law.posted)
+    (c.in-Ok.ensures.taken is_sign_off (sent (reverse c.in_ok-entries.entries.items))
+    (subst (λ (xs : List Start). AllStart is_sign_off (sent (reverse c.in_ok-entries.entries.items)) xs) (sym c.deref.ensures.value) (all_start c.args.setup c.in_ok-depth.depth (reverse c.in_ok-entries.entries.items) c.in_ok-starts.starts.items law.lawful law.in_step)))

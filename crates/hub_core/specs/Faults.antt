@@ -1,0 +1,21 @@
+-- Why a hub gives no answer.
+use Rattle.std.specs.Prelude.{ℕ, ◌≡◌, ◌+◌, ◌-◌, ◌^◌, min, Result, Ok, Err}
+use Rattle.register_store.specs.declared.store_fault.StoreFault.{StoreFault}
+use Rattle.register_store.specs.declared.store_fault.StoreFault.TheVariants as store
+use Rattle.hub_core.specs.declared.answer.HubFault.{HubFault}
+use Rattle.hub_core.specs.declared.answer.HubFault.TheVariants.{NoMemory, Store, Down}
+
+-- a register's fault, as the hub tells it
+abbrev pub told : StoreFault → HubFault
+told store.NoMemory = NoMemory
+told store.Store = Store
+told store.OtherSetup = Store
+told (store.Damaged at) = Store
+told store.OtherVersion = Store
+
+-- Store is told only where the register's count of refusals rose, or stands at the last number of 64 bits
+abbrev pub CountsStore : {T : Type 0} → ℕ → ℕ → Result T HubFault → Type 0
+CountsStore old new (Ok x) = new ≡ old
+CountsStore old new (Err NoMemory) = new ≡ old
+CountsStore old new (Err Store) = new ≡ min (old + 1) (2 ^ 64 - 1)
+CountsStore old new (Err Down) = new ≡ old
