@@ -22,3 +22,4 @@ pub mod Steady
 pub mod Heights
 pub mod Whole
 pub mod Blanks
+pub mod NestLaws

@@ -13,12 +13,14 @@ mod station_name;
 mod steps;
 mod thing_nos;
 
-pub use nest::{Nest, PackBar};
+pub use nest::{Nest, PackBar, laws};
 pub use put::{Put, Target};
 pub use setup::{PlaceNo, Setup, StationNo, ThingNo};
 pub use setup_fault::SetupFault;
 pub use steps::Steps;
 pub use thing_nos::{Moved, ThingNos};
 
+#[cfg(test)]
+mod nest_tests;
 #[cfg(test)]
 mod tests;
