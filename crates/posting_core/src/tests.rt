@@ -18,6 +18,10 @@ const PACK: StationNo = 0;
 
 const GAL: StationNo = 1;
 
+const NO_SPOTS: &[(u64, &str)] = &[];
+
+const FIRST_AT_S1: &[(u64, &str)] = &[(1, "S1")];
+
 fn empty(alloc: Global) -> Result<Ledger, Fail> {
     let setup = Setup::read(alloc, SETUP.as_bytes())?;
     Ok(Ledger::new(alloc, setup, 8)?)
@@ -122,25 +126,31 @@ fn nothing_posted(rt: HostRuntime) -> Result<(), Fail> {
     let ledger = empty(rt.alloc())?;
     assert!(rt; ledger.posted().is_empty());
     assert_eq!(rt; ledger.setup().things(), 6);
-    for thing in ["C1", "2001.4.1", "L1999.7"] {
-        assert_spots(&rt, &ledger, thing, &[])?;
-    }
-    Ok(())
+    assert_spots(&rt, &ledger, "C1", NO_SPOTS)?;
+    assert_spots(&rt, &ledger, "2001.4.1", NO_SPOTS)?;
+    assert_spots(&rt, &ledger, "L1999.7", NO_SPOTS)
 }
+
+/// Moves in the order in which they are posted, and the spots that stand then.
+const MOVES: [(u64, &str, &str); 3] = [
+    (1, "2001.4.1", "S1"),
+    (2, "2001.4.2", "S2"),
+    (3, "2001.4.1", "S1-A"),
+];
+
+const FIRST_MOVED_TWICE: &[(u64, &str)] = &[(1, "S1"), (3, "S1-A")];
+
+const SECOND_MOVED_ONCE: &[(u64, &str)] = &[(2, "S2")];
 
 #[test]
 fn held_then_posted(rt: HostRuntime) -> Result<(), Fail> {
     let mut ledger = empty(rt.alloc())?;
-    for (number, thing, place) in [
-        (1, "2001.4.1", "S1"),
-        (2, "2001.4.2", "S2"),
-        (3, "2001.4.1", "S1-A"),
-    ] {
+    for (number, thing, place) in MOVES {
         let told = post(&rt, rt.alloc(), &mut ledger, GAL, moved(thing, place)?)?;
         assert_eq!(rt; told, (number, Verdict::Applied, 1));
     }
-    assert_spots(&rt, &ledger, "2001.4.1", &[(1, "S1"), (3, "S1-A")])?;
-    assert_spots(&rt, &ledger, "2001.4.2", &[(2, "S2")])?;
+    assert_spots(&rt, &ledger, "2001.4.1", FIRST_MOVED_TWICE)?;
+    assert_spots(&rt, &ledger, "2001.4.2", SECOND_MOVED_ONCE)?;
     assert_eq!(rt; ledger.posted().len(), 3);
     for (i, entry) in ledger.posted().iter().enumerate() {
         assert_eq!(rt; (entry.station, entry.n as usize), (GAL, i + 1));
@@ -148,12 +158,13 @@ fn held_then_posted(rt: HostRuntime) -> Result<(), Fail> {
     Ok(())
 }
 
+const POSTED_BEFORE: &[(u64, &str)] = &[(1, "S1"), (2, "S2")];
+
 #[test]
 fn planned(rt: HostRuntime) -> Result<(), Fail> {
     let mut ledger = empty(rt.alloc())?;
-    for place in ["S1", "S2"] {
-        post(&rt, rt.alloc(), &mut ledger, GAL, moved("2001.4.1", place)?)?;
-    }
+    post(&rt, rt.alloc(), &mut ledger, GAL, moved("2001.4.1", "S1")?)?;
+    post(&rt, rt.alloc(), &mut ledger, GAL, moved("2001.4.1", "S2")?)?;
     let changes = ledger.plan(rt.alloc(), &moved("2001.4.1", "S1-A")?)?;
     assert_eq!(rt; (changes.entry, changes.verdict), (3, Verdict::Applied));
     assert_eq!(rt; changes.spots.as_slice().len(), 1);
@@ -169,25 +180,28 @@ fn planned(rt: HostRuntime) -> Result<(), Fail> {
     );
     // A plan posts nothing.
     assert_eq!(rt; ledger.posted().len(), 2);
-    assert_spots(&rt, &ledger, "2001.4.1", &[(1, "S1"), (2, "S2")])
+    assert_spots(&rt, &ledger, "2001.4.1", POSTED_BEFORE)
 }
+
+/// What is refused: the number of the entry, the thing and the place of its move, and its verdict.
+const TOUR: [(u64, &str, &str, Verdict); 6] = [
+    (2, "2001.4.1", "MUSEUM-X", Verdict::ElsewherePlace),
+    (3, "2001.4.1", "S9", Verdict::UnknownPlace),
+    (4, "2009.1", "S1", Verdict::UnknownThing),
+    (5, "L1999.7", "S1", Verdict::NotHere),
+    (6, "2009.1", "S9", Verdict::UnknownThing),
+    (7, "L1999.7", "MUSEUM-X", Verdict::ElsewherePlace),
+];
 
 #[test]
 fn tour_of_verdicts(rt: HostRuntime) -> Result<(), Fail> {
     let mut ledger = empty(rt.alloc())?;
     post(&rt, rt.alloc(), &mut ledger, GAL, moved("2001.4.1", "S1")?)?;
-    for (number, thing, place, verdict) in [
-        (2, "2001.4.1", "MUSEUM-X", Verdict::ElsewherePlace),
-        (3, "2001.4.1", "S9", Verdict::UnknownPlace),
-        (4, "2009.1", "S1", Verdict::UnknownThing),
-        (5, "L1999.7", "S1", Verdict::NotHere),
-        (6, "2009.1", "S9", Verdict::UnknownThing),
-        (7, "L1999.7", "MUSEUM-X", Verdict::ElsewherePlace),
-    ] {
+    for (number, thing, place, verdict) in TOUR {
         let told = post(&rt, rt.alloc(), &mut ledger, PACK, moved(thing, place)?)?;
         assert_eq!(rt; told, (number, verdict, 0));
-        assert_spots(&rt, &ledger, "2001.4.1", &[(1, "S1")])?;
-        assert_spots(&rt, &ledger, "L1999.7", &[])?;
+        assert_spots(&rt, &ledger, "2001.4.1", FIRST_AT_S1)?;
+        assert_spots(&rt, &ledger, "L1999.7", NO_SPOTS)?;
     }
     assert_eq!(rt; ledger.posted().len(), 7);
     Ok(())
@@ -196,67 +210,74 @@ fn tour_of_verdicts(rt: HostRuntime) -> Result<(), Fail> {
 #[test]
 fn sign_off(rt: HostRuntime) -> Result<(), Fail> {
     let mut ledger = empty(rt.alloc())?;
-    for number in [1, 2] {
-        let told = post(&rt, rt.alloc(), &mut ledger, GAL, moved("2001.4.1", "S1")?)?;
-        assert_eq!(rt; (told.0, told.1), (number, Verdict::Applied));
-    }
+    let told = post(&rt, rt.alloc(), &mut ledger, GAL, moved("2001.4.1", "S1")?)?;
+    assert_eq!(rt; told, (1, Verdict::Applied, 1));
+    let told = post(&rt, rt.alloc(), &mut ledger, GAL, moved("2001.4.1", "S1")?)?;
+    assert_eq!(rt; told, (2, Verdict::Applied, 0));
     let name = Name::new(rt.alloc(), b"Ada")?;
     let told = post(&rt, rt.alloc(), &mut ledger, GAL, Message::SignOff { name })?;
     assert_eq!(rt; told, (3, Verdict::Applied, 0));
     assert_eq!(rt; next_number(&ledger, GAL), None);
     let told = post(&rt, rt.alloc(), &mut ledger, PACK, moved("2001.4.1", "S1")?)?;
     assert_eq!(rt; told, (4, Verdict::Applied, 0));
-    assert_spots(&rt, &ledger, "2001.4.1", &[(1, "S1")])
+    assert_spots(&rt, &ledger, "2001.4.1", FIRST_AT_S1)
 }
+
+/// Moves of crates: the number of the entry, the crate, its place and how many spots are written.
+const CRATES: [(u64, &str, &str, usize); 4] = [
+    (1, "C1", "S1", 1),
+    (2, "C2", "S1", 1),
+    (3, "C1", "S1", 0),
+    (4, "C1", "S2", 1),
+];
+
+const FIRST_CRATE: &[(u64, &str)] = &[(1, "S1"), (4, "S2")];
+
+const SECOND_CRATE: &[(u64, &str)] = &[(2, "S1")];
 
 #[test]
 fn crates_are_moved(rt: HostRuntime) -> Result<(), Fail> {
     let mut ledger = empty(rt.alloc())?;
-    for (number, thing, place, spots) in [
-        (1, "C1", "S1", 1),
-        (2, "C2", "S1", 1),
-        (3, "C1", "S1", 0),
-        (4, "C1", "S2", 1),
-    ] {
+    for (number, thing, place, spots) in CRATES {
         let told = post(&rt, rt.alloc(), &mut ledger, PACK, moved(thing, place)?)?;
         assert_eq!(rt; told, (number, Verdict::Applied, spots));
     }
-    assert_spots(&rt, &ledger, "C1", &[(1, "S1"), (4, "S2")])?;
-    assert_spots(&rt, &ledger, "C2", &[(2, "S1")])
+    assert_spots(&rt, &ledger, "C1", FIRST_CRATE)?;
+    assert_spots(&rt, &ledger, "C2", SECOND_CRATE)
+}
+
+/// The verdict has this number and this name.
+fn assert_verdict(rt: &impl Abort, verdict: Verdict, number: u32, name: &str) {
+    assert_eq!(rt; verdict.number(), number, "{name}");
+    assert_eq!(rt; verdict.name(), name);
 }
 
 #[test]
 fn verdicts_by_number(rt: HostRuntime) {
-    let all = [
-        (Verdict::Applied, "Applied"),
-        (Verdict::UnknownThing, "UnknownThing"),
-        (Verdict::UnknownPlace, "UnknownPlace"),
-        (Verdict::ElsewherePlace, "ElsewherePlace"),
-        (Verdict::UnknownContainer, "UnknownContainer"),
-        (Verdict::UnknownLoan, "UnknownLoan"),
-        (Verdict::LoanKnown, "LoanKnown"),
-        (Verdict::InsidePartner, "InsidePartner"),
-        (Verdict::NoObjects, "NoObjects"),
-        (Verdict::NotObject, "NotObject"),
-        (Verdict::Repeated, "Repeated"),
-        (Verdict::WrongOwner, "WrongOwner"),
-        (Verdict::BadTerm, "BadTerm"),
-        (Verdict::AlreadyAuthorised, "AlreadyAuthorised"),
-        (Verdict::NotAuthorised, "NotAuthorised"),
-        (Verdict::WrongDirection, "WrongDirection"),
-        (Verdict::NotHere, "NotHere"),
-        (Verdict::ContainerNotHere, "ContainerNotHere"),
-        (Verdict::Cycle, "Cycle"),
-        (Verdict::TooDeep, "TooDeep"),
-        (Verdict::NotWithPartner, "NotWithPartner"),
-        (Verdict::AlreadyHere, "AlreadyHere"),
-        (Verdict::NotListed, "NotListed"),
-        (Verdict::WrongStage, "WrongStage"),
-        (Verdict::TermOver, "TermOver"),
-        (Verdict::NotLater, "NotLater"),
-    ];
-    for (number, (verdict, name)) in all.iter().enumerate() {
-        assert_eq!(rt; verdict.number() as usize, number);
-        assert_eq!(rt; verdict.name(), *name);
-    }
+    assert_verdict(&rt, Verdict::Applied, 0, "Applied");
+    assert_verdict(&rt, Verdict::UnknownThing, 1, "UnknownThing");
+    assert_verdict(&rt, Verdict::UnknownPlace, 2, "UnknownPlace");
+    assert_verdict(&rt, Verdict::ElsewherePlace, 3, "ElsewherePlace");
+    assert_verdict(&rt, Verdict::UnknownContainer, 4, "UnknownContainer");
+    assert_verdict(&rt, Verdict::UnknownLoan, 5, "UnknownLoan");
+    assert_verdict(&rt, Verdict::LoanKnown, 6, "LoanKnown");
+    assert_verdict(&rt, Verdict::InsidePartner, 7, "InsidePartner");
+    assert_verdict(&rt, Verdict::NoObjects, 8, "NoObjects");
+    assert_verdict(&rt, Verdict::NotObject, 9, "NotObject");
+    assert_verdict(&rt, Verdict::Repeated, 10, "Repeated");
+    assert_verdict(&rt, Verdict::WrongOwner, 11, "WrongOwner");
+    assert_verdict(&rt, Verdict::BadTerm, 12, "BadTerm");
+    assert_verdict(&rt, Verdict::AlreadyAuthorised, 13, "AlreadyAuthorised");
+    assert_verdict(&rt, Verdict::NotAuthorised, 14, "NotAuthorised");
+    assert_verdict(&rt, Verdict::WrongDirection, 15, "WrongDirection");
+    assert_verdict(&rt, Verdict::NotHere, 16, "NotHere");
+    assert_verdict(&rt, Verdict::ContainerNotHere, 17, "ContainerNotHere");
+    assert_verdict(&rt, Verdict::Cycle, 18, "Cycle");
+    assert_verdict(&rt, Verdict::TooDeep, 19, "TooDeep");
+    assert_verdict(&rt, Verdict::NotWithPartner, 20, "NotWithPartner");
+    assert_verdict(&rt, Verdict::AlreadyHere, 21, "AlreadyHere");
+    assert_verdict(&rt, Verdict::NotListed, 22, "NotListed");
+    assert_verdict(&rt, Verdict::WrongStage, 23, "WrongStage");
+    assert_verdict(&rt, Verdict::TermOver, 24, "TermOver");
+    assert_verdict(&rt, Verdict::NotLater, 25, "NotLater");
 }
