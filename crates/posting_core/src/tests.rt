@@ -2,7 +2,7 @@
 ghost use Rattle.std.specs.Prelude.{◌≡◌, ◌+◌, false, IfSome};
 ghost use Rattle.posting_core.specs.Lawful.{count_at, is_signed_off};
 
-use crate::{Entry, Ledger, Message, Spot, Verdict};
+use crate::{Entry, Ledger, Message, NewSpot, Spot, Verdict};
 use codes_core::{Day, Name, PlaceCode, ThingCode};
 use nest_core::{Setup, StationNo};
 use std::alloc::Global;
@@ -121,114 +121,184 @@ fn assert_spots(
     Ok(())
 }
 
+/// A message to post: its number as an entry, the thing and the place of its move, its verdict and how many spots it writes.
+type Row = (u64, &'static str, &'static str, Verdict, usize);
+
+/// Posts a move as a station's next message, and compares what is told of it.
+fn post_row(
+    rt: &impl Abort,
+    alloc: Global,
+    ledger: &mut Ledger,
+    station: StationNo,
+    row: &Row,
+) -> Result<(), Fail> {
+    let (number, thing, place, verdict, spots) = *row;
+    let told = post(rt, alloc, ledger, station, moved(thing, place)?)?;
+    assert_eq!(rt; told, (number, verdict, spots), "{thing} to {place}");
+    Ok(())
+}
+
+fn post_rows(
+    rt: &impl Abort,
+    alloc: Global,
+    ledger: &mut Ledger,
+    station: StationNo,
+    rows: &[Row],
+) -> Result<(), Fail> {
+    for row in rows {
+        post_row(rt, alloc, ledger, station, row)?;
+    }
+    Ok(())
+}
+
+/// Nothing is placed.
+fn assert_unplaced(rt: &impl Abort, ledger: &Ledger, things: &[&str]) -> Result<(), Fail> {
+    for thing in things {
+        assert_spots(rt, ledger, thing, NO_SPOTS)?;
+    }
+    Ok(())
+}
+
+const UNPLACED: &[&str] = &["C1", "2001.4.1", "L1999.7"];
+
 #[test]
 fn nothing_posted(rt: HostRuntime) -> Result<(), Fail> {
     let ledger = empty(rt.alloc())?;
     assert!(rt; ledger.posted().is_empty());
     assert_eq!(rt; ledger.setup().things(), 6);
-    assert_spots(&rt, &ledger, "C1", NO_SPOTS)?;
-    assert_spots(&rt, &ledger, "2001.4.1", NO_SPOTS)?;
-    assert_spots(&rt, &ledger, "L1999.7", NO_SPOTS)
+    assert_unplaced(&rt, &ledger, UNPLACED)
 }
 
-/// Moves in the order in which they are posted, and the spots that stand then.
-const MOVES: [(u64, &str, &str); 3] = [
-    (1, "2001.4.1", "S1"),
-    (2, "2001.4.2", "S2"),
-    (3, "2001.4.1", "S1-A"),
+const MOVES: &[Row] = &[
+    (1, "2001.4.1", "S1", Verdict::Applied, 1),
+    (2, "2001.4.2", "S2", Verdict::Applied, 1),
+    (3, "2001.4.1", "S1-A", Verdict::Applied, 1),
 ];
 
 const FIRST_MOVED_TWICE: &[(u64, &str)] = &[(1, "S1"), (3, "S1-A")];
 
 const SECOND_MOVED_ONCE: &[(u64, &str)] = &[(2, "S2")];
 
+/// What is posted are so many messages of one station, numbered from 1.
+fn assert_numbered(rt: &impl Abort, ledger: &Ledger, station: StationNo, count: usize) {
+    assert_eq!(rt; ledger.posted().len(), count);
+    for (i, entry) in ledger.posted().iter().enumerate() {
+        assert_eq!(rt; (entry.station, entry.n as usize), (station, i + 1));
+    }
+}
+
 #[test]
 fn held_then_posted(rt: HostRuntime) -> Result<(), Fail> {
     let mut ledger = empty(rt.alloc())?;
-    for (number, thing, place) in MOVES {
-        let told = post(&rt, rt.alloc(), &mut ledger, GAL, moved(thing, place)?)?;
-        assert_eq!(rt; told, (number, Verdict::Applied, 1));
-    }
+    post_rows(&rt, rt.alloc(), &mut ledger, GAL, MOVES)?;
     assert_spots(&rt, &ledger, "2001.4.1", FIRST_MOVED_TWICE)?;
     assert_spots(&rt, &ledger, "2001.4.2", SECOND_MOVED_ONCE)?;
-    assert_eq!(rt; ledger.posted().len(), 3);
-    for (i, entry) in ledger.posted().iter().enumerate() {
-        assert_eq!(rt; (entry.station, entry.n as usize), (GAL, i + 1));
-    }
+    assert_numbered(&rt, &ledger, GAL, 3);
     Ok(())
 }
 
-const POSTED_BEFORE: &[(u64, &str)] = &[(1, "S1"), (2, "S2")];
+const MOVED_TWICE: &[Row] = &[
+    (1, "2001.4.1", "S1", Verdict::Applied, 1),
+    (2, "2001.4.1", "S2", Verdict::Applied, 1),
+];
+
+const SPOTS_BEFORE: &[(u64, &str)] = &[(1, "S1"), (2, "S2")];
+
+/// The plan of a move to the place S1-A, the second of the setup, as the third entry: one spot, the thing's third.
+fn assert_plan(rt: &impl Abort, alloc: Global, ledger: &Ledger) -> Result<(), Fail> {
+    let changes = ledger.plan(alloc, &moved("2001.4.1", "S1-A")?)?;
+    let spot = Spot {
+        entry: 3,
+        place: 1,
+        day: day()?,
+    };
+    let new = NewSpot {
+        thing: 2,
+        k: 3,
+        spot,
+    };
+    assert_eq!(rt; changes.entry, 3);
+    assert_eq!(rt; changes.verdict, Verdict::Applied);
+    assert_eq!(rt; changes.spots.as_slice(), [new].as_slice());
+    Ok(())
+}
 
 #[test]
 fn planned(rt: HostRuntime) -> Result<(), Fail> {
     let mut ledger = empty(rt.alloc())?;
-    post(&rt, rt.alloc(), &mut ledger, GAL, moved("2001.4.1", "S1")?)?;
-    post(&rt, rt.alloc(), &mut ledger, GAL, moved("2001.4.1", "S2")?)?;
-    let changes = ledger.plan(rt.alloc(), &moved("2001.4.1", "S1-A")?)?;
-    assert_eq!(rt; (changes.entry, changes.verdict), (3, Verdict::Applied));
-    assert_eq!(rt; changes.spots.as_slice().len(), 1);
-    let new = changes.spots.as_slice()[0];
-    assert_eq!(rt; (new.thing, new.k), (2, 3));
-    assert_eq!(rt;
-        new.spot,
-        Spot {
-            entry: 3,
-            place: 1,
-            day: day()?
-        }
-    );
+    post_rows(&rt, rt.alloc(), &mut ledger, GAL, MOVED_TWICE)?;
+    assert_plan(&rt, rt.alloc(), &ledger)?;
     // A plan posts nothing.
     assert_eq!(rt; ledger.posted().len(), 2);
-    assert_spots(&rt, &ledger, "2001.4.1", POSTED_BEFORE)
+    assert_spots(&rt, &ledger, "2001.4.1", SPOTS_BEFORE)
 }
 
-/// What is refused: the number of the entry, the thing and the place of its move, and its verdict.
-const TOUR: [(u64, &str, &str, Verdict); 6] = [
-    (2, "2001.4.1", "MUSEUM-X", Verdict::ElsewherePlace),
-    (3, "2001.4.1", "S9", Verdict::UnknownPlace),
-    (4, "2009.1", "S1", Verdict::UnknownThing),
-    (5, "L1999.7", "S1", Verdict::NotHere),
-    (6, "2009.1", "S9", Verdict::UnknownThing),
-    (7, "L1999.7", "MUSEUM-X", Verdict::ElsewherePlace),
+const ONE_MOVE: &[Row] = &[(1, "2001.4.1", "S1", Verdict::Applied, 1)];
+
+/// What is refused, in the order in which it is posted.
+const TOUR: &[Row] = &[
+    (2, "2001.4.1", "MUSEUM-X", Verdict::ElsewherePlace, 0),
+    (3, "2001.4.1", "S9", Verdict::UnknownPlace, 0),
+    (4, "2009.1", "S1", Verdict::UnknownThing, 0),
+    (5, "L1999.7", "S1", Verdict::NotHere, 0),
+    (6, "2009.1", "S9", Verdict::UnknownThing, 0),
+    (7, "L1999.7", "MUSEUM-X", Verdict::ElsewherePlace, 0),
 ];
+
+/// Posts what is refused; after each the spots are as before.
+fn post_refused(rt: &impl Abort, alloc: Global, ledger: &mut Ledger) -> Result<(), Fail> {
+    for row in TOUR {
+        post_row(rt, alloc, ledger, PACK, row)?;
+        assert_spots(rt, ledger, "2001.4.1", FIRST_AT_S1)?;
+        assert_spots(rt, ledger, "L1999.7", NO_SPOTS)?;
+    }
+    Ok(())
+}
 
 #[test]
 fn tour_of_verdicts(rt: HostRuntime) -> Result<(), Fail> {
     let mut ledger = empty(rt.alloc())?;
-    post(&rt, rt.alloc(), &mut ledger, GAL, moved("2001.4.1", "S1")?)?;
-    for (number, thing, place, verdict) in TOUR {
-        let told = post(&rt, rt.alloc(), &mut ledger, PACK, moved(thing, place)?)?;
-        assert_eq!(rt; told, (number, verdict, 0));
-        assert_spots(&rt, &ledger, "2001.4.1", FIRST_AT_S1)?;
-        assert_spots(&rt, &ledger, "L1999.7", NO_SPOTS)?;
-    }
+    post_rows(&rt, rt.alloc(), &mut ledger, GAL, ONE_MOVE)?;
+    post_refused(&rt, rt.alloc(), &mut ledger)?;
     assert_eq!(rt; ledger.posted().len(), 7);
+    Ok(())
+}
+
+const BEFORE_SIGNING: &[Row] = &[
+    (1, "2001.4.1", "S1", Verdict::Applied, 1),
+    (2, "2001.4.1", "S1", Verdict::Applied, 0),
+];
+
+const AFTER_SIGNING: &[Row] = &[(4, "2001.4.1", "S1", Verdict::Applied, 0)];
+
+/// Posts a station's sign-off as the third entry; the station then has no next number.
+fn post_sign_off(
+    rt: &impl Abort,
+    alloc: Global,
+    ledger: &mut Ledger,
+    station: StationNo,
+) -> Result<(), Fail> {
+    let name = Name::new(alloc, b"Ada")?;
+    let told = post(rt, alloc, ledger, station, Message::SignOff { name })?;
+    assert_eq!(rt; told, (3, Verdict::Applied, 0));
+    assert_eq!(rt; next_number(ledger, station), None);
     Ok(())
 }
 
 #[test]
 fn sign_off(rt: HostRuntime) -> Result<(), Fail> {
     let mut ledger = empty(rt.alloc())?;
-    let told = post(&rt, rt.alloc(), &mut ledger, GAL, moved("2001.4.1", "S1")?)?;
-    assert_eq!(rt; told, (1, Verdict::Applied, 1));
-    let told = post(&rt, rt.alloc(), &mut ledger, GAL, moved("2001.4.1", "S1")?)?;
-    assert_eq!(rt; told, (2, Verdict::Applied, 0));
-    let name = Name::new(rt.alloc(), b"Ada")?;
-    let told = post(&rt, rt.alloc(), &mut ledger, GAL, Message::SignOff { name })?;
-    assert_eq!(rt; told, (3, Verdict::Applied, 0));
-    assert_eq!(rt; next_number(&ledger, GAL), None);
-    let told = post(&rt, rt.alloc(), &mut ledger, PACK, moved("2001.4.1", "S1")?)?;
-    assert_eq!(rt; told, (4, Verdict::Applied, 0));
+    post_rows(&rt, rt.alloc(), &mut ledger, GAL, BEFORE_SIGNING)?;
+    post_sign_off(&rt, rt.alloc(), &mut ledger, GAL)?;
+    post_rows(&rt, rt.alloc(), &mut ledger, PACK, AFTER_SIGNING)?;
     assert_spots(&rt, &ledger, "2001.4.1", FIRST_AT_S1)
 }
 
-/// Moves of crates: the number of the entry, the crate, its place and how many spots are written.
-const CRATES: [(u64, &str, &str, usize); 4] = [
-    (1, "C1", "S1", 1),
-    (2, "C2", "S1", 1),
-    (3, "C1", "S1", 0),
-    (4, "C1", "S2", 1),
+const CRATES: &[Row] = &[
+    (1, "C1", "S1", Verdict::Applied, 1),
+    (2, "C2", "S1", Verdict::Applied, 1),
+    (3, "C1", "S1", Verdict::Applied, 0),
+    (4, "C1", "S2", Verdict::Applied, 1),
 ];
 
 const FIRST_CRATE: &[(u64, &str)] = &[(1, "S1"), (4, "S2")];
@@ -238,10 +308,7 @@ const SECOND_CRATE: &[(u64, &str)] = &[(2, "S1")];
 #[test]
 fn crates_are_moved(rt: HostRuntime) -> Result<(), Fail> {
     let mut ledger = empty(rt.alloc())?;
-    for (number, thing, place, spots) in CRATES {
-        let told = post(&rt, rt.alloc(), &mut ledger, PACK, moved(thing, place)?)?;
-        assert_eq!(rt; told, (number, Verdict::Applied, spots));
-    }
+    post_rows(&rt, rt.alloc(), &mut ledger, PACK, CRATES)?;
     assert_spots(&rt, &ledger, "C1", FIRST_CRATE)?;
     assert_spots(&rt, &ledger, "C2", SECOND_CRATE)
 }
