@@ -121,8 +121,8 @@ fn assert_spots(
     Ok(())
 }
 
-/// A message to post: its number as an entry, the thing and the place of its move, its verdict and how many spots it writes.
-type Row = (u64, &'static str, &'static str, Verdict, usize);
+/// A message to post: the thing and the place of its move; its number as an entry, its verdict and how many spots it writes.
+type Row = (&'static str, &'static str, (u64, Verdict, usize));
 
 /// Posts a move as a station's next message, and compares what is told of it.
 fn post_row(
@@ -132,9 +132,9 @@ fn post_row(
     station: StationNo,
     row: &Row,
 ) -> Result<(), Fail> {
-    let (number, thing, place, verdict, spots) = *row;
-    let told = post(rt, alloc, ledger, station, moved(thing, place)?)?;
-    assert_eq!(rt; told, (number, verdict, spots), "{thing} to {place}");
+    let message = moved(row.0, row.1)?;
+    let told = post(rt, alloc, ledger, station, message)?;
+    assert_eq!(rt; told, row.2);
     Ok(())
 }
 
@@ -159,20 +159,25 @@ fn assert_unplaced(rt: &impl Abort, ledger: &Ledger, things: &[&str]) -> Result<
     Ok(())
 }
 
+/// Nothing is posted, and the setup has six things.
+fn assert_fresh(rt: &impl Abort, ledger: &Ledger) {
+    assert!(rt; ledger.posted().is_empty());
+    assert_eq!(rt; ledger.setup().things(), 6);
+}
+
 const UNPLACED: &[&str] = &["C1", "2001.4.1", "L1999.7"];
 
 #[test]
 fn nothing_posted(rt: HostRuntime) -> Result<(), Fail> {
     let ledger = empty(rt.alloc())?;
-    assert!(rt; ledger.posted().is_empty());
-    assert_eq!(rt; ledger.setup().things(), 6);
+    assert_fresh(&rt, &ledger);
     assert_unplaced(&rt, &ledger, UNPLACED)
 }
 
 const MOVES: &[Row] = &[
-    (1, "2001.4.1", "S1", Verdict::Applied, 1),
-    (2, "2001.4.2", "S2", Verdict::Applied, 1),
-    (3, "2001.4.1", "S1-A", Verdict::Applied, 1),
+    ("2001.4.1", "S1", (1, Verdict::Applied, 1)),
+    ("2001.4.2", "S2", (2, Verdict::Applied, 1)),
+    ("2001.4.1", "S1-A", (3, Verdict::Applied, 1)),
 ];
 
 const FIRST_MOVED_TWICE: &[(u64, &str)] = &[(1, "S1"), (3, "S1-A")];
@@ -187,19 +192,23 @@ fn assert_numbered(rt: &impl Abort, ledger: &Ledger, station: StationNo, count: 
     }
 }
 
-#[test]
-fn held_then_posted(rt: HostRuntime) -> Result<(), Fail> {
-    let mut ledger = empty(rt.alloc())?;
-    post_rows(&rt, rt.alloc(), &mut ledger, GAL, MOVES)?;
-    assert_spots(&rt, &ledger, "2001.4.1", FIRST_MOVED_TWICE)?;
-    assert_spots(&rt, &ledger, "2001.4.2", SECOND_MOVED_ONCE)?;
-    assert_numbered(&rt, &ledger, GAL, 3);
+fn post_moves(rt: &impl Abort, alloc: Global, ledger: &mut Ledger) -> Result<(), Fail> {
+    post_rows(rt, alloc, ledger, GAL, MOVES)?;
+    assert_numbered(rt, ledger, GAL, 3);
     Ok(())
 }
 
+#[test]
+fn held_then_posted(rt: HostRuntime) -> Result<(), Fail> {
+    let mut ledger = empty(rt.alloc())?;
+    post_moves(&rt, rt.alloc(), &mut ledger)?;
+    assert_spots(&rt, &ledger, "2001.4.1", FIRST_MOVED_TWICE)?;
+    assert_spots(&rt, &ledger, "2001.4.2", SECOND_MOVED_ONCE)
+}
+
 const MOVED_TWICE: &[Row] = &[
-    (1, "2001.4.1", "S1", Verdict::Applied, 1),
-    (2, "2001.4.1", "S2", Verdict::Applied, 1),
+    ("2001.4.1", "S1", (1, Verdict::Applied, 1)),
+    ("2001.4.1", "S2", (2, Verdict::Applied, 1)),
 ];
 
 const SPOTS_BEFORE: &[(u64, &str)] = &[(1, "S1"), (2, "S2")];
@@ -220,6 +229,8 @@ fn assert_plan(rt: &impl Abort, alloc: Global, ledger: &Ledger) -> Result<(), Fa
     assert_eq!(rt; changes.entry, 3);
     assert_eq!(rt; changes.verdict, Verdict::Applied);
     assert_eq!(rt; changes.spots.as_slice(), [new].as_slice());
+    // A plan posts nothing.
+    assert_eq!(rt; ledger.posted().len(), 2);
     Ok(())
 }
 
@@ -228,21 +239,19 @@ fn planned(rt: HostRuntime) -> Result<(), Fail> {
     let mut ledger = empty(rt.alloc())?;
     post_rows(&rt, rt.alloc(), &mut ledger, GAL, MOVED_TWICE)?;
     assert_plan(&rt, rt.alloc(), &ledger)?;
-    // A plan posts nothing.
-    assert_eq!(rt; ledger.posted().len(), 2);
     assert_spots(&rt, &ledger, "2001.4.1", SPOTS_BEFORE)
 }
 
-const ONE_MOVE: &[Row] = &[(1, "2001.4.1", "S1", Verdict::Applied, 1)];
+const ONE_MOVE: &[Row] = &[("2001.4.1", "S1", (1, Verdict::Applied, 1))];
 
 /// What is refused, in the order in which it is posted.
 const TOUR: &[Row] = &[
-    (2, "2001.4.1", "MUSEUM-X", Verdict::ElsewherePlace, 0),
-    (3, "2001.4.1", "S9", Verdict::UnknownPlace, 0),
-    (4, "2009.1", "S1", Verdict::UnknownThing, 0),
-    (5, "L1999.7", "S1", Verdict::NotHere, 0),
-    (6, "2009.1", "S9", Verdict::UnknownThing, 0),
-    (7, "L1999.7", "MUSEUM-X", Verdict::ElsewherePlace, 0),
+    ("2001.4.1", "MUSEUM-X", (2, Verdict::ElsewherePlace, 0)),
+    ("2001.4.1", "S9", (3, Verdict::UnknownPlace, 0)),
+    ("2009.1", "S1", (4, Verdict::UnknownThing, 0)),
+    ("L1999.7", "S1", (5, Verdict::NotHere, 0)),
+    ("2009.1", "S9", (6, Verdict::UnknownThing, 0)),
+    ("L1999.7", "MUSEUM-X", (7, Verdict::ElsewherePlace, 0)),
 ];
 
 /// Posts what is refused; after each the spots are as before.
@@ -252,6 +261,7 @@ fn post_refused(rt: &impl Abort, alloc: Global, ledger: &mut Ledger) -> Result<(
         assert_spots(rt, ledger, "2001.4.1", FIRST_AT_S1)?;
         assert_spots(rt, ledger, "L1999.7", NO_SPOTS)?;
     }
+    assert_eq!(rt; ledger.posted().len(), 7);
     Ok(())
 }
 
@@ -259,17 +269,15 @@ fn post_refused(rt: &impl Abort, alloc: Global, ledger: &mut Ledger) -> Result<(
 fn tour_of_verdicts(rt: HostRuntime) -> Result<(), Fail> {
     let mut ledger = empty(rt.alloc())?;
     post_rows(&rt, rt.alloc(), &mut ledger, GAL, ONE_MOVE)?;
-    post_refused(&rt, rt.alloc(), &mut ledger)?;
-    assert_eq!(rt; ledger.posted().len(), 7);
-    Ok(())
+    post_refused(&rt, rt.alloc(), &mut ledger)
 }
 
 const BEFORE_SIGNING: &[Row] = &[
-    (1, "2001.4.1", "S1", Verdict::Applied, 1),
-    (2, "2001.4.1", "S1", Verdict::Applied, 0),
+    ("2001.4.1", "S1", (1, Verdict::Applied, 1)),
+    ("2001.4.1", "S1", (2, Verdict::Applied, 0)),
 ];
 
-const AFTER_SIGNING: &[Row] = &[(4, "2001.4.1", "S1", Verdict::Applied, 0)];
+const AFTER_SIGNING: &[Row] = &[("2001.4.1", "S1", (4, Verdict::Applied, 0))];
 
 /// Posts a station's sign-off as the third entry; the station then has no next number.
 fn post_sign_off(
@@ -285,20 +293,25 @@ fn post_sign_off(
     Ok(())
 }
 
+/// One station signs off, and another still posts.
+fn post_past_sign_off(rt: &impl Abort, alloc: Global, ledger: &mut Ledger) -> Result<(), Fail> {
+    post_sign_off(rt, alloc, ledger, GAL)?;
+    post_rows(rt, alloc, ledger, PACK, AFTER_SIGNING)
+}
+
 #[test]
 fn sign_off(rt: HostRuntime) -> Result<(), Fail> {
     let mut ledger = empty(rt.alloc())?;
     post_rows(&rt, rt.alloc(), &mut ledger, GAL, BEFORE_SIGNING)?;
-    post_sign_off(&rt, rt.alloc(), &mut ledger, GAL)?;
-    post_rows(&rt, rt.alloc(), &mut ledger, PACK, AFTER_SIGNING)?;
+    post_past_sign_off(&rt, rt.alloc(), &mut ledger)?;
     assert_spots(&rt, &ledger, "2001.4.1", FIRST_AT_S1)
 }
 
 const CRATES: &[Row] = &[
-    (1, "C1", "S1", Verdict::Applied, 1),
-    (2, "C2", "S1", Verdict::Applied, 1),
-    (3, "C1", "S1", Verdict::Applied, 0),
-    (4, "C1", "S2", Verdict::Applied, 1),
+    ("C1", "S1", (1, Verdict::Applied, 1)),
+    ("C2", "S1", (2, Verdict::Applied, 1)),
+    ("C1", "S1", (3, Verdict::Applied, 0)),
+    ("C1", "S2", (4, Verdict::Applied, 1)),
 ];
 
 const FIRST_CRATE: &[(u64, &str)] = &[(1, "S1"), (4, "S2")];
