@@ -124,6 +124,15 @@ fn assert_spots(
 /// A message to post: the thing and the place of its move; its number as an entry, its verdict and how many spots it writes.
 type Row = (&'static str, &'static str, (u64, Verdict, usize));
 
+fn assert_told(
+    rt: &impl Abort,
+    told: (u64, Verdict, usize),
+    want: (u64, Verdict, usize),
+) -> Result<(), Fail> {
+    assert_eq!(rt; told, want);
+    Ok(())
+}
+
 /// Posts a move as a station's next message, and compares what is told of it.
 fn post_row(
     rt: &impl Abort,
@@ -134,8 +143,7 @@ fn post_row(
 ) -> Result<(), Fail> {
     let message = moved(row.0, row.1)?;
     let told = post(rt, alloc, ledger, station, message)?;
-    assert_eq!(rt; told, row.2);
-    Ok(())
+    assert_told(rt, told, row.2)
 }
 
 fn post_rows(
@@ -160,9 +168,10 @@ fn assert_unplaced(rt: &impl Abort, ledger: &Ledger, things: &[&str]) -> Result<
 }
 
 /// Nothing is posted, and the setup has six things.
-fn assert_fresh(rt: &impl Abort, ledger: &Ledger) {
+fn assert_fresh(rt: &impl Abort, ledger: &Ledger) -> Result<(), Fail> {
     assert!(rt; ledger.posted().is_empty());
     assert_eq!(rt; ledger.setup().things(), 6);
+    Ok(())
 }
 
 const UNPLACED: &[&str] = &["C1", "2001.4.1", "L1999.7"];
@@ -170,7 +179,7 @@ const UNPLACED: &[&str] = &["C1", "2001.4.1", "L1999.7"];
 #[test]
 fn nothing_posted(rt: HostRuntime) -> Result<(), Fail> {
     let ledger = empty(rt.alloc())?;
-    assert_fresh(&rt, &ledger);
+    assert_fresh(&rt, &ledger)?;
     assert_unplaced(&rt, &ledger, UNPLACED)
 }
 
@@ -185,17 +194,22 @@ const FIRST_MOVED_TWICE: &[(u64, &str)] = &[(1, "S1"), (3, "S1-A")];
 const SECOND_MOVED_ONCE: &[(u64, &str)] = &[(2, "S2")];
 
 /// What is posted are so many messages of one station, numbered from 1.
-fn assert_numbered(rt: &impl Abort, ledger: &Ledger, station: StationNo, count: usize) {
+fn assert_numbered(
+    rt: &impl Abort,
+    ledger: &Ledger,
+    station: StationNo,
+    count: usize,
+) -> Result<(), Fail> {
     assert_eq!(rt; ledger.posted().len(), count);
     for (i, entry) in ledger.posted().iter().enumerate() {
         assert_eq!(rt; (entry.station, entry.n as usize), (station, i + 1));
     }
+    Ok(())
 }
 
 fn post_moves(rt: &impl Abort, alloc: Global, ledger: &mut Ledger) -> Result<(), Fail> {
     post_rows(rt, alloc, ledger, GAL, MOVES)?;
-    assert_numbered(rt, ledger, GAL, 3);
-    Ok(())
+    assert_numbered(rt, ledger, GAL, 3)
 }
 
 #[test]
@@ -254,6 +268,11 @@ const TOUR: &[Row] = &[
     ("L1999.7", "MUSEUM-X", (7, Verdict::ElsewherePlace, 0)),
 ];
 
+fn assert_posted(rt: &impl Abort, ledger: &Ledger, count: usize) -> Result<(), Fail> {
+    assert_eq!(rt; ledger.posted().len(), count);
+    Ok(())
+}
+
 /// Posts what is refused; after each the spots are as before.
 fn post_refused(rt: &impl Abort, alloc: Global, ledger: &mut Ledger) -> Result<(), Fail> {
     for row in TOUR {
@@ -261,8 +280,7 @@ fn post_refused(rt: &impl Abort, alloc: Global, ledger: &mut Ledger) -> Result<(
         assert_spots(rt, ledger, "2001.4.1", FIRST_AT_S1)?;
         assert_spots(rt, ledger, "L1999.7", NO_SPOTS)?;
     }
-    assert_eq!(rt; ledger.posted().len(), 7);
-    Ok(())
+    assert_posted(rt, ledger, 7)
 }
 
 #[test]
@@ -279,6 +297,11 @@ const BEFORE_SIGNING: &[Row] = &[
 
 const AFTER_SIGNING: &[Row] = &[("2001.4.1", "S1", (4, Verdict::Applied, 0))];
 
+fn assert_signed_off(rt: &impl Abort, ledger: &Ledger, station: StationNo) -> Result<(), Fail> {
+    assert_eq!(rt; next_number(ledger, station), None);
+    Ok(())
+}
+
 /// Posts a station's sign-off as the third entry; the station then has no next number.
 fn post_sign_off(
     rt: &impl Abort,
@@ -288,9 +311,8 @@ fn post_sign_off(
 ) -> Result<(), Fail> {
     let name = Name::new(alloc, b"Ada")?;
     let told = post(rt, alloc, ledger, station, Message::SignOff { name })?;
-    assert_eq!(rt; told, (3, Verdict::Applied, 0));
-    assert_eq!(rt; next_number(ledger, station), None);
-    Ok(())
+    assert_told(rt, told, (3, Verdict::Applied, 0))?;
+    assert_signed_off(rt, ledger, station)
 }
 
 /// One station signs off, and another still posts.
