@@ -9,3 +9,17 @@ pub mod Reading
 pub mod RowTexts
 pub mod Tables
 pub mod WorkedRows
+pub mod NestWords
+pub mod Trees
+pub mod Chains
+pub mod Moves
+pub mod Sorted
+pub mod Contents
+pub mod Putting
+pub mod Writes
+pub mod Gathers
+pub mod Steady
+pub mod Heights
+pub mod Whole
+pub mod Blanks
+pub mod NestLaws

@@ -4,3 +4,5 @@ pub mod SetupRows
 pub mod SetupFaults
 pub mod SetupTexts
 pub mod Puts
+pub mod Nest
+pub mod Records

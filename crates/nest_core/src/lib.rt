@@ -1,17 +1,26 @@
-//! The museum's setup: its stations, places and things, each with a number.
+//! The museum's setup: its stations, places and things, each with a number; and the nest: where each thing is put.
 #![tactic(auto)]
 
+mod nest;
 mod put;
+mod records;
 mod setup;
 mod setup_fault;
 mod setup_reader;
 mod setup_row;
 mod setup_text;
 mod station_name;
+mod steps;
+mod thing_nos;
 
+pub use nest::{Nest, PackBar, laws};
 pub use put::{Put, Target};
 pub use setup::{PlaceNo, Setup, StationNo, ThingNo};
 pub use setup_fault::SetupFault;
+pub use steps::Steps;
+pub use thing_nos::{Moved, ThingNos};
 
+#[cfg(test)]
+mod nest_tests;
 #[cfg(test)]
 mod tests;

@@ -2,7 +2,7 @@
 ghost use Rattle.std.specs.Prelude.{◌≡◌, ◌+◌, false, IfSome};
 ghost use Rattle.posting_core.specs.Lawful.{count_at, is_signed_off};
 
-use crate::{Entry, Ledger, Message, Spot, Verdict};
+use crate::{Entry, Ledger, Message, NewSpot, Spot, Verdict};
 use codes_core::{Day, Name, PlaceCode, ThingCode};
 use nest_core::{Setup, StationNo};
 use std::alloc::Global;
@@ -17,6 +17,10 @@ const SETUP: &str =
 const PACK: StationNo = 0;
 
 const GAL: StationNo = 1;
+
+const NO_SPOTS: &[(u64, &str)] = &[];
+
+const FIRST_AT_S1: &[(u64, &str)] = &[(1, "S1")];
 
 fn empty(alloc: Global) -> Result<Ledger, Fail> {
     let setup = Setup::read(alloc, SETUP.as_bytes())?;
@@ -117,147 +121,266 @@ fn assert_spots(
     Ok(())
 }
 
+/// A message to post: the thing and the place of its move; its number as an entry, its verdict and how many spots it writes.
+type Row = (&'static str, &'static str, (u64, Verdict, usize));
+
+fn assert_told(
+    rt: &impl Abort,
+    told: (u64, Verdict, usize),
+    want: (u64, Verdict, usize),
+) -> Result<(), Fail> {
+    assert_eq!(rt; told, want);
+    Ok(())
+}
+
+/// Posts a move as a station's next message, and compares what is told of it.
+fn post_row(
+    rt: &impl Abort,
+    alloc: Global,
+    ledger: &mut Ledger,
+    station: StationNo,
+    row: &Row,
+) -> Result<(), Fail> {
+    let message = moved(row.0, row.1)?;
+    let told = post(rt, alloc, ledger, station, message)?;
+    assert_told(rt, told, row.2)
+}
+
+fn post_rows(
+    rt: &impl Abort,
+    alloc: Global,
+    ledger: &mut Ledger,
+    station: StationNo,
+    rows: &[Row],
+) -> Result<(), Fail> {
+    for row in rows {
+        post_row(rt, alloc, ledger, station, row)?;
+    }
+    Ok(())
+}
+
+/// Nothing is placed.
+fn assert_unplaced(rt: &impl Abort, ledger: &Ledger, things: &[&str]) -> Result<(), Fail> {
+    for thing in things {
+        assert_spots(rt, ledger, thing, NO_SPOTS)?;
+    }
+    Ok(())
+}
+
+/// Nothing is posted, and the setup has six things.
+fn assert_fresh(rt: &impl Abort, ledger: &Ledger) -> Result<(), Fail> {
+    assert!(rt; ledger.posted().is_empty());
+    assert_eq!(rt; ledger.setup().things(), 6);
+    Ok(())
+}
+
+const UNPLACED: &[&str] = &["C1", "2001.4.1", "L1999.7"];
+
 #[test]
 fn nothing_posted(rt: HostRuntime) -> Result<(), Fail> {
     let ledger = empty(rt.alloc())?;
-    assert!(rt; ledger.posted().is_empty());
-    assert_eq!(rt; ledger.setup().things(), 6);
-    for thing in ["C1", "2001.4.1", "L1999.7"] {
-        assert_spots(&rt, &ledger, thing, &[])?;
+    assert_fresh(&rt, &ledger)?;
+    assert_unplaced(&rt, &ledger, UNPLACED)
+}
+
+const MOVES: &[Row] = &[
+    ("2001.4.1", "S1", (1, Verdict::Applied, 1)),
+    ("2001.4.2", "S2", (2, Verdict::Applied, 1)),
+    ("2001.4.1", "S1-A", (3, Verdict::Applied, 1)),
+];
+
+const FIRST_MOVED_TWICE: &[(u64, &str)] = &[(1, "S1"), (3, "S1-A")];
+
+const SECOND_MOVED_ONCE: &[(u64, &str)] = &[(2, "S2")];
+
+/// What is posted are so many messages of one station, numbered from 1.
+fn assert_numbered(
+    rt: &impl Abort,
+    ledger: &Ledger,
+    station: StationNo,
+    count: usize,
+) -> Result<(), Fail> {
+    assert_eq!(rt; ledger.posted().len(), count);
+    for (i, entry) in ledger.posted().iter().enumerate() {
+        assert_eq!(rt; (entry.station, entry.n as usize), (station, i + 1));
     }
     Ok(())
+}
+
+fn post_moves(rt: &impl Abort, alloc: Global, ledger: &mut Ledger) -> Result<(), Fail> {
+    post_rows(rt, alloc, ledger, GAL, MOVES)?;
+    assert_numbered(rt, ledger, GAL, 3)
 }
 
 #[test]
 fn held_then_posted(rt: HostRuntime) -> Result<(), Fail> {
     let mut ledger = empty(rt.alloc())?;
-    for (number, thing, place) in [
-        (1, "2001.4.1", "S1"),
-        (2, "2001.4.2", "S2"),
-        (3, "2001.4.1", "S1-A"),
-    ] {
-        let told = post(&rt, rt.alloc(), &mut ledger, GAL, moved(thing, place)?)?;
-        assert_eq!(rt; told, (number, Verdict::Applied, 1));
-    }
-    assert_spots(&rt, &ledger, "2001.4.1", &[(1, "S1"), (3, "S1-A")])?;
-    assert_spots(&rt, &ledger, "2001.4.2", &[(2, "S2")])?;
-    assert_eq!(rt; ledger.posted().len(), 3);
-    for (i, entry) in ledger.posted().iter().enumerate() {
-        assert_eq!(rt; (entry.station, entry.n as usize), (GAL, i + 1));
-    }
+    post_moves(&rt, rt.alloc(), &mut ledger)?;
+    assert_spots(&rt, &ledger, "2001.4.1", FIRST_MOVED_TWICE)?;
+    assert_spots(&rt, &ledger, "2001.4.2", SECOND_MOVED_ONCE)
+}
+
+const MOVED_TWICE: &[Row] = &[
+    ("2001.4.1", "S1", (1, Verdict::Applied, 1)),
+    ("2001.4.1", "S2", (2, Verdict::Applied, 1)),
+];
+
+const SPOTS_BEFORE: &[(u64, &str)] = &[(1, "S1"), (2, "S2")];
+
+/// The plan of a move to the place S1-A, the second of the setup, as the third entry: one spot, the thing's third.
+fn assert_plan(rt: &impl Abort, alloc: Global, ledger: &Ledger) -> Result<(), Fail> {
+    let changes = ledger.plan(alloc, &moved("2001.4.1", "S1-A")?)?;
+    let spot = Spot {
+        entry: 3,
+        place: 1,
+        day: day()?,
+    };
+    let new = NewSpot {
+        thing: 2,
+        k: 3,
+        spot,
+    };
+    assert_eq!(rt; changes.entry, 3);
+    assert_eq!(rt; changes.verdict, Verdict::Applied);
+    assert_eq!(rt; changes.spots.as_slice(), [new].as_slice());
+    // A plan posts nothing.
+    assert_eq!(rt; ledger.posted().len(), 2);
     Ok(())
 }
 
 #[test]
 fn planned(rt: HostRuntime) -> Result<(), Fail> {
     let mut ledger = empty(rt.alloc())?;
-    for place in ["S1", "S2"] {
-        post(&rt, rt.alloc(), &mut ledger, GAL, moved("2001.4.1", place)?)?;
+    post_rows(&rt, rt.alloc(), &mut ledger, GAL, MOVED_TWICE)?;
+    assert_plan(&rt, rt.alloc(), &ledger)?;
+    assert_spots(&rt, &ledger, "2001.4.1", SPOTS_BEFORE)
+}
+
+const ONE_MOVE: &[Row] = &[("2001.4.1", "S1", (1, Verdict::Applied, 1))];
+
+/// What is refused, in the order in which it is posted.
+const TOUR: &[Row] = &[
+    ("2001.4.1", "MUSEUM-X", (2, Verdict::ElsewherePlace, 0)),
+    ("2001.4.1", "S9", (3, Verdict::UnknownPlace, 0)),
+    ("2009.1", "S1", (4, Verdict::UnknownThing, 0)),
+    ("L1999.7", "S1", (5, Verdict::NotHere, 0)),
+    ("2009.1", "S9", (6, Verdict::UnknownThing, 0)),
+    ("L1999.7", "MUSEUM-X", (7, Verdict::ElsewherePlace, 0)),
+];
+
+fn assert_posted(rt: &impl Abort, ledger: &Ledger, count: usize) -> Result<(), Fail> {
+    assert_eq!(rt; ledger.posted().len(), count);
+    Ok(())
+}
+
+/// Posts what is refused; after each the spots are as before.
+fn post_refused(rt: &impl Abort, alloc: Global, ledger: &mut Ledger) -> Result<(), Fail> {
+    for row in TOUR {
+        post_row(rt, alloc, ledger, PACK, row)?;
+        assert_spots(rt, ledger, "2001.4.1", FIRST_AT_S1)?;
+        assert_spots(rt, ledger, "L1999.7", NO_SPOTS)?;
     }
-    let changes = ledger.plan(rt.alloc(), &moved("2001.4.1", "S1-A")?)?;
-    assert_eq!(rt; (changes.entry, changes.verdict), (3, Verdict::Applied));
-    assert_eq!(rt; changes.spots.as_slice().len(), 1);
-    let new = changes.spots.as_slice()[0];
-    assert_eq!(rt; (new.thing, new.k), (2, 3));
-    assert_eq!(rt;
-        new.spot,
-        Spot {
-            entry: 3,
-            place: 1,
-            day: day()?
-        }
-    );
-    // A plan posts nothing.
-    assert_eq!(rt; ledger.posted().len(), 2);
-    assert_spots(&rt, &ledger, "2001.4.1", &[(1, "S1"), (2, "S2")])
+    assert_posted(rt, ledger, 7)
 }
 
 #[test]
 fn tour_of_verdicts(rt: HostRuntime) -> Result<(), Fail> {
     let mut ledger = empty(rt.alloc())?;
-    post(&rt, rt.alloc(), &mut ledger, GAL, moved("2001.4.1", "S1")?)?;
-    for (number, thing, place, verdict) in [
-        (2, "2001.4.1", "MUSEUM-X", Verdict::ElsewherePlace),
-        (3, "2001.4.1", "S9", Verdict::UnknownPlace),
-        (4, "2009.1", "S1", Verdict::UnknownThing),
-        (5, "L1999.7", "S1", Verdict::NotHere),
-        (6, "2009.1", "S9", Verdict::UnknownThing),
-        (7, "L1999.7", "MUSEUM-X", Verdict::ElsewherePlace),
-    ] {
-        let told = post(&rt, rt.alloc(), &mut ledger, PACK, moved(thing, place)?)?;
-        assert_eq!(rt; told, (number, verdict, 0));
-        assert_spots(&rt, &ledger, "2001.4.1", &[(1, "S1")])?;
-        assert_spots(&rt, &ledger, "L1999.7", &[])?;
-    }
-    assert_eq!(rt; ledger.posted().len(), 7);
+    post_rows(&rt, rt.alloc(), &mut ledger, GAL, ONE_MOVE)?;
+    post_refused(&rt, rt.alloc(), &mut ledger)
+}
+
+const BEFORE_SIGNING: &[Row] = &[
+    ("2001.4.1", "S1", (1, Verdict::Applied, 1)),
+    ("2001.4.1", "S1", (2, Verdict::Applied, 0)),
+];
+
+const AFTER_SIGNING: &[Row] = &[("2001.4.1", "S1", (4, Verdict::Applied, 0))];
+
+fn assert_signed_off(rt: &impl Abort, ledger: &Ledger, station: StationNo) -> Result<(), Fail> {
+    assert_eq!(rt; next_number(ledger, station), None);
     Ok(())
+}
+
+/// Posts a station's sign-off as the third entry; the station then has no next number.
+fn post_sign_off(
+    rt: &impl Abort,
+    alloc: Global,
+    ledger: &mut Ledger,
+    station: StationNo,
+) -> Result<(), Fail> {
+    let name = Name::new(alloc, b"Ada")?;
+    let told = post(rt, alloc, ledger, station, Message::SignOff { name })?;
+    assert_told(rt, told, (3, Verdict::Applied, 0))?;
+    assert_signed_off(rt, ledger, station)
+}
+
+/// One station signs off, and another still posts.
+fn post_past_sign_off(rt: &impl Abort, alloc: Global, ledger: &mut Ledger) -> Result<(), Fail> {
+    post_sign_off(rt, alloc, ledger, GAL)?;
+    post_rows(rt, alloc, ledger, PACK, AFTER_SIGNING)
 }
 
 #[test]
 fn sign_off(rt: HostRuntime) -> Result<(), Fail> {
     let mut ledger = empty(rt.alloc())?;
-    for number in [1, 2] {
-        let told = post(&rt, rt.alloc(), &mut ledger, GAL, moved("2001.4.1", "S1")?)?;
-        assert_eq!(rt; (told.0, told.1), (number, Verdict::Applied));
-    }
-    let name = Name::new(rt.alloc(), b"Ada")?;
-    let told = post(&rt, rt.alloc(), &mut ledger, GAL, Message::SignOff { name })?;
-    assert_eq!(rt; told, (3, Verdict::Applied, 0));
-    assert_eq!(rt; next_number(&ledger, GAL), None);
-    let told = post(&rt, rt.alloc(), &mut ledger, PACK, moved("2001.4.1", "S1")?)?;
-    assert_eq!(rt; told, (4, Verdict::Applied, 0));
-    assert_spots(&rt, &ledger, "2001.4.1", &[(1, "S1")])
+    post_rows(&rt, rt.alloc(), &mut ledger, GAL, BEFORE_SIGNING)?;
+    post_past_sign_off(&rt, rt.alloc(), &mut ledger)?;
+    assert_spots(&rt, &ledger, "2001.4.1", FIRST_AT_S1)
 }
+
+const CRATES: &[Row] = &[
+    ("C1", "S1", (1, Verdict::Applied, 1)),
+    ("C2", "S1", (2, Verdict::Applied, 1)),
+    ("C1", "S1", (3, Verdict::Applied, 0)),
+    ("C1", "S2", (4, Verdict::Applied, 1)),
+];
+
+const FIRST_CRATE: &[(u64, &str)] = &[(1, "S1"), (4, "S2")];
+
+const SECOND_CRATE: &[(u64, &str)] = &[(2, "S1")];
 
 #[test]
 fn crates_are_moved(rt: HostRuntime) -> Result<(), Fail> {
     let mut ledger = empty(rt.alloc())?;
-    for (number, thing, place, spots) in [
-        (1, "C1", "S1", 1),
-        (2, "C2", "S1", 1),
-        (3, "C1", "S1", 0),
-        (4, "C1", "S2", 1),
-    ] {
-        let told = post(&rt, rt.alloc(), &mut ledger, PACK, moved(thing, place)?)?;
-        assert_eq!(rt; told, (number, Verdict::Applied, spots));
-    }
-    assert_spots(&rt, &ledger, "C1", &[(1, "S1"), (4, "S2")])?;
-    assert_spots(&rt, &ledger, "C2", &[(2, "S1")])
+    post_rows(&rt, rt.alloc(), &mut ledger, PACK, CRATES)?;
+    assert_spots(&rt, &ledger, "C1", FIRST_CRATE)?;
+    assert_spots(&rt, &ledger, "C2", SECOND_CRATE)
+}
+
+/// The verdict has this number and this name.
+fn assert_verdict(rt: &impl Abort, verdict: Verdict, number: u32, name: &str) {
+    assert_eq!(rt; verdict.number(), number, "{name}");
+    assert_eq!(rt; verdict.name(), name);
+    assert_eq!(rt; Verdict::numbered(number), Some(verdict));
 }
 
 #[test]
 fn verdicts_by_number(rt: HostRuntime) {
-    let all = [
-        (Verdict::Applied, "Applied"),
-        (Verdict::UnknownThing, "UnknownThing"),
-        (Verdict::UnknownPlace, "UnknownPlace"),
-        (Verdict::ElsewherePlace, "ElsewherePlace"),
-        (Verdict::UnknownContainer, "UnknownContainer"),
-        (Verdict::UnknownLoan, "UnknownLoan"),
-        (Verdict::LoanKnown, "LoanKnown"),
-        (Verdict::InsidePartner, "InsidePartner"),
-        (Verdict::NoObjects, "NoObjects"),
-        (Verdict::NotObject, "NotObject"),
-        (Verdict::Repeated, "Repeated"),
-        (Verdict::WrongOwner, "WrongOwner"),
-        (Verdict::BadTerm, "BadTerm"),
-        (Verdict::AlreadyAuthorised, "AlreadyAuthorised"),
-        (Verdict::NotAuthorised, "NotAuthorised"),
-        (Verdict::WrongDirection, "WrongDirection"),
-        (Verdict::NotHere, "NotHere"),
-        (Verdict::ContainerNotHere, "ContainerNotHere"),
-        (Verdict::Cycle, "Cycle"),
-        (Verdict::TooDeep, "TooDeep"),
-        (Verdict::NotWithPartner, "NotWithPartner"),
-        (Verdict::AlreadyHere, "AlreadyHere"),
-        (Verdict::NotListed, "NotListed"),
-        (Verdict::WrongStage, "WrongStage"),
-        (Verdict::TermOver, "TermOver"),
-        (Verdict::NotLater, "NotLater"),
-    ];
-    for (number, (verdict, name)) in all.iter().enumerate() {
-        assert_eq!(rt; verdict.number() as usize, number);
-        assert_eq!(rt; verdict.name(), *name);
-        assert_eq!(rt; Verdict::numbered(number as u32), Some(*verdict));
-    }
+    assert_verdict(&rt, Verdict::Applied, 0, "Applied");
+    assert_verdict(&rt, Verdict::UnknownThing, 1, "UnknownThing");
+    assert_verdict(&rt, Verdict::UnknownPlace, 2, "UnknownPlace");
+    assert_verdict(&rt, Verdict::ElsewherePlace, 3, "ElsewherePlace");
+    assert_verdict(&rt, Verdict::UnknownContainer, 4, "UnknownContainer");
+    assert_verdict(&rt, Verdict::UnknownLoan, 5, "UnknownLoan");
+    assert_verdict(&rt, Verdict::LoanKnown, 6, "LoanKnown");
+    assert_verdict(&rt, Verdict::InsidePartner, 7, "InsidePartner");
+    assert_verdict(&rt, Verdict::NoObjects, 8, "NoObjects");
+    assert_verdict(&rt, Verdict::NotObject, 9, "NotObject");
+    assert_verdict(&rt, Verdict::Repeated, 10, "Repeated");
+    assert_verdict(&rt, Verdict::WrongOwner, 11, "WrongOwner");
+    assert_verdict(&rt, Verdict::BadTerm, 12, "BadTerm");
+    assert_verdict(&rt, Verdict::AlreadyAuthorised, 13, "AlreadyAuthorised");
+    assert_verdict(&rt, Verdict::NotAuthorised, 14, "NotAuthorised");
+    assert_verdict(&rt, Verdict::WrongDirection, 15, "WrongDirection");
+    assert_verdict(&rt, Verdict::NotHere, 16, "NotHere");
+    assert_verdict(&rt, Verdict::ContainerNotHere, 17, "ContainerNotHere");
+    assert_verdict(&rt, Verdict::Cycle, 18, "Cycle");
+    assert_verdict(&rt, Verdict::TooDeep, 19, "TooDeep");
+    assert_verdict(&rt, Verdict::NotWithPartner, 20, "NotWithPartner");
+    assert_verdict(&rt, Verdict::AlreadyHere, 21, "AlreadyHere");
+    assert_verdict(&rt, Verdict::NotListed, 22, "NotListed");
+    assert_verdict(&rt, Verdict::WrongStage, 23, "WrongStage");
+    assert_verdict(&rt, Verdict::TermOver, 24, "TermOver");
+    assert_verdict(&rt, Verdict::NotLater, 25, "NotLater");
 }

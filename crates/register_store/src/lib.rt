@@ -4,9 +4,12 @@
 mod fault;
 mod field;
 mod key;
+pub mod laws;
 mod message_reader;
 mod message_writer;
 mod plain;
+#[cfg(test)]
+mod plain_tests;
 mod register;
 mod rows;
 mod store_fault;
