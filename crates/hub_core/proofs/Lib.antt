@@ -1,3 +1,11 @@
+pub mod KeptLemmas
+pub mod ReplayLemmas
+pub mod LineTaken
+pub mod Written
+pub mod FeedLemmas
+pub mod PostedLemmas
+pub mod LineLemmas
+pub mod ReplyLemmas
 pub mod OpenLemmas
 pub mod PostLemmas
 pub mod StandLemmas
