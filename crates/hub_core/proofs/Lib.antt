@@ -1,4 +1,12 @@
 pub mod StoreLemmas
+pub mod KeptLemmas
+pub mod ReplayLemmas
+pub mod LineTaken
+pub mod Written
+pub mod FeedLemmas
+pub mod PostedLemmas
+pub mod LineLemmas
+pub mod ReplyLemmas
 pub mod PostLemmas
 pub mod OpenLemmas
 pub mod StopLemmas

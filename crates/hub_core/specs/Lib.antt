@@ -1,7 +1,9 @@
-pub mod Lines
 pub mod Requests
 pub mod Points
 pub mod Replies
 pub mod Faults
+pub mod LineText
+pub mod Reading
 pub mod StandsFor
 pub mod Openings
+pub mod Replayed

@@ -1,5 +1,5 @@
 -- What a hub stands for.
-use Rattle.std.specs.Prelude.{ℕ, ◌≡◌, ◌-◌, ◌<◌, ◌≤◌, ◌⊎◌, ◌++◌, ◌∷◌, Bool, false, List, length, fold}
+use Rattle.std.specs.Prelude.{ℕ, ◌≡◌, ◌-◌, ◌<◌, ◌≤◌, ◌⊎◌, ◌++◌, ◌∷◌, Bool, false, List, length, fold, take}
 use Rattle.nest_core.specs.Museum.{Museum}
 use Rattle.posting_core.specs.declared.message.Message.{Message}
 use Rattle.posting_core.specs.declared.entry.Entry.{Entry}
@@ -58,3 +58,7 @@ pub record Caught (S : Museum) (depth : ℕ) (taken : List (Arrived Message)) (s
 pub record Done (S : Museum) (depth : ℕ) (taken : List (Arrived Message)) (s k : ℕ) (before : List Entry) (sequences : List (Series Message)) (now : List Entry) : Type 0 where
   pub matches : AllMatch is_sign_off taken sequences
   pub list : now ≡ fold (post S depth) before (due taken s k (ready is_sign_off taken s - k))
+
+-- the hub is down, or it has taken the first k of these arrivals
+abbrev pub TakesSome : {R : Type 0} → (R → Type 0) → (R → Content → Type 0) → State R → List Entry → List Arrival → List Arrival → Type 0
+TakesSome quiet holds hub O A sent = hub.down ≡ false → (k : ℕ) × StandsFor quiet holds hub O (A ++ take k sent)

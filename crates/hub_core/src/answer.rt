@@ -3,7 +3,7 @@
 use nest_core::{PlaceNo, StationNo, ThingNo};
 use posting_core::Message;
 use station_core::Refusal;
-use std::alloc::Global;
+use std::alloc::{AllocError, Global};
 use std::marker::Model;
 use thiserror::Error;
 
@@ -86,6 +86,17 @@ impl From<codes_core::NoMemory> for HubFault {
     ghost from_gives = { λ _ e. e ≡ faults.NoMemory };
 
     fn from(_fault: codes_core::NoMemory) -> HubFault {
+        HubFault::NoMemory
+    }
+}
+
+impl From<AllocError> for HubFault {
+    ghost use Rattle.std.specs.Prelude.{◌≡◌};
+    ghost use Rattle.hub_core.specs.declared.answer.HubFault.TheVariants as faults;
+
+    ghost from_gives = { λ _ e. e ≡ faults.NoMemory };
+
+    fn from(_error: AllocError) -> HubFault {
         HubFault::NoMemory
     }
 }

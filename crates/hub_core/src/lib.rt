@@ -5,16 +5,22 @@ mod answer;
 mod hub;
 mod judging;
 pub mod laws;
+mod line_reader;
+mod line_reply;
 mod opening;
 mod posting;
 mod reader;
+mod replaying;
 mod replies;
-mod session;
-mod split;
+mod running;
 #[cfg(test)]
 mod tests;
+#[cfg(test)]
+mod tests_faults;
 
 pub use answer::{Answer, Arrival, Chain, HubFault, Where};
 pub use hub::{Hub, OpenFault};
+pub use line_reply::LONGEST_LINE;
 pub use reader::{Line, Request, read_line};
-pub use session::{LONGEST_HEAD, LONGEST_LINE, RunFault, run};
+pub use replaying::{ReplayFault, replay};
+pub use running::{LONGEST_HEAD, RunFault, run};

@@ -1,0 +1,46 @@
+-- The lines of posted entries.
+use Rattle.std.proofs.Common.{◌≡◌, ℕ, zero, suc, ◌+◌, ◌-◌, ◌<◌, ◌≤◌, Bool, true, false, if◌then◌else◌, List, [], ◌∷◌, ◌++◌, length, take, get_or, refl, ap, ◌∙◌, sym, arith, length-take-le}
+use Rattle.std.proofs.lemmas.Bool.Decides.{nat_tests}
+use Rattle.std.specs.Prelude.{reverse, nat_lt}
+use Rattle.std.proofs.lemmas.List.{take_more, length-reverse, reverse-append}
+use Rattle.posting_core.specs.declared.entry.Entry.{Entry}
+use Rattle.posting_core.specs.Verdicts.{verdict_name}
+use Rattle.hub_core.specs.Replies.{posted_line}
+use Rattle.hub_core.specs.LineText.{posted_lines}
+
+-- too few entries have no line
+pub posted_none : (station : List ℕ) (first : ℕ) (P : List Entry) → length P < first → posted_lines station first P ≡ []
+posted_none station first [] h = refl
+posted_none station first (e ∷ P) h =
+    let low : nat_lt (length P + 1) first ≡ true = grind (arith, nat_tests) in
+    ap (λ t. if t then [] else posted_lines station first P ++ posted_line station e.n (length P + 1) (verdict_name e.verdict)) low
+
+posted_one : (station : List ℕ) (first : ℕ) (e : Entry) (P : List Entry) → first ≤ length P + 1
+    → posted_lines station first (e ∷ P) ≡ posted_lines station first P ++ posted_line station e.n (length P + 1) (verdict_name e.verdict)
+posted_one station first e P h =
+    let high : nat_lt (length P + 1) first ≡ false = grind (arith, nat_tests) in
+    ap (λ t. if t then [] else posted_lines station first P ++ posted_line station e.n (length P + 1) (verdict_name e.verdict)) high
+
+-- one more entry
+pub posted_more : (station : List ℕ) (first i : ℕ) (es : List Entry) (d : Entry) → i < length es → first ≤ i + 1
+    → posted_lines station first (reverse (take (i + 1) es)) ≡ posted_lines station first (reverse (take i es)) ++ posted_line station (get_or es i d).n (i + 1) (verdict_name (get_or es i d).verdict)
+posted_more station first i es d less high =
+    let P : List Entry = reverse (take i es) in
+    let count : length P ≡ i = length-reverse (take i es) ∙ length-take-le i es (omega arith) in
+    let e : Entry = get_or es i d in
+    let back : reverse (take (i + 1) es) ≡ e ∷ P = ap reverse (take_more es i d less) ∙ reverse-append (take i es) (e ∷ []) in
+    ap (posted_lines station first) back
+    ∙ posted_one station first e P (omega arith)
+    ∙ ap (λ n. posted_lines station first P ++ posted_line station e.n (n + 1) (verdict_name e.verdict)) count
+
+take_few : (n : ℕ) (es : List Entry) → length (take n es) ≤ n
+take_few zero es = omega arith
+take_few (suc n) [] = omega arith
+take_few (suc n) (e ∷ es) = let few = take_few n es in omega arith
+
+-- no line for those below
+pub posted_start : (station : List ℕ) (first start : ℕ) (es : List Entry) → start ≡ first - 1 → posted_lines station first (reverse (take start es)) ≡ []
+posted_start station zero start es e = ap (λ (n : ℕ). posted_lines station 0 (reverse (take n es))) e
+posted_start station (suc n) start es e =
+    let few = take_few start es in
+    posted_none station (suc n) (reverse (take start es)) (let back = length-reverse (take start es) in omega (arith, few, back))

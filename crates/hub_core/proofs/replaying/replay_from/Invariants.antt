@@ -1,0 +1,14 @@
+use Rattle.std.proofs.Common.{◌≡◌, false, List}
+use Rattle.posting_core.specs.declared.entry.Entry.{Entry}
+use Rattle.hub_core.specs.declared.answer.Arrival.{Arrival}
+use Rattle.hub_core.specs.StandsFor.{StandsFor}
+use Rattle.hub_core.proofs.ReplayLemmas.{Underway}
+use Rattle.hub_core.proofs.replaying.replay_from.Given as goal
+
+abbrev pub invariant-loop-number : goal.invariant-loop-number
+invariant-loop-number g l =
+    (l.hub.down ≡ false)
+    × (l.hub.book.museum ≡ l.fn.hub.book.museum)
+    × (l.hub.book.depth ≡ l.fn.hub.book.depth)
+    × ((O : List Entry) (A : List Arrival) → StandsFor g.S.Register.is_quiet g.S.Register.holds l.fn.hub O A →
+    Underway l.fn.hub.book.museum l.fn.hub.book.depth O A (g.R.Read.remaining l.fn.input) (g.R.Read.remaining l.input) (g.W.Write.contents l.fn.output) (g.W.Write.contents l.output) g.S.Register.is_quiet g.S.Register.holds l.hub l.number)

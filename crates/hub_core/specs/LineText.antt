@@ -1,0 +1,156 @@
+-- Bytes as lines, and what is said to them.
+use Rattle.std.specs.Prelude.{ℕ, ◌+◌, ◌-◌, ◌==◌, ◌||◌, nat_eq, nat_lt, Bool, true, false, List, [], ◌∷◌, ◌++◌, length, take, map, flat_map, Option, Some, None, unwrap_or, Result, Ok, Err, codes, if◌then◌else◌}
+use Rattle.std.specs.List.{concat, ends_with, before_first, after_first}
+use Rattle.nest_core.specs.Museum.{Museum, station_name_of, place_code_of, thing_code_of}
+use Rattle.posting_core.specs.declared.entry.Entry.{Entry}
+use Rattle.posting_core.specs.Verdicts.{verdict_name}
+use Rattle.station_core.specs.Refusals.{refusal_name}
+use Rattle.register_store.specs.Spelling.{key_name}
+use Rattle.register_store.specs.declared.fault.ReadFault.{ReadFault}
+use Rattle.register_store.specs.declared.fault.ReadFault.TheVariants.{NotJson, Missing, BadKind, BadField, NoMemory}
+use Rattle.hub_core.specs.declared.answer.Arrival.{Arrival}
+use Rattle.hub_core.specs.declared.answer.Answer.{Answer}
+use Rattle.hub_core.specs.declared.answer.Answer.TheVariants.{Refused, Held, Posted}
+use Rattle.hub_core.specs.declared.answer.Where.{Where}
+use Rattle.hub_core.specs.declared.answer.Where.TheVariants.{UnknownThing, Unplaced, At}
+use Rattle.hub_core.specs.declared.reader.Line.{Line}
+use Rattle.hub_core.specs.declared.reader.Request.{Request}
+use Rattle.hub_core.specs.declared.reader.Request.TheVariants.{Scan, Ask}
+use Rattle.hub_core.specs.declared.line_reply.TheConstants.{LONGEST_LINE}
+use Rattle.hub_core.specs.Requests.{line_in}
+use Rattle.hub_core.specs.Points.{posted, reply, whereabouts}
+use Rattle.hub_core.specs.Replies.{refused_line, unknown_station_line, held_line, posted_line, bad_line, asked_line}
+
+abbrev pub before : ℕ → List (List ℕ) → List (List ℕ)
+before b [] = (b ∷ []) ∷ []
+before b (piece ∷ pieces) = (b ∷ piece) ∷ pieces
+
+-- the bytes cut after each line feed
+abbrev pub pieces : List ℕ → List (List ℕ)
+pieces [] = []
+pieces (b ∷ bs) = if b == 10 then (b ∷ []) ∷ pieces bs else before b (pieces bs)
+
+-- the line without the one carriage return at its end
+abbrev pub without_return : List ℕ → List ℕ
+without_return line = if ends_with nat_eq line (13 ∷ []) then take (length line - 1) line else line
+
+-- the line of a piece: its bytes before the line feed
+abbrev pub line_of : List ℕ → List ℕ
+line_of piece = without_return (before_first (λ b. b == 10) piece)
+
+-- the lines of the bytes
+abbrev pub lines : List ℕ → List (List ℕ)
+lines bytes = map line_of (pieces bytes)
+
+abbrev pub is_empty : List ℕ → Bool
+is_empty [] = true
+is_empty (b ∷ line) = false
+
+-- the bytes through the last line feed
+abbrev pub ended : List ℕ → List ℕ
+ended [] = []
+ended (b ∷ bs) = if b == 10 then b ∷ ended bs else (if is_empty (ended bs) then [] else b ∷ ended bs)
+
+abbrev pub is_blank : List ℕ → Bool
+is_blank piece = is_empty (line_of piece)
+
+-- the head of a run: the bytes before the first empty line, or all
+abbrev pub head : List ℕ → List ℕ
+head bytes = concat (before_first is_blank (pieces bytes))
+
+-- the bytes after that line
+abbrev pub after_head : List ℕ → List ℕ
+after_head bytes = concat (after_first is_blank (pieces bytes))
+
+-- the name of a line's fault
+abbrev pub fault_text : ReadFault → List ℕ
+fault_text NotJson = codes "NotJson"
+fault_text (Missing key) = concat (codes "Missing " ∷ key_name key ∷ [])
+fault_text BadKind = codes "BadKind"
+fault_text (BadField key) = concat (codes "BadField " ∷ key_name key ∷ [])
+fault_text NoMemory = codes "NoMemory"
+
+abbrev pub container_text : Museum → ℕ → List ℕ
+container_text S x = codes " " ++ unwrap_or (thing_code_of S x) []
+
+-- the containers above a thing, innermost first
+abbrev pub chain_text : Museum → List ℕ → List ℕ
+chain_text S [] = []
+chain_text S (c ∷ cs) = codes " in" ++ flat_map (container_text S) (c ∷ cs)
+
+-- where a thing is
+abbrev pub place_text : Museum → Where → List ℕ
+place_text S UnknownThing = codes "unknown"
+place_text S Unplaced = codes "unplaced"
+place_text S (At place chain) = codes "at " ++ unwrap_or (place_code_of S place) [] ++ chain_text S chain
+
+-- a line for each of the entries, newest first, from number `first` on
+abbrev pub posted_lines : List ℕ → ℕ → List Entry → List ℕ
+posted_lines station first [] = []
+posted_lines station first (e ∷ P) =
+    if nat_lt (length P + 1) first then []
+    else posted_lines station first P ++ posted_line station e.n (length P + 1) (verdict_name e.verdict)
+
+-- the answer to number n of a station, with which the entries P stand
+abbrev pub answer_text : List ℕ → ℕ → List Entry → Answer → List ℕ
+answer_text station n P (Refused refusal) = refused_line station n (refusal_name refusal)
+answer_text station n P Held = held_line station n
+answer_text station n P (Posted first last) = posted_lines station first P
+
+abbrev pub station_text : Museum → ℕ → List ℕ
+station_text S s = unwrap_or (station_name_of S s) []
+
+-- what station s sends to the hub, if it asks no question
+abbrev pub sent_from : ℕ → Request → List Arrival
+sent_from s (Scan n message) = record { station = s; n = n; message = message } ∷ []
+sent_from s (Ask code) = []
+
+abbrev pub sent_by : Option ℕ → Request → List Arrival
+sent_by None request = []
+sent_by (Some s) request = sent_from s request
+
+-- the reply to station s, after the arrivals A
+abbrev pub station_reply : Museum → ℕ → List Entry → List Arrival → ℕ → Request → List ℕ
+station_reply S depth O A s (Scan n message) =
+    let r : Arrival = record { station = s; n = n; message = message } in
+    answer_text (station_text S s) n (posted S depth O (A ++ r ∷ [])) (reply S depth O A r)
+station_reply S depth O A s (Ask code) =
+    asked_line (station_text S s) code (place_text S (whereabouts S (posted S depth O A) code))
+
+-- the reply to a line without fault, the number-th
+abbrev pub request_reply : Museum → ℕ → List Entry → List Arrival → ℕ → Option ℕ → Request → List ℕ
+request_reply S depth O A number None request = unknown_station_line number
+request_reply S depth O A number (Some s) request = station_reply S depth O A s request
+
+abbrev pub sent : Result Line ReadFault → List Arrival
+sent (Ok line) = sent_by line.station line.request
+sent (Err fault) = []
+
+abbrev pub read_reply : Museum → ℕ → List Entry → List Arrival → ℕ → Result Line ReadFault → List ℕ
+read_reply S depth O A number (Ok line) = request_reply S depth O A number line.station line.request
+read_reply S depth O A number (Err fault) = bad_line number (fault_text fault)
+
+abbrev pub is_too_long : List ℕ → Bool
+is_too_long line = nat_lt LONGEST_LINE (length line)
+
+-- the arrivals of a line: one or none
+abbrev pub line_arrivals : Museum → List ℕ → List Arrival
+line_arrivals S line = if is_empty line || is_too_long line then [] else sent (line_in S line)
+
+-- the reply to a line, the number-th, after the arrivals A; an empty one has none
+abbrev pub line_reply : Museum → ℕ → List Entry → List Arrival → ℕ → List ℕ → List ℕ
+line_reply S depth O A number line =
+    if is_empty line then [] else (if is_too_long line then bad_line number (codes "TooLong") else read_reply S depth O A number (line_in S line))
+
+-- the replies to lines, each after the arrivals of those before it; the first is the number-th
+abbrev pub replies : Museum → ℕ → List Entry → List Arrival → ℕ → List (List ℕ) → List ℕ
+replies S depth O A number [] = []
+replies S depth O A number (line ∷ rest) = line_reply S depth O A number line ++ replies S depth O (A ++ line_arrivals S line) (number + 1) rest
+
+-- what is written for the bytes, from the posted list O, after the arrivals A
+abbrev pub text : Museum → ℕ → List Entry → List Arrival → List ℕ → List ℕ
+text S depth O A bytes = replies S depth O A 1 (lines bytes)
+
+-- the arrivals of the bytes
+abbrev pub arrivals : Museum → List ℕ → List Arrival
+arrivals S bytes = flat_map (line_arrivals S) (lines bytes)

@@ -1,0 +1,39 @@
+-- How lines are read.
+use Rattle.std.specs.Prelude.{ℕ, ◌≡◌, ◌≢◌, ◌∷◌, ◌++◌, Bool, true, false, List, [], Option, OnSome, take}
+use Rattle.std.specs.Io.KnownBytes.{Consumes, IsAtEnd}
+use Rattle.hub_core.specs.declared.line_reader.End.{End}
+use Rattle.hub_core.specs.declared.line_reader.End.TheVariants.{Feed, Input, Open}
+
+-- no line feed
+abbrev pub HasNoFeed : List ℕ → Type 0
+HasNoFeed [] = Unit {0}
+HasNoFeed (b ∷ bytes) = (b ≢ 10) × HasNoFeed bytes
+
+abbrev pub feed_if : Bool → List ℕ
+feed_if true = 10 ∷ []
+feed_if false = []
+
+abbrev pub is_feed : End → Bool
+is_feed Feed = true
+is_feed Input = false
+is_feed Open = false
+
+-- these bytes of a line were taken, and its line feed where they end at it; of the line's bytes the first `most` are kept
+pub record TakesPiece (old new : Option (List ℕ)) (most : ℕ) (held held_new : List ℕ) (end : End) : Type 0 where
+  pub bytes : List ℕ
+  pub taken : Consumes old new (bytes ++ feed_if (is_feed end))
+  pub one : HasNoFeed bytes
+  pub kept : (line : List ℕ) → held ≡ take most line → held_new ≡ take most (line ++ bytes)
+  pub last : end ≡ Input → OnSome old (IsAtEnd new)
+
+-- the bytes up to a line feed or the end were taken, and the first `most` of them are kept
+pub record TakesLine (old new : Option (List ℕ)) (most : ℕ) (held : List ℕ) (fed : Bool) : Type 0 where
+  pub bytes : List ℕ
+  pub taken : Consumes old new (bytes ++ feed_if fed)
+  pub one : HasNoFeed bytes
+  pub kept : held ≡ take most bytes
+  pub last : fed ≡ false → OnSome old (IsAtEnd new)
+
+-- the start of a line was taken
+abbrev pub TakesStart : Option (List ℕ) → Option (List ℕ) → Type 0
+TakesStart old new = (bytes : List ℕ) × Consumes old new bytes × HasNoFeed bytes

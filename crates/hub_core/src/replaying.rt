@@ -1,0 +1,143 @@
+//! Lines in, replies out.
+ghost use Rattle.std.specs.Prelude.{◌≡◌, ◌⊎◌, ◌++◌, false, true, List, ℕ, take, OnOk, OnErr, IfErr, IfSome};
+ghost use Rattle.std.specs.Io.KnownBytes.{Appends, IsAtEnd};
+ghost use Rattle.posting_core.specs.declared.entry.Entry.{Entry};
+ghost use Rattle.hub_core.specs.declared.answer.Arrival.{Arrival};
+ghost use Rattle.hub_core.specs.LineText.{text, arrivals};
+ghost use Rattle.hub_core.specs.StandsFor.{StandsFor};
+ghost use Rattle.hub_core.specs.Replayed.{Answered, AfterFault};
+
+use crate::line_reader::{Reads, flush, next_line};
+use crate::line_reply::{reply_to, without_return};
+use crate::{Hub, HubFault};
+use codes_core::NoMemory;
+use register_store::Register;
+use std::alloc::Global;
+use std::io::{BufRead, ErrorKind, Write};
+use thiserror::Error;
+
+/// Why a replay stopped.
+#[derive(Clone, Copy, Debug, PartialEq, Eq, Error)]
+pub enum ReplayFault {
+    /// A growth was refused.
+    #[error("out of memory")]
+    NoMemory,
+    /// The store refused, for another cause than memory.
+    #[error("the store refused")]
+    Store,
+    /// The reader failed, or gave no end within 4,294,967,295 reads.
+    #[error("the input could not be read")]
+    ReadFailed,
+    /// The writer failed, or took no byte.
+    #[error("the output could not be written")]
+    WriteFailed,
+}
+
+impl From<NoMemory> for ReplayFault {
+    ghost use Rattle.std.specs.Prelude.{◌≡◌};
+    ghost use Rattle.hub_core.specs.declared.replaying.ReplayFault.TheVariants as faults;
+
+    ghost from_gives = { λ _ e. e ≡ faults.NoMemory };
+
+    fn from(_fault: NoMemory) -> ReplayFault {
+        ReplayFault::NoMemory
+    }
+}
+
+/// Answers the lines of the input, one after the other, over the hub. Lines are numbered from 1. A read is one call of
+/// `fill_buf`; there are at most 4,294,967,295.
+pub fn replay<R: BufRead, W: Write, S: Register>(
+    alloc: Global,
+    input: &mut R,
+    output: &mut W,
+    hub: &mut Hub<S>,
+) -> Result<(), ReplayFault>
+    requires { hub.old.down ≡ false }
+    // For every list of arrivals that the hub stands for: all bytes are read, what is written is their text, and the
+    // hub stands for the list with their arrivals.
+    ensures bytes_to_bytes { OnOk result ((O : List Entry) (A : List Arrival) → StandsFor S.is_quiet S.holds hub.old O A → IfSome (R.remaining input.old) (λ bytes.
+        IsAtEnd (R.remaining input.new)
+        × Appends (W.contents output.old) (W.contents output.new) (text hub.old.book.museum hub.old.book.depth O A bytes)
+        × StandsFor S.is_quiet S.holds hub.new O (A ++ arrivals hub.old.book.museum bytes))) }
+    ensures faults { IfErr result (λ fault. (O : List Entry) (A : List Arrival) → StandsFor S.is_quiet S.holds hub.old O A →
+        AfterFault hub.old.book.museum hub.old.book.depth O A (R.remaining input.old) (R.remaining input.new) (W.contents output.old) (W.contents output.new) S.is_quiet S.holds hub.new fault) }
+    ensures up { OnOk result (hub.new.down ≡ false) }
+    ensures museum { hub.new.book.museum ≡ hub.old.book.museum }
+    ensures depth { hub.new.book.depth ≡ hub.old.book.depth }
+{
+    replay_from(alloc, input, output, hub, Reads::new())
+}
+
+/// The same where there were reads before.
+pub(crate) fn replay_from<R: BufRead, W: Write, S: Register>(
+    alloc: Global,
+    input: &mut R,
+    output: &mut W,
+    hub: &mut Hub<S>,
+    reads_left: Reads,
+) -> Result<(), ReplayFault>
+    requires { hub.old.down ≡ false }
+    ensures answered { OnOk result ((O : List Entry) (A : List Arrival) → StandsFor S.is_quiet S.holds hub.old O A →
+        Answered hub.old.book.museum hub.old.book.depth O A (R.remaining input.old) (R.remaining input.new) (W.contents output.old) (W.contents output.new) S.is_quiet S.holds hub.new true) }
+    ensures faults { IfErr result (λ fault. (O : List Entry) (A : List Arrival) → StandsFor S.is_quiet S.holds hub.old O A →
+        AfterFault hub.old.book.museum hub.old.book.depth O A (R.remaining input.old) (R.remaining input.new) (W.contents output.old) (W.contents output.new) S.is_quiet S.holds hub.new fault) }
+    ensures up { OnOk result (hub.new.down ≡ false) }
+    ensures museum { hub.new.book.museum ≡ hub.old.book.museum }
+    ensures depth { hub.new.book.depth ≡ hub.old.book.depth }
+{
+    let mut reads = reads_left;
+    let mut line = Vec::new(alloc);
+    for number in 1..u64::MAX {
+        let fed = match next_line(input, output, &mut reads, &mut line) {
+            Ok(fed) => fed,
+            Err(fault) => return Err(fault),
+        };
+        let text = match reply_to(alloc, number, without_return(line.as_slice()), hub) {
+            Ok(text) => text,
+            Err(fault) => return Err(told(fault)),
+        };
+        let Ok(()) = write_text(output, text.as_bytes()) else {
+            return Err(ReplayFault::WriteFailed);
+        };
+        if !fed {
+            let Ok(()) = flush(output) else {
+                return Err(ReplayFault::WriteFailed);
+            };
+            return Ok(());
+        }
+    }
+    Err(ReplayFault::ReadFailed)
+}
+
+/// A hub's fault, as a replay tells it.
+fn told(fault: HubFault) -> ReplayFault
+    ensures { (result ≡ ReplayFault.NoMemory) ⊎ (result ≡ ReplayFault.Store) }
+{
+    match fault {
+        HubFault::Store => ReplayFault::Store,
+        _ => ReplayFault::NoMemory,
+    }
+}
+
+/// Writes these bytes, in at most 4,294,967,295 writes. A write that takes no byte has failed.
+fn write_text<W: Write>(output: &mut W, text: &[u8]) -> Result<(), ReplayFault>
+    ensures ok { OnOk result (Appends (W.contents output.old) (W.contents output.new) text.now) }
+    ensures fault { OnErr result ((k : ℕ) × Appends (W.contents output.old) (W.contents output.new) (take k text.now)) }
+{
+    let mut done = 0;
+    for _ in 0..u32::MAX {
+        if done >= text.len() {
+            return Ok(());
+        }
+        match output.write(&text[done..]) {
+            Ok(0) => return Err(ReplayFault::WriteFailed),
+            Ok(count) => done += count,
+            Err(error) => {
+                if error.kind() != ErrorKind::Interrupted {
+                    return Err(ReplayFault::WriteFailed);
+                }
+            }
+        }
+    }
+    Err(ReplayFault::WriteFailed)
+}
