@@ -12,8 +12,8 @@ use Rattle.register_store.specs.declared.key.Key.TheVariants as key
 use Rattle.hub_core.specs.declared.answer.Arrival.{Arrival}
 use Rattle.hub_core.specs.declared.answer.Answer.TheVariants.{Refused, Held, Posted}
 use Rattle.hub_core.specs.declared.answer.Where.TheVariants.{UnknownThing, Unplaced, At}
-use Rattle.hub_core.specs.declared.reader.Request.TheVariants.{Ask}
-use Rattle.hub_core.specs.LineText.{without_return}
+use Rattle.hub_core.specs.declared.reader.Request.TheVariants.{Scan, Ask}
+use Rattle.hub_core.specs.LineText.{without_return, lines, ended, head, after_head, station_reply}
 use Rattle.hub_core.specs.Requests.{line_of}
 use Rattle.hub_core.specs.Points.{reply, posted, whereabouts, cut}
 use Rattle.hub_core.specs.Replies.{refused_line, unknown_station_line, held_line, posted_line, bad_line, asked_line}
@@ -111,3 +111,35 @@ unknown_station = refl
 pub bad_text : bad_line 4 (codes "Missing n") ≡ codes "line 4 bad Missing n\n"
 unfolding digits
 bad_text = refl
+
+-- what GAL is told, line by line
+pub first_run_move : station_reply museum 12 [] [] 0 (Scan 1 (moved 1).message) ≡ codes "GAL 1 posted 1 Applied\n"
+unfolding window digits
+first_run_move = refl
+
+pub first_run_question : station_reply museum 12 [] (moved 1 ∷ []) 0 (Ask (codes "2001.4.1")) ≡ codes "GAL ask 2001.4.1 at S1\n"
+unfolding window digits
+first_run_question = refl
+
+pub double_text : station_reply museum 12 [] (moved 1 ∷ []) 0 (Scan 1 (moved 1).message) ≡ codes "GAL 1 refused Double\n"
+unfolding window digits
+double_text = refl
+
+pub posted_texts : station_reply museum 12 [] (moved 2 ∷ []) 0 (Scan 1 (moved 1).message) ≡ codes "GAL 1 posted 1 Applied\nGAL 2 posted 2 Applied\n"
+unfolding window digits
+posted_texts = refl
+
+pub three_lines : lines (codes "a\r\n\nb") ≡ codes "a" ∷ [] ∷ codes "b" ∷ []
+three_lines = refl
+
+pub two_ended : ended (codes "a\n\nb") ≡ codes "a\n\n"
+two_ended = refl
+
+pub two_heads : head (codes "a\n\r\nb\n") ≡ codes "a\n"
+two_heads = refl
+
+pub after_the_head : after_head (codes "a\n\r\nb\n") ≡ codes "b\n"
+after_the_head = refl
+
+pub no_empty_line : head (codes "a\nb") ≡ codes "a\nb"
+no_empty_line = refl

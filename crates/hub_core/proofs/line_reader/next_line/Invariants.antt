@@ -1,4 +1,4 @@
-use Rattle.std.proofs.Common.{◌≡◌, ◌++◌, List, ℕ, take}
+use Rattle.std.proofs.Common.{◌≡◌, List, ℕ, take}
 use Rattle.std.specs.Io.KnownBytes.{Consumes, Keeps}
 use Rattle.hub_core.specs.Reading.{HasNoFeed}
 use Rattle.hub_core.proofs.line_reader.next_line.Given as goal

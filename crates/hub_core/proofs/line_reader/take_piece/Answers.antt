@@ -1,4 +1,4 @@
-use Rattle.std.proofs.Common.{take, subst, sym}
+use Rattle.std.proofs.Common.{take, subst}
 use Rattle.std.specs.Io.KnownBytes.{Consumes}
 use Rattle.std.specs.Io.BufRead.{FillKeeps}
 use Rattle.std.proofs.BufReadLemmas.{Consumes_shown}

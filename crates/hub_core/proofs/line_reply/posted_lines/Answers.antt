@@ -1,5 +1,4 @@
-use Rattle.std.proofs.Common.{◌≡◌, ◌∙◌, ◌-◌, length, take, reverse, sym, arith, length-take-le}
-use Rattle.std.proofs.lemmas.List.{length-reverse}
+use Rattle.std.proofs.Common.{◌∙◌, sym}
 use Rattle.hub_core.proofs.PostedLemmas.{posted_start}
 use Rattle.hub_core.proofs.line_reply.posted_lines.Goals as goal
 

@@ -1,6 +1,4 @@
-use Rattle.std.proofs.Common.{◌≡◌, ◌∙◌, ◌++◌, ap, false, true, List, string_bytes, arith, rules}
-use Rattle.posting_core.specs.declared.entry.Entry.{Entry}
-use Rattle.hub_core.specs.declared.answer.Arrival.{Arrival}
+use Rattle.std.proofs.Common.{◌≡◌, ◌∙◌, ◌++◌, ap, false, true, string_bytes, arith, rules}
 use Rattle.hub_core.specs.LineText.{without_return, arrivals}
 use Rattle.hub_core.proofs.ReplayLemmas.{fault_line, fault_memory, fault_write, fault_flush, answered_last, answered_more, told_at, some_at, read_out, after_either}
 use Rattle.hub_core.proofs.replaying.replay_from.Goals as goal

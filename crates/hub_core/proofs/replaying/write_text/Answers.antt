@@ -1,4 +1,4 @@
-use Rattle.std.proofs.Common.{◌≤◌, ◌+◌, length, take, subst, sym, arith}
+use Rattle.std.proofs.Common.{◌+◌, take, subst, sym, arith}
 use Rattle.std.specs.Io.KnownBytes.{Appends}
 use Rattle.hub_core.proofs.Written.{appends_kept, more_taken, rest_bound}
 use Rattle.hub_core.proofs.replaying.write_text.Goals.{in-Ok, in-Err+else-ne}

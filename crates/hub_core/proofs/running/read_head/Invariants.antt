@@ -1,4 +1,3 @@
-use Rattle.std.proofs.Common.{◌≤◌, length}
 use Rattle.hub_core.proofs.running.read_head.Given as goal
 
 abbrev pub decreases-loop-reads : goal.decreases-loop-reads
