@@ -17,9 +17,19 @@ const SETUP: &str =
 const SMALL: &str = "station,GAL\nplace,S1,inside\nown,2001.4.1,S1\n";
 
 const MOVED: &str =
-    "{\"day\":\"2024-05-01\",\"kind\":\"move\",\"place\":\"S1\",\"thing\":\"2001.4.1\"}";
+    "1 1 Applied {\"day\":\"2024-05-01\",\"kind\":\"move\",\"place\":\"S1\",\"thing\":\"2001.4.1\"}";
 
-const SIGNED: &str = "{\"by\":\"A. Keeper\",\"kind\":\"signoff\"}";
+const SIGNED: &str = "0 1 Applied {\"by\":\"A. Keeper\",\"kind\":\"signoff\"}";
+
+/// The one entry's station, its number and its row's number, and whether the row is damaged.
+const CASES: &[(u32, u32, u64, bool)] = &[
+    (1, 1, 1, false),
+    (1, 999_999, 1, false),
+    (1, 1, 2, true),
+    (2, 1, 1, true),
+    (1, 0, 1, true),
+    (1, 1_000_000, 1, true),
+];
 
 const PACK: StationNo = 0;
 
@@ -113,136 +123,173 @@ fn keep_two<R: Register>(
     register.all(alloc)
 }
 
-/// A move and another station's sign-off, posted to a new register and read back.
+/// The same in memory.
+fn kept_in_memory(
+    alloc: Global,
+    setup: &Setup,
+    first: &Entry,
+    first_changes: &Changes,
+    second: &Entry,
+    second_changes: &Changes,
+) -> Result<Vec<Entry>, StoreFault>
+    requires first_number { first_changes.now.entry ≡ 1 }
+    requires second_number { second_changes.now.entry ≡ 2 }
+{
+    let mut register = PlainRegister::new(alloc);
+    keep_two(
+        alloc,
+        &mut register,
+        setup,
+        first,
+        first_changes,
+        second,
+        second_changes,
+    )
+}
+
+/// A move and another station's sign-off, read back.
 fn two_read_back(alloc: Global) -> Result<Vec<Entry>, Fail> {
-    let setup = setup(alloc, SETUP)?;
     let moved = moved(GAL, 1)?;
     let brought = brought(alloc, 1)?;
     let signed = signed(alloc, PACK, 1)?;
-    let mut register = PlainRegister::new(alloc);
-    let read = keep_two(
-        alloc,
-        &mut register,
-        &setup,
-        &moved,
-        &brought,
-        &signed,
-        &nothing(alloc, 2),
-    );
-    Ok(read?)
+    let setup = setup(alloc, SETUP)?;
+    let nothing = nothing(alloc, 2);
+    Ok(kept_in_memory(alloc, &setup, &moved, &brought, &signed, &nothing)?)
+}
+
+/// An entry's station, its number and the text of its message.
+fn described(alloc: Global, entry: &Entry) -> Result<String, Fail> {
+    let text = message_text(alloc, &entry.message)?;
+    let (station, n, verdict) = (entry.station, entry.n, entry.verdict.name());
+    Ok(format!(in alloc; "{station} {n} {verdict} {text}")?)
 }
 
 #[test]
 fn two_entries(rt: HostRuntime) -> Result<(), Fail> {
     let entries = two_read_back(rt.alloc())?;
-    let [moved, signed] = entries.as_slice() else {
-        return Err("two entries".into());
-    };
-    assert_eq!(rt;
-        (moved.station, moved.n, moved.verdict),
-        (GAL, 1, Verdict::Applied)
-    );
-    assert_eq!(rt;
-        (signed.station, signed.n, signed.verdict),
-        (PACK, 1, Verdict::Applied)
-    );
-    let text = message_text(rt.alloc(), &moved.message)?;
-    assert_eq!(rt; text.as_str(), MOVED);
-    let text = message_text(rt.alloc(), &signed.message)?;
-    assert_eq!(rt; text.as_str(), SIGNED);
+    assert_eq!(rt; entries.len(), 2);
+    let first = described(rt.alloc(), &entries[0])?;
+    assert_eq!(rt; first.as_str(), MOVED);
+    let second = described(rt.alloc(), &entries[1])?;
+    assert_eq!(rt; second.as_str(), SIGNED);
     Ok(())
 }
 
-/// A register that is bound to the setup and has a posting, bound again to this text's setup: the answer, and how many
-/// entries there are then.
-fn bound_again(alloc: Global, text: &str) -> Result<(Result<u32, StoreFault>, usize), Fail> {
-    let first = setup(alloc, SETUP)?;
-    let again = setup(alloc, text)?;
-    let moved = moved(GAL, 1)?;
-    let brought = brought(alloc, 1)?;
-    let mut register = PlainRegister::new(alloc);
-    register.bind(alloc, &first)?;
-    register.post(alloc, &moved, &brought)?;
-    let answer = register.bind(alloc, &again);
+/// A register bound to one setup, posted to and bound to another: the answer, and how many entries there are then.
+fn bind_twice<R: Register>(
+    alloc: Global,
+    register: &mut R,
+    first: &Setup,
+    again: &Setup,
+    entry: &Entry,
+    changes: &Changes,
+) -> Result<(Result<u32, StoreFault>, usize), StoreFault> {
+    register.bind(alloc, first)?;
+    register.post(alloc, entry, changes)?;
+    let answer = register.bind(alloc, again);
     Ok((answer, register.all(alloc)?.len()))
+}
+
+fn bound_in_memory(
+    alloc: Global,
+    first: &Setup,
+    again: &Setup,
+    entry: &Entry,
+    changes: &Changes,
+) -> Result<(Result<u32, StoreFault>, usize), StoreFault> {
+    let mut register = PlainRegister::new(alloc);
+    bind_twice(alloc, &mut register, first, again, entry, changes)
 }
 
 #[test]
 fn bound_to_one_setup(rt: HostRuntime) -> Result<(), Fail> {
-    assert_eq!(rt; bound_again(rt.alloc(), SETUP)?, (Ok(12), 1));
-    assert_eq!(rt;
-        bound_again(rt.alloc(), SMALL)?,
-        (Err(StoreFault::OtherSetup), 1)
-    );
+    let moved = moved(GAL, 1)?;
+    let brought = brought(rt.alloc(), 1)?;
+    let large = setup(rt.alloc(), SETUP)?;
+    let small = setup(rt.alloc(), SMALL)?;
+    let same = bound_in_memory(rt.alloc(), &large, &large, &moved, &brought);
+    assert_eq!(rt; same, Ok((Ok(12), 1)));
+    let other = bound_in_memory(rt.alloc(), &large, &small, &moved, &brought);
+    assert_eq!(rt; other, Ok((Err(StoreFault::OtherSetup), 1)));
     Ok(())
 }
 
-/// Whether a register with this posting agrees with a ledger before and after it takes the move.
-fn agreed(alloc: Global, changes: &Changes) -> Result<(bool, bool), Fail> {
-    let setup_kept = setup(alloc, SETUP)?;
-    let entry = moved(PACK, 1)?;
-    let mut ledger = Ledger::new(alloc, setup(alloc, SETUP)?, 12)?;
-    let planned = ledger.plan(alloc, &entry.message)?;
-    if planned.verdict != entry.verdict || PACK >= ledger.setup().stations() {
-        return Err("the move is applied".into());
-    }
+/// Whether a register with this posting agrees with a ledger.
+fn agree_after<R: Register>(
+    alloc: Global,
+    register: &mut R,
+    ledger: &Ledger,
+    entry: &Entry,
+    changes: &Changes,
+) -> Result<bool, StoreFault> {
+    register.bind(alloc, ledger.setup())?;
+    register.post(alloc, entry, changes)?;
+    register.agrees(alloc, ledger)
+}
+
+fn agreed_in_memory(
+    alloc: Global,
+    ledger: &Ledger,
+    entry: &Entry,
+    changes: &Changes,
+) -> Result<bool, StoreFault> {
     let mut register = PlainRegister::new(alloc);
-    register.bind(alloc, &setup_kept)?;
-    register.post(alloc, &entry, changes)?;
-    let before = register.agrees(alloc, &ledger)?;
-    ledger.apply(alloc, entry, planned)?;
-    Ok((before, register.agrees(alloc, &ledger)?))
+    agree_after(alloc, &mut register, ledger, entry, changes)
 }
 
 #[test]
 fn agrees_with_the_ledger(rt: HostRuntime) -> Result<(), Fail> {
-    let alloc = rt.alloc();
-    assert_eq!(rt; agreed(alloc, &brought(alloc, 1)?)?, (false, true));
-    assert_eq!(rt; agreed(alloc, &nothing(alloc, 1))?, (true, false));
+    let moved = moved(PACK, 1)?;
+    let brought = brought(rt.alloc(), 1)?;
+    let nothing = nothing(rt.alloc(), 1);
+    let ledger = Ledger::new(rt.alloc(), setup(rt.alloc(), SETUP)?, 12)?;
+    let more = agreed_in_memory(rt.alloc(), &ledger, &moved, &brought);
+    assert_eq!(rt; more, Ok(false));
+    let same = agreed_in_memory(rt.alloc(), &ledger, &moved, &nothing);
+    assert_eq!(rt; same, Ok(true));
     Ok(())
 }
 
-/// What reading all answers where this is the one entry, under this number.
-fn read_one(alloc: Global, entry: &Entry, number: u64) -> Result<Option<StoreFault>, Fail> {
-    let setup = setup(alloc, SETUP)?;
+/// What reading all answers where these are the entries, under these numbers.
+fn read_after<R: Register>(
+    alloc: Global,
+    register: &mut R,
+    setup: &Setup,
+    entries: &[(Entry, u64)],
+) -> Result<(), StoreFault> {
+    register.bind(alloc, setup)?;
+    for i in 0..entries.len() {
+        let (entry, number) = &entries[i];
+        register.post(alloc, entry, &nothing(alloc, *number))?;
+    }
+    register.all(alloc)?;
+    Ok(())
+}
+
+fn read_in_memory(alloc: Global, setup: &Setup, entries: &[(Entry, u64)]) -> Option<StoreFault> {
     let mut register = PlainRegister::new(alloc);
-    register.bind(alloc, &setup)?;
-    register.post(alloc, entry, &nothing(alloc, number))?;
-    Ok(register.all(alloc).err())
+    read_after(alloc, &mut register, setup, entries).err()
 }
 
 #[test]
 fn damaged_rows(rt: HostRuntime) -> Result<(), Fail> {
-    let alloc = rt.alloc();
-    assert_eq!(rt; read_one(alloc, &moved(GAL, 1)?, 1)?, None);
-    assert_eq!(rt; read_one(alloc, &moved(GAL, 999_999)?, 1)?, None);
+    let setup = setup(rt.alloc(), SETUP)?;
     let damaged = Some(StoreFault::Damaged(1));
-    assert_eq!(rt; read_one(alloc, &moved(GAL, 1)?, 2)?, damaged);
-    assert_eq!(rt; read_one(alloc, &moved(2, 1)?, 1)?, damaged);
-    assert_eq!(rt; read_one(alloc, &moved(GAL, 0)?, 1)?, damaged);
-    assert_eq!(rt; read_one(alloc, &moved(GAL, 1_000_000)?, 1)?, damaged);
-    Ok(())
-}
-
-/// Two postings out of order: what reading all answers after the first, and the numbers that it then reads.
-fn out_of_order(alloc: Global) -> Result<(Option<StoreFault>, u32, u32), Fail> {
-    let setup = setup(alloc, SETUP)?;
-    let second = moved(GAL, 2)?;
-    let first = moved(GAL, 1)?;
-    let mut register = PlainRegister::new(alloc);
-    register.bind(alloc, &setup)?;
-    register.post(alloc, &second, &nothing(alloc, 2))?;
-    let fault = register.all(alloc).err();
-    register.post(alloc, &first, &nothing(alloc, 1))?;
-    match register.all(alloc)?.as_slice() {
-        [first, second] => Ok((fault, first.n, second.n)),
-        _ => Err("two entries".into()),
+    for (station, n, number, want) in CASES {
+        let entry = [(moved(*station, *n)?, *number)];
+        let got = read_in_memory(rt.alloc(), &setup, &entry);
+        assert_eq!(rt; got.is_some(), *want, "{station} {n} {number}");
+        assert!(rt; got.is_none() || got == damaged);
     }
+    Ok(())
 }
 
 #[test]
 fn rows_in_the_order_of_their_numbers(rt: HostRuntime) -> Result<(), Fail> {
-    let damaged = Some(StoreFault::Damaged(1));
-    assert_eq!(rt; out_of_order(rt.alloc())?, (damaged, 1, 2));
+    let setup = setup(rt.alloc(), SETUP)?;
+    let entries = [(moved(GAL, 2)?, 2), (moved(GAL, 1)?, 1)];
+    assert_eq!(rt; read_in_memory(rt.alloc(), &setup, &entries), None);
+    let missing = read_in_memory(rt.alloc(), &setup, &entries[..1]);
+    assert_eq!(rt; missing, Some(StoreFault::Damaged(1)));
     Ok(())
 }
