@@ -6,3 +6,4 @@ pub mod ListedRows
 pub mod SpotRows
 pub mod SpotOrder
 pub mod Kept
+pub mod Keeping
