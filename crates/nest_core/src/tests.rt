@@ -1,6 +1,7 @@
 use crate::{Setup, SetupFault};
 use codes_core::{PlaceCode, ThingCode, ThingKind};
 use std::alloc::Global;
+use std::process::Abort;
 use std::test::Fail;
 
 const MUSEUM: &str =
@@ -21,19 +22,34 @@ fn stations(alloc: Global, count: u32) -> Result<String, Fail> {
     Ok(text)
 }
 
-#[test]
-fn nothing_posted(rt: HostRuntime) -> Result<(), Fail> {
-    let setup = Setup::read(rt.alloc(), MUSEUM.as_bytes())?;
-    assert_eq!(rt; setup.places(), 5);
-    assert_eq!(rt; setup.things(), 6);
+fn assert_counts(rt: &impl Abort, setup: &Setup) {
+    assert_eq!(rt;
+        (setup.stations(), setup.places(), setup.things()),
+        (2, 5, 6)
+    );
+}
+
+fn assert_stations(rt: &impl Abort, setup: &Setup) {
     assert!(rt; setup.stations() == 2);
     assert_eq!(rt; setup.station_name(1), "GAL");
     assert_eq!(rt; setup.station("GAL"), Some(1));
     assert_eq!(rt; setup.station("NONE"), None);
     assert_eq!(rt; setup.station("no name"), None);
+}
+
+/// What the setup doesn't list has no number.
+fn assert_unknown(rt: &impl Abort, setup: &Setup) -> Result<(), Fail> {
     assert_eq!(rt; setup.thing(&ThingCode::parse(b"2009.1")?), None);
     assert_eq!(rt; setup.place(&PlaceCode::parse(b"S9")?), None);
     Ok(())
+}
+
+#[test]
+fn nothing_posted(rt: HostRuntime) -> Result<(), Fail> {
+    let setup = Setup::read(rt.alloc(), MUSEUM.as_bytes())?;
+    assert_counts(&rt, &setup);
+    assert_stations(&rt, &setup);
+    assert_unknown(&rt, &setup)
 }
 
 const THINGS: [(&str, u32, ThingKind, Option<u32>); 4] = [
