@@ -11,7 +11,7 @@ use Rattle.posting_core.specs.declared.entry.Spot.{Spot}
 use Rattle.posting_core.specs.declared.entry.NewSpot.{NewSpot}
 use Rattle.posting_core.specs.declared.entry.Changes.{Changes}
 use Rattle.posting_core.specs.Messages.{day_of}
-use Rattle.posting_core.specs.History.{puts, put_in, place_at, spots, spot_from, is_applied}
+use Rattle.posting_core.specs.History.{puts, put_in, chain_at, place_at, spots, spot_from, is_applied}
 use Rattle.posting_core.specs.Verdicts.{verdict}
 
 -- what a ledger is: the setup, the depth limit, and the posted entries, the newest first
@@ -23,6 +23,9 @@ pub record Book : Type 0 where
 -- the answers of a ledger, by looking back through its entries
 abbrev pub place_in : Book → ℕ → Option ℕ
 place_in B x = place_at B.museum B.posted x
+
+abbrev pub chain_in : Book → ℕ → List ℕ
+chain_in B x = chain_at B.museum B.posted x
 
 abbrev pub spots_in : Book → ℕ → List Spot
 spots_in B x = spots B.museum B.posted x

@@ -1,12 +1,13 @@
 -- Looking back through the posted entries. The newest stands first, so looking back is going down the list.
-use Rattle.std.specs.Prelude.{ℕ, ℤ, ◌+◌, ◌==◌, Bool, true, false, List, [], ◌∷◌, ◌++◌, length, Option, Some, None, if◌then◌else◌}
+use Rattle.std.specs.Prelude.{ℕ, ℤ, ◌+◌, Bool, true, false, List, [], ◌∷◌, ◌++◌, length, Option, Some, None, if◌then◌else◌}
 use Rattle.std.specs.Option.{option_to_list}
-use Rattle.nest_core.specs.declared.put.Target.TheVariants.{At}
+use Rattle.nest_core.specs.declared.put.Target.TheVariants.{At, Within}
 use Rattle.nest_core.specs.declared.put.Put.{Put}
 use Rattle.nest_core.specs.Museum.{Museum}
 use Rattle.nest_core.specs.Puts.{with_put, chain, place, carried}
+use Rattle.nest_core.specs.Nest.{is_same_place}
 use Rattle.posting_core.specs.declared.message.Message.{Message}
-use Rattle.posting_core.specs.declared.message.Message.TheVariants.{Move, SignOff}
+use Rattle.posting_core.specs.declared.message.Message.TheVariants.{Move, Pack, SignOff}
 use Rattle.posting_core.specs.declared.verdict.Verdict.{Verdict}
 use Rattle.posting_core.specs.declared.verdict.Verdict.TheVariants.{Applied}
 use Rattle.posting_core.specs.declared.entry.Entry.{Entry}
@@ -20,6 +21,7 @@ is_applied _ = false
 -- where a message puts its thing, after the entries P
 abbrev pub put_in : Museum → List Entry → Message → Option Put
 put_in S P (Move x p day) = Some (record { thing = thing_no S x; to = At (place_no S p) })
+put_in S P (Pack x c day) = Some (record { thing = thing_no S x; to = Within (thing_no S c) })
 put_in S P (SignOff name) = None
 
 -- where it puts its thing under this verdict: a refused message places nothing
@@ -42,12 +44,6 @@ place_at S P x = place (length S.things) (puts S P) x
 -- the thing with all that is in it
 abbrev pub carried_at : Museum → List Entry → ℕ → List ℕ
 carried_at S P x = carried (length S.things) (puts S P) x
-
-abbrev pub is_same_place : Option ℕ → Option ℕ → Bool
-is_same_place (Some a) (Some b) = a == b
-is_same_place None None = true
-is_same_place (Some a) None = false
-is_same_place None (Some b) = false
 
 -- the spot that the entry of this number writes for a thing, where its place differs from the one before
 abbrev pub spot_from : ℕ → Option ℕ → Option ℕ → Option ℤ → Option Spot

@@ -2,7 +2,7 @@
 use Rattle.std.specs.Prelude.{ℕ, ℤ, Bool, true, false, List, length, Option, Some, None, unwrap_or}
 use Rattle.nest_core.specs.Museum.{Museum, find_thing, find_place}
 use Rattle.posting_core.specs.declared.message.Message.{Message}
-use Rattle.posting_core.specs.declared.message.Message.TheVariants.{Move, SignOff}
+use Rattle.posting_core.specs.declared.message.Message.TheVariants.{Move, Pack, SignOff}
 
 -- a thing's number; where it isn't in the setup, the count of things, which is no thing's number
 abbrev pub thing_no : Museum → List ℕ → ℕ
@@ -15,8 +15,10 @@ place_no S code = unwrap_or (find_place S code) (length S.places)
 -- the location date that a message bears
 abbrev pub day_of : Message → Option ℤ
 day_of (Move x p day) = Some day
+day_of (Pack x c day) = Some day
 day_of (SignOff name) = None
 
 abbrev pub is_sign_off : Message → Bool
 is_sign_off (Move x p day) = false
+is_sign_off (Pack x c day) = false
 is_sign_off (SignOff name) = true

@@ -1,25 +1,21 @@
--- What a ledger's fields keep of its entries: for each thing by number where it is put, and its spots.
+-- What a ledger's fields keep of its entries: the nest of what they put where, and each thing's spots by number.
 use Rattle.std.specs.Prelude.{ℕ, ◌≡◌, ◌+◌, ◌<◌, ◌≤◌, ◌++◌, List, [], ◌∷◌, Option, Some, None, length, map, slice_get, slice_set, Vec, vec_len, vec_capacity, IfSome}
 use Rattle.std.specs.Option.{option_map_or}
 use Rattle.std.specs.declared.alloc.Global.{Global}
 use Rattle.nest_core.specs.declared.put.Target.{Target}
-use Rattle.nest_core.specs.declared.put.Put.{Put}
+use Rattle.nest_core.specs.declared.put.Target.TheVariants.{At, Within}
 use Rattle.nest_core.specs.Museum.{Museum}
-use Rattle.nest_core.specs.Puts.{last}
+use Rattle.nest_core.specs.Nest.{Nested, StandsFor}
 use Rattle.posting_core.specs.declared.entry.Entry.{Entry}
 use Rattle.posting_core.specs.declared.entry.Spot.{Spot}
 use Rattle.posting_core.specs.declared.entry.NewSpot.{NewSpot}
-use Rattle.posting_core.specs.History.{puts, spots}
+use Rattle.posting_core.specs.History.{puts, place_at, spots}
 use Rattle.posting_core.specs.Lawful.{IsLawful}
 
--- where a thing is put, as a list by number says
-abbrev pub listed : List (Option Target) → ℕ → Option Target
-listed targets x = option_map_or (λ t. t) (slice_get targets x) None
-
--- the list after a put, where there is one
-abbrev pub targets_after : List (Option Target) → Option Put → List (Option Target)
-targets_after targets None = targets
-targets_after targets (Some put) = slice_set targets put.thing (Some put.to)
+-- the place to which a thing comes that is put there
+abbrev pub place_to : Museum → List Entry → Target → Option ℕ
+place_to S P (At p) = Some p
+place_to S P (Within c) = place_at S P c
 
 -- the spots of a thing that a list by number has
 abbrev pub row_of : List (List Spot) → ℕ → List Spot
@@ -49,9 +45,10 @@ AreReady rows from [] = Unit {0}
 AreReady rows from (s ∷ ss) = (from ≤ s.thing) × (s.thing < length rows) × HasRoom rows s.thing × AreReady rows (s.thing + 1) ss
 
 -- what the fields keep
-pub record IsKept (S : Museum) (depth : ℕ) (P : List Entry) (targets : List (Option Target)) (rows : List (List Spot)) : Type 0 where
-  pub lawful : IsLawful S depth P
-  pub sized : length targets ≡ length S.things
+pub record IsKept (S : Museum) (P : List Entry) (N : Nested) (rows : List (List Spot)) : Type 0 where
+  pub lawful : IsLawful S N.depth P
+  pub things : N.things ≡ length S.things
+  pub places : N.places ≡ length S.places
+  pub nest : StandsFor N (puts S P)
   pub rowed : length rows ≡ length S.things
-  pub current : listed targets ≡ last (puts S P)
   pub row : (x : ℕ) → x < length S.things → row_of rows x ≡ spots S P x

@@ -1,13 +1,17 @@
 -- The verdict on a message after the entries P: the first of its kind's rows that holds.
-use Rattle.std.specs.Prelude.{ℕ, Bool, not, List, [], ◌∷◌, Option, Some, None, if◌then◌else◌, is_some, codes}
-use Rattle.nest_core.specs.Museum.{Museum, find_thing, find_place, is_elsewhere, is_borrowed}
+use Rattle.std.specs.Prelude.{ℕ, Bool, false, not, List, [], ◌∷◌, length, Option, Some, None, if◌then◌else◌, is_some, codes}
+use Rattle.std.specs.Option.{option_map_or}
+use Rattle.nest_core.specs.declared.put.Target.TheVariants.{Within}
+use Rattle.nest_core.specs.Museum.{Museum, find_thing, find_place, is_inside, is_elsewhere, is_borrowed, is_container}
+use Rattle.nest_core.specs.Puts.{last, is_among}
+use Rattle.nest_core.specs.Nest.{put_at, is_too_deep}
 use Rattle.posting_core.specs.declared.message.Message.{Message}
-use Rattle.posting_core.specs.declared.message.Message.TheVariants.{Move, SignOff}
+use Rattle.posting_core.specs.declared.message.Message.TheVariants.{Move, Pack, SignOff}
 use Rattle.posting_core.specs.declared.verdict.Verdict.{Verdict}
 use Rattle.posting_core.specs.declared.verdict.Verdict.TheVariants.{Applied, UnknownThing, UnknownPlace, ElsewherePlace, UnknownContainer, UnknownLoan, LoanKnown, InsidePartner, NoObjects, NotObject, Repeated, WrongOwner, BadTerm, AlreadyAuthorised, NotAuthorised, WrongDirection, NotHere, ContainerNotHere, Cycle, TooDeep, NotWithPartner, AlreadyHere, NotListed, WrongStage, TermOver, NotLater}
 use Rattle.posting_core.specs.declared.entry.Entry.{Entry}
 use Rattle.posting_core.specs.Messages.{thing_no, place_no}
-use Rattle.posting_core.specs.History.{place_at}
+use Rattle.posting_core.specs.History.{puts, chain_at, place_at}
 
 -- a refusal, and whether its cause holds
 pub record Row : Type 0 where
@@ -46,9 +50,37 @@ move_rows S P x p =
     ∷ (NotHere if is_not_here S P x)
     ∷ []
 
+-- a container of the setup
+abbrev pub is_known_container : Museum → List ℕ → Bool
+is_known_container S c = option_map_or (is_container S) (find_thing S c) false
+
+-- a thing's place is inside; without a place it is neither inside nor elsewhere
+abbrev pub stands_inside : Museum → List Entry → List ℕ → Bool
+stands_inside S P x = option_map_or (is_inside S) (place_at S P (thing_no S x)) false
+
+-- x is the container, or stands in its chain
+abbrev pub is_cycle : Museum → List Entry → List ℕ → List ℕ → Bool
+is_cycle S P x c = is_among (thing_no S x) (thing_no S c ∷ chain_at S P (thing_no S c))
+
+-- with x in the container some thing would have more containers above it than the depth limit
+abbrev pub is_deep_with : Museum → ℕ → List Entry → List ℕ → List ℕ → Bool
+is_deep_with S depth P x c = is_too_deep (put_at (last (puts S P)) (thing_no S x) (Within (thing_no S c))) (length S.things) depth
+
+-- the rows of a Pack of thing x into container c
+abbrev pub pack_rows : Museum → ℕ → List Entry → List ℕ → List ℕ → List Row
+pack_rows S depth P x c =
+    (UnknownThing if not (is_known S x))
+    ∷ (UnknownContainer if not (is_known_container S c))
+    ∷ (NotHere if is_not_here S P x)
+    ∷ (ContainerNotHere if not (stands_inside S P c))
+    ∷ (Cycle if is_cycle S P x c)
+    ∷ (TooDeep if is_deep_with S depth P x c)
+    ∷ []
+
 -- the verdict, under a depth limit
 abbrev pub verdict : Museum → ℕ → List Entry → Message → Verdict
 verdict S depth P (Move x p day) = first_of (move_rows S P x p)
+verdict S depth P (Pack x c day) = first_of (pack_rows S depth P x c)
 verdict S depth P (SignOff name) = Applied
 
 abbrev pub verdict_number : Verdict → ℕ

@@ -4,6 +4,7 @@
 mod entry;
 mod ledger;
 mod message;
+mod placing;
 mod spot_rows;
 #[cfg(test)]
 mod tests;

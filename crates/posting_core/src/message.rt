@@ -11,6 +11,12 @@ pub enum Message {
         place: PlaceCode,
         day: Day,
     },
+    /// The thing is put straight into the container, on this day.
+    Pack {
+        thing: ThingCode,
+        container: ThingCode,
+        day: Day,
+    },
     /// The station's last message, and who signs it.
     SignOff {
         name: Name,

@@ -1,0 +1,139 @@
+-- What an applied message puts where, and the places after it.
+use Rattle.std.specs.Prelude.{ℕ, ◌≡◌, ◌+◌, ◌<◌, ◌≤◌, Bool, true, false, List, [], ◌∷◌, Option, None, Some, length, refl, IfSome, is_some, unwrap_or, not, if◌then◌else◌}
+use Rattle.std.specs.List.{position, list_all, AllByRecursion}
+use Rattle.std.specs.Option.{option_map_or}
+use Rattle.std.specs.Str.{bytes_eq}
+use Rattle.std.proofs.Common.{ap, ◌∙◌, sym, subst, arith}
+use Rattle.std.proofs.lemmas.Bool.{and_parts}
+use Rattle.std.proofs.lemmas.List.{length-map}
+use Rattle.std.proofs.lemmas.List.Quantifiers.{position-Some}
+use Rattle.nest_core.specs.declared.put.Target.{Target}
+use Rattle.nest_core.specs.declared.put.Target.TheVariants.{At, Within}
+use Rattle.nest_core.specs.declared.put.Put.{Put}
+use Rattle.nest_core.specs.Museum.{Museum, find_thing, thing_codes, place_codes, is_container}
+use Rattle.nest_core.specs.Nest.{Nested, StandsFor, MayGo, put_at, pack_bar}
+use Rattle.nest_core.specs.Puts.{last, with_put, place_of, place_by, is_carried}
+use Rattle.nest_core.proofs.NestWords.{IsAllowed}
+use Rattle.nest_core.proofs.NestLaws.{IsSound, sound_put, may_pack, place_carried, place_packed, place_stays}
+use Rattle.posting_core.specs.declared.message.Message.{Message}
+use Rattle.posting_core.specs.declared.message.Message.TheVariants.{Move, Pack, SignOff}
+use Rattle.posting_core.specs.declared.verdict.Verdict.{Verdict}
+use Rattle.posting_core.specs.declared.verdict.Verdict.TheVariants.{Applied}
+use Rattle.posting_core.specs.declared.entry.Entry.{Entry}
+use Rattle.posting_core.specs.Messages.{thing_no, place_no}
+use Rattle.posting_core.specs.History.{puts, put_in, put_by, is_applied, place_at}
+use Rattle.posting_core.specs.Verdicts.{Row, first_of, verdict, move_rows, pack_rows, is_known, is_known_place, is_known_container}
+use Rattle.posting_core.specs.Lawful.{IsLawful}
+use Rattle.posting_core.specs.Book.{Book, verdict_in, place_after}
+use Rattle.posting_core.specs.Rows.{place_to}
+
+none_some : {X : Type 0} {x : X} → None ≡ Some x → ⊥
+none_some {X} {x} e = cc
+
+false_true : false ≡ true → ⊥
+false_true e = cc
+
+below : (xs : List (List ℕ)) (code : List ℕ) (i : ℕ) → position (bytes_eq code) xs ≡ Some i → i < length xs
+below [] code i e = absurd (none_some e)
+below (x ∷ xs) code i e = (position-Some (bytes_eq code) (x ∷ xs) i x e).0
+
+found_below : (xs : List (List ℕ)) (code : List ℕ) (n : ℕ) → n ≡ length xs → is_some (position (bytes_eq code) xs) ≡ true → unwrap_or (position (bytes_eq code) xs) n < n
+found_below xs code n same = elim (position (bytes_eq code) xs) as (λ o. position (bytes_eq code) xs ≡ o → is_some o ≡ true → unwrap_or o n < n) [
+  | None ↦ λ e h. absurd (false_true h)
+  | Some i ↦ λ e h. subst (λ k. i < k) (sym same) (below xs code i e)
+] refl
+
+pub thing_below : (S : Museum) (x : List ℕ) → is_known S x ≡ true → thing_no S x < length S.things
+thing_below S x known = found_below (thing_codes S) x (length S.things) (sym (length-map S.things (λ row. row.0))) known
+
+pub place_below : (S : Museum) (p : List ℕ) → is_known_place S p ≡ true → place_no S p < length S.places
+place_below S p known = found_below (place_codes S) p (length S.places) (sym (length-map S.places (λ row. row.0))) known
+
+-- a container of the setup is known
+container_known : (S : Museum) (c : List ℕ) → is_known_container S c ≡ true → is_known S c ≡ true
+container_known S c = elim (find_thing S c) as (λ o. option_map_or (is_container S) o false ≡ true → is_some o ≡ true) [ None ↦ λ h. h | Some i ↦ λ h. refl ]
+
+-- no row of an applied message holds
+pub none_holds : (rows : List Row) → list_all (λ row. not (is_applied row.verdict)) rows ≡ true → first_of rows ≡ Applied → AllByRecursion (λ row. row.holds ≡ false) rows
+none_holds [] refusals h = tt
+none_holds (row ∷ rows) refusals h =
+    let parts = and_parts (not (is_applied row.verdict)) (list_all (λ row. not (is_applied row.verdict)) rows) refusals in
+    elim row.holds as (λ b. row.holds ≡ b → (if b then row.verdict else first_of rows) ≡ Applied → (b ≡ false) × AllByRecursion (λ row. row.holds ≡ false) rows) [
+      | true ↦ λ e k. absurd (false_true (ap (λ v. not (is_applied v)) (sym k) ∙ parts.0))
+      | false ↦ λ e k. (refl, none_holds rows parts.1 k)
+    ] refl h
+
+holds : (b : Bool) → not b ≡ false → b ≡ true
+holds true h = refl
+holds false h = absurd (false_true (sym h))
+
+pub applied_is : (v : Verdict) → is_applied v ≡ true → v ≡ Applied
+applied_is Applied h = refl
+applied_is _ h = absurd (false_true h)
+
+-- a put of an applied message: of a known thing, to a known place or into a container that has room for it
+pub record IsAllowedPut (S : Museum) (depth : ℕ) (P : List Entry) (put : Put) : Type 0 where
+  pub thing : put.thing < length S.things
+  pub place : IfSome (place_of (Some put.to)) (λ p. p < length S.places)
+  pub room : IsAllowed (last (puts S P)) (length S.things) depth put.thing put.to
+
+put_applied : (S : Museum) (depth : ℕ) (P : List Entry) (m : Message) → verdict S depth P m ≡ Applied → IfSome (put_in S P m) (IsAllowedPut S depth P)
+put_applied S depth P (Move x p day) h =
+    let none = none_holds (move_rows S P x p) refl h in
+    record { thing = thing_below S x (holds (is_known S x) none.0); place = place_below S p (holds (is_known_place S p) none.1.0); room = tt }
+put_applied S depth P (Pack x c day) h =
+    let none = none_holds (pack_rows S depth P x c) refl h in
+    record {
+      thing = thing_below S x (holds (is_known S x) none.0);
+      place = tt;
+      room = (thing_below S c (container_known S c (holds (is_known_container S c) none.1.0)), none.1.1.1.1.0, none.1.1.1.1.1.0);
+    }
+put_applied S depth P (SignOff name) h = tt
+
+pub put_allowed : (S : Museum) (depth : ℕ) (P : List Entry) (v : Verdict) (m : Message) → v ≡ verdict S depth P m → IfSome (put_by S P v m) (IsAllowedPut S depth P)
+put_allowed S depth P v m judged =
+    elim (is_applied v) as (λ t. is_applied v ≡ t → IfSome (if t then put_in S P m else None) (IsAllowedPut S depth P)) [
+      | true ↦ λ e. put_applied S depth P m (sym judged ∙ applied_is v e)
+      | false ↦ λ e. tt
+    ] refl
+
+-- that of a ledger's applied message
+pub allowed_in : (B : Book) (m : Message) (o : Option Put) (put : Put) → verdict_in B m ≡ Applied → o ≡ put_in B.museum B.posted m → o ≡ Some put → IsAllowedPut B.museum B.depth B.posted put
+allowed_in B m o put applied is some = subst (λ p. IfSome p (IsAllowedPut B.museum B.depth B.posted)) (sym is ∙ some) (put_applied B.museum B.depth B.posted m applied)
+
+-- it may go into a nest that stands for the puts before it
+pub may_go : (N : Nested) (S : Museum) (P : List Entry) (put : Put) → N.things ≡ length S.things → N.places ≡ length S.places → StandsFor N (puts S P) → IsAllowedPut S N.depth P put →
+    (put.thing < N.things) × MayGo N put.thing put.to
+may_go N S P put things places stands allowed =
+    (subst (λ n. put.thing < n) (sym things) allowed.thing, to put.to allowed.place (subst (λ n. IsAllowed (last (puts S P)) n N.depth put.thing put.to) (sym things) allowed.room))
+  where
+    to : (t : Target) → IfSome (place_of (Some t)) (λ p. p < length S.places) → IsAllowed (last (puts S P)) N.things N.depth put.thing t → MayGo N put.thing t
+    to (At p) place room = subst (λ n. p < n) (sym places) place
+    to (Within c) place (less, apart, low) = may_pack N (puts S P) put.thing c stands less (rw (apart, low) refl)
+
+with_sound : (S : Museum) (depth : ℕ) (P : List Entry) (o : Option Put) → IfSome o (IsAllowedPut S depth P) → IsSound (length S.things) depth (last (puts S P)) → IsSound (length S.things) depth (last (with_put o (puts S P)))
+with_sound S depth P None allowed sound = sound
+with_sound S depth P (Some put) allowed sound = sound_put (length S.things) depth (last (puts S P)) put.thing put.to sound allowed.thing allowed.room
+
+-- over a lawful list no chain is cut, none is longer than the depth limit, and all are of things
+pub lawful_sound : (S : Museum) (depth : ℕ) (P : List Entry) → IsLawful S depth P → IsSound (length S.things) depth (last (puts S P))
+lawful_sound S depth [] lawful = record { small = λ y c e. absurd (none_some e); ended = λ y. refl; far = λ y ge. refl }
+lawful_sound S depth (e ∷ P) (follows, lawful) =
+    with_sound S depth P (put_by S P e.verdict e.message) (put_allowed S depth P e.verdict e.message follows.judged) (lawful_sound S depth P lawful)
+
+-- what its thing carries comes to the place of its target
+pub comes_along : (S : Museum) (depth : ℕ) (P : List Entry) (m : Message) (put : Put) → IsLawful S depth P → put_in S P m ≡ Some put → IsAllowedPut S depth P put →
+    (y : ℕ) → is_carried (length S.things) (puts S P) put.thing y ≡ true → place_after S P m y ≡ place_to S P put.to
+comes_along S depth P m put lawful is allowed y carried =
+    ap (λ o. place_by (last (with_put o (puts S P))) (length S.things) y) is ∙ to put.to allowed.room
+  where
+    to : (t : Target) → IsAllowed (last (puts S P)) (length S.things) depth put.thing t → place_by (put_at (last (puts S P)) put.thing t) (length S.things) y ≡ place_to S P t
+    to (At p) room = place_carried (length S.things) depth (last (puts S P)) put.thing (At p) y (lawful_sound S depth P lawful) allowed.thing room carried
+    to (Within c) room = place_packed (length S.things) depth (last (puts S P)) put.thing c y (lawful_sound S depth P lawful) allowed.thing room carried
+
+-- what it doesn't carry stays where it is
+pub stays : (S : Museum) (depth : ℕ) (P : List Entry) (m : Message) (put : Put) → IsLawful S depth P → put_in S P m ≡ Some put → IsAllowedPut S depth P put →
+    (y : ℕ) → is_carried (length S.things) (puts S P) put.thing y ≡ false → place_after S P m y ≡ place_at S P y
+stays S depth P m put lawful is allowed y apart =
+    ap (λ o. place_by (last (with_put o (puts S P))) (length S.things) y) is
+    ∙ place_stays (length S.things) depth (last (puts S P)) put.thing put.to y (lawful_sound S depth P lawful) allowed.thing allowed.room apart
