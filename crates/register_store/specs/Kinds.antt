@@ -7,11 +7,11 @@ use Rattle.serde_json.specs.Find.{get, as_str}
 use Rattle.serde_json.specs.Read.{read}
 use Rattle.codes_core.specs.Day.{day_number}
 use Rattle.posting_core.specs.declared.message.Message as message
-use Rattle.posting_core.specs.declared.message.Message.TheVariants.{Move, SignOff}
+use Rattle.posting_core.specs.declared.message.Message.TheVariants.{Move, Pack, SignOff}
 use Rattle.register_store.specs.declared.fault.ReadFault.{ReadFault}
 use Rattle.register_store.specs.declared.fault.ReadFault.TheVariants.{NotJson, Missing, BadKind, BadField}
 use Rattle.register_store.specs.declared.key.Key.{Key}
-use Rattle.register_store.specs.declared.key.Key.TheVariants.{Kind, Thing, Place, Day, By}
+use Rattle.register_store.specs.declared.key.Key.TheVariants.{Kind, Thing, Place, Container, Day, By}
 use Rattle.register_store.specs.Spelling.{key_name, is_thing, is_place, is_day, is_name}
 
 -- a key that a kind asks for, and which values may stand there
@@ -41,6 +41,13 @@ move_row = record {
   message = λ d. Move (text_at d Thing) (text_at d Place) (day_number (text_at d Day));
 }
 
+abbrev pub pack_row : Row
+pack_row = record {
+  name = codes "pack";
+  fields = (Thing spells is_thing) ∷ (Container spells is_thing) ∷ (Day spells is_day) ∷ [];
+  message = λ d. Pack (text_at d Thing) (text_at d Container) (day_number (text_at d Day));
+}
+
 abbrev pub sign_off_row : Row
 sign_off_row = record {
   name = codes "signoff";
@@ -49,7 +56,7 @@ sign_off_row = record {
 }
 
 abbrev pub kinds : List Row
-kinds = move_row ∷ sign_off_row ∷ []
+kinds = move_row ∷ pack_row ∷ sign_off_row ∷ []
 
 abbrev pub kind_named : List Row → List ℕ → Option Row
 kind_named [] name = None

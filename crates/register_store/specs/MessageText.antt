@@ -4,9 +4,9 @@ use Rattle.serde_json.specs.Data.{Data, string, object, Members, no_members, put
 use Rattle.serde_json.specs.Written.{compact_text}
 use Rattle.codes_core.specs.Day.{IsOnlySpelling}
 use Rattle.posting_core.specs.declared.message.Message as message
-use Rattle.posting_core.specs.declared.message.Message.TheVariants.{Move, SignOff}
+use Rattle.posting_core.specs.declared.message.Message.TheVariants.{Move, Pack, SignOff}
 use Rattle.register_store.specs.declared.key.Key.{Key}
-use Rattle.register_store.specs.declared.key.Key.TheVariants.{Kind, Thing, Place, Day, By}
+use Rattle.register_store.specs.declared.key.Key.TheVariants.{Kind, Thing, Place, Container, Day, By}
 use Rattle.register_store.specs.Spelling.{key_name}
 
 -- a key and the string at it
@@ -28,6 +28,9 @@ abbrev pub IsJson : message.Message → Data → Type 0
 IsJson (Move x p day) d =
     (text : List ℕ) × IsOnlySpelling text day
     × (d ≡ object (members_of ((Kind is codes "move") ∷ (Thing is x) ∷ (Place is p) ∷ (Day is text) ∷ [])))
+IsJson (Pack x c day) d =
+    (text : List ℕ) × IsOnlySpelling text day
+    × (d ≡ object (members_of ((Kind is codes "pack") ∷ (Thing is x) ∷ (Container is c) ∷ (Day is text) ∷ [])))
 IsJson (SignOff name) d = d ≡ object (members_of ((Kind is codes "signoff") ∷ (By is name) ∷ []))
 
 -- the text of a message; there is one

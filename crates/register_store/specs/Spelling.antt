@@ -7,12 +7,13 @@ use Rattle.codes_core.specs.Place.{place_fault}
 use Rattle.codes_core.specs.Day.{day_fault}
 use Rattle.codes_core.specs.Name.{is_name_byte}
 use Rattle.register_store.specs.declared.key.Key.{Key}
-use Rattle.register_store.specs.declared.key.Key.TheVariants.{Kind, Thing, Place, Day, By, Station, N, Message, Ask}
+use Rattle.register_store.specs.declared.key.Key.TheVariants.{Kind, Thing, Place, Container, Day, By, Station, N, Message, Ask}
 
 abbrev pub key_name : Key → List ℕ
 key_name Kind = codes "kind"
 key_name Thing = codes "thing"
 key_name Place = codes "place"
+key_name Container = codes "container"
 key_name Day = codes "day"
 key_name By = codes "by"
 key_name Station = codes "station"

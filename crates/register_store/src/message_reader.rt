@@ -1,7 +1,7 @@
 //! Messages read from JSON.
 ghost use Rattle.std.specs.Prelude.{◌≡◌, ◌≢◌, Ok, Err, MatchResult};
 ghost use Rattle.serde_json.specs.View.{view};
-ghost use Rattle.register_store.specs.Kinds.{of_row, move_row, sign_off_row, of_json, of_bytes};
+ghost use Rattle.register_store.specs.Kinds.{of_row, move_row, pack_row, sign_off_row, of_json, of_bytes};
 
 use crate::field::{day_at, name_at, place_at, thing_at, value_at};
 use crate::{Key, ReadFault};
@@ -31,6 +31,7 @@ pub fn message_of(alloc: Global, value: &Value) -> Result<Message, ReadFault>
     }
     match value_at(value, Key::Kind)?.as_str() {
         Some("move") => move_of(value),
+        Some("pack") => pack_of(value),
         Some("signoff") => sign_off_of(alloc, value),
         _ => Err(ReadFault::BadKind),
     }
@@ -45,6 +46,21 @@ fn move_of(object: &Value) -> Result<Message, ReadFault>
     let place = place_at(object, Key::Place)?;
     let day = day_at(object, Key::Day)?;
     Ok(Message::Move { thing, place, day })
+}
+
+fn pack_of(object: &Value) -> Result<Message, ReadFault>
+    ensures exact { MatchResult result
+        (λ message. of_row (view object.now) pack_row ≡ Ok message)
+        (λ fault. of_row (view object.now) pack_row ≡ Err fault) }
+{
+    let thing = thing_at(object, Key::Thing)?;
+    let container = thing_at(object, Key::Container)?;
+    let day = day_at(object, Key::Day)?;
+    Ok(Message::Pack {
+        thing,
+        container,
+        day,
+    })
 }
 
 fn sign_off_of(alloc: Global, object: &Value) -> Result<Message, ReadFault>

@@ -29,6 +29,11 @@ fn object_of(alloc: Global, message: &Message) -> Result<Value, NoMemory>
 {
     match message {
         Message::Move { thing, place, day } => move_object(alloc, thing, place, *day),
+        Message::Pack {
+            thing,
+            container,
+            day,
+        } => pack_object(alloc, thing, container, *day),
         Message::SignOff { name } => sign_off_object(alloc, name),
     }
 }
@@ -46,6 +51,23 @@ fn move_object(
     put_text(alloc, &mut object, Key::Kind, "move")?;
     put_text(alloc, &mut object, Key::Thing, thing.as_str())?;
     put_text(alloc, &mut object, Key::Place, place.as_str())?;
+    put_text(alloc, &mut object, Key::Day, day_text(alloc, day)?.as_str())?;
+    Ok(Value::Object(object))
+}
+
+fn pack_object(
+    alloc: Global,
+    thing: &ThingCode,
+    container: &ThingCode,
+    day: Day,
+) -> Result<Value, NoMemory>
+    ensures object { IfOk result (λ value. IsJson (Message.Pack thing.now container.now day) (view value)) }
+    ensures reads_back { IfOk result (λ value. of_json (view value) ≡ Ok (Message.Pack thing.now container.now day)) }
+{
+    let mut object = Map::new(alloc);
+    put_text(alloc, &mut object, Key::Kind, "pack")?;
+    put_text(alloc, &mut object, Key::Thing, thing.as_str())?;
+    put_text(alloc, &mut object, Key::Container, container.as_str())?;
     put_text(alloc, &mut object, Key::Day, day_text(alloc, day)?.as_str())?;
     Ok(Value::Object(object))
 }
