@@ -1,10 +1,9 @@
 //! What a station sends, and what it gets back.
 
-use nest_core::{PlaceNo, StationNo, ThingNo};
+use nest_core::{PlaceNo, StationNo, ThingNos};
 use posting_core::Message;
 use station_core::Refusal;
-use std::alloc::{AllocError, Global};
-use std::marker::Model;
+use std::alloc::AllocError;
 use thiserror::Error;
 
 /// A message as it arrives: from any station, known or not, under any number.
@@ -24,45 +23,12 @@ pub enum Answer {
     Posted { first: u64, last: u64 },
 }
 
-/// Where a thing is: no thing of the setup, never placed, or at a place in the containers above it.
+/// Where a thing is: no thing of the setup, never placed, or at a place in the containers above it, innermost first.
 #[derive(Debug, Drop)]
 pub enum Where {
     UnknownThing,
     Unplaced,
-    At { place: PlaceNo, chain: Chain },
-}
-
-/// The containers above a thing, innermost first; seen as their list.
-#[derive(Debug, Drop)]
-pub struct Chain {
-    containers: Vec<ThingNo>,
-}
-
-impl Model for Chain {
-    ghost use Rattle.std.specs.Prelude.{List, ℕ};
-
-    ghost Value = { List ℕ };
-
-    ghost view = { λ c. c.containers.items };
-}
-
-impl Chain {
-    ghost use Rattle.std.specs.Prelude.{◌≡◌, []};
-
-    /// No container. Takes no memory.
-    pub fn none(alloc: Global) -> Chain
-        ensures { result ≡ [] }
-    {
-        Chain {
-            containers: Vec::new(alloc),
-        }
-    }
-
-    pub fn as_slice(&self) -> &[ThingNo]
-        ensures { result.now ≡ self.now }
-    {
-        &self.containers
-    }
+    At { place: PlaceNo, chain: ThingNos },
 }
 
 /// Why the hub gives no answer. Where several hold, the first in this order is told.

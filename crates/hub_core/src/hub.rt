@@ -14,8 +14,8 @@ ghost use Rattle.hub_core.specs.Points.{point, reply, due_with, whereabouts, cut
 
 use crate::opening::prepare;
 use crate::posting::post_due;
-use crate::{Answer, Arrival, Chain, HubFault, Where};
-use codes_core::ThingCode;
+use crate::{Answer, Arrival, HubFault, Where};
+use codes_core::{NoMemory, ThingCode};
 use nest_core::Setup;
 use posting_core::{Entry, Ledger, Message};
 use register_store::{Register, StoreFault};
@@ -146,7 +146,7 @@ impl<R: Register> Hub<R> {
         if self.is_down() {
             return Err(HubFault::Down);
         }
-        Ok(whereabouts(alloc, &self.ledger, code))
+        Ok(whereabouts(alloc, &self.ledger, code)?)
     }
 
     /// The posted entries, oldest first.
@@ -184,18 +184,16 @@ impl<R: Register> Hub<R> {
 }
 
 /// Where the thing with the code is, by the ledger.
-fn whereabouts(alloc: Global, ledger: &Ledger, code: &ThingCode) -> Where
-    ensures answer { result ≡ whereabouts ledger.now.museum ledger.now.posted code.now }
-    ensures placed { IsPlaced ledger.now.museum result }
+fn whereabouts(alloc: Global, ledger: &Ledger, code: &ThingCode) -> Result<Where, NoMemory>
+    ensures answer { IfOk result (λ place. place ≡ whereabouts ledger.now.museum ledger.now.posted code.now) }
+    ensures placed { IfOk result (IsPlaced ledger.now.museum) }
 {
     let Some(thing) = ledger.setup().thing(code) else {
-        return Where::UnknownThing;
+        return Ok(Where::UnknownThing);
     };
-    match ledger.place_of(thing) {
-        None => Where::Unplaced,
-        Some(place) => Where::At {
-            place,
-            chain: Chain::none(alloc),
-        },
-    }
+    let Some(place) = ledger.place_of(thing) else {
+        return Ok(Where::Unplaced);
+    };
+    let chain = ledger.chain(alloc, thing)?;
+    Ok(Where::At { place, chain })
 }

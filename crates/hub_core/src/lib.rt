@@ -18,7 +18,7 @@ mod tests;
 #[cfg(test)]
 mod tests_faults;
 
-pub use answer::{Answer, Arrival, Chain, HubFault, Where};
+pub use answer::{Answer, Arrival, HubFault, Where};
 pub use hub::{Hub, OpenFault};
 pub use line_reply::LONGEST_LINE;
 pub use reader::{Line, Request, read_line};

@@ -1,18 +1,19 @@
 -- What an applied message puts where, and the places after it.
-use Rattle.std.specs.Prelude.{ℕ, ◌≡◌, ◌+◌, ◌<◌, ◌≤◌, Bool, true, false, List, [], ◌∷◌, Option, None, Some, length, refl, IfSome, is_some, unwrap_or, not, if◌then◌else◌}
+use Rattle.std.specs.Prelude.{ℕ, zero, suc, ◌≡◌, ◌<◌, Bool, true, false, All, List, [], ◌∷◌, Option, None, Some, length, refl, IfSome, is_some, unwrap_or, not, if◌then◌else◌}
 use Rattle.std.specs.List.{position, list_all, AllByRecursion}
 use Rattle.std.specs.Option.{option_map_or}
 use Rattle.std.specs.Str.{bytes_eq}
 use Rattle.std.proofs.Common.{ap, ◌∙◌, sym, subst, arith}
 use Rattle.std.proofs.lemmas.Bool.{and_parts}
 use Rattle.std.proofs.lemmas.List.{length-map}
+use Rattle.std.proofs.lemmas.List.Elements.{All-nil, All-cons}
 use Rattle.std.proofs.lemmas.List.Quantifiers.{position-Some}
 use Rattle.nest_core.specs.declared.put.Target.{Target}
 use Rattle.nest_core.specs.declared.put.Target.TheVariants.{At, Within}
 use Rattle.nest_core.specs.declared.put.Put.{Put}
 use Rattle.nest_core.specs.Museum.{Museum, find_thing, thing_codes, place_codes, is_container}
 use Rattle.nest_core.specs.Nest.{Nested, StandsFor, MayGo, put_at, pack_bar}
-use Rattle.nest_core.specs.Puts.{last, with_put, place_of, place_by, is_carried}
+use Rattle.nest_core.specs.Puts.{last, with_put, container_of, place_of, above, place_by, is_carried}
 use Rattle.nest_core.proofs.NestWords.{IsAllowed}
 use Rattle.nest_core.proofs.NestLaws.{IsSound, sound_put, may_pack, place_carried, place_packed, place_stays}
 use Rattle.posting_core.specs.declared.message.Message.{Message}
@@ -21,7 +22,7 @@ use Rattle.posting_core.specs.declared.verdict.Verdict.{Verdict}
 use Rattle.posting_core.specs.declared.verdict.Verdict.TheVariants.{Applied}
 use Rattle.posting_core.specs.declared.entry.Entry.{Entry}
 use Rattle.posting_core.specs.Messages.{thing_no, place_no}
-use Rattle.posting_core.specs.History.{puts, put_in, put_by, is_applied, place_at}
+use Rattle.posting_core.specs.History.{puts, put_in, put_by, is_applied, chain_at, place_at}
 use Rattle.posting_core.specs.Verdicts.{Row, first_of, verdict, move_rows, pack_rows, is_known, is_known_place, is_known_container}
 use Rattle.posting_core.specs.Lawful.{IsLawful}
 use Rattle.posting_core.specs.Book.{Book, verdict_in, place_after}
@@ -137,3 +138,14 @@ pub stays : (S : Museum) (depth : ℕ) (P : List Entry) (m : Message) (put : Put
 stays S depth P m put lawful is allowed y apart =
     ap (λ o. place_by (last (with_put o (puts S P))) (length S.things) y) is
     ∙ place_stays (length S.things) depth (last (puts S P)) put.thing put.to y (lawful_sound S depth P lawful) allowed.thing allowed.room apart
+
+-- the containers above a thing are things
+above_below : (n d : ℕ) (at : ℕ → Option Target) → IsSound n d at → (steps x : ℕ) → All (λ c. c < n) (above at steps x)
+above_below n d at sound zero x = All-nil (λ (c : ℕ). c < n)
+above_below n d at sound (suc steps) x = elim (container_of (at x)) as (λ o. container_of (at x) ≡ o → All (λ c. c < n) (option_map_or (λ c. c ∷ above at steps c) o [])) [
+  | None ↦ λ e. All-nil (λ (c : ℕ). c < n)
+  | Some c ↦ λ e. All-cons (λ (y : ℕ). y < n) c (above at steps c) (sound.small x c e) (above_below n d at sound steps c)
+] refl
+
+pub chain_below : (S : Museum) (depth : ℕ) (P : List Entry) (x : ℕ) → IsLawful S depth P → All (λ c. c < length S.things) (chain_at S P x)
+chain_below S depth P x lawful = above_below (length S.things) depth (last (puts S P)) (lawful_sound S depth P lawful) (length S.things) x

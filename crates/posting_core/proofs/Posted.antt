@@ -1,10 +1,11 @@
 -- What a ledger's fields keep, before and after an entry.
-use Rattle.std.specs.Prelude.{ℕ, ℤ, ◌≡◌, ◌+◌, ◌<◌, true, false, if◌then◌else◌, List, [], ◌∷◌, ◌++◌, Option, None, Some, length, replicate, zero, suc, refl, IfSome, slice_set}
+use Rattle.std.specs.Prelude.{ℕ, ℤ, ◌≡◌, ◌+◌, ◌<◌, true, false, if◌then◌else◌, List, [], ◌∷◌, ◌++◌, Option, None, Some, length, All, Result, Ok, Err, IfOk, replicate, zero, suc, refl, IfSome, slice_set}
 use Rattle.std.specs.Option.{option_map, option_to_list}
 use Rattle.std.proofs.Common.{ap, ◌∙◌, sym, subst, arith, length-set}
 use Rattle.std.proofs.lemmas.List.{append-nil, length-replicate}
 use Rattle.nest_core.specs.declared.put.Put.{Put}
 use Rattle.nest_core.specs.declared.nest.PackBar.{PackBar}
+use Rattle.codes_core.specs.declared.fault.NoMemory.{NoMemory}
 use Rattle.nest_core.specs.Museum.{Museum}
 use Rattle.nest_core.specs.Nest.{Nested, StandsFor, MayGo, pack_bar}
 use Rattle.nest_core.specs.Puts.{last, with_put, place, chain, carried}
@@ -19,7 +20,7 @@ use Rattle.posting_core.specs.History.{puts, put_in, put_by, is_applied, spots, 
 use Rattle.posting_core.specs.Lawful.{Follows, IsLawful}
 use Rattle.posting_core.specs.Book.{Book, place_in, chain_in, place_after, new_spot, new_spots, changes_of}
 use Rattle.posting_core.specs.Rows.{row_of, rows_after, AreAscending, IsKept}
-use Rattle.posting_core.proofs.Placed.{IsAllowedPut, put_allowed, may_go}
+use Rattle.posting_core.proofs.Placed.{IsAllowedPut, put_allowed, may_go, chain_below}
 use Rattle.posting_core.proofs.Written.{rows_written, chosen_spot, own_spot, same_place, own_ascending}
 
 -- the book that a ledger's fields make
@@ -49,6 +50,12 @@ carried_kept S P N R B x ys same kept from = subst (λ (C : Book). ys ≡ carrie
 pub chain_kept : (S : Museum) (P : List Entry) (N : Nested) (R : List (List Spot)) (B : Book) (x : ℕ) (cs : List ℕ) → book_of S P N ≡ B → IsKept S P N R →
     ((Q : List Put) → StandsFor N Q → cs ≡ chain N.things Q x) → cs ≡ chain_in B x
 chain_kept S P N R B x cs same kept from = subst (λ (C : Book). cs ≡ chain_in C x) same (from (puts S P) kept.nest ∙ ap (λ n. chain n (puts S P) x) kept.things)
+
+-- of the setup's things
+pub chain_within : (S : Museum) (P : List Entry) (N : Nested) (R : List (List Spot)) (B : Book) (x : ℕ) (r : Result (List ℕ) NoMemory) → book_of S P N ≡ B → IsKept S P N R →
+    IfOk r (λ cs. (Q : List Put) → StandsFor N Q → cs ≡ chain N.things Q x) → IfOk r (All (λ c. c < length B.museum.things))
+chain_within S P N R B x (Ok cs) same kept from = subst (All (λ c. c < length B.museum.things)) (sym (chain_kept S P N R B x cs same kept from)) (chain_below B.museum B.depth B.posted x (lawful_kept S P N R B same kept))
+chain_within S P N R B x (Err fault) same kept from = tt
 
 pub bar_kept : (S : Museum) (P : List Entry) (N : Nested) (R : List (List Spot)) (B : Book) (x c : ℕ) (r : Option PackBar) → book_of S P N ≡ B → IsKept S P N R →
     ((Q : List Put) → StandsFor N Q → r ≡ pack_bar (last Q) N.things N.depth x c) → r ≡ pack_bar (last (puts B.museum B.posted)) (length B.museum.things) B.depth x c

@@ -1,5 +1,5 @@
 //! The ledger: what was posted, and what looking back through it gives.
-ghost use Rattle.std.specs.Prelude.{◌≡◌, ◌<◌, ◌∷◌, [], length, reverse, replicate, IfOk, OnOk, OnErr, IfSome};
+ghost use Rattle.std.specs.Prelude.{◌≡◌, ◌<◌, ◌∷◌, [], length, reverse, replicate, All, IfOk, OnOk, OnErr, IfSome};
 ghost use Rattle.posting_core.specs.Lawful.{Follows, IsLawful};
 ghost use Rattle.posting_core.specs.Book.{place_in, chain_in, spots_in, verdict_in, changes_of};
 ghost use Rattle.posting_core.specs.Rows.{lists};
@@ -87,7 +87,8 @@ impl Ledger {
     /// The containers above a thing, innermost first; else NoMemory. The thing's number is below the setup's count.
     pub fn chain(&self, alloc: Global, thing: ThingNo) -> Result<ThingNos, NoMemory>
         requires { thing < length self.now.museum.things }
-        ensures { IfOk result (λ chain. chain ≡ chain_in self.now thing) }
+        ensures chain { IfOk result (λ chain. chain ≡ chain_in self.now thing) }
+        ensures within { IfOk result (All (λ c. c < length self.now.museum.things)) }
     {
         self.nest.chain(alloc, thing)
     }
