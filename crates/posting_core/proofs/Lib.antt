@@ -1,6 +1,7 @@
+mod PackedRows
 pub mod Placed
 pub mod Posted
 pub mod Rooms
 pub mod Spotted
-mod WorkedRows
+pub mod WorkedRows
 pub mod Written

@@ -15,7 +15,7 @@ use Rattle.posting_core.specs.Lawful.{Follows, IsLawful, count_at, is_signed_off
 use Rattle.posting_core.specs.Book.{Book, place_in, changes_of}
 
 -- two stations, three places of the museum's own and two partners', two crates, three own objects and a borrowed one
-abbrev museum : Museum
+abbrev pub museum : Museum
 museum = record {
   stations = codes "PACK" ∷ codes "GAL" ∷ [];
   places = (codes "S1", true) ∷ (codes "S1-A", true) ∷ (codes "S2", true) ∷ (codes "MUSEUM-X", false) ∷ (codes "LENDER-Y", false) ∷ [];
@@ -23,63 +23,69 @@ museum = record {
 }
 
 -- numbers in it
-abbrev pack : ℕ
+abbrev pub pack : ℕ
 pack = 0
 
 abbrev gal : ℕ
 gal = 1
 
-abbrev s1 : ℕ
+abbrev pub s1 : ℕ
 s1 = 0
 
-abbrev s1_a : ℕ
+abbrev pub s1_a : ℕ
 s1_a = 1
 
-abbrev s2 : ℕ
+abbrev pub s2 : ℕ
 s2 = 2
 
-abbrev crate_1 : ℕ
+abbrev pub crate_1 : ℕ
 crate_1 = 0
 
-abbrev crate_2 : ℕ
+abbrev pub crate_2 : ℕ
 crate_2 = 1
 
-abbrev object_1 : ℕ
+abbrev pub object_1 : ℕ
 object_1 = 2
 
-abbrev object_2 : ℕ
+abbrev pub object_2 : ℕ
 object_2 = 3
 
 abbrev borrowed : ℕ
 borrowed = 5
 
 -- 2024-05-01
-abbrev may : ℤ
+abbrev pub may : ℤ
 may = pos 19844
 
-abbrev moved : List ℕ → List ℕ → Message
+abbrev pub moved : List ℕ → List ℕ → Message
 moved x p = Move x p may
 
 abbrev signed_off : Message
 signed_off = SignOff (codes "Ada")
 
 -- one more entry: the station's next number, and the verdict of the rules
-abbrev entry_of : List Entry → ℕ → Message → Entry
-entry_of P station m = record { station = station; n = count_at station P + 1; message = m; verdict = verdict museum 8 P m }
+abbrev entry_in : Museum → List Entry → ℕ → Message → Entry
+entry_in S P station m = record { station = station; n = count_at station P + 1; message = m; verdict = verdict S 8 P m }
 
 -- the entries of what these stations told, in this order, after P
-abbrev run : List Entry → List (ℕ × Message) → List Entry
-run P [] = P
-run P ((station, m) ∷ told) = run (entry_of P station m ∷ P) told
+abbrev pub run_in : Museum → List Entry → List (ℕ × Message) → List Entry
+run_in S P [] = P
+run_in S P ((station, m) ∷ told) = run_in S (entry_in S P station m ∷ P) told
 
-abbrev verdicts : List Entry → List Verdict
+abbrev entry_of : List Entry → ℕ → Message → Entry
+entry_of P station m = entry_in museum P station m
+
+abbrev pub run : List Entry → List (ℕ × Message) → List Entry
+run P told = run_in museum P told
+
+abbrev pub verdicts : List Entry → List Verdict
 verdicts P = reverse (map (λ e. e.verdict) P)
 
-abbrev book : List Entry → Book
+abbrev pub book : List Entry → Book
 book P = record { museum = museum; depth = 8; posted = P }
 
 -- a spot of that day
-abbrev spot : ℕ → ℕ → Spot
+abbrev pub spot : ℕ → ℕ → Spot
 spot number p = record { entry = number; place = p; day = may }
 
 -- held_then_posted: what GAL told, in the order of its numbers
@@ -172,7 +178,7 @@ not_here = refl
 here-own : verdict museum 8 [] (moved (codes "2001.4.1") (codes "S1")) ≡ Applied
 here-own = refl
 
--- cycle and crate_in_crate, as far as nothing is packed: crates are moved as any other thing
+-- crates are moved as any other thing
 
 abbrev crates : List Entry
 crates = run [] (
