@@ -2,6 +2,9 @@
 ghost use Rattle.std.specs.Prelude.{◌≡◌, ◌+◌, false, IfSome};
 ghost use Rattle.posting_core.specs.Lawful.{count_at, is_signed_off};
 
+mod packing;
+mod verdicts;
+
 use crate::{Entry, Ledger, Message, NewSpot, Spot, Verdict};
 use codes_core::{Day, Name, PlaceCode, ThingCode};
 use nest_core::{Setup, StationNo};
@@ -22,6 +25,7 @@ const NO_SPOTS: &[(u64, &str)] = &[];
 
 const FIRST_AT_S1: &[(u64, &str)] = &[(1, "S1")];
 
+/// Nothing posted yet, under a depth limit of eight.
 fn empty(alloc: Global) -> Result<Ledger, Fail> {
     let setup = Setup::read(alloc, SETUP.as_bytes())?;
     Ok(Ledger::new(alloc, setup, 8)?)
@@ -35,6 +39,14 @@ fn moved(thing: &str, place: &str) -> Result<Message, Fail> {
     Ok(Message::Move {
         thing: ThingCode::parse(thing.as_bytes())?,
         place: PlaceCode::parse(place.as_bytes())?,
+        day: day()?,
+    })
+}
+
+fn packed(thing: &str, container: &str) -> Result<Message, Fail> {
+    Ok(Message::Pack {
+        thing: ThingCode::parse(thing.as_bytes())?,
+        container: ThingCode::parse(container.as_bytes())?,
         day: day()?,
     })
 }
@@ -121,8 +133,23 @@ fn assert_spots(
     Ok(())
 }
 
-/// A message to post: the thing and the place of its move; its number as an entry, its verdict and how many spots it writes.
-type Row = (&'static str, &'static str, (u64, Verdict, usize));
+/// A thing that is put straight at a place, or into a container.
+enum Said {
+    Moved(&'static str, &'static str),
+    Packed(&'static str, &'static str),
+}
+
+use Said::{Moved, Packed};
+
+/// A message to post; its number as an entry, its verdict and how many spots it writes.
+type Row = (Said, (u64, Verdict, usize));
+
+fn message_of(said: &Said) -> Result<Message, Fail> {
+    match said {
+        Moved(thing, place) => moved(thing, place),
+        Packed(thing, container) => packed(thing, container),
+    }
+}
 
 fn assert_told(
     rt: &impl Abort,
@@ -133,7 +160,7 @@ fn assert_told(
     Ok(())
 }
 
-/// Posts a move as a station's next message, and compares what is told of it.
+/// Posts a station's next message, and compares what is told of it.
 fn post_row(
     rt: &impl Abort,
     alloc: Global,
@@ -141,9 +168,9 @@ fn post_row(
     station: StationNo,
     row: &Row,
 ) -> Result<(), Fail> {
-    let message = moved(row.0, row.1)?;
+    let message = message_of(&row.0)?;
     let told = post(rt, alloc, ledger, station, message)?;
-    assert_told(rt, told, row.2)
+    assert_told(rt, told, row.1)
 }
 
 fn post_rows(
@@ -184,9 +211,9 @@ fn nothing_posted(rt: HostRuntime) -> Result<(), Fail> {
 }
 
 const MOVES: &[Row] = &[
-    ("2001.4.1", "S1", (1, Verdict::Applied, 1)),
-    ("2001.4.2", "S2", (2, Verdict::Applied, 1)),
-    ("2001.4.1", "S1-A", (3, Verdict::Applied, 1)),
+    (Moved("2001.4.1", "S1"), (1, Verdict::Applied, 1)),
+    (Moved("2001.4.2", "S2"), (2, Verdict::Applied, 1)),
+    (Moved("2001.4.1", "S1-A"), (3, Verdict::Applied, 1)),
 ];
 
 const FIRST_MOVED_TWICE: &[(u64, &str)] = &[(1, "S1"), (3, "S1-A")];
@@ -221,8 +248,8 @@ fn held_then_posted(rt: HostRuntime) -> Result<(), Fail> {
 }
 
 const MOVED_TWICE: &[Row] = &[
-    ("2001.4.1", "S1", (1, Verdict::Applied, 1)),
-    ("2001.4.1", "S2", (2, Verdict::Applied, 1)),
+    (Moved("2001.4.1", "S1"), (1, Verdict::Applied, 1)),
+    (Moved("2001.4.1", "S2"), (2, Verdict::Applied, 1)),
 ];
 
 const SPOTS_BEFORE: &[(u64, &str)] = &[(1, "S1"), (2, "S2")];
@@ -256,46 +283,12 @@ fn planned(rt: HostRuntime) -> Result<(), Fail> {
     assert_spots(&rt, &ledger, "2001.4.1", SPOTS_BEFORE)
 }
 
-const ONE_MOVE: &[Row] = &[("2001.4.1", "S1", (1, Verdict::Applied, 1))];
-
-/// What is refused, in the order in which it is posted.
-const TOUR: &[Row] = &[
-    ("2001.4.1", "MUSEUM-X", (2, Verdict::ElsewherePlace, 0)),
-    ("2001.4.1", "S9", (3, Verdict::UnknownPlace, 0)),
-    ("2009.1", "S1", (4, Verdict::UnknownThing, 0)),
-    ("L1999.7", "S1", (5, Verdict::NotHere, 0)),
-    ("2009.1", "S9", (6, Verdict::UnknownThing, 0)),
-    ("L1999.7", "MUSEUM-X", (7, Verdict::ElsewherePlace, 0)),
-];
-
-fn assert_posted(rt: &impl Abort, ledger: &Ledger, count: usize) -> Result<(), Fail> {
-    assert_eq!(rt; ledger.posted().len(), count);
-    Ok(())
-}
-
-/// Posts what is refused; after each the spots are as before.
-fn post_refused(rt: &impl Abort, alloc: Global, ledger: &mut Ledger) -> Result<(), Fail> {
-    for row in TOUR {
-        post_row(rt, alloc, ledger, PACK, row)?;
-        assert_spots(rt, ledger, "2001.4.1", FIRST_AT_S1)?;
-        assert_spots(rt, ledger, "L1999.7", NO_SPOTS)?;
-    }
-    assert_posted(rt, ledger, 7)
-}
-
-#[test]
-fn tour_of_verdicts(rt: HostRuntime) -> Result<(), Fail> {
-    let mut ledger = empty(rt.alloc())?;
-    post_rows(&rt, rt.alloc(), &mut ledger, GAL, ONE_MOVE)?;
-    post_refused(&rt, rt.alloc(), &mut ledger)
-}
-
 const BEFORE_SIGNING: &[Row] = &[
-    ("2001.4.1", "S1", (1, Verdict::Applied, 1)),
-    ("2001.4.1", "S1", (2, Verdict::Applied, 0)),
+    (Moved("2001.4.1", "S1"), (1, Verdict::Applied, 1)),
+    (Moved("2001.4.1", "S1"), (2, Verdict::Applied, 0)),
 ];
 
-const AFTER_SIGNING: &[Row] = &[("2001.4.1", "S1", (4, Verdict::Applied, 0))];
+const AFTER_SIGNING: &[Row] = &[(Moved("2001.4.1", "S1"), (4, Verdict::Applied, 0))];
 
 fn assert_signed_off(rt: &impl Abort, ledger: &Ledger, station: StationNo) -> Result<(), Fail> {
     assert_eq!(rt; next_number(ledger, station), None);
@@ -330,10 +323,10 @@ fn sign_off(rt: HostRuntime) -> Result<(), Fail> {
 }
 
 const CRATES: &[Row] = &[
-    ("C1", "S1", (1, Verdict::Applied, 1)),
-    ("C2", "S1", (2, Verdict::Applied, 1)),
-    ("C1", "S1", (3, Verdict::Applied, 0)),
-    ("C1", "S2", (4, Verdict::Applied, 1)),
+    (Moved("C1", "S1"), (1, Verdict::Applied, 1)),
+    (Moved("C2", "S1"), (2, Verdict::Applied, 1)),
+    (Moved("C1", "S1"), (3, Verdict::Applied, 0)),
+    (Moved("C1", "S2"), (4, Verdict::Applied, 1)),
 ];
 
 const FIRST_CRATE: &[(u64, &str)] = &[(1, "S1"), (4, "S2")];
@@ -346,41 +339,4 @@ fn crates_are_moved(rt: HostRuntime) -> Result<(), Fail> {
     post_rows(&rt, rt.alloc(), &mut ledger, PACK, CRATES)?;
     assert_spots(&rt, &ledger, "C1", FIRST_CRATE)?;
     assert_spots(&rt, &ledger, "C2", SECOND_CRATE)
-}
-
-/// The verdict has this number and this name.
-fn assert_verdict(rt: &impl Abort, verdict: Verdict, number: u32, name: &str) {
-    assert_eq!(rt; verdict.number(), number, "{name}");
-    assert_eq!(rt; verdict.name(), name);
-    assert_eq!(rt; Verdict::numbered(number), Some(verdict));
-}
-
-#[test]
-fn verdicts_by_number(rt: HostRuntime) {
-    assert_verdict(&rt, Verdict::Applied, 0, "Applied");
-    assert_verdict(&rt, Verdict::UnknownThing, 1, "UnknownThing");
-    assert_verdict(&rt, Verdict::UnknownPlace, 2, "UnknownPlace");
-    assert_verdict(&rt, Verdict::ElsewherePlace, 3, "ElsewherePlace");
-    assert_verdict(&rt, Verdict::UnknownContainer, 4, "UnknownContainer");
-    assert_verdict(&rt, Verdict::UnknownLoan, 5, "UnknownLoan");
-    assert_verdict(&rt, Verdict::LoanKnown, 6, "LoanKnown");
-    assert_verdict(&rt, Verdict::InsidePartner, 7, "InsidePartner");
-    assert_verdict(&rt, Verdict::NoObjects, 8, "NoObjects");
-    assert_verdict(&rt, Verdict::NotObject, 9, "NotObject");
-    assert_verdict(&rt, Verdict::Repeated, 10, "Repeated");
-    assert_verdict(&rt, Verdict::WrongOwner, 11, "WrongOwner");
-    assert_verdict(&rt, Verdict::BadTerm, 12, "BadTerm");
-    assert_verdict(&rt, Verdict::AlreadyAuthorised, 13, "AlreadyAuthorised");
-    assert_verdict(&rt, Verdict::NotAuthorised, 14, "NotAuthorised");
-    assert_verdict(&rt, Verdict::WrongDirection, 15, "WrongDirection");
-    assert_verdict(&rt, Verdict::NotHere, 16, "NotHere");
-    assert_verdict(&rt, Verdict::ContainerNotHere, 17, "ContainerNotHere");
-    assert_verdict(&rt, Verdict::Cycle, 18, "Cycle");
-    assert_verdict(&rt, Verdict::TooDeep, 19, "TooDeep");
-    assert_verdict(&rt, Verdict::NotWithPartner, 20, "NotWithPartner");
-    assert_verdict(&rt, Verdict::AlreadyHere, 21, "AlreadyHere");
-    assert_verdict(&rt, Verdict::NotListed, 22, "NotListed");
-    assert_verdict(&rt, Verdict::WrongStage, 23, "WrongStage");
-    assert_verdict(&rt, Verdict::TermOver, 24, "TermOver");
-    assert_verdict(&rt, Verdict::NotLater, 25, "NotLater");
 }
