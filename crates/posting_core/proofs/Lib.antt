@@ -1,3 +1,4 @@
+pub mod LastSpots
 mod PackedRows
 pub mod Placed
 pub mod Posted

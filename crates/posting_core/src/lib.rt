@@ -2,6 +2,7 @@
 #![tactic(auto)]
 
 mod entry;
+pub mod laws;
 mod ledger;
 mod message;
 mod placing;

@@ -1,0 +1,155 @@
+-- A thing's last spot is its current place, and no spot is at the place of the one before it.
+use Rattle.std.specs.Prelude.{ℕ, ℤ, ◌≡◌, ◌≢◌, ◌+◌, ◌<◌, Bool, true, false, not, if◌then◌else◌, List, [], ◌∷◌, ◌++◌, Option, None, Some, length, refl, IfSome}
+use Rattle.std.specs.List.{last_or, AllAdjacentBelow}
+use Rattle.std.specs.Option.{option_map, option_map_or, option_to_list}
+use Rattle.std.proofs.Common.{ap, ◌∙◌, sym, subst, arith, inl, inr, get_or, length-append}
+use Rattle.std.proofs.Math.ListN.{get_or-append}
+use Rattle.std.proofs.Math.Seq.{get_or-append_seam}
+use Rattle.std.proofs.lemmas.Bool.{cases_eq}
+use Rattle.std.proofs.lemmas.Bool.Decides.{nat_tests}
+use Rattle.std.proofs.lemmas.List.{append-nil}
+use Rattle.nest_core.specs.Museum.{Museum, is_inside}
+use Rattle.nest_core.specs.Puts.{with_put, place, is_carried}
+use Rattle.nest_core.specs.Nest.{is_same_place}
+use Rattle.posting_core.specs.declared.message.Message.{Message}
+use Rattle.posting_core.specs.declared.message.Message.TheVariants.{Move, Pack, SignOff}
+use Rattle.posting_core.specs.declared.verdict.Verdict.TheVariants.{Applied}
+use Rattle.posting_core.specs.declared.entry.Entry.{Entry}
+use Rattle.posting_core.specs.declared.entry.Spot.{Spot}
+use Rattle.posting_core.specs.Messages.{day_of, thing_no}
+use Rattle.posting_core.specs.History.{puts, put_in, is_applied, spots, spot_from, place_at}
+use Rattle.posting_core.specs.Verdicts.{verdict, pack_rows}
+use Rattle.posting_core.specs.Lawful.{Follows, IsLawful}
+use Rattle.posting_core.specs.Book.{Book, place_after}
+use Rattle.posting_core.specs.Rows.{place_to}
+use Rattle.posting_core.proofs.Placed.{none_holds, applied_is, allowed_in, comes_along, stays}
+
+-- what places a thing bears a day
+placed_by_day : (S : Museum) (P : List Entry) (m : Message) → day_of m ≡ None → put_in S P m ≡ None
+placed_by_day S P (SignOff name) e = refl
+placed_by_day S P _ e = cc
+
+-- what an applied message puts its thing at, or into, has a place
+target_placed : (S : Museum) (depth : ℕ) (P : List Entry) (m : Message) → verdict S depth P m ≡ Applied → IfSome (put_in S P m) (λ put. place_to S P put.to ≢ None)
+target_placed S depth P (Move x p day) h = λ e. cc
+target_placed S depth P (Pack x c day) h = λ e.
+    let none = none_holds (pack_rows S depth P x c) refl h in
+    let outside : not (option_map_or (is_inside S) (place_at S P (thing_no S c)) false) ≡ true = ap (λ o. not (option_map_or (is_inside S) o false)) e in
+    let both : true ≡ false = sym outside ∙ none.1.1.1.0 in cc
+target_placed S depth P (SignOff name) h = tt
+
+-- a thing that has a place keeps having one
+keeps_place : (S : Museum) (depth : ℕ) (P : List Entry) (m : Message) → IsLawful S depth P → verdict S depth P m ≡ Applied → (x : ℕ) → place_after S P m x ≡ None → place_at S P x ≡ None
+keeps_place S depth P m lawful applied x gone = elim (put_in S P m) as (λ o. put_in S P m ≡ o → IfSome o (λ put. place_to S P put.to ≢ None) → place_at S P x ≡ None) [
+  | None ↦ λ is placed. sym (ap (λ o. place (length S.things) (with_put o (puts S P)) x) is) ∙ gone
+  | Some put ↦ λ is placed.
+      let B : Book = record { museum = S; depth = depth; posted = P } in
+      let allowed = allowed_in B m (put_in S P m) put applied refl is in
+      elim (is_carried (length S.things) (puts S P) put.thing x) as (λ b. is_carried (length S.things) (puts S P) put.thing x ≡ b → place_at S P x ≡ None) [
+        | true ↦ λ carried. absurd (placed (sym (comes_along S depth P m put lawful is allowed x carried) ∙ gone))
+        | false ↦ λ apart. sym (stays S depth P m put lawful is allowed x apart) ∙ gone
+      ] refl
+] refl (target_placed S depth P m applied)
+
+entry_keeps_place : (S : Museum) (depth : ℕ) (P : List Entry) (e : Entry) → Follows S depth P e → IsLawful S depth P → (x : ℕ) → place_at S (e ∷ P) x ≡ None → place_at S P x ≡ None
+entry_keeps_place S depth P e follows lawful x =
+    elim (is_applied e.verdict) as (λ t. is_applied e.verdict ≡ t → place (length S.things) (with_put (if t then put_in S P e.message else None) (puts S P)) x ≡ None → place_at S P x ≡ None) [
+      | true ↦ λ h gone. keeps_place S depth P e.message lawful (sym follows.judged ∙ applied_is e.verdict h) x gone
+      | false ↦ λ h gone. gone
+    ] refl
+
+entry_without_day : (S : Museum) (P : List Entry) (e : Entry) (x : ℕ) → day_of e.message ≡ None → place_at S (e ∷ P) x ≡ place_at S P x
+entry_without_day S P e x undated = ap (λ o. place (length S.things) (with_put o (puts S P)) x) (none (is_applied e.verdict))
+  where
+    none : (t : Bool) → (if t then put_in S P e.message else None) ≡ None
+    none true = placed_by_day S P e.message undated
+    none false = refl
+
+-- the place of the last of some spots
+abbrev current : List Spot → Option ℕ
+current row = option_map (λ s. s.place) (last_or None row)
+
+last_pushed : (o : Option Spot) (row : List Spot) (s : Spot) → last_or o (row ++ s ∷ []) ≡ Some s
+last_pushed o [] s = refl
+last_pushed o (r ∷ row) s = last_pushed (Some r) row s
+
+same_is : (before : Option ℕ) (p : ℕ) → is_same_place before (Some p) ≡ true → before ≡ Some p
+same_is None p e = cc
+same_is (Some a) p e = ap Some (let same : a ≡ p = grind (arith, nat_tests) in same)
+
+-- an entry's spot is where the thing then is
+current_after : (row : List Spot) (number : ℕ) (before after : Option ℕ) (day : Option ℤ) → current row ≡ before → (after ≡ None → before ≡ None) → (day ≡ None → after ≡ before) →
+    current (row ++ option_to_list (spot_from number before after day)) ≡ after
+current_after row number before None day is gone undated = ap current (append-nil row) ∙ is ∙ gone refl
+current_after row number before (Some p) None is gone undated = ap current (append-nil row) ∙ is ∙ sym (undated refl)
+current_after row number before (Some p) (Some day) is gone undated =
+    let new : Spot = record { entry = number; place = p; day = day } in
+    elim (is_same_place before (Some p)) as (λ b. is_same_place before (Some p) ≡ b → current (row ++ option_to_list (if b then None else Some new)) ≡ Some p) [
+      | true ↦ λ e. ap current (append-nil row) ∙ is ∙ same_is before p e
+      | false ↦ λ e. ap (option_map (λ s. s.place)) (last_pushed None row new)
+    ] refl
+
+pub last_is_current : (S : Museum) (depth : ℕ) (P : List Entry) (x : ℕ) → IsLawful S depth P → option_map (λ s. s.place) (last_or None (spots S P x)) ≡ place_at S P x
+last_is_current S depth [] x lawful = refl
+last_is_current S depth (e ∷ P) x (follows, lawful) =
+    current_after (spots S P x) (length P + 1) (place_at S P x) (place_at S (e ∷ P) x) (day_of e.message)
+    (last_is_current S depth P x lawful) (entry_keeps_place S depth P e follows lawful x) (entry_without_day S P e x)
+
+pub unplaced_is_empty : (row : List Spot) (place : Option ℕ) → option_map (λ s. s.place) (last_or None row) ≡ place → place ≡ None → row ≡ []
+unplaced_is_empty [] place is none = refl
+unplaced_is_empty (s ∷ row) place is none = absurd (some_last row s (is ∙ none))
+  where
+    some_last : (row : List Spot) (s : Spot) → option_map (λ s. s.place) (last_or (Some s) row) ≢ None
+    some_last [] s = λ e. cc
+    some_last (r ∷ row) s = some_last row r
+
+abbrev pub AreApart : List Spot → Type 0
+AreApart row = AllAdjacentBelow (λ a b. a.place ≢ b.place) row (length row)
+
+last_at : (s : Spot) (row : List Spot) (d : Spot) → last_or (Some s) row ≡ Some (get_or (s ∷ row) (length row) d)
+last_at s [] d = refl
+last_at s (r ∷ row) d = last_at r row d
+
+before_new : (row : List Spot) (new : Spot) (k : ℕ) (d : Spot) → k + 1 ≡ length row → IfSome (last_or None row) (λ s. s.place ≢ new.place) → (get_or row k d).place ≢ new.place
+before_new [] new k d e last = absurd (omega arith)
+before_new (s ∷ row) new k d e last =
+    let here : k ≡ length row = omega arith in
+    subst (λ i. (get_or (s ∷ row) i d).place ≢ new.place) (sym here) (subst (λ o. IfSome o (λ s. s.place ≢ new.place)) (last_at s row d) last)
+
+apart_pushed : (row : List Spot) (new : Spot) → AreApart row → IfSome (last_or None row) (λ s. s.place ≢ new.place) → AreApart (row ++ new ∷ [])
+apart_pushed row new apart last k d less =
+    let fits : k + 1 < length row + 1 = subst (λ n. k + 1 < n) (length-append row (new ∷ [])) less in
+    let one : get_or (row ++ new ∷ []) k d ≡ get_or row k d = get_or-append row (new ∷ []) d k (omega arith) in
+    elim (cases_eq (k + 1) (length row)) [
+      | inl e ↦
+          let two : get_or (row ++ new ∷ []) (k + 1) d ≡ new = ap (λ i. get_or (row ++ new ∷ []) i d) e ∙ get_or-append_seam row new [] d in
+          rw (one, two) (before_new row new k d e last)
+      | inr n ↦
+          let two : get_or (row ++ new ∷ []) (k + 1) d ≡ get_or row (k + 1) d = get_or-append row (new ∷ []) d (k + 1) (omega arith) in
+          rw (one, two) (apart k d (omega arith))
+    ]
+
+differ_is : (before : Option ℕ) (p : ℕ) (row : List Spot) → current row ≡ before → is_same_place before (Some p) ≡ false → IfSome (last_or None row) (λ s. s.place ≢ p)
+differ_is before p row is differ = other (last_or None row) is
+  where
+    other : (o : Option Spot) → option_map (λ s. s.place) o ≡ before → IfSome o (λ s. s.place ≢ p)
+    other None e = tt
+    other (Some s) e = λ same.
+        let here : is_same_place (Some s.place) (Some p) ≡ false = ap (λ b. is_same_place b (Some p)) e ∙ differ in
+        absurd (grind (arith, nat_tests))
+
+-- an entry's spot is at another place than the one before it
+apart_after : (row : List Spot) (number : ℕ) (before after : Option ℕ) (day : Option ℤ) → current row ≡ before → AreApart row → AreApart (row ++ option_to_list (spot_from number before after day))
+apart_after row number before None day is apart = subst AreApart (sym (append-nil row)) apart
+apart_after row number before (Some p) None is apart = subst AreApart (sym (append-nil row)) apart
+apart_after row number before (Some p) (Some day) is apart =
+    let new : Spot = record { entry = number; place = p; day = day } in
+    elim (is_same_place before (Some p)) as (λ b. is_same_place before (Some p) ≡ b → AreApart (row ++ option_to_list (if b then None else Some new))) [
+      | true ↦ λ e. subst AreApart (sym (append-nil row)) apart
+      | false ↦ λ e. apart_pushed row new apart (differ_is before p row is e)
+    ] refl
+
+pub spots_apart : (S : Museum) (depth : ℕ) (P : List Entry) (x : ℕ) → IsLawful S depth P → AreApart (spots S P x)
+spots_apart S depth [] x lawful = λ k d less. absurd (omega arith)
+spots_apart S depth (e ∷ P) x (follows, lawful) =
+    apart_after (spots S P x) (length P + 1) (place_at S P x) (place_at S (e ∷ P) x) (day_of e.message) (last_is_current S depth P x lawful) (spots_apart S depth P x lawful)
