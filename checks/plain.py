@@ -2,26 +2,28 @@
 """Compares the program with a plain slow one over the definitions, on mixed streams that are the same in every run.
 
 The plain program keeps two lists, what was taken and what is posted, and answers every question by walking them from
-their beginning. Usage: plain.py PROGRAM [STREAMS]."""
+their beginning: where each thing was last put, and from there up through its crates. Usage: plain.py PROGRAM
+[STREAMS]."""
 import json
 import subprocess
 import sys
 
+STATIONS = ["PACK", "GAL"]
+INSIDE = {"S1": True, "S1-A": True, "S2": True, "MUSEUM-X": False}
+CRATES = [f"C{n}" for n in range(1, 15)]
+OBJECTS = ["2001.4.1", "2001.4.2", "L1999.7"]
+THINGS = CRATES + OBJECTS
 SETUP = """station,PACK
 station,GAL
 place,S1,inside
 place,S1-A,inside
 place,S2,inside
 place,MUSEUM-X,elsewhere
-box,C1
-own,2001.4.1,S1-A
+""" + "".join(f"box,{crate}\n" for crate in CRATES) + """own,2001.4.1,S1-A
 own,2001.4.2,S1-A
 lent,L1999.7
 """
-STATIONS = ["PACK", "GAL"]
-INSIDE = {"S1": True, "S1-A": True, "S2": True, "MUSEUM-X": False}
-THINGS = ["C1", "2001.4.1", "2001.4.2", "L1999.7"]
-WINDOW, LAST = 256, 999999
+WINDOW, LAST, DEPTH = 256, 999999, 12
 
 
 class Draws:
@@ -75,28 +77,70 @@ def refusal(taken, station, n):
     return None
 
 
-def place(posted, thing):
-    """Where the last applied move of a thing put it."""
-    found = None
+def targets(posted):
+    """Where each thing was last put by an applied message: a place, or a crate."""
+    found = {}
     for _, _, message, verdict in posted:
-        if verdict == "Applied" and message["kind"] == "move" and message["thing"] == thing:
-            found = message["place"]
+        if verdict == "Applied" and message["kind"] != "signoff":
+            found[message["thing"]] = message["place" if message["kind"] == "move" else "container"]
     return found
 
 
+def chain(put, thing):
+    """The crates above a thing, innermost first."""
+    above = []
+    while put.get(thing) in CRATES:
+        thing = put[thing]
+        above.append(thing)
+    return above
+
+
+def place(put, thing):
+    """Where the crates above a thing end."""
+    return put.get((chain(put, thing) or [thing])[-1])
+
+
+def is_away(put, thing):
+    """A thing is elsewhere, or is borrowed and has no place yet."""
+    at = place(put, thing)
+    return thing.startswith("L") if at is None else not INSIDE[at]
+
+
+def refusals_of_a_move(put, thing, where):
+    yield "UnknownThing", thing not in THINGS
+    yield "UnknownPlace", where not in INSIDE
+    yield "ElsewherePlace", not INSIDE[where]
+    yield "NotHere", is_away(put, thing)
+
+
+def refusals_of_a_pack(put, thing, crate):
+    yield "UnknownThing", thing not in THINGS
+    yield "UnknownContainer", crate not in CRATES
+    yield "NotHere", is_away(put, thing)
+    yield "ContainerNotHere", not INSIDE.get(place(put, crate), False)
+    yield "Cycle", thing in [crate] + chain(put, crate)
+    yield "TooDeep", any(len(chain({**put, thing: crate}, x)) > DEPTH for x in THINGS)
+
+
 def verdict(posted, message):
-    """The first row of the verdict table that holds."""
+    """The first row of the verdict table that holds; the rows below it are not asked."""
     if message["kind"] == "signoff":
         return "Applied"
-    if message["thing"] not in THINGS:
-        return "UnknownThing"
-    if message["place"] not in INSIDE:
-        return "UnknownPlace"
-    if not INSIDE[message["place"]]:
-        return "ElsewherePlace"
-    if message["thing"].startswith("L") and place(posted, message["thing"]) is None:
-        return "NotHere"
-    return "Applied"
+    put, thing = targets(posted), message["thing"]
+    if message["kind"] == "move":
+        rows = refusals_of_a_move(put, thing, message["place"])
+    else:
+        rows = refusals_of_a_pack(put, thing, message["container"])
+    return next((name for name, holds in rows if holds), "Applied")
+
+
+def whereabouts(posted, thing):
+    put = targets(posted)
+    if thing not in THINGS:
+        return "unknown"
+    if place(put, thing) is None:
+        return "unplaced"
+    return " ".join([f"at {place(put, thing)}"] + ["in"] * (put[thing] in CRATES) + chain(put, thing))
 
 
 def replies(lines):
@@ -107,9 +151,7 @@ def replies(lines):
         if station not in STATIONS:
             said.append(f"line {number} refused UnknownStation")
         elif "ask" in line:
-            at = place(posted, line["ask"])
-            where = "unknown" if line["ask"] not in THINGS else "unplaced" if at is None else f"at {at}"
-            said.append(f"{station} ask {line['ask']} {where}")
+            said.append(f"{station} ask {line['ask']} {whereabouts(posted, line['ask'])}")
         else:
             n = line["n"]
             refused = refusal(taken, station, n)
@@ -128,32 +170,51 @@ def replies(lines):
     return said
 
 
+def placing(draws, rung):
+    """A move or a pack, and whether it is a rung: half of them pack a crate into the one numbered before it."""
+    choice = draws.below(12)
+    thing = draws.one_of(CRATES + THINGS + OBJECTS * 3 + ["2009.1"])
+    if choice < 6:
+        words = {"kind": "pack", "thing": CRATES[rung], "container": CRATES[rung - 1]}
+    elif choice < 9:
+        into = draws.one_of(CRATES + CRATES[-2:] * 3 + ["C99", "2001.4.1"])
+        words = {"kind": "pack", "thing": thing, "container": into}
+    else:
+        where = draws.one_of(["S1", "S1-A", "S2", "S1", "S2", "MUSEUM-X", "S9"])
+        words = {"kind": "move", "thing": draws.one_of([thing, "C1", "C1", "C14"]), "place": where}
+    return {**words, "day": "2024-05-01"}, choice < 6
+
+
 def stream(seed):
-    """Lines of two stations and of none, mildly out of order, some twice, some questions, and late sign-offs."""
-    draws, lines, next_number = Draws(seed), [], {"PACK": 1, "GAL": 1, "NONE": 1}
+    """Lines of two stations and of none, with questions and late sign-offs. Every other stream is mildly out of order,
+    with some lines twice and with gaps; the others are nearly in order, so that more is posted."""
+    draws, lines, next_number, rung = Draws(seed), [], {"PACK": 1, "GAL": 1, "NONE": 1}, 1
+    calm = seed % 2 == 0
+    ahead = [0] * 30 + [1, -1] if calm else [0, 0, 0, 0, 0, 1, 2, -1, -2, 255, 256, 300]
     for i in range(150):
         station = draws.one_of(["PACK", "GAL", "GAL", "PACK", "GAL", "PACK", "GAL", "PACK", "NONE"])
         if draws.below(5) == 0:
             lines.append({"station": station, "ask": draws.one_of(THINGS + ["2009.1"])})
             continue
-        n = next_number[station] + draws.one_of([0, 0, 0, 0, 0, 1, 2, -1, -2, 255, 256, 300])
-        if n == next_number[station] or draws.below(15) == 0:
+        n = next_number[station] + draws.one_of(ahead)
+        if n == next_number[station] or not calm and draws.below(15) == 0:
             next_number[station] += 1
-        if draws.below(40) == 0:
+        if not calm and draws.below(40) == 0:
             n = draws.one_of([0, LAST, LAST + 1])
-        if i > 90 and draws.below(25) == 0:
+        message, is_rung = placing(draws, rung)
+        if i < 4:
+            message = {"kind": "move", "thing": "C1", "place": "S1", "day": "2024-05-01"}
+        elif i > 90 and draws.below(25) == 0:
             message = {"kind": "signoff", "by": "Ann"}
-        else:
-            thing = draws.one_of(THINGS + ["2001.4.1", "2001.4.2", "2009.1"])
-            where = draws.one_of(["S1", "S1-A", "S2", "S1", "S2", "MUSEUM-X", "S9"])
-            message = {"kind": "move", "thing": thing, "place": where, "day": "2024-05-01"}
+        elif is_rung:
+            rung = rung % (len(CRATES) - 1) + 1
         lines.append({"station": station, "n": max(n, 0), "message": message})
     return lines
 
 
 def main():
     program, streams = sys.argv[1], int(sys.argv[2]) if len(sys.argv) > 2 else 60
-    seen = {}
+    seen, deepest = {}, 0
     for seed in range(1, streams + 1):
         lines = stream(seed)
         text = SETUP + "\n" + "".join(json.dumps(line) + "\n" for line in lines)
@@ -168,12 +229,15 @@ def main():
             words = reply.split()
             kind = words[-1] if "posted" in words or "refused" in words else "held" if "held" in words else words[3]
             seen[kind] = seen.get(kind, 0) + 1
-    kinds = ["Applied", "UnknownThing", "UnknownPlace", "ElsewherePlace", "NotHere", "Double", "BadNumber", "TooEarly",
-             "SignedOff", "UnknownStation", "held", "at", "unknown", "unplaced"]
+            deepest = max(deepest, len(words) - 6 if "in" in words else 0)
+    kinds = ["Applied", "UnknownThing", "UnknownPlace", "ElsewherePlace", "UnknownContainer", "NotHere",
+             "ContainerNotHere", "Cycle", "TooDeep", "Double", "BadNumber", "TooEarly", "SignedOff", "UnknownStation",
+             "held", "at", "unknown", "unplaced"]
     missing = [kind for kind in kinds if kind not in seen]
-    if missing:
-        sys.exit(f"no stream has {', '.join(missing)}")
-    print(f"{streams} streams agree: " + ", ".join(f"{kind} {seen[kind]}" for kind in kinds))
+    if missing or deepest < DEPTH:
+        sys.exit(f"no stream has {', '.join(missing)}; the deepest answer is {deepest} crates")
+    counts = ", ".join(f"{kind} {seen[kind]}" for kind in kinds)
+    print(f"{streams} streams agree: {counts}; up to {deepest} crates above a thing")
 
 
 if __name__ == "__main__":
