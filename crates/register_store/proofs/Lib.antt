@@ -7,3 +7,5 @@ pub mod SpotRows
 pub mod SpotOrder
 pub mod Kept
 pub mod Keeping
+mod WorkedTexts
+mod WorkedRows

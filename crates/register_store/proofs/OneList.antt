@@ -97,11 +97,11 @@ rows_numbered [] (row ∷ rows) h = absurd h
 rows_numbered (e ∷ P) [] h = absurd h
 rows_numbered (e ∷ P) (row ∷ rows) h = (h.0.id ∙ ap (λ n. n + 1) (as_many P rows h.1), rows_numbered P rows h.1)
 
-abbrev all_verdicts : List Verdict
+abbrev pub all_verdicts : List Verdict
 all_verdicts = Applied ∷ UnknownThing ∷ UnknownPlace ∷ ElsewherePlace ∷ UnknownContainer ∷ UnknownLoan ∷ LoanKnown ∷ InsidePartner ∷ NoObjects ∷ NotObject ∷ Repeated ∷ WrongOwner ∷ BadTerm
     ∷ AlreadyAuthorised ∷ NotAuthorised ∷ WrongDirection ∷ NotHere ∷ ContainerNotHere ∷ Cycle ∷ TooDeep ∷ NotWithPartner ∷ AlreadyHere ∷ NotListed ∷ WrongStage ∷ TermOver ∷ NotLater ∷ []
 
-of_number : (v : Verdict) → get_or all_verdicts (verdict_number v) Applied ≡ v
+pub of_number : (v : Verdict) → get_or all_verdicts (verdict_number v) Applied ≡ v
 of_number v = elim v as (λ v. get_or all_verdicts (verdict_number v) Applied ≡ v) [
   | Applied ↦ refl
   | UnknownThing ↦ refl
