@@ -7,3 +7,6 @@ pub mod SpotRows
 pub mod SpotOrder
 pub mod Kept
 pub mod Keeping
+pub mod WholeLists
+mod WorkedTexts
+mod WorkedRows

@@ -5,6 +5,7 @@ use Rattle.std.specs.List.Sorted.{IsPermutation}
 use Rattle.std.proofs.lemmas.List.Elements.{recursion_from_All, All-from_recursion}
 use Rattle.std.proofs.lemmas.List.Sorted.{IsPermutation-sym, IsPermutation-trans, length_permutation, All-permutation}
 use Rattle.std.proofs.lemmas.List.{reverse-reverse}
+use Rattle.sqlite_keyed.proofs.ListLemmas.{all_weaker}
 use Rattle.posting_core.specs.declared.verdict.Verdict.{Verdict}
 use Rattle.posting_core.specs.declared.verdict.Verdict.TheVariants.{Applied, UnknownThing, UnknownPlace, ElsewherePlace, UnknownContainer, UnknownLoan, LoanKnown, InsidePartner, NoObjects, NotObject, Repeated, WrongOwner, BadTerm, AlreadyAuthorised, NotAuthorised, WrongDirection, NotHere, ContainerNotHere, Cycle, TooDeep, NotWithPartner, AlreadyHere, NotListed, WrongStage, TermOver, NotLater}
 use Rattle.posting_core.specs.declared.entry.Entry.{Entry}
@@ -22,13 +23,9 @@ module _ {X : Type 0} (number : X → ℕ) where
   IsIn [] x = ⊥
   IsIn (y ∷ ys) x = (x ≡ y) ⊎ IsIn ys x
 
-  weaker : (P Q : X → Type 0) → ((x : X) → P x → Q x) → (xs : List X) → AllByRecursion P xs → AllByRecursion Q xs
-  weaker P Q h [] all = tt
-  weaker P Q h (x ∷ xs) all = (h x all.0, weaker P Q h xs all.1)
-
   in_itself : (xs : List X) → AllByRecursion (IsIn xs) xs
   in_itself [] = tt
-  in_itself (x ∷ xs) = (inl refl, weaker (IsIn xs) (IsIn (x ∷ xs)) (λ y h. inr h) xs (in_itself xs))
+  in_itself (x ∷ xs) = (inl refl, all_weaker (IsIn xs) (IsIn (x ∷ xs)) (λ y h. inr h) xs (in_itself xs))
 
   low : (xs : List X) → IsNumbered xs → (x : X) → IsIn xs x → number x ≤ length xs
   low [] h x i = absurd i
@@ -100,11 +97,11 @@ rows_numbered [] (row ∷ rows) h = absurd h
 rows_numbered (e ∷ P) [] h = absurd h
 rows_numbered (e ∷ P) (row ∷ rows) h = (h.0.id ∙ ap (λ n. n + 1) (as_many P rows h.1), rows_numbered P rows h.1)
 
-abbrev all_verdicts : List Verdict
+abbrev pub all_verdicts : List Verdict
 all_verdicts = Applied ∷ UnknownThing ∷ UnknownPlace ∷ ElsewherePlace ∷ UnknownContainer ∷ UnknownLoan ∷ LoanKnown ∷ InsidePartner ∷ NoObjects ∷ NotObject ∷ Repeated ∷ WrongOwner ∷ BadTerm
     ∷ AlreadyAuthorised ∷ NotAuthorised ∷ WrongDirection ∷ NotHere ∷ ContainerNotHere ∷ Cycle ∷ TooDeep ∷ NotWithPartner ∷ AlreadyHere ∷ NotListed ∷ WrongStage ∷ TermOver ∷ NotLater ∷ []
 
-of_number : (v : Verdict) → get_or all_verdicts (verdict_number v) Applied ≡ v
+pub of_number : (v : Verdict) → get_or all_verdicts (verdict_number v) Applied ≡ v
 of_number v = elim v as (λ v. get_or all_verdicts (verdict_number v) Applied ≡ v) [
   | Applied ↦ refl
   | UnknownThing ↦ refl

@@ -1,7 +1,8 @@
 -- The spots of all things, thing by thing, ascend.
-use Rattle.std.proofs.Common.{◌≡◌, ℕ, zero, suc, ◌+◌, ◌<◌, List, [], ◌∷◌, ◌++◌, length, refl, arith, Ordering, Less}
+use Rattle.std.proofs.Common.{◌≡◌, ℕ, zero, suc, ◌+◌, ◌<◌, List, [], ◌∷◌, length, refl, arith, Ordering, Less}
 use Rattle.std.specs.List.{flat_map, range_with_len, AllByRecursion}
 use Rattle.sqlite_trees.specs.Tree.{IsAscending}
+use Rattle.sqlite_keyed.proofs.ListLemmas.{all-append, ascending-append}
 use Rattle.nest_core.specs.Museum.{Museum}
 use Rattle.posting_core.specs.declared.entry.Entry.{Entry}
 use Rattle.posting_core.specs.declared.entry.Spot.{Spot}
@@ -9,18 +10,10 @@ use Rattle.posting_core.specs.declared.entry.NewSpot.{NewSpot}
 use Rattle.posting_core.specs.History.{spots}
 use Rattle.register_store.specs.StoredRows.{rows_of_thing, rows_by_thing}
 
-all_append : {X : Type 0} (P : X → Type 0) (xs ys : List X) → AllByRecursion P xs → AllByRecursion P ys → AllByRecursion P (xs ++ ys)
-all_append P [] ys h k = k
-all_append P (x ∷ xs) ys h k = (h.0, all_append P xs ys h.1 k)
-
 -- under an order in which earlier things, and earlier spots of a thing, come first
 module _ (cmp : NewSpot → NewSpot → Ordering) (by_thing : (a b : NewSpot) → a.thing < b.thing → cmp a b ≡ Less) (by_k : (a b : NewSpot) → a.thing ≡ b.thing → a.k < b.k → cmp a b ≡ Less) where
   abbrev Before : NewSpot → NewSpot → Type 0
   Before a b = cmp a b ≡ Less
-
-  joined : (xs ys : List NewSpot) → IsAscending Before xs → IsAscending Before ys → AllByRecursion (λ x. AllByRecursion (Before x) ys) xs → IsAscending Before (xs ++ ys)
-  joined [] ys h k across = k
-  joined (x ∷ xs) ys h k across = (all_append (Before x) xs ys h.0 across.0, joined xs ys h.1 k across.1)
 
   later : (a : NewSpot) (j : ℕ) (ss : List Spot) → a.k < j → AllByRecursion (Before a) (rows_of_thing a.thing j ss)
   later a j [] less = tt
@@ -36,7 +29,7 @@ module _ (cmp : NewSpot → NewSpot → Ordering) (by_thing : (a b : NewSpot) �
 
   above_things : (a : NewSpot) (f : ℕ → List Spot) (x n : ℕ) → a.thing < x → AllByRecursion (Before a) (flat_map (λ x. rows_of_thing x 1 (f x)) (range_with_len x n))
   above_things a f x zero less = tt
-  above_things a f x (suc n) less = all_append (Before a) (rows_of_thing x 1 (f x)) _ (above_thing a x 1 (f x) less) (above_things a f (x + 1) n (omega arith))
+  above_things a f x (suc n) less = all-append (Before a) (rows_of_thing x 1 (f x)) _ (above_thing a x 1 (f x) less) (above_things a f (x + 1) n (omega arith))
 
   each_above : (f : ℕ → List Spot) (x k n : ℕ) (ss : List Spot) → AllByRecursion (λ a. AllByRecursion (Before a) (flat_map (λ x. rows_of_thing x 1 (f x)) (range_with_len (x + 1) n))) (rows_of_thing x k ss)
   each_above f x k n [] = tt
@@ -44,7 +37,7 @@ module _ (cmp : NewSpot → NewSpot → Ordering) (by_thing : (a b : NewSpot) �
 
   of_things : (f : ℕ → List Spot) (x n : ℕ) → IsAscending Before (flat_map (λ x. rows_of_thing x 1 (f x)) (range_with_len x n))
   of_things f x zero = tt
-  of_things f x (suc n) = joined (rows_of_thing x 1 (f x)) _ (of_thing x 1 (f x)) (of_things f (x + 1) n) (each_above f x 1 n (f x))
+  of_things f x (suc n) = ascending-append Before (rows_of_thing x 1 (f x)) _ (of_thing x 1 (f x)) (of_things f (x + 1) n) (each_above f x 1 n (f x))
 
   pub rows_ascend : (S : Museum) (P : List Entry) → IsAscending Before (rows_by_thing S P)
   rows_ascend S P = of_things (spots S P) 0 (length S.things)

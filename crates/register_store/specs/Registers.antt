@@ -34,6 +34,14 @@ is_of_store OtherSetup = false
 is_of_store (Damaged at) = false
 is_of_store OtherVersion = true
 
+-- what the listing of entries can answer
+abbrev pub is_of_listing : StoreFault → Bool
+is_of_listing NoMemory = true
+is_of_listing Store = true
+is_of_listing OtherSetup = false
+is_of_listing (Damaged at) = true
+is_of_listing OtherVersion = false
+
 -- the store is new: it says nothing of itself
 abbrev pub is_new : List MetaRow → Bool
 is_new [] = true

@@ -1,6 +1,10 @@
 //! Laws of the stored rows, each the contract of a function that does nothing.
+ghost use Rattle.std.specs.Prelude.{◌≡◌, ℕ, List, All};
 ghost use Rattle.std.specs.List.Sorted.{IsPermutation};
-ghost use Rattle.register_store.specs.StoredRows.{rows_by_thing, rows_of_spots};
+ghost use Rattle.posting_core.specs.declared.entry.Entry.{Entry};
+ghost use Rattle.register_store.specs.declared.store_fault.StoreFault.{StoreFault};
+ghost use Rattle.register_store.specs.StoredRows.{Content, HasList, rows_by_thing, rows_of_spots};
+ghost use Rattle.register_store.specs.Registers.{IsOfStation, IsListFault};
 
 use posting_core::Ledger;
 
@@ -10,3 +14,13 @@ pub fn spots_are_of_looking_back(ledger: &Ledger)
 {
     let _ = ledger;
 }
+
+/// A store has one list of entries.
+pub fn one_list()
+    ensures { (P Q : List Entry) (c : Content) → HasList P c → HasList Q c → P ≡ Q }
+{}
+
+/// A store that has a list of entries, which so many stations sent, is never told to be damaged in its listing.
+pub fn whole_list()
+    ensures { (stations at : ℕ) (P : List Entry) (c : Content) → HasList P c → All (IsOfStation stations) P → IsListFault stations c (StoreFault.Damaged at) → ⊥ }
+{}

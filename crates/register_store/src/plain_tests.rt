@@ -1,5 +1,5 @@
 //! Registers in memory, bound, posted to and read back.
-ghost use Rattle.std.specs.Prelude.{◌≡◌, ◌∷◌, [], reverse, IfOk};
+ghost use Rattle.std.specs.Prelude.{◌≡◌, ◌∷◌, [], true, reverse, IfOk};
 ghost use Rattle.register_store.specs.StoredRows.{Content};
 
 use crate::{PlainRegister, Register, StoreFault, message_text};
@@ -291,5 +291,99 @@ fn rows_in_the_order_of_their_numbers(rt: HostRuntime) -> Result<(), Fail> {
     assert_eq!(rt; read_in_memory(rt.alloc(), &setup, &entries), None);
     let missing = read_in_memory(rt.alloc(), &setup, &entries[..1]);
     assert_eq!(rt; missing, Some(StoreFault::Damaged(1)));
+    Ok(())
+}
+
+/// How many entries there are; asked again where a growth is refused.
+fn count_of<R: Register>(alloc: Global, register: &mut R) -> Result<usize, StoreFault>
+    requires { R.is_bound register.old ≡ true }
+    ensures { R.is_bound register.new ≡ true }
+{
+    match register.all(alloc) {
+        Ok(entries) => Ok(entries.len()),
+        Err(_) => Ok(register.all(alloc)?.len()),
+    }
+}
+
+/// Whether it agrees with the ledger; asked again where a growth is refused.
+fn agrees_with<R: Register>(
+    alloc: Global,
+    register: &mut R,
+    ledger: &Ledger,
+) -> Result<bool, StoreFault>
+    requires { R.is_bound register.old ≡ true }
+    ensures { R.is_bound register.new ≡ true }
+{
+    match register.agrees(alloc, ledger) {
+        Ok(same) => Ok(same),
+        Err(_) => register.agrees(alloc, ledger),
+    }
+}
+
+/// How a posting went: whether it is posted, how many entries there are then, and whether there is no spot.
+type Posted = (bool, usize, bool);
+
+const POSTED: Posted = (true, 1, false);
+
+const NOT_POSTED: Posted = (false, 0, true);
+
+/// Posts an entry; the ledger has none.
+fn post_once<R: Register>(
+    alloc: Global,
+    register: &mut R,
+    ledger: &Ledger,
+    entry: &Entry,
+    changes: &Changes,
+) -> Result<Posted, StoreFault>
+    requires { R.is_bound register.old ≡ true }
+    ensures { R.is_bound register.new ≡ true }
+{
+    let posted = register.post(alloc, entry, changes).is_ok();
+    let count = count_of(alloc, register)?;
+    let same = agrees_with(alloc, register, ledger)?;
+    Ok((posted, count, same))
+}
+
+/// Binds a register to the ledger's setup or, where a growth is refused, to another one; posts to it, and once more
+/// where a growth is refused. How it went, and how it went at last.
+fn post_at_last<R: Register>(
+    alloc: Global,
+    register: &mut R,
+    ledger: &Ledger,
+    other: &Setup,
+    entry: &Entry,
+    changes: &Changes,
+) -> Result<(Posted, Posted), StoreFault> {
+    if register.bind(alloc, ledger.setup()).is_err() {
+        register.bind(alloc, other)?;
+    }
+    let once = post_once(alloc, register, ledger, entry, changes)?;
+    if once.0 {
+        return Ok((once, once));
+    }
+    let last = post_once(alloc, register, ledger, entry, changes)?;
+    Ok((once, last))
+}
+
+fn posted_in_memory(
+    alloc: Global,
+    ledger: &Ledger,
+    other: &Setup,
+    entry: &Entry,
+    changes: &Changes,
+) -> Result<(Posted, Posted), StoreFault> {
+    let mut register = PlainRegister::new(alloc);
+    post_at_last(alloc, &mut register, ledger, other, entry, changes)
+}
+
+/// A call whose growth is refused leaves the register as it was; to be run with each growth refused in turn.
+#[test]
+fn refused_growths(rt: HostRuntime) -> Result<(), Fail> {
+    let entry = moved(0, 1)?;
+    let changes = brought(rt.alloc(), 1)?;
+    let small = setup(rt.alloc(), SMALL)?;
+    let ledger = Ledger::new(rt.alloc(), setup(rt.alloc(), SETUP)?, 12)?;
+    let posted = posted_in_memory(rt.alloc(), &ledger, &small, &entry, &changes);
+    assert!(rt; posted == Ok((POSTED, POSTED)) || posted == Ok((NOT_POSTED, POSTED)));
     Ok(())
 }

@@ -3,7 +3,7 @@ ghost use Rattle.std.specs.Prelude.{◌≡◌, ◌↔◌, ◌⊎◌, ℕ, Bool, 
 ghost use Rattle.std.specs.Bool.{Decides};
 ghost use Rattle.std.specs.List.Sorted.{IsPermutation};
 ghost use Rattle.register_store.specs.StoredRows.{Content, PostingRow, IsBoundTo, HasList, IsPostingRow, rows_of_spots, with_posted};
-ghost use Rattle.register_store.specs.Registers.{CountsRefusal, is_failure, is_of_store, bound_to, IsBindFault, IsOfStation, IsListFault};
+ghost use Rattle.register_store.specs.Registers.{CountsRefusal, is_failure, is_of_store, is_of_listing, bound_to, IsBindFault, IsOfStation, IsListFault};
 
 use crate::StoreFault;
 use nest_core::Setup;
@@ -58,6 +58,7 @@ pub trait Register {
         ensures listed { is_quiet self.new → IfOk result (λ entries. (c : Content) → holds self.new c → HasList (reverse entries.items) c) }
         ensures stationed { IfOk result (λ entries. All (IsOfStation (stations self.old)) entries.items) }
         ensures cause { is_quiet self.new → IfErr result (λ fault. (c : Content) → holds self.new c → IsListFault (stations self.old) c fault) }
+        ensures faults { IfErr result (λ fault. is_of_listing fault ≡ true) }
         ensures unchanged { is_quiet self.new → (c : Content) → holds self.old c ↔ holds self.new c }
         ensures still { (is_bound self.new ≡ true) × (stations self.new ≡ stations self.old) }
         ensures count { CountsRefusal (refusals self.old) (refusals self.new) result }

@@ -1,5 +1,5 @@
-use Rattle.std.proofs.Common.{rules, ◌≡◌, ◌∷◌, [], ◌++◌, reverse, sym, subst, ap, ◌∙◌}
-use Rattle.register_store.specs.StoredRows.{Content, HasList, IsPostingRow, with_posted}
+use Rattle.std.proofs.Common.{◌≡◌, ◌∷◌, [], reverse, subst, ap, ◌∙◌}
+use Rattle.register_store.specs.StoredRows.{HasList, IsPostingRow, with_posted}
 use Rattle.register_store.specs.Registers.{bound_to}
 use Rattle.register_store.proofs.Keeping.{postings_kept, two_listed, at_content, for_each}
 use Rattle.register_store.proofs.plain_tests.keep_two.Goals as goal

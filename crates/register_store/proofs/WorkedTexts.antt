@@ -1,0 +1,139 @@
+-- The texts of messages computed on worked rows: what they spell, and the one text of each.
+use Rattle.std.specs.Prelude.{ℤ, pos, ◌≡◌, List, ℕ, [], ◌∷◌, take, refl, codes, Ok, Err}
+use Rattle.std.specs.Str.{is_utf8, chars}
+use Rattle.std.proofs.Math.Utf8.{encode}
+use Rattle.std.proofs.Common.{arith, ◌∙◌, ap}
+use Rattle.jiff_core.specs.Calendar.{days_from_civil, day_count, days_of_years, days_of_months}
+use Rattle.jiff_core.proofs.SignedLemmas.{signed_arith}
+use Rattle.json.specs.Json.{value}
+use Rattle.json.specs.Lex.{punctuate, lex}
+use Rattle.json.specs.Text.{content}
+use Rattle.json.specs.Print.{escape_byte}
+use Rattle.serde_json.specs.Data.{Data, Members, null, string, number, unsigned, array, object, item, no_items, no_members, put}
+use Rattle.serde_json.specs.Written.{compact_text}
+use Rattle.codes_core.specs.Day.{IsOnlySpelling}
+use Rattle.codes_core.proofs.Days.{only_spelling}
+use Rattle.posting_core.specs.declared.message.Message.{Message}
+use Rattle.posting_core.specs.declared.message.Message.TheVariants.{Move, SignOff}
+use Rattle.register_store.specs.declared.fault.ReadFault.TheVariants.{NotJson, Missing, BadKind, BadField}
+use Rattle.register_store.specs.declared.key.Key.TheVariants.{Kind, Thing, Place, Day, By}
+use Rattle.register_store.specs.Kinds.{of_json, of_bytes}
+use Rattle.register_store.specs.MessageText.{IsTextOf}
+
+-- 2024-05-01
+abbrev pub may : ℤ
+may = pos 19844
+
+pub may-spelled : IsOnlySpelling (codes "2024-05-01") may
+unfolding days_from_civil day_count days_of_years days_of_months
+may-spelled =
+    only_spelling (record {
+      year = pos 2024;
+      month = 5;
+      day = 1;
+      year_in = (omega (arith, signed_arith), omega (arith, signed_arith));
+      month_in = (omega arith, omega arith);
+      day_in = (omega arith, omega arith);
+    }) may refl (omega (arith, signed_arith))
+
+abbrev pub first_move : Message
+first_move = Move (codes "2001.4.1") (codes "S1") may
+
+abbrev pub ann : Message
+ann = SignOff (codes "Ann")
+
+-- first_run: the message as it was sent, and its one text, with its keys in ascending order
+
+abbrev pub first_text : List ℕ
+first_text = codes "{\"day\":\"2024-05-01\",\"kind\":\"move\",\"place\":\"S1\",\"thing\":\"2001.4.1\"}"
+
+first_run-sent : of_bytes (codes "{\"kind\":\"move\",\"thing\":\"2001.4.1\",\"place\":\"S1\",\"day\":\"2024-05-01\"}") ≡ Ok first_move
+unfolding is_utf8 chars encode value punctuate lex content days_from_civil day_count days_of_years days_of_months
+first_run-sent = refl
+
+pub first_run-text : IsTextOf first_move first_text
+unfolding escape_byte
+first_run-text = (_, (codes "2024-05-01", may-spelled, refl), refl)
+
+pub first_run-reads_back : of_bytes first_text ≡ Ok first_move
+unfolding is_utf8 chars encode value punctuate lex content days_from_civil day_count days_of_years days_of_months
+first_run-reads_back = refl
+
+pub sign_off-text : IsTextOf ann (codes "{\"by\":\"Ann\",\"kind\":\"signoff\"}")
+unfolding escape_byte
+sign_off-text = (_, refl, refl)
+
+pub sign_off-reads_back : of_bytes (codes "{\"by\":\"Ann\",\"kind\":\"signoff\"}") ≡ Ok ann
+unfolding is_utf8 chars encode value punctuate lex content
+sign_off-reads_back = refl
+
+-- whatever a message says, its text begins with a brace and a quote
+pub begins : (m : Message) (text : List ℕ) → IsTextOf m text → take 2 text ≡ codes "{\""
+begins (Move x p day) text h = ap (take 2) (h.2 ∙ ap compact_text h.1.2)
+begins (SignOff name) text h = ap (take 2) (h.2 ∙ ap compact_text h.1)
+
+-- other bytes of the same message: read, and not its text
+
+abbrev pub spaced_text : List ℕ
+spaced_text = codes "{ \"day\":\"2024-05-01\",\"kind\":\"move\",\"place\":\"S1\",\"thing\":\"2001.4.1\"}"
+
+spaced-read : of_bytes spaced_text ≡ Ok first_move
+unfolding is_utf8 chars encode value punctuate lex content days_from_civil day_count days_of_years days_of_months
+spaced-read = refl
+
+-- bad_lines
+
+cut_short : of_bytes (codes "{\"station\":\"GAL\"") ≡ Err NotJson
+unfolding is_utf8 chars encode value punctuate lex content
+cut_short = refl
+
+no_text : of_bytes (255 ∷ []) ≡ Err NotJson
+unfolding is_utf8 chars encode
+no_text = refl
+
+-- an object with this kind and these members beside
+abbrev of : List ℕ → Members → Data
+of kind members = object (put (codes "kind") (string kind) members)
+
+abbrev with : List ℕ → List ℕ → Members → Members
+with key text members = put key (string text) members
+
+a_list : of_json (array (item (object no_members) no_items)) ≡ Err NotJson
+a_list = refl
+
+no_kind : of_json (object no_members) ≡ Err (Missing Kind)
+no_kind = refl
+
+kind_of_no_string : of_json (object (put (codes "kind") null no_members)) ≡ Err BadKind
+kind_of_no_string = refl
+
+no_such_kind : of_json (of (codes "lend") no_members) ≡ Err BadKind
+no_such_kind = refl
+
+no_thing : of_json (of (codes "move") no_members) ≡ Err (Missing Thing)
+no_thing = refl
+
+-- a wrong thing comes before a place that is missing
+wrong_thing : of_json (of (codes "move") (with (codes "thing") (codes "2001.04") no_members)) ≡ Err (BadField Thing)
+wrong_thing = refl
+
+no_place : of_json (of (codes "move") (with (codes "thing") (codes "2001.4.1") no_members)) ≡ Err (Missing Place)
+no_place = refl
+
+place_of_no_string : of_json (of (codes "move") (with (codes "thing") (codes "2001.4.1") (put (codes "place") (number (unsigned 1)) no_members))) ≡ Err (BadField Place)
+place_of_no_string = refl
+
+no_day : of_json (of (codes "move") (with (codes "thing") (codes "2001.4.1") (with (codes "place") (codes "S1") no_members))) ≡ Err (Missing Day)
+no_day = refl
+
+no_such_day : of_json (of (codes "move") (with (codes "thing") (codes "2001.4.1") (with (codes "place") (codes "S1") (with (codes "day") (codes "2023-02-29") no_members)))) ≡ Err (BadField Day)
+no_such_day = refl
+
+nobody : of_json (of (codes "signoff") (with (codes "by") [] no_members)) ≡ Err (BadField By)
+unfolding is_utf8 chars
+nobody = refl
+
+-- keys that the kind doesn't name are ignored
+more_keys : of_json (of (codes "signoff") (with (codes "by") (codes "Ann") (with (codes "thing") (codes "x") no_members))) ≡ Ok ann
+unfolding is_utf8 chars encode
+more_keys = refl
