@@ -1,5 +1,5 @@
 //! The hub.
-ghost use Rattle.std.specs.Prelude.{◌≡◌, ◌≢◌, ◌↔◌, List, [], ◌∷◌, ◌++◌, ℕ, length, reverse, replicate, true, false, IfOk, OnOk, OnErr, IsErr, IsErrOf, IfErr, Ok, Err};
+ghost use Rattle.std.specs.Prelude.{◌≡◌, ◌≢◌, ◌↔◌, ◌⊎◌, List, [], ◌∷◌, ◌++◌, ℕ, length, reverse, replicate, true, false, IfOk, OnOk, OnErr, IsErr, IsErrOf, IfErr, Ok, Err};
 ghost use Rattle.posting_core.specs.declared.entry.Entry.{Entry};
 ghost use Rattle.hub_core.specs.declared.answer.Arrival.{Arrival};
 ghost use Rattle.posting_core.specs.Messages.{is_sign_off};
@@ -67,6 +67,9 @@ impl<R: Register> Hub<R> {
             StandsFor R.is_quiet R.holds hub O []) }
         ensures kept { IfOk result (λ hub. R.is_quiet hub.register → (c : Content) → R.holds register c → R.holds hub.register (bound_to setup c)) }
         ensures refused { IfErr result (λ failed. R.is_quiet failed.register → (c : Content) → R.holds register c → IsOpenFault setup c failed.fault) }
+        // A refused opening leaves the register as it was, or bound.
+        ensures left { IfErr result (λ failed. R.is_quiet failed.register → (c : Content) → R.holds register c →
+            R.holds failed.register c ⊎ R.holds failed.register (bound_to setup c)) }
         ensures quiet { IfOk result (λ hub. R.is_quiet hub.register → R.is_quiet register) }
         ensures quiet_before { IfErr result (λ failed. R.is_quiet failed.register → R.is_quiet register) }
         ensures uncounted { IfOk result (λ hub. R.refusals hub.register ≡ R.refusals register) }
@@ -93,6 +96,7 @@ impl<R: Register> Hub<R> {
         ensures up { OnOk result (self.new.down ≡ false) }
         ensures down { IsErrOf result HubFault.Down ↔ (self.old.down ≡ true) }
         ensures fault { OnErr result (self.new.down ≡ true) }
+        ensures closed { self.old.down ≡ true → self.new ≡ self.old }
         // A fault comes while messages are due: those before one of them are posted, and the register has that list, or
         // that with the one.
         ensures after_fault { OnErr result ((O : List Entry) (A : List Arrival) → StandsFor R.is_quiet R.holds self.old O A →
