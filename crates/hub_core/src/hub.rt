@@ -8,7 +8,7 @@ ghost use Rattle.station_core.specs.Runs.{run};
 ghost use Rattle.station_core.specs.declared.Refusal.{Refusal};
 ghost use Rattle.register_store.specs.StoredRows.{Content, HasList};
 ghost use Rattle.register_store.specs.Registers.{bound_to};
-ghost use Rattle.hub_core.specs.Openings.{IsOpenFault, CountsFault};
+ghost use Rattle.hub_core.specs.Openings.{IsOpenFault, CountsFault, OpensAgain};
 ghost use Rattle.hub_core.specs.Faults.{CountsStore};
 ghost use Rattle.hub_core.specs.Points.{point, reply, due_with, whereabouts, cut, IsPlaced};
 
@@ -35,13 +35,14 @@ pub struct Hub<R: Register> {
 
 impl<R: Register> Model for Hub<R> {
     ghost use Rattle.std.specs.Prelude.{◌≡◌, true, false};
-    ghost use Rattle.hub_core.specs.StandsFor.{State, InStep};
+    ghost use Rattle.hub_core.specs.StandsFor.{State, InStep, HasStore, HasSomeStore};
 
     ghost Value = { State R };
 
     ghost view = { λ h. record { sequences = h.sequences; book = h.ledger; register = h.register; down = h.down } };
 
-    ghost invariant = { λ h. (h.down ≡ false → InStep h.sequences h.ledger.museum h.ledger.posted) × (R.is_bound h.register ≡ true) };
+    ghost invariant = { λ h. (h.down ≡ false → InStep h.sequences h.ledger.museum h.ledger.posted) × (R.is_bound h.register ≡ true)
+        × (h.down ≡ false → HasStore R.is_quiet R.holds h.register h.ledger) × (h.down ≡ true → HasSomeStore R.is_quiet R.holds h.register h.ledger) };
 }
 
 /// Why a hub could not be opened, and its register, which it hands back.
@@ -179,10 +180,12 @@ impl<R: Register> Hub<R> {
         self.down
     }
 
-    /// Gives the register back, as it is.
+    /// Gives the register back, as it is. It opens again with the hub's setup, after a fault too.
     pub fn close(self) -> R
-        ensures { result ≡ self.register }
+        ensures same { result ≡ self.register }
+        ensures opens_again { OpensAgain R.is_quiet R.holds result self.book.museum }
     {
+        self.ledger.is_lawful();
         self.register
     }
 }
