@@ -10,6 +10,8 @@ pub mod ReplyLemmas
 pub mod PostLemmas
 pub mod OpenLemmas
 pub mod StopLemmas
+pub mod RowOrder
+pub mod ReopenLemmas
 pub mod StandLemmas
 pub mod TextLemmas
 pub mod CutLemmas

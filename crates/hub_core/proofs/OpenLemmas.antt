@@ -1,5 +1,5 @@
 -- A hub over a list of entries that it finds.
-use Rattle.std.proofs.Common.{◌≡◌, ℕ, zero, suc, ◌+◌, ◌<◌, ◌≤◌, ◌==◌, ◌&&◌, not, Bool, true, false, List, [], ◌∷◌, ◌++◌, length, Option, Some, None, inl, inr, get_or, refl, ap, ◌∙◌, sym, subst, arith, append_assoc}
+use Rattle.std.proofs.Common.{◌≡◌, ℕ, zero, suc, ◌+◌, ◌<◌, ◌≤◌, ◌==◌, ◌&&◌, not, Bool, true, false, List, [], ◌∷◌, ◌++◌, length, Option, Some, None, Result, Ok, Err, IfErr, inl, inr, get_or, refl, ap, ◌∙◌, sym, subst, arith, append_assoc}
 use Rattle.std.specs.Prelude.{map, reverse, replicate, slice_get, slice_set, nat_le, All}
 use Rattle.std.proofs.lemmas.List.Elements.{All-from_get_or}
 use Rattle.std.specs.List.Sorted.{IsPermutation}
@@ -26,9 +26,9 @@ use Rattle.station_core.proofs.GrowLemmas.{starts_empty, starts_other, starts_ne
 use Rattle.hub_core.specs.Points.{arrival_of}
 use Rattle.register_store.specs.declared.store_fault.StoreFault.{StoreFault}
 use Rattle.register_store.specs.declared.store_fault.StoreFault.TheVariants.{NoMemory, Store, OtherSetup, Damaged, OtherVersion}
-use Rattle.register_store.specs.StoredRows.{Content, HasList, rows_of_spots}
-use Rattle.register_store.specs.Registers.{is_new, bound_by, bound_to}
-use Rattle.hub_core.specs.Openings.{may_send, IsEntryFault, IsJudgeFault}
+use Rattle.register_store.specs.StoredRows.{Content, IsBoundTo, HasList, rows_of_spots}
+use Rattle.register_store.specs.Registers.{is_new, bound_by, bound_to, IsOfStation}
+use Rattle.hub_core.specs.Openings.{may_send, IsEntryFault, IsJudgeFault, IsOpenFault}
 use Rattle.hub_core.specs.StandsFor.{InStep}
 use Rattle.hub_core.proofs.PostLemmas.{IsWritten, written, step_written, count_same, count_other, signed_same, signed_other}
 
@@ -212,3 +212,17 @@ list_bound S c P has = by (is_new c.meta)
     by : (b : Bool) → HasList P (bound_by b S c)
     by true = record { rows = has.rows; each = has.each; all = has.all }
     by false = has
+
+-- the fault of a bound store's list
+pub judge_fault : (S : Museum) (depth : ℕ) (c : Content) (P : List Entry) (fault : StoreFault) → IsBoundTo S depth (bound_to S c) → HasList P (bound_to S c) → All (IsOfStation (length S.stations)) P
+    → IsJudgeFault S depth P fault → IsOpenFault S c fault
+judge_fault S depth c P NoMemory bound list of h = tt
+judge_fault S depth c P Store bound list of h = absurd h
+judge_fault S depth c P OtherSetup bound list of h = absurd h
+judge_fault S depth c P OtherVersion bound list of h = absurd h
+judge_fault S depth c P (Damaged at) bound list of h = inr (inr (inl (record { depth = depth; bound = bound; entries = P; list = list; stationed = of; wrong = h })))
+
+-- what holds of the error that a call hands on
+pub on_fault : {T : Type 0} (r : Result T StoreFault) (Q : StoreFault → Type 0) (fault : StoreFault) → IfErr r (λ e. e ≡ fault) → Q fault → IfErr r Q
+on_fault (Ok x) Q fault is q = tt
+on_fault (Err e) Q fault is q = subst Q (sym is) q

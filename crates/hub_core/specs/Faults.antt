@@ -2,6 +2,8 @@
 use Rattle.std.specs.Prelude.{ℕ, ◌≡◌, ◌+◌, ◌-◌, ◌^◌, min, Result, Ok, Err}
 use Rattle.register_store.specs.declared.store_fault.StoreFault.{StoreFault}
 use Rattle.register_store.specs.declared.store_fault.StoreFault.TheVariants as store
+use Rattle.hub_core.specs.declared.replaying.ReplayFault.{ReplayFault}
+use Rattle.hub_core.specs.declared.replaying.ReplayFault.TheVariants as replay
 use Rattle.hub_core.specs.declared.answer.HubFault.{HubFault}
 use Rattle.hub_core.specs.declared.answer.HubFault.TheVariants.{NoMemory, Store, Down}
 
@@ -19,3 +21,16 @@ CountsStore old new (Ok x) = new ≡ old
 CountsStore old new (Err NoMemory) = new ≡ old
 CountsStore old new (Err Store) = new ≡ min (old + 1) (2 ^ 64 - 1)
 CountsStore old new (Err Down) = new ≡ old
+
+-- the same of a hub that isn't down
+abbrev pub CountsUp : {T : Type 0} → ℕ → ℕ → Result T HubFault → Type 0
+CountsUp old new (Ok x) = new ≡ old
+CountsUp old new (Err NoMemory) = new ≡ old
+CountsUp old new (Err Store) = new ≡ min (old + 1) (2 ^ 64 - 1)
+CountsUp old new (Err Down) = ⊥
+
+-- a hub's fault, as a replay tells it; the hub isn't down
+abbrev pub told_of_line : HubFault → ReplayFault
+told_of_line NoMemory = replay.NoMemory
+told_of_line Store = replay.Store
+told_of_line Down = replay.NoMemory

@@ -1,5 +1,5 @@
 -- Why a store can't be opened.
-use Rattle.std.specs.Prelude.{ℕ, ◌≡◌, ◌⊎◌, ◌+◌, ◌==◌, ◌&&◌, nat_le, not, Bool, false, List, ◌∷◌, ◌++◌, length, Option, Some, None, Err}
+use Rattle.std.specs.Prelude.{ℕ, ◌≡◌, ◌⊎◌, ◌+◌, ◌==◌, ◌&&◌, nat_le, not, All, Bool, true, false, List, ◌∷◌, ◌++◌, length, Option, Some, None, Err}
 use Rattle.std.specs.List.Sorted.{IsPermutation}
 use Rattle.nest_core.specs.Museum.{Museum}
 use Rattle.posting_core.specs.declared.entry.Entry.{Entry}
@@ -9,7 +9,7 @@ use Rattle.station_core.specs.declared.TheConstants.{LAST}
 use Rattle.register_store.specs.declared.store_fault.StoreFault.{StoreFault}
 use Rattle.register_store.specs.declared.store_fault.StoreFault.TheVariants.{NoMemory, Store, OtherSetup, Damaged, OtherVersion}
 use Rattle.register_store.specs.StoredRows.{Content, IsBoundTo, HasList, rows_of_spots}
-use Rattle.register_store.specs.Registers.{CountsRefusal, IsBindFault, IsFirstWrong, bound_to}
+use Rattle.register_store.specs.Registers.{CountsRefusal, is_failure, IsBindFault, IsOfStation, IsFirstWrong, bound_to}
 
 -- entry number `at` is the first that may not follow those before it
 pub record IsFirstUnlawful (S : Museum) (depth : ℕ) (O : List Entry) (at : ℕ) : Type 0 where
@@ -46,12 +46,13 @@ may_send (Some start) n = (n == start.posted + 1) && (nat_le n LAST && not start
 abbrev pub HasWrongRow : Museum → Content → ℕ → Type 0
 HasWrongRow S c at = (depth : ℕ) × IsBoundTo S depth c × IsFirstWrong (length S.stations) at c
 
--- it has a list of entries, and the rules don't let it stand
+-- it has a list of entries of the setup's stations, and the rules don't let it stand
 pub record HasWrongEntry (S : Museum) (c : Content) (at : ℕ) : Type 0 where
   pub depth : ℕ
   pub bound : IsBoundTo S depth c
   pub entries : List Entry
   pub list : HasList entries c
+  pub stationed : All (IsOfStation (length S.stations)) entries
   pub wrong : IsFirstUnlawful S depth entries at
 
 -- it has a lawful list of entries, and its spots aren't those of looking back
@@ -73,6 +74,10 @@ IsOpenFault S c OtherSetup = IsBindFault S c OtherSetup
 IsOpenFault S c (Damaged at) =
     IsBindFault S c (Damaged at)
     ⊎ (HasWrongRow S (bound_to S c) at ⊎ (HasWrongEntry S (bound_to S c) at ⊎ HasWrongSpots S (bound_to S c) at))
+
+-- where the register is quiet, nothing but want of memory, or a store that refuses, keeps it from being opened with the setup
+abbrev pub OpensAgain : {R : Type 0} → (R → Type 0) → (R → Content → Type 0) → R → Museum → Type 0
+OpensAgain quiet holds register S = quiet register → (fault : StoreFault) → ((c : Content) → holds register c → IsOpenFault S c fault) → is_failure fault ≡ true
 
 -- a refused opening counts where the store refused
 abbrev pub CountsFault : ℕ → ℕ → StoreFault → Type 0

@@ -4,7 +4,7 @@ use Rattle.nest_core.specs.Museum.{Museum}
 use Rattle.posting_core.specs.declared.message.Message.{Message}
 use Rattle.posting_core.specs.declared.entry.Entry.{Entry}
 use Rattle.posting_core.specs.Messages.{is_sign_off}
-use Rattle.posting_core.specs.Lawful.{count_at, is_signed_off}
+use Rattle.posting_core.specs.Lawful.{count_at, is_signed_off, IsLawful}
 use Rattle.posting_core.specs.Book.{Book}
 use Rattle.station_core.specs.Series.{Series, series_at}
 use Rattle.station_core.specs.Runs.{Arrived, ready, due}
@@ -23,6 +23,10 @@ pub record State (R : Type 0) : Type 0 where
 -- where the register is quiet, it holds the stored rows of the book
 abbrev pub HasStore : {R : Type 0} → (R → Type 0) → (R → Content → Type 0) → R → Book → Type 0
 HasStore quiet holds register book = quiet register → (c : Content) × holds register c × IsStoreOf book.museum book.depth book.posted c
+
+-- where the register is quiet, it holds the stored rows of some lawful list
+abbrev pub HasSomeStore : {R : Type 0} → (R → Type 0) → (R → Content → Type 0) → R → Book → Type 0
+HasSomeStore quiet holds register book = quiet register → (P : List Entry) × (c : Content) × IsLawful book.museum book.depth P × holds register c × IsStoreOf book.museum book.depth P c
 
 -- the hub isn't down, its posted list is that of the arrivals A from the posted list O, it holds what was taken above,
 -- and its register has the posted list

@@ -1,5 +1,5 @@
 //! The hub.
-ghost use Rattle.std.specs.Prelude.{◌≡◌, ◌≢◌, ◌↔◌, List, [], ◌∷◌, ◌++◌, ℕ, length, reverse, replicate, true, false, IfOk, OnOk, OnErr, IsErr, IsErrOf, IfErr, Ok, Err};
+ghost use Rattle.std.specs.Prelude.{◌≡◌, ◌≢◌, ◌↔◌, ◌⊎◌, List, [], ◌∷◌, ◌++◌, ℕ, length, reverse, replicate, true, false, IfOk, OnOk, OnErr, IsErr, IsErrOf, IfErr, Ok, Err};
 ghost use Rattle.posting_core.specs.declared.entry.Entry.{Entry};
 ghost use Rattle.hub_core.specs.declared.answer.Arrival.{Arrival};
 ghost use Rattle.posting_core.specs.Messages.{is_sign_off};
@@ -8,7 +8,7 @@ ghost use Rattle.station_core.specs.Runs.{run};
 ghost use Rattle.station_core.specs.declared.Refusal.{Refusal};
 ghost use Rattle.register_store.specs.StoredRows.{Content, HasList};
 ghost use Rattle.register_store.specs.Registers.{bound_to};
-ghost use Rattle.hub_core.specs.Openings.{IsOpenFault, CountsFault};
+ghost use Rattle.hub_core.specs.Openings.{IsOpenFault, CountsFault, OpensAgain};
 ghost use Rattle.hub_core.specs.Faults.{CountsStore};
 ghost use Rattle.hub_core.specs.Points.{point, reply, due_with, whereabouts, cut, IsPlaced};
 
@@ -35,13 +35,14 @@ pub struct Hub<R: Register> {
 
 impl<R: Register> Model for Hub<R> {
     ghost use Rattle.std.specs.Prelude.{◌≡◌, true, false};
-    ghost use Rattle.hub_core.specs.StandsFor.{State, InStep};
+    ghost use Rattle.hub_core.specs.StandsFor.{State, InStep, HasStore, HasSomeStore};
 
     ghost Value = { State R };
 
     ghost view = { λ h. record { sequences = h.sequences; book = h.ledger; register = h.register; down = h.down } };
 
-    ghost invariant = { λ h. (h.down ≡ false → InStep h.sequences h.ledger.museum h.ledger.posted) × (R.is_bound h.register ≡ true) };
+    ghost invariant = { λ h. (h.down ≡ false → InStep h.sequences h.ledger.museum h.ledger.posted) × (R.is_bound h.register ≡ true)
+        × (h.down ≡ false → HasStore R.is_quiet R.holds h.register h.ledger) × (h.down ≡ true → HasSomeStore R.is_quiet R.holds h.register h.ledger) };
 }
 
 /// Why a hub could not be opened, and its register, which it hands back.
@@ -67,6 +68,9 @@ impl<R: Register> Hub<R> {
             StandsFor R.is_quiet R.holds hub O []) }
         ensures kept { IfOk result (λ hub. R.is_quiet hub.register → (c : Content) → R.holds register c → R.holds hub.register (bound_to setup c)) }
         ensures refused { IfErr result (λ failed. R.is_quiet failed.register → (c : Content) → R.holds register c → IsOpenFault setup c failed.fault) }
+        // A refused opening leaves the register as it was, or bound.
+        ensures left { IfErr result (λ failed. R.is_quiet failed.register → (c : Content) → R.holds register c →
+            R.holds failed.register c ⊎ R.holds failed.register (bound_to setup c)) }
         ensures quiet { IfOk result (λ hub. R.is_quiet hub.register → R.is_quiet register) }
         ensures quiet_before { IfErr result (λ failed. R.is_quiet failed.register → R.is_quiet register) }
         ensures uncounted { IfOk result (λ hub. R.refusals hub.register ≡ R.refusals register) }
@@ -93,6 +97,7 @@ impl<R: Register> Hub<R> {
         ensures up { OnOk result (self.new.down ≡ false) }
         ensures down { IsErrOf result HubFault.Down ↔ (self.old.down ≡ true) }
         ensures fault { OnErr result (self.new.down ≡ true) }
+        ensures closed { self.old.down ≡ true → self.new ≡ self.old }
         // A fault comes while messages are due: those before one of them are posted, and the register has that list, or
         // that with the one.
         ensures after_fault { OnErr result ((O : List Entry) (A : List Arrival) → StandsFor R.is_quiet R.holds self.old O A →
@@ -175,10 +180,12 @@ impl<R: Register> Hub<R> {
         self.down
     }
 
-    /// Gives the register back, as it is.
+    /// Gives the register back, as it is. It opens again with the hub's setup, after a fault too.
     pub fn close(self) -> R
-        ensures { result ≡ self.register }
+        ensures same { result ≡ self.register }
+        ensures opens_again { OpensAgain R.is_quiet R.holds result self.book.museum }
     {
+        self.ledger.is_lawful();
         self.register
     }
 }

@@ -1,5 +1,5 @@
 //! What is said to a line.
-ghost use Rattle.std.specs.Prelude.{◌≡◌, ◌<◌, ◌++◌, List, ℕ, [], ◌∷◌, false, length, take, reverse, unwrap_or, string_bytes, IfOk, IfSome, OnOk, OnErr, All};
+ghost use Rattle.std.specs.Prelude.{◌≡◌, ◌<◌, ◌++◌, List, ℕ, [], ◌∷◌, false, length, take, reverse, unwrap_or, string_bytes, IfOk, IfErr, IfSome, OnOk, OnErr, All};
 ghost use Rattle.posting_core.specs.declared.entry.Entry.{Entry};
 ghost use Rattle.hub_core.specs.declared.answer.Arrival.{Arrival};
 ghost use Rattle.hub_core.specs.declared.reader.Request.{Request as request};
@@ -7,6 +7,7 @@ ghost use Rattle.hub_core.specs.declared.reader.Request.TheVariants as asks;
 ghost use Rattle.hub_core.specs.Points.{posted, reply, whereabouts, IsPlaced};
 ghost use Rattle.hub_core.specs.Requests.{line_in};
 ghost use Rattle.hub_core.specs.Replies.{asked_line, bad_line};
+ghost use Rattle.hub_core.specs.Faults.{CountsUp};
 ghost use Rattle.hub_core.specs.StandsFor.{StandsFor, TakesSome};
 ghost use Rattle.hub_core.specs.LineText.{without_return, fault_text, place_text, chain_text, posted_lines, answer_text, station_text, station_reply, sent_from, request_reply, sent_by, read_reply, sent, line_reply, line_arrivals};
 
@@ -41,6 +42,7 @@ pub(crate) fn reply_to<S: Register>(
         (string_bytes text ≡ line_reply hub.old.book.museum hub.old.book.depth O A number line.now) × StandsFor S.is_quiet S.holds hub.new O (A ++ line_arrivals hub.old.book.museum line.now)) }
     ensures fault { OnErr result ((O : List Entry) (A : List Arrival) → StandsFor S.is_quiet S.holds hub.old O A → TakesSome S.is_quiet S.holds hub.new O A (line_arrivals hub.old.book.museum line.now)) }
     ensures up { OnOk result (hub.new.down ≡ false) }
+    ensures count { CountsUp (S.refusals hub.old.register) (S.refusals hub.new.register) result }
     ensures museum { hub.new.book.museum ≡ hub.old.book.museum }
     ensures depth { hub.new.book.depth ≡ hub.old.book.depth }
 {
@@ -65,6 +67,7 @@ fn read_reply<S: Register>(
         (string_bytes text ≡ read_reply hub.old.book.museum hub.old.book.depth O A number (line_in hub.old.book.museum line.now)) × StandsFor S.is_quiet S.holds hub.new O (A ++ sent (line_in hub.old.book.museum line.now))) }
     ensures fault { OnErr result ((O : List Entry) (A : List Arrival) → StandsFor S.is_quiet S.holds hub.old O A → TakesSome S.is_quiet S.holds hub.new O A (sent (line_in hub.old.book.museum line.now))) }
     ensures up { OnOk result (hub.new.down ≡ false) }
+    ensures count { CountsUp (S.refusals hub.old.register) (S.refusals hub.new.register) result }
     ensures museum { hub.new.book.museum ≡ hub.old.book.museum }
     ensures depth { hub.new.book.depth ≡ hub.old.book.depth }
 {
@@ -88,6 +91,7 @@ fn request_reply<S: Register>(
         (string_bytes text ≡ request_reply hub.old.book.museum hub.old.book.depth O A number line.station line.request) × StandsFor S.is_quiet S.holds hub.new O (A ++ sent_by line.station line.request)) }
     ensures fault { OnErr result ((O : List Entry) (A : List Arrival) → StandsFor S.is_quiet S.holds hub.old O A → TakesSome S.is_quiet S.holds hub.new O A (sent_by line.station line.request)) }
     ensures up { OnOk result (hub.new.down ≡ false) }
+    ensures count { CountsUp (S.refusals hub.old.register) (S.refusals hub.new.register) result }
     ensures museum { hub.new.book.museum ≡ hub.old.book.museum }
     ensures depth { hub.new.book.depth ≡ hub.old.book.depth }
 {
@@ -131,6 +135,7 @@ fn station_reply<S: Register>(
         (string_bytes text ≡ station_reply hub.old.book.museum hub.old.book.depth O A station request) × StandsFor S.is_quiet S.holds hub.new O (A ++ sent_from station request)) }
     ensures fault { OnErr result ((O : List Entry) (A : List Arrival) → StandsFor S.is_quiet S.holds hub.old O A → TakesSome S.is_quiet S.holds hub.new O A (sent_from station request)) }
     ensures up { OnOk result (hub.new.down ≡ false) }
+    ensures count { CountsUp (S.refusals hub.old.register) (S.refusals hub.new.register) result }
     ensures museum { hub.new.book.museum ≡ hub.old.book.museum }
     ensures depth { hub.new.book.depth ≡ hub.old.book.depth }
 {
@@ -154,6 +159,7 @@ fn scan_reply<S: Register>(
         (string_bytes text ≡ station_reply hub.old.book.museum hub.old.book.depth O A station (asks.Scan n message)) × StandsFor S.is_quiet S.holds hub.new O (A ++ sent_from station (asks.Scan n message))) }
     ensures fault { OnErr result ((O : List Entry) (A : List Arrival) → StandsFor S.is_quiet S.holds hub.old O A → TakesSome S.is_quiet S.holds hub.new O A (sent_from station (asks.Scan n message))) }
     ensures up { OnOk result (hub.new.down ≡ false) }
+    ensures count { CountsUp (S.refusals hub.old.register) (S.refusals hub.new.register) result }
     ensures museum { hub.new.book.museum ≡ hub.old.book.museum }
     ensures depth { hub.new.book.depth ≡ hub.old.book.depth }
 {
@@ -215,7 +221,8 @@ fn question_reply<S: Register>(
 ) -> Result<String, HubFault>
     requires up { hub.now.down ≡ false }
     requires known { station < length hub.now.book.museum.stations }
-    ensures { IfOk result (λ text. string_bytes text ≡ asked_line (station_text hub.now.book.museum station) code.now (place_text hub.now.book.museum (whereabouts hub.now.book.museum hub.now.book.posted code.now))) }
+    ensures text { IfOk result (λ text. string_bytes text ≡ asked_line (station_text hub.now.book.museum station) code.now (place_text hub.now.book.museum (whereabouts hub.now.book.museum hub.now.book.posted code.now))) }
+    ensures fault { IfErr result (λ fault. fault ≡ HubFault.NoMemory) }
 {
     let place = hub.ask(alloc, code)?;
     let setup = hub.ledger().setup();

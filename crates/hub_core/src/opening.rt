@@ -1,5 +1,5 @@
 //! The opening of a hub over what a register has.
-ghost use Rattle.std.specs.Prelude.{◌≡◌, List, true, reverse, map, OnOk, IfOk, IfErr};
+ghost use Rattle.std.specs.Prelude.{◌≡◌, ◌⊎◌, List, true, reverse, map, OnOk, OnErr, IfOk, IfErr};
 ghost use Rattle.posting_core.specs.declared.entry.Entry.{Entry};
 ghost use Rattle.posting_core.specs.Messages.{is_sign_off};
 ghost use Rattle.station_core.specs.Progress.{AllMatch};
@@ -29,6 +29,7 @@ pub(crate) fn prepare<R: Register>(
     ensures list { R.is_quiet register.new → IfOk result (λ p. (c : Content) → R.holds register.old c →
         R.holds register.new (bound_to setup c) × HasList p.1.posted (bound_to setup c)) }
     ensures cause { R.is_quiet register.new → IfErr result (λ fault. (c : Content) → R.holds register.old c → IsOpenFault setup c fault) }
+    ensures left { R.is_quiet register.new → OnErr result ((c : Content) → R.holds register.old c → R.holds register.new c ⊎ R.holds register.new (bound_to setup c)) }
     ensures bound { OnOk result (R.is_bound register.new ≡ true) }
     ensures quiet { R.is_quiet register.new → R.is_quiet register.old }
     ensures count { CountsRefusal (R.refusals register.old) (R.refusals register.new) result }

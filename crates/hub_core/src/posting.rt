@@ -10,7 +10,7 @@ ghost use Rattle.station_core.specs.Runs.{Arrived, arrived, due, ready};
 ghost use Rattle.station_core.specs.Progress.{IsPosting};
 ghost use Rattle.hub_core.specs.Points.{entry_of, post};
 ghost use Rattle.hub_core.specs.Faults.{told, CountsStore};
-ghost use Rattle.hub_core.specs.StandsFor.{InStep, Done, HasStore, Stopped};
+ghost use Rattle.hub_core.specs.StandsFor.{InStep, Done, HasStore, HasSomeStore, Stopped};
 
 use crate::HubFault;
 use nest_core::StationNo;
@@ -41,6 +41,7 @@ pub(crate) fn post_due<R: Register>(
     ensures stopped { OnErr result ((taken : List (Arrived Message)) → IsPosting is_sign_off taken station sequences.old →
         HasStore R.is_quiet R.holds register.old ledger.old → Stopped R.is_quiet R.holds register.new ledger.old.museum ledger.old.depth ledger.old.posted
         (due taken station (series_at sequences.old station).posted (ready is_sign_off taken station - (series_at sequences.old station).posted)) ledger.new.posted) }
+    ensures lawful { OnErr result (HasStore R.is_quiet R.holds register.old ledger.old → HasSomeStore R.is_quiet R.holds register.new ledger.new) }
     ensures bound { R.is_bound register.new ≡ true }
     ensures quiet { R.is_quiet register.new → R.is_quiet register.old }
     ensures count { CountsStore (R.refusals register.old) (R.refusals register.new) result }
@@ -75,11 +76,13 @@ fn post_next<R: Register>(
     ensures left { OnErr result (HasStore R.is_quiet R.holds register.old ledger.old → R.is_quiet register.new → (c : Content) × R.holds register.new c
         × (IsStoreOf ledger.old.museum ledger.old.depth ledger.old.posted c
         ⊎ IsStoreOf ledger.old.museum ledger.old.depth (post ledger.old.museum ledger.old.depth ledger.old.posted (arrived station n message)) c)) }
+    ensures lawful { OnErr result (HasStore R.is_quiet R.holds register.old ledger.old → HasSomeStore R.is_quiet R.holds register.new ledger.new) }
     ensures bound { R.is_bound register.new ≡ true }
     ensures quiet { R.is_quiet register.new → R.is_quiet register.old }
     ensures count { CountsStore (R.refusals register.old) (R.refusals register.new) result }
     ensures fault { IfErr result (λ fault. (fault ≡ HubFault.NoMemory) ⊎ (fault ≡ HubFault.Store)) }
 {
+    ledger.is_lawful();
     let changes = ledger.plan(alloc, &message)?;
     let verdict = changes.verdict;
     let entry = Entry {

@@ -4,6 +4,7 @@ ghost use Rattle.std.specs.Io.KnownBytes.{Appends, IsAtEnd};
 ghost use Rattle.posting_core.specs.declared.entry.Entry.{Entry};
 ghost use Rattle.hub_core.specs.declared.answer.Arrival.{Arrival};
 ghost use Rattle.hub_core.specs.LineText.{text, arrivals};
+ghost use Rattle.hub_core.specs.Faults.{told_of_line};
 ghost use Rattle.hub_core.specs.StandsFor.{StandsFor};
 ghost use Rattle.hub_core.specs.Replayed.{Answered, AfterFault};
 
@@ -111,7 +112,8 @@ pub(crate) fn replay_from<R: BufRead, W: Write, S: Register>(
 
 /// A hub's fault, as a replay tells it.
 fn told(fault: HubFault) -> ReplayFault
-    ensures { (result ≡ ReplayFault.NoMemory) ⊎ (result ≡ ReplayFault.Store) }
+    ensures told { result ≡ told_of_line fault }
+    ensures either { (result ≡ ReplayFault.NoMemory) ⊎ (result ≡ ReplayFault.Store) }
 {
     match fault {
         HubFault::Store => ReplayFault::Store,
@@ -123,6 +125,7 @@ fn told(fault: HubFault) -> ReplayFault
 fn write_text<W: Write>(output: &mut W, text: &[u8]) -> Result<(), ReplayFault>
     ensures ok { OnOk result (Appends (W.contents output.old) (W.contents output.new) text.now) }
     ensures fault { OnErr result ((k : ℕ) × Appends (W.contents output.old) (W.contents output.new) (take k text.now)) }
+    ensures cause { IfErr result (λ fault. fault ≡ ReplayFault.WriteFailed) }
 {
     let mut done = 0;
     for _ in 0..u32::MAX {

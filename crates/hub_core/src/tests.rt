@@ -1,9 +1,12 @@
 //! A hub asked by its calls. What runs through the program stands in `cases/`.
-use crate::{Answer, Arrival, Hub, Where};
+ghost use Rattle.std.specs.Prelude.{◌≡◌, true, IfErr};
+ghost use Rattle.register_store.specs.Registers.{is_failure};
+
+use crate::{Answer, Arrival, Hub, OpenFault, Where};
 use codes_core::{Day, PlaceCode, ThingCode};
 use nest_core::{PlaceNo, Setup};
 use posting_core::Message;
-use register_store::{PlainRegister, StoreFault};
+use register_store::{PlainRegister, Register, StoreFault};
 use station_core::Refusal;
 use std::alloc::Global;
 use std::process::Abort;
@@ -161,24 +164,45 @@ fn window_full_spots(rt: HostRuntime) -> Result<(), Fail> {
     fill_window(&rt, rt.alloc(), &mut hub)
 }
 
-/// A register with two postings.
-fn posted_twice(rt: &impl Abort, alloc: Global) -> Result<PlainRegister, Fail> {
+/// A hub with two postings.
+fn posted_twice(rt: &impl Abort, alloc: Global) -> Result<Hub<PlainRegister>, Fail> {
     let mut hub = opened(alloc, PlainRegister::new(alloc))?;
     send_all(rt, alloc, &mut hub, LAST_HELD)?;
-    Ok(hub.close())
+    Ok(hub)
+}
+
+/// Closes a hub, be it down or not, and opens another over its register. What any caller may rest on: with the same
+/// setup and a quiet register only want of memory, or a store that refuses, keeps it from opening.
+fn opened_anew<R: Register>(
+    alloc: Global,
+    hub: Hub<R>,
+    setup: Setup,
+) -> Result<Hub<R>, OpenFault<R>>
+    ensures { IfErr result (λ failed. setup ≡ hub.book.museum → R.is_quiet failed.register → is_failure failed.fault ≡ true) }
+{
+    Hub::open(alloc, setup, hub.close())
+}
+
+/// A hub that has posted twice, closed and opened anew with the same setup.
+fn posted_and_opened(rt: &impl Abort, alloc: Global) -> Result<Hub<PlainRegister>, Fail> {
+    let setup = Setup::read(alloc, WHOLE.as_bytes())?;
+    let hub = posted_twice(rt, alloc)?;
+    match opened_anew(alloc, hub, setup) {
+        Ok(hub) => Ok(hub),
+        Err(_) => Err(Fail::from("not opened")),
+    }
 }
 
 #[test]
 fn opened_again(rt: HostRuntime) -> Result<(), Fail> {
-    let register = posted_twice(&rt, rt.alloc())?;
-    let mut hub = opened(rt.alloc(), register)?;
+    let mut hub = posted_and_opened(&rt, rt.alloc())?;
     send_all(&rt, rt.alloc(), &mut hub, OPENED_AGAIN)
 }
 
 /// Why a register with two postings of the whole setup isn't opened with another.
 fn opened_with_another(rt: &impl Abort, alloc: Global) -> Result<Option<StoreFault>, Fail> {
     let small = Setup::read(alloc, SMALL.as_bytes())?;
-    let register = posted_twice(rt, alloc)?;
+    let register = posted_twice(rt, alloc)?.close();
     match Hub::open(alloc, small, register) {
         Ok(_) => Ok(None),
         Err(failed) => Ok(Some(failed.fault)),

@@ -31,7 +31,7 @@ returns-in-Err-reply_to-clause-faults g c = λ O A st.
     let u = inv.3 O A st in
     let held = c.next_line.new.line.items in
     let line : c.without_return.result.now ≡ without_return held = c.without_return.ensures ∙ ap without_return c.as_slice.ensures.value in
-    after_either S depth O A i i2 o o2 g.S.Register.is_quiet g.S.Register.holds c.reply_to.new.hub c.told.result c.told.ensures
+    after_either S depth O A i i2 o o2 g.S.Register.is_quiet g.S.Register.holds c.reply_to.new.hub c.told.result c.told.ensures.either
     (fault_memory S depth O A i i1 i2 o o1 o2 g.S.Register.is_quiet g.S.Register.holds c.loop-number.hub c.loop-number.number u 16386 held c.in-Ok.fed c.in-Ok.ensures.line (omega arith) c.in-Ok.ensures.output c.reply_to.new.hub
     (some_at S c.loop-number.hub.book.museum (without_return held) c.without_return.result.now g.S.Register.is_quiet g.S.Register.holds c.reply_to.new.hub O (A ++ arrivals S u.bytes) inv.1 line (c.in-Err-reply_to.ensures.fault O (A ++ arrivals S u.bytes) u.stands)))
 

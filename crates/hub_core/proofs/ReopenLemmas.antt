@@ -1,0 +1,137 @@
+-- A store that has a lawful list can be opened.
+use Rattle.std.proofs.Common.{◌≡◌, inl, inr, ℕ, ◌+◌, ◌≤◌, true, false, List, [], ◌∷◌, ◌++◌, length, refl, sym, subst, ap, ◌∙◌, arith}
+use Rattle.std.specs.Prelude.{sum_by, All}
+use Rattle.std.specs.List.{AllByRecursion}
+use Rattle.std.specs.List.Sorted.{IsPermutation, IsNonDecreasingBy}
+use Rattle.std.proofs.lemmas.List.Elements.{recursion_from_All, All-from_recursion}
+use Rattle.std.proofs.lemmas.List.Sorted.{IsPermutation-sym, IsPermutation-trans, length_permutation, All-permutation, list_any-IsPermutation, sum_by-IsPermutation}
+use Rattle.nest_core.specs.Museum.{Museum}
+use Rattle.posting_core.specs.declared.entry.Entry.{Entry}
+use Rattle.posting_core.specs.declared.message.Message.{Message}
+use Rattle.posting_core.specs.Book.{Book}
+use Rattle.posting_core.specs.Lawful.{Follows, IsLawful}
+use Rattle.register_store.specs.declared.store_fault.StoreFault.{StoreFault}
+use Rattle.register_store.specs.declared.store_fault.StoreFault.TheVariants.{NoMemory, Store, OtherSetup, Damaged, OtherVersion}
+use Rattle.register_store.specs.StoredRows.{Content, MetaRow, PostingRow, IsPostingRow, ArePostings, IsStoreOf, rows_of_meta, rows_of_spots}
+use Rattle.register_store.specs.Registers.{is_failure, is_new, bound_by, bound_to, has_other_version, IsOfStation, IsFirstWrong}
+use Rattle.register_store.proofs.OneList.{as_many, one_list}
+use Rattle.station_core.specs.Runs.{Arrived}
+use Rattle.hub_core.proofs.RowOrder.{at_number}
+use Rattle.hub_core.proofs.StopLemmas.{Either}
+use Rattle.hub_core.specs.Points.{entry_of, post}
+use Rattle.hub_core.specs.StandsFor.{HasStore, HasSomeStore}
+use Rattle.hub_core.specs.Openings.{IsFirstUnlawful, HasWrongRow, HasWrongEntry, HasWrongSpots, IsOpenFault, OpensAgain}
+
+-- what each row of a lawful list tells
+record IsOfList (stations most : ℕ) (row : PostingRow) : Type 0 where
+  pub entry : Entry
+  pub is : IsPostingRow row.id entry row
+  pub of : IsOfStation stations entry
+  pub first : 1 ≤ row.id
+  pub last : row.id ≤ most
+
+rows_of_list : (S : Museum) (depth : ℕ) (P : List Entry) (rows : List PostingRow) (most : ℕ) → IsLawful S depth P → ArePostings P rows → length rows ≤ most → AllByRecursion (IsOfList (length S.stations) most) rows
+rows_of_list S depth [] [] most law is few = tt
+rows_of_list S depth [] (row ∷ rows) most law is few = absurd is
+rows_of_list S depth (e ∷ P) [] most law is few = absurd is
+rows_of_list S depth (e ∷ P) (row ∷ rows) most law is few =
+    let id : row.id ≡ length rows + 1 = is.0.id ∙ ap (λ n. n + 1) (as_many P rows is.1) in
+    let next = law.0.next in (
+      record {
+        entry = e;
+        is = subst (λ n. IsPostingRow n e row) (sym is.0.id) is.0;
+        of = record { known = law.0.known; first = omega (arith, next); few = law.0.few };
+        first = omega (arith, id);
+        last = omega (arith, id, few);
+      },
+      rows_of_list S depth P rows most law.1 is.1 (omega (arith, few)),
+    )
+
+middle : {X : Type 0} (Q : X → Type 0) (before after : List X) (x : X) → AllByRecursion Q (before ++ x ∷ after) → Q x
+middle Q [] after x all = all.0
+middle Q (y ∷ before) after x all = middle Q before after x all.1
+
+follows_in : (S : Museum) (depth : ℕ) (before after : List Entry) (e : Entry) → IsLawful S depth (after ++ e ∷ before) → Follows S depth before e
+follows_in S depth before [] e law = law.0
+follows_in S depth before (f ∷ after) e law = follows_in S depth before after e law.1
+
+-- a store is made with one depth limit
+one_depth : (a b : ℕ) (meta : List MetaRow) → IsPermutation (rows_of_meta a) meta → IsPermutation (rows_of_meta b) meta → a ≡ b
+one_depth a b meta h k =
+    let one : sum_by (λ (row : MetaRow). row.val) (rows_of_meta a) ≡ sum_by (λ (row : MetaRow). row.val) (rows_of_meta b) =
+    sym (sum_by-IsPermutation (λ (row : MetaRow). row.val) (rows_of_meta a) meta h) ∙ sum_by-IsPermutation (λ (row : MetaRow). row.val) (rows_of_meta b) meta k in
+    omega (arith, one)
+
+module _ (S : Museum) (depth : ℕ) (P : List Entry) (c : Content) (law : IsLawful S depth P) (store : IsStoreOf S depth P c) where
+  is_old : is_new c.meta ≡ false
+  is_old = by c.meta store.bound.meta
+    where
+      by : (meta : List MetaRow) → IsPermutation (rows_of_meta depth) meta → is_new meta ≡ false
+      by [] same = absurd (omega (arith, length_permutation (rows_of_meta depth) [] same))
+      by (row ∷ rows) same = refl
+
+  -- it stays as it is
+  stays : bound_to S c ≡ c
+  stays = ap (λ b. bound_by b S c) is_old
+
+  no_other_version : has_other_version c.meta ≡ true → ⊥
+  no_other_version h =
+      let none : has_other_version (rows_of_meta depth) ≡ false = refl in
+      let same : has_other_version (rows_of_meta depth) ≡ has_other_version c.meta = list_any-IsPermutation _ (rows_of_meta depth) c.meta store.bound.meta in
+      absurd (cc)
+
+  no_wrong_row : (at : ℕ) → HasWrongRow S c at → ⊥
+  no_wrong_row at h =
+      let first : IsFirstWrong (length S.stations) at c = h.2 in
+      let w = first.first in
+      let rows : List PostingRow = store.list.rows in
+      let same : IsPermutation (w.before ++ w.row ∷ w.after) rows = subst (λ (rs : List PostingRow). IsPermutation rs rows) w.split (IsPermutation-trans _ _ _ first.all (IsPermutation-sym _ _ store.list.all)) in
+      let order : IsNonDecreasingBy (λ (r : PostingRow). r.id) (w.before ++ w.row ∷ w.after) = subst (IsNonDecreasingBy (λ (r : PostingRow). r.id)) w.split first.order in
+      let Is : PostingRow → Type 0 = IsOfList (length S.stations) (length rows) in
+      let each : All Is rows = All-from_recursion Is rows (rows_of_list S depth P rows (length rows) law store.list.each (omega arith)) in
+      let of : Is w.row = middle Is w.before w.after w.row (recursion_from_All Is _ (All-permutation Is rows _ (IsPermutation-sym _ _ same) each)) in
+      let number : w.row.id ≡ at = at_number P rows w.before w.after w.row store.list.each same order of.last of.first ∙ w.number in
+      w.wrong of.entry (subst (λ n. IsPostingRow n of.entry w.row) number of.is) of.of
+
+  no_wrong_entry : (at : ℕ) → HasWrongEntry S c at → ⊥
+  no_wrong_entry at h =
+      let list : h.entries ≡ P = one_list h.entries P c h.list store.list in
+      let limit : h.depth ≡ depth = one_depth h.depth depth c.meta h.bound.meta store.bound.meta in
+      let wrong : IsFirstUnlawful S depth P at = subst (λ d. IsFirstUnlawful S d P at) limit (subst (λ (O : List Entry). IsFirstUnlawful S h.depth O at) list h.wrong) in
+      wrong.wrong (follows_in S depth wrong.before wrong.after wrong.entry (subst (IsLawful S depth) wrong.all law))
+
+  no_wrong_spots : (at : ℕ) → HasWrongSpots S c at → ⊥
+  no_wrong_spots at h =
+      let list : h.entries ≡ P = one_list h.entries P c h.list store.list in
+      h.wrong (subst (λ (O : List Entry). IsPermutation (rows_of_spots S O) c.spots) (sym list) store.spots)
+
+-- the store of a lawful list has none of the causes
+pub opens : (S : Museum) (depth : ℕ) (P : List Entry) (c : Content) (fault : StoreFault) → IsLawful S depth P → IsStoreOf S depth P c → IsOpenFault S c fault → is_failure fault ≡ true
+opens S depth P c NoMemory law store h = refl
+opens S depth P c Store law store h = refl
+opens S depth P c OtherVersion law store h = absurd (no_other_version S depth P c law store h)
+opens S depth P c OtherSetup law store h = absurd (h.1 store.bound.setup)
+opens S depth P c (Damaged at) law store (inl h) = absurd (h.3 (depth, store.bound.limit, store.bound.meta))
+opens S depth P c (Damaged at) law store (inr (inl h)) = absurd (no_wrong_row S depth P c law store at (subst (λ (d : Content). HasWrongRow S d at) (stays S depth P c law store) h))
+opens S depth P c (Damaged at) law store (inr (inr (inl h))) = absurd (no_wrong_entry S depth P c law store at (subst (λ (d : Content). HasWrongEntry S d at) (stays S depth P c law store) h))
+opens S depth P c (Damaged at) law store (inr (inr (inr h))) = absurd (no_wrong_spots S depth P c law store at (subst (λ (d : Content). HasWrongSpots S d at) (stays S depth P c law store) h))
+
+module _ {R : Type 0} (quiet : R → Type 0) (holds : R → Content → Type 0) where
+  -- a register with the book's list
+  pub some_of_store : (register : R) (book : Book) → IsLawful book.museum book.depth book.posted → HasStore quiet holds register book → HasSomeStore quiet holds register book
+  some_of_store register book law has calm = let store = has calm in (book.posted, store.0, law, store.1, store.2)
+
+  -- a register with a book's list, or that with one entry that may follow
+  pub some_of_either : (register : R) (L L' : Book) (next : Arrived Message) → IsLawful L.museum L.depth L.posted → Follows L.museum L.depth L.posted (entry_of L.museum L.depth L.posted next)
+      → L' ≡ L → Either quiet holds register L.museum L.depth L.posted next → HasSomeStore quiet holds register L'
+  some_of_either register L L' next law follows same either =
+      subst (λ (b : Book). HasSomeStore quiet holds register b) (sym same) (λ calm.
+      let has = either calm in
+      elim has.2 [
+        | inl store ↦ (L.posted, has.0, law, has.1, store)
+        | inr store ↦ (post L.museum L.depth L.posted next, has.0, (follows, law), has.1, store)
+      ])
+
+  -- a register with a lawful list opens again
+  pub some_opens : (register : R) (book : Book) → HasSomeStore quiet holds register book → OpensAgain quiet holds register book.museum
+  some_opens register book has calm fault h = let some = has calm in opens book.museum book.depth some.0 some.1 fault some.2 some.4 (h some.1 some.3)
