@@ -1,5 +1,11 @@
 //! A run: a setup and lines in, replies out.
-ghost use Rattle.std.specs.Prelude.{◌≡◌, ◌≤◌, ◌<◌, OnOk};
+ghost use Rattle.std.specs.Prelude.{◌≡◌, ◌≢◌, ◌≤◌, ◌<◌, ◌+◌, ◌++◌, false, OnOk, IfOk, IfErr, IfSome, MatchResult};
+ghost use Rattle.std.specs.Io.KnownBytes.{Appends, IsAtEnd};
+ghost use Rattle.nest_core.specs.SetupRows.{rows_of, museum_of, setup_fault};
+ghost use Rattle.nest_core.specs.declared.setup_fault.SetupFault.{SetupFault};
+ghost use Rattle.hub_core.specs.Reading.{TakesLine, feed_if};
+ghost use Rattle.hub_core.specs.LineText.{head, is_empty, without_return};
+ghost use Rattle.hub_core.specs.WholeRun.{head_fault, run_text, AfterRun, OpensHub, IsFresh, TakesHead, BeforeLines, StopsInLine, run_fault};
 
 use crate::line_reader::{End, Reads, take_piece};
 use crate::line_reply::without_return;
@@ -61,19 +67,21 @@ impl From<NoMemory> for RunFault {
 }
 
 /// Reads the setup, which is the bytes before the first empty line, or all of them, and replays the rest over a new hub.
-/// HeadTooLong is found as soon as it holds.
+/// HeadTooLong is found as soon as it holds, and before any fault of the setup.
 pub fn run<R: BufRead, W: Write>(
     alloc: Global,
     input: &mut R,
     output: &mut W,
-) -> Result<(), RunFault> {
+) -> Result<(), RunFault>
+    // All bytes are read, their head has no fault, and what is written is their text.
+    ensures bytes_to_bytes { OnOk result (IfSome (R.remaining input.old) (λ bytes. (head_fault (head bytes) ≡ None)
+        × IsAtEnd (R.remaining input.new) × Appends (W.contents output.old) (W.contents output.new) (run_text bytes))) }
+    ensures faults { IfErr result (AfterRun (R.remaining input.old) (R.remaining input.new) (W.contents output.old) (W.contents output.new)) }
+{
     let mut reads = Reads::new();
-    let head = read_head(alloc, input, &mut reads)?;
-    let setup = read_setup(alloc, head.as_slice())?;
-    let mut hub = match Hub::open(alloc, setup, PlainRegister::new(alloc)) {
+    let mut hub = match opened(alloc, input, &mut reads) {
         Ok(hub) => hub,
-        Err(failed) if failed.fault == StoreFault::NoMemory => return Err(RunFault::NoMemory),
-        Err(_) => return Err(RunFault::Store),
+        Err(fault) => return Err(fault),
     };
     match replay_from(alloc, input, output, &mut hub, reads) {
         Ok(()) => Ok(()),
@@ -81,8 +89,45 @@ pub fn run<R: BufRead, W: Write>(
     }
 }
 
+/// Reads the head, and opens a hub with its setup and nothing posted.
+fn opened<R: BufRead>(
+    alloc: Global,
+    input: &mut R,
+    reads: &mut Reads,
+) -> Result<Hub<PlainRegister>, RunFault>
+    ensures hub { IfOk result (OpensHub (R.remaining input.old) (R.remaining input.new)) }
+    ensures up { IfOk result (λ hub. hub.down ≡ false) }
+    ensures fault { IfErr result (BeforeLines (R.remaining input.old) (R.remaining input.new)) }
+{
+    let head = match read_head(alloc, input, reads) {
+        Ok(head) => head,
+        Err(fault) => return Err(fault),
+    };
+    let setup = match read_setup(alloc, head.as_slice()) {
+        Ok(setup) => setup,
+        Err(fault) => return Err(fault),
+    };
+    match new_hub(alloc, setup) {
+        Ok(hub) => Ok(hub),
+        Err(_) => Err(RunFault::NoMemory),
+    }
+}
+
+/// A hub with this setup and nothing posted. Nothing but memory can lack for it.
+fn new_hub(alloc: Global, setup: Setup) -> Result<Hub<PlainRegister>, StoreFault>
+    ensures fresh { IfOk result (λ hub. IsFresh hub setup) }
+    ensures fault { IfErr result (λ fault. fault ≡ StoreFault.NoMemory) }
+{
+    match Hub::open(alloc, setup, PlainRegister::new(alloc)) {
+        Ok(hub) => Ok(hub),
+        Err(failed) => Err(failed.fault),
+    }
+}
+
 /// The same fault of a run.
-fn run_fault(fault: ReplayFault) -> RunFault {
+fn run_fault(fault: ReplayFault) -> RunFault
+    ensures { result ≡ run_fault fault }
+{
     match fault {
         ReplayFault::NoMemory => RunFault::NoMemory,
         ReplayFault::Store => RunFault::Store,
@@ -92,7 +137,11 @@ fn run_fault(fault: ReplayFault) -> RunFault {
 }
 
 /// The setup that the head lists.
-fn read_setup(alloc: Global, head: &[u8]) -> Result<Setup, RunFault> {
+fn read_setup(alloc: Global, head: &[u8]) -> Result<Setup, RunFault>
+    ensures { MatchResult result
+        (λ setup. (setup_fault head.now ≡ None) × (setup ≡ museum_of (rows_of head.now)))
+        (λ fault. fault ≢ RunFault.NoMemory → (cause : SetupFault) × (fault ≡ RunFault.Setup cause) × (setup_fault head.now ≡ Some cause)) }
+{
     match Setup::read(alloc, head) {
         Ok(setup) => Ok(setup),
         Err(SetupFault::NoMemory) => Err(RunFault::NoMemory),
@@ -105,19 +154,27 @@ fn read_head<R: BufRead>(
     alloc: Global,
     input: &mut R,
     reads: &mut Reads,
-) -> Result<Vec<u8>, RunFault> {
+) -> Result<Vec<u8>, RunFault>
+    ensures head { IfOk result (λ head. TakesHead (R.remaining input.old) (R.remaining input.new) head.items) }
+    ensures fault { IfErr result (BeforeLines (R.remaining input.old) (R.remaining input.new)) }
+{
     let mut head = Vec::new(alloc);
     let mut line = Vec::new(alloc);
     while reads.left > 0 {
         let room = LONGEST_HEAD.saturating_sub(head.len());
-        let fed = next_head_line(input, reads, &mut line, room)?;
-        if without_return(line.as_slice()).is_empty() {
+        let fed = match next_head_line(input, reads, &mut line, room) {
+            Ok(fed) => fed,
+            Err(fault) => return Err(fault),
+        };
+        if is_blank(line.as_slice()) {
             return Ok(head);
         }
         if line.len() + usize::from(fed) > room {
             return Err(RunFault::HeadTooLong);
         }
-        add_line(&mut head, line.as_slice(), fed)?;
+        let Ok(()) = add_line(&mut head, line.as_slice(), fed) else {
+            return Err(RunFault::NoMemory);
+        };
         if !fed {
             return Ok(head);
         }
@@ -125,8 +182,17 @@ fn read_head<R: BufRead>(
     Err(RunFault::ReadFailed)
 }
 
+/// Whether the line is empty, but perhaps for a carriage return.
+fn is_blank(line: &[u8]) -> bool
+    ensures { result ≡ is_empty (without_return line.now) }
+{
+    without_return(line).is_empty()
+}
+
 /// Adds a line to the head, with its line feed where it has one.
-fn add_line(head: &mut Vec<u8>, line: &[u8], fed: bool) -> Result<(), AllocError> {
+fn add_line(head: &mut Vec<u8>, line: &[u8], fed: bool) -> Result<(), AllocError>
+    ensures { OnOk result (head.new.items ≡ head.old.items ++ (line.now ++ feed_if fed)) }
+{
     head.extend_from_slice(line)?;
     if fed {
         head.extend_from_slice(b"\n")?;
@@ -143,6 +209,8 @@ fn next_head_line<R: BufRead>(
     room: usize,
 ) -> Result<bool, RunFault>
     requires { room ≤ LONGEST_HEAD }
+    ensures line { IfOk result (λ fed. TakesLine (R.remaining input.old) (R.remaining input.new) (room + 2) line.new.items fed) }
+    ensures fault { IfErr result (λ fault. StopsInLine (R.remaining input.old) (R.remaining input.new) room fault) }
     ensures reads { OnOk result (reads.new.left < reads.old.left) }
 {
     line.clear();
@@ -153,7 +221,7 @@ fn next_head_line<R: BufRead>(
             Ok(End::Open) => {}
             Err(fault) => return Err(run_fault(fault)),
         }
-        if line.len() > room && !without_return(line.as_slice()).is_empty() {
+        if line.len() > room && !is_blank(line.as_slice()) {
             return Err(RunFault::HeadTooLong);
         }
     }
