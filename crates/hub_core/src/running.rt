@@ -5,13 +5,12 @@ ghost use Rattle.nest_core.specs.SetupRows.{rows_of, museum_of, setup_fault};
 ghost use Rattle.nest_core.specs.declared.setup_fault.SetupFault.{SetupFault};
 ghost use Rattle.hub_core.specs.Reading.{TakesLine, feed_if};
 ghost use Rattle.hub_core.specs.LineText.{head, is_empty, without_return};
-ghost use Rattle.hub_core.specs.WholeRun.{head_fault, run_text, AfterRun, OpensHub, IsFresh, TakesHead, BeforeLines, StopsInLine, run_fault};
+ghost use Rattle.hub_core.specs.WholeRun.{head_fault, run_text, AfterRun, OpensHub, IsFresh, TakesHead, BeforeLines, StopsInLine};
 
 use crate::line_reader::{End, Reads, take_piece};
 use crate::line_reply::without_return;
 use crate::replaying::replay_from;
 use crate::{Hub, ReplayFault};
-use codes_core::NoMemory;
 use nest_core::{Setup, SetupFault};
 use register_store::{PlainRegister, StoreFault};
 use std::alloc::{AllocError, Global};
@@ -55,14 +54,19 @@ impl From<AllocError> for RunFault {
     }
 }
 
-impl From<NoMemory> for RunFault {
+impl From<ReplayFault> for RunFault {
     ghost use Rattle.std.specs.Prelude.{◌≡◌};
-    ghost use Rattle.hub_core.specs.declared.running.RunFault.TheVariants as faults;
+    ghost use Rattle.hub_core.specs.WholeRun.{run_fault};
 
-    ghost from_gives = { λ _ e. e ≡ faults.NoMemory };
+    ghost from_gives = { λ fault e. e ≡ run_fault fault };
 
-    fn from(_fault: NoMemory) -> RunFault {
-        RunFault::NoMemory
+    fn from(fault: ReplayFault) -> RunFault {
+        match fault {
+            ReplayFault::NoMemory => RunFault::NoMemory,
+            ReplayFault::Store => RunFault::Store,
+            ReplayFault::ReadFailed => RunFault::ReadFailed,
+            ReplayFault::WriteFailed => RunFault::WriteFailed,
+        }
     }
 }
 
@@ -79,14 +83,9 @@ pub fn run<R: BufRead, W: Write>(
     ensures faults { IfErr result (AfterRun (R.remaining input.old) (R.remaining input.new) (W.contents output.old) (W.contents output.new)) }
 {
     let mut reads = Reads::new();
-    let mut hub = match opened(alloc, input, &mut reads) {
-        Ok(hub) => hub,
-        Err(fault) => return Err(fault),
-    };
-    match replay_from(alloc, input, output, &mut hub, reads) {
-        Ok(()) => Ok(()),
-        Err(fault) => Err(run_fault(fault)),
-    }
+    let mut hub = opened(alloc, input, &mut reads)?;
+    replay_from(alloc, input, output, &mut hub, reads)?;
+    Ok(())
 }
 
 /// Reads the head, and opens a hub with its setup and nothing posted.
@@ -99,14 +98,8 @@ fn opened<R: BufRead>(
     ensures up { IfOk result (λ hub. hub.down ≡ false) }
     ensures fault { IfErr result (BeforeLines (R.remaining input.old) (R.remaining input.new)) }
 {
-    let head = match read_head(alloc, input, reads) {
-        Ok(head) => head,
-        Err(fault) => return Err(fault),
-    };
-    let setup = match read_setup(alloc, head.as_slice()) {
-        Ok(setup) => setup,
-        Err(fault) => return Err(fault),
-    };
+    let head = read_head(alloc, input, reads)?;
+    let setup = read_setup(alloc, head.as_slice())?;
     match new_hub(alloc, setup) {
         Ok(hub) => Ok(hub),
         Err(_) => Err(RunFault::NoMemory),
@@ -121,18 +114,6 @@ fn new_hub(alloc: Global, setup: Setup) -> Result<Hub<PlainRegister>, StoreFault
     match Hub::open(alloc, setup, PlainRegister::new(alloc)) {
         Ok(hub) => Ok(hub),
         Err(failed) => Err(failed.fault),
-    }
-}
-
-/// The same fault of a run.
-fn run_fault(fault: ReplayFault) -> RunFault
-    ensures { result ≡ run_fault fault }
-{
-    match fault {
-        ReplayFault::NoMemory => RunFault::NoMemory,
-        ReplayFault::Store => RunFault::Store,
-        ReplayFault::ReadFailed => RunFault::ReadFailed,
-        ReplayFault::WriteFailed => RunFault::WriteFailed,
     }
 }
 
@@ -162,19 +143,14 @@ fn read_head<R: BufRead>(
     let mut line = Vec::new(alloc);
     while reads.left > 0 {
         let room = LONGEST_HEAD.saturating_sub(head.len());
-        let fed = match next_head_line(input, reads, &mut line, room) {
-            Ok(fed) => fed,
-            Err(fault) => return Err(fault),
-        };
+        let fed = next_head_line(input, reads, &mut line, room)?;
         if is_blank(line.as_slice()) {
             return Ok(head);
         }
         if line.len() + usize::from(fed) > room {
             return Err(RunFault::HeadTooLong);
         }
-        let Ok(()) = add_line(&mut head, line.as_slice(), fed) else {
-            return Err(RunFault::NoMemory);
-        };
+        add_line(&mut head, line.as_slice(), fed)?;
         if !fed {
             return Ok(head);
         }
@@ -215,11 +191,10 @@ fn next_head_line<R: BufRead>(
 {
     line.clear();
     while reads.left > 0 {
-        match take_piece(input, reads, line, room + 2) {
-            Ok(End::Feed) => return Ok(true),
-            Ok(End::Input) => return Ok(false),
-            Ok(End::Open) => {}
-            Err(fault) => return Err(run_fault(fault)),
+        match take_piece(input, reads, line, room + 2)? {
+            End::Feed => return Ok(true),
+            End::Input => return Ok(false),
+            End::Open => {}
         }
         if line.len() > room && !is_blank(line.as_slice()) {
             return Err(RunFault::HeadTooLong);
