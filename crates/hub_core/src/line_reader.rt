@@ -26,7 +26,9 @@ pub(crate) struct Reads {
 
 impl Reads {
     /// All reads are left.
-    pub(crate) fn new() -> Reads {
+    pub(crate) fn new() -> Reads
+        ensures { result ≡ record { left = u32.MAX; ahead = 0 } }
+    {
         Reads {
             left: u32::MAX,
             ahead: 0,

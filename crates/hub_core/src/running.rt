@@ -71,7 +71,8 @@ impl From<ReplayFault> for RunFault {
 }
 
 /// Reads the setup, which is the bytes before the first empty line, or all of them, and replays the rest over a new hub.
-/// HeadTooLong is found as soon as it holds, and before any fault of the setup.
+/// HeadTooLong is found as soon as it holds, and before any fault of the setup. The reads of the head and of the lines are
+/// counted together.
 pub fn run<R: BufRead, W: Write>(
     alloc: Global,
     input: &mut R,

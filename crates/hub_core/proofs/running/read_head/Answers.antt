@@ -1,4 +1,4 @@
-use Rattle.std.proofs.Common.{◌≡◌, ◌+◌, ◌++◌, ◌∙◌, ap, sym, refl, inl, List, ℕ, length, Bool, true, false, rules, arith}
+use Rattle.std.proofs.Common.{◌≡◌, ◌++◌, ◌∙◌, ap, sym, refl, inl, List, ℕ, length, Bool, true, false, rules, arith}
 use mir.Val.{bool_byte}
 use Rattle.hub_core.specs.declared.running.RunFault.TheVariants.{NoMemory}
 use Rattle.hub_core.specs.Reading.{feed_if}
