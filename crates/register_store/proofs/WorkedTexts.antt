@@ -14,7 +14,7 @@ use Rattle.serde_json.specs.Written.{compact_text}
 use Rattle.codes_core.specs.Day.{IsOnlySpelling}
 use Rattle.codes_core.proofs.Days.{only_spelling}
 use Rattle.posting_core.specs.declared.message.Message.{Message}
-use Rattle.posting_core.specs.declared.message.Message.TheVariants.{Move, SignOff}
+use Rattle.posting_core.specs.declared.message.Message.TheVariants.{Move, Pack, SignOff}
 use Rattle.register_store.specs.declared.fault.ReadFault.TheVariants.{NotJson, Missing, BadKind, BadField}
 use Rattle.register_store.specs.declared.key.Key.TheVariants.{Kind, Thing, Place, Day, By}
 use Rattle.register_store.specs.Kinds.{of_json, of_bytes}
@@ -70,6 +70,7 @@ sign_off-reads_back = refl
 -- whatever a message says, its text begins with a brace and a quote
 pub begins : (m : Message) (text : List ℕ) → IsTextOf m text → take 2 text ≡ codes "{\""
 begins (Move x p day) text h = ap (take 2) (h.2 ∙ ap compact_text h.1.2)
+begins (Pack x c day) text h = ap (take 2) (h.2 ∙ ap compact_text h.1.2)
 begins (SignOff name) text h = ap (take 2) (h.2 ∙ ap compact_text h.1)
 
 -- other bytes of the same message: read, and not its text
