@@ -34,12 +34,7 @@ impl Ledger {
     }
 
     /// The spots that an applied message writes: of all that its thing carries, where that comes to another place.
-    fn new_spots(
-        &self,
-        alloc: Global,
-        message: &Message,
-        entry: u64,
-    ) -> Result<NewSpots, NoMemory>
+    fn new_spots(&self, alloc: Global, message: &Message, entry: u64) -> Result<NewSpots, NoMemory>
         requires applied { verdict_in self.now message.now ≡ Applied }
         requires number { entry ≡ length self.now.posted + 1 }
         ensures { IfOk result (λ spots. spots ≡ new_spots self.now.museum self.now.posted message.now) }
@@ -122,7 +117,9 @@ impl Ledger {
                 to: Target::At(self.place_no(place)),
             }),
             Message::Pack {
-                thing, container, ..
+                thing,
+                container,
+                ..
             } => Some(Put {
                 thing: self.thing_no(thing),
                 to: Target::Within(self.thing_no(container)),

@@ -33,12 +33,7 @@ impl Ledger {
         Verdict::Applied
     }
 
-    pub(crate) fn judge_pack(
-        &self,
-        thing: &ThingCode,
-        container: &ThingCode,
-        day: Day,
-    ) -> Verdict
+    pub(crate) fn judge_pack(&self, thing: &ThingCode, container: &ThingCode, day: Day) -> Verdict
         ensures { result ≡ verdict_in self.now (Pack thing.now container.now day) }
     {
         let Some(x) = self.setup.thing(thing) else {

@@ -20,6 +20,6 @@ returns-in-Some-place_to c =
     let allowed = allowed_in B c.args.message.now c.put_of.result c.in-Some.put c.requires.applied c.put_of.ensures c.in-Some.is in
     subst (λ (news : List NewSpot). IfOk c.spots_of.result (λ spots. spots ≡ news))
     (found_spots B c.args.message.now c.in-Some.put c.in-Some-place_to.place c.args.entry c.in-Some-day_of.day c.as_slice.result.now
-      (lawful_kept _ _ c.self.inside.nest _ B c.self.view_is c.self.invariant) (sym c.put_of.ensures ∙ c.in-Some.is) allowed c.requires.number
-      (sym c.day_of.ensures ∙ c.in-Some-day_of.is) (sym c.place_to.ensures ∙ c.in-Some-place_to.is) carried)
+    (lawful_kept _ _ c.self.inside.nest _ B c.self.view_is c.self.invariant) (sym c.put_of.ensures ∙ c.in-Some.is) allowed c.requires.number
+    (sym c.day_of.ensures ∙ c.in-Some-day_of.is) (sym c.place_to.ensures ∙ c.in-Some-place_to.is) carried)
     c.spots_of.ensures
