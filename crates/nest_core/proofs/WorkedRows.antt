@@ -1,10 +1,15 @@
--- Setup files read by the definitions, row by row.
-use Rattle.std.specs.Prelude.{◌≡◌, List, ℕ, [], ◌∷◌, true, false, None, Some, codes, refl}
+-- The definitions computed on worked rows: setup files read row by row, and what is put where.
+use Rattle.std.specs.Prelude.{◌≡◌, List, ℕ, [], ◌∷◌, map, true, false, None, Some, codes, refl}
 use Rattle.csv.specs.Machine.{next_record}
 use Rattle.csv.specs.Reading.{records_from, strip_bom}
 use Rattle.nest_core.specs.Museum.{Museum}
 use Rattle.nest_core.specs.SetupRows.{first_fault, museum_of, rows_of}
 use Rattle.nest_core.specs.SetupTexts.{setup_rows}
+use Rattle.nest_core.specs.declared.put.Put.{Put}
+use Rattle.nest_core.specs.declared.put.Target.TheVariants.{At, Within}
+use Rattle.nest_core.specs.declared.nest.PackBar.TheVariants.{Cycle, TooDeep}
+use Rattle.nest_core.specs.Puts.{last, chain, place, carried, contents}
+use Rattle.nest_core.specs.Nest.{pack_bar, moved_by}
 use Rattle.nest_core.specs.declared.setup_fault.SetupFault.TheVariants.{BadCode, BadFields, BadKind, Repeated, UnknownNormal}
 
 abbrev file : List ℕ
@@ -62,3 +67,115 @@ marked = refl
 pub marked_twice : first_fault [] (rows_of (0xEF ∷ 0xBB ∷ 0xBF ∷ 0xEF ∷ 0xBB ∷ 0xBF ∷ codes "station,GAL")) ≡ Some (BadKind 1)
 unfolding next_record records_from strip_bom
 marked_twice = refl
+
+-- What is put where, by puts alone: each list stands newest first. Six things, of which 0 and 1 are crates.
+
+abbrev at : ℕ → ℕ → Put
+at x p = record { thing = x; to = At p }
+
+abbrev into : ℕ → ℕ → Put
+into x c = record { thing = x; to = Within c }
+
+-- contents_in_order: the content list of crate 0 after each put, and the things whose place the put changes
+
+abbrev one_put : List Put
+one_put = at 0 0 ∷ []
+
+contents_in_order-1 : (moved_by 6 [] (at 0 0) ≡ 0 ∷ []) × (contents one_put 0 ≡ [])
+contents_in_order-1 = (refl, refl)
+
+abbrev two_puts : List Put
+two_puts = into 2 0 ∷ one_put
+
+contents_in_order-2 : (moved_by 6 one_put (into 2 0) ≡ 2 ∷ []) × (contents two_puts 0 ≡ 2 ∷ [])
+contents_in_order-2 = (refl, refl)
+
+abbrev three_puts : List Put
+three_puts = into 3 0 ∷ two_puts
+
+contents_in_order-3 : (moved_by 6 two_puts (into 3 0) ≡ 3 ∷ []) × (contents three_puts 0 ≡ 2 ∷ 3 ∷ [])
+contents_in_order-3 = (refl, refl)
+
+-- packed again, a thing goes to the end and doesn't move
+abbrev four_puts : List Put
+four_puts = into 2 0 ∷ three_puts
+
+contents_in_order-4 : (moved_by 6 three_puts (into 2 0) ≡ []) × (contents four_puts 0 ≡ 3 ∷ 2 ∷ [])
+contents_in_order-4 = (refl, refl)
+
+-- taken out at the place where the crate is, it doesn't move either
+abbrev five_puts : List Put
+five_puts = at 3 0 ∷ four_puts
+
+contents_in_order-5 : (moved_by 6 four_puts (at 3 0) ≡ []) × (contents five_puts 0 ≡ 2 ∷ [])
+contents_in_order-5 = (refl, refl)
+
+-- the crate takes along what is in it, and not what was taken out
+abbrev six_puts : List Put
+six_puts = at 0 2 ∷ five_puts
+
+contents_in_order-6 : (moved_by 6 five_puts (at 0 2) ≡ 0 ∷ 2 ∷ []) × (contents six_puts 0 ≡ 2 ∷ [])
+contents_in_order-6 = (refl, refl)
+
+contents_in_order-carried : carried 6 six_puts 0 ≡ 0 ∷ 2 ∷ []
+contents_in_order-carried = refl
+
+contents_in_order-places : map (place 6 six_puts) (0 ∷ 1 ∷ 2 ∷ 3 ∷ []) ≡ Some 2 ∷ None ∷ Some 2 ∷ Some 0 ∷ []
+contents_in_order-places = refl
+
+-- crate_in_crate: crate 1 in crate 0, and thing 2 in crate 1
+
+abbrev crate_in_crate : List Put
+crate_in_crate = into 2 1 ∷ into 1 0 ∷ at 1 0 ∷ at 0 0 ∷ []
+
+crate_in_crate-chain : chain 6 crate_in_crate 2 ≡ 1 ∷ 0 ∷ []
+crate_in_crate-chain = refl
+
+crate_in_crate-carried : carried 6 crate_in_crate 0 ≡ 0 ∷ 1 ∷ 2 ∷ []
+crate_in_crate-carried = refl
+
+crate_in_crate-moved : moved_by 6 crate_in_crate (at 0 2) ≡ 0 ∷ 1 ∷ 2 ∷ []
+crate_in_crate-moved = refl
+
+-- cycle: crate 1 is in crate 0; neither 1 nor 0 itself can take 0, and 0 put where it is moves nothing
+
+abbrev cycle : List Put
+cycle = into 1 0 ∷ at 1 0 ∷ at 0 0 ∷ []
+
+cycle-before : pack_bar (last (at 1 0 ∷ at 0 0 ∷ [])) 6 8 1 0 ≡ None
+cycle-before = refl
+
+cycle-around : pack_bar (last cycle) 6 8 0 1 ≡ Some Cycle
+cycle-around = refl
+
+cycle-itself : pack_bar (last cycle) 6 8 0 0 ≡ Some Cycle
+cycle-itself = refl
+
+cycle-moved : moved_by 6 cycle (at 0 0) ≡ []
+cycle-moved = refl
+
+-- too_deep: crates 0 to 8, each in the one before, thing 9 in the last but one; crate 11 stands elsewhere
+
+abbrev eight_crates : List Put
+eight_crates = into 9 7 ∷ into 7 6 ∷ into 6 5 ∷ into 5 4 ∷ into 4 3 ∷ into 3 2 ∷ into 2 1 ∷ into 1 0 ∷ at 0 0 ∷ []
+
+-- eight containers above it are as many as may be
+too_deep-last : pack_bar (last eight_crates) 12 8 8 7 ≡ None
+too_deep-last = refl
+
+abbrev nine_crates : List Put
+nine_crates = at 11 2 ∷ into 8 7 ∷ eight_crates
+
+too_deep-chain : chain 12 nine_crates 8 ≡ 7 ∷ 6 ∷ 5 ∷ 4 ∷ 3 ∷ 2 ∷ 1 ∷ 0 ∷ []
+too_deep-chain = refl
+
+too_deep-thing : pack_bar (last nine_crates) 12 8 10 8 ≡ Some TooDeep
+too_deep-thing = refl
+
+-- what lies deep inside the packed crate counts too
+too_deep-inside : pack_bar (last nine_crates) 12 8 0 11 ≡ Some TooDeep
+too_deep-inside = refl
+
+-- under the limit of new stores both may be packed
+too_deep-limit : (pack_bar (last nine_crates) 12 12 10 8 ≡ None) × (pack_bar (last nine_crates) 12 12 0 11 ≡ None)
+too_deep-limit = (refl, refl)
