@@ -84,6 +84,14 @@ fn read_fails(rt: HostRuntime) -> Result<(), Fail> {
     Ok(())
 }
 
+#[test]
+fn read_fails_in_the_head(rt: HostRuntime) -> Result<(), Fail> {
+    let (ended, written) = run_broken(rt.alloc(), SETUP.as_bytes())?;
+    assert_eq!(&rt; ended, Err(RunFault::ReadFailed));
+    assert_eq!(&rt; written.as_str(), "");
+    Ok(())
+}
+
 /// How a replay ends whose writer has room for so many bytes, and what is written.
 fn replay_full(
     alloc: Global,
