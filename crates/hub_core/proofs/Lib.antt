@@ -1,3 +1,4 @@
+pub mod RunLemmas
 pub mod StoreLemmas
 pub mod KeptLemmas
 pub mod ReplayLemmas
@@ -6,6 +7,8 @@ pub mod Written
 pub mod FeedLemmas
 pub mod PostedLemmas
 pub mod LineLemmas
+pub mod HeadLemmas
+pub mod HeadTaken
 pub mod ReplyLemmas
 pub mod PostLemmas
 pub mod OpenLemmas

@@ -7,3 +7,4 @@ pub mod Reading
 pub mod StandsFor
 pub mod Openings
 pub mod Replayed
+pub mod WholeRun

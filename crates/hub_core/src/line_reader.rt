@@ -1,5 +1,5 @@
 //! Lines read one after the other.
-ghost use Rattle.std.specs.Prelude.{◌≡◌, ◌<◌, ◌≤◌, ◌+◌, ◌++◌, ◌∷◌, [], List, ℕ, take, length, IfOk, OnOk, OnErr};
+ghost use Rattle.std.specs.Prelude.{◌≡◌, ◌<◌, ◌≤◌, ◌⊎◌, ◌+◌, ◌++◌, ◌∷◌, [], List, ℕ, take, length, IfOk, IfErr, OnOk, OnErr};
 ghost use Rattle.std.specs.Io.KnownBytes.{Keeps};
 ghost use Rattle.hub_core.specs.Reading.{HasNoFeed, TakesPiece, TakesLine, TakesStart};
 
@@ -88,6 +88,7 @@ pub(crate) fn take_piece<R: BufRead>(
     requires { 0 < reads.old.left }
     ensures piece { IfOk result (λ end. TakesPiece (R.remaining input.old) (R.remaining input.new) most line.old.items line.new.items end) }
     ensures fault { OnErr result (Keeps (R.remaining input.old) (R.remaining input.new)) }
+    ensures cause { IfErr result (λ fault. (fault ≡ ReplayFault.NoMemory) ⊎ (fault ≡ ReplayFault.ReadFailed)) }
     ensures reads { reads.new.left + 1 ≡ reads.old.left }
 {
     reads.left -= 1;
@@ -133,7 +134,8 @@ fn feed_at(bytes: &[u8]) -> usize
 
 /// Keeps more bytes of a line, as far as there is room.
 fn keep(line: &mut Vec<u8>, most: usize, piece: &[u8]) -> Result<(), ReplayFault>
-    ensures { OnOk result ((bytes : List ℕ) → line.old.items ≡ take most bytes → line.new.items ≡ take most (bytes ++ piece.now)) }
+    ensures kept { OnOk result ((bytes : List ℕ) → line.old.items ≡ take most bytes → line.new.items ≡ take most (bytes ++ piece.now)) }
+    ensures fault { IfErr result (λ fault. fault ≡ ReplayFault.NoMemory) }
 {
     let room = most.saturating_sub(line.len());
     let count = piece.len().min(room);

@@ -1,11 +1,16 @@
 //! A run: a setup and lines in, replies out.
-ghost use Rattle.std.specs.Prelude.{◌≡◌, ◌≤◌, ◌<◌, OnOk};
+ghost use Rattle.std.specs.Prelude.{◌≡◌, ◌≢◌, ◌≤◌, ◌<◌, ◌+◌, ◌++◌, false, OnOk, IfOk, IfErr, IfSome, MatchResult};
+ghost use Rattle.std.specs.Io.KnownBytes.{Appends, IsAtEnd};
+ghost use Rattle.nest_core.specs.SetupRows.{rows_of, museum_of, setup_fault};
+ghost use Rattle.nest_core.specs.declared.setup_fault.SetupFault.{SetupFault};
+ghost use Rattle.hub_core.specs.Reading.{TakesLine, feed_if};
+ghost use Rattle.hub_core.specs.LineText.{head, is_empty, without_return};
+ghost use Rattle.hub_core.specs.WholeRun.{head_fault, run_text, AfterRun, OpensHub, IsFresh, TakesHead, BeforeLines, StopsInLine};
 
 use crate::line_reader::{End, Reads, take_piece};
 use crate::line_reply::without_return;
 use crate::replaying::replay_from;
 use crate::{Hub, ReplayFault};
-use codes_core::NoMemory;
 use nest_core::{Setup, SetupFault};
 use register_store::{PlainRegister, StoreFault};
 use std::alloc::{AllocError, Global};
@@ -49,50 +54,75 @@ impl From<AllocError> for RunFault {
     }
 }
 
-impl From<NoMemory> for RunFault {
+impl From<ReplayFault> for RunFault {
     ghost use Rattle.std.specs.Prelude.{◌≡◌};
-    ghost use Rattle.hub_core.specs.declared.running.RunFault.TheVariants as faults;
+    ghost use Rattle.hub_core.specs.WholeRun.{run_fault};
 
-    ghost from_gives = { λ _ e. e ≡ faults.NoMemory };
+    ghost from_gives = { λ fault e. e ≡ run_fault fault };
 
-    fn from(_fault: NoMemory) -> RunFault {
-        RunFault::NoMemory
+    fn from(fault: ReplayFault) -> RunFault {
+        match fault {
+            ReplayFault::NoMemory => RunFault::NoMemory,
+            ReplayFault::Store => RunFault::Store,
+            ReplayFault::ReadFailed => RunFault::ReadFailed,
+            ReplayFault::WriteFailed => RunFault::WriteFailed,
+        }
     }
 }
 
 /// Reads the setup, which is the bytes before the first empty line, or all of them, and replays the rest over a new hub.
-/// HeadTooLong is found as soon as it holds.
+/// HeadTooLong is found as soon as it holds, and before any fault of the setup.
 pub fn run<R: BufRead, W: Write>(
     alloc: Global,
     input: &mut R,
     output: &mut W,
-) -> Result<(), RunFault> {
+) -> Result<(), RunFault>
+    // All bytes are read, their head has no fault, and what is written is their text.
+    ensures bytes_to_bytes { OnOk result (IfSome (R.remaining input.old) (λ bytes. (head_fault (head bytes) ≡ None)
+        × IsAtEnd (R.remaining input.new) × Appends (W.contents output.old) (W.contents output.new) (run_text bytes))) }
+    ensures faults { IfErr result (AfterRun (R.remaining input.old) (R.remaining input.new) (W.contents output.old) (W.contents output.new)) }
+{
     let mut reads = Reads::new();
-    let head = read_head(alloc, input, &mut reads)?;
+    let mut hub = opened(alloc, input, &mut reads)?;
+    replay_from(alloc, input, output, &mut hub, reads)?;
+    Ok(())
+}
+
+/// Reads the head, and opens a hub with its setup and nothing posted.
+fn opened<R: BufRead>(
+    alloc: Global,
+    input: &mut R,
+    reads: &mut Reads,
+) -> Result<Hub<PlainRegister>, RunFault>
+    ensures hub { IfOk result (OpensHub (R.remaining input.old) (R.remaining input.new)) }
+    ensures up { IfOk result (λ hub. hub.down ≡ false) }
+    ensures fault { IfErr result (BeforeLines (R.remaining input.old) (R.remaining input.new)) }
+{
+    let head = read_head(alloc, input, reads)?;
     let setup = read_setup(alloc, head.as_slice())?;
-    let mut hub = match Hub::open(alloc, setup, PlainRegister::new(alloc)) {
-        Ok(hub) => hub,
-        Err(failed) if failed.fault == StoreFault::NoMemory => return Err(RunFault::NoMemory),
-        Err(_) => return Err(RunFault::Store),
-    };
-    match replay_from(alloc, input, output, &mut hub, reads) {
-        Ok(()) => Ok(()),
-        Err(fault) => Err(run_fault(fault)),
+    match new_hub(alloc, setup) {
+        Ok(hub) => Ok(hub),
+        Err(_) => Err(RunFault::NoMemory),
     }
 }
 
-/// The same fault of a run.
-fn run_fault(fault: ReplayFault) -> RunFault {
-    match fault {
-        ReplayFault::NoMemory => RunFault::NoMemory,
-        ReplayFault::Store => RunFault::Store,
-        ReplayFault::ReadFailed => RunFault::ReadFailed,
-        ReplayFault::WriteFailed => RunFault::WriteFailed,
+/// A hub with this setup and nothing posted. Nothing but memory can lack for it.
+fn new_hub(alloc: Global, setup: Setup) -> Result<Hub<PlainRegister>, StoreFault>
+    ensures fresh { IfOk result (λ hub. IsFresh hub setup) }
+    ensures fault { IfErr result (λ fault. fault ≡ StoreFault.NoMemory) }
+{
+    match Hub::open(alloc, setup, PlainRegister::new(alloc)) {
+        Ok(hub) => Ok(hub),
+        Err(failed) => Err(failed.fault),
     }
 }
 
 /// The setup that the head lists.
-fn read_setup(alloc: Global, head: &[u8]) -> Result<Setup, RunFault> {
+fn read_setup(alloc: Global, head: &[u8]) -> Result<Setup, RunFault>
+    ensures { MatchResult result
+        (λ setup. (setup_fault head.now ≡ None) × (setup ≡ museum_of (rows_of head.now)))
+        (λ fault. fault ≢ RunFault.NoMemory → (cause : SetupFault) × (fault ≡ RunFault.Setup cause) × (setup_fault head.now ≡ Some cause)) }
+{
     match Setup::read(alloc, head) {
         Ok(setup) => Ok(setup),
         Err(SetupFault::NoMemory) => Err(RunFault::NoMemory),
@@ -105,13 +135,16 @@ fn read_head<R: BufRead>(
     alloc: Global,
     input: &mut R,
     reads: &mut Reads,
-) -> Result<Vec<u8>, RunFault> {
+) -> Result<Vec<u8>, RunFault>
+    ensures head { IfOk result (λ head. TakesHead (R.remaining input.old) (R.remaining input.new) head.items) }
+    ensures fault { IfErr result (BeforeLines (R.remaining input.old) (R.remaining input.new)) }
+{
     let mut head = Vec::new(alloc);
     let mut line = Vec::new(alloc);
     while reads.left > 0 {
         let room = LONGEST_HEAD.saturating_sub(head.len());
         let fed = next_head_line(input, reads, &mut line, room)?;
-        if without_return(line.as_slice()).is_empty() {
+        if is_blank(line.as_slice()) {
             return Ok(head);
         }
         if line.len() + usize::from(fed) > room {
@@ -125,8 +158,17 @@ fn read_head<R: BufRead>(
     Err(RunFault::ReadFailed)
 }
 
+/// Whether the line is empty, but perhaps for a carriage return.
+fn is_blank(line: &[u8]) -> bool
+    ensures { result ≡ is_empty (without_return line.now) }
+{
+    without_return(line).is_empty()
+}
+
 /// Adds a line to the head, with its line feed where it has one.
-fn add_line(head: &mut Vec<u8>, line: &[u8], fed: bool) -> Result<(), AllocError> {
+fn add_line(head: &mut Vec<u8>, line: &[u8], fed: bool) -> Result<(), AllocError>
+    ensures { OnOk result (head.new.items ≡ head.old.items ++ (line.now ++ feed_if fed)) }
+{
     head.extend_from_slice(line)?;
     if fed {
         head.extend_from_slice(b"\n")?;
@@ -143,17 +185,18 @@ fn next_head_line<R: BufRead>(
     room: usize,
 ) -> Result<bool, RunFault>
     requires { room ≤ LONGEST_HEAD }
+    ensures line { IfOk result (λ fed. TakesLine (R.remaining input.old) (R.remaining input.new) (room + 2) line.new.items fed) }
+    ensures fault { IfErr result (λ fault. StopsInLine (R.remaining input.old) (R.remaining input.new) room fault) }
     ensures reads { OnOk result (reads.new.left < reads.old.left) }
 {
     line.clear();
     while reads.left > 0 {
-        match take_piece(input, reads, line, room + 2) {
-            Ok(End::Feed) => return Ok(true),
-            Ok(End::Input) => return Ok(false),
-            Ok(End::Open) => {}
-            Err(fault) => return Err(run_fault(fault)),
+        match take_piece(input, reads, line, room + 2)? {
+            End::Feed => return Ok(true),
+            End::Input => return Ok(false),
+            End::Open => {}
         }
-        if line.len() > room && !without_return(line.as_slice()).is_empty() {
+        if line.len() > room && !is_blank(line.as_slice()) {
             return Err(RunFault::HeadTooLong);
         }
     }

@@ -22,6 +22,6 @@ returns-clause-piece g c =
       bytes = take feed.result shown;
       taken = subst (Consumes _ _) cut.1 moved.0;
       one = feed.ensures.before;
-      kept = λ line e. c.in_ok-keep.ensures line e;
+      kept = λ line e. c.in_ok-keep.ensures.kept line e;
       last = λ e. moved.1 (cut.2 e);
     }

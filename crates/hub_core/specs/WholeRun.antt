@@ -1,0 +1,97 @@
+-- What a run leaves. `i` and `i'` are what the reader has left before and after, `o` and `o'` what the writer holds.
+use Rattle.std.specs.Prelude.{ℕ, ◌≡◌, ◌≤◌, ◌<◌, ◌⊎◌, nat_lt, Bool, false, List, [], length, Option, Some, None, IfSome, ⊤, if◌then◌else◌}
+use Rattle.std.specs.Option.{option_map}
+use Rattle.std.specs.List.{list_any}
+use Rattle.std.specs.Io.KnownBytes.{Consumes, Keeps}
+use Rattle.nest_core.specs.Museum.{Museum}
+use Rattle.nest_core.specs.SetupRows.{rows_of, museum_of, setup_fault}
+use Rattle.register_store.specs.declared.plain.TheConstants.{NEW_DEPTH}
+use Rattle.register_store.specs.StoredRows.{AreSame}
+use Rattle.register_store.specs.Plain.{Kept}
+use Rattle.hub_core.specs.declared.replaying.ReplayFault.{ReplayFault}
+use Rattle.hub_core.specs.declared.replaying.ReplayFault.TheVariants as replay
+use Rattle.hub_core.specs.declared.running.TheConstants.{LONGEST_HEAD}
+use Rattle.hub_core.specs.declared.running.RunFault.{RunFault}
+use Rattle.hub_core.specs.declared.running.RunFault.TheVariants.{NoMemory, Store, ReadFailed, WriteFailed, Setup, HeadTooLong}
+use Rattle.hub_core.specs.Reading.{HasNoFeed}
+use Rattle.hub_core.specs.LineText.{pieces, ended, is_blank, head, after_head, text}
+use Rattle.hub_core.specs.StandsFor.{State, StandsFor}
+use Rattle.hub_core.specs.Replayed.{AfterFault}
+
+-- why a head is refused: it is too long, else the first fault of its setup
+abbrev pub head_fault : List ℕ → Option RunFault
+head_fault bytes = if nat_lt LONGEST_HEAD (length bytes) then Some HeadTooLong else option_map Setup (setup_fault bytes)
+
+-- the setup that a run's bytes list
+abbrev pub setup_in : List ℕ → Museum
+setup_in bytes = museum_of (rows_of (head bytes))
+
+-- what a run writes for its bytes: the replies to the lines after the head, from nothing posted
+abbrev pub run_text : List ℕ → List ℕ
+run_text bytes = text (setup_in bytes) NEW_DEPTH [] [] (after_head bytes)
+
+-- an empty line has ended
+abbrev pub has_empty_line : List ℕ → Bool
+has_empty_line bytes = list_any is_blank (pieces (ended bytes))
+
+-- a head was read in part: its empty line has not ended, and it isn't too long so far
+pub record InHead (i i' : Option (List ℕ)) : Type 0 where
+  pub bytes : List ℕ
+  pub read : Consumes i i' bytes
+  pub part : has_empty_line bytes ≡ false
+  pub short : length (head bytes) ≤ LONGEST_HEAD
+
+-- the head and its empty line were read, and the head isn't too long
+abbrev pub TakesHead : Option (List ℕ) → Option (List ℕ) → List ℕ → Type 0
+TakesHead i i' taken = IfSome i (λ bytes. (taken ≡ head bytes) × (length taken ≤ LONGEST_HEAD) × (i' ≡ Some (after_head bytes)))
+
+-- why a line of a head could not be read, where the head has room for so many bytes more
+abbrev pub IsLineFault : ℕ → List ℕ → RunFault → Type 0
+IsLineFault room line NoMemory = length (head line) ≤ room
+IsLineFault room line Store = ⊥
+IsLineFault room line ReadFailed = length (head line) ≤ room
+IsLineFault room line WriteFailed = ⊥
+IsLineFault room line (Setup fault) = ⊥
+IsLineFault room line HeadTooLong = room < length (head line)
+
+-- the start of a line of a head was taken
+pub record StopsInLine (i i' : Option (List ℕ)) (room : ℕ) (fault : RunFault) : Type 0 where
+  pub bytes : List ℕ
+  pub taken : Consumes i i' bytes
+  pub one : HasNoFeed bytes
+  pub cause : IsLineFault room bytes fault
+
+-- why a run met no line
+abbrev pub BeforeLines : Option (List ℕ) → Option (List ℕ) → RunFault → Type 0
+BeforeLines i i' NoMemory = InHead i i' ⊎ ((taken : List ℕ) × TakesHead i i' taken)
+BeforeLines i i' Store = ⊥
+BeforeLines i i' ReadFailed = InHead i i'
+BeforeLines i i' WriteFailed = ⊥
+BeforeLines i i' (Setup fault) = IfSome i (λ bytes. (head_fault (head bytes) ≡ Some (Setup fault)) × (i' ≡ Some (after_head bytes)))
+BeforeLines i i' HeadTooLong = IfSome i (λ bytes. head_fault (head bytes) ≡ Some HeadTooLong)
+
+-- a fault of a replay, as a run tells it
+abbrev pub run_fault : ReplayFault → RunFault
+run_fault replay.NoMemory = NoMemory
+run_fault replay.Store = Store
+run_fault replay.ReadFailed = ReadFailed
+run_fault replay.WriteFailed = WriteFailed
+
+-- the hub of a run, over a register in memory: it has this setup and nothing posted
+pub record IsFresh (hub : State Kept) (S : Museum) : Type 0 where
+  pub museum : hub.book.museum ≡ S
+  pub depth : hub.book.depth ≡ NEW_DEPTH
+  pub stands : StandsFor (λ register. ⊤) (λ register c. AreSame register.content c) hub [] []
+
+-- the head has no fault and is read, and the hub has its setup
+abbrev pub OpensHub : Option (List ℕ) → Option (List ℕ) → State Kept → Type 0
+OpensHub i i' hub = IfSome i (λ bytes. (head_fault (head bytes) ≡ None) × (i' ≡ Some (after_head bytes)) × IsFresh hub (setup_in bytes))
+
+-- a run met a fault in its lines, after a head without fault: what their replay leaves, over the run's hub
+abbrev pub InLines : Option (List ℕ) → Option (List ℕ) → Option (List ℕ) → Option (List ℕ) → ReplayFault → Type 0
+InLines i i' o o' fault = IfSome i (λ bytes. (head_fault (head bytes) ≡ None)
+    × ((hub : State Kept) × AfterFault (setup_in bytes) NEW_DEPTH [] [] (Some (after_head bytes)) i' o o' (λ register. ⊤) (λ register c. AreSame register.content c) hub fault))
+
+-- after each fault of a run; before its lines nothing is written
+abbrev pub AfterRun : Option (List ℕ) → Option (List ℕ) → Option (List ℕ) → Option (List ℕ) → RunFault → Type 0
+AfterRun i i' o o' fault = (BeforeLines i i' fault × Keeps o o') ⊎ ((met : ReplayFault) × (fault ≡ run_fault met) × InLines i i' o o' met)
