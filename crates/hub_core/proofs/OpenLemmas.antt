@@ -1,5 +1,5 @@
 -- A hub over a list of entries that it finds.
-use Rattle.std.proofs.Common.{◌≡◌, ℕ, zero, suc, ◌+◌, ◌<◌, ◌≤◌, ◌==◌, ◌&&◌, not, Bool, true, false, List, [], ◌∷◌, ◌++◌, length, Option, Some, None, Result, Ok, Err, IfErr, inl, inr, get_or, refl, ap, ◌∙◌, sym, subst, arith, append_assoc}
+use Rattle.std.proofs.Common.{◌≡◌, ℕ, zero, suc, ◌+◌, ◌<◌, ◌≤◌, ◌==◌, ◌&&◌, not, Bool, true, false, List, [], ◌∷◌, ◌++◌, length, Option, Some, None, inl, inr, get_or, refl, ap, ◌∙◌, sym, subst, arith, append_assoc}
 use Rattle.std.specs.Prelude.{map, reverse, replicate, slice_get, slice_set, nat_le, All}
 use Rattle.std.proofs.lemmas.List.Elements.{All-from_get_or}
 use Rattle.std.specs.List.Sorted.{IsPermutation}
@@ -221,8 +221,3 @@ judge_fault S depth c P Store bound list of h = absurd h
 judge_fault S depth c P OtherSetup bound list of h = absurd h
 judge_fault S depth c P OtherVersion bound list of h = absurd h
 judge_fault S depth c P (Damaged at) bound list of h = inr (inr (inl (record { depth = depth; bound = bound; entries = P; list = list; stationed = of; wrong = h })))
-
--- what holds of the error that a call hands on
-pub on_fault : {T : Type 0} (r : Result T StoreFault) (Q : StoreFault → Type 0) (fault : StoreFault) → IfErr r (λ e. e ≡ fault) → Q fault → IfErr r Q
-on_fault (Ok x) Q fault is q = tt
-on_fault (Err e) Q fault is q = subst Q (sym is) q

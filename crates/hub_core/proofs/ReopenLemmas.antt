@@ -17,6 +17,7 @@ use Rattle.register_store.specs.Registers.{is_failure, is_new, bound_by, bound_t
 use Rattle.register_store.proofs.OneList.{as_many, one_list}
 use Rattle.station_core.specs.Runs.{Arrived}
 use Rattle.hub_core.proofs.RowOrder.{at_number}
+use Rattle.hub_core.proofs.StoreLemmas.{one_depth}
 use Rattle.hub_core.proofs.StopLemmas.{Either}
 use Rattle.hub_core.specs.Points.{entry_of, post}
 use Rattle.hub_core.specs.StandsFor.{HasStore, HasSomeStore}
@@ -55,13 +56,6 @@ follows_in : (S : Museum) (depth : ℕ) (before after : List Entry) (e : Entry) 
 follows_in S depth before [] e law = law.0
 follows_in S depth before (f ∷ after) e law = follows_in S depth before after e law.1
 
--- a store is made with one depth limit
-one_depth : (a b : ℕ) (meta : List MetaRow) → IsPermutation (rows_of_meta a) meta → IsPermutation (rows_of_meta b) meta → a ≡ b
-one_depth a b meta h k =
-    let one : sum_by (λ (row : MetaRow). row.val) (rows_of_meta a) ≡ sum_by (λ (row : MetaRow). row.val) (rows_of_meta b) =
-    sym (sum_by-IsPermutation (λ (row : MetaRow). row.val) (rows_of_meta a) meta h) ∙ sum_by-IsPermutation (λ (row : MetaRow). row.val) (rows_of_meta b) meta k in
-    omega (arith, one)
-
 module _ (S : Museum) (depth : ℕ) (P : List Entry) (c : Content) (law : IsLawful S depth P) (store : IsStoreOf S depth P c) where
   is_old : is_new c.meta ≡ false
   is_old = by c.meta store.bound.meta
@@ -96,7 +90,7 @@ module _ (S : Museum) (depth : ℕ) (P : List Entry) (c : Content) (law : IsLawf
   no_wrong_entry : (at : ℕ) → HasWrongEntry S c at → ⊥
   no_wrong_entry at h =
       let list : h.entries ≡ P = one_list h.entries P c h.list store.list in
-      let limit : h.depth ≡ depth = one_depth h.depth depth c.meta h.bound.meta store.bound.meta in
+      let limit : h.depth ≡ depth = one_depth h.depth depth (IsPermutation-trans _ _ _ h.bound.meta (IsPermutation-sym _ _ store.bound.meta)) in
       let wrong : IsFirstUnlawful S depth P at = subst (λ d. IsFirstUnlawful S d P at) limit (subst (λ (O : List Entry). IsFirstUnlawful S h.depth O at) list h.wrong) in
       wrong.wrong (follows_in S depth wrong.before wrong.after wrong.entry (subst (IsLawful S depth) wrong.all law))
 

@@ -1,5 +1,5 @@
 -- A run: the hub over nothing posted, and the lines after the head.
-use Rattle.std.proofs.Common.{◌≡◌, ℕ, inl, inr, ◌∷◌, true, true≢false, List, [], length, length-append, Option, None, Some, refl, ap, sym, subst, arith}
+use Rattle.std.proofs.Common.{◌≡◌, ◌≢◌, ℕ, inl, inr, ◌∷◌, true, true≢false, List, [], length, length-append, Option, None, Some, Result, Err, IfErr, IsErrAnd, refl, ap, sym, subst, arith}
 use Rattle.std.specs.Prelude.{IfSome, ⊤}
 use Rattle.std.specs.Io.KnownBytes.{Appends, IsAtEnd}
 use Rattle.std.specs.List.Sorted.{IsPermutation}
@@ -16,11 +16,17 @@ use Rattle.register_store.specs.Plain.{Kept}
 use Rattle.register_store.proofs.OneList.{as_many}
 use Rattle.hub_core.specs.declared.answer.Arrival.{Arrival}
 use Rattle.hub_core.specs.declared.replaying.ReplayFault.{ReplayFault}
+use Rattle.hub_core.specs.declared.replaying.ReplayFault.TheVariants as replay
+use Rattle.hub_core.specs.declared.running.RunFault.{RunFault}
+use Rattle.hub_core.specs.declared.running.RunFault.TheVariants.{NoMemory, Store, ReadFailed, WriteFailed}
+use Rattle.hub_core.specs.Faults.{CountsReplay}
 use Rattle.hub_core.specs.LineText.{head, after_head}
 use Rattle.hub_core.specs.StandsFor.{State, StandsFor}
 use Rattle.hub_core.specs.Openings.{IsOpenFault, CountsFault}
 use Rattle.hub_core.specs.Replayed.{Answered, AfterFault}
-use Rattle.hub_core.specs.WholeRun.{head_fault, setup_in, run_text, IsFresh, OpensHub, InLines}
+use Rattle.hub_core.specs.WholeRun.{head_fault, setup_in, run_text, run_fault, IsFresh, OpensHub, InLines}
+use Rattle.hub_core.proofs.StoreLemmas.{one_depth}
+use Rattle.hub_core.proofs.Written.{if_err}
 use Rattle.hub_core.proofs.ReplayLemmas.{whole_input}
 
 -- nothing kept
@@ -53,10 +59,6 @@ only_memory S (store.Damaged at) (inr (inr (inl wrong))) count =
 only_memory S (store.Damaged at) (inr (inr (inr wrong))) count =
     let none = nil_from_length wrong.entries (no_entries wrong.entries (bound_to S nothing) refl wrong.list) in
     absurd (wrong.wrong (subst (λ P. IsPermutation (rows_of_spots S P) []) (sym none) (IsPermutation-refl [])))
-
--- a store says one depth limit
-one_depth : (d e : ℕ) → IsPermutation (rows_of_meta d) (rows_of_meta e) → d ≡ e
-one_depth d e same = let sums = sum_by-IsPermutation (λ (row : MetaRow). row.val) _ _ same in omega arith
 
 abbrev Quiet : Kept → Type 0
 Quiet register = ⊤
@@ -104,3 +106,10 @@ lines_fault (Some bytes) i1 i2 o o' hub new fault opens after =
             (subst (λ (left : Option (List ℕ)). AfterFault hub.book.museum hub.book.depth [] [] left i2 o o' Quiet Holds new fault) opens.1 (after [] [] fresh.stands))),
       ),
     )
+
+-- a register that never refused makes no fault of the store
+pub no_store : {U : Type 0} (r : Result U RunFault) (met : ReplayFault) → IsErrAnd r (λ fault. fault ≡ run_fault met) → CountsReplay {T = U} 0 0 (Err met) → IfErr r (λ fault. fault ≢ Store)
+no_store r replay.NoMemory is count = if_err r (λ fault. fault ≢ Store) NoMemory is (λ same. absurd (cc))
+no_store r replay.Store is count = absurd (omega (arith, count))
+no_store r replay.ReadFailed is count = if_err r (λ fault. fault ≢ Store) ReadFailed is (λ same. absurd (cc))
+no_store r replay.WriteFailed is count = if_err r (λ fault. fault ≢ Store) WriteFailed is (λ same. absurd (cc))

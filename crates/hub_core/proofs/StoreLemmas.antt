@@ -1,9 +1,9 @@
 -- What a register has of a posted list, after one more posting.
-use Rattle.std.proofs.Common.{◌≡◌, ℕ, ◌+◌, List, ◌∷◌, ◌++◌, length, Result, Ok, Err, ◌⊎◌, inl, inr, ap, ◌∙◌, sym, subst}
+use Rattle.std.proofs.Common.{◌≡◌, ℕ, ◌+◌, List, ◌∷◌, ◌++◌, length, Result, Ok, Err, ◌⊎◌, inl, inr, ap, ◌∙◌, sym, subst, arith}
 use Rattle.std.specs.Prelude.{reverse}
 use Rattle.std.specs.List.Sorted.{IsPermutation}
 use Rattle.std.specs.Result.{OnErr}
-use Rattle.std.proofs.lemmas.List.Sorted.{IsPermutation-cons, IsPermutation-append_right}
+use Rattle.std.proofs.lemmas.List.Sorted.{IsPermutation-cons, IsPermutation-append_right, sum_by-IsPermutation}
 use Rattle.nest_core.specs.Museum.{Museum}
 use Rattle.posting_core.specs.declared.message.Message.{Message}
 use Rattle.posting_core.specs.declared.entry.Entry.{Entry}
@@ -11,10 +11,10 @@ use Rattle.posting_core.specs.declared.entry.Changes.{Changes}
 use Rattle.posting_core.specs.declared.entry.NewSpot.{NewSpot}
 use Rattle.posting_core.specs.Book.{Book, changes_of}
 use Rattle.station_core.specs.Runs.{Arrived}
-use Rattle.register_store.specs.StoredRows.{Content, PostingRow, IsPostingRow, IsStoreOf, written, rows_of_spots, with_posted}
+use Rattle.register_store.specs.StoredRows.{Content, MetaRow, PostingRow, IsPostingRow, IsStoreOf, written, rows_of_meta, rows_of_spots, with_posted}
 use Rattle.hub_core.specs.Points.{entry_of, post}
 use Rattle.hub_core.specs.declared.answer.HubFault.{HubFault}
-use Rattle.hub_core.specs.Faults.{CountsStore}
+use Rattle.hub_core.specs.Faults.{CountsStore, CountsUp}
 
 -- the rows of a list, with one more entry
 store_next : (S : Museum) (depth : ℕ) (P : List Entry) (e : Entry) (row : PostingRow) (spots : List NewSpot) (c : Content)
@@ -33,6 +33,10 @@ store_posted L r changes row c planned is store =
     store_next L.museum L.depth L.posted (entry_of L.museum L.depth L.posted r) row changes.spots c
     (subst (λ (x : Changes). IsPostingRow x.entry (record { station = r.station; n = r.n; message = r.message; verdict = x.verdict }) row) planned is)
     (ap (λ (x : Changes). x.spots) (sym planned)) store
+
+-- a store says one depth limit
+pub one_depth : (d e : ℕ) → IsPermutation (rows_of_meta d) (rows_of_meta e) → d ≡ e
+one_depth d e same = let sums = sum_by-IsPermutation (λ (row : MetaRow). row.val) _ _ same in omega arith
 
 module _ {R : Type 0} (holds : R → Content → Type 0) where
   abbrev HasRow : R → Entry → Changes → Content → Type 0
@@ -68,3 +72,6 @@ on_err (Err e) p = p
 -- a call that succeeded counts no refusal
 pub counts_ok : {T : Type 0} (old new : ℕ) (r : Result T HubFault) (x : T) → r ≡ Ok x → CountsStore old new r → new ≡ old
 counts_ok {T} old new r x is = subst (λ (q : Result T HubFault). CountsStore old new q → new ≡ old) (sym is) (λ h. h)
+
+pub counts_up_ok : {T : Type 0} (old new : ℕ) (r : Result T HubFault) (x : T) → r ≡ Ok x → CountsUp old new r → new ≡ old
+counts_up_ok {T} old new r x is = subst (λ (q : Result T HubFault). CountsUp old new q → new ≡ old) (sym is) (λ h. h)

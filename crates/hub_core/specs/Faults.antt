@@ -34,3 +34,11 @@ abbrev pub told_of_line : HubFault → ReplayFault
 told_of_line NoMemory = replay.NoMemory
 told_of_line Store = replay.Store
 told_of_line Down = replay.NoMemory
+
+-- a replay tells Store only where the register's count rose so
+abbrev pub CountsReplay : {T : Type 0} → ℕ → ℕ → Result T ReplayFault → Type 0
+CountsReplay old new (Ok x) = new ≡ old
+CountsReplay old new (Err replay.NoMemory) = new ≡ old
+CountsReplay old new (Err replay.Store) = new ≡ min (old + 1) (2 ^ 64 - 1)
+CountsReplay old new (Err replay.ReadFailed) = new ≡ old
+CountsReplay old new (Err replay.WriteFailed) = new ≡ old

@@ -1,5 +1,5 @@
 //! Lines read one after the other.
-ghost use Rattle.std.specs.Prelude.{◌≡◌, ◌<◌, ◌≤◌, ◌⊎◌, ◌+◌, ◌++◌, ◌∷◌, [], List, ℕ, take, length, IfOk, IfErr, OnOk, OnErr};
+ghost use Rattle.std.specs.Prelude.{◌≡◌, ◌≢◌, ◌<◌, ◌≤◌, ◌⊎◌, ◌+◌, ◌++◌, ◌∷◌, [], List, ℕ, take, length, IfOk, IfErr, OnOk, OnErr};
 ghost use Rattle.std.specs.Io.KnownBytes.{Keeps};
 ghost use Rattle.hub_core.specs.Reading.{HasNoFeed, TakesPiece, TakesLine, TakesStart};
 
@@ -47,6 +47,7 @@ pub(crate) fn next_line<R: BufRead, W: Write>(
     ensures line { IfOk result (λ fed. TakesLine (R.remaining input.old) (R.remaining input.new) MOST_KEPT line.new.items fed) }
     ensures fault { OnErr result (TakesStart (R.remaining input.old) (R.remaining input.new)) }
     ensures output { Keeps (W.contents output.old) (W.contents output.new) }
+    ensures cause { IfErr result (λ fault. fault ≢ ReplayFault.Store) }
 {
     line.clear();
     while reads.left > 0 {
@@ -62,7 +63,8 @@ pub(crate) fn next_line<R: BufRead, W: Write>(
 
 /// Hands on what was written.
 pub(crate) fn flush<W: Write>(output: &mut W) -> Result<(), ReplayFault>
-    ensures { Keeps (W.contents output.old) (W.contents output.new) }
+    ensures kept { Keeps (W.contents output.old) (W.contents output.new) }
+    ensures cause { IfErr result (λ fault. fault ≡ ReplayFault.WriteFailed) }
 {
     match output.flush() {
         Ok(()) => Ok(()),
@@ -72,7 +74,8 @@ pub(crate) fn flush<W: Write>(output: &mut W) -> Result<(), ReplayFault>
 
 /// Hands on what was written, unless so many bytes come without waiting.
 fn flush_before_wait<W: Write>(output: &mut W, ahead: usize) -> Result<(), ReplayFault>
-    ensures { Keeps (W.contents output.old) (W.contents output.new) }
+    ensures kept { Keeps (W.contents output.old) (W.contents output.new) }
+    ensures cause { IfErr result (λ fault. fault ≡ ReplayFault.WriteFailed) }
 {
     if ahead > 0 {
         return Ok(());

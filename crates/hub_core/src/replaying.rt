@@ -4,7 +4,7 @@ ghost use Rattle.std.specs.Io.KnownBytes.{Appends, IsAtEnd};
 ghost use Rattle.posting_core.specs.declared.entry.Entry.{Entry};
 ghost use Rattle.hub_core.specs.declared.answer.Arrival.{Arrival};
 ghost use Rattle.hub_core.specs.LineText.{text, arrivals};
-ghost use Rattle.hub_core.specs.Faults.{told_of_line};
+ghost use Rattle.hub_core.specs.Faults.{told_of_line, CountsReplay};
 ghost use Rattle.hub_core.specs.StandsFor.{StandsFor};
 ghost use Rattle.hub_core.specs.Replayed.{Answered, AfterFault};
 
@@ -63,6 +63,7 @@ pub fn replay<R: BufRead, W: Write, S: Register>(
     ensures faults { IfErr result (λ fault. (O : List Entry) (A : List Arrival) → StandsFor S.is_quiet S.holds hub.old O A →
         AfterFault hub.old.book.museum hub.old.book.depth O A (R.remaining input.old) (R.remaining input.new) (W.contents output.old) (W.contents output.new) S.is_quiet S.holds hub.new fault) }
     ensures up { OnOk result (hub.new.down ≡ false) }
+    ensures count { CountsReplay (S.refusals hub.old.register) (S.refusals hub.new.register) result }
     ensures museum { hub.new.book.museum ≡ hub.old.book.museum }
     ensures depth { hub.new.book.depth ≡ hub.old.book.depth }
 {
@@ -83,6 +84,7 @@ pub(crate) fn replay_from<R: BufRead, W: Write, S: Register>(
     ensures faults { IfErr result (λ fault. (O : List Entry) (A : List Arrival) → StandsFor S.is_quiet S.holds hub.old O A →
         AfterFault hub.old.book.museum hub.old.book.depth O A (R.remaining input.old) (R.remaining input.new) (W.contents output.old) (W.contents output.new) S.is_quiet S.holds hub.new fault) }
     ensures up { OnOk result (hub.new.down ≡ false) }
+    ensures count { CountsReplay (S.refusals hub.old.register) (S.refusals hub.new.register) result }
     ensures museum { hub.new.book.museum ≡ hub.old.book.museum }
     ensures depth { hub.new.book.depth ≡ hub.old.book.depth }
 {

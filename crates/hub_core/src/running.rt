@@ -82,6 +82,8 @@ pub fn run<R: BufRead, W: Write>(
     ensures bytes_to_bytes { OnOk result (IfSome (R.remaining input.old) (λ bytes. (head_fault (head bytes) ≡ None)
         × IsAtEnd (R.remaining input.new) × Appends (W.contents output.old) (W.contents output.new) (run_text bytes))) }
     ensures faults { IfErr result (AfterRun (R.remaining input.old) (R.remaining input.new) (W.contents output.old) (W.contents output.new)) }
+    // Its register is in memory.
+    ensures never_store { IfErr result (λ fault. fault ≢ RunFault.Store) }
 {
     let mut reads = Reads::new();
     let mut hub = opened(alloc, input, &mut reads)?;

@@ -16,5 +16,5 @@ pub loop-reads-preserved : goal.loop-reads-preserved
 loop-reads-preserved g c =
     let inv = c.loop-reads.invariant.0 in (
       line_open _ _ _ _ _ _ inv.0 _ inv.1 inv.2 inv.3 c.in_ok-take_piece.ensures.piece c.in-Open.is,
-      Keeps-trans _ _ _ c.loop-reads.invariant.1 c.flush_before_wait.ensures,
+      Keeps-trans _ _ _ c.loop-reads.invariant.1 c.flush_before_wait.ensures.kept,
     )

@@ -1,4 +1,4 @@
-use Rattle.std.proofs.Common.{◌≡◌, sym, subst, refl, inr, rules, List, length}
+use Rattle.std.proofs.Common.{◌≡◌, sym, subst, refl, inr, List, length}
 use Rattle.std.specs.Prelude.{reverse, All, ◌≤◌}
 use Rattle.std.proofs.lemmas.List.Sorted.{All-permutation, IsPermutation-reverse}
 use Rattle.posting_core.specs.declared.entry.Entry.{Entry}
@@ -9,7 +9,8 @@ use Rattle.station_core.specs.Progress.{AllMatch, AllStart}
 use Rattle.register_store.specs.StoredRows.{Content}
 use Rattle.register_store.specs.Registers.{bound_to, IsOfStation}
 use Rattle.hub_core.specs.Openings.{IsOpenFault}
-use Rattle.hub_core.proofs.OpenLemmas.{sent, all_start, all_few, same_spots, judge_fault, on_fault}
+use Rattle.hub_core.proofs.OpenLemmas.{sent, all_start, all_few, same_spots, judge_fault}
+use Rattle.hub_core.proofs.Written.{if_err}
 use Rattle.hub_core.proofs.opening.prepare.Goals as goal
 
 pub returns-then-not-branch-clause-cause : goal.returns-then-not-branch-clause-cause
@@ -55,7 +56,7 @@ returns-in_err-starts-clause-cause g c calm =
     let stations : g.R.Register.stations c.bind.new.self ≡ length S.stations = c.in_ok-depth.ensures.ready.1 in
     let of : All (IsOfStation (length S.stations)) P =
     All-permutation (IsOfStation (length S.stations)) _ P (IsPermutation-reverse c.in_ok-entries.entries.items) (subst (λ n. All (IsOfStation n) c.in_ok-entries.entries.items) stations c.in_ok-entries.ensures.stationed) in
-    on_fault c.from_residual-in_err-starts.result (λ fault. (k : Content) → g.R.Register.holds c.args.register.now k → IsOpenFault S k fault) c.in_err-starts.field-0.0 (search rules) (λ k had.
+    if_err c.from_residual-in_err-starts.result (λ fault. (k : Content) → g.R.Register.holds c.args.register.now k → IsOpenFault S k fault) c.in_err-starts.field-0.0 c.from_residual-in_err-starts.ensures.1 (λ k had.
     let held : g.R.Register.holds c.bind.new.self (bound_to S k) = c.in_ok-depth.ensures.kept calm1 k had in
     let listed : g.R.Register.holds c.all.new.self (bound_to S k) = (c.all.ensures.unchanged calm (bound_to S k)).0 held in
     judge_fault S c.in_ok-depth.depth k P c.in_err-starts.field-0.0 (c.in_ok-depth.ensures.bound calm1 (bound_to S k) held) (c.in_ok-entries.ensures.listed calm (bound_to S k) listed) of c.in_err-starts.ensures.cause)

@@ -10,5 +10,6 @@ invariant-loop-number g l =
     (l.hub.down ≡ false)
     × (l.hub.book.museum ≡ l.fn.hub.book.museum)
     × (l.hub.book.depth ≡ l.fn.hub.book.depth)
+    × (g.S.Register.refusals l.hub.register ≡ g.S.Register.refusals l.fn.hub.register)
     × ((O : List Entry) (A : List Arrival) → StandsFor g.S.Register.is_quiet g.S.Register.holds l.fn.hub O A →
     Underway l.fn.hub.book.museum l.fn.hub.book.depth O A (g.R.Read.remaining l.fn.input) (g.R.Read.remaining l.input) (g.W.Write.contents l.fn.output) (g.W.Write.contents l.output) g.S.Register.is_quiet g.S.Register.holds l.hub l.number)

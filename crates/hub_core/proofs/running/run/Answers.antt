@@ -1,7 +1,7 @@
 use Rattle.std.proofs.Common.{inr, refl, List, ℕ, Option}
 use Rattle.hub_core.specs.WholeRun.{run_fault, AfterRun}
 use Rattle.hub_core.proofs.Written.{if_err}
-use Rattle.hub_core.proofs.RunLemmas.{lines_answered, lines_fault}
+use Rattle.hub_core.proofs.RunLemmas.{lines_answered, lines_fault, no_store}
 use Rattle.hub_core.proofs.running.run.Goals as goal
 
 pub returns-clause-bytes_to_bytes : goal.returns-clause-bytes_to_bytes
@@ -19,3 +19,6 @@ returns-in_err-replay_from-clause-faults g c =
     let fault = c.in_err-replay_from.field-0.0 in
     if_err c.from_residual-in_err-replay_from.result (AfterRun i i2 o o2) (run_fault fault) c.from_residual-in_err-replay_from.ensures.1
     (inr (fault, refl, lines_fault i i1 i2 o o2 c.in_ok-hub.hub c.replay_from.new.hub fault c.in_ok-hub.ensures.hub c.in_err-replay_from.ensures.faults))
+
+pub returns-in_err-replay_from-clause-never_store : goal.returns-in_err-replay_from-clause-never_store
+returns-in_err-replay_from-clause-never_store g c = no_store c.from_residual-in_err-replay_from.result c.in_err-replay_from.field-0.0 c.from_residual-in_err-replay_from.ensures.1 c.in_err-replay_from.ensures.count
