@@ -1,5 +1,5 @@
 //! Names of people who sign or authorise.
-ghost use Rattle.std.specs.Prelude.{◌≡◌, ◌≤◌, ◌++◌, ◌≢◌, OnOk, OnErr, MatchResult, IsTrue, ◌↔◌, All, string_bytes};
+ghost use Rattle.std.specs.Prelude.{◌≡◌, ◌≤◌, ◌++◌, ◌≢◌, OnOk, OnErr, IfOk, MatchResult, IsTrue, ◌↔◌, All, string_bytes};
 ghost use Rattle.codes_core.specs.Name.{IsName, IsNameFault, is_name_byte};
 ghost use Rattle.std.specs.List.{list_all};
 
@@ -50,6 +50,15 @@ impl Name {
         ensures name { IsName self.now }
     {
         self.text.as_str()
+    }
+
+    /// Another name of the same text; else NoMemory.
+    pub fn copy(&self, alloc: Global) -> Result<Name, NoMemory>
+        ensures { IfOk result (λ copy. copy ≡ self.now) }
+    {
+        Ok(Name {
+            text: String::from_str(alloc, self.text.as_str())?,
+        })
     }
 
     /// Appends the name; after NoMemory the text is unchanged.

@@ -4,7 +4,7 @@ use Rattle.std.proofs.lemmas.Bool.Decides.{nat_tests}
 use Rattle.std.specs.Prelude.{reverse, nat_lt}
 use Rattle.std.proofs.lemmas.List.{take_more, length-reverse, reverse-append}
 use Rattle.posting_core.specs.declared.entry.Entry.{Entry}
-use Rattle.posting_core.specs.Verdicts.{verdict_name}
+use Rattle.posting_core.specs.VerdictNames.{verdict_name}
 use Rattle.hub_core.specs.Replies.{posted_line}
 use Rattle.hub_core.specs.LineText.{posted_lines}
 

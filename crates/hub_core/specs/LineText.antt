@@ -3,7 +3,7 @@ use Rattle.std.specs.Prelude.{ℕ, ◌+◌, ◌-◌, ◌==◌, ◌||◌, nat_eq,
 use Rattle.std.specs.List.{concat, ends_with, before_first, after_first}
 use Rattle.nest_core.specs.Museum.{Museum, station_name_of, place_code_of, thing_code_of}
 use Rattle.posting_core.specs.declared.entry.Entry.{Entry}
-use Rattle.posting_core.specs.Verdicts.{verdict_name}
+use Rattle.posting_core.specs.VerdictNames.{verdict_name}
 use Rattle.station_core.specs.Refusals.{refusal_name}
 use Rattle.register_store.specs.Spelling.{key_name}
 use Rattle.register_store.specs.declared.fault.ReadFault.{ReadFault}

@@ -17,7 +17,8 @@ use Rattle.posting_core.specs.declared.verdict.Verdict.TheVariants.{Applied}
 use Rattle.posting_core.specs.declared.entry.Entry.{Entry}
 use Rattle.posting_core.specs.declared.entry.Spot.{Spot}
 use Rattle.posting_core.specs.Messages.{day_of, thing_no}
-use Rattle.posting_core.specs.History.{puts, put_in, is_applied, spots, spot_from, place_at}
+use Rattle.posting_core.specs.History.{puts, put_in, spots, spot_from, place_at}
+use Rattle.posting_core.specs.VerdictNames.{is_applied}
 use Rattle.posting_core.specs.Verdicts.{verdict, pack_rows}
 use Rattle.posting_core.specs.Lawful.{Follows, IsLawful}
 use Rattle.posting_core.specs.Book.{Book, place_after}

@@ -22,7 +22,8 @@ use Rattle.posting_core.specs.declared.verdict.Verdict.{Verdict}
 use Rattle.posting_core.specs.declared.verdict.Verdict.TheVariants.{Applied}
 use Rattle.posting_core.specs.declared.entry.Entry.{Entry}
 use Rattle.posting_core.specs.Messages.{thing_no, place_no}
-use Rattle.posting_core.specs.History.{puts, put_in, put_by, is_applied, chain_at, place_at}
+use Rattle.posting_core.specs.History.{puts, put_in, put_by, chain_at, place_at}
+use Rattle.posting_core.specs.VerdictNames.{is_applied}
 use Rattle.posting_core.specs.Verdicts.{Row, first_of, verdict, move_rows, pack_rows, is_known, is_known_place, is_known_container}
 use Rattle.posting_core.specs.Lawful.{IsLawful}
 use Rattle.posting_core.specs.Book.{Book, verdict_in, place_after}

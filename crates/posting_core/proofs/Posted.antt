@@ -16,7 +16,8 @@ use Rattle.posting_core.specs.declared.entry.Spot.{Spot}
 use Rattle.posting_core.specs.declared.entry.NewSpot.{NewSpot}
 use Rattle.posting_core.specs.declared.entry.Changes.{Changes}
 use Rattle.posting_core.specs.Messages.{day_of}
-use Rattle.posting_core.specs.History.{puts, put_in, put_by, is_applied, spots, spot_from, place_at, carried_at}
+use Rattle.posting_core.specs.History.{puts, put_in, put_by, spots, spot_from, place_at, carried_at}
+use Rattle.posting_core.specs.VerdictNames.{is_applied}
 use Rattle.posting_core.specs.Lawful.{Follows, IsLawful}
 use Rattle.posting_core.specs.Book.{Book, place_in, chain_in, place_after, new_spot, new_spots, changes_of}
 use Rattle.posting_core.specs.Rows.{row_of, rows_after, AreAscending, IsKept}

@@ -1,7 +1,7 @@
 -- What a ledger is, what posting a message changes in it, and what it answers.
-use Rattle.std.specs.Prelude.{ℕ, ℤ, ◌+◌, List, [], length, Option, if◌then◌else◌}
+use Rattle.std.specs.Prelude.{ℕ, ℤ, ◌+◌, List, [], length, map, Option, if◌then◌else◌}
 use Rattle.std.specs.List.{range_with_len, filter_map}
-use Rattle.std.specs.Option.{option_map}
+use Rattle.std.specs.Option.{option_map, option_map_or}
 use Rattle.nest_core.specs.Museum.{Museum}
 use Rattle.nest_core.specs.Puts.{place, with_put}
 use Rattle.posting_core.specs.declared.message.Message.{Message}
@@ -9,9 +9,16 @@ use Rattle.posting_core.specs.declared.verdict.Verdict.{Verdict}
 use Rattle.posting_core.specs.declared.entry.Entry.{Entry}
 use Rattle.posting_core.specs.declared.entry.Spot.{Spot}
 use Rattle.posting_core.specs.declared.entry.NewSpot.{NewSpot}
+use Rattle.posting_core.specs.declared.entry.NewLine.{NewLine}
 use Rattle.posting_core.specs.declared.entry.Changes.{Changes}
+use Rattle.posting_core.specs.declared.stage.LineStage.{LineStage}
+use Rattle.posting_core.specs.declared.stage.LineStage.TheVariants.{Awaiting}
+use Rattle.posting_core.specs.declared.stage.LoanState.{LoanState}
 use Rattle.posting_core.specs.Messages.{day_of}
-use Rattle.posting_core.specs.History.{puts, put_in, chain_at, place_at, spots, spot_from, is_applied}
+use Rattle.posting_core.specs.History.{puts, put_in, chain_at, place_at, spots, spot_from}
+use Rattle.posting_core.specs.VerdictNames.{is_applied}
+use Rattle.posting_core.specs.Agreements.{Agreement, agreement_in, loans, last_day}
+use Rattle.posting_core.specs.Loans.{Crossing, crossing_in, objects_in, objects_of, objects, line, loan_state}
 use Rattle.posting_core.specs.Verdicts.{verdict}
 
 -- what a ledger is: the setup, the depth limit, and the posted entries, the newest first
@@ -29,6 +36,21 @@ chain_in B x = chain_at B.museum B.posted x
 
 abbrev pub spots_in : Book → ℕ → List Spot
 spots_in B x = spots B.museum B.posted x
+
+abbrev pub loans_in : Book → List (List ℕ)
+loans_in B = loans B.posted
+
+abbrev pub objects_of_loan : Book → List ℕ → List ℕ
+objects_of_loan B loan = objects B.museum B.posted loan
+
+abbrev pub line_in : Book → List ℕ → ℕ → Option LineStage
+line_in B loan o = line B.museum B.posted loan o
+
+abbrev pub state_in : Book → List ℕ → Option LoanState
+state_in B loan = loan_state B.museum B.posted loan
+
+abbrev pub last_day_in : Book → List ℕ → Option ℤ
+last_day_in B loan = last_day B.posted loan
 
 abbrev pub verdict_in : Book → Message → Verdict
 verdict_in B m = verdict B.museum B.depth B.posted m
@@ -48,6 +70,19 @@ new_spots S P m = filter_map
     (λ x. new_spot (length P + 1) (length (spots S P x)) (place_at S P x) (place_after S P m x) (day_of m) x)
     (range_with_len 0 (length S.things))
 
+-- the lines that an agreement makes, in the order of its list
+abbrev pub lines_of_agreement : Museum → Agreement → List NewLine
+lines_of_agreement S t = map (λ o. record { loan = t.loan; object = o; stage = Awaiting }) (objects_of S t)
+
+-- the lines that a crossing changes, ascending by object
+abbrev pub lines_of_crossing : Museum → List Entry → Crossing → List NewLine
+lines_of_crossing S P c = map (λ o. record { loan = c.loan; object = o; stage = c.stage }) (objects_in S P c.thing)
+
+-- the lines that the message makes or changes where it is applied after P
+abbrev pub new_lines : Museum → List Entry → Message → List NewLine
+new_lines S P m =
+    option_map_or (lines_of_agreement S) (agreement_in m) (option_map_or (lines_of_crossing S P) (crossing_in m) [])
+
 -- what posting the message changes; a refused one writes nothing
 abbrev pub changes_of : Book → Message → Changes
 changes_of B m =
@@ -55,4 +90,5 @@ changes_of B m =
       entry = length B.posted + 1;
       verdict = v;
       spots = if is_applied v then new_spots B.museum B.posted m else [];
+      lines = if is_applied v then new_lines B.museum B.posted m else [];
     }

@@ -1,6 +1,10 @@
+pub mod VerdictNames
 pub mod Messages
+pub mod Agreements
 pub mod History
+pub mod Loans
 pub mod Verdicts
 pub mod Lawful
 pub mod Book
+pub mod LoanRows
 pub mod Rows

@@ -1,4 +1,4 @@
--- What a ledger's fields keep of its entries: the nest of what they put where, and each thing's spots by number.
+-- What a ledger's fields keep of its entries: the nest of what they put where, each thing's spots by number, and the loans.
 use Rattle.std.specs.Prelude.{ℕ, ◌≡◌, ◌+◌, ◌<◌, ◌≤◌, ◌++◌, List, [], ◌∷◌, Option, Some, None, length, map, slice_get, slice_set, Vec, vec_len, vec_capacity, IfSome}
 use Rattle.std.specs.Option.{option_map_or}
 use Rattle.std.specs.declared.alloc.Global.{Global}
@@ -11,6 +11,7 @@ use Rattle.posting_core.specs.declared.entry.Spot.{Spot}
 use Rattle.posting_core.specs.declared.entry.NewSpot.{NewSpot}
 use Rattle.posting_core.specs.History.{puts, place_at, spots}
 use Rattle.posting_core.specs.Lawful.{IsLawful}
+use Rattle.posting_core.specs.LoanRows.{LoanRow, loan_rows}
 
 -- the place to which a thing comes that is put there
 abbrev pub place_to : Museum → List Entry → Target → Option ℕ
@@ -45,10 +46,11 @@ AreReady rows from [] = Unit {0}
 AreReady rows from (s ∷ ss) = (from ≤ s.thing) × (s.thing < length rows) × HasRoom rows s.thing × AreReady rows (s.thing + 1) ss
 
 -- what the fields keep
-pub record IsKept (S : Museum) (P : List Entry) (N : Nested) (rows : List (List Spot)) : Type 0 where
+pub record IsKept (S : Museum) (P : List Entry) (N : Nested) (rows : List (List Spot)) (L : List LoanRow) : Type 0 where
   pub lawful : IsLawful S N.depth P
   pub things : N.things ≡ length S.things
   pub places : N.places ≡ length S.places
   pub nest : StandsFor N (puts S P)
   pub rowed : length rows ≡ length S.things
   pub row : (x : ℕ) → x < length S.things → row_of rows x ≡ spots S P x
+  pub loans : L ≡ loan_rows S P

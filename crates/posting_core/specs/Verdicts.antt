@@ -1,17 +1,25 @@
 -- The verdict on a message after the entries P: the first of its kind's rows that holds.
-use Rattle.std.specs.Prelude.{ℕ, Bool, false, not, List, [], ◌∷◌, length, Option, Some, None, if◌then◌else◌, is_some, codes}
+use Rattle.std.specs.Prelude.{ℕ, ℤ, ◌&&◌, ◌||◌, Bool, true, false, not, List, [], ◌∷◌, length, Option, Some, None, if◌then◌else◌, is_some, is_none, int_lt, int_le}
+use Rattle.std.specs.List.{list_any}
 use Rattle.std.specs.Option.{option_map_or}
+use Rattle.std.specs.Str.{bytes_eq}
+use Rattle.codes_core.specs.Loan.{is_out}
+use Rattle.codes_core.specs.Thing.{thing_kind}
 use Rattle.nest_core.specs.declared.put.Target.TheVariants.{Within}
-use Rattle.nest_core.specs.Museum.{Museum, find_thing, find_place, is_inside, is_elsewhere, is_borrowed, is_container}
+use Rattle.nest_core.specs.Museum.{Museum, find_thing, find_place, is_inside, is_elsewhere, is_borrowed, is_container, is_own_kind, is_borrowed_kind, is_container_kind}
 use Rattle.nest_core.specs.Puts.{last, is_among}
-use Rattle.nest_core.specs.Nest.{put_at, is_too_deep}
+use Rattle.nest_core.specs.Nest.{put_at, is_too_deep, is_same_place}
 use Rattle.posting_core.specs.declared.message.Message.{Message}
-use Rattle.posting_core.specs.declared.message.Message.TheVariants.{Move, Pack, SignOff}
+use Rattle.posting_core.specs.declared.message.Message.TheVariants.{Move, Pack, Agree, Authorise, Exit, Return, Receive, SignOff, Extend}
 use Rattle.posting_core.specs.declared.verdict.Verdict.{Verdict}
 use Rattle.posting_core.specs.declared.verdict.Verdict.TheVariants.{Applied, UnknownThing, UnknownPlace, ElsewherePlace, UnknownContainer, UnknownLoan, LoanKnown, InsidePartner, NoObjects, NotObject, Repeated, WrongOwner, BadTerm, AlreadyAuthorised, NotAuthorised, WrongDirection, NotHere, ContainerNotHere, Cycle, TooDeep, NotWithPartner, AlreadyHere, NotListed, WrongStage, TermOver, NotLater}
 use Rattle.posting_core.specs.declared.entry.Entry.{Entry}
 use Rattle.posting_core.specs.Messages.{thing_no, place_no}
+use Rattle.posting_core.specs.declared.stage.LineStage.{LineStage}
+use Rattle.posting_core.specs.declared.stage.LineStage.TheVariants.{Awaiting, Away, Back, Here, GivenBack}
+use Rattle.posting_core.specs.Agreements.{agreement, is_agreed, is_authorised, last_day}
 use Rattle.posting_core.specs.History.{puts, chain_at, place_at}
+use Rattle.posting_core.specs.Loans.{Crossing, exit_of, objects_in, line}
 
 -- a refusal, and whether its cause holds
 pub record Row : Type 0 where
@@ -77,64 +85,139 @@ pack_rows S depth P x c =
     ∷ (TooDeep if is_deep_with S depth P x c)
     ∷ []
 
+-- a code of a container, as its shape says
+abbrev pub is_container_code : List ℕ → Bool
+is_container_code x = is_container_kind (thing_kind x)
+
+-- a loan out lists no borrowed object, a loan in no own one
+abbrev pub is_of_wrong_owner : List ℕ → List ℕ → Bool
+is_of_wrong_owner loan x = if is_out loan then is_borrowed_kind (thing_kind x) else is_own_kind (thing_kind x)
+
+-- some code stands twice
+abbrev pub repeats : List (List ℕ) → Bool
+repeats [] = false
+repeats (x ∷ xs) = list_any (bytes_eq x) xs || repeats xs
+
+abbrev pub is_empty : List (List ℕ) → Bool
+is_empty [] = true
+is_empty (x ∷ xs) = false
+
+-- the rows of an Agree of a loan with the partner at this place: its objects, first day and last day
+abbrev pub agree_rows : Museum → List Entry → List ℕ → List ℕ → List (List ℕ) → ℤ → ℤ → List Row
+agree_rows S P loan partner objects first last =
+    (UnknownThing if list_any (λ x. not (is_known S x)) objects)
+    ∷ (UnknownPlace if not (is_known_place S partner))
+    ∷ (LoanKnown if is_agreed P loan)
+    ∷ (InsidePartner if is_inside S (place_no S partner))
+    ∷ (NoObjects if is_empty objects)
+    ∷ (NotObject if list_any is_container_code objects)
+    ∷ (Repeated if repeats objects)
+    ∷ (WrongOwner if list_any (is_of_wrong_owner loan) objects)
+    ∷ (BadTerm if int_lt last first)
+    ∷ []
+
+-- the rows of an Authorise of a loan
+abbrev pub authorise_rows : List Entry → List ℕ → List Row
+authorise_rows P loan =
+    (UnknownLoan if not (is_agreed P loan))
+    ∷ (AlreadyAuthorised if is_authorised P loan)
+    ∷ []
+
+abbrev pub stage_eq : LineStage → LineStage → Bool
+stage_eq Awaiting Awaiting = true
+stage_eq Away Away = true
+stage_eq Back Back = true
+stage_eq Here Here = true
+stage_eq GivenBack GivenBack = true
+stage_eq _ _ = false
+
+abbrev pub is_listed : Museum → List Entry → List ℕ → ℕ → Bool
+is_listed S P loan o = is_some (line S P loan o)
+
+-- the object has a line at the stage
+abbrev pub is_at_stage : Museum → List Entry → List ℕ → LineStage → ℕ → Bool
+is_at_stage S P loan wanted o = option_map_or (stage_eq wanted) (line S P loan o) false
+
+-- some object among what crosses isn't on the loan's list
+abbrev pub carries_unlisted : Museum → List Entry → Crossing → Bool
+carries_unlisted S P c = list_any (λ o. not (is_listed S P c.loan o)) (objects_in S P c.thing)
+
+-- some object among what crosses has a line that isn't at the stage wanted
+abbrev pub carries_wrong_stage : Museum → List Entry → Crossing → Bool
+carries_wrong_stage S P c = list_any (λ o. not (is_at_stage S P c.loan c.wanted o)) (objects_in S P c.thing)
+
+-- the day is after the loan's last day
+abbrev pub is_over : List Entry → List ℕ → ℤ → Bool
+is_over P loan day = option_map_or (λ last. int_lt last day) (last_day P loan) false
+
+-- the rows of an Exit of thing x under a loan
+abbrev pub exit_rows : Museum → List Entry → List ℕ → List ℕ → ℤ → List Row
+exit_rows S P x loan day =
+    (UnknownThing if not (is_known S x))
+    ∷ (UnknownLoan if not (is_agreed P loan))
+    ∷ (NotObject if not (is_out loan) && is_container_code x)
+    ∷ (NotAuthorised if not (is_authorised P loan))
+    ∷ (NotHere if not (stands_inside S P x))
+    ∷ (NotListed if carries_unlisted S P (exit_of x loan))
+    ∷ (WrongStage if carries_wrong_stage S P (exit_of x loan))
+    ∷ (TermOver if is_out loan && is_over P loan day)
+    ∷ []
+
+-- the thing's place is the loan's partner place
+abbrev pub is_with_partner : Museum → List Entry → List ℕ → List ℕ → Bool
+is_with_partner S P x loan =
+    option_map_or (λ t. is_same_place (place_at S P (thing_no S x)) (Some (place_no S t.partner))) (agreement P loan) false
+
+-- the rows of a Return of thing x under a loan to place p
+abbrev pub return_rows : Museum → List Entry → List ℕ → List ℕ → List ℕ → List Row
+return_rows S P x loan p =
+    (UnknownThing if not (is_known S x))
+    ∷ (UnknownPlace if not (is_known_place S p))
+    ∷ (ElsewherePlace if is_elsewhere S (place_no S p))
+    ∷ (UnknownLoan if not (is_agreed P loan))
+    ∷ (NotAuthorised if not (is_authorised P loan))
+    ∷ (WrongDirection if not (is_out loan))
+    ∷ (NotWithPartner if not (is_with_partner S P x loan))
+    ∷ (NotListed if carries_unlisted S P (record { thing = x; loan = loan; wanted = Away; stage = Back }))
+    ∷ (WrongStage if carries_wrong_stage S P (record { thing = x; loan = loan; wanted = Away; stage = Back }))
+    ∷ []
+
+-- the rows of a Receive of thing x under a loan at place p
+abbrev pub receive_rows : Museum → List Entry → List ℕ → List ℕ → List ℕ → ℤ → List Row
+receive_rows S P x loan p day =
+    (UnknownThing if not (is_known S x))
+    ∷ (UnknownPlace if not (is_known_place S p))
+    ∷ (ElsewherePlace if is_elsewhere S (place_no S p))
+    ∷ (UnknownLoan if not (is_agreed P loan))
+    ∷ (NotObject if is_container_code x)
+    ∷ (NotAuthorised if not (is_authorised P loan))
+    ∷ (WrongDirection if is_out loan)
+    ∷ (AlreadyHere if stands_inside S P x)
+    ∷ (NotListed if carries_unlisted S P (record { thing = x; loan = loan; wanted = Awaiting; stage = Here }))
+    ∷ (WrongStage if carries_wrong_stage S P (record { thing = x; loan = loan; wanted = Awaiting; stage = Here }))
+    ∷ (TermOver if is_over P loan day)
+    ∷ []
+
+-- the new last day is no later than the loan's last day
+abbrev pub is_no_later : List Entry → List ℕ → ℤ → Bool
+is_no_later P loan day = option_map_or (λ last. int_le day last) (last_day P loan) false
+
+-- the rows of an Extend of a loan to a last day
+abbrev pub extend_rows : List Entry → List ℕ → ℤ → List Row
+extend_rows P loan day =
+    (UnknownLoan if not (is_agreed P loan))
+    ∷ (NotAuthorised if not (is_authorised P loan))
+    ∷ (NotLater if is_no_later P loan day)
+    ∷ []
+
 -- the verdict, under a depth limit
 abbrev pub verdict : Museum → ℕ → List Entry → Message → Verdict
 verdict S depth P (Move x p day) = first_of (move_rows S P x p)
 verdict S depth P (Pack x c day) = first_of (pack_rows S depth P x c)
+verdict S depth P (Agree loan partner objects first last) = first_of (agree_rows S P loan partner objects first last)
+verdict S depth P (Authorise loan name) = first_of (authorise_rows P loan)
+verdict S depth P (Exit x loan day) = first_of (exit_rows S P x loan day)
+verdict S depth P (Return x loan p day) = first_of (return_rows S P x loan p)
+verdict S depth P (Receive x loan p day) = first_of (receive_rows S P x loan p day)
 verdict S depth P (SignOff name) = Applied
-
-abbrev pub verdict_number : Verdict → ℕ
-verdict_number Applied = 0
-verdict_number UnknownThing = 1
-verdict_number UnknownPlace = 2
-verdict_number ElsewherePlace = 3
-verdict_number UnknownContainer = 4
-verdict_number UnknownLoan = 5
-verdict_number LoanKnown = 6
-verdict_number InsidePartner = 7
-verdict_number NoObjects = 8
-verdict_number NotObject = 9
-verdict_number Repeated = 10
-verdict_number WrongOwner = 11
-verdict_number BadTerm = 12
-verdict_number AlreadyAuthorised = 13
-verdict_number NotAuthorised = 14
-verdict_number WrongDirection = 15
-verdict_number NotHere = 16
-verdict_number ContainerNotHere = 17
-verdict_number Cycle = 18
-verdict_number TooDeep = 19
-verdict_number NotWithPartner = 20
-verdict_number AlreadyHere = 21
-verdict_number NotListed = 22
-verdict_number WrongStage = 23
-verdict_number TermOver = 24
-verdict_number NotLater = 25
-
-abbrev pub verdict_name : Verdict → List ℕ
-verdict_name Applied = codes "Applied"
-verdict_name UnknownThing = codes "UnknownThing"
-verdict_name UnknownPlace = codes "UnknownPlace"
-verdict_name ElsewherePlace = codes "ElsewherePlace"
-verdict_name UnknownContainer = codes "UnknownContainer"
-verdict_name UnknownLoan = codes "UnknownLoan"
-verdict_name LoanKnown = codes "LoanKnown"
-verdict_name InsidePartner = codes "InsidePartner"
-verdict_name NoObjects = codes "NoObjects"
-verdict_name NotObject = codes "NotObject"
-verdict_name Repeated = codes "Repeated"
-verdict_name WrongOwner = codes "WrongOwner"
-verdict_name BadTerm = codes "BadTerm"
-verdict_name AlreadyAuthorised = codes "AlreadyAuthorised"
-verdict_name NotAuthorised = codes "NotAuthorised"
-verdict_name WrongDirection = codes "WrongDirection"
-verdict_name NotHere = codes "NotHere"
-verdict_name ContainerNotHere = codes "ContainerNotHere"
-verdict_name Cycle = codes "Cycle"
-verdict_name TooDeep = codes "TooDeep"
-verdict_name NotWithPartner = codes "NotWithPartner"
-verdict_name AlreadyHere = codes "AlreadyHere"
-verdict_name NotListed = codes "NotListed"
-verdict_name WrongStage = codes "WrongStage"
-verdict_name TermOver = codes "TermOver"
-verdict_name NotLater = codes "NotLater"
+verdict S depth P (Extend loan last) = first_of (extend_rows P loan last)

@@ -1,7 +1,7 @@
 //! What is posted, and what a posting changes.
 
-use crate::{Message, Verdict};
-use codes_core::{Day, NoMemory};
+use crate::{LineStage, Message, Verdict};
+use codes_core::{Day, LoanCode, NoMemory};
 use nest_core::{PlaceNo, StationNo, ThingNo};
 use std::alloc::Global;
 use std::marker::Model;
@@ -75,11 +75,65 @@ impl NewSpots {
     }
 }
 
-/// What posting a message changes: the number of its entry, from 1, its verdict, and the new spots,
-/// none where it is refused.
+/// A line of a loan that an entry makes or changes: the loan, the object, and the stage that its line then has.
+#[derive(Clone, Copy, Debug, PartialEq, Eq)]
+pub struct NewLine {
+    pub loan: LoanCode,
+    pub object: ThingNo,
+    pub stage: LineStage,
+}
+
+/// Lines of one loan that an entry makes or changes; seen as their list.
+#[derive(Debug, Drop)]
+pub struct NewLines {
+    items: Vec<NewLine>,
+}
+
+impl Model for NewLines {
+    ghost use Rattle.std.specs.Prelude.{List};
+    ghost use Rattle.posting_core.specs.declared.entry.NewLine.{NewLine};
+
+    ghost Value = { List NewLine };
+
+    ghost view = { λ l. l.items.items };
+}
+
+impl NewLines {
+    ghost use Rattle.std.specs.Prelude.{◌≡◌, ◌++◌, ◌∷◌, [], OnOk, OnErr};
+
+    /// None. Takes no memory.
+    pub fn new(alloc: Global) -> NewLines
+        ensures { result ≡ [] }
+    {
+        NewLines {
+            items: Vec::new(alloc),
+        }
+    }
+
+    /// One more; after NoMemory they are unchanged.
+    pub fn push(&mut self, line: NewLine) -> Result<(), NoMemory>
+        ensures ok { OnOk result (self.new ≡ self.old ++ line ∷ []) }
+        ensures err { OnErr result (self.new ≡ self.old) }
+    {
+        self.items.push(line)?;
+        Ok(())
+    }
+
+    /// The lines, in their order.
+    pub fn as_slice(&self) -> &[NewLine]
+        ensures { result.now ≡ self.now }
+    {
+        &self.items
+    }
+}
+
+/// What posting a message changes: the number of its entry, from 1, its verdict, the new spots, and the lines of its
+/// loan that it makes or changes; no spots and no lines where it is refused. An agreement's lines stand in the order
+/// of its list, those of a crossing ascend by object.
 #[derive(Debug, Drop)]
 pub struct Changes {
     pub entry: u64,
     pub verdict: Verdict,
     pub spots: NewSpots,
+    pub lines: NewLines,
 }

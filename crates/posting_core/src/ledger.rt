@@ -1,16 +1,27 @@
 //! The ledger: what was posted, and what looking back through it gives.
-ghost use Rattle.std.specs.Prelude.{◌≡◌, ◌<◌, ◌∷◌, [], length, reverse, replicate, All, IfOk, OnOk, OnErr, IfSome};
+ghost use Rattle.std.specs.Prelude.{◌≡◌, ◌<◌, ◌∷◌, [], length, reverse, replicate, All, IfOk, OnOk, OnErr, IfSome, ℕ, Some, slice_get, is_some};
+ghost use Rattle.std.specs.Option.{option_map};
 ghost use Rattle.posting_core.specs.Lawful.{Follows, IsLawful};
-ghost use Rattle.posting_core.specs.Book.{place_in, chain_in, spots_in, verdict_in, changes_of};
+ghost use Rattle.posting_core.specs.Messages.{place_no};
+ghost use Rattle.posting_core.specs.Agreements.{agreement, is_agreed, is_authorised, last_day};
+ghost use Rattle.posting_core.specs.Loans.{line, loan_state};
+ghost use Rattle.posting_core.specs.LoanRows.{line_of, state_of};
+ghost use Rattle.posting_core.specs.Book.{place_in, chain_in, spots_in, verdict_in, changes_of, loans_in, objects_of_loan, line_in, state_in, last_day_in};
 ghost use Rattle.posting_core.specs.Rows.{lists};
 
+mod crossings;
+mod loan_rules;
 mod planning;
+
 mod rules;
 
+use crate::kept_loan::KeptLoan;
+use crate::kept_loans::KeptLoans;
 use crate::placing::place;
+use crate::recording::record;
 use crate::spot_rows::{make_room, push_spots};
-use crate::{Changes, Entry, Message, Spot, Verdict};
-use codes_core::NoMemory;
+use crate::{Changes, Entry, LineStage, LoanState, Message, Spot, Verdict};
+use codes_core::{Day, LoanCode, NoMemory};
 use nest_core::{Nest, PlaceNo, Setup, ThingNo, ThingNos};
 use std::alloc::Global;
 use std::marker::Model;
@@ -23,6 +34,7 @@ pub struct Ledger {
     posted: Vec<Entry>,
     nest: Nest,
     spots: Vec<Vec<Spot>>,
+    loans: KeptLoans,
 }
 
 impl Model for Ledger {
@@ -34,7 +46,7 @@ impl Model for Ledger {
 
     ghost view = { λ a. record { museum = a.setup; depth = a.nest.depth; posted = reverse a.posted.items } };
 
-    ghost invariant = { λ a. IsKept a.setup (reverse a.posted.items) a.nest (lists a.spots.items) };
+    ghost invariant = { λ a. IsKept a.setup (reverse a.posted.items) a.nest (lists a.spots.items) a.loans };
 }
 
 impl Ledger {
@@ -50,6 +62,7 @@ impl Ledger {
             posted: Vec::new(alloc),
             nest,
             spots,
+            loans: KeptLoans::new(alloc),
         })
     }
 
@@ -102,8 +115,52 @@ impl Ledger {
         &self.spots[thing as usize]
     }
 
+    /// How many loans are agreed.
+    pub fn loan_count(&self) -> usize
+        ensures { result ≡ length (loans_in self.now) }
+    {
+        self.loans.len()
+    }
+
+    /// A loan's code. Loans are numbered from 0 in the order of their agreements; the number is below `loan_count`.
+    pub fn loan_at(&self, i: usize) -> LoanCode
+        requires { i < length (loans_in self.now) }
+        ensures { slice_get (loans_in self.now) i ≡ Some result }
+    {
+        self.loans.at(i).loan()
+    }
+
+    /// The objects of a loan by number, in the order of its agreement. The loan's number is below `loan_count`.
+    pub fn objects(&self, i: usize) -> &[ThingNo]
+        requires { i < length (loans_in self.now) }
+        ensures { option_map (objects_of_loan self.now) (slice_get (loans_in self.now) i) ≡ Some result.now }
+    {
+        self.loans.at(i).objects()
+    }
+
+    /// The stage of an object's line, where the loan is agreed and lists the object.
+    pub fn line(&self, loan: &LoanCode, object: ThingNo) -> Option<LineStage>
+        ensures { result ≡ line_in self.now loan.now object }
+    {
+        self.loan(loan)?.stage_of(object)
+    }
+
+    /// How far a loan has come, where it is agreed.
+    pub fn loan_state(&self, loan: &LoanCode) -> Option<LoanState>
+        ensures { result ≡ state_in self.now loan.now }
+    {
+        Some(self.loan(loan)?.state())
+    }
+
+    /// A loan's last day, where it is agreed.
+    pub fn last_day(&self, loan: &LoanCode) -> Option<Day>
+        ensures { result ≡ last_day_in self.now loan.now }
+    {
+        Some(self.loan(loan)?.last())
+    }
+
     /// The verdict that the message would get if it were posted now; else NoMemory.
-    pub fn judge(&self, _alloc: Global, message: &Message) -> Result<Verdict, NoMemory>
+    pub fn judge(&self, alloc: Global, message: &Message) -> Result<Verdict, NoMemory>
         ensures { IfOk result (λ verdict. verdict ≡ verdict_in self.now message.now) }
     {
         match message {
@@ -113,22 +170,43 @@ impl Ledger {
                 container,
                 day,
             } => Ok(self.judge_pack(thing, container, *day)),
+            Message::Agree {
+                loan,
+                partner,
+                objects,
+                first,
+                last,
+            } => Ok(self.judge_agree(loan, partner, objects.as_slice(), *first, *last)),
+            Message::Authorise { loan, .. } => Ok(self.judge_authorise(loan)),
+            Message::Exit { thing, loan, day } => self.judge_exit(alloc, thing, loan, *day),
+            Message::Return {
+                thing, loan, place, ..
+            } => self.judge_return(alloc, thing, loan, place),
+            Message::Receive {
+                thing,
+                loan,
+                place,
+                day,
+            } => self.judge_receive(alloc, thing, loan, place, *day),
             Message::SignOff { .. } => Ok(Verdict::Applied),
+            Message::Extend { loan, last } => Ok(self.judge_extend(loan, *last)),
         }
     }
 
     /// What posting the message now would change: the number of its entry, from 1, its verdict and, where it is
-    /// applied, the new spots; else NoMemory.
+    /// applied, the new spots and the lines that it makes or changes; else NoMemory.
     pub fn plan(&self, alloc: Global, message: &Message) -> Result<Changes, NoMemory>
         ensures { IfOk result (λ changes. changes ≡ changes_of self.now message.now) }
     {
         let verdict = self.judge(alloc, message)?;
         let entry = self.posted.len() as u64 + 1;
         let spots = self.spots_under(alloc, message, verdict, entry)?;
+        let lines = self.lines_under(alloc, message, verdict)?;
         Ok(Changes {
             entry,
             verdict,
             spots,
+            lines,
         })
     }
 
@@ -148,9 +226,31 @@ impl Ledger {
         make_room(&mut self.spots, spots)?;
         self.posted.reserve(1)?;
         place(alloc, &mut self.nest, put)?;
+        record(
+            alloc,
+            &mut self.loans,
+            &self.setup,
+            entry.verdict,
+            &entry.message,
+            changes.lines.as_slice(),
+        )?;
         push_spots(&mut self.spots, spots);
         self.posted.push(entry).unwrap();
         Ok(())
+    }
+}
+
+impl Ledger {
+    /// What is kept of a loan, where it is agreed.
+    pub(crate) fn loan(&self, loan: &LoanCode) -> Option<&KeptLoan>
+        ensures agreed { is_some result ≡ is_agreed self.now.posted loan.now }
+        ensures authorised { IfSome result (λ row. row.now.authorised ≡ is_authorised self.now.posted loan.now) }
+        ensures last { IfSome result (λ row. last_day self.now.posted loan.now ≡ Some row.now.last) }
+        ensures partner { IfSome result (λ row. option_map (λ t. place_no self.now.museum t.partner) (agreement self.now.posted loan.now) ≡ Some row.now.partner) }
+        ensures lines { IfSome result (λ row. (o : ℕ) → line_of row.now o ≡ line self.now.museum self.now.posted loan.now o) }
+        ensures state { IfSome result (λ row. loan_state self.now.museum self.now.posted loan.now ≡ Some (state_of row.now)) }
+    {
+        self.loans.get(loan)
     }
 }
 

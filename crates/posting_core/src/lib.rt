@@ -2,16 +2,24 @@
 #![tactic(auto)]
 
 mod entry;
+mod kept_loan;
+mod kept_loans;
 pub mod laws;
 mod ledger;
 mod message;
+mod numbers;
+mod objects;
 mod placing;
+mod recording;
 mod spot_rows;
+mod stage;
 #[cfg(test)]
 mod tests;
 mod verdict;
 
-pub use entry::{Changes, Entry, NewSpot, NewSpots, Spot};
+pub use entry::{Changes, Entry, NewLine, NewLines, NewSpot, NewSpots, Spot};
 pub use ledger::Ledger;
 pub use message::Message;
+pub use objects::Objects;
+pub use stage::{LineStage, LoanState};
 pub use verdict::Verdict;

@@ -1,6 +1,9 @@
 //! What a station tells.
+ghost use Rattle.std.specs.Prelude.{◌≡◌, IfOk};
 
-use codes_core::{Day, Name, PlaceCode, ThingCode};
+use crate::Objects;
+use codes_core::{Day, LoanCode, Name, NoMemory, PlaceCode, ThingCode};
+use std::alloc::Global;
 
 /// A message of a station.
 #[derive(Drop)]
@@ -17,8 +20,121 @@ pub enum Message {
         container: ThingCode,
         day: Day,
     },
+    /// The loan is agreed with the partner at this place: its objects, its first day and its last.
+    Agree {
+        loan: LoanCode,
+        partner: PlaceCode,
+        objects: Objects,
+        first: Day,
+        last: Day,
+    },
+    /// The loan is authorised, and who authorises it.
+    Authorise {
+        loan: LoanCode,
+        name: Name,
+    },
+    /// The thing leaves under the loan, to the partner's place, on this day.
+    Exit {
+        thing: ThingCode,
+        loan: LoanCode,
+        day: Day,
+    },
+    /// The thing comes back under the loan out, to the place, on this day.
+    Return {
+        thing: ThingCode,
+        loan: LoanCode,
+        place: PlaceCode,
+        day: Day,
+    },
+    /// The thing comes under the loan in, to the place, on this day.
+    Receive {
+        thing: ThingCode,
+        loan: LoanCode,
+        place: PlaceCode,
+        day: Day,
+    },
     /// The station's last message, and who signs it.
     SignOff {
         name: Name,
     },
+    /// The loan gets a later last day.
+    Extend {
+        loan: LoanCode,
+        last: Day,
+    },
+}
+
+impl Message {
+    /// Another message that says the same; else NoMemory.
+    pub fn copy(&self, alloc: Global) -> Result<Message, NoMemory>
+        ensures { IfOk result (λ copy. copy ≡ self.now) }
+    {
+        match self {
+            Message::Move { thing, place, day } => Ok(Message::Move {
+                thing: *thing,
+                place: *place,
+                day: *day,
+            }),
+            Message::Pack {
+                thing,
+                container,
+                day,
+            } => Ok(Message::Pack {
+                thing: *thing,
+                container: *container,
+                day: *day,
+            }),
+            Message::Agree {
+                loan,
+                partner,
+                objects,
+                first,
+                last,
+            } => Ok(Message::Agree {
+                loan: *loan,
+                partner: *partner,
+                objects: objects.copy(alloc)?,
+                first: *first,
+                last: *last,
+            }),
+            Message::Authorise { loan, name } => Ok(Message::Authorise {
+                loan: *loan,
+                name: name.copy(alloc)?,
+            }),
+            Message::Exit { thing, loan, day } => Ok(Message::Exit {
+                thing: *thing,
+                loan: *loan,
+                day: *day,
+            }),
+            Message::Return {
+                thing,
+                loan,
+                place,
+                day,
+            } => Ok(Message::Return {
+                thing: *thing,
+                loan: *loan,
+                place: *place,
+                day: *day,
+            }),
+            Message::Receive {
+                thing,
+                loan,
+                place,
+                day,
+            } => Ok(Message::Receive {
+                thing: *thing,
+                loan: *loan,
+                place: *place,
+                day: *day,
+            }),
+            Message::SignOff { name } => Ok(Message::SignOff {
+                name: name.copy(alloc)?,
+            }),
+            Message::Extend { loan, last } => Ok(Message::Extend {
+                loan: *loan,
+                last: *last,
+            }),
+        }
+    }
 }

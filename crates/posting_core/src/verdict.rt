@@ -1,6 +1,6 @@
 //! The verdicts.
 ghost use Rattle.std.specs.Prelude.{◌≡◌, ◌≢◌, IfSome, IfNone};
-ghost use Rattle.posting_core.specs.Verdicts.{verdict_number, verdict_name};
+ghost use Rattle.posting_core.specs.VerdictNames.{verdict_number, verdict_name};
 
 /// What the rules say to a message, in the order in which they are asked: the first refusal that holds, else Applied.
 #[derive(Clone, Copy, Debug, PartialEq, Eq)]

@@ -9,7 +9,7 @@ use Rattle.sqlite_keyed.proofs.ListLemmas.{all_weaker}
 use Rattle.posting_core.specs.declared.verdict.Verdict.{Verdict}
 use Rattle.posting_core.specs.declared.verdict.Verdict.TheVariants.{Applied, UnknownThing, UnknownPlace, ElsewherePlace, UnknownContainer, UnknownLoan, LoanKnown, InsidePartner, NoObjects, NotObject, Repeated, WrongOwner, BadTerm, AlreadyAuthorised, NotAuthorised, WrongDirection, NotHere, ContainerNotHere, Cycle, TooDeep, NotWithPartner, AlreadyHere, NotListed, WrongStage, TermOver, NotLater}
 use Rattle.posting_core.specs.declared.entry.Entry.{Entry}
-use Rattle.posting_core.specs.Verdicts.{verdict_number}
+use Rattle.posting_core.specs.VerdictNames.{verdict_number}
 use Rattle.register_store.specs.StoredRows.{Content, PostingRow, SetupRow, numbered, IsPostingRow, ArePostings, HasList}
 use Rattle.register_store.proofs.RoundTrip.{one_message}
 

@@ -13,7 +13,8 @@ use Rattle.posting_core.specs.declared.entry.Entry.{Entry}
 use Rattle.posting_core.specs.declared.entry.Spot.{Spot}
 use Rattle.posting_core.specs.declared.entry.NewSpot.{NewSpot}
 use Rattle.posting_core.specs.Messages.{day_of}
-use Rattle.posting_core.specs.History.{is_applied, puts, put_in, place_at, spots, spot_from}
+use Rattle.posting_core.specs.History.{puts, put_in, place_at, spots, spot_from}
+use Rattle.posting_core.specs.VerdictNames.{is_applied}
 use Rattle.posting_core.specs.Book.{place_after, new_spot, new_spots}
 use Rattle.posting_core.proofs.Written.{same_place}
 use Rattle.register_store.specs.StoredRows.{rows_of_thing, rows_by_thing, rows_of_spots, written}

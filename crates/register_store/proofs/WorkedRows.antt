@@ -23,7 +23,7 @@ use Rattle.posting_core.specs.declared.entry.NewSpot.{NewSpot}
 use Rattle.register_store.specs.declared.store_fault.StoreFault.TheVariants.{NoMemory, Store, OtherSetup, Damaged, OtherVersion}
 use Rattle.register_store.specs.StoredRows.{SetupRow, MetaRow, PostingRow, Content, AreSame, rows_of_setup, rows_of_meta, is_depth, IsPostingRow, written, rows_of_spots, rows_by_thing, HasList, IsStoreOf, with_posted}
 use Rattle.register_store.specs.Registers.{CountsRefusal, bound_to, IsBindFault, IsOfStation, IsWrongRow, IsListFault}
-use Rattle.posting_core.specs.Verdicts.{verdict_number}
+use Rattle.posting_core.specs.VerdictNames.{verdict_number}
 use Rattle.register_store.proofs.OneList.{all_verdicts, of_number}
 use Rattle.register_store.proofs.WorkedTexts.{may, may-spelled, first_move, first_text, ann, spaced_text, begins}
 

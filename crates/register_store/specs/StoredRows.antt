@@ -7,8 +7,9 @@ use Rattle.nest_core.specs.SetupTexts.{setup_rows}
 use Rattle.posting_core.specs.declared.entry.Entry.{Entry}
 use Rattle.posting_core.specs.declared.entry.Spot.{Spot}
 use Rattle.posting_core.specs.declared.entry.NewSpot.{NewSpot}
-use Rattle.posting_core.specs.History.{is_applied, spots}
-use Rattle.posting_core.specs.Verdicts.{verdict_number}
+use Rattle.posting_core.specs.History.{spots}
+use Rattle.posting_core.specs.VerdictNames.{is_applied}
+use Rattle.posting_core.specs.VerdictNames.{verdict_number}
 use Rattle.posting_core.specs.Book.{new_spots}
 use Rattle.register_store.specs.Kinds.{of_bytes}
 use Rattle.register_store.specs.MessageText.{IsTextOf}

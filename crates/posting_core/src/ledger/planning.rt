@@ -1,17 +1,22 @@
 //! What an applied message puts where, and the spots that it writes.
-ghost use Rattle.std.specs.Prelude.{◌≡◌, ◌<◌, ◌+◌, [], if◌then◌else◌, length, All, IfOk, IfSome, Some};
+ghost use Rattle.std.specs.Prelude.{◌≡◌, ◌<◌, ◌+◌, [], if◌then◌else◌, length, All, IfOk, IfSome, Some, List, ℕ, true, not, map, filter};
 ghost use Rattle.std.specs.List.{filter_map};
 ghost use Rattle.nest_core.specs.Puts.{container_of};
 ghost use Rattle.posting_core.specs.declared.verdict.Verdict.TheVariants.{Applied};
-ghost use Rattle.posting_core.specs.Messages.{thing_no, place_no, day_of};
-ghost use Rattle.posting_core.specs.History.{is_applied, put_in, put_by};
-ghost use Rattle.posting_core.specs.Book.{place_in, spots_in, verdict_in, new_spot, new_spots};
+ghost use Rattle.nest_core.specs.Museum.{is_container};
+ghost use Rattle.posting_core.specs.Messages.{thing_no, day_of};
+ghost use Rattle.posting_core.specs.History.{put_in, put_by, carried_at};
+ghost use Rattle.posting_core.specs.Loans.{exit_of, objects_in};
+ghost use Rattle.posting_core.specs.Verdicts.{is_known};
+ghost use Rattle.posting_core.specs.VerdictNames.{is_applied};
+ghost use Rattle.posting_core.specs.Book.{place_in, spots_in, verdict_in, new_spot, new_spots, new_lines};
 ghost use Rattle.posting_core.specs.Rows.{place_to};
 
 use super::Ledger;
-use crate::{Message, NewSpot, NewSpots, Spot, Verdict};
-use codes_core::{Day, NoMemory, PlaceCode, ThingCode};
-use nest_core::{PlaceNo, Put, Target, ThingNo};
+use crate::numbers::{place_no, thing_no};
+use crate::{LineStage, Message, NewLine, NewLines, NewSpot, NewSpots, Spot, Verdict};
+use codes_core::{Day, LoanCode, NoMemory, ThingCode, ThingKind};
+use nest_core::{PlaceNo, Put, Setup, Target, ThingNo};
 use std::alloc::Global;
 
 impl Ledger {
@@ -113,37 +118,153 @@ impl Ledger {
     {
         match message {
             Message::Move { thing, place, .. } => Some(Put {
-                thing: self.thing_no(thing),
-                to: Target::At(self.place_no(place)),
+                thing: thing_no(&self.setup, thing),
+                to: Target::At(place_no(&self.setup, place)),
             }),
             Message::Pack {
                 thing,
                 container,
                 ..
             } => Some(Put {
-                thing: self.thing_no(thing),
-                to: Target::Within(self.thing_no(container)),
+                thing: thing_no(&self.setup, thing),
+                to: Target::Within(thing_no(&self.setup, container)),
             }),
-            Message::SignOff { .. } => None,
+            Message::Exit { thing, loan, .. } => Some(Put {
+                thing: thing_no(&self.setup, thing),
+                to: Target::At(self.loan(loan)?.partner()),
+            }),
+            Message::Return { thing, place, .. } | Message::Receive { thing, place, .. } => Some(Put {
+                thing: thing_no(&self.setup, thing),
+                to: Target::At(place_no(&self.setup, place)),
+            }),
+            Message::Agree { .. }
+            | Message::Authorise { .. }
+            | Message::SignOff { .. }
+            | Message::Extend { .. } => None,
         }
     }
 
-    fn thing_no(&self, code: &ThingCode) -> ThingNo
-        ensures { result ≡ thing_no self.now.museum code.now }
+    /// The lines that the message makes or changes under this verdict.
+    pub(crate) fn lines_under(
+        &self,
+        alloc: Global,
+        message: &Message,
+        verdict: Verdict,
+    ) -> Result<NewLines, NoMemory>
+        requires judged { verdict ≡ verdict_in self.now message.now }
+        ensures { IfOk result (λ lines. lines ≡ (if is_applied verdict then new_lines self.now.museum self.now.posted message.now else [])) }
     {
-        match self.setup.thing(code) {
-            Some(x) => x,
-            None => self.setup.things(),
+        match verdict {
+            Verdict::Applied => self.new_lines(alloc, message),
+            _ => Ok(NewLines::new(alloc)),
         }
     }
 
-    fn place_no(&self, code: &PlaceCode) -> PlaceNo
-        ensures { result ≡ place_no self.now.museum code.now }
+    /// The lines of an applied message: an agreement's are all awaited, those of a crossing get its stage.
+    fn new_lines(&self, alloc: Global, message: &Message) -> Result<NewLines, NoMemory>
+        requires applied { verdict_in self.now message.now ≡ Applied }
+        ensures { IfOk result (λ lines. lines ≡ new_lines self.now.museum self.now.posted message.now) }
     {
-        match self.setup.place(code) {
-            Some(p) => p,
-            None => self.setup.places(),
+        match message {
+            Message::Agree { loan, objects, .. } => {
+                let numbers = numbers_of(alloc, &self.setup, objects.as_slice())?;
+                lines_of(alloc, *loan, &numbers, LineStage::Awaiting)
+            }
+            Message::Exit { thing, loan, .. } => {
+                self.lines_across(alloc, thing, *loan, exit_stage(loan))
+            }
+            Message::Return { thing, loan, .. } => {
+                self.lines_across(alloc, thing, *loan, LineStage::Back)
+            }
+            Message::Receive { thing, loan, .. } => {
+                self.lines_across(alloc, thing, *loan, LineStage::Here)
+            }
+            Message::Move { .. }
+            | Message::Pack { .. }
+            | Message::Authorise { .. }
+            | Message::SignOff { .. }
+            | Message::Extend { .. } => Ok(NewLines::new(alloc)),
         }
+    }
+
+    /// The lines of what crosses with a thing under a loan.
+    fn lines_across(
+        &self,
+        alloc: Global,
+        thing: &ThingCode,
+        loan: LoanCode,
+        stage: LineStage,
+    ) -> Result<NewLines, NoMemory>
+        requires { is_known self.now.museum thing.now ≡ true }
+        ensures { IfOk result (λ lines. lines ≡ map (λ o. record { loan = loan; object = o; stage = stage }) (objects_in self.now.museum self.now.posted thing.now)) }
+    {
+        let objects = self.objects_with(alloc, thing_no(&self.setup, thing))?;
+        lines_of(alloc, loan, &objects, stage)
+    }
+
+    /// The objects among what a thing carries, itself too where it is one.
+    pub(crate) fn objects_with(&self, alloc: Global, thing: ThingNo) -> Result<Vec<ThingNo>, NoMemory>
+        requires { thing < length self.now.museum.things }
+        ensures { IfOk result (λ objects. objects.items ≡ filter (λ o. not (is_container self.now.museum o)) (carried_at self.now.museum self.now.posted thing)) }
+    {
+        let carried = self.nest.carried(alloc, thing)?;
+        objects_among(alloc, &self.setup, carried.as_slice())
+    }
+}
+
+/// The things that are no containers.
+fn objects_among(alloc: Global, setup: &Setup, things: &[ThingNo]) -> Result<Vec<ThingNo>, NoMemory>
+    requires { All (λ y. y < length setup.now.things) things.now }
+    ensures { IfOk result (λ objects. objects.items ≡ filter (λ o. not (is_container setup.now o)) things.now) }
+{
+    let mut objects = Vec::new(alloc);
+    for i in 0..things.len() {
+        if !matches!(setup.kind(things[i]), ThingKind::Container) {
+            objects.push(things[i])?;
+        }
+    }
+    Ok(objects)
+}
+
+/// The numbers of these things, in their order.
+fn numbers_of(alloc: Global, setup: &Setup, codes: &[ThingCode]) -> Result<Vec<ThingNo>, NoMemory>
+    ensures { IfOk result (λ numbers. numbers.items ≡ map (thing_no setup.now) codes.now) }
+{
+    let mut numbers = Vec::new(alloc);
+    for i in 0..codes.len() {
+        numbers.push(thing_no(setup, &codes[i]))?;
+    }
+    Ok(numbers)
+}
+
+/// A line of the loan for each of these objects, at this stage.
+fn lines_of(
+    alloc: Global,
+    loan: LoanCode,
+    objects: &[ThingNo],
+    stage: LineStage,
+) -> Result<NewLines, NoMemory>
+    ensures { IfOk result (λ lines. lines ≡ map (λ o. record { loan = loan; object = o; stage = stage }) objects.now) }
+{
+    let mut lines = NewLines::new(alloc);
+    for i in 0..objects.len() {
+        lines.push(NewLine {
+            loan,
+            object: objects[i],
+            stage,
+        })?;
+    }
+    Ok(lines)
+}
+
+/// The stage to which an exit under the loan takes its objects.
+fn exit_stage(loan: &LoanCode) -> LineStage
+    ensures { (x : List ℕ) → result ≡ (exit_of x loan.now).stage }
+{
+    if loan.is_out() {
+        LineStage::Away
+    } else {
+        LineStage::GivenBack
     }
 }
 
@@ -154,6 +275,12 @@ fn day_of(message: &Message) -> Option<Day>
     match message {
         Message::Move { day, .. } => Some(*day),
         Message::Pack { day, .. } => Some(*day),
-        Message::SignOff { .. } => None,
+        Message::Exit { day, .. } => Some(*day),
+        Message::Return { day, .. } => Some(*day),
+        Message::Receive { day, .. } => Some(*day),
+        Message::Agree { .. }
+        | Message::Authorise { .. }
+        | Message::SignOff { .. }
+        | Message::Extend { .. } => None,
     }
 }

@@ -79,7 +79,7 @@ impl Ledger {
     }
 
     /// Whether a thing's place is inside; without a place it isn't.
-    fn is_inside(&self, thing: ThingNo) -> bool
+    pub(crate) fn is_inside(&self, thing: ThingNo) -> bool
         requires { thing < length self.now.museum.things }
         ensures { result ≡ option_map_or (is_inside self.now.museum) (place_in self.now thing) false }
     {

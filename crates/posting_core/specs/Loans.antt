@@ -1,0 +1,98 @@
+-- How far loans have come, looking back through the posted entries: the stage of each object's line, and each loan's state.
+use Rattle.std.specs.Prelude.{ℕ, ◌&&◌, Bool, true, false, not, List, [], ◌∷◌, Option, Some, None, map, filter, if◌then◌else◌}
+use Rattle.std.specs.List.{list_any, list_all}
+use Rattle.std.specs.Option.{option_map, option_map_or, option_and_then}
+use Rattle.std.specs.Str.{bytes_eq}
+use Rattle.codes_core.specs.Loan.{is_out}
+use Rattle.nest_core.specs.Museum.{Museum, is_container}
+use Rattle.nest_core.specs.Puts.{is_among}
+use Rattle.posting_core.specs.declared.message.Message.{Message}
+use Rattle.posting_core.specs.declared.message.Message.TheVariants.{Move, Pack, Agree, Authorise, Exit, Return, Receive, SignOff, Extend}
+use Rattle.posting_core.specs.declared.entry.Entry.{Entry}
+use Rattle.posting_core.specs.declared.stage.LineStage.{LineStage}
+use Rattle.posting_core.specs.declared.stage.LineStage.TheVariants.{Awaiting, Away, Back, Here, GivenBack}
+use Rattle.posting_core.specs.declared.stage.LoanState.{LoanState}
+use Rattle.posting_core.specs.declared.stage.LoanState.TheVariants.{Draft, Authorised, Running, Closed}
+use Rattle.posting_core.specs.Messages.{thing_no}
+use Rattle.posting_core.specs.Agreements.{Agreement, agreement, is_authorised}
+use Rattle.posting_core.specs.VerdictNames.{is_applied}
+use Rattle.posting_core.specs.History.{carried_at}
+
+-- a thing that crosses under a loan: the stage that the lines of its objects have before, and the one that they get
+pub record Crossing : Type 0 where
+  pub thing : List ℕ
+  pub loan : List ℕ
+  pub wanted : LineStage
+  pub stage : LineStage
+
+-- an exit under a loan out takes objects away; one under a loan in gives them back
+abbrev pub exit_of : List ℕ → List ℕ → Crossing
+exit_of x loan = if is_out loan
+    then record { thing = x; loan = loan; wanted = Awaiting; stage = Away }
+    else record { thing = x; loan = loan; wanted = Here; stage = GivenBack }
+
+abbrev pub crossing_in : Message → Option Crossing
+crossing_in (Move x p day) = None
+crossing_in (Pack x c day) = None
+crossing_in (Agree loan partner objects first last) = None
+crossing_in (Authorise loan name) = None
+crossing_in (Exit x loan day) = Some (exit_of x loan)
+crossing_in (Return x loan p day) = Some (record { thing = x; loan = loan; wanted = Away; stage = Back })
+crossing_in (Receive x loan p day) = Some (record { thing = x; loan = loan; wanted = Awaiting; stage = Here })
+crossing_in (SignOff name) = None
+crossing_in (Extend loan last) = None
+
+-- the objects among what a thing carries, itself too where it is one
+abbrev pub objects_in : Museum → List Entry → List ℕ → List ℕ
+objects_in S P x = filter (λ o. not (is_container S o)) (carried_at S P (thing_no S x))
+
+-- the stage that an object's line gets by an entry after P, where it crosses under the loan in it
+abbrev pub stage_by : Museum → List Entry → Message → List ℕ → ℕ → Option LineStage
+stage_by S P m loan o = option_and_then
+    (λ x. if bytes_eq x.loan loan && is_among o (objects_in S P x.thing) then Some x.stage else None)
+    (crossing_in m)
+
+-- the stage that the last applied crossing of the loan with the object in it gave; where there is none it is awaited
+abbrev pub stage : Museum → List Entry → List ℕ → ℕ → LineStage
+stage S [] loan o = Awaiting
+stage S (e ∷ P) loan o =
+    option_map_or (λ s. s) (if is_applied e.verdict then stage_by S P e.message loan o else None) (stage S P loan o)
+
+-- the objects of an agreement, by number
+abbrev pub objects_of : Museum → Agreement → List ℕ
+objects_of S t = map (thing_no S) t.objects
+
+-- a loan's objects, by number, in the order of its agreement; none where it isn't agreed
+abbrev pub objects : Museum → List Entry → List ℕ → List ℕ
+objects S P loan = option_map_or (objects_of S) (agreement P loan) []
+
+-- the stage of an object's line, where the loan lists it
+abbrev pub line : Museum → List Entry → List ℕ → ℕ → Option LineStage
+line S P loan o = if is_among o (objects S P loan) then Some (stage S P loan o) else None
+
+-- nothing more is owed
+abbrev pub is_done : LineStage → Bool
+is_done Awaiting = false
+is_done Away = false
+is_done Back = true
+is_done Here = false
+is_done GivenBack = true
+
+abbrev pub is_awaiting : LineStage → Bool
+is_awaiting Awaiting = true
+is_awaiting Away = false
+is_awaiting Back = false
+is_awaiting Here = false
+is_awaiting GivenBack = false
+
+-- the state of a loan, whether or not authorised, by the stages of its lines
+abbrev pub state_by : Bool → List LineStage → LoanState
+state_by authorised stages =
+    if not authorised then Draft
+    else (if list_all is_done stages then Closed
+    else (if list_any (λ s. not (is_awaiting s)) stages then Running
+    else Authorised))
+
+-- a loan's state
+abbrev pub loan_state : Museum → List Entry → List ℕ → Option LoanState
+loan_state S P loan = option_map (λ t. state_by (is_authorised P loan) (map (stage S P loan) (objects_of S t))) (agreement P loan)

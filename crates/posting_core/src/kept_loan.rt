@@ -1,0 +1,194 @@
+//! What a ledger keeps of one loan.
+ghost use Rattle.std.specs.Prelude.{◌≡◌, ◌<◌, false, not, List, ℕ, map, IfOk};
+ghost use Rattle.std.specs.List.{list_any};
+ghost use Rattle.posting_core.specs.declared.stage.LineStage.{LineStage as Stage};
+ghost use Rattle.posting_core.specs.declared.stage.LineStage.TheVariants.{Awaiting};
+ghost use Rattle.posting_core.specs.Messages.{thing_no, place_no};
+ghost use Rattle.posting_core.specs.Loans.{is_done, is_awaiting, state_by};
+ghost use Rattle.posting_core.specs.Verdicts.{is_known, repeats};
+ghost use Rattle.posting_core.specs.LoanRows.{LoanRow, line_of, state_of, authorised_row, extended_row, with_stage, with_lines};
+
+use crate::numbers::{place_no, thing_no};
+use crate::{LineStage, LoanState, NewLine};
+use codes_core::{Day, LoanCode, NoMemory, PlaceCode, ThingCode};
+use indexmap::IndexSet;
+use nest_core::{PlaceNo, Setup, ThingNo};
+use std::alloc::Global;
+use std::marker::Model;
+
+/// A loan, its objects found by number; seen as its row.
+#[derive(Drop)]
+pub(crate) struct KeptLoan {
+    loan: LoanCode,
+    partner: PlaceNo,
+    objects: IndexSet<ThingNo>,
+    stages: Vec<LineStage>,
+    last: Day,
+    authorised: bool,
+}
+
+impl Model for KeptLoan {
+    ghost use Rattle.std.specs.Prelude.{◌≡◌, length};
+    ghost use Rattle.posting_core.specs.LoanRows.{LoanRow};
+
+    ghost Value = { LoanRow };
+
+    ghost view = { λ k. record { loan = k.loan; partner = k.partner; objects = k.objects.keys; stages = k.stages.items; last = k.last; authorised = k.authorised } };
+
+    ghost invariant = { λ k. length k.stages.items ≡ length k.objects.keys };
+}
+
+impl KeptLoan {
+    /// A loan that is just agreed: its objects are things of the setup, none stands twice, and each is awaited.
+    pub(crate) fn new(
+        alloc: Global,
+        setup: &Setup,
+        loan: LoanCode,
+        partner: &PlaceCode,
+        objects: &[ThingCode],
+        last: Day,
+    ) -> Result<KeptLoan, NoMemory>
+        requires known { list_any (λ x. not (is_known setup.now x)) objects.now ≡ false }
+        requires once { repeats objects.now ≡ false }
+        ensures { IfOk result (λ row. row ≡ record {
+            loan = loan; partner = place_no setup.now partner.now; objects = map (thing_no setup.now) objects.now;
+            stages = map (λ o. Awaiting) (map (thing_no setup.now) objects.now); last = last; authorised = false }) }
+    {
+        let (objects, stages) = awaited(alloc, setup, objects)?;
+        Ok(KeptLoan {
+            loan,
+            partner: place_no(setup, partner),
+            objects,
+            stages,
+            last,
+            authorised: false,
+        })
+    }
+
+    /// The loan's code.
+    pub(crate) fn loan(&self) -> LoanCode
+        ensures { result ≡ self.now.loan }
+    {
+        self.loan
+    }
+
+    /// The partner's place.
+    pub(crate) fn partner(&self) -> PlaceNo
+        ensures { result ≡ self.now.partner }
+    {
+        self.partner
+    }
+
+    /// The objects, in the order of the agreement.
+    pub(crate) fn objects(&self) -> &[ThingNo]
+        ensures { result.now ≡ self.now.objects }
+    {
+        self.objects.as_slice()
+    }
+
+    /// The stage of an object's line, where the loan lists it.
+    pub(crate) fn stage_of(&self, object: ThingNo) -> Option<LineStage>
+        ensures { result ≡ line_of self.now object }
+    {
+        let i = self.objects.get_index_of(&object)?;
+        Some(self.stages[i])
+    }
+
+    /// How far the loan has come.
+    pub(crate) fn state(&self) -> LoanState
+        ensures { result ≡ state_of self.now }
+    {
+        state_of(self.authorised, &self.stages)
+    }
+
+    /// The last day.
+    pub(crate) fn last(&self) -> Day
+        ensures { result ≡ self.now.last }
+    {
+        self.last
+    }
+
+    /// Whether the loan is authorised.
+    pub(crate) fn is_authorised(&self) -> bool
+        ensures { result ≡ self.now.authorised }
+    {
+        self.authorised
+    }
+
+    /// The loan is authorised.
+    pub(crate) fn authorise(&mut self)
+        ensures { self.new ≡ authorised_row self.old }
+    {
+        self.authorised = true;
+    }
+
+    /// The loan gets another last day.
+    pub(crate) fn extend(&mut self, last: Day)
+        ensures { self.new ≡ extended_row last self.old }
+    {
+        self.last = last;
+    }
+
+    /// The lines get their stages, in turn.
+    pub(crate) fn cross(&mut self, lines: &[NewLine])
+        ensures { self.new ≡ with_lines lines.now self.old }
+    {
+        for i in 0..lines.len() {
+            self.set_stage(lines[i].object, lines[i].stage);
+        }
+    }
+
+    fn set_stage(&mut self, object: ThingNo, stage: LineStage)
+        ensures { self.new ≡ with_stage self.old object stage }
+    {
+        if let Some(i) = self.objects.get_index_of(&object) {
+            self.stages[i] = stage;
+        }
+    }
+}
+
+/// The numbers of these objects, each with a line that is awaited.
+fn awaited(
+    alloc: Global,
+    setup: &Setup,
+    objects: &[ThingCode],
+) -> Result<(IndexSet<ThingNo>, Vec<LineStage>), NoMemory>
+    requires known { list_any (λ x. not (is_known setup.now x)) objects.now ≡ false }
+    requires once { repeats objects.now ≡ false }
+    ensures { IfOk result (λ both. (both.0.keys ≡ map (thing_no setup.now) objects.now) × (both.1.items ≡ map (λ o. Awaiting) (map (thing_no setup.now) objects.now))) }
+{
+    let mut numbers = IndexSet::new(alloc);
+    let mut stages = Vec::new(alloc);
+    for i in 0..objects.len() {
+        numbers.insert(thing_no(setup, &objects[i]))?;
+        stages.push(LineStage::Awaiting)?;
+    }
+    Ok((numbers, stages))
+}
+
+fn state_of(authorised: bool, stages: &[LineStage]) -> LoanState
+    ensures { result ≡ state_by authorised stages.now }
+{
+    if !authorised {
+        return LoanState::Draft;
+    }
+    if stages.iter().all(|s| is_done(*s)) {
+        return LoanState::Closed;
+    }
+    if stages.iter().any(|s| !is_awaiting(*s)) {
+        return LoanState::Running;
+    }
+    LoanState::Authorised
+}
+
+fn is_done(stage: LineStage) -> bool
+    ensures { result ≡ is_done stage }
+{
+    matches!(stage, LineStage::Back | LineStage::GivenBack)
+}
+
+fn is_awaiting(stage: LineStage) -> bool
+    ensures { result ≡ is_awaiting stage }
+{
+    matches!(stage, LineStage::Awaiting)
+}

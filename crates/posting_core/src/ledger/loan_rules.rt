@@ -1,0 +1,126 @@
+//! The rules of what is agreed of loans: agreement, authorisation and extension.
+ghost use Rattle.std.specs.Prelude.{◌≡◌, not};
+ghost use Rattle.std.specs.List.{list_any};
+ghost use Rattle.posting_core.specs.Verdicts.{first_of, agree_rows, authorise_rows, extend_rows, is_known, is_container_code, is_of_wrong_owner, repeats};
+
+use super::Ledger;
+use crate::Verdict;
+use codes_core::{Day, LoanCode, PlaceCode, ThingCode, ThingKind};
+use nest_core::Setup;
+
+impl Ledger {
+    pub(crate) fn judge_agree(
+        &self,
+        loan: &LoanCode,
+        partner: &PlaceCode,
+        objects: &[ThingCode],
+        first: Day,
+        last: Day,
+    ) -> Verdict
+        ensures { result ≡ first_of (agree_rows self.now.museum self.now.posted loan.now partner.now objects.now first last) }
+    {
+        if any_unknown(&self.setup, objects) {
+            return Verdict::UnknownThing;
+        }
+        let Some(place) = self.setup.place(partner) else {
+            return Verdict::UnknownPlace;
+        };
+        if self.loan(loan).is_some() {
+            return Verdict::LoanKnown;
+        }
+        if self.setup.is_inside(place) {
+            return Verdict::InsidePartner;
+        }
+        if objects.is_empty() {
+            return Verdict::NoObjects;
+        }
+        if any_container(objects) {
+            return Verdict::NotObject;
+        }
+        if repeats(objects) {
+            return Verdict::Repeated;
+        }
+        if any_of_wrong_owner(loan, objects) {
+            return Verdict::WrongOwner;
+        }
+        if last < first {
+            return Verdict::BadTerm;
+        }
+        Verdict::Applied
+    }
+
+    pub(crate) fn judge_authorise(&self, loan: &LoanCode) -> Verdict
+        ensures { result ≡ first_of (authorise_rows self.now.posted loan.now) }
+    {
+        let Some(kept) = self.loan(loan) else {
+            return Verdict::UnknownLoan;
+        };
+        if kept.is_authorised() {
+            return Verdict::AlreadyAuthorised;
+        }
+        Verdict::Applied
+    }
+
+    pub(crate) fn judge_extend(&self, loan: &LoanCode, last: Day) -> Verdict
+        ensures { result ≡ first_of (extend_rows self.now.posted loan.now last) }
+    {
+        let Some(kept) = self.loan(loan) else {
+            return Verdict::UnknownLoan;
+        };
+        if !kept.is_authorised() {
+            return Verdict::NotAuthorised;
+        }
+        if last <= kept.last() {
+            return Verdict::NotLater;
+        }
+        Verdict::Applied
+    }
+}
+
+fn any_unknown(setup: &Setup, objects: &[ThingCode]) -> bool
+    ensures { result ≡ list_any (λ x. not (is_known setup.now x)) objects.now }
+{
+    objects.iter().any(|x| setup.thing(x).is_none())
+}
+
+/// Whether a code is a container's.
+pub(crate) fn is_container_code(code: &ThingCode) -> bool
+    ensures { result ≡ is_container_code code.now }
+{
+    matches!(code.kind(), ThingKind::Container)
+}
+
+fn any_container(objects: &[ThingCode]) -> bool
+    ensures { result ≡ list_any is_container_code objects.now }
+{
+    objects.iter().any(is_container_code)
+}
+
+/// Whether a loan out would list a borrowed object, or a loan in an own one.
+fn is_of_wrong_owner(loan: &LoanCode, object: &ThingCode) -> bool
+    ensures { result ≡ is_of_wrong_owner loan.now object.now }
+{
+    if loan.is_out() {
+        matches!(object.kind(), ThingKind::Borrowed)
+    } else {
+        matches!(object.kind(), ThingKind::Own)
+    }
+}
+
+fn any_of_wrong_owner(loan: &LoanCode, objects: &[ThingCode]) -> bool
+    ensures { result ≡ list_any (is_of_wrong_owner loan.now) objects.now }
+{
+    objects.iter().any(|x| is_of_wrong_owner(loan, x))
+}
+
+/// Whether some code stands twice.
+fn repeats(objects: &[ThingCode]) -> bool
+    ensures { result ≡ repeats objects.now }
+{
+    for i in 0..objects.len() {
+        if objects[i + 1..].contains(&objects[i]) {
+            return true;
+        }
+    }
+    false
+}

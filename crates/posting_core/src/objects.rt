@@ -1,0 +1,55 @@
+//! The objects that a loan lists.
+ghost use Rattle.std.specs.Prelude.{◌≡◌, ◌<◌, ◌≤◌, length, Vec, MatchResult, IfOk};
+
+use codes_core::{NoMemory, ThingCode};
+use std::alloc::Global;
+use std::marker::Model;
+
+/// The most objects that a loan lists.
+const MOST: usize = 256;
+
+/// The codes that a loan lists, in the order given; at most 256. Seen as their list.
+#[derive(Drop)]
+pub struct Objects {
+    codes: Vec<ThingCode>,
+}
+
+impl Model for Objects {
+    ghost use Rattle.std.specs.Prelude.{List, ℕ, ◌≤◌, length};
+
+    ghost Value = { List (List ℕ) };
+
+    ghost view = { λ o. o.codes.items };
+
+    ghost invariant = { λ o. length o.codes.items ≤ 256 };
+}
+
+impl Objects {
+    /// These codes, of any kind; more than 256 are handed back.
+    pub fn new(codes: Vec<ThingCode>) -> Result<Objects, Vec<ThingCode>>
+        ensures { MatchResult result (λ objects. (objects ≡ codes.items) × (length codes.items ≤ 256))
+            (λ back. (back ≡ codes) × (256 < length codes.items)) }
+    {
+        if codes.len() > MOST {
+            return Err(codes);
+        }
+        Ok(Objects { codes })
+    }
+
+    /// The codes, in the order given.
+    pub fn as_slice(&self) -> &[ThingCode]
+        ensures codes { result.now ≡ self.now }
+        ensures few { length self.now ≤ 256 }
+    {
+        &self.codes
+    }
+
+    /// Another list of the same codes; else NoMemory.
+    pub(crate) fn copy(&self, alloc: Global) -> Result<Objects, NoMemory>
+        ensures { IfOk result (λ copy. copy ≡ self.now) }
+    {
+        let mut codes = Vec::new(alloc);
+        codes.extend_from_slice(&self.codes)?;
+        Ok(Objects { codes })
+    }
+}

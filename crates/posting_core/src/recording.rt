@@ -1,0 +1,50 @@
+//! What an entry writes of the loans.
+ghost use Rattle.std.specs.Prelude.{◌≡◌, true, is_some, if◌then◌else◌, IfSome, OnOk, OnErr};
+ghost use Rattle.posting_core.specs.VerdictNames.{is_applied};
+ghost use Rattle.posting_core.specs.Agreements.{agreement_by, agreement_in};
+ghost use Rattle.posting_core.specs.LoanRows.{rows_with, MayAgree};
+
+use crate::kept_loan::KeptLoan;
+use crate::kept_loans::KeptLoans;
+use crate::{Message, NewLine, Verdict};
+use codes_core::NoMemory;
+use nest_core::Setup;
+use std::alloc::Global;
+
+/// Writes a message and its lines under this verdict. Only an agreement takes memory; after NoMemory the loans are
+/// unchanged.
+pub(crate) fn record(
+    alloc: Global,
+    loans: &mut KeptLoans,
+    setup: &Setup,
+    verdict: Verdict,
+    message: &Message,
+    lines: &[NewLine],
+) -> Result<(), NoMemory>
+    requires { IfSome (agreement_by verdict message.now) (MayAgree setup.now loans.old) }
+    ensures ok { OnOk result (loans.new ≡ (if is_applied verdict then rows_with setup.now loans.old message.now lines.now else loans.old)) }
+    ensures err { OnErr result ((loans.new ≡ loans.old) × (is_some (agreement_in message.now) ≡ true)) }
+{
+    if !matches!(verdict, Verdict::Applied) {
+        return Ok(());
+    }
+    match message {
+        Message::Agree {
+            loan,
+            partner,
+            objects,
+            last,
+            ..
+        } => {
+            let row = KeptLoan::new(alloc, setup, *loan, partner, objects.as_slice(), *last)?;
+            loans.push(row)?;
+        }
+        Message::Authorise { loan, .. } => loans.authorise(loan),
+        Message::Exit { loan, .. } => loans.cross(loan, lines),
+        Message::Return { loan, .. } => loans.cross(loan, lines),
+        Message::Receive { loan, .. } => loans.cross(loan, lines),
+        Message::Extend { loan, last } => loans.extend(loan, *last),
+        Message::Move { .. } | Message::Pack { .. } | Message::SignOff { .. } => {}
+    }
+    Ok(())
+}
