@@ -1,4 +1,7 @@
+pub mod Agreed
+pub mod AppliedRows
 pub mod LastSpots
+pub mod Lined
 mod PackedRows
 pub mod Placed
 pub mod Posted
