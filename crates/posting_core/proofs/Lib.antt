@@ -1,5 +1,6 @@
 pub mod Agreed
 pub mod AppliedRows
+pub mod Found
 pub mod LastSpots
 pub mod Lined
 mod PackedRows

@@ -32,7 +32,7 @@ use Rattle.posting_core.proofs.AppliedRows.{none_some, false_true, held, applied
 use Rattle.posting_core.proofs.Agreed.{IsSound, AreApart, IsUntouched, agreements_apart, agreements_sound, agree_applied, untouched, apart_sym}
 
 -- where a test first passes in a list of one more
-position_cons : {X : Type 0} (p : X → Bool) (x : X) (xs : List X) → position p (x ∷ xs) ≡ (if p x then Some zero else option_map suc (position p xs))
+pub position_cons : {X : Type 0} (p : X → Bool) (x : X) (xs : List X) → position p (x ∷ xs) ≡ (if p x then Some zero else option_map suc (position p xs))
 position_cons p x xs = elim (p x) as (λ b. p x ≡ b → position p (x ∷ xs) ≡ (if b then Some zero else option_map suc (position p xs))) [
   | true ↦ λ e. rw e (first (length xs))
   | false ↦ λ e. rw e (later (position_or_len p xs) (length xs))
@@ -46,7 +46,7 @@ position_cons p x xs = elim (p x) as (λ b. p x ≡ b → position p (x ∷ xs) 
       | false ↦ λ e. let same : nat_lt (1 + n) (suc len) ≡ false = grind (arith, nat_tests) in rw same refl
     ] refl
 
-eq_sym : (a b : ℕ) → nat_eq a b ≡ (b == a)
+pub eq_sym : (a b : ℕ) → nat_eq a b ≡ (b == a)
 eq_sym a b = grind (arith, nat_tests)
 
 -- none of the numbers stands twice
