@@ -1,3 +1,4 @@
+pub mod KeptLoans
 pub mod LastSpots
 mod PackedRows
 pub mod Placed
