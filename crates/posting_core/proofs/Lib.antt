@@ -1,6 +1,7 @@
 pub mod Agreed
 pub mod AppliedRows
 pub mod Found
+pub mod KeptLoans
 pub mod LastSpots
 pub mod Lined
 mod PackedRows
