@@ -26,7 +26,7 @@ museum = record {
 abbrev pub pack : ℕ
 pack = 0
 
-abbrev gal : ℕ
+abbrev pub gal : ℕ
 gal = 1
 
 abbrev pub s1 : ℕ
@@ -37,6 +37,12 @@ s1_a = 1
 
 abbrev pub s2 : ℕ
 s2 = 2
+
+abbrev pub museum_x : ℕ
+museum_x = 3
+
+abbrev pub lender_y : ℕ
+lender_y = 4
 
 abbrev pub crate_1 : ℕ
 crate_1 = 0
@@ -50,7 +56,10 @@ object_1 = 2
 abbrev pub object_2 : ℕ
 object_2 = 3
 
-abbrev borrowed : ℕ
+abbrev pub object_3 : ℕ
+object_3 = 4
+
+abbrev pub borrowed : ℕ
 borrowed = 5
 
 -- 2024-05-01
@@ -123,7 +132,7 @@ held_then_posted-change = refl
 
 -- a first placement has the number 1
 held_then_posted-first : changes_of (book held_then_posted) (moved (codes "2001.4.3") (codes "S2")) ≡
-    record { entry = 4; verdict = Applied; spots = record { thing = 4; k = 1; spot = spot 4 s2 } ∷ []; lines = [] }
+    record { entry = 4; verdict = Applied; spots = record { thing = object_3; k = 1; spot = spot 4 s2 } ∷ []; lines = [] }
 held_then_posted-first = refl
 
 -- a Move to the place where the thing is changes nothing but the posted list
