@@ -68,11 +68,11 @@ loan_in-spots = refl
 
 -- a receipt writes the object's first spot, and its line
 loan_in-receiving : changes_of (book awaited) (received may_31) ≡ record {
-      entry = 4;
-      verdict = Applied;
-      spots = record { thing = borrowed; k = 1; spot = record { entry = 4; place = s1; day = may_31 } } ∷ [];
-      lines = record { loan = loan_in_1; object = borrowed; stage = Here } ∷ [];
-    }
+  entry = 4;
+  verdict = Applied;
+  spots = record { thing = borrowed; k = 1; spot = record { entry = 4; place = s1; day = may_31 } } ∷ [];
+  lines = record { loan = loan_in_1; object = borrowed; stage = Here } ∷ [];
+}
 loan_in-receiving = refl
 
 -- tour_of_verdicts

@@ -1,6 +1,6 @@
 mod BorrowedRows
 pub mod LastSpots
-pub mod LoanedRows
+mod LoanedRows
 mod PackedRows
 pub mod Placed
 pub mod Posted

@@ -135,11 +135,11 @@ loan_out-agreeing = refl
 
 -- an exit changes the lines of all objects that cross, ascending, and writes a spot of each thing
 loan_out-leaving : changes_of (book ready) (leaves (codes "C1") loan_1 may_31) ≡ record {
-      entry = 11;
-      verdict = Applied;
-      spots = new crate_1 2 (spot_on 11 museum_x may_31) ∷ new object_1 2 (spot_on 11 museum_x may_31) ∷ new object_2 2 (spot_on 11 museum_x may_31) ∷ [];
-      lines = new_line object_1 Away ∷ new_line object_2 Away ∷ [];
-    }
+  entry = 11;
+  verdict = Applied;
+  spots = new crate_1 2 (spot_on 11 museum_x may_31) ∷ new object_1 2 (spot_on 11 museum_x may_31) ∷ new object_2 2 (spot_on 11 museum_x may_31) ∷ [];
+  lines = new_line object_1 Away ∷ new_line object_2 Away ∷ [];
+}
 loan_out-leaving = refl
 
 -- a refused one changes neither
