@@ -8,8 +8,8 @@ ghost use Rattle.posting_core.specs.Loans.{exit_of};
 ghost use Rattle.posting_core.specs.Verdicts.{first_of, exit_rows, return_rows, receive_rows, stage_eq};
 ghost use Rattle.posting_core.specs.LoanRows.{LoanRow, line_of, refusal_of};
 
-use super::Ledger;
 use super::loan_rules::is_container_code;
+use super::Ledger;
 use crate::kept_loan::KeptLoan;
 use crate::{LineStage, Verdict};
 use codes_core::{Day, LoanCode, NoMemory, PlaceCode, ThingCode};
