@@ -1,9 +1,11 @@
 pub mod Agreed
 pub mod AppliedRows
+mod BorrowedRows
 pub mod Found
 pub mod KeptLoans
 pub mod LastSpots
 pub mod Lined
+mod LoanedRows
 mod PackedRows
 pub mod Placed
 pub mod Posted
