@@ -1,5 +1,5 @@
 -- Loans that are kept, found by their codes, and the numbers of their objects, of which none stands twice.
-use Rattle.std.specs.Prelude.{◌≡◌, ℕ, ◌+◌, ◌<◌, ◌≤◌, ◌||◌, Bool, true, false, cond, not, List, [], ◌∷◌, ◌++◌, length, map, Option, Some, None, nat_lt, nat_eq, is_some, unwrap_or, slice_get, slice_set, refl, zero, suc}
+use Rattle.std.specs.Prelude.{◌≡◌, ℕ, ◌+◌, ◌<◌, ◌||◌, Bool, true, false, cond, not, List, [], ◌∷◌, ◌++◌, length, map, Option, Some, None, nat_lt, nat_eq, is_some, unwrap_or, slice_get, slice_set, refl, zero, suc}
 use Rattle.std.specs.List.{find, position, position_or_len, list_any, list_all}
 use Rattle.std.specs.Str.{bytes_eq}
 use Rattle.std.proofs.lemmas.Slice.Eq.{bytes_eq-Decides}
@@ -15,7 +15,7 @@ use Rattle.nest_core.specs.Museum.{Museum, find_thing, thing_codes}
 use Rattle.nest_core.proofs.Positions.{absent, insert_key_new}
 use Rattle.posting_core.specs.declared.stage.LineStage.{LineStage}
 use Rattle.posting_core.specs.declared.stage.LineStage.TheVariants.{Awaiting}
-use Rattle.posting_core.specs.declared.stage.LoanState.TheVariants.{Draft, Authorised, Running, Closed}
+use Rattle.posting_core.specs.declared.stage.LoanState.TheVariants.{Authorised, Closed}
 use Rattle.posting_core.specs.declared.entry.NewLine.{NewLine}
 use Rattle.posting_core.specs.Messages.{thing_no}
 use Rattle.posting_core.specs.Loans.{is_done, is_awaiting, state_by}
@@ -45,10 +45,10 @@ changed_first f loan [] d new = λ less is. refl
 changed_first f loan (row ∷ rows) d new = elim (bytes_eq loan row.loan) as (λ t. cond (not t) (1 + position_or_len (bytes_eq loan) (loan_codes rows)) 0 < suc (length (loan_codes rows)) →
     new ≡ f (get_or (row ∷ rows) (cond (not t) (1 + position_or_len (bytes_eq loan) (loan_codes rows)) 0) d) →
     slice_set (row ∷ rows) (cond (not t) (1 + position_or_len (bytes_eq loan) (loan_codes rows)) 0) new ≡ cond t (f row ∷ rows) (row ∷ changed f loan rows)) [
-  | true ↦ λ less is. ap (λ r. r ∷ rows) is
-  | false ↦ λ less. subst (λ k. new ≡ f (get_or (row ∷ rows) k d) → slice_set (row ∷ rows) k new ≡ row ∷ changed f loan rows) (next (position_or_len (bytes_eq loan) (loan_codes rows)))
-      (λ is. ap (λ rest. row ∷ rest) (changed_first f loan rows d new (omega arith) is))
-]
+      | true ↦ λ less is. ap (λ r. r ∷ rows) is
+      | false ↦ λ less. subst (λ k. new ≡ f (get_or (row ∷ rows) k d) → slice_set (row ∷ rows) k new ≡ row ∷ changed f loan rows) (next (position_or_len (bytes_eq loan) (loan_codes rows)))
+          (λ is. ap (λ rest. row ∷ rest) (changed_first f loan rows d new (omega arith) is))
+    ]
 
 -- a loan's row is changed where its code stands
 pub changed_at : (f : LoanRow → LoanRow) (loan : List ℕ) (rows : List LoanRow) (i : ℕ) (d new : LoanRow) → position (bytes_eq loan) (loan_codes rows) ≡ Some i →
@@ -61,9 +61,9 @@ unchanged : (f : LoanRow → LoanRow) (loan : List ℕ) (rows : List LoanRow) �
 unchanged f loan [] = λ none. refl
 unchanged f loan (row ∷ rows) = elim (bytes_eq loan row.loan) as (λ t. cond (not t) (1 + position_or_len (bytes_eq loan) (loan_codes rows)) 0 ≡ suc (length (loan_codes rows)) →
     row ∷ rows ≡ cond t (f row ∷ rows) (row ∷ changed f loan rows)) [
-  | true ↦ λ none. absurd (omega arith)
-  | false ↦ λ none. ap (λ rest. row ∷ rest) (unchanged f loan rows (omega arith))
-]
+      | true ↦ λ none. absurd (omega arith)
+      | false ↦ λ none. ap (λ rest. row ∷ rest) (unchanged f loan rows (omega arith))
+    ]
 
 -- and none where it doesn't stand
 pub changed_none : (f : LoanRow → LoanRow) (loan : List ℕ) (rows : List LoanRow) → position (bytes_eq loan) (loan_codes rows) ≡ None → rows ≡ changed f loan rows
@@ -144,9 +144,6 @@ one_more_kept codes rows seen row loan after same view code none more =
 -- the state by the stages of the lines
 pub is_closed : (authorised : Bool) (stages : List LineStage) → authorised ≡ true → list_all is_done stages ≡ true → Closed ≡ state_by authorised stages
 is_closed authorised stages a d = rw (a, d) refl
-
-pub is_running : (authorised : Bool) (stages : List LineStage) → authorised ≡ true → list_all is_done stages ≡ false → list_any (λ s. not (is_awaiting s)) stages ≡ true → Running ≡ state_by authorised stages
-is_running authorised stages a d n = rw (a, d, n) refl
 
 pub is_waiting : (authorised : Bool) (stages : List LineStage) → authorised ≡ true → list_all is_done stages ≡ false → list_any (λ s. not (is_awaiting s)) stages ≡ false → Authorised ≡ state_by authorised stages
 is_waiting authorised stages a d n = rw (a, d, n) refl

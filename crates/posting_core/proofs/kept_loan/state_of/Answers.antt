@@ -1,8 +1,8 @@
-use Rattle.std.proofs.Common.{rules, tests, ◌∙◌, ◌≡◌, sym, not}
+use Rattle.std.proofs.Common.{rules, tests, not}
 use Rattle.std.proofs.lemmas.Iterator.{YieldsList-from_slice}
 use Rattle.std.proofs.lemmas.Iterator.Search.{all_from_yields_List, any_from_yields_List}
 use Rattle.posting_core.specs.Loans.{is_done, is_awaiting}
-use Rattle.posting_core.proofs.KeptLoans.{is_closed, is_running, is_waiting}
+use Rattle.posting_core.proofs.KeptLoans.{is_closed, is_waiting}
 use Rattle.posting_core.proofs.kept_loan.state_of.Goals as goal
 
 pub returns-then-all : goal.returns-then-all
