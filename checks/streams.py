@@ -1,7 +1,7 @@
-"""Mixed streams of lines, the same in every run: some mostly of packing, some mostly of loans.
+"""Mixed streams of lines, the same in every run: of three, two are of packing and one is of loans.
 
-Every other one is mildly out of order, with some lines twice and with gaps; the others are nearly in order, so that more
-is posted."""
+Every other one is mildly out of order, with some lines twice and with gaps; the others are nearly in order, so that
+more is posted."""
 import json
 
 ELSEWHERE = ["MUSEUM-X", "LENDER-Y"]
