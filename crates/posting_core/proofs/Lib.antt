@@ -1,3 +1,4 @@
+pub mod Judged
 pub mod LastSpots
 mod PackedRows
 pub mod Placed

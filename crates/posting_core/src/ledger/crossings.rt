@@ -4,9 +4,9 @@ ghost use Rattle.std.specs.List.{list_any};
 ghost use Rattle.std.specs.Option.{option_map_or};
 ghost use Rattle.nest_core.specs.Museum.{is_container};
 ghost use Rattle.posting_core.specs.History.{carried_at};
-ghost use Rattle.posting_core.specs.Loans.{exit_of};
-ghost use Rattle.posting_core.specs.Verdicts.{first_of, exit_rows, return_rows, receive_rows, stage_eq};
-ghost use Rattle.posting_core.specs.LoanRows.{LoanRow, line_of, refusal_of};
+ghost use Rattle.posting_core.specs.Loans.{exit_of, line};
+ghost use Rattle.posting_core.specs.Verdicts.{first_of, exit_rows, return_rows, receive_rows, stage_eq, is_listed, is_at_stage};
+ghost use Rattle.posting_core.specs.LoanRows.{LoanRow, line_of};
 
 use super::loan_rules::is_container_code;
 use super::Ledger;
@@ -41,8 +41,12 @@ impl Ledger {
         if !self.is_inside(x) {
             return Ok(Verdict::NotHere);
         }
-        if let Some(refusal) = self.lines_refusal(alloc, x, kept, wanted_by_exit(loan))? {
-            return Ok(refusal);
+        let objects = self.objects_with(alloc, x)?;
+        if self.any_unlisted(loan, kept, &objects) {
+            return Ok(Verdict::NotListed);
+        }
+        if self.any_not_at(loan, kept, wanted_by_exit(loan), &objects) {
+            return Ok(Verdict::WrongStage);
         }
         if loan.is_out() && kept.last() < day {
             return Ok(Verdict::TermOver);
@@ -80,8 +84,12 @@ impl Ledger {
         if self.place_of(x) != Some(kept.partner()) {
             return Ok(Verdict::NotWithPartner);
         }
-        if let Some(refusal) = self.lines_refusal(alloc, x, kept, LineStage::Away)? {
-            return Ok(refusal);
+        let objects = self.objects_with(alloc, x)?;
+        if self.any_unlisted(loan, kept, &objects) {
+            return Ok(Verdict::NotListed);
+        }
+        if self.any_not_at(loan, kept, LineStage::Away, &objects) {
+            return Ok(Verdict::WrongStage);
         }
         Ok(Verdict::Applied)
     }
@@ -120,8 +128,12 @@ impl Ledger {
         if self.is_inside(x) {
             return Ok(Verdict::AlreadyHere);
         }
-        if let Some(refusal) = self.lines_refusal(alloc, x, kept, LineStage::Awaiting)? {
-            return Ok(refusal);
+        let objects = self.objects_with(alloc, x)?;
+        if self.any_unlisted(loan, kept, &objects) {
+            return Ok(Verdict::NotListed);
+        }
+        if self.any_not_at(loan, kept, LineStage::Awaiting, &objects) {
+            return Ok(Verdict::WrongStage);
         }
         if kept.last() < day {
             return Ok(Verdict::TermOver);
@@ -129,33 +141,29 @@ impl Ledger {
         Ok(Verdict::Applied)
     }
 
-    /// Why what a thing carries can't cross: an object isn't listed, or its line isn't at the stage wanted.
-    fn lines_refusal(
+    /// Whether an object isn't on the loan's list.
+    fn any_unlisted(&self, loan: &LoanCode, kept: &KeptLoan, objects: &[ThingNo]) -> bool
+        requires { (o : ℕ) → line_of kept.now o ≡ line self.now.museum self.now.posted loan.now o }
+        ensures { result ≡ list_any (λ o. not (is_listed self.now.museum self.now.posted loan.now o)) objects.now }
+    {
+        let _ = loan;
+        any_unlisted(kept, objects)
+    }
+
+    /// Whether an object has no line at the stage wanted.
+    fn any_not_at(
         &self,
-        alloc: Global,
-        thing: ThingNo,
+        loan: &LoanCode,
         kept: &KeptLoan,
         wanted: LineStage,
-    ) -> Result<Option<Verdict>, NoMemory>
-        requires { thing < length self.now.museum.things }
-        ensures { IfOk result (λ refusal. refusal ≡ refusal_of kept.now wanted
-            (filter (λ o. not (is_container self.now.museum o)) (carried_at self.now.museum self.now.posted thing))) }
+        objects: &[ThingNo],
+    ) -> bool
+        requires { (o : ℕ) → line_of kept.now o ≡ line self.now.museum self.now.posted loan.now o }
+        ensures { result ≡ list_any (λ o. not (is_at_stage self.now.museum self.now.posted loan.now wanted o)) objects.now }
     {
-        let objects = self.objects_with(alloc, thing)?;
-        Ok(refusal_of(kept, wanted, &objects))
+        let _ = loan;
+        any_not_at(kept, wanted, objects)
     }
-}
-
-fn refusal_of(kept: &KeptLoan, wanted: LineStage, objects: &[ThingNo]) -> Option<Verdict>
-    ensures { result ≡ refusal_of kept.now wanted objects.now }
-{
-    if any_unlisted(kept, objects) {
-        return Some(Verdict::NotListed);
-    }
-    if any_not_at(kept, wanted, objects) {
-        return Some(Verdict::WrongStage);
-    }
-    None
 }
 
 fn any_unlisted(kept: &KeptLoan, objects: &[ThingNo]) -> bool
