@@ -1,16 +1,18 @@
 //! The rules of what crosses under a loan: exit, return and receipt.
-ghost use Rattle.std.specs.Prelude.{◌≡◌, ◌<◌, length, not, is_some, false, filter, IfOk, IfSome, List, ℕ};
+ghost use Rattle.std.specs.Prelude.{◌≡◌, ◌&&◌, ◌∷◌, [], not, is_some, true, false, IfOk, Some, List, ℕ};
 ghost use Rattle.std.specs.List.{list_any};
 ghost use Rattle.std.specs.Option.{option_map_or};
-ghost use Rattle.nest_core.specs.Museum.{is_container};
-ghost use Rattle.posting_core.specs.History.{carried_at};
-ghost use Rattle.posting_core.specs.Loans.{exit_of, line};
-ghost use Rattle.posting_core.specs.Verdicts.{first_of, exit_rows, return_rows, receive_rows, stage_eq, is_listed, is_at_stage};
+ghost use Rattle.posting_core.specs.Loans.{exit_of, line, objects_in};
+ghost use Rattle.posting_core.specs.Verdicts.{first_of, exit_rows, return_rows, receive_rows, stage_eq, is_known, is_listed, is_at_stage, is_over, carries_unlisted, carries_wrong_stage, ◌if◌};
+ghost use Rattle.codes_core.specs.Loan.{is_out};
+ghost use Rattle.posting_core.specs.Agreements.{last_day};
+ghost use Rattle.posting_core.specs.declared.verdict.Verdict.TheVariants.{NotListed, WrongStage, TermOver};
 ghost use Rattle.posting_core.specs.LoanRows.{LoanRow, line_of};
 
 use super::loan_rules::is_container_code;
 use super::Ledger;
 use crate::kept_loan::KeptLoan;
+use crate::numbers::thing_no;
 use crate::{LineStage, Verdict};
 use codes_core::{Day, LoanCode, NoMemory, PlaceCode, ThingCode};
 use nest_core::ThingNo;
@@ -41,17 +43,7 @@ impl Ledger {
         if !self.is_inside(x) {
             return Ok(Verdict::NotHere);
         }
-        let objects = self.objects_with(alloc, x)?;
-        if self.any_unlisted(loan, kept, &objects) {
-            return Ok(Verdict::NotListed);
-        }
-        if self.any_not_at(loan, kept, wanted_by_exit(loan), &objects) {
-            return Ok(Verdict::WrongStage);
-        }
-        if loan.is_out() && kept.last() < day {
-            return Ok(Verdict::TermOver);
-        }
-        Ok(Verdict::Applied)
+        self.judge_lines_out(alloc, thing, loan, kept, day)
     }
 
     pub(crate) fn judge_return(
@@ -84,14 +76,7 @@ impl Ledger {
         if self.place_of(x) != Some(kept.partner()) {
             return Ok(Verdict::NotWithPartner);
         }
-        let objects = self.objects_with(alloc, x)?;
-        if self.any_unlisted(loan, kept, &objects) {
-            return Ok(Verdict::NotListed);
-        }
-        if self.any_not_at(loan, kept, LineStage::Away, &objects) {
-            return Ok(Verdict::WrongStage);
-        }
-        Ok(Verdict::Applied)
+        self.judge_lines(alloc, thing, loan, kept, LineStage::Away, false)
     }
 
     pub(crate) fn judge_receive(
@@ -128,17 +113,79 @@ impl Ledger {
         if self.is_inside(x) {
             return Ok(Verdict::AlreadyHere);
         }
-        let objects = self.objects_with(alloc, x)?;
-        if self.any_unlisted(loan, kept, &objects) {
-            return Ok(Verdict::NotListed);
+        let is_over = kept.last() < day;
+        self.judge_lines(alloc, thing, loan, kept, LineStage::Awaiting, is_over)
+    }
+
+    /// The last rows of an exit: those of its lines and, under a loan out, of the loan's last day.
+    fn judge_lines_out(
+        &self,
+        alloc: Global,
+        thing: &ThingCode,
+        loan: &LoanCode,
+        kept: &KeptLoan,
+        day: Day,
+    ) -> Result<Verdict, NoMemory>
+        requires known { is_known self.now.museum thing.now ≡ true }
+        requires lines { (o : ℕ) → line_of kept.now o ≡ line self.now.museum self.now.posted loan.now o }
+        requires last { last_day self.now.posted loan.now ≡ Some kept.now.last }
+        ensures { IfOk result (λ verdict. verdict ≡ first_of (
+            (NotListed if carries_unlisted self.now.museum self.now.posted (exit_of thing.now loan.now))
+            ∷ (WrongStage if carries_wrong_stage self.now.museum self.now.posted (exit_of thing.now loan.now))
+            ∷ (TermOver if is_out loan.now && is_over self.now.posted loan.now day)
+            ∷ [])) }
+    {
+        let is_over = loan.is_out() && kept.last() < day;
+        self.judge_lines(alloc, thing, loan, kept, wanted_by_exit(loan), is_over)
+    }
+
+    /// The last rows of what crosses under a loan: those of its lines and, where the loan's last day is asked, of that.
+    fn judge_lines(
+        &self,
+        alloc: Global,
+        thing: &ThingCode,
+        loan: &LoanCode,
+        kept: &KeptLoan,
+        wanted: LineStage,
+        is_over: bool,
+    ) -> Result<Verdict, NoMemory>
+        requires known { is_known self.now.museum thing.now ≡ true }
+        requires lines { (o : ℕ) → line_of kept.now o ≡ line self.now.museum self.now.posted loan.now o }
+        ensures { IfOk result (λ verdict. verdict ≡ first_of (
+            (NotListed if list_any (λ o. not (is_listed self.now.museum self.now.posted loan.now o)) (objects_in self.now.museum self.now.posted thing.now))
+            ∷ (WrongStage if list_any (λ o. not (is_at_stage self.now.museum self.now.posted loan.now wanted o)) (objects_in self.now.museum self.now.posted thing.now))
+            ∷ (TermOver if is_over)
+            ∷ [])) }
+    {
+        let objects = self.objects_with(alloc, thing_no(&self.setup, thing))?;
+        Ok(self.judge_objects(loan, kept, wanted, &objects, is_over))
+    }
+
+    fn judge_objects(
+        &self,
+        loan: &LoanCode,
+        kept: &KeptLoan,
+        wanted: LineStage,
+        objects: &[ThingNo],
+        is_over: bool,
+    ) -> Verdict
+        requires { (o : ℕ) → line_of kept.now o ≡ line self.now.museum self.now.posted loan.now o }
+        ensures { result ≡ first_of (
+            (NotListed if list_any (λ o. not (is_listed self.now.museum self.now.posted loan.now o)) objects.now)
+            ∷ (WrongStage if list_any (λ o. not (is_at_stage self.now.museum self.now.posted loan.now wanted o)) objects.now)
+            ∷ (TermOver if is_over)
+            ∷ []) }
+    {
+        if self.any_unlisted(loan, kept, objects) {
+            return Verdict::NotListed;
         }
-        if self.any_not_at(loan, kept, LineStage::Awaiting, &objects) {
-            return Ok(Verdict::WrongStage);
+        if self.any_not_at(loan, kept, wanted, objects) {
+            return Verdict::WrongStage;
         }
-        if kept.last() < day {
-            return Ok(Verdict::TermOver);
+        if is_over {
+            return Verdict::TermOver;
         }
-        Ok(Verdict::Applied)
+        Verdict::Applied
     }
 
     /// Whether an object isn't on the loan's list.
