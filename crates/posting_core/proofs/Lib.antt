@@ -2,7 +2,6 @@ pub mod Agreed
 pub mod AppliedRows
 mod BorrowedRows
 pub mod Found
-pub mod Judged
 pub mod KeptLoans
 pub mod LastSpots
 pub mod Lined
