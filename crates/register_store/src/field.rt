@@ -1,13 +1,14 @@
 //! The values at the keys of an object.
-ghost use Rattle.std.specs.Prelude.{◌≡◌, ◌≢◌, None, Some, MatchResult, option_and_then, List, ℕ, Bool};
+ghost use Rattle.std.specs.Prelude.{◌≡◌, ◌≢◌, None, Some, MatchOption, MatchResult, option_and_then, map, List, ℕ, Bool, true, false};
+ghost use Rattle.std.specs.List.{list_all};
 ghost use Rattle.serde_json.specs.View.{view};
 ghost use Rattle.serde_json.specs.Find.{get, as_str};
-ghost use Rattle.codes_core.specs.Day.{day_number};
-ghost use Rattle.register_store.specs.Spelling.{key_name, is_thing, is_place, is_day, is_name};
-ghost use Rattle.register_store.specs.Kinds.{◌spells◌, text_at, fault_at};
+ghost use Rattle.register_store.specs.Spelling.{key_name, is_thing, is_place, is_loan, is_day, is_name};
+ghost use Rattle.register_store.specs.Kinds.{is_string, ◌spells◌, ◌lists◌, text_of, text_at, texts_at, day_at as day_said, fault_at};
 
 use crate::{Key, ReadFault};
-use codes_core::{Day, Name, NameFault, PlaceCode, ThingCode};
+use codes_core::{Day, LoanCode, Name, NameFault, PlaceCode, ThingCode};
+use posting_core::Objects;
 use serde_json::Value;
 use std::alloc::Global;
 
@@ -56,10 +57,22 @@ pub(crate) fn place_at(object: &Value, key: Key) -> Result<PlaceCode, ReadFault>
         .ok_or(ReadFault::BadField(key))
 }
 
+/// The loan's code at a key, else Missing or BadField.
+pub(crate) fn loan_at(object: &Value, key: Key) -> Result<LoanCode, ReadFault>
+    ensures exact { MatchResult result
+        (λ code. (fault_at (view object.now) (key spells is_loan) ≡ None) × (code ≡ text_at (view object.now) key))
+        (λ fault. fault_at (view object.now) (key spells is_loan) ≡ Some fault) }
+{
+    let text = string_at(object, key)?;
+    LoanCode::parse(text.as_bytes())
+        .ok()
+        .ok_or(ReadFault::BadField(key))
+}
+
 /// The day at a key, else Missing or BadField.
 pub(crate) fn day_at(object: &Value, key: Key) -> Result<Day, ReadFault>
     ensures exact { MatchResult result
-        (λ day. (fault_at (view object.now) (key spells is_day) ≡ None) × (day ≡ day_number (text_at (view object.now) key)))
+        (λ day. (fault_at (view object.now) (key spells is_day) ≡ None) × (day ≡ day_said (view object.now) key))
         (λ fault. fault_at (view object.now) (key spells is_day) ≡ Some fault) }
 {
     let text = string_at(object, key)?;
@@ -80,4 +93,42 @@ pub(crate) fn name_at(alloc: Global, object: &Value, key: Key) -> Result<Name, R
         Err(NameFault::NoMemory) => Err(ReadFault::NoMemory),
         Err(_) => Err(ReadFault::BadField(key)),
     }
+}
+
+/// The list of things at a key, else Missing, BadField or NoMemory.
+pub(crate) fn objects_at(alloc: Global, object: &Value, key: Key) -> Result<Objects, ReadFault>
+    ensures exact { MatchResult result
+        (λ objects. (fault_at (view object.now) (key lists is_thing) ≡ None) × (objects ≡ texts_at (view object.now) key))
+        (λ fault. fault ≢ ReadFault.NoMemory → fault_at (view object.now) (key lists is_thing) ≡ Some fault) }
+{
+    let items = value_at(object, key)?
+        .as_array()
+        .ok_or(ReadFault::BadField(key))?;
+    let codes = things_in(alloc, items, key)?;
+    Objects::new(codes).ok().ok_or(ReadFault::BadField(key))
+}
+
+/// The things that the items of an array at a key spell, else BadField or NoMemory.
+fn things_in(alloc: Global, items: &[Value], key: Key) -> Result<Vec<ThingCode>, ReadFault>
+    ensures exact { MatchResult result
+        (λ codes. (list_all (is_string is_thing) (map view items.now) ≡ true) × (codes.items ≡ map (λ value. text_of (Some value)) (map view items.now)))
+        (λ fault. fault ≢ ReadFault.NoMemory → (list_all (is_string is_thing) (map view items.now) ≡ false) × (fault ≡ ReadFault.BadField key)) }
+{
+    let mut codes = Vec::new(alloc);
+    for item in items {
+        let code = thing_of(item).ok_or(ReadFault::BadField(key))?;
+        if codes.push(code).is_err() {
+            return Err(ReadFault::NoMemory);
+        }
+    }
+    Ok(codes)
+}
+
+/// The thing that a value spells.
+fn thing_of(value: &Value) -> Option<ThingCode>
+    ensures exact { MatchOption result
+        (λ code. (is_string is_thing (view value.now) ≡ true) × (code ≡ text_of (Some (view value.now))))
+        (is_string is_thing (view value.now) ≡ false) }
+{
+    ThingCode::parse(value.as_str()?.as_bytes()).ok()
 }
