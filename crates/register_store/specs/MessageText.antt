@@ -1,6 +1,7 @@
 -- The text of a message: the compact JSON of the object with its kind and its kind's keys.
-use Rattle.std.specs.Prelude.{ℕ, ℤ, ◌≡◌, List, [], ◌∷◌, codes}
-use Rattle.serde_json.specs.Data.{Data, string, array, object, Items, no_items, item, Members, no_members, put}
+use Rattle.std.specs.Prelude.{ℕ, ℤ, ◌≡◌, List, [], ◌∷◌, map, codes}
+use Rattle.serde_json.specs.Data.{Data, string, array, object, Members, no_members, put}
+use Rattle.serde_json.specs.View.{items_of}
 use Rattle.serde_json.specs.Written.{compact_text}
 use Rattle.codes_core.specs.Day.{IsOnlySpelling}
 use Rattle.posting_core.specs.declared.message.Message as message
@@ -19,14 +20,10 @@ infixl 10 ◌is◌
 abbrev pub ◌is◌ : Key → List ℕ → Member
 key is text = record { key = key; value = string text }
 
-abbrev pub strings : List (List ℕ) → Items
-strings [] = no_items
-strings (text ∷ texts) = item (string text) (strings texts)
-
 infixl 10 ◌are◌
 -- an array of strings
 abbrev pub ◌are◌ : Key → List (List ℕ) → Member
-key are texts = record { key = key; value = array (strings texts) }
+key are texts = record { key = key; value = array (items_of (map string texts)) }
 
 -- these members, in the ascending order of their keys' bytes
 abbrev pub members_of : List Member → Members

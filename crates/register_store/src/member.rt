@@ -1,11 +1,11 @@
 //! The members of an object, and their values.
-ghost use Rattle.std.specs.Prelude.{◌≡◌, IfOk, OnOk, string_bytes, true};
+ghost use Rattle.std.specs.Prelude.{◌≡◌, IfOk, OnOk, map, string_bytes, true};
 ghost use Rattle.std.specs.List.{list_all};
 ghost use Rattle.serde_json.specs.Data.{string, array, put};
-ghost use Rattle.serde_json.specs.View.{items_view, members_view};
+ghost use Rattle.serde_json.specs.View.{items_of, items_view, members_view};
 ghost use Rattle.codes_core.specs.Day.{IsOnlySpelling};
 ghost use Rattle.register_store.specs.Spelling.{key_name, is_thing};
-ghost use Rattle.register_store.specs.MessageText.{strings};
+ghost use Rattle.register_store.specs.Kinds.{are_strings};
 
 use crate::Key;
 use codes_core::{Day, NoMemory, ThingCode};
@@ -36,8 +36,8 @@ pub(crate) fn put_things(
     things: &Objects,
 ) -> Result<(), NoMemory>
     ensures array { OnOk result (members_view object.new.entries
-        ≡ put (key_name key) (array (strings things.now)) (members_view object.old.entries)) }
-    ensures things { OnOk result (list_all is_thing things.now ≡ true) }
+        ≡ put (key_name key) (array (items_of (map string things.now))) (members_view object.old.entries)) }
+    ensures fits { OnOk result (are_strings is_thing (items_of (map string things.now)) ≡ true) }
 {
     let items = things_array(alloc, things.as_slice())?;
     serde_json::put(object, alloc, key.name(), Value::Array(items))?;
@@ -46,7 +46,7 @@ pub(crate) fn put_things(
 
 /// The strings of things.
 fn things_array(alloc: Global, things: &[ThingCode]) -> Result<Vec<Value>, NoMemory>
-    ensures strings { IfOk result (λ items. items_view items.items ≡ strings things.now) }
+    ensures strings { IfOk result (λ items. items_view items.items ≡ items_of (map string things.now)) }
     ensures things { IfOk result (λ _. list_all is_thing things.now ≡ true) }
 {
     let mut items = Vec::new(alloc);
