@@ -1,5 +1,5 @@
 -- Lists of strings, as values and as texts.
-use Rattle.std.proofs.Common.{◌≡◌, ℕ, ◌<◌, ◌≤◌, ◌&&◌, nat_le, Bool, true, false, List, [], ◌∷◌, length, map, get_or, Option, Some, None, option_and_then, unwrap_or, if◌then◌else◌, refl, sym, ap, ◌∙◌, le-leb, arith}
+use Rattle.std.proofs.Common.{◌≡◌, ℕ, ◌<◌, ◌≤◌, ◌&&◌, nat_le, Bool, true, false, List, [], ◌∷◌, length, map, get_or, Option, Some, None, option_and_then, if◌then◌else◌, refl, sym, ap, ◌∙◌, le-leb, arith}
 use Rattle.std.specs.Option.{option_map_or}
 use Rattle.std.specs.List.{list_all}
 use Rattle.std.proofs.lemmas.Bool.{and_from}

@@ -109,7 +109,7 @@ agreed_text = codes "{\"first\":\"2024-05-01\",\"kind\":\"agree\",\"last\":\"202
 
 pub agree-text : IsTextOf agreed agreed_text
 unfolding escape_byte
-agree-text = (_, (codes "2024-05-01", may-spelled, codes "2024-05-31", end_of_may-spelled, refl), refl)
+agree-text = (_, (codes "2024-05-01", may-spelled, (codes "2024-05-31", end_of_may-spelled, refl)), refl)
 
 pub agree-reads_back : of_bytes agreed_text ≡ Ok agreed
 unfolding is_utf8 chars encode value punctuate lex content days_from_civil day_count days_of_years days_of_months

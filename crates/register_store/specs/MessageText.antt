@@ -45,7 +45,7 @@ IsJson (Pack x c day) =
     IsDated day (λ text. Has ((Kind is codes "pack") ∷ (Thing is x) ∷ (Container is c) ∷ (Day is text) ∷ []))
 IsJson (Agree loan partner objects first last) =
     IsDated first (λ from. IsDated last (λ to.
-      Has ((Kind is codes "agree") ∷ (Loan is loan) ∷ (Partner is partner) ∷ (Objects are objects) ∷ (First is from) ∷ (Last is to) ∷ [])))
+    Has ((Kind is codes "agree") ∷ (Loan is loan) ∷ (Partner is partner) ∷ (Objects are objects) ∷ (First is from) ∷ (Last is to) ∷ [])))
 IsJson (Authorise loan name) = Has ((Kind is codes "authorise") ∷ (Loan is loan) ∷ (By is name) ∷ [])
 IsJson (Exit x loan day) =
     IsDated day (λ text. Has ((Kind is codes "exit") ∷ (Thing is x) ∷ (Loan is loan) ∷ (Day is text) ∷ []))

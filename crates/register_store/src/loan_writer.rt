@@ -27,8 +27,18 @@ pub(crate) fn agree_object(
     put_text(alloc, &mut object, Key::Loan, loan.as_str())?;
     put_text(alloc, &mut object, Key::Partner, partner.as_str())?;
     put_things(alloc, &mut object, Key::Objects, objects)?;
-    put_text(alloc, &mut object, Key::First, day_text(alloc, first)?.as_str())?;
-    put_text(alloc, &mut object, Key::Last, day_text(alloc, last)?.as_str())?;
+    put_text(
+        alloc,
+        &mut object,
+        Key::First,
+        day_text(alloc, first)?.as_str(),
+    )?;
+    put_text(
+        alloc,
+        &mut object,
+        Key::Last,
+        day_text(alloc, last)?.as_str(),
+    )?;
     Ok(Value::Object(object))
 }
 
@@ -102,17 +112,18 @@ pub(crate) fn receive_object(
     Ok(Value::Object(object))
 }
 
-pub(crate) fn extend_object(
-    alloc: Global,
-    loan: &LoanCode,
-    last: Day,
-) -> Result<Value, NoMemory>
+pub(crate) fn extend_object(alloc: Global, loan: &LoanCode, last: Day) -> Result<Value, NoMemory>
     ensures object { IfOk result (λ value. IsJson (Message.Extend loan.now last) (view value)) }
     ensures reads_back { IfOk result (λ value. of_json (view value) ≡ Ok (Message.Extend loan.now last)) }
 {
     let mut object = Map::new(alloc);
     put_text(alloc, &mut object, Key::Kind, "extend")?;
     put_text(alloc, &mut object, Key::Loan, loan.as_str())?;
-    put_text(alloc, &mut object, Key::Last, day_text(alloc, last)?.as_str())?;
+    put_text(
+        alloc,
+        &mut object,
+        Key::Last,
+        day_text(alloc, last)?.as_str(),
+    )?;
     Ok(Value::Object(object))
 }

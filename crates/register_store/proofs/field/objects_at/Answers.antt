@@ -14,8 +14,8 @@ returns-in_err-codes c =
     let bad = rw c.deref.ensures.value at c.in_err-codes.ensures.exact in
     let told : (e : ReadFault) → e ≡ c.in_err-codes.field-0.0 → e ≢ NoMemory → fault_at (view c.args.object.now) (c.args.key lists is_thing) ≡ Some e =
     λ e is other.
-      let amiss = bad (λ memory. other (is ∙ memory)) in
-      listed_amiss c.args.key is_thing _ _ there amiss.0 ∙ ap Some (sym (is ∙ amiss.1)) in
+    let amiss = bad (λ memory. other (is ∙ memory)) in
+    listed_amiss c.args.key is_thing _ _ there amiss.0 ∙ ap Some (sym (is ∙ amiss.1)) in
     record { exact = match_err _ _ _ _ c.from_residual-in_err-codes.ensures.1 told }
 
 pub returns-in-Ok : goal.returns-in-Ok
