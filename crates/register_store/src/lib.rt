@@ -10,6 +10,7 @@ mod loan_writer;
 mod member;
 mod message_reader;
 mod message_writer;
+mod object_list;
 mod plain;
 #[cfg(test)]
 mod plain_tests;

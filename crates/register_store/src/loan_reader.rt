@@ -3,7 +3,8 @@ ghost use Rattle.std.specs.Prelude.{◌≡◌, ◌≢◌, Ok, Err, MatchResult};
 ghost use Rattle.serde_json.specs.View.{view};
 ghost use Rattle.register_store.specs.Kinds.{of_row, agree_row, authorise_row, exit_row, return_row, receive_row, extend_row};
 
-use crate::field::{day_at, loan_at, name_at, objects_at, place_at, thing_at};
+use crate::field::{day_at, loan_at, name_at, place_at, thing_at};
+use crate::object_list::objects_at;
 use crate::{Key, ReadFault};
 use posting_core::Message;
 use serde_json::Value;

@@ -3,7 +3,7 @@ use Rattle.std.specs.List.{list_all}
 use Rattle.serde_json.specs.View.{view}
 use Rattle.register_store.specs.Spelling.{is_thing}
 use Rattle.register_store.specs.Kinds.{is_string, text_of}
-use Rattle.register_store.proofs.field.things_in.Given as goal
+use Rattle.register_store.proofs.object_list.things_in.Given as goal
 
 abbrev pub invariant-loop-item : goal.invariant-loop-item
 invariant-loop-item l =

@@ -1,7 +1,7 @@
 use Rattle.std.proofs.Common.{refl}
 use Rattle.register_store.specs.Spelling.{is_thing}
 use Rattle.register_store.proofs.ObjectLists.{one_amiss}
-use Rattle.register_store.proofs.field.things_in.Goals as goal
+use Rattle.register_store.proofs.object_list.things_in.Goals as goal
 
 pub returns-in_default : goal.returns-in_default
 returns-in_default c =

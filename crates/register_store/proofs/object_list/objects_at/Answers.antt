@@ -6,7 +6,7 @@ use Rattle.register_store.specs.declared.fault.ReadFault.TheVariants.{NoMemory}
 use Rattle.register_store.specs.Spelling.{is_thing}
 use Rattle.register_store.specs.Kinds.{◌lists◌, fault_at}
 use Rattle.register_store.proofs.ObjectLists.{listed_amiss, listed_right, listed_many, texts_there}
-use Rattle.register_store.proofs.field.objects_at.Goals as goal
+use Rattle.register_store.proofs.object_list.objects_at.Goals as goal
 
 pub returns-in_err-codes : goal.returns-in_err-codes
 returns-in_err-codes c =
