@@ -1,4 +1,5 @@
 mod BorrowedRows
+mod LoanOrderRows
 pub mod LastSpots
 mod LoanedRows
 mod PackedRows
