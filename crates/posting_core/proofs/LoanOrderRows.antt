@@ -52,23 +52,23 @@ told_after P ms = map (verdict museum 8 P) ms
 
 -- the last three list a container twice, a borrowed object twice, and a borrowed object for a term that ends before it begins
 agree : told_after drafts (
-      Agree (codes "LO2024.9") (codes "S9") (codes "2009.1" ∷ []) may may_31
-      ∷ Agree loan_1 (codes "S9") (first_object ∷ []) may may_31
-      ∷ Agree loan_1 (codes "S1") (first_object ∷ []) may may_31
-      ∷ Agree (codes "LO2024.9") (codes "S1") [] may may_31
-      ∷ agreed (codes "LO2024.9") (codes "C1" ∷ codes "C1" ∷ [])
-      ∷ agreed (codes "LO2024.9") (codes "L1999.7" ∷ codes "L1999.7" ∷ [])
-      ∷ Agree (codes "LO2024.9") (codes "MUSEUM-X") (codes "L1999.7" ∷ []) may april_30
-      ∷ [])
+    Agree (codes "LO2024.9") (codes "S9") (codes "2009.1" ∷ []) may may_31
+    ∷ Agree loan_1 (codes "S9") (first_object ∷ []) may may_31
+    ∷ Agree loan_1 (codes "S1") (first_object ∷ []) may may_31
+    ∷ Agree (codes "LO2024.9") (codes "S1") [] may may_31
+    ∷ agreed (codes "LO2024.9") (codes "C1" ∷ codes "C1" ∷ [])
+    ∷ agreed (codes "LO2024.9") (codes "L1999.7" ∷ codes "L1999.7" ∷ [])
+    ∷ Agree (codes "LO2024.9") (codes "MUSEUM-X") (codes "L1999.7" ∷ []) may april_30
+    ∷ [])
     ≡ UnknownThing ∷ UnknownPlace ∷ LoanKnown ∷ InsidePartner ∷ NotObject ∷ Repeated ∷ WrongOwner ∷ []
 agree = refl
 
 exit-drafts : told_after drafts (
-      leaves (codes "2009.1") (codes "LO2024.9") may
-      ∷ leaves (codes "C1") (codes "LI2024.9") may
-      ∷ leaves (codes "C1") loan_in_1 may
-      ∷ leaves first_object loan_1 may
-      ∷ [])
+    leaves (codes "2009.1") (codes "LO2024.9") may
+    ∷ leaves (codes "C1") (codes "LI2024.9") may
+    ∷ leaves (codes "C1") loan_in_1 may
+    ∷ leaves first_object loan_1 may
+    ∷ [])
     ≡ UnknownThing ∷ UnknownLoan ∷ NotObject ∷ NotAuthorised ∷ []
 exit-drafts = refl
 
@@ -80,11 +80,11 @@ exit-here : told_after came_back (leaves (codes "2001.4.2") loan_1 may ∷ leave
 exit-here = refl
 
 return-drafts : told_after drafts (
-      Return (codes "2009.1") loan_1 (codes "S9") may
-      ∷ Return first_object (codes "LO2024.9") (codes "MUSEUM-X") may
-      ∷ Return first_object (codes "LO2024.9") (codes "S1") may
-      ∷ Return first_object loan_in_1 (codes "S1") may
-      ∷ [])
+    Return (codes "2009.1") loan_1 (codes "S9") may
+    ∷ Return first_object (codes "LO2024.9") (codes "MUSEUM-X") may
+    ∷ Return first_object (codes "LO2024.9") (codes "S1") may
+    ∷ Return first_object loan_in_1 (codes "S1") may
+    ∷ [])
     ≡ UnknownThing ∷ ElsewherePlace ∷ UnknownLoan ∷ NotAuthorised ∷ []
 return-drafts = refl
 
@@ -92,12 +92,12 @@ return-authorised : told_after both_authorised (Return first_object loan_in_1 (c
 return-authorised = refl
 
 receive-drafts : told_after drafts (
-      Receive (codes "2009.1") loan_in_1 (codes "S9") may
-      ∷ Receive first_object (codes "LI2024.9") (codes "MUSEUM-X") may
-      ∷ Receive (codes "C1") (codes "LI2024.9") (codes "S1") may
-      ∷ Receive (codes "C1") loan_in_1 (codes "S1") may
-      ∷ Receive first_object loan_1 (codes "S1") may
-      ∷ [])
+    Receive (codes "2009.1") loan_in_1 (codes "S9") may
+    ∷ Receive first_object (codes "LI2024.9") (codes "MUSEUM-X") may
+    ∷ Receive (codes "C1") (codes "LI2024.9") (codes "S1") may
+    ∷ Receive (codes "C1") loan_in_1 (codes "S1") may
+    ∷ Receive first_object loan_1 (codes "S1") may
+    ∷ [])
     ≡ UnknownThing ∷ ElsewherePlace ∷ UnknownLoan ∷ NotObject ∷ NotAuthorised ∷ []
 receive-drafts = refl
 
