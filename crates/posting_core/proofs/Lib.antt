@@ -5,6 +5,7 @@ pub mod Found
 pub mod KeptLoans
 pub mod LastSpots
 pub mod Lined
+mod LoanOrderRows
 mod LoanedRows
 mod PackedRows
 pub mod Placed
