@@ -4,10 +4,16 @@
     bench/session.py moves OBJECTS MESSAGES [IDLE]        each message moves the next object, to one place and another
     bench/session.py crates CRATES OBJECTS MOVES [IDLE]   so many objects are packed into each crate, and then each
                                                           crate is moved so often, one after the other
+    bench/session.py loans LOANS OBJECTS [IDLE]           all objects are moved to a place; then so many loans of so
+                                                          many objects, up to 256, are agreed and authorised, and each
+                                                          object exits and returns
 IDLE objects stand in the setup beside these and are never named. A museum has up to 100,000 things, a station up to
 999,999 messages. For time and memory: bench/session.py crates 200 499 10 | /usr/bin/time -v bin/pairsalder > /dev/null"""
 import itertools
 import sys
+
+DAY = '"day":"2024-05-01"'
+LAST = '"last":"2024-05-31"'
 
 
 def objects(start, count):
@@ -21,11 +27,28 @@ def place_after(round_number):
 
 
 def move(thing, place):
-    return f'"kind":"move","thing":"{thing}","place":"{place}"'
+    return f'"kind":"move","thing":"{thing}","place":"{place}",{DAY}'
 
 
 def pack(thing, crate):
-    return f'"kind":"pack","thing":"{thing}","container":"{crate}"'
+    return f'"kind":"pack","thing":"{thing}","container":"{crate}",{DAY}'
+
+
+def agree(loan, things):
+    listed = ",".join(f'"{thing}"' for thing in things)
+    return f'"kind":"agree","loan":"{loan}","partner":"PARTNER","objects":[{listed}],"first":"2024-05-01",{LAST}'
+
+
+def authorise(loan):
+    return f'"kind":"authorise","loan":"{loan}","by":"Ann"'
+
+
+def leave(thing, loan):
+    return f'"kind":"exit","thing":"{thing}","loan":"{loan}",{DAY}'
+
+
+def come_back(thing, loan):
+    return f'"kind":"return","thing":"{thing}","loan":"{loan}","place":"S1",{DAY}'
 
 
 def moves(things, messages):
@@ -44,23 +67,40 @@ def crates(boxes, things, times):
         yield move(box, place_after(number))
 
 
+def loans(things, count):
+    """All things come to a place, since only what is here can exit; then one loan after the other."""
+    each = len(things) // count
+    yield from (move(thing, "S1") for thing in things)
+    for number in range(count):
+        loan, listed = f"LO2024.{number + 1}", things[number * each:(number + 1) * each]
+        yield agree(loan, listed)
+        yield authorise(loan)
+        yield from (leave(thing, loan) for thing in listed)
+        yield from (come_back(thing, loan) for thing in listed)
+
+
 def main():
     word, numbers = sys.argv[1], [int(argument) for argument in sys.argv[2:]]
+    places, boxes = "place,S1,inside\nplace,S2,inside", []
     if word == "moves":
-        boxes, things = [], objects(0, numbers[0])
+        things = objects(0, numbers[0])
         messages, idle = moves(things, numbers[1]), numbers[2:]
+    elif word == "loans":
+        places += "\nplace,PARTNER,elsewhere"
+        things = objects(0, numbers[0] * numbers[1])
+        messages, idle = loans(things, numbers[0]), numbers[2:]
     else:
         boxes = [f"C{n}" for n in range(1, numbers[0] + 1)]
         things = objects(0, numbers[0] * numbers[1])
         messages, idle = crates(boxes, things, numbers[2]), numbers[3:]
-    print("station,GAL\nplace,S1,inside\nplace,S2,inside")
+    print(f"station,GAL\n{places}")
     for box in boxes:
         print(f"box,{box}")
     for thing in things + objects(len(things), sum(idle)):
         print(f"own,{thing},S1")
     print()
     for n, message in enumerate(messages, 1):
-        print(f'{{"station":"GAL","n":{n},"message":{{{message},"day":"2024-05-01"}}}}')
+        print(f'{{"station":"GAL","n":{n},"message":{{{message}}}}}')
 
 
 if __name__ == "__main__":

@@ -1,50 +1,27 @@
 #!/usr/bin/env python3
-"""Compares the program with a plain slow one over the definitions, on mixed streams that are the same in every run.
+"""A plain slow program over the definitions: what is said to a session.
 
-The plain program keeps two lists, what was taken and what is posted, and answers every question by walking them from
-their beginning: where each thing was last put, and from there up through its crates. Usage: plain.py PROGRAM
-[STREAMS]."""
-import json
+It keeps two lists, what was taken and what is posted, and answers every question by walking them from their beginning
+(plain_book.py). Usage: plain.py < SESSION prints the replies to a session whose setup has no fault; plain.py PROGRAM
+[STREAMS] compares a program with them, on mixed streams that are the same in every run (streams.py)."""
 import subprocess
 import sys
+from collections import namedtuple
 
-STATIONS = ["PACK", "GAL"]
-INSIDE = {"S1": True, "S1-A": True, "S2": True, "MUSEUM-X": False}
-CRATES = [f"C{n}" for n in range(1, 15)]
-OBJECTS = ["2001.4.1", "2001.4.2", "L1999.7"]
-THINGS = CRATES + OBJECTS
-SETUP = """station,PACK
-station,GAL
-place,S1,inside
-place,S1-A,inside
-place,S2,inside
-place,MUSEUM-X,elsewhere
-""" + "".join(f"box,{crate}\n" for crate in CRATES) + """own,2001.4.1,S1-A
-own,2001.4.2,S1-A
-lent,L1999.7
-"""
-WINDOW, LAST, DEPTH = 256, 999999, 12
+import streams
+from plain_book import DEPTH, chain, place, targets, verdict
+from plain_text import museum_of, read_line
 
-
-class Draws:
-    """Numbers that look drawn and are the same in every run."""
-
-    def __init__(self, seed):
-        self.state = seed * 2654435761 % 2**32
-
-    def below(self, count):
-        self.state = (self.state * 1103515245 + 12345) % 2**31
-        return (self.state >> 8) % count
-
-    def one_of(self, choices):
-        return choices[self.below(len(choices))]
+WINDOW, LAST = 256, 999999
+Taken = namedtuple("Taken", "station n message")
+Entry = namedtuple("Entry", "station n message verdict")
 
 
 def message_at(taken, station, n):
     """The message that was taken under a station's number."""
     for entry in taken:
-        if entry[:2] == (station, n):
-            return entry[2]
+        if (entry.station, entry.n) == (station, n):
+            return entry.message
     return None
 
 
@@ -77,167 +54,97 @@ def refusal(taken, station, n):
     return None
 
 
-def targets(posted):
-    """Where each thing was last put by an applied message: a place, or a crate."""
-    found = {}
-    for _, _, message, verdict in posted:
-        if verdict == "Applied" and message["kind"] != "signoff":
-            found[message["thing"]] = message["place" if message["kind"] == "move" else "container"]
-    return found
-
-
-def chain(put, thing):
-    """The crates above a thing, innermost first."""
-    above = []
-    while put.get(thing) in CRATES:
-        thing = put[thing]
-        above.append(thing)
-    return above
-
-
-def place(put, thing):
-    """Where the crates above a thing end."""
-    return put.get((chain(put, thing) or [thing])[-1])
-
-
-def is_away(put, thing):
-    """A thing is elsewhere, or is borrowed and has no place yet."""
-    at = place(put, thing)
-    return thing.startswith("L") if at is None else not INSIDE[at]
-
-
-def refusals_of_a_move(put, thing, where):
-    yield "UnknownThing", thing not in THINGS
-    yield "UnknownPlace", where not in INSIDE
-    yield "ElsewherePlace", not INSIDE[where]
-    yield "NotHere", is_away(put, thing)
-
-
-def refusals_of_a_pack(put, thing, crate):
-    yield "UnknownThing", thing not in THINGS
-    yield "UnknownContainer", crate not in CRATES
-    yield "NotHere", is_away(put, thing)
-    yield "ContainerNotHere", not INSIDE.get(place(put, crate), False)
-    yield "Cycle", thing in [crate] + chain(put, crate)
-    yield "TooDeep", any(len(chain({**put, thing: crate}, x)) > DEPTH for x in THINGS)
-
-
-def verdict(posted, message):
-    """The first row of the verdict table that holds; the rows below it are not asked."""
-    if message["kind"] == "signoff":
-        return "Applied"
-    put, thing = targets(posted), message["thing"]
-    if message["kind"] == "move":
-        rows = refusals_of_a_move(put, thing, message["place"])
-    else:
-        rows = refusals_of_a_pack(put, thing, message["container"])
-    return next((name for name, holds in rows if holds), "Applied")
-
-
-def whereabouts(posted, thing):
+def whereabouts(museum, posted, thing):
     put = targets(posted)
-    if thing not in THINGS:
+    if thing not in museum.things:
         return "unknown"
     if place(put, thing) is None:
         return "unplaced"
-    return " ".join([f"at {place(put, thing)}"] + ["in"] * (put[thing] in CRATES) + chain(put, thing))
+    above = chain(put, thing)
+    return " ".join([f"at {place(put, thing)}"] + ["in"] * (above != []) + above)
 
 
-def replies(lines):
-    """What is said to the lines, in order."""
-    taken, posted, said = [], [], []
-    for number, line in enumerate(lines, 1):
-        station = line["station"]
-        if station not in STATIONS:
-            said.append(f"line {number} refused UnknownStation")
-        elif "ask" in line:
-            said.append(f"{station} ask {line['ask']} {whereabouts(posted, line['ask'])}")
-        else:
-            n = line["n"]
-            refused = refusal(taken, station, n)
-            if refused:
-                said.append(f"{station} {n} refused {refused}")
-                continue
-            before = ready(taken, station)
-            taken.append((station, n, line["message"]))
-            now = ready(taken, station)
-            if now == before:
-                said.append(f"{station} {n} held")
-            for k in range(before + 1, now + 1):
-                message = message_at(taken, station, k)
-                posted.append((station, k, message, verdict(posted, message)))
-                said.append(f"{station} {k} posted {len(posted)} {posted[-1][3]}")
+def arrival(museum, taken, posted, station, n, message):
+    """What is said to a message, which is taken or refused."""
+    refused = refusal(taken, station, n)
+    if refused:
+        return [f"{station} {n} refused {refused}"]
+    before = ready(taken, station)
+    taken.append(Taken(station, n, message))
+    now = ready(taken, station)
+    said = [f"{station} {n} held"] if now == before else []
+    for k in range(before + 1, now + 1):
+        message = message_at(taken, station, k)
+        posted.append(Entry(station, k, message, verdict(museum, posted, message)))
+        said.append(f"{station} {k} posted {len(posted)} {posted[-1].verdict}")
     return said
 
 
-def placing(draws, rung):
-    """A move or a pack, and whether it is a rung: half of them pack a crate into the one numbered before it."""
-    choice = draws.below(12)
-    thing = draws.one_of(CRATES + THINGS + OBJECTS * 3 + ["2009.1"])
-    if choice < 6:
-        words = {"kind": "pack", "thing": CRATES[rung], "container": CRATES[rung - 1]}
-    elif choice < 9:
-        into = draws.one_of(CRATES + CRATES[-2:] * 3 + ["C99", "2001.4.1"])
-        words = {"kind": "pack", "thing": thing, "container": into}
-    else:
-        where = draws.one_of(["S1", "S1-A", "S2", "S1", "S2", "MUSEUM-X", "S9"])
-        words = {"kind": "move", "thing": draws.one_of([thing, "C1", "C1", "C14"]), "place": where}
-    return {**words, "day": "2024-05-01"}, choice < 6
-
-
-def stream(seed):
-    """Lines of two stations and of none, with questions and late sign-offs. Every other stream is mildly out of order,
-    with some lines twice and with gaps; the others are nearly in order, so that more is posted."""
-    draws, lines, next_number, rung = Draws(seed), [], {"PACK": 1, "GAL": 1, "NONE": 1}, 1
-    calm = seed % 2 == 0
-    ahead = [0] * 30 + [1, -1] if calm else [0, 0, 0, 0, 0, 1, 2, -1, -2, 255, 256, 300]
-    for i in range(150):
-        station = draws.one_of(["PACK", "GAL", "GAL", "PACK", "GAL", "PACK", "GAL", "PACK", "NONE"])
-        if draws.below(5) == 0:
-            lines.append({"station": station, "ask": draws.one_of(THINGS + ["2009.1"])})
+def replies(session):
+    """What is said to a session: a setup without fault, an empty line, and lines."""
+    head, _, rest = session.partition(b"\n\n")
+    museum, taken, posted, said = museum_of(head.decode()), [], [], []
+    for number, text in enumerate(rest.split(b"\n"), 1):
+        text = text.removesuffix(b"\r")
+        if not text:
             continue
-        n = next_number[station] + draws.one_of(ahead)
-        if n == next_number[station] or not calm and draws.below(15) == 0:
-            next_number[station] += 1
-        if not calm and draws.below(40) == 0:
-            n = draws.one_of([0, LAST, LAST + 1])
-        message, is_rung = placing(draws, rung)
-        if i < 4:
-            message = {"kind": "move", "thing": "C1", "place": "S1", "day": "2024-05-01"}
-        elif i > 90 and draws.below(25) == 0:
-            message = {"kind": "signoff", "by": "Ann"}
-        elif is_rung:
-            rung = rung % (len(CRATES) - 1) + 1
-        lines.append({"station": station, "n": max(n, 0), "message": message})
-    return lines
+        line, fault = read_line(text)
+        if fault:
+            said.append(f"line {number} bad {fault}")
+        elif line["station"] not in museum.stations:
+            said.append(f"line {number} refused UnknownStation")
+        elif "ask" in line:
+            said.append(f"{line['station']} ask {line['ask']} {whereabouts(museum, posted, line['ask'])}")
+        else:
+            said += arrival(museum, taken, posted, line["station"], line["n"], line["message"])
+    return said
+
+
+EVENTS = ["Applied", "UnknownThing", "UnknownPlace", "ElsewherePlace", "UnknownContainer", "UnknownLoan", "LoanKnown",
+          "InsidePartner", "NoObjects", "NotObject", "Repeated", "WrongOwner", "BadTerm", "AlreadyAuthorised",
+          "NotAuthorised", "WrongDirection", "NotHere", "ContainerNotHere", "Cycle", "TooDeep", "NotWithPartner",
+          "AlreadyHere", "NotListed", "WrongStage", "TermOver", "NotLater", "Double", "BadNumber", "TooEarly",
+          "SignedOff", "UnknownStation", "Missing", "BadField", "BadKind", "held", "at", "unknown", "unplaced",
+          "elsewhere in a crate"]
+
+
+def event(reply):
+    """What a reply tells, in a word."""
+    words = reply.split()
+    if "posted" in words or "refused" in words:
+        return words[-1]
+    if "in" in words and words[4] in streams.ELSEWHERE:
+        return "elsewhere in a crate"
+    return "held" if "held" in words else words[3]
+
+
+def compare(program, count):
+    """Compares a program's replies on so many streams, in which each event must stand."""
+    seen, deepest = dict.fromkeys(EVENTS, 0), 0
+    for seed in range(1, count + 1):
+        session = streams.session(seed)
+        want = replies(session)
+        got = subprocess.run([program], input=session, capture_output=True, check=True).stdout.decode().splitlines()
+        for number, (reply, wanted) in enumerate(zip(got, want), 1):
+            if reply != wanted:
+                sys.exit(f"stream {seed}, reply {number}: {reply!r}, and the plain program says {wanted!r}")
+        if len(got) != len(want):
+            sys.exit(f"stream {seed}: {len(got)} replies, and the plain program gives {len(want)}")
+        for reply in want:
+            seen[event(reply)] += 1
+            deepest = max(deepest, len(reply.split()) - 6 if " in " in reply else 0)
+    missing = [name for name in EVENTS if not seen[name]]
+    if missing or deepest < DEPTH:
+        sys.exit(f"no stream has {', '.join(missing)}; the deepest answer is {deepest} crates")
+    counts = ", ".join(f"{name} {seen[name]}" for name in EVENTS)
+    print(f"{count} streams agree: {counts}; up to {deepest} crates above a thing")
 
 
 def main():
-    program, streams = sys.argv[1], int(sys.argv[2]) if len(sys.argv) > 2 else 60
-    seen, deepest = {}, 0
-    for seed in range(1, streams + 1):
-        lines = stream(seed)
-        text = SETUP + "\n" + "".join(json.dumps(line) + "\n" for line in lines)
-        ran = subprocess.run([program], input=text, capture_output=True, text=True, check=True)
-        want = replies(lines)
-        if ran.stdout.splitlines() != want:
-            for number, (got, wanted) in enumerate(zip(ran.stdout.splitlines(), want), 1):
-                if got != wanted:
-                    sys.exit(f"stream {seed}, reply {number}: {got!r}, and the plain program says {wanted!r}")
-            sys.exit(f"stream {seed}: {len(ran.stdout.splitlines())} replies, and the plain program gives {len(want)}")
-        for reply in want:
-            words = reply.split()
-            kind = words[-1] if "posted" in words or "refused" in words else "held" if "held" in words else words[3]
-            seen[kind] = seen.get(kind, 0) + 1
-            deepest = max(deepest, len(words) - 6 if "in" in words else 0)
-    kinds = ["Applied", "UnknownThing", "UnknownPlace", "ElsewherePlace", "UnknownContainer", "NotHere",
-             "ContainerNotHere", "Cycle", "TooDeep", "Double", "BadNumber", "TooEarly", "SignedOff", "UnknownStation",
-             "held", "at", "unknown", "unplaced"]
-    missing = [kind for kind in kinds if kind not in seen]
-    if missing or deepest < DEPTH:
-        sys.exit(f"no stream has {', '.join(missing)}; the deepest answer is {deepest} crates")
-    counts = ", ".join(f"{kind} {seen[kind]}" for kind in kinds)
-    print(f"{streams} streams agree: {counts}; up to {deepest} crates above a thing")
+    if len(sys.argv) > 1:
+        compare(sys.argv[1], int(sys.argv[2]) if len(sys.argv) > 2 else 60)
+    else:
+        print("".join(f"{reply}\n" for reply in replies(sys.stdin.buffer.read())), end="")
 
 
 if __name__ == "__main__":

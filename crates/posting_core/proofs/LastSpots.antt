@@ -12,32 +12,45 @@ use Rattle.nest_core.specs.Museum.{Museum, is_inside}
 use Rattle.nest_core.specs.Puts.{with_put, place, is_carried}
 use Rattle.nest_core.specs.Nest.{is_same_place}
 use Rattle.posting_core.specs.declared.message.Message.{Message}
-use Rattle.posting_core.specs.declared.message.Message.TheVariants.{Move, Pack, SignOff}
+use Rattle.posting_core.specs.declared.message.Message.TheVariants.{Move, Pack, Agree, Authorise, Exit, Return, Receive, SignOff, Extend}
 use Rattle.posting_core.specs.declared.verdict.Verdict.TheVariants.{Applied}
 use Rattle.posting_core.specs.declared.entry.Entry.{Entry}
 use Rattle.posting_core.specs.declared.entry.Spot.{Spot}
-use Rattle.posting_core.specs.Messages.{day_of, thing_no}
+use Rattle.nest_core.specs.declared.put.Target.TheVariants.{At}
+use Rattle.nest_core.specs.declared.put.Put.{Put}
+use Rattle.posting_core.specs.Messages.{day_of, thing_no, place_no}
+use Rattle.posting_core.specs.Agreements.{agreement}
 use Rattle.posting_core.specs.History.{puts, put_in, spots, spot_from, place_at}
 use Rattle.posting_core.specs.VerdictNames.{is_applied}
 use Rattle.posting_core.specs.Verdicts.{verdict, pack_rows}
 use Rattle.posting_core.specs.Lawful.{Follows, IsLawful}
 use Rattle.posting_core.specs.Book.{Book, place_after}
 use Rattle.posting_core.specs.Rows.{place_to}
-use Rattle.posting_core.proofs.Placed.{none_holds, applied_is, allowed_in, comes_along, stays}
+use Rattle.posting_core.proofs.AppliedRows.{none_some, none_holds, applied_is}
+use Rattle.posting_core.proofs.Placed.{allowed_in, comes_along, stays}
 
 -- what places a thing bears a day
 placed_by_day : (S : Museum) (P : List Entry) (m : Message) → day_of m ≡ None → put_in S P m ≡ None
 placed_by_day S P (SignOff name) e = refl
+placed_by_day S P (Agree loan partner objects first last) e = refl
+placed_by_day S P (Authorise loan name) e = refl
+placed_by_day S P (Extend loan last) e = refl
 placed_by_day S P _ e = cc
 
 -- what an applied message puts its thing at, or into, has a place
 target_placed : (S : Museum) (depth : ℕ) (P : List Entry) (m : Message) → verdict S depth P m ≡ Applied → IfSome (put_in S P m) (λ put. place_to S P put.to ≢ None)
-target_placed S depth P (Move x p day) h = λ e. cc
+target_placed S depth P (Move x p day) h = λ e. none_some (sym e)
 target_placed S depth P (Pack x c day) h = λ e.
     let none = none_holds (pack_rows S depth P x c) refl h in
     let outside : not (option_map_or (is_inside S) (place_at S P (thing_no S c)) false) ≡ true = ap (λ o. not (option_map_or (is_inside S) o false)) e in
     let both : true ≡ false = sym outside ∙ none.1.1.1.0 in cc
+target_placed S depth P (Agree loan partner objects first last) h = tt
+target_placed S depth P (Authorise loan name) h = tt
+target_placed S depth P (Exit x loan day) h = elim (agreement P loan) as (λ o. IfSome {T = Put} (option_map (λ t. record { thing = thing_no S x; to = At (place_no S t.partner) }) o) (λ put. place_to S P put.to ≢ None)) [ None ↦ tt | Some t ↦ λ e. none_some (sym e) ]
+target_placed S depth P (Return x loan p day) h = λ e. none_some (sym e)
+target_placed S depth P (Receive x loan p day) h = λ e. none_some (sym e)
 target_placed S depth P (SignOff name) h = tt
+target_placed S depth P (Extend loan last) h = tt
 
 -- a thing that has a place keeps having one
 keeps_place : (S : Museum) (depth : ℕ) (P : List Entry) (m : Message) → IsLawful S depth P → verdict S depth P m ≡ Applied → (x : ℕ) → place_after S P m x ≡ None → place_at S P x ≡ None
@@ -45,7 +58,7 @@ keeps_place S depth P m lawful applied x gone = elim (put_in S P m) as (λ o. pu
   | None ↦ λ is placed. sym (ap (λ o. place (length S.things) (with_put o (puts S P)) x) is) ∙ gone
   | Some put ↦ λ is placed.
       let B : Book = record { museum = S; depth = depth; posted = P } in
-      let allowed = allowed_in B m (put_in S P m) put applied refl is in
+      let allowed = allowed_in B m (put_in S P m) put lawful applied refl is in
       elim (is_carried (length S.things) (puts S P) put.thing x) as (λ b. is_carried (length S.things) (puts S P) put.thing x ≡ b → place_at S P x ≡ None) [
         | true ↦ λ carried. absurd (placed (sym (comes_along S depth P m put lawful is allowed x carried) ∙ gone))
         | false ↦ λ apart. sym (stays S depth P m put lawful is allowed x apart) ∙ gone

@@ -2,11 +2,17 @@ pub mod Accounted
 pub mod Agreed
 pub mod Among
 pub mod AppliedRows
+mod BorrowedRows
 pub mod Carried
+pub mod Found
 pub mod Guests
 pub mod Homes
+pub mod Judged
+pub mod KeptLoans
 pub mod LastSpots
+pub mod Lined
 pub mod LoanLaws
+mod LoanedRows
 pub mod Owners
 mod PackedRows
 pub mod Placed

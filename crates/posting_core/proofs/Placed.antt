@@ -1,10 +1,9 @@
 -- What an applied message puts where, and the places after it.
-use Rattle.std.specs.Prelude.{ℕ, zero, suc, ◌≡◌, ◌<◌, Bool, true, false, All, List, [], ◌∷◌, Option, None, Some, length, refl, IfSome, is_some, unwrap_or, not, if◌then◌else◌}
-use Rattle.std.specs.List.{position, list_all, AllByRecursion}
-use Rattle.std.specs.Option.{option_map_or}
+use Rattle.std.specs.Prelude.{ℕ, ℤ, zero, suc, ◌≡◌, ◌<◌, Bool, true, false, All, List, [], ◌∷◌, Option, None, Some, length, refl, IfSome, is_some, unwrap_or, if◌then◌else◌}
+use Rattle.std.specs.List.{position}
+use Rattle.std.specs.Option.{option_map, option_map_or}
 use Rattle.std.specs.Str.{bytes_eq}
 use Rattle.std.proofs.Common.{ap, ◌∙◌, sym, subst, arith}
-use Rattle.std.proofs.lemmas.Bool.{and_parts}
 use Rattle.std.proofs.lemmas.List.{length-map}
 use Rattle.std.proofs.lemmas.List.Elements.{All-nil, All-cons}
 use Rattle.std.proofs.lemmas.List.Quantifiers.{position-Some}
@@ -17,23 +16,20 @@ use Rattle.nest_core.specs.Puts.{last, with_put, container_of, place_of, above, 
 use Rattle.nest_core.proofs.NestWords.{IsAllowed}
 use Rattle.nest_core.proofs.NestLaws.{IsSound, sound_put, may_pack, place_carried, place_packed, place_stays}
 use Rattle.posting_core.specs.declared.message.Message.{Message}
-use Rattle.posting_core.specs.declared.message.Message.TheVariants.{Move, Pack, SignOff}
+use Rattle.posting_core.specs.declared.message.Message.TheVariants.{Move, Pack, Agree, Authorise, Exit, Return, Receive, SignOff, Extend}
 use Rattle.posting_core.specs.declared.verdict.Verdict.{Verdict}
 use Rattle.posting_core.specs.declared.verdict.Verdict.TheVariants.{Applied}
 use Rattle.posting_core.specs.declared.entry.Entry.{Entry}
 use Rattle.posting_core.specs.Messages.{thing_no, place_no}
 use Rattle.posting_core.specs.History.{puts, put_in, put_by, chain_at, place_at}
 use Rattle.posting_core.specs.VerdictNames.{is_applied}
-use Rattle.posting_core.specs.Verdicts.{Row, first_of, verdict, move_rows, pack_rows, is_known, is_known_place, is_known_container}
+use Rattle.posting_core.specs.Agreements.{Agreement, agreement}
+use Rattle.posting_core.specs.Verdicts.{verdict, move_rows, pack_rows, exit_rows, return_rows, receive_rows, is_known, is_known_place, is_known_container}
 use Rattle.posting_core.specs.Lawful.{IsLawful}
 use Rattle.posting_core.specs.Book.{Book, verdict_in, place_after}
 use Rattle.posting_core.specs.Rows.{place_to}
-
-none_some : {X : Type 0} {x : X} → None ≡ Some x → ⊥
-none_some {X} {x} e = cc
-
-false_true : false ≡ true → ⊥
-false_true e = cc
+use Rattle.posting_core.proofs.AppliedRows.{none_some, false_true, none_holds, held, applied_is}
+use Rattle.posting_core.proofs.Agreed.{agreement_sound}
 
 below : (xs : List (List ℕ)) (code : List ℕ) (i : ℕ) → position (bytes_eq code) xs ≡ Some i → i < length xs
 below [] code i e = absurd (none_some e)
@@ -55,53 +51,53 @@ place_below S p known = found_below (place_codes S) p (length S.places) (sym (le
 container_known : (S : Museum) (c : List ℕ) → is_known_container S c ≡ true → is_known S c ≡ true
 container_known S c = elim (find_thing S c) as (λ o. option_map_or (is_container S) o false ≡ true → is_some o ≡ true) [ None ↦ λ h. h | Some i ↦ λ h. refl ]
 
--- no row of an applied message holds
-pub none_holds : (rows : List Row) → list_all (λ row. not (is_applied row.verdict)) rows ≡ true → first_of rows ≡ Applied → AllByRecursion (λ row. row.holds ≡ false) rows
-none_holds [] refusals h = tt
-none_holds (row ∷ rows) refusals h =
-    let parts = and_parts (not (is_applied row.verdict)) (list_all (λ row. not (is_applied row.verdict)) rows) refusals in
-    elim row.holds as (λ b. row.holds ≡ b → (if b then row.verdict else first_of rows) ≡ Applied → (b ≡ false) × AllByRecursion (λ row. row.holds ≡ false) rows) [
-      | true ↦ λ e k. absurd (false_true (ap (λ v. not (is_applied v)) (sym k) ∙ parts.0))
-      | false ↦ λ e k. (refl, none_holds rows parts.1 k)
-    ] refl h
-
-holds : (b : Bool) → not b ≡ false → b ≡ true
-holds true h = refl
-holds false h = absurd (false_true (sym h))
-
-pub applied_is : (v : Verdict) → is_applied v ≡ true → v ≡ Applied
-applied_is Applied h = refl
-applied_is _ h = absurd (false_true h)
-
 -- a put of an applied message: of a known thing, to a known place or into a container that has room for it
 pub record IsAllowedPut (S : Museum) (depth : ℕ) (P : List Entry) (put : Put) : Type 0 where
   pub thing : put.thing < length S.things
   pub place : IfSome (place_of (Some put.to)) (λ p. p < length S.places)
   pub room : IsAllowed (last (puts S P)) (length S.things) depth put.thing put.to
 
-put_applied : (S : Museum) (depth : ℕ) (P : List Entry) (m : Message) → verdict S depth P m ≡ Applied → IfSome (put_in S P m) (IsAllowedPut S depth P)
-put_applied S depth P (Move x p day) h =
+-- what leaves under a loan goes to a place of the setup
+leaves_to : (S : Museum) (depth : ℕ) (P : List Entry) (x loan : List ℕ) (day : ℤ) → IsLawful S depth P → thing_no S x < length S.things → IfSome (put_in S P (Exit x loan day)) (IsAllowedPut S depth P)
+leaves_to S depth P x loan day lawful thing = elim (agreement P loan) as (λ o. agreement P loan ≡ o → IfSome (option_map (λ t. record { thing = thing_no S x; to = At (place_no S t.partner) }) o) (IsAllowedPut S depth P)) [
+  | None ↦ λ e. tt
+  | Some t ↦ λ e. record { thing = thing; place = place_below S t.partner (agreement_sound S depth P loan t lawful e).partner; room = tt }
+] refl
+
+put_applied : (S : Museum) (depth : ℕ) (P : List Entry) (m : Message) → IsLawful S depth P → verdict S depth P m ≡ Applied → IfSome (put_in S P m) (IsAllowedPut S depth P)
+put_applied S depth P (Move x p day) lawful h =
     let none = none_holds (move_rows S P x p) refl h in
-    record { thing = thing_below S x (holds (is_known S x) none.0); place = place_below S p (holds (is_known_place S p) none.1.0); room = tt }
-put_applied S depth P (Pack x c day) h =
+    record { thing = thing_below S x (held (is_known S x) none.0); place = place_below S p (held (is_known_place S p) none.1.0); room = tt }
+put_applied S depth P (Pack x c day) lawful h =
     let none = none_holds (pack_rows S depth P x c) refl h in
     record {
-      thing = thing_below S x (holds (is_known S x) none.0);
+      thing = thing_below S x (held (is_known S x) none.0);
       place = tt;
-      room = (thing_below S c (container_known S c (holds (is_known_container S c) none.1.0)), none.1.1.1.1.0, none.1.1.1.1.1.0);
+      room = (thing_below S c (container_known S c (held (is_known_container S c) none.1.0)), none.1.1.1.1.0, none.1.1.1.1.1.0);
     }
-put_applied S depth P (SignOff name) h = tt
+put_applied S depth P (Exit x loan day) lawful h =
+    leaves_to S depth P x loan day lawful (thing_below S x (held (is_known S x) (none_holds (exit_rows S P x loan day) refl h).0))
+put_applied S depth P (Return x loan p day) lawful h =
+    let none = none_holds (return_rows S P x loan p) refl h in
+    record { thing = thing_below S x (held (is_known S x) none.0); place = place_below S p (held (is_known_place S p) none.1.0); room = tt }
+put_applied S depth P (Receive x loan p day) lawful h =
+    let none = none_holds (receive_rows S P x loan p day) refl h in
+    record { thing = thing_below S x (held (is_known S x) none.0); place = place_below S p (held (is_known_place S p) none.1.0); room = tt }
+put_applied S depth P (Agree loan partner objects first final) lawful h = tt
+put_applied S depth P (Authorise loan name) lawful h = tt
+put_applied S depth P (SignOff name) lawful h = tt
+put_applied S depth P (Extend loan final) lawful h = tt
 
-pub put_allowed : (S : Museum) (depth : ℕ) (P : List Entry) (v : Verdict) (m : Message) → v ≡ verdict S depth P m → IfSome (put_by S P v m) (IsAllowedPut S depth P)
-put_allowed S depth P v m judged =
+pub put_allowed : (S : Museum) (depth : ℕ) (P : List Entry) (v : Verdict) (m : Message) → IsLawful S depth P → v ≡ verdict S depth P m → IfSome (put_by S P v m) (IsAllowedPut S depth P)
+put_allowed S depth P v m lawful judged =
     elim (is_applied v) as (λ t. is_applied v ≡ t → IfSome (if t then put_in S P m else None) (IsAllowedPut S depth P)) [
-      | true ↦ λ e. put_applied S depth P m (sym judged ∙ applied_is v e)
+      | true ↦ λ e. put_applied S depth P m lawful (sym judged ∙ applied_is v e)
       | false ↦ λ e. tt
     ] refl
 
 -- that of a ledger's applied message
-pub allowed_in : (B : Book) (m : Message) (o : Option Put) (put : Put) → verdict_in B m ≡ Applied → o ≡ put_in B.museum B.posted m → o ≡ Some put → IsAllowedPut B.museum B.depth B.posted put
-allowed_in B m o put applied is some = subst (λ p. IfSome p (IsAllowedPut B.museum B.depth B.posted)) (sym is ∙ some) (put_applied B.museum B.depth B.posted m applied)
+pub allowed_in : (B : Book) (m : Message) (o : Option Put) (put : Put) → IsLawful B.museum B.depth B.posted → verdict_in B m ≡ Applied → o ≡ put_in B.museum B.posted m → o ≡ Some put → IsAllowedPut B.museum B.depth B.posted put
+allowed_in B m o put lawful applied is some = subst (λ p. IfSome p (IsAllowedPut B.museum B.depth B.posted)) (sym is ∙ some) (put_applied B.museum B.depth B.posted m lawful applied)
 
 -- it may go into a nest that stands for the puts before it
 pub may_go : (N : Nested) (S : Museum) (P : List Entry) (put : Put) → N.things ≡ length S.things → N.places ≡ length S.places → StandsFor N (puts S P) → IsAllowedPut S N.depth P put →
@@ -121,7 +117,7 @@ with_sound S depth P (Some put) allowed sound = sound_put (length S.things) dept
 pub lawful_sound : (S : Museum) (depth : ℕ) (P : List Entry) → IsLawful S depth P → IsSound (length S.things) depth (last (puts S P))
 lawful_sound S depth [] lawful = record { small = λ y c e. absurd (none_some e); ended = λ y. refl; far = λ y ge. refl }
 lawful_sound S depth (e ∷ P) (follows, lawful) =
-    with_sound S depth P (put_by S P e.verdict e.message) (put_allowed S depth P e.verdict e.message follows.judged) (lawful_sound S depth P lawful)
+    with_sound S depth P (put_by S P e.verdict e.message) (put_allowed S depth P e.verdict e.message lawful follows.judged) (lawful_sound S depth P lawful)
 
 -- what its thing carries comes to the place of its target
 pub comes_along : (S : Museum) (depth : ℕ) (P : List Entry) (m : Message) (put : Put) → IsLawful S depth P → put_in S P m ≡ Some put → IsAllowedPut S depth P put →

@@ -26,7 +26,7 @@ museum = record {
 abbrev pub pack : ℕ
 pack = 0
 
-abbrev gal : ℕ
+abbrev pub gal : ℕ
 gal = 1
 
 abbrev pub s1 : ℕ
@@ -37,6 +37,12 @@ s1_a = 1
 
 abbrev pub s2 : ℕ
 s2 = 2
+
+abbrev pub museum_x : ℕ
+museum_x = 3
+
+abbrev pub lender_y : ℕ
+lender_y = 4
 
 abbrev pub crate_1 : ℕ
 crate_1 = 0
@@ -50,7 +56,10 @@ object_1 = 2
 abbrev pub object_2 : ℕ
 object_2 = 3
 
-abbrev borrowed : ℕ
+abbrev pub object_3 : ℕ
+object_3 = 4
+
+abbrev pub borrowed : ℕ
 borrowed = 5
 
 -- 2024-05-01
@@ -118,23 +127,23 @@ held_then_posted-puts = refl
 
 -- what one more message would change: a spot with the next number of its thing's list
 held_then_posted-change : changes_of (book held_then_posted) (moved (codes "2001.4.1") (codes "S2")) ≡
-    record { entry = 4; verdict = Applied; spots = record { thing = object_1; k = 3; spot = spot 4 s2 } ∷ [] }
+    record { entry = 4; verdict = Applied; spots = record { thing = object_1; k = 3; spot = spot 4 s2 } ∷ []; lines = [] }
 held_then_posted-change = refl
 
 -- a first placement has the number 1
 held_then_posted-first : changes_of (book held_then_posted) (moved (codes "2001.4.3") (codes "S2")) ≡
-    record { entry = 4; verdict = Applied; spots = record { thing = 4; k = 1; spot = spot 4 s2 } ∷ [] }
+    record { entry = 4; verdict = Applied; spots = record { thing = object_3; k = 1; spot = spot 4 s2 } ∷ []; lines = [] }
 held_then_posted-first = refl
 
 -- a Move to the place where the thing is changes nothing but the posted list
-held_then_posted-same : changes_of (book held_then_posted) (moved (codes "2001.4.1") (codes "S1-A")) ≡ record { entry = 4; verdict = Applied; spots = [] }
+held_then_posted-same : changes_of (book held_then_posted) (moved (codes "2001.4.1") (codes "S1-A")) ≡ record { entry = 4; verdict = Applied; spots = []; lines = [] }
 held_then_posted-same = refl
 
 -- nor does a sign-off, nor a refused Move
-held_then_posted-sign_off : changes_of (book held_then_posted) signed_off ≡ record { entry = 4; verdict = Applied; spots = [] }
+held_then_posted-sign_off : changes_of (book held_then_posted) signed_off ≡ record { entry = 4; verdict = Applied; spots = []; lines = [] }
 held_then_posted-sign_off = refl
 
-held_then_posted-refused : changes_of (book held_then_posted) (moved (codes "2001.4.1") (codes "MUSEUM-X")) ≡ record { entry = 4; verdict = ElsewherePlace; spots = [] }
+held_then_posted-refused : changes_of (book held_then_posted) (moved (codes "2001.4.1") (codes "MUSEUM-X")) ≡ record { entry = 4; verdict = ElsewherePlace; spots = []; lines = [] }
 held_then_posted-refused = refl
 
 -- tour_of_verdicts: refused Moves keep their numbers and place nothing

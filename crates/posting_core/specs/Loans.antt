@@ -27,9 +27,12 @@ pub record Crossing : Type 0 where
 
 -- an exit under a loan out takes objects away; one under a loan in gives them back
 abbrev pub exit_of : List ℕ → List ℕ → Crossing
-exit_of x loan = if is_out loan
-    then record { thing = x; loan = loan; wanted = Awaiting; stage = Away }
-    else record { thing = x; loan = loan; wanted = Here; stage = GivenBack }
+exit_of x loan = record {
+  thing = x;
+  loan = loan;
+  wanted = if is_out loan then Awaiting else Here;
+  stage = if is_out loan then Away else GivenBack;
+}
 
 abbrev pub crossing_in : Message → Option Crossing
 crossing_in (Move x p day) = None

@@ -51,8 +51,13 @@ impl KeptLoan {
         requires known { list_any (λ x. not (is_known setup.now x)) objects.now ≡ false }
         requires once { repeats objects.now ≡ false }
         ensures { IfOk result (λ row. row ≡ record {
-            loan = loan; partner = place_no setup.now partner.now; objects = map (thing_no setup.now) objects.now;
-            stages = map (λ o. Awaiting) (map (thing_no setup.now) objects.now); last = last; authorised = false }) }
+          loan = loan;
+          partner = place_no setup.now partner.now;
+          objects = map (thing_no setup.now) objects.now;
+          stages = map (λ o. Awaiting) (map (thing_no setup.now) objects.now);
+          last = last;
+          authorised = false;
+        }) }
     {
         let (objects, stages) = awaited(alloc, setup, objects)?;
         Ok(KeptLoan {

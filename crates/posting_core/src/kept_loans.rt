@@ -4,8 +4,8 @@ ghost use Rattle.std.specs.List.{find};
 ghost use Rattle.std.specs.Str.{bytes_eq};
 ghost use Rattle.posting_core.specs.LoanRows.{LoanRow, changed, authorised_row, extended_row, with_lines};
 
-use crate::kept_loan::KeptLoan;
 use crate::NewLine;
+use crate::kept_loan::KeptLoan;
 use codes_core::{Day, LoanCode, NoMemory};
 use indexmap::IndexSet;
 use std::alloc::Global;

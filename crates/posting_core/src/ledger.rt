@@ -223,6 +223,7 @@ impl Ledger {
     {
         let put = self.put_under(entry.verdict, &entry.message);
         let spots = changes.spots.as_slice();
+        let lines = changes.lines.as_slice();
         make_room(&mut self.spots, spots)?;
         self.posted.reserve(1)?;
         place(alloc, &mut self.nest, put)?;
@@ -232,7 +233,7 @@ impl Ledger {
             &self.setup,
             entry.verdict,
             &entry.message,
-            changes.lines.as_slice(),
+            lines,
         )?;
         push_spots(&mut self.spots, spots);
         self.posted.push(entry).unwrap();

@@ -2,7 +2,11 @@
 ghost use Rattle.std.specs.Prelude.{◌≡◌, ◌+◌, false, IfSome};
 ghost use Rattle.posting_core.specs.Lawful.{count_at, is_signed_off};
 
+mod extensions;
+mod loan_verdicts;
+mod loans;
 mod packing;
+mod told;
 mod verdicts;
 
 use crate::{Entry, Ledger, Message, NewSpot, Spot, Verdict};

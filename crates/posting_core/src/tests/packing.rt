@@ -49,7 +49,7 @@ fn assert_codes(
     Ok(())
 }
 
-fn assert_chain(
+pub(crate) fn assert_chain(
     rt: &impl Abort,
     alloc: Global,
     ledger: &Ledger,

@@ -1,4 +1,4 @@
-//! Every verdict that can be met so far, and the table of all of them.
+//! The verdicts of moves and of packing, and the table of all verdicts.
 use super::{
     FIRST_AT_S1, GAL, Moved, NO_SPOTS, PACK, Packed, Row, assert_spots, empty, post_row, post_rows,
 };

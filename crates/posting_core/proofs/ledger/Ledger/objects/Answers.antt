@@ -1,0 +1,9 @@
+use Rattle.std.proofs.Common.{sym, subst, ◌<◌}
+use Rattle.posting_core.proofs.Posted.{count_kept, objects_kept}
+use Rattle.posting_core.proofs.ledger.Ledger.objects.Goals as goal
+
+pub at-requires : goal.at-requires
+at-requires c = subst (λ n. c.args.i < n) (sym (count_kept _ _ c.self.inside.nest _ c.self.inside.loans c.args.self.now c.self.view_is c.self.invariant)) c.requires
+
+pub returns : goal.returns
+returns c = rw c.objects.ensures (objects_kept _ _ c.self.inside.nest _ c.self.inside.loans c.args.self.now c.args.i c.at.result.now c.self.view_is c.self.invariant c.at.ensures)
