@@ -1,9 +1,9 @@
 -- What an applied entry does to an object: where it is afterwards, and its stages.
-use Rattle.std.specs.Prelude.{ℕ, ◌≡◌, ◌≢◌, ◌<◌, ◌≤◌, ◌==◌, ◌&&◌, ◌||◌, Bool, true, false, not, filter, if◌then◌else◌, List, [], ◌∷◌, ◌++◌, length, map, Option, None, Some, refl, is_some}
-use Rattle.std.specs.List.{find, list_any, range_with_len}
-use Rattle.std.specs.Option.{option_map, option_map_or, option_or, option_to_list, option_and_then}
+use Rattle.std.specs.Prelude.{ℕ, ◌≡◌, ◌≢◌, ◌<◌, ◌==◌, ◌&&◌, ◌||◌, Bool, true, false, not, if◌then◌else◌, List, ◌∷◌, length, Option, None, Some, refl}
+use Rattle.std.specs.List.{find, range_with_len}
+use Rattle.std.specs.Option.{option_map_or, option_or, option_to_list, option_and_then}
 use Rattle.std.specs.Str.{bytes_eq}
-use Rattle.std.proofs.Common.{ap, ◌∙◌, sym, subst, arith}
+use Rattle.std.proofs.Common.{ap, ◌∙◌, sym, arith}
 use Rattle.std.proofs.lemmas.Bool.Decides.{nat_tests}
 use Rattle.std.proofs.lemmas.List.Folds.{find-append}
 use Rattle.std.proofs.lemmas.Slice.Eq.{bytes_eq-Decides}
@@ -18,12 +18,12 @@ use Rattle.posting_core.specs.Messages.{thing_no}
 use Rattle.posting_core.specs.VerdictNames.{is_applied}
 use Rattle.posting_core.specs.Agreements.{Agreement, agreement, agreements, agreement_by}
 use Rattle.posting_core.specs.History.{puts, put_in, place_at, carried_at}
-use Rattle.posting_core.specs.Loans.{Crossing, crossing_in, objects_in, stage_by, stage, objects, objects_of, line}
-use Rattle.posting_core.specs.Verdicts.{verdict, stage_eq, is_listed, is_at_stage, carries_unlisted, carries_wrong_stage}
+use Rattle.posting_core.specs.Loans.{Crossing, crossing_in, objects_in, stage_by, stage, objects}
+use Rattle.posting_core.specs.Verdicts.{verdict, stage_eq, is_at_stage, carries_unlisted, carries_wrong_stage}
 use Rattle.posting_core.specs.Lawful.{Follows, IsLawful}
 use Rattle.posting_core.specs.Book.{Book, place_after}
 use Rattle.posting_core.specs.Rows.{place_to}
-use Rattle.posting_core.proofs.AppliedRows.{none_some, applied_is}
+use Rattle.posting_core.proofs.AppliedRows.{applied_is}
 use Rattle.posting_core.proofs.Placed.{allowed_in, comes_along, stays}
 use Rattle.posting_core.proofs.Carried.{same_place}
 use Rattle.posting_core.proofs.Among.{among_passing, not_among_passing, among_range, none_fails}
@@ -46,10 +46,10 @@ pub by_verdict : (X : Type 0) (S : Museum) (depth : ℕ) (P : List Entry) (e : E
 by_verdict X S depth P e o follows lawful applied refused = elim (is_applied e.verdict) as (λ b. is_applied e.verdict ≡ b → X) [
   | true ↦ λ h. applied (record { lawful = lawful; applied = h; judged = sym follows.judged ∙ applied_is e.verdict h })
   | false ↦ λ h. refused (record {
-      place = ap (λ b. place (length S.things) (with_put (if b then put_in S P e.message else None) (puts S P)) o) h;
-      target = ap (λ b. last (with_put (if b then put_in S P e.message else None) (puts S P)) o) h;
-      stages = λ loan. ap (λ b. option_map_or (λ s. s) (if b then stage_by S P e.message loan o else None) (stage S P loan o)) h;
-    })
+    place = ap (λ b. place (length S.things) (with_put (if b then put_in S P e.message else None) (puts S P)) o) h;
+    target = ap (λ b. last (with_put (if b then put_in S P e.message else None) (puts S P)) o) h;
+    stages = λ loan. ap (λ b. option_map_or (λ s. s) (if b then stage_by S P e.message loan o else None) (stage S P loan o)) h;
+  })
 ] refl
 
 -- the place
@@ -94,14 +94,14 @@ by_carried X S depth P e put o a is goes apart =
     let allowed = allowed_in B e.message (put_in S P e.message) put a.lawful a.judged refl is in
     elim (is_carried (length S.things) (puts S P) put.thing o) as (λ b. is_carried (length S.things) (puts S P) put.thing o ≡ b → X) [
       | true ↦ λ h. goes (record {
-          carried = h;
-          after = place_applied S depth P e a o ∙ comes_along S depth P e.message put a.lawful is allowed o h;
-          before = same_place S depth P put.thing o a.lawful h;
-        })
+        carried = h;
+        after = place_applied S depth P e a o ∙ comes_along S depth P e.message put a.lawful is allowed o h;
+        before = same_place S depth P put.thing o a.lawful h;
+      })
       | false ↦ λ h. apart h (record {
-          place = place_applied S depth P e a o ∙ stays S depth P e.message put a.lawful is allowed o h;
-          target = target_applied S depth P e (Some put) o a is ∙ other_target (puts S P) put (length S.things) o h;
-        })
+        place = place_applied S depth P e a o ∙ stays S depth P e.message put a.lawful is allowed o h;
+        target = target_applied S depth P e (Some put) o a is ∙ other_target (puts S P) put (length S.things) o h;
+      })
     ] refl
 
 -- the objects among what a thing carries
@@ -183,7 +183,7 @@ pub came : (S : Museum) (P : List Entry) (e : Entry) (c : Crossing) (o : ℕ) (s
 came S P e c o s has one leaves = λ loan at. by_loan _ c.loan loan
     (λ same. leaves (sym has.here ∙ ap (λ l. stage S (e ∷ P) l o) same ∙ at))
     (λ apart. let same : loan ≡ c.loan = one.1 loan (sym (has.others loan apart) ∙ at) in
-        let both : true ≡ false = sym ((bytes_eq-Decides c.loan loan).1 (sym same)) ∙ apart in absurd (let q : true ≡ false = both in cc))
+    let both : true ≡ false = sym ((bytes_eq-Decides c.loan loan).1 (sym same)) ∙ apart in absurd (let q : true ≡ false = both in cc))
 
 -- what crosses is listed, at the stage wanted
 pub record IsReady (S : Museum) (P : List Entry) (c : Crossing) (o : ℕ) : Type 0 where

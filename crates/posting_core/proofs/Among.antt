@@ -1,9 +1,8 @@
 -- What stands in lists of numbers and of codes.
-use Rattle.std.specs.Prelude.{ℕ, ◌≡◌, ◌+◌, ◌<◌, ◌≤◌, ◌==◌, ◌||◌, ◌&&◌, Bool, true, false, not, cond, filter, List, [], ◌∷◌, length, map, Option, None, Some, refl, zero, suc, is_some, unwrap_or, slice_get}
-use Rattle.std.specs.List.{range_with_len, list_any, position}
-use Rattle.std.specs.Option.{option_map, option_map_or}
+use Rattle.std.specs.Prelude.{ℕ, ◌≡◌, ◌+◌, ◌<◌, ◌≤◌, ◌==◌, ◌||◌, Bool, true, false, not, cond, filter, List, [], ◌∷◌, length, map, None, Some, refl, zero, suc, is_some, unwrap_or}
+use Rattle.std.specs.List.{range_with_len, list_any}
 use Rattle.std.specs.Str.{bytes_eq}
-use Rattle.std.proofs.Common.{ap, ◌∙◌, sym, subst, arith, get_or}
+use Rattle.std.proofs.Common.{ap, ◌∙◌, sym, arith, get_or}
 use Rattle.std.proofs.lemmas.Bool.Decides.{nat_tests}
 use Rattle.std.proofs.lemmas.List.Quantifiers.{position-Some}
 use Rattle.std.proofs.lemmas.Option.{slice_get-get_or}
@@ -12,7 +11,7 @@ use Rattle.nest_core.specs.Museum.{Museum, find_thing, thing_codes, thing_code_o
 use Rattle.nest_core.specs.Puts.{is_among}
 use Rattle.posting_core.specs.Messages.{thing_no}
 use Rattle.posting_core.specs.Verdicts.{is_known}
-use Rattle.posting_core.proofs.AppliedRows.{none_some, held}
+use Rattle.posting_core.proofs.AppliedRows.{held}
 
 -- by whether two numbers are the same
 by_same : (X : Type 0) (a b : ℕ) → ((a == b) ≡ true → a ≡ b → X) → ((a == b) ≡ false → X) → X

@@ -1,21 +1,15 @@
 -- What a thing carries: it is where the thing is, and a thing that has no place was never put.
-use Rattle.std.specs.Prelude.{ℕ, ◌≡◌, ◌≢◌, ◌<◌, ◌≤◌, ◌==◌, ◌||◌, Bool, true, false, not, filter, List, [], ◌∷◌, length, Option, None, Some, refl, zero, suc, IfSome, if◌then◌else◌}
-use Rattle.std.specs.List.{range_with_len, list_any}
-use Rattle.std.specs.Option.{option_map_or}
-use Rattle.std.proofs.Common.{ap, ◌∙◌, sym, subst, arith}
+use Rattle.std.specs.Prelude.{ℕ, ◌≡◌, ◌≤◌, ◌==◌, ◌||◌, true, false, List, length, Option, None, refl, zero, suc}
+use Rattle.std.proofs.Common.{ap, ◌∙◌, sym, arith}
 use Rattle.std.proofs.lemmas.Bool.Decides.{nat_tests}
 use Rattle.nest_core.specs.declared.put.Target.{Target}
-use Rattle.nest_core.specs.declared.put.Target.TheVariants.{At, Within}
-use Rattle.nest_core.specs.declared.put.Put.{Put}
-use Rattle.nest_core.specs.Museum.{Museum, is_container}
-use Rattle.nest_core.specs.Puts.{last, with_put, container_of, place_of, above, outermost, place_by, place, is_among, is_carried, carried}
+use Rattle.nest_core.specs.Museum.{Museum}
+use Rattle.nest_core.specs.Puts.{last, container_of, place_of, above, outermost, place_by, is_among, is_carried}
 use Rattle.nest_core.specs.Records.{Ended}
-use Rattle.nest_core.proofs.Chains.{above-none, above-some, by_container, same_chain, length_above, place-none}
+use Rattle.nest_core.proofs.Chains.{above-none, above-some, by_container, same_chain, length_above}
 use Rattle.nest_core.proofs.NestLaws.{IsSound, chain_ends}
 use Rattle.posting_core.specs.declared.entry.Entry.{Entry}
-use Rattle.posting_core.specs.Messages.{thing_no}
-use Rattle.posting_core.specs.History.{puts, place_at, carried_at}
-use Rattle.posting_core.specs.Loans.{objects_in}
+use Rattle.posting_core.specs.History.{puts, place_at}
 use Rattle.posting_core.specs.Lawful.{IsLawful}
 use Rattle.posting_core.proofs.Placed.{lawful_sound}
 
@@ -30,16 +24,16 @@ ends_with at zero y x h = absurd (let e : false ≡ true = h in cc)
 ends_with at (suc steps) y x h = by_container _ at y
     (λ none. absurd (let e : false ≡ true = sym (ap (is_among x) (above-none at (suc steps) y none)) ∙ h in cc))
     (λ c some.
-        let here = above-some at steps y c some in
-        let h' : (c == x) || is_among x (above at steps c) ≡ true = sym (ap (is_among x) here) ∙ h in
-        elim (c == x) as (λ b. (c == x) ≡ b → b || is_among x (above at steps c) ≡ true → EndsWith at (suc steps) y x) [
-          | true ↦ λ e k.
-              let same : c ≡ x = grind (arith, nat_tests) in
-              record { less = steps; few = omega arith; ends = ap (outermost y) here ∙ ap (λ z. outermost z (above at steps z)) same }
-          | false ↦ λ e k.
-              let deeper = ends_with at steps c x k in
-              record { less = deeper.less; few = omega (arith, deeper.few); ends = ap (outermost y) here ∙ deeper.ends }
-        ] refl h')
+    let here = above-some at steps y c some in
+    let h' : (c == x) || is_among x (above at steps c) ≡ true = sym (ap (is_among x) here) ∙ h in
+    elim (c == x) as (λ b. (c == x) ≡ b → b || is_among x (above at steps c) ≡ true → EndsWith at (suc steps) y x) [
+      | true ↦ λ e k.
+          let same : c ≡ x = grind (arith, nat_tests) in
+          record { less = steps; few = omega arith; ends = ap (outermost y) here ∙ ap (λ z. outermost z (above at steps z)) same }
+      | false ↦ λ e k.
+          let deeper = ends_with at steps c x k in
+          record { less = deeper.less; few = omega (arith, deeper.few); ends = ap (outermost y) here ∙ deeper.ends }
+    ] refl h')
 
 -- what stands below x is where x is
 same_place_below : (n d : ℕ) (at : ℕ → Option Target) (y x : ℕ) → IsSound n d at → is_among x (above at n y) ≡ true → place_by at n y ≡ place_by at n x

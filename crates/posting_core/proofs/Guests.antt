@@ -1,14 +1,12 @@
 -- Over a lawful list a borrowed object is with its lender, or it is a guest under one loan in.
-use Rattle.std.specs.Prelude.{ℕ, ◌≡◌, ◌≢◌, ◌⊎◌, Bool, true, false, if◌then◌else◌, List, [], ◌∷◌, length, Option, None, Some, refl, IfSome}
+use Rattle.std.specs.Prelude.{ℕ, ◌≡◌, ◌⊎◌, true, false, if◌then◌else◌, List, [], ◌∷◌, None, Some, refl, IfSome}
 use Rattle.std.specs.Option.{option_map_or}
 use Rattle.std.proofs.Common.{ap, ◌∙◌, sym, subst, inl, inr}
 use Rattle.codes_core.specs.Loan.{is_out}
 use Rattle.nest_core.specs.Museum.{Museum, is_borrowed, is_inside, is_elsewhere}
 use Rattle.nest_core.specs.Puts.{last}
 use Rattle.posting_core.specs.declared.entry.Entry.{Entry}
-use Rattle.posting_core.specs.declared.stage.LineStage.{LineStage}
 use Rattle.posting_core.specs.declared.stage.LineStage.TheVariants.{Awaiting, Away, Here, GivenBack}
-use Rattle.posting_core.specs.Messages.{place_no}
 use Rattle.posting_core.specs.History.{puts, place_at}
 use Rattle.posting_core.specs.Loans.{stage}
 use Rattle.posting_core.specs.Verdicts.{is_away}
@@ -16,10 +14,10 @@ use Rattle.posting_core.specs.Lawful.{IsLawful}
 use Rattle.posting_core.specs.Book.{Book}
 use Rattle.posting_core.specs.Accountability.{IsWithLender, IsGuest}
 use Rattle.posting_core.proofs.AppliedRows.{none_some}
-use Rattle.posting_core.proofs.Accounted.{IsApplied, IsLeft, AtNone, AtOne, by_verdict, none_left, one_left, went, came}
+use Rattle.posting_core.proofs.Accounted.{IsLeft, AtNone, AtOne, by_verdict, none_left, one_left, went, came}
 use Rattle.posting_core.proofs.Carried.{carried_alone}
 use Rattle.posting_core.proofs.Owners.{IsListed, listed_is, listed_stays, line_listed, line_stage, borrowed_object, borrowed_listed, partner_elsewhere}
-use Rattle.posting_core.proofs.Turns.{IsInside, IsObject, HasMoved, HasExited, HasReturned, HasReceived, Turn, Left, Moved, Exited, Returned, Received, turn, not_elsewhere_inside}
+use Rattle.posting_core.proofs.Turns.{IsInside, IsObject, HasMoved, HasExited, HasReceived, Turn, Left, Moved, Exited, Returned, Received, turn}
 
 -- an object without a place was never put
 unplaced : (S : Museum) (P : List Entry) (e : Entry) (o : ℕ) → place_at S (e ∷ P) o ≡ None → (place_at S P o ≡ None → last (puts S P) o ≡ None) → Turn S P e o → last (puts S (e ∷ P)) o ≡ None
@@ -42,7 +40,7 @@ record WithLender (S : Museum) (P : List Entry) (o : ℕ) : Type 0 where
 
 record Guest (S : Museum) (P : List Entry) (o : ℕ) : Type 0 where
   loan : List ℕ
-  «in» : is_out loan ≡ false
+  loan_in : is_out loan ≡ false
   here : AtOne (λ loan. stage S P loan o) Here loan
   listed : IsListed S P loan o
   place : IsInside S (place_at S P o)
@@ -54,7 +52,7 @@ Account S P o = WithLender S P o ⊎ Guest S P o
 stays_guest : (S : Museum) (P : List Entry) (e : Entry) (o : ℕ) → ((loan : List ℕ) → stage S (e ∷ P) loan o ≡ stage S P loan o) → IsInside S (place_at S (e ∷ P) o) → Guest S P o → Guest S (e ∷ P) o
 stays_guest S P e o stages place guest = record {
   loan = guest.loan;
-  «in» = guest.«in»;
+  loan_in = guest.loan_in;
   here = one_left (λ loan. stage S P loan o) (λ loan. stage S (e ∷ P) loan o) Here guest.loan stages guest.here;
   listed = listed_stays S P e guest.loan o guest.listed;
   place = place;
@@ -88,9 +86,9 @@ moved S depth P e o lawful borrowed m (inr guest) = inr (stays_guest S P e o m.s
 
 exited : (S : Museum) (depth : ℕ) (P : List Entry) (e : Entry) (o : ℕ) → IsLawful S depth P → is_borrowed S o ≡ true → HasExited S P e o → Account S P o → Account S (e ∷ P) o
 exited S depth P e o lawful borrowed x account =
-    let «in» = borrowed_listed S depth P x.loan o lawful borrowed x.ready.listed in
-    let here : stage S P x.loan o ≡ Here = x.ready.wanted ∙ ap (λ b. if b then Awaiting else Here) «in» in
-    let leaves : (if is_out x.loan then Away else GivenBack) ≡ GivenBack = ap (λ b. if b then Away else GivenBack) «in» in
+    let loan_in = borrowed_listed S depth P x.loan o lawful borrowed x.ready.listed in
+    let here : stage S P x.loan o ≡ Here = x.ready.wanted ∙ ap (λ b. if b then Awaiting else Here) loan_in in
+    let leaves : (if is_out x.loan then Away else GivenBack) ≡ GivenBack = ap (λ b. if b then Away else GivenBack) loan_in in
     by here leaves account
   where
     by : stage S P x.loan o ≡ Here → (if is_out x.loan then Away else GivenBack) ≡ GivenBack → Account S P o → Account S (e ∷ P) o
@@ -105,7 +103,7 @@ exited S depth P e o lawful borrowed x account =
 received : (S : Museum) (P : List Entry) (e : Entry) (o : ℕ) → HasReceived S P e o → Account S P o → Account S (e ∷ P) o
 received S P e o r (inl away) = inr (record {
   loan = r.loan;
-  «in» = r.«in»;
+  loan_in = r.loan_in;
   here = went S P e _ o r.crossed away.loans;
   listed = listed_stays S P e r.loan o (listed_is S P r.loan o r.ready.listed);
   place = r.after;
@@ -119,7 +117,7 @@ applied S depth P e o lawful borrowed account (Left same) = left S P e o same ac
 applied S depth P e o lawful borrowed account (Moved m) = moved S depth P e o lawful borrowed m account
 applied S depth P e o lawful borrowed account (Exited x) = exited S depth P e o lawful borrowed x account
 applied S depth P e o lawful borrowed account (Returned r) =
-    absurd (let both : true ≡ false = sym r.out ∙ borrowed_listed S depth P r.loan o lawful borrowed r.ready.listed in cc)
+    absurd (let both : true ≡ false = sym r.loan_out ∙ borrowed_listed S depth P r.loan o lawful borrowed r.ready.listed in cc)
 applied S depth P e o lawful borrowed account (Received r) = received S P e o r account
 
 accounted : (S : Museum) (depth : ℕ) (P : List Entry) (o : ℕ) → IsLawful S depth P → is_borrowed S o ≡ true → Account S P o
@@ -137,7 +135,7 @@ borrowed_accounted B o lawful borrowed = answer (accounted B.museum B.depth B.po
     answer (inl away) = inl (record { place = away.place; loans = λ loan at. away.loans loan (line_stage B.museum B.posted loan o Here at) })
     answer (inr guest) = inr (record {
       loan = guest.loan;
-      «in» = guest.«in»;
+      loan_in = guest.loan_in;
       here = (line_listed B.museum B.posted guest.loan o Here guest.listed guest.here.0, λ other at. guest.here.1 other (line_stage B.museum B.posted other o Here at));
       at = guest.place.at;
       place = guest.place.is;

@@ -1,24 +1,22 @@
 -- Over a lawful list an own object is home, or it is lent under one loan out.
-use Rattle.std.specs.Prelude.{ℕ, ◌≡◌, ◌≢◌, ◌⊎◌, Bool, true, false, if◌then◌else◌, List, [], ◌∷◌, length, Option, None, Some, refl, IfSome}
+use Rattle.std.specs.Prelude.{ℕ, ◌≡◌, ◌⊎◌, true, false, if◌then◌else◌, List, [], ◌∷◌, Option, None, Some, IfSome}
 use Rattle.std.specs.Option.{option_map, option_map_or}
 use Rattle.std.proofs.Common.{ap, ◌∙◌, sym, subst, inl, inr}
 use Rattle.codes_core.specs.Loan.{is_out}
 use Rattle.nest_core.specs.Museum.{Museum, is_own, is_inside, is_elsewhere}
 use Rattle.nest_core.specs.Puts.{is_among}
 use Rattle.posting_core.specs.declared.entry.Entry.{Entry}
-use Rattle.posting_core.specs.declared.stage.LineStage.{LineStage}
-use Rattle.posting_core.specs.declared.stage.LineStage.TheVariants.{Awaiting, Away, Back, Here, GivenBack}
+use Rattle.posting_core.specs.declared.stage.LineStage.TheVariants.{Awaiting, Away, Back, GivenBack}
 use Rattle.posting_core.specs.Messages.{place_no}
-use Rattle.posting_core.specs.Agreements.{Agreement, agreement}
 use Rattle.posting_core.specs.History.{place_at}
-use Rattle.posting_core.specs.Loans.{objects_of, objects, stage, line}
+use Rattle.posting_core.specs.Loans.{objects_of, stage}
 use Rattle.posting_core.specs.Verdicts.{is_away}
 use Rattle.posting_core.specs.Lawful.{IsLawful}
 use Rattle.posting_core.specs.Book.{Book}
-use Rattle.posting_core.specs.Accountability.{IsUnderNone, IsUnderOne, IsHome, IsLent}
-use Rattle.posting_core.proofs.Accounted.{IsApplied, IsLeft, AtNone, AtOne, by_verdict, none_left, one_left, went, came}
+use Rattle.posting_core.specs.Accountability.{IsHome, IsLent}
+use Rattle.posting_core.proofs.Accounted.{IsLeft, AtNone, AtOne, by_verdict, none_left, one_left, went, came}
 use Rattle.posting_core.proofs.Owners.{IsListed, listed_stays, line_listed, line_stage, own_object, own_listed, partner_elsewhere}
-use Rattle.posting_core.proofs.Turns.{IsInside, HasMoved, HasExited, HasReturned, HasReceived, Turn, Left, Moved, Exited, Returned, Received, turn, not_elsewhere_inside}
+use Rattle.posting_core.proofs.Turns.{IsInside, HasMoved, HasExited, HasReturned, Turn, Left, Moved, Exited, Returned, Received, turn, not_elsewhere_inside}
 
 -- home and lent, by the stages
 record Home (S : Museum) (P : List Entry) (o : ℕ) : Type 0 where
@@ -27,7 +25,7 @@ record Home (S : Museum) (P : List Entry) (o : ℕ) : Type 0 where
 
 record Lent (S : Museum) (P : List Entry) (o : ℕ) : Type 0 where
   loan : List ℕ
-  out : is_out loan ≡ true
+  loan_out : is_out loan ≡ true
   away : AtOne (λ loan. stage S P loan o) Away loan
   listed : IsListed S P loan o
   place : place_at S P o ≡ Some (place_no S listed.agreed.partner)
@@ -45,7 +43,7 @@ left S P e o same (inl home) = inl (record {
 })
 left S P e o same (inr lent) = inr (record {
   loan = lent.loan;
-  out = lent.out;
+  loan_out = lent.loan_out;
   away = one_left (λ loan. stage S P loan o) (λ loan. stage S (e ∷ P) loan o) Away lent.loan same.stages lent.away;
   listed = listed_stays S P e lent.loan o lent.listed;
   place = same.place ∙ lent.place;
@@ -73,11 +71,11 @@ exited : (S : Museum) (depth : ℕ) (P : List Entry) (e : Entry) (o : ℕ) → I
 exited S depth P e o lawful own x account =
     let here = subst (λ q. IfSome q (λ p. is_elsewhere S p ≡ false)) (sym x.before.is) (not_elsewhere_inside S x.before.at x.before.inside) in
     let home = not_lent S depth P o lawful here account in
-    let out = own_listed S depth P x.loan o lawful own x.ready.listed in
-    let away : (if is_out x.loan then Away else GivenBack) ≡ Away = ap (λ b. if b then Away else GivenBack) out in
+    let loan_out = own_listed S depth P x.loan o lawful own x.ready.listed in
+    let away : (if is_out x.loan then Away else GivenBack) ≡ Away = ap (λ b. if b then Away else GivenBack) loan_out in
     inr (record {
       loan = x.loan;
-      out = out;
+      loan_out = loan_out;
       away = subst (λ s. AtOne (λ loan. stage S (e ∷ P) loan o) s x.loan) away (went S P e _ o x.crossed (subst (AtNone (λ loan. stage S P loan o)) (sym away) home.loans));
       listed = listed_stays S P e x.loan o (record { agreed = x.agreed; found = x.found; among = subst (λ t. is_among o (option_map_or (objects_of S) t []) ≡ true) x.found x.ready.listed });
       place = x.after;
@@ -98,7 +96,7 @@ applied S depth P e o lawful own account (Moved m) = moved S depth P e o lawful 
 applied S depth P e o lawful own account (Exited x) = exited S depth P e o lawful own x account
 applied S depth P e o lawful own account (Returned r) = returned S P e o r account
 applied S depth P e o lawful own account (Received r) =
-    absurd (let both : true ≡ false = sym (own_listed S depth P r.loan o lawful own r.ready.listed) ∙ r.«in» in cc)
+    absurd (let both : true ≡ false = sym (own_listed S depth P r.loan o lawful own r.ready.listed) ∙ r.loan_in in cc)
 
 accounted : (S : Museum) (depth : ℕ) (P : List Entry) (o : ℕ) → IsLawful S depth P → is_own S o ≡ true → Account S P o
 accounted S depth [] o lawful own = inl (record { place = tt; loans = λ loan e. absurd (let q : Awaiting ≡ Away = e in cc) })
@@ -115,7 +113,7 @@ own_accounted B o lawful own = answer (accounted B.museum B.depth B.posted o law
     answer (inl home) = inl (record { place = home.place; loans = λ loan at. home.loans loan (line_stage B.museum B.posted loan o Away at) })
     answer (inr lent) = inr (record {
       loan = lent.loan;
-      out = lent.out;
+      loan_out = lent.loan_out;
       away = (line_listed B.museum B.posted lent.loan o Away lent.listed lent.away.0, λ other at. lent.away.1 other (line_stage B.museum B.posted other o Away at));
       partner = place_no B.museum lent.listed.agreed.partner;
       agreed = ap (option_map (λ t. place_no B.museum t.partner)) lent.listed.found;

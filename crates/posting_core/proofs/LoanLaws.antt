@@ -6,20 +6,17 @@ use Rattle.std.proofs.Common.{ap, ◌∙◌, sym, subst, arith, inl, inr}
 use Rattle.std.proofs.lemmas.Bool.{and_parts}
 use Rattle.std.proofs.lemmas.Bool.Decides.{nat_tests}
 use Rattle.std.proofs.lemmas.Int.{ints}
-use Rattle.codes_core.specs.Loan.{is_out}
 use Rattle.nest_core.specs.Museum.{Museum}
 use Rattle.nest_core.specs.Puts.{is_among}
 use Rattle.posting_core.specs.declared.message.Message.{Message}
-use Rattle.posting_core.specs.declared.message.Message.TheVariants.{Move, Pack, Agree, Authorise, Exit, Return, Receive, SignOff, Extend}
+use Rattle.posting_core.specs.declared.message.Message.TheVariants.{Exit, Return, Receive}
 use Rattle.posting_core.specs.declared.verdict.Verdict.TheVariants.{Applied}
 use Rattle.posting_core.specs.declared.entry.Entry.{Entry}
 use Rattle.posting_core.specs.declared.stage.LineStage.{LineStage}
 use Rattle.posting_core.specs.declared.stage.LineStage.TheVariants.{Awaiting, Away, Back, Here, GivenBack}
-use Rattle.posting_core.specs.declared.stage.LoanState.{LoanState}
 use Rattle.posting_core.specs.declared.stage.LoanState.TheVariants.{Draft, Authorised, Running, Closed}
-use Rattle.posting_core.specs.VerdictNames.{is_applied}
 use Rattle.posting_core.specs.Agreements.{Agreement, agreement, is_agreed, is_authorised, last_from, last_day}
-use Rattle.posting_core.specs.Loans.{objects_of, objects, stage, line, is_done, is_awaiting, state_by, loan_state}
+use Rattle.posting_core.specs.Loans.{objects_of, stage, line, is_done, is_awaiting, state_by, loan_state}
 use Rattle.posting_core.specs.Lawful.{IsLawful}
 use Rattle.posting_core.specs.Verdicts.{verdict, first_of, exit_rows, return_rows, receive_rows, is_over}
 use Rattle.posting_core.specs.Accountability.{IsOver, AtEachApplied, IsAuthorised, IsInTerm, IsWithin}
@@ -37,9 +34,9 @@ closed_done false stages h = absurd (let e : Draft ≡ Closed = h in cc)
 closed_done true stages h = elim (list_all is_done stages) as (λ b. (if b then Closed else (if list_any (λ s. not (is_awaiting s)) stages then Running else Authorised)) ≡ Closed → b ≡ true) [
   | true ↦ λ e. refl
   | false ↦ λ e. elim (list_any (λ s. not (is_awaiting s)) stages) as (λ b. (if b then Running else Authorised) ≡ Closed → false ≡ true) [
-      | true ↦ λ k. cc
-      | false ↦ λ k. cc
-    ] e
+    | true ↦ λ k. cc
+    | false ↦ λ k. cc
+  ] e
 ] h
 
 all_done : (f : ℕ → LineStage) (os : List ℕ) (o : ℕ) → list_all is_done (map f os) ≡ true → is_among o os ≡ true → is_done (f o) ≡ true

@@ -1,15 +1,14 @@
 -- Own and borrowed objects, the loans that list them, and those loans' partners.
-use Rattle.std.specs.Prelude.{ℕ, ◌≡◌, ◌<◌, Bool, true, false, if◌then◌else◌, List, [], ◌∷◌, length, Option, None, Some, refl}
+use Rattle.std.specs.Prelude.{ℕ, ◌≡◌, ◌<◌, Bool, true, false, if◌then◌else◌, List, [], ◌∷◌, None, Some, refl}
 use Rattle.std.specs.Option.{option_map, option_map_or}
-use Rattle.std.specs.Str.{bytes_eq}
-use Rattle.std.proofs.Common.{ap, ◌∙◌, sym, subst, arith}
+use Rattle.std.proofs.Common.{ap, ◌∙◌, sym, subst}
 use Rattle.std.proofs.lemmas.List.{length-map}
 use Rattle.std.proofs.lemmas.Option.{slice_get_within}
 use Rattle.codes_core.specs.declared.thing.ThingKind.{ThingKind}
 use Rattle.codes_core.specs.declared.thing.ThingKind.TheVariants.{Own, Borrowed, Container}
 use Rattle.codes_core.specs.Loan.{is_out}
 use Rattle.codes_core.specs.Thing.{thing_kind}
-use Rattle.nest_core.specs.Museum.{Museum, thing_codes, thing_code_of, is_own, is_borrowed, is_container, is_own_kind, is_borrowed_kind, is_container_kind, is_elsewhere}
+use Rattle.nest_core.specs.Museum.{Museum, thing_codes, thing_code_of, is_own, is_borrowed, is_own_kind, is_borrowed_kind, is_container_kind, is_elsewhere}
 use Rattle.nest_core.specs.Puts.{is_among}
 use Rattle.posting_core.specs.declared.entry.Entry.{Entry}
 use Rattle.posting_core.specs.Messages.{place_no}
@@ -18,7 +17,6 @@ use Rattle.posting_core.specs.declared.stage.LineStage.{LineStage}
 use Rattle.posting_core.specs.Loans.{objects_of, objects, stage, line}
 use Rattle.posting_core.specs.Verdicts.{is_of_wrong_owner}
 use Rattle.posting_core.specs.Lawful.{IsLawful}
-use Rattle.posting_core.proofs.AppliedRows.{none_some}
 use Rattle.posting_core.proofs.Agreed.{agreement_sound, found_is}
 use Rattle.posting_core.proofs.Placed.{place_below}
 use Rattle.posting_core.proofs.Among.{among_codes}
@@ -35,9 +33,9 @@ object_by S o is_kind no_container h =
     elim (thing_code_of S o) as (λ c. thing_code_of S o ≡ c → option_map_or is_kind (option_map thing_kind c) false ≡ true → IsObject S o) [
       | None ↦ λ e k. false_not_true _ k
       | Some x ↦ λ e k. record {
-          below = subst (λ n. o < n) (length-map S.things (λ row. row.0)) (slice_get_within (thing_codes S) o x e);
-          object = ap (λ c. option_map_or is_container_kind (option_map thing_kind c) false) e ∙ no_container (thing_kind x) k;
-        }
+        below = subst (λ n. o < n) (length-map S.things (λ row. row.0)) (slice_get_within (thing_codes S) o x e);
+        object = ap (λ c. option_map_or is_container_kind (option_map thing_kind c) false) e ∙ no_container (thing_kind x) k;
+      }
     ] refl h
 
 pub own_object : (S : Museum) (o : ℕ) → is_own S o ≡ true → IsObject S o

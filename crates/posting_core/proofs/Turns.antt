@@ -1,13 +1,13 @@
 -- What an applied entry of each kind means for an object that it places.
-use Rattle.std.specs.Prelude.{ℕ, ℤ, ◌≡◌, ◌<◌, ◌&&◌, Bool, true, false, not, if◌then◌else◌, List, [], ◌∷◌, length, Option, None, Some, refl, is_some, slice_get}
+use Rattle.std.specs.Prelude.{ℕ, ℤ, ◌≡◌, ◌<◌, true, false, not, List, [], ◌∷◌, length, Option, None, Some, refl, is_some, slice_get}
 use Rattle.std.specs.Option.{option_map, option_map_or}
-use Rattle.std.proofs.Common.{ap, ◌∙◌, sym, subst, arith, get_or}
+use Rattle.std.proofs.Common.{ap, ◌∙◌, sym, subst, get_or}
 use Rattle.std.proofs.lemmas.Option.{slice_get-get_or}
 use Rattle.codes_core.specs.Loan.{is_out}
 use Rattle.nest_core.specs.declared.put.Put.{Put}
 use Rattle.nest_core.specs.declared.put.Target.TheVariants.{At, Within}
 use Rattle.nest_core.specs.Museum.{Museum, is_container, is_inside, is_elsewhere}
-use Rattle.nest_core.specs.Puts.{is_among, is_carried}
+use Rattle.nest_core.specs.Puts.{is_carried}
 use Rattle.posting_core.specs.declared.message.Message.{Message}
 use Rattle.posting_core.specs.declared.message.Message.TheVariants.{Move, Pack, Agree, Authorise, Exit, Return, Receive, SignOff, Extend}
 use Rattle.posting_core.specs.declared.verdict.Verdict.TheVariants.{Applied}
@@ -16,8 +16,8 @@ use Rattle.posting_core.specs.declared.stage.LineStage.TheVariants.{Awaiting, Aw
 use Rattle.posting_core.specs.Messages.{thing_no, place_no}
 use Rattle.posting_core.specs.Agreements.{Agreement, agreement, is_agreed}
 use Rattle.posting_core.specs.History.{puts, put_in, place_at}
-use Rattle.posting_core.specs.Loans.{Crossing, crossing_in, exit_of, objects_in, stage}
-use Rattle.posting_core.specs.Verdicts.{verdict, first_of, move_rows, pack_rows, exit_rows, return_rows, receive_rows, is_known_place, is_away, is_not_here, stands_inside, carries_unlisted, carries_wrong_stage}
+use Rattle.posting_core.specs.Loans.{Crossing, crossing_in, exit_of, stage}
+use Rattle.posting_core.specs.Verdicts.{verdict, first_of, move_rows, pack_rows, exit_rows, return_rows, receive_rows, is_known_place, is_away, stands_inside, carries_unlisted, carries_wrong_stage}
 use Rattle.posting_core.specs.Rows.{place_to}
 use Rattle.posting_core.proofs.AppliedRows.{none_holds, held}
 use Rattle.posting_core.proofs.Placed.{place_below}
@@ -85,7 +85,7 @@ pub record HasExited (S : Museum) (P : List Entry) (e : Entry) (o : ℕ) : Type 
 pub record HasReturned (S : Museum) (P : List Entry) (e : Entry) (o : ℕ) : Type 0 where
   pub x : List ℕ
   pub loan : List ℕ
-  pub out : is_out loan ≡ true
+  pub loan_out : is_out loan ≡ true
   pub after : IsInside S (place_at S (e ∷ P) o)
   pub crossed : HasCrossed S P e (record { thing = x; loan = loan; wanted = Away; stage = Back }) o
   pub ready : IsReady S P (record { thing = x; loan = loan; wanted = Away; stage = Back }) o
@@ -94,7 +94,7 @@ pub record HasReturned (S : Museum) (P : List Entry) (e : Entry) (o : ℕ) : Typ
 pub record HasReceived (S : Museum) (P : List Entry) (e : Entry) (o : ℕ) : Type 0 where
   pub x : List ℕ
   pub loan : List ℕ
-  pub «in» : is_out loan ≡ false
+  pub loan_in : is_out loan ≡ false
   pub before : option_map_or (is_inside S) (place_at S P o) false ≡ false
   pub after : IsInside S (place_at S (e ∷ P) o)
   pub crossed : HasCrossed S P e (record { thing = x; loan = loan; wanted = Awaiting; stage = Here }) o
@@ -134,7 +134,7 @@ crosses : (S : Museum) (depth : ℕ) (P : List Entry) (e : Entry) (o : ℕ) (put
     (GoesWith S P e put o → HasCrossed S P e c o → IsReady S P c o → Turn S P e o) → Turn S P e o
 crosses S depth P e o put c a object is cross same unlisted wrong turn = by_carried _ S depth P e put o a is
     (λ goes. let among = carried_among S P c.thing o object.below object.object (subst (λ x. is_carried (length S.things) (puts S P) x o ≡ true) same goes.carried) in
-        turn goes (crosses_with S depth P e o c a cross among) (ready S P c o unlisted wrong among))
+    turn goes (crosses_with S depth P e o c a cross among) (ready S P c o unlisted wrong among))
     (λ apart stays. Left (record {
       place = stays.place;
       target = stays.target;
@@ -171,7 +171,7 @@ returns S depth P e o x loan p day a object is h =
     (λ goes crossed ready. Returned (record {
       x = x;
       loan = loan;
-      out = held (is_out loan) none.1.1.1.1.1.0;
+      loan_out = held (is_out loan) none.1.1.1.1.1.0;
       after = subst (IsInside S) (sym goes.after) (comes_inside S p none.1.0 none.1.1.0);
       crossed = crossed;
       ready = ready;
@@ -185,7 +185,7 @@ receives S depth P e o x loan p day a object is h =
     (λ goes crossed ready. Received (record {
       x = x;
       loan = loan;
-      «in» = none.1.1.1.1.1.1.0;
+      loan_in = none.1.1.1.1.1.1.0;
       before = ap (λ o. option_map_or (is_inside S) o false) goes.before ∙ none.1.1.1.1.1.1.1.0;
       after = subst (IsInside S) (sym goes.after) (comes_inside S p none.1.0 none.1.1.0);
       crossed = crossed;

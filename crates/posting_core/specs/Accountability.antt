@@ -1,5 +1,5 @@
 -- How the loans account for the objects: what is lent, what is a guest, when a loan is over, and how things may cross.
-use Rattle.std.specs.Prelude.{ℕ, ℤ, ◌≡◌, ◌≢◌, ◌⊎◌, ◌≤ℤ◌, Bool, true, false, List, [], ◌∷◌, Option, Some, None, IfSome, if◌then◌else◌}
+use Rattle.std.specs.Prelude.{ℕ, ℤ, ◌≡◌, ◌≢◌, ◌⊎◌, ◌≤ℤ◌, true, false, List, [], ◌∷◌, Option, Some, IfSome}
 use Rattle.std.specs.Option.{option_map}
 use Rattle.codes_core.specs.Loan.{is_out}
 use Rattle.nest_core.specs.Museum.{is_inside, is_elsewhere}
@@ -33,7 +33,7 @@ pub record IsHome (B : Book) (o : ℕ) : Type 0 where
 -- an own object is lent: away under one loan, which is a loan out, at the place of its partner, which is elsewhere
 pub record IsLent (B : Book) (o : ℕ) : Type 0 where
   pub loan : List ℕ
-  pub out : is_out loan ≡ true
+  pub loan_out : is_out loan ≡ true
   pub away : IsUnderOne B Away o loan
   pub partner : ℕ
   pub agreed : partner_in B loan ≡ Some partner
@@ -48,7 +48,7 @@ pub record IsWithLender (B : Book) (o : ℕ) : Type 0 where
 -- a borrowed object is a guest: here under one loan, which is a loan in, at a place inside
 pub record IsGuest (B : Book) (o : ℕ) : Type 0 where
   pub loan : List ℕ
-  pub «in» : is_out loan ≡ false
+  pub loan_in : is_out loan ≡ false
   pub here : IsUnderOne B Here o loan
   pub at : ℕ
   pub place : place_in B o ≡ Some at
