@@ -6,7 +6,7 @@ use Rattle.posting_core.specs.declared.stage.LineStage.TheVariants.{Awaiting, Aw
 use Rattle.posting_core.specs.Loans.{Crossing, exit_of}
 
 -- the crossing of a thing that leaves under a loan out, or under a loan in
-exit_by : Bool → List ℕ → List ℕ → Crossing
+abbrev exit_by : Bool → List ℕ → List ℕ → Crossing
 exit_by out x loan = if out
     then record { thing = x; loan = loan; wanted = Awaiting; stage = Away }
     else record { thing = x; loan = loan; wanted = Here; stage = GivenBack }
