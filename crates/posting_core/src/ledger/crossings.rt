@@ -9,8 +9,8 @@ ghost use Rattle.posting_core.specs.Agreements.{last_day};
 ghost use Rattle.posting_core.specs.declared.verdict.Verdict.TheVariants.{NotListed, WrongStage, TermOver};
 ghost use Rattle.posting_core.specs.LoanRows.{LoanRow, line_of};
 
-use super::loan_rules::is_container_code;
 use super::Ledger;
+use super::loan_rules::is_container_code;
 use crate::kept_loan::KeptLoan;
 use crate::numbers::thing_no;
 use crate::{LineStage, Verdict};

@@ -12,5 +12,5 @@ returns c =
     let P = c.args.self.now.posted in
     let number : c.thing_no.result ≡ thing_no S c.args.thing.now = c.thing_no.ensures ∙ ap (λ (b : Book). thing_no b.museum c.args.thing.now) c.self.view_is in
     let crossing : c.deref.result.now ≡ objects_in S P c.args.thing.now =
-        c.deref.ensures.value ∙ c.in_ok-objects.ensures ∙ ap (λ (n : ℕ). filter (λ o. not (is_container S o)) (carried_at S P n)) number in
+    c.deref.ensures.value ∙ c.in_ok-objects.ensures ∙ ap (λ (n : ℕ). filter (λ o. not (is_container S o)) (carried_at S P n)) number in
     rw (← crossing) c.judge_objects.ensures

@@ -15,9 +15,9 @@ returns c =
     let x = c.args.thing.now in
     let loan = c.args.loan.now in
     let over : c.if-is_out.is_over ≡ (is_out loan && is_over P loan c.args.day) =
-        elim c.if-is_out.branch [ then-is_out w ↦ search rules | else-is_out w ↦ search rules ] in
+    elim c.if-is_out.branch [ then-is_out w ↦ search rules | else-is_out w ↦ search rules ] in
     let rows = λ (w : Crossing) (late : Bool).
-        IfOk c.judge_lines.result (λ v. v ≡ first_of ((NotListed if carries_unlisted S P w) ∷ (WrongStage if carries_wrong_stage S P w) ∷ (TermOver if late) ∷ [])) in
+    IfOk c.judge_lines.result (λ v. v ≡ first_of ((NotListed if carries_unlisted S P w) ∷ (WrongStage if carries_wrong_stage S P w) ∷ (TermOver if late) ∷ [])) in
     subst (λ (w : Crossing). rows w (is_out loan && is_over P loan c.args.day)) (sym (exit_is x loan))
-        (subst (λ (s : LineStage). rows (record { thing = x; loan = loan; wanted = s; stage = (exit_of x loan).stage }) (is_out loan && is_over P loan c.args.day)) (c.wanted_by_exit.ensures x)
-            (subst (λ (late : Bool). rows (record { thing = x; loan = loan; wanted = c.wanted_by_exit.result; stage = (exit_of x loan).stage }) late) over c.judge_lines.ensures))
+    (subst (λ (s : LineStage). rows (record { thing = x; loan = loan; wanted = s; stage = (exit_of x loan).stage }) (is_out loan && is_over P loan c.args.day)) (c.wanted_by_exit.ensures x)
+    (subst (λ (late : Bool). rows (record { thing = x; loan = loan; wanted = c.wanted_by_exit.result; stage = (exit_of x loan).stage }) late) over c.judge_lines.ensures))

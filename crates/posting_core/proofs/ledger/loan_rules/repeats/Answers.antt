@@ -23,7 +23,7 @@ repeats_from : (xs : List (List ℕ)) (i : ℕ) (x : List ℕ) → i < length xs
 repeats_from xs i x less is =
     ap repeats (drop_more xs i x less ∙ ap (λ y. y ∷ drop (i + 1) xs) (sym is))
     ∙ ap (λ t. t || repeats (drop (i + 1) xs))
-        (sym (found_turned x (drop (i + 1) xs)) ∙ ap (list_any (λ y. bytes_eq y x)) (sym (take_all (length xs - (i + 1)) (drop (i + 1) xs) (omega (arith, length-drop (i + 1) xs)))))
+    (sym (found_turned x (drop (i + 1) xs)) ∙ ap (list_any (λ y. bytes_eq y x)) (sym (take_all (length xs - (i + 1)) (drop (i + 1) xs) (omega (arith, length-drop (i + 1) xs)))))
 
 pub returns-then-contains : goal.returns-then-contains
 returns-then-contains c =
