@@ -1,6 +1,7 @@
 mod BorrowedRows
-mod LoanOrderRows
+pub mod Judged
 pub mod LastSpots
+mod LoanOrderRows
 mod LoanedRows
 mod PackedRows
 pub mod Placed
