@@ -55,7 +55,7 @@ fn read_line(line: &[u8]) -> Result<(String, Request), String> {
         return Err("NotJson".to_string());
     };
     let station = text(&mut members, "station", |_| true)?;
-    if members.contains_key("ask") {
+    if members.contains("ask") {
         return Ok((station, Request::Ask(text(&mut members, "ask", is_thing)?)));
     }
     let n = match members.remove("n") {

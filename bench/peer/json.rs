@@ -1,6 +1,4 @@
 //! A small exact reader of JSON (RFC 8259): of a key that stands twice the last counts.
-use std::collections::HashMap;
-
 /// The most arrays and objects within each other.
 const DEEPEST: usize = 127;
 
@@ -10,12 +8,27 @@ pub enum Value {
     Whole(u64),
     Text(String),
     List(Vec<Value>),
-    Object(HashMap<String, Value>),
+    Object(Members),
+}
+
+/// The members of an object, as they stand.
+pub struct Members(Vec<(String, Value)>);
+
+impl Members {
+    /// Takes the last value of a key out.
+    pub fn remove(&mut self, key: &str) -> Option<Value> {
+        let at = self.0.iter().rposition(|member| member.0 == key)?;
+        Some(self.0.remove(at).1)
+    }
+
+    pub fn contains(&self, key: &str) -> bool {
+        self.0.iter().any(|member| member.0 == key)
+    }
 }
 
 /// What a text spells, or None where it is no JSON.
 pub fn parse(text: &[u8]) -> Option<Value> {
-    let text = std::str::from_utf8(text).ok()?.as_bytes();
+    let text = std::str::from_utf8(text).ok()?;
     let mut reader = Reader { text, at: 0 };
     let value = reader.value(0)?;
     reader.space();
@@ -23,13 +36,13 @@ pub fn parse(text: &[u8]) -> Option<Value> {
 }
 
 struct Reader<'a> {
-    text: &'a [u8],
+    text: &'a str,
     at: usize,
 }
 
 impl Reader<'_> {
     fn peek(&self) -> Option<u8> {
-        self.text.get(self.at).copied()
+        self.text.as_bytes().get(self.at).copied()
     }
 
     fn space(&mut self) {
@@ -47,7 +60,7 @@ impl Reader<'_> {
     }
 
     fn word(&mut self, word: &[u8]) -> Option<Value> {
-        if !self.text[self.at..].starts_with(word) {
+        if !self.text.as_bytes()[self.at..].starts_with(word) {
             return None;
         }
         self.at += word.len();
@@ -72,9 +85,9 @@ impl Reader<'_> {
             return None;
         }
         self.at += 1;
-        let mut members = HashMap::new();
+        let mut members = Vec::new();
         if self.takes(b'}') {
-            return Some(Value::Object(members));
+            return Some(Value::Object(Members(members)));
         }
         loop {
             self.space();
@@ -85,9 +98,9 @@ impl Reader<'_> {
             if !self.takes(b':') {
                 return None;
             }
-            members.insert(key, self.value(depth)?);
+            members.push((key, self.value(depth)?));
             if self.takes(b'}') {
-                return Some(Value::Object(members));
+                return Some(Value::Object(Members(members)));
             }
             if !self.takes(b',') {
                 return None;
@@ -117,20 +130,19 @@ impl Reader<'_> {
 
     fn string(&mut self) -> Option<String> {
         self.at += 1;
-        let mut bytes = Vec::new();
+        let mut found = String::new();
         loop {
             let start = self.at;
-            while !matches!(self.peek()?, b'"' | b'\\' | 0..=31) {
-                self.at += 1;
-            }
-            bytes.extend_from_slice(&self.text[start..self.at]);
+            let rest = &self.text.as_bytes()[start..];
+            self.at += rest
+                .iter()
+                .position(|byte| matches!(byte, b'"' | b'\\' | 0..=31))?;
+            found.push_str(&self.text[start..self.at]);
+            let ended = self.peek()?;
             self.at += 1;
-            match self.text[self.at - 1] {
-                b'"' => return String::from_utf8(bytes).ok(),
-                b'\\' => {
-                    let escaped = self.escape()?;
-                    bytes.extend_from_slice(escaped.encode_utf8(&mut [0; 4]).as_bytes());
-                }
+            match ended {
+                b'"' => return Some(found),
+                b'\\' => found.push(self.escape()?),
                 _ => return None,
             }
         }
@@ -199,7 +211,7 @@ impl Reader<'_> {
             self.at += usize::from(matches!(self.peek(), Some(b'+' | b'-')));
             self.digits()?;
         }
-        let text = std::str::from_utf8(&self.text[start..self.at]).ok()?;
+        let text = &self.text[start..self.at];
         match text.parse() {
             Ok(whole) => Some(Value::Whole(whole)),
             // a number beyond those of floating point is none

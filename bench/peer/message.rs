@@ -1,9 +1,6 @@
 //! The nine kinds of message, how they are read, and their text in the record.
 use crate::codes::{is_day, is_loan, is_name, is_place, is_thing};
-use crate::json::Value;
-use std::collections::HashMap;
-
-pub type Members = HashMap<String, Value>;
+use crate::json::{Members, Value};
 
 pub enum Message {
     Move {
