@@ -36,18 +36,17 @@ impl Thing {
 /// The setup that the bytes list, or what is printed of their first fault.
 pub fn read(bytes: &[u8]) -> Result<Setup, String> {
     let text = std::str::from_utf8(bytes).map_err(|_| "NotCsv".to_string())?;
-    let mut setup = Setup::default();
-    for (number, mut row) in rows(text.strip_prefix('\u{feff}').unwrap_or(text))
-        .into_iter()
-        .enumerate()
-    {
+    let mut rest = text.strip_prefix('\u{feff}').unwrap_or(text);
+    let (mut setup, mut number) = (Setup::default(), 0);
+    while let Some(mut row) = next_row(&mut rest) {
+        number += 1;
         while row.last().is_some_and(|field| field.is_empty()) {
             row.pop();
         }
         if !row.is_empty() {
             setup
                 .add(&row)
-                .map_err(|fault| format!("{fault} row {}", number + 1))?;
+                .map_err(|fault| format!("{fault} row {number}"))?;
         }
     }
     if setup.stations.is_empty() {
@@ -56,36 +55,43 @@ pub fn read(bytes: &[u8]) -> Result<Setup, String> {
     Ok(setup)
 }
 
-/// The rows of RFC 4180. A row ends at a line feed, a carriage return or both, and empty lines aren't rows.
-fn rows(text: &str) -> Vec<Vec<String>> {
-    let mut rows = Vec::new();
-    let mut rest = text.trim_start_matches(['\r', '\n']).chars().peekable();
-    while rest.peek().is_some() {
-        let mut row = vec![String::new()];
-        let mut is_quoted = rest.next_if_eq(&'"').is_some();
-        while let Some(next) = rest.next() {
-            let field = row.last_mut().unwrap();
-            match next {
-                '"' if is_quoted => {
-                    if rest.next_if_eq(&'"').is_some() {
-                        field.push('"');
-                    } else {
-                        is_quoted = false;
-                    }
-                }
-                _ if is_quoted => field.push(next),
-                ',' => {
-                    row.push(String::new());
-                    is_quoted = rest.next_if_eq(&'"').is_some();
-                }
-                '\r' | '\n' => break,
-                _ => field.push(next),
-            }
-        }
-        rows.push(row);
-        while rest.next_if(|next| matches!(next, '\r' | '\n')).is_some() {}
+/// The next row of RFC 4180. It ends at a line feed, a carriage return or both, and empty lines aren't rows.
+fn next_row(rest: &mut &str) -> Option<Vec<String>> {
+    let mut text = rest.trim_start_matches(['\r', '\n']);
+    if text.is_empty() {
+        return None;
     }
-    rows
+    let mut row = Vec::new();
+    loop {
+        let mut field = take_quoted(&mut text);
+        let end = text.find([',', '\r', '\n']).unwrap_or(text.len());
+        field.push_str(&text[..end]);
+        row.push(field);
+        *rest = text.get(end + 1..).unwrap_or("");
+        if !text[end..].starts_with(',') {
+            return Some(row);
+        }
+        text = rest;
+    }
+}
+
+/// What stands in quotes at the start of a field: two quotes in it are one.
+fn take_quoted(text: &mut &str) -> String {
+    let mut field = String::new();
+    let Some(mut rest) = text.strip_prefix('"') else {
+        return field;
+    };
+    loop {
+        let end = rest.find('"').unwrap_or(rest.len());
+        field.push_str(&rest[..end]);
+        rest = rest.get(end + 1..).unwrap_or("");
+        let Some(after) = rest.strip_prefix('"') else {
+            *text = rest;
+            return field;
+        };
+        field.push('"');
+        rest = after;
+    }
 }
 
 impl Setup {
