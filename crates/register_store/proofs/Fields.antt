@@ -1,5 +1,5 @@
 -- What the texts at an object's keys spell.
-use Rattle.std.proofs.Common.{◌≡◌, ℕ, Bool, true, List, [], Option, Some, None, option_and_then, unwrap_or, if◌then◌else◌, Result, Ok, Err, MatchResult, ok_or, is_none, refl, ap, ◌∙◌, lt-ltb, le-leb}
+use Rattle.std.proofs.Common.{◌≡◌, ℕ, Bool, true, List, [], Option, Some, None, option_and_then, unwrap_or, if◌then◌else◌, Result, Ok, Err, MatchResult, ok_or, is_none, refl, sym, ap, ◌∙◌, lt-ltb, le-leb}
 use Rattle.std.specs.Str.{is_utf8}
 use Rattle.std.specs.Result.{result_ok}
 use Rattle.std.proofs.lemmas.Bool.{and_from}
@@ -13,7 +13,7 @@ use Rattle.codes_core.specs.Day.{day_number}
 use Rattle.register_store.specs.declared.fault.ReadFault.TheVariants.{BadField}
 use Rattle.register_store.specs.declared.key.Key.{Key}
 use Rattle.register_store.specs.Spelling.{is_name}
-use Rattle.register_store.specs.Kinds.{◌spells◌, value_fault, of_json, of_bytes}
+use Rattle.register_store.specs.Kinds.{◌spells◌, text_of, value_fault, of_json, of_bytes}
 
 -- a string's fault is that of its text
 pub text_fault : (key : Key) (test : List ℕ → Bool) (o : Option Data) (text : List ℕ) → option_and_then as_str o ≡ Some text → value_fault (key spells test) o ≡ (if test text then None else Some (BadField key))
@@ -35,6 +35,14 @@ pub read_there : {T : Type 0} (key : Key) (fault_of : List ℕ → Option CodeFa
     → MatchResult (ok_or (result_ok read) (BadField key)) (λ x. (value_fault (key spells (λ t. is_none (fault_of t))) o ≡ None) × Is x) (λ fault. value_fault (key spells (λ t. is_none (fault_of t))) o ≡ Some fault)
 read_there key fault_of Is (Ok x) o text e h = (text_fault key (λ t. is_none (fault_of t)) o text e ∙ rw h.1, h.0)
 read_there key fault_of Is (Err fault) o text e h = text_fault key (λ t. is_none (fault_of t)) o text e ∙ rw h
+
+-- the same of a reader that gives the text itself
+pub read_text_there : (key : Key) (fault_of : List ℕ → Option CodeFault) (read : Result (List ℕ) CodeFault) (o : Option Data) (text : List ℕ) → option_and_then as_str o ≡ Some text
+    → MatchResult read (λ x. (x ≡ text) × (fault_of text ≡ None)) (λ fault. fault_of text ≡ Some fault)
+    → MatchResult (ok_or (result_ok read) (BadField key)) (λ x. (value_fault (key spells (λ t. is_none (fault_of t))) o ≡ None) × (x ≡ text_of o)) (λ fault. value_fault (key spells (λ t. is_none (fault_of t))) o ≡ Some fault)
+read_text_there key fault_of (Ok x) o text e h =
+    (text_fault key (λ t. is_none (fault_of t)) o text e ∙ rw h.1, h.0 ∙ sym (ap (λ (found : Option (List ℕ)). unwrap_or found []) e))
+read_text_there key fault_of (Err fault) o text e h = text_fault key (λ t. is_none (fault_of t)) o text e ∙ rw h
 
 -- UTF-8 that is JSON says what its value says
 pub of_value : (bytes : List ℕ) (d : Data) → is_utf8 bytes ≡ true → read bytes ≡ Some d → of_bytes bytes ≡ of_json d

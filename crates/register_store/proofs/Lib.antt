@@ -1,4 +1,5 @@
 pub mod Fields
+pub mod ObjectLists
 pub mod RoundTrip
 pub mod Lists
 pub mod OneList

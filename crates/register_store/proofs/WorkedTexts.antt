@@ -1,5 +1,5 @@
 -- The texts of messages computed on worked rows: what they spell, and the one text of each.
-use Rattle.std.specs.Prelude.{ℤ, pos, ◌≡◌, List, ℕ, [], ◌∷◌, take, refl, codes, Ok, Err}
+use Rattle.std.specs.Prelude.{ℤ, pos, ◌≡◌, List, ℕ, zero, suc, [], ◌∷◌, take, refl, codes, Ok, Err}
 use Rattle.std.specs.Str.{is_utf8, chars}
 use Rattle.std.proofs.Math.Utf8.{encode}
 use Rattle.std.proofs.Common.{arith, ◌∙◌, ap}
@@ -9,14 +9,14 @@ use Rattle.json.specs.Json.{value}
 use Rattle.json.specs.Lex.{punctuate, lex}
 use Rattle.json.specs.Text.{content}
 use Rattle.json.specs.Print.{escape_byte}
-use Rattle.serde_json.specs.Data.{Data, Members, null, string, number, unsigned, array, object, item, no_items, no_members, put}
+use Rattle.serde_json.specs.Data.{Data, Members, null, string, number, unsigned, array, object, Items, item, no_items, no_members, put}
 use Rattle.serde_json.specs.Written.{compact_text}
 use Rattle.codes_core.specs.Day.{IsOnlySpelling}
 use Rattle.codes_core.proofs.Days.{only_spelling}
 use Rattle.posting_core.specs.declared.message.Message.{Message}
-use Rattle.posting_core.specs.declared.message.Message.TheVariants.{Move, Pack, SignOff}
+use Rattle.posting_core.specs.declared.message.Message.TheVariants.{Move, Pack, Agree, Authorise, Exit, Return, Receive, SignOff, Extend}
 use Rattle.register_store.specs.declared.fault.ReadFault.TheVariants.{NotJson, Missing, BadKind, BadField}
-use Rattle.register_store.specs.declared.key.Key.TheVariants.{Kind, Thing, Place, Day, By}
+use Rattle.register_store.specs.declared.key.Key.TheVariants.{Kind, Thing, Place, Day, By, Objects, First}
 use Rattle.register_store.specs.Kinds.{of_json, of_bytes}
 use Rattle.register_store.specs.MessageText.{IsTextOf}
 
@@ -35,6 +35,38 @@ may-spelled =
       month_in = (omega arith, omega arith);
       day_in = (omega arith, omega arith);
     }) may refl (omega (arith, signed_arith))
+
+-- 2024-05-31
+abbrev pub end_of_may : ℤ
+end_of_may = pos 19874
+
+pub end_of_may-spelled : IsOnlySpelling (codes "2024-05-31") end_of_may
+unfolding days_from_civil day_count days_of_years days_of_months
+end_of_may-spelled =
+    only_spelling (record {
+      year = pos 2024;
+      month = 5;
+      day = 31;
+      year_in = (omega (arith, signed_arith), omega (arith, signed_arith));
+      month_in = (omega arith, omega arith);
+      day_in = (omega arith, omega arith);
+    }) end_of_may refl (omega (arith, signed_arith))
+
+-- 2024-06-30
+abbrev pub end_of_june : ℤ
+end_of_june = pos 19904
+
+pub end_of_june-spelled : IsOnlySpelling (codes "2024-06-30") end_of_june
+unfolding days_from_civil day_count days_of_years days_of_months
+end_of_june-spelled =
+    only_spelling (record {
+      year = pos 2024;
+      month = 6;
+      day = 30;
+      year_in = (omega (arith, signed_arith), omega (arith, signed_arith));
+      month_in = (omega arith, omega arith);
+      day_in = (omega arith, omega arith);
+    }) end_of_june refl (omega (arith, signed_arith))
 
 abbrev pub first_move : Message
 first_move = Move (codes "2001.4.1") (codes "S1") may
@@ -67,10 +99,46 @@ pub sign_off-reads_back : of_bytes (codes "{\"by\":\"Ann\",\"kind\":\"signoff\"}
 unfolding is_utf8 chars encode value punctuate lex content
 sign_off-reads_back = refl
 
+-- an agreement, whose objects stand in the order given
+
+abbrev pub agreed : Message
+agreed = Agree (codes "LO2024.1") (codes "MUSEUM-X") (codes "2001.4.1" ∷ codes "2001.4.2" ∷ []) may end_of_may
+
+abbrev pub agreed_text : List ℕ
+agreed_text = codes "{\"first\":\"2024-05-01\",\"kind\":\"agree\",\"last\":\"2024-05-31\",\"loan\":\"LO2024.1\",\"objects\":[\"2001.4.1\",\"2001.4.2\"],\"partner\":\"MUSEUM-X\"}"
+
+pub agree-text : IsTextOf agreed agreed_text
+unfolding escape_byte
+agree-text = (_, (codes "2024-05-01", may-spelled, (codes "2024-05-31", end_of_may-spelled, refl)), refl)
+
+pub agree-reads_back : of_bytes agreed_text ≡ Ok agreed
+unfolding is_utf8 chars encode value punctuate lex content days_from_civil day_count days_of_years days_of_months
+agree-reads_back = refl
+
+abbrev pub extended : Message
+extended = Extend (codes "LO2024.1") end_of_june
+
+abbrev pub extended_text : List ℕ
+extended_text = codes "{\"kind\":\"extend\",\"last\":\"2024-06-30\",\"loan\":\"LO2024.1\"}"
+
+pub extend-text : IsTextOf extended extended_text
+unfolding escape_byte
+extend-text = (_, (codes "2024-06-30", end_of_june-spelled, refl), refl)
+
+pub extend-reads_back : of_bytes extended_text ≡ Ok extended
+unfolding is_utf8 chars encode value punctuate lex content days_from_civil day_count days_of_years days_of_months
+extend-reads_back = refl
+
 -- whatever a message says, its text begins with a brace and a quote
 pub begins : (m : Message) (text : List ℕ) → IsTextOf m text → take 2 text ≡ codes "{\""
 begins (Move x p day) text h = ap (take 2) (h.2 ∙ ap compact_text h.1.2)
 begins (Pack x c day) text h = ap (take 2) (h.2 ∙ ap compact_text h.1.2)
+begins (Agree loan partner objects first last) text h = ap (take 2) (h.2 ∙ ap compact_text h.1.2.2)
+begins (Authorise loan name) text h = ap (take 2) (h.2 ∙ ap compact_text h.1)
+begins (Exit x loan day) text h = ap (take 2) (h.2 ∙ ap compact_text h.1.2)
+begins (Return x loan p day) text h = ap (take 2) (h.2 ∙ ap compact_text h.1.2)
+begins (Receive x loan p day) text h = ap (take 2) (h.2 ∙ ap compact_text h.1.2)
+begins (Extend loan last) text h = ap (take 2) (h.2 ∙ ap compact_text h.1.2)
 begins (SignOff name) text h = ap (take 2) (h.2 ∙ ap compact_text h.1)
 
 -- other bytes of the same message: read, and not its text
@@ -129,6 +197,27 @@ no_day = refl
 
 no_such_day : of_json (of (codes "move") (with (codes "thing") (codes "2001.4.1") (with (codes "place") (codes "S1") (with (codes "day") (codes "2023-02-29") no_members)))) ≡ Err (BadField Day)
 no_such_day = refl
+
+-- a receive with no place
+no_place_received : of_json (of (codes "receive") (with (codes "thing") (codes "L1999.7") (with (codes "loan") (codes "LI2024.1") (with (codes "day") (codes "2024-05-01") no_members)))) ≡ Err (Missing Place)
+no_place_received = refl
+
+-- the objects of an agreement: 2001.4.1 so many times
+abbrev many : ℕ → Items
+many zero = no_items
+many (suc n) = item (string (codes "2001.4.1")) (many n)
+
+abbrev agree_on : Items → Data
+agree_on objects = of (codes "agree") (with (codes "loan") (codes "LO2024.1") (with (codes "partner") (codes "MUSEUM-X") (put (codes "objects") (array objects) no_members)))
+
+too_many : of_json (agree_on (many 257)) ≡ Err (BadField Objects)
+too_many = refl
+
+no_first : of_json (agree_on (many 256)) ≡ Err (Missing First)
+no_first = refl
+
+object_of_no_string : of_json (agree_on (item null no_items)) ≡ Err (BadField Objects)
+object_of_no_string = refl
 
 nobody : of_json (of (codes "signoff") (with (codes "by") [] no_members)) ≡ Err (BadField By)
 unfolding is_utf8 chars

@@ -1,32 +1,61 @@
 -- The table of kinds, and the message that a JSON value spells by it.
-use Rattle.std.specs.Prelude.{ℕ, Bool, false, List, [], ◌∷◌, Option, Some, None, option_and_then, unwrap_or, Result, Ok, Err, if◌then◌else◌, codes}
+use Rattle.std.specs.Prelude.{ℕ, ℤ, ◌&&◌, nat_le, Bool, false, List, [], ◌∷◌, length, map, Option, Some, None, option_and_then, unwrap_or, Result, Ok, Err, if◌then◌else◌, codes}
 use Rattle.std.specs.Option.{option_map_or}
+use Rattle.std.specs.List.{list_all}
 use Rattle.std.specs.Str.{bytes_eq, is_utf8}
-use Rattle.serde_json.specs.Data.{Data, null, boolean, number, string, array, object}
-use Rattle.serde_json.specs.Find.{get, as_str}
+use Rattle.serde_json.specs.Data.{Data, null, boolean, number, string, array, object, Items, no_items, item}
+use Rattle.serde_json.specs.Find.{get, as_str, as_array}
 use Rattle.serde_json.specs.Read.{read}
 use Rattle.codes_core.specs.Day.{day_number}
 use Rattle.posting_core.specs.declared.message.Message as message
-use Rattle.posting_core.specs.declared.message.Message.TheVariants.{Move, Pack, SignOff}
+use Rattle.posting_core.specs.declared.message.Message.TheVariants.{Move, Pack, Agree, Authorise, Exit, Return, Receive, SignOff, Extend}
 use Rattle.register_store.specs.declared.fault.ReadFault.{ReadFault}
 use Rattle.register_store.specs.declared.fault.ReadFault.TheVariants.{NotJson, Missing, BadKind, BadField}
 use Rattle.register_store.specs.declared.key.Key.{Key}
-use Rattle.register_store.specs.declared.key.Key.TheVariants.{Kind, Thing, Place, Container, Day, By}
-use Rattle.register_store.specs.Spelling.{key_name, is_thing, is_place, is_day, is_name}
+use Rattle.register_store.specs.declared.key.Key.TheVariants.{Kind, Thing, Place, Container, Day, By, Loan, Partner, Objects, First, Last}
+use Rattle.register_store.specs.Spelling.{key_name, is_thing, is_place, is_loan, is_day, is_name}
 
 -- a key that a kind asks for, and which values may stand there
 pub record Field : Type 0 where
   pub key : Key
   pub fits : Data → Bool
 
-infixl 10 ◌spells◌
 -- a string of such a text
-abbrev pub ◌spells◌ : Key → (List ℕ → Bool) → Field
-key spells test = record { key = key; fits = λ value. option_map_or test (as_str value) false }
+abbrev pub is_string : (List ℕ → Bool) → Data → Bool
+is_string test value = option_map_or test (as_str value) false
 
--- the string at a key of an object; no bytes where there is none
+infixl 10 ◌spells◌
+abbrev pub ◌spells◌ : Key → (List ℕ → Bool) → Field
+key spells test = record { key = key; fits = is_string test }
+
+abbrev pub items_list : Items → List Data
+items_list no_items = []
+items_list (item d ds) = d ∷ items_list ds
+
+-- at most 256 strings of such a text
+abbrev pub are_strings : (List ℕ → Bool) → Items → Bool
+are_strings test ds = nat_le (length (items_list ds)) 256 && list_all (is_string test) (items_list ds)
+
+infixl 10 ◌lists◌
+-- an array of them
+abbrev pub ◌lists◌ : Key → (List ℕ → Bool) → Field
+key lists test = record { key = key; fits = λ value. option_map_or (are_strings test) (as_array value) false }
+
+-- the text of a string; no bytes where there is none
+abbrev pub text_of : Option Data → List ℕ
+text_of value = unwrap_or (option_and_then as_str value) []
+
+-- the string at a key of an object
 abbrev pub text_at : Data → Key → List ℕ
-text_at d key = unwrap_or (option_and_then as_str (get (key_name key) d)) []
+text_at d key = text_of (get (key_name key) d)
+
+-- the strings of the array at a key; none where there is none
+abbrev pub texts_at : Data → Key → List (List ℕ)
+texts_at d key = option_map_or (λ ds. map (λ value. text_of (Some value)) (items_list ds)) (option_and_then as_array (get (key_name key) d)) []
+
+-- the day that the string at a key spells
+abbrev pub day_at : Data → Key → ℤ
+day_at d key = day_number (text_at d key)
 
 -- a kind: its name, its keys in their order, and the message of an object in which each has a value that fits
 pub record Row : Type 0 where
@@ -38,14 +67,49 @@ abbrev pub move_row : Row
 move_row = record {
   name = codes "move";
   fields = (Thing spells is_thing) ∷ (Place spells is_place) ∷ (Day spells is_day) ∷ [];
-  message = λ d. Move (text_at d Thing) (text_at d Place) (day_number (text_at d Day));
+  message = λ d. Move (text_at d Thing) (text_at d Place) (day_at d Day);
 }
 
 abbrev pub pack_row : Row
 pack_row = record {
   name = codes "pack";
   fields = (Thing spells is_thing) ∷ (Container spells is_thing) ∷ (Day spells is_day) ∷ [];
-  message = λ d. Pack (text_at d Thing) (text_at d Container) (day_number (text_at d Day));
+  message = λ d. Pack (text_at d Thing) (text_at d Container) (day_at d Day);
+}
+
+abbrev pub agree_row : Row
+agree_row = record {
+  name = codes "agree";
+  fields = (Loan spells is_loan) ∷ (Partner spells is_place) ∷ (Objects lists is_thing) ∷ (First spells is_day) ∷ (Last spells is_day) ∷ [];
+  message = λ d. Agree (text_at d Loan) (text_at d Partner) (texts_at d Objects) (day_at d First) (day_at d Last);
+}
+
+abbrev pub authorise_row : Row
+authorise_row = record {
+  name = codes "authorise";
+  fields = (Loan spells is_loan) ∷ (By spells is_name) ∷ [];
+  message = λ d. Authorise (text_at d Loan) (text_at d By);
+}
+
+abbrev pub exit_row : Row
+exit_row = record {
+  name = codes "exit";
+  fields = (Thing spells is_thing) ∷ (Loan spells is_loan) ∷ (Day spells is_day) ∷ [];
+  message = λ d. Exit (text_at d Thing) (text_at d Loan) (day_at d Day);
+}
+
+abbrev pub return_row : Row
+return_row = record {
+  name = codes "return";
+  fields = (Thing spells is_thing) ∷ (Loan spells is_loan) ∷ (Place spells is_place) ∷ (Day spells is_day) ∷ [];
+  message = λ d. Return (text_at d Thing) (text_at d Loan) (text_at d Place) (day_at d Day);
+}
+
+abbrev pub receive_row : Row
+receive_row = record {
+  name = codes "receive";
+  fields = (Thing spells is_thing) ∷ (Loan spells is_loan) ∷ (Place spells is_place) ∷ (Day spells is_day) ∷ [];
+  message = λ d. Receive (text_at d Thing) (text_at d Loan) (text_at d Place) (day_at d Day);
 }
 
 abbrev pub sign_off_row : Row
@@ -55,8 +119,15 @@ sign_off_row = record {
   message = λ d. SignOff (text_at d By);
 }
 
+abbrev pub extend_row : Row
+extend_row = record {
+  name = codes "extend";
+  fields = (Loan spells is_loan) ∷ (Last spells is_day) ∷ [];
+  message = λ d. Extend (text_at d Loan) (day_at d Last);
+}
+
 abbrev pub kinds : List Row
-kinds = move_row ∷ pack_row ∷ sign_off_row ∷ []
+kinds = move_row ∷ pack_row ∷ agree_row ∷ authorise_row ∷ exit_row ∷ return_row ∷ receive_row ∷ sign_off_row ∷ extend_row ∷ []
 
 abbrev pub kind_named : List Row → List ℕ → Option Row
 kind_named [] name = None

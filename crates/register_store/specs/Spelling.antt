@@ -4,10 +4,11 @@ use Rattle.std.specs.List.{list_all}
 use Rattle.std.specs.Str.{is_utf8}
 use Rattle.codes_core.specs.Thing.{thing_fault}
 use Rattle.codes_core.specs.Place.{place_fault}
+use Rattle.codes_core.specs.Loan.{loan_fault}
 use Rattle.codes_core.specs.Day.{day_fault}
 use Rattle.codes_core.specs.Name.{is_name_byte}
 use Rattle.register_store.specs.declared.key.Key.{Key}
-use Rattle.register_store.specs.declared.key.Key.TheVariants.{Kind, Thing, Place, Container, Day, By, Station, N, Message, Ask}
+use Rattle.register_store.specs.declared.key.Key.TheVariants.{Kind, Thing, Place, Container, Day, By, Loan, Partner, Objects, First, Last, Station, N, Message, Ask}
 
 abbrev pub key_name : Key → List ℕ
 key_name Kind = codes "kind"
@@ -16,6 +17,11 @@ key_name Place = codes "place"
 key_name Container = codes "container"
 key_name Day = codes "day"
 key_name By = codes "by"
+key_name Loan = codes "loan"
+key_name Partner = codes "partner"
+key_name Objects = codes "objects"
+key_name First = codes "first"
+key_name Last = codes "last"
 key_name Station = codes "station"
 key_name N = codes "n"
 key_name Message = codes "message"
@@ -28,6 +34,10 @@ is_thing text = is_none (thing_fault text)
 -- a place's code
 abbrev pub is_place : List ℕ → Bool
 is_place text = is_none (place_fault text)
+
+-- a loan's code
+abbrev pub is_loan : List ℕ → Bool
+is_loan text = is_none (loan_fault text)
 
 -- a day of the calendar
 abbrev pub is_day : List ℕ → Bool

@@ -2,12 +2,11 @@
 ghost use Rattle.std.specs.Prelude.{◌≡◌, ◌≢◌, None, Some, MatchResult, option_and_then, List, ℕ, Bool};
 ghost use Rattle.serde_json.specs.View.{view};
 ghost use Rattle.serde_json.specs.Find.{get, as_str};
-ghost use Rattle.codes_core.specs.Day.{day_number};
-ghost use Rattle.register_store.specs.Spelling.{key_name, is_thing, is_place, is_day, is_name};
-ghost use Rattle.register_store.specs.Kinds.{◌spells◌, text_at, fault_at};
+ghost use Rattle.register_store.specs.Spelling.{key_name, is_thing, is_place, is_loan, is_day, is_name};
+ghost use Rattle.register_store.specs.Kinds.{◌spells◌, text_at, day_at as day_said, fault_at};
 
 use crate::{Key, ReadFault};
-use codes_core::{Day, Name, NameFault, PlaceCode, ThingCode};
+use codes_core::{Day, LoanCode, Name, NameFault, PlaceCode, ThingCode};
 use serde_json::Value;
 use std::alloc::Global;
 
@@ -56,10 +55,22 @@ pub(crate) fn place_at(object: &Value, key: Key) -> Result<PlaceCode, ReadFault>
         .ok_or(ReadFault::BadField(key))
 }
 
+/// The loan's code at a key, else Missing or BadField.
+pub(crate) fn loan_at(object: &Value, key: Key) -> Result<LoanCode, ReadFault>
+    ensures exact { MatchResult result
+        (λ code. (fault_at (view object.now) (key spells is_loan) ≡ None) × (code ≡ text_at (view object.now) key))
+        (λ fault. fault_at (view object.now) (key spells is_loan) ≡ Some fault) }
+{
+    let text = string_at(object, key)?;
+    LoanCode::parse(text.as_bytes())
+        .ok()
+        .ok_or(ReadFault::BadField(key))
+}
+
 /// The day at a key, else Missing or BadField.
 pub(crate) fn day_at(object: &Value, key: Key) -> Result<Day, ReadFault>
     ensures exact { MatchResult result
-        (λ day. (fault_at (view object.now) (key spells is_day) ≡ None) × (day ≡ day_number (text_at (view object.now) key)))
+        (λ day. (fault_at (view object.now) (key spells is_day) ≡ None) × (day ≡ day_said (view object.now) key))
         (λ fault. fault_at (view object.now) (key spells is_day) ≡ Some fault) }
 {
     let text = string_at(object, key)?;

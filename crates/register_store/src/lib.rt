@@ -5,8 +5,12 @@ mod fault;
 mod field;
 mod key;
 pub mod laws;
+mod loan_reader;
+mod loan_writer;
+mod member;
 mod message_reader;
 mod message_writer;
+mod object_list;
 mod plain;
 #[cfg(test)]
 mod plain_tests;

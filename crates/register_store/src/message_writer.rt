@@ -1,13 +1,14 @@
 //! Messages written as JSON.
-ghost use Rattle.std.specs.Prelude.{◌≡◌, IfOk, OnOk, Ok, string_bytes};
-ghost use Rattle.serde_json.specs.Data.{string, object, no_members, put};
-ghost use Rattle.serde_json.specs.View.{view, members_view};
-ghost use Rattle.codes_core.specs.Day.{IsOnlySpelling};
-ghost use Rattle.register_store.specs.Spelling.{key_name};
+ghost use Rattle.std.specs.Prelude.{◌≡◌, IfOk, Ok, string_bytes};
+ghost use Rattle.serde_json.specs.View.{view};
 ghost use Rattle.register_store.specs.Kinds.{of_json, of_bytes};
 ghost use Rattle.register_store.specs.MessageText.{IsJson, IsTextOf};
 
 use crate::Key;
+use crate::loan_writer::{
+    agree_object, authorise_object, exit_object, extend_object, receive_object, return_object,
+};
+use crate::member::{day_text, put_text};
 use codes_core::{Day, Name, NoMemory, PlaceCode, ThingCode};
 use posting_core::Message;
 use serde_json::{Map, Value};
@@ -34,6 +35,28 @@ fn object_of(alloc: Global, message: &Message) -> Result<Value, NoMemory>
             container,
             day,
         } => pack_object(alloc, thing, container, *day),
+        Message::Agree {
+            loan,
+            partner,
+            objects,
+            first,
+            last,
+        } => agree_object(alloc, loan, partner, objects, *first, *last),
+        Message::Authorise { loan, name } => authorise_object(alloc, loan, name),
+        Message::Exit { thing, loan, day } => exit_object(alloc, thing, loan, *day),
+        Message::Return {
+            thing,
+            loan,
+            place,
+            day,
+        } => return_object(alloc, thing, loan, place, *day),
+        Message::Receive {
+            thing,
+            loan,
+            place,
+            day,
+        } => receive_object(alloc, thing, loan, place, *day),
+        Message::Extend { loan, last } => extend_object(alloc, loan, *last),
         Message::SignOff { name } => sign_off_object(alloc, name),
     }
 }
@@ -80,28 +103,4 @@ fn sign_off_object(alloc: Global, name: &Name) -> Result<Value, NoMemory>
     put_text(alloc, &mut object, Key::Kind, "signoff")?;
     put_text(alloc, &mut object, Key::By, name.as_str())?;
     Ok(Value::Object(object))
-}
-
-/// Puts a string into an object.
-fn put_text(
-    alloc: Global,
-    object: &mut Map<String, Value>,
-    key: Key,
-    text: &str,
-) -> Result<(), NoMemory>
-    ensures { OnOk result (members_view object.new.entries
-        ≡ put (key_name key) (string text.now) (members_view object.old.entries)) }
-{
-    let value = Value::try_from_str(alloc, text)?;
-    serde_json::put(object, alloc, key.name(), value)?;
-    Ok(())
-}
-
-/// The one text that spells a day.
-fn day_text(alloc: Global, day: Day) -> Result<String, NoMemory>
-    ensures { IfOk result (λ text. IsOnlySpelling (string_bytes text) day) }
-{
-    let mut text = String::new(alloc);
-    day.write(alloc, &mut text)?;
-    Ok(text)
 }

@@ -5,7 +5,7 @@ ghost use Rattle.register_store.specs.StoredRows.{Content};
 use crate::{PlainRegister, Register, StoreFault, message_text};
 use codes_core::{Day, Name, PlaceCode, ThingCode};
 use nest_core::{PlaceNo, Setup, StationNo, ThingNo};
-use posting_core::{Changes, Entry, Ledger, Message, NewSpot, NewSpots, Spot, Verdict};
+use posting_core::{Changes, Entry, Ledger, Message, NewLines, NewSpot, NewSpots, Spot, Verdict};
 use std::alloc::Global;
 use std::test::Fail;
 
@@ -81,6 +81,7 @@ fn nothing(alloc: Global, entry: u64) -> Changes
         entry,
         verdict: Verdict::Applied,
         spots: NewSpots::new(alloc),
+        lines: NewLines::new(alloc),
     }
 }
 

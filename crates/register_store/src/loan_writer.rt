@@ -1,0 +1,129 @@
+//! Messages of loans written as JSON.
+ghost use Rattle.std.specs.Prelude.{◌≡◌, IfOk, Ok};
+ghost use Rattle.serde_json.specs.View.{view};
+ghost use Rattle.register_store.specs.Kinds.{of_json};
+ghost use Rattle.register_store.specs.MessageText.{IsJson};
+
+use crate::Key;
+use crate::member::{day_text, put_text, put_things};
+use codes_core::{Day, LoanCode, Name, NoMemory, PlaceCode, ThingCode};
+use posting_core::{Message, Objects};
+use serde_json::{Map, Value};
+use std::alloc::Global;
+
+pub(crate) fn agree_object(
+    alloc: Global,
+    loan: &LoanCode,
+    partner: &PlaceCode,
+    objects: &Objects,
+    first: Day,
+    last: Day,
+) -> Result<Value, NoMemory>
+    ensures object { IfOk result (λ value. IsJson (Message.Agree loan.now partner.now objects.now first last) (view value)) }
+    ensures reads_back { IfOk result (λ value. of_json (view value) ≡ Ok (Message.Agree loan.now partner.now objects.now first last)) }
+{
+    let mut object = Map::new(alloc);
+    put_text(alloc, &mut object, Key::Kind, "agree")?;
+    put_text(alloc, &mut object, Key::Loan, loan.as_str())?;
+    put_text(alloc, &mut object, Key::Partner, partner.as_str())?;
+    put_things(alloc, &mut object, Key::Objects, objects)?;
+    put_text(
+        alloc,
+        &mut object,
+        Key::First,
+        day_text(alloc, first)?.as_str(),
+    )?;
+    put_text(
+        alloc,
+        &mut object,
+        Key::Last,
+        day_text(alloc, last)?.as_str(),
+    )?;
+    Ok(Value::Object(object))
+}
+
+pub(crate) fn authorise_object(
+    alloc: Global,
+    loan: &LoanCode,
+    name: &Name,
+) -> Result<Value, NoMemory>
+    ensures object { IfOk result (λ value. IsJson (Message.Authorise loan.now name.now) (view value)) }
+    ensures reads_back { IfOk result (λ value. of_json (view value) ≡ Ok (Message.Authorise loan.now name.now)) }
+{
+    let mut object = Map::new(alloc);
+    put_text(alloc, &mut object, Key::Kind, "authorise")?;
+    put_text(alloc, &mut object, Key::Loan, loan.as_str())?;
+    put_text(alloc, &mut object, Key::By, name.as_str())?;
+    Ok(Value::Object(object))
+}
+
+pub(crate) fn exit_object(
+    alloc: Global,
+    thing: &ThingCode,
+    loan: &LoanCode,
+    day: Day,
+) -> Result<Value, NoMemory>
+    ensures object { IfOk result (λ value. IsJson (Message.Exit thing.now loan.now day) (view value)) }
+    ensures reads_back { IfOk result (λ value. of_json (view value) ≡ Ok (Message.Exit thing.now loan.now day)) }
+{
+    let mut object = Map::new(alloc);
+    put_text(alloc, &mut object, Key::Kind, "exit")?;
+    put_text(alloc, &mut object, Key::Thing, thing.as_str())?;
+    put_text(alloc, &mut object, Key::Loan, loan.as_str())?;
+    put_text(alloc, &mut object, Key::Day, day_text(alloc, day)?.as_str())?;
+    Ok(Value::Object(object))
+}
+
+pub(crate) fn return_object(
+    alloc: Global,
+    thing: &ThingCode,
+    loan: &LoanCode,
+    place: &PlaceCode,
+    day: Day,
+) -> Result<Value, NoMemory>
+    ensures object { IfOk result (λ value. IsJson (Message.Return thing.now loan.now place.now day) (view value)) }
+    ensures reads_back { IfOk result (λ value. of_json (view value) ≡ Ok (Message.Return thing.now loan.now place.now day)) }
+{
+    let mut object = Map::new(alloc);
+    put_text(alloc, &mut object, Key::Kind, "return")?;
+    put_text(alloc, &mut object, Key::Thing, thing.as_str())?;
+    put_text(alloc, &mut object, Key::Loan, loan.as_str())?;
+    put_text(alloc, &mut object, Key::Place, place.as_str())?;
+    put_text(alloc, &mut object, Key::Day, day_text(alloc, day)?.as_str())?;
+    Ok(Value::Object(object))
+}
+
+pub(crate) fn receive_object(
+    alloc: Global,
+    thing: &ThingCode,
+    loan: &LoanCode,
+    place: &PlaceCode,
+    day: Day,
+) -> Result<Value, NoMemory>
+    ensures object { IfOk result (λ value. IsJson (Message.Receive thing.now loan.now place.now day) (view value)) }
+    ensures reads_back { IfOk result (λ value. of_json (view value) ≡ Ok (Message.Receive thing.now loan.now place.now day)) }
+{
+    let mut object = Map::new(alloc);
+    put_text(alloc, &mut object, Key::Kind, "receive")?;
+    put_text(alloc, &mut object, Key::Thing, thing.as_str())?;
+    put_text(alloc, &mut object, Key::Loan, loan.as_str())?;
+    put_text(alloc, &mut object, Key::Place, place.as_str())?;
+    put_text(alloc, &mut object, Key::Day, day_text(alloc, day)?.as_str())?;
+    Ok(Value::Object(object))
+}
+
+pub(crate) fn extend_object(alloc: Global, loan: &LoanCode, last: Day) -> Result<Value, NoMemory>
+    ensures object { IfOk result (λ value. IsJson (Message.Extend loan.now last) (view value)) }
+    ensures reads_back { IfOk result (λ value. of_json (view value) ≡ Ok (Message.Extend loan.now last)) }
+{
+    let mut object = Map::new(alloc);
+    put_text(alloc, &mut object, Key::Kind, "extend")?;
+    put_text(alloc, &mut object, Key::Loan, loan.as_str())?;
+    put_text(
+        alloc,
+        &mut object,
+        Key::Last,
+        day_text(alloc, last)?.as_str(),
+    )?;
+    Ok(Value::Object(object))
+}

@@ -1,0 +1,66 @@
+//! The members of an object, and their values.
+ghost use Rattle.std.specs.Prelude.{◌≡◌, IfOk, OnOk, map, string_bytes, true};
+ghost use Rattle.std.specs.List.{list_all};
+ghost use Rattle.serde_json.specs.Data.{string, array, put};
+ghost use Rattle.serde_json.specs.View.{items_of, items_view, members_view};
+ghost use Rattle.codes_core.specs.Day.{IsOnlySpelling};
+ghost use Rattle.register_store.specs.Spelling.{key_name, is_thing};
+ghost use Rattle.register_store.specs.Kinds.{are_strings};
+
+use crate::Key;
+use codes_core::{Day, NoMemory, ThingCode};
+use posting_core::Objects;
+use serde_json::{Map, Value};
+use std::alloc::Global;
+
+/// Puts a string into an object.
+pub(crate) fn put_text(
+    alloc: Global,
+    object: &mut Map<String, Value>,
+    key: Key,
+    text: &str,
+) -> Result<(), NoMemory>
+    ensures { OnOk result (members_view object.new.entries
+        ≡ put (key_name key) (string text.now) (members_view object.old.entries)) }
+{
+    let value = Value::try_from_str(alloc, text)?;
+    serde_json::put(object, alloc, key.name(), value)?;
+    Ok(())
+}
+
+/// Puts an array of things into an object.
+pub(crate) fn put_things(
+    alloc: Global,
+    object: &mut Map<String, Value>,
+    key: Key,
+    things: &Objects,
+) -> Result<(), NoMemory>
+    ensures array { OnOk result (members_view object.new.entries
+        ≡ put (key_name key) (array (items_of (map string things.now))) (members_view object.old.entries)) }
+    ensures fits { OnOk result (are_strings is_thing (items_of (map string things.now)) ≡ true) }
+{
+    let items = things_array(alloc, things.as_slice())?;
+    serde_json::put(object, alloc, key.name(), Value::Array(items))?;
+    Ok(())
+}
+
+/// The strings of things.
+fn things_array(alloc: Global, things: &[ThingCode]) -> Result<Vec<Value>, NoMemory>
+    ensures strings { IfOk result (λ items. items_view items.items ≡ items_of (map string things.now)) }
+    ensures things { IfOk result (λ _. list_all is_thing things.now ≡ true) }
+{
+    let mut items = Vec::new(alloc);
+    for thing in things {
+        items.push(Value::try_from_str(alloc, thing.as_str())?)?;
+    }
+    Ok(items)
+}
+
+/// The one text that spells a day.
+pub(crate) fn day_text(alloc: Global, day: Day) -> Result<String, NoMemory>
+    ensures { IfOk result (λ text. IsOnlySpelling (string_bytes text) day) }
+{
+    let mut text = String::new(alloc);
+    day.write(alloc, &mut text)?;
+    Ok(text)
+}
