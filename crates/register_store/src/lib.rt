@@ -6,6 +6,7 @@ mod field;
 mod key;
 pub mod laws;
 mod loan_reader;
+mod loan_rows;
 mod loan_writer;
 mod member;
 mod message_reader;
