@@ -4,6 +4,8 @@ pub mod RoundTrip
 pub mod Lists
 pub mod OneList
 pub mod ListedRows
+pub mod PutRows
+pub mod LineRows
 pub mod SpotRows
 pub mod SpotOrder
 pub mod Kept
