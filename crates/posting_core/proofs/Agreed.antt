@@ -43,18 +43,21 @@ pub record IsSound (S : Museum) (t : Agreement) : Type 0 where
 pub agree_applied : (S : Museum) (depth : ℕ) (P : List Entry) (m : Message) (t : Agreement) → verdict S depth P m ≡ Applied → agreement_in m ≡ Some t → (agreement P t.loan ≡ None) × IsSound S t
 agree_applied S depth P (Agree loan partner objects first last) t applied is =
     let none = none_holds (agree_rows S P loan partner objects first last) refl applied in
-    subst (λ u. (agreement P u.loan ≡ None) × IsSound S u) (some_same is)
-    (unfound (agreement P loan) none.1.1.0, record {
-      known = none.0;
-      partner = held (is_known_place S partner) none.1.0;
-      elsewhere = none.1.1.1.0;
-      objects = none.1.1.1.1.1.0;
-      once = none.1.1.1.1.1.1.0;
-      owned = none.1.1.1.1.1.1.1.0;
-    })
+    subst (λ u. (agreement P u.loan ≡ None) × IsSound S u) (some_same is) (
+      unfound (agreement P loan) none.1.1.0,
+      record {
+        known = none.0;
+        partner = held (is_known_place S partner) none.1.0;
+        elsewhere = none.1.1.1.0;
+        objects = none.1.1.1.1.1.0;
+        once = none.1.1.1.1.1.1.0;
+        owned = none.1.1.1.1.1.1.1.0;
+      },
+    )
   where
     some_same : {X : Type 0} {x y : X} → Some x ≡ Some y → x ≡ y
     some_same {X} {x} {y} e = cc
+
     unfound : (o : Option Agreement) → is_some o ≡ false → o ≡ None
     unfound None h = refl
     unfound (Some u) h = absurd (let both : true ≡ false = h in cc)

@@ -32,4 +32,3 @@ held false h = absurd (false_true (sym h))
 pub applied_is : (v : Verdict) → is_applied v ≡ true → v ≡ Applied
 applied_is Applied h = refl
 applied_is _ h = absurd (false_true h)
-

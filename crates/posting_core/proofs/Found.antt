@@ -36,9 +36,9 @@ line_found : (f : ℕ → LineStage) (o : ℕ) (os : List ℕ) → option_and_th
 line_found f o [] = refl
 line_found f o (y ∷ os) = rw (position_cons (nat_eq o) y os, eq_sym o y) (elim (y == o) as (λ b. (y == o) ≡ b →
     option_and_then (slice_get (f y ∷ map f os)) (if b then Some zero else option_map suc (position (nat_eq o) os)) ≡ (if b || is_among o os then Some (f o) else None)) [
-  | true ↦ λ e. let same : y ≡ o = grind (arith, nat_tests) in ap (λ z. Some (f z)) same
-  | false ↦ λ e. later (position (nat_eq o) os) ∙ line_found f o os
-] refl)
+      | true ↦ λ e. let same : y ≡ o = grind (arith, nat_tests) in ap (λ z. Some (f z)) same
+      | false ↦ λ e. later (position (nat_eq o) os) ∙ line_found f o os
+    ] refl)
   where
     later : (i : Option ℕ) → option_and_then (slice_get (f y ∷ map f os)) (option_map suc i) ≡ option_and_then (slice_get (map f os)) i
     later None = refl
@@ -61,14 +61,16 @@ row_is S P loan rows r kept is =
     found : (o : Option Agreement) → agreement P loan ≡ o → (is_some (option_map (loan_row S P) o) ≡ is_agreed P loan) × IfSome (option_map (loan_row S P) o) (IsRowOf S P loan)
     found None e = (sym (ap is_some e), tt)
     found (Some t) e =
-        let same : loan ≡ t.loan = found_is loan (agreements P) t e in
-        (sym (ap is_some e), record {
-          authorised = ap (is_authorised P) (sym same);
-          last = rw e (ap (λ l. Some (last_from P l t.last)) same);
-          partner = rw e refl;
-          lines = λ o. line_found (stage S P t.loan) o (objects_of S t) ∙ rw e (ap (λ l. if is_among o (objects_of S t) then Some (stage S P l o) else None) (sym same));
-          state = rw e (ap (λ l. Some (state_by (is_authorised P l) (map (stage S P l) (objects_of S t)))) same);
-        })
+        let same : loan ≡ t.loan = found_is loan (agreements P) t e in (
+          sym (ap is_some e),
+          record {
+            authorised = ap (is_authorised P) (sym same);
+            last = rw e (ap (λ l. Some (last_from P l t.last)) same);
+            partner = rw e refl;
+            lines = λ o. line_found (stage S P t.loan) o (objects_of S t) ∙ rw e (ap (λ l. if is_among o (objects_of S t) then Some (stage S P l o) else None) (sym same));
+            state = rw e (ap (λ l. Some (state_by (is_authorised P l) (map (stage S P l) (objects_of S t)))) same);
+          },
+        )
 
 pub weaker : {A B : LoanRow → Type 0} (r : Option (Bor LoanRow)) → ((row : LoanRow) → A row → B row) → IfSome r (λ row. A row.now) → IfSome r (λ row. B row.now)
 weaker None more h = tt

@@ -40,6 +40,7 @@ position_cons p x xs = elim (p x) as (λ b. p x ≡ b → position p (x ∷ xs) 
   where
     first : (len : ℕ) → cond (nat_lt zero (suc len)) (Some zero) None ≡ Some zero
     first len = let same : nat_lt zero (suc len) ≡ true = grind (arith, nat_tests) in rw same refl
+
     later : (n len : ℕ) → cond (nat_lt (1 + n) (suc len)) (Some (1 + n)) None ≡ option_map suc (cond (nat_lt n len) (Some n) None)
     later n len = elim (nat_lt n len) as (λ b. nat_lt n len ≡ b → cond (nat_lt (1 + n) (suc len)) (Some (1 + n)) None ≡ option_map suc (cond b (Some n) None)) [
       | true ↦ λ e. let same : nat_lt (1 + n) (suc len) ≡ true = grind (arith, nat_tests) in rw same (ap Some (omega arith))
@@ -71,9 +72,9 @@ set_once : (f : ℕ → LineStage) (o : ℕ) (s : LineStage) (os : List ℕ) →
 set_once f o s [] once = refl
 set_once f o s (y ∷ os) (apart, once) = rw (position_cons (nat_eq o) y os) (elim (nat_eq o y) as (λ b. nat_eq o y ≡ b →
     option_map_or (λ i. slice_set (f y ∷ map f os) i s) (if b then Some zero else option_map suc (position (nat_eq o) os)) (f y ∷ map f os) ≡ (if b then s else f y) ∷ map (λ z. if o == z then s else f z) os) [
-  | true ↦ λ e. let same : o ≡ y = grind (arith, nat_tests) in ap (λ ss. s ∷ ss) (map_apart f o s os (subst (λ z. is_among z os ≡ false) (sym same) apart))
-  | false ↦ λ e. later (position (nat_eq o) os) ∙ ap (λ ss. f y ∷ ss) (set_once f o s os once)
-] refl)
+      | true ↦ λ e. let same : o ≡ y = grind (arith, nat_tests) in ap (λ ss. s ∷ ss) (map_apart f o s os (subst (λ z. is_among z os ≡ false) (sym same) apart))
+      | false ↦ λ e. later (position (nat_eq o) os) ∙ ap (λ ss. f y ∷ ss) (set_once f o s os once)
+    ] refl)
   where
     later : (i : Option ℕ) → option_map_or (λ k. slice_set (f y ∷ map f os) k s) (option_map suc i) (f y ∷ map f os) ≡ f y ∷ option_map_or (λ k. slice_set (map f os) k s) i (map f os)
     later None = refl
@@ -175,8 +176,10 @@ crossed S depth P m c lawful is none stays quiet = same_loans S P m none (change
   where
     os : List ℕ
     os = objects_in S P c.thing
+
     other : (t : Agreement) → bytes_eq c.loan t.loan ≡ false → row_by S P true m t ≡ loan_row S P t
     other t apart = rw (is, stays t, quiet t, apart) refl
+
     new : (t : Agreement) → IsSound S t → c.loan ≡ t.loan → row_by S P true m t ≡ with_lines (lines_at c.loan os c.stage) (loan_row S P t)
     new t sound same =
         let yes : bytes_eq c.loan t.loan ≡ true = (bytes_eq-Decides c.loan t.loan).1 same in
@@ -194,10 +197,13 @@ agreed S depth P m t lawful applied is none stays quiet =
   where
     old : (u : Agreement) → row_by S P true m u ≡ loan_row S P u
     old u = rw (none, stays u, quiet u) refl
+
     before : IsUntouched S P t.loan
     before = untouched S depth P t.loan lawful (agree_applied S depth P m t applied is).0
+
     awaited : map (stage S P t.loan) (objects_of S t) ≡ map (λ o. Awaiting) (objects_of S t)
     awaited = ap (λ f. map f (objects_of S t)) (fun_ext before.awaited)
+
     new : row_by S P true m t ≡ agreed_row S t
     new = old t ∙ rw (awaited, before.ends t.last, before.draft) refl
 

@@ -6,5 +6,6 @@ pub mod Loans
 pub mod Verdicts
 pub mod Lawful
 pub mod Book
+pub mod Accountability
 pub mod LoanRows
 pub mod Rows

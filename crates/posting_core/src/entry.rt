@@ -86,7 +86,7 @@ pub struct NewLine {
 /// Lines of one loan that an entry makes or changes; seen as their list.
 #[derive(Debug, Drop)]
 pub struct NewLines {
-    items: Vec<NewLine>,
+    lines: Vec<NewLine>,
 }
 
 impl Model for NewLines {
@@ -95,7 +95,7 @@ impl Model for NewLines {
 
     ghost Value = { List NewLine };
 
-    ghost view = { λ l. l.items.items };
+    ghost view = { λ l. l.lines.items };
 }
 
 impl NewLines {
@@ -106,7 +106,7 @@ impl NewLines {
         ensures { result ≡ [] }
     {
         NewLines {
-            items: Vec::new(alloc),
+            lines: Vec::new(alloc),
         }
     }
 
@@ -115,7 +115,7 @@ impl NewLines {
         ensures ok { OnOk result (self.new ≡ self.old ++ line ∷ []) }
         ensures err { OnErr result (self.new ≡ self.old) }
     {
-        self.items.push(line)?;
+        self.lines.push(line)?;
         Ok(())
     }
 
@@ -123,7 +123,7 @@ impl NewLines {
     pub fn as_slice(&self) -> &[NewLine]
         ensures { result.now ≡ self.now }
     {
-        &self.items
+        &self.lines
     }
 }
 

@@ -1,8 +1,11 @@
 //! Laws of what a ledger has posted, each on a function that does nothing.
-ghost use Rattle.std.specs.Prelude.{◌≡◌, ◌≢◌, ℕ, [], length, None};
+ghost use Rattle.std.specs.Prelude.{◌≡◌, ◌≢◌, ◌⊎◌, ℕ, List, [], length, None, Some, true, IfSome};
 ghost use Rattle.std.specs.List.{last_or, AllAdjacentBelow};
 ghost use Rattle.std.specs.Option.{option_map};
-ghost use Rattle.posting_core.specs.Book.{place_in, spots_in};
+ghost use Rattle.nest_core.specs.Museum.{is_own, is_borrowed};
+ghost use Rattle.posting_core.specs.declared.stage.LoanState.TheVariants.{Closed};
+ghost use Rattle.posting_core.specs.Book.{place_in, spots_in, line_in, state_in};
+ghost use Rattle.posting_core.specs.Accountability.{IsHome, IsLent, IsWithLender, IsGuest, IsOver, AtEachApplied, IsAuthorised, IsInTerm};
 
 use crate::Ledger;
 
@@ -17,6 +20,37 @@ pub fn last_spot_is_current(ledger: &Ledger)
 /// No spot is written where the place does not change: each spot of a thing is at another place than the one before it.
 pub fn each_spot_is_a_change(ledger: &Ledger)
     ensures { (x : ℕ) → AllAdjacentBelow (λ one next. one.place ≢ next.place) (spots_in ledger.now x) (length (spots_in ledger.now x)) }
+{
+    ledger.is_lawful();
+}
+
+/// An own object is home, or it is lent: it is elsewhere exactly where it is away under exactly one loan out, and then
+/// it is at the place of that loan's partner.
+pub fn own_objects_are_accounted_for(ledger: &Ledger)
+    ensures { (o : ℕ) → is_own ledger.now.museum o ≡ true → IsHome ledger.now o ⊎ IsLent ledger.now o }
+{
+    ledger.is_lawful();
+}
+
+/// A borrowed object is with its lender, or it is a guest: it is inside exactly where it is here under exactly one
+/// loan in.
+pub fn borrowed_objects_are_accounted_for(ledger: &Ledger)
+    ensures { (o : ℕ) → is_borrowed ledger.now.museum o ≡ true → IsWithLender ledger.now o ⊎ IsGuest ledger.now o }
+{
+    ledger.is_lawful();
+}
+
+/// Under a closed loan every object is back or given back.
+pub fn closed_loans_are_over(ledger: &Ledger)
+    ensures { (loan : List ℕ) → state_in ledger.now loan ≡ Some Closed → (o : ℕ) → IfSome (line_in ledger.now loan o) IsOver }
+{
+    ledger.is_lawful();
+}
+
+/// Things cross only under loans that were authorised before, and go out or come in only within the loan's term.
+pub fn crossings_are_authorised(ledger: &Ledger)
+    ensures authorised { AtEachApplied IsAuthorised ledger.now.posted }
+    ensures in_term { AtEachApplied IsInTerm ledger.now.posted }
 {
     ledger.is_lawful();
 }

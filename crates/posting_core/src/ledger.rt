@@ -12,7 +12,6 @@ ghost use Rattle.posting_core.specs.Rows.{lists};
 mod crossings;
 mod loan_rules;
 mod planning;
-
 mod rules;
 
 use crate::kept_loan::KeptLoan;
@@ -180,7 +179,10 @@ impl Ledger {
             Message::Authorise { loan, .. } => Ok(self.judge_authorise(loan)),
             Message::Exit { thing, loan, day } => self.judge_exit(alloc, thing, loan, *day),
             Message::Return {
-                thing, loan, place, ..
+                thing,
+                loan,
+                place,
+                ..
             } => self.judge_return(alloc, thing, loan, place),
             Message::Receive {
                 thing,

@@ -1,16 +1,18 @@
 //! The rules of what crosses under a loan: exit, return and receipt.
-ghost use Rattle.std.specs.Prelude.{◌≡◌, ◌<◌, length, not, is_some, false, filter, IfOk, IfSome, List, ℕ};
+ghost use Rattle.std.specs.Prelude.{◌≡◌, ◌&&◌, ◌∷◌, [], not, is_some, true, false, IfOk, Some, List, ℕ};
 ghost use Rattle.std.specs.List.{list_any};
 ghost use Rattle.std.specs.Option.{option_map_or};
-ghost use Rattle.nest_core.specs.Museum.{is_container};
-ghost use Rattle.posting_core.specs.History.{carried_at};
-ghost use Rattle.posting_core.specs.Loans.{exit_of};
-ghost use Rattle.posting_core.specs.Verdicts.{first_of, exit_rows, return_rows, receive_rows, stage_eq};
-ghost use Rattle.posting_core.specs.LoanRows.{LoanRow, line_of, refusal_of};
+ghost use Rattle.posting_core.specs.Loans.{exit_of, line, objects_in};
+ghost use Rattle.posting_core.specs.Verdicts.{first_of, exit_rows, return_rows, receive_rows, stage_eq, is_known, is_listed, is_at_stage, is_over, carries_unlisted, carries_wrong_stage, ◌if◌};
+ghost use Rattle.codes_core.specs.Loan.{is_out};
+ghost use Rattle.posting_core.specs.Agreements.{last_day};
+ghost use Rattle.posting_core.specs.declared.verdict.Verdict.TheVariants.{NotListed, WrongStage, TermOver};
+ghost use Rattle.posting_core.specs.LoanRows.{LoanRow, line_of};
 
-use super::loan_rules::is_container_code;
 use super::Ledger;
+use super::loan_rules::is_container_code;
 use crate::kept_loan::KeptLoan;
+use crate::numbers::thing_no;
 use crate::{LineStage, Verdict};
 use codes_core::{Day, LoanCode, NoMemory, PlaceCode, ThingCode};
 use nest_core::ThingNo;
@@ -41,13 +43,7 @@ impl Ledger {
         if !self.is_inside(x) {
             return Ok(Verdict::NotHere);
         }
-        if let Some(refusal) = self.lines_refusal(alloc, x, kept, wanted_by_exit(loan))? {
-            return Ok(refusal);
-        }
-        if loan.is_out() && kept.last() < day {
-            return Ok(Verdict::TermOver);
-        }
-        Ok(Verdict::Applied)
+        self.judge_lines_out(alloc, thing, loan, kept, day)
     }
 
     pub(crate) fn judge_return(
@@ -80,10 +76,7 @@ impl Ledger {
         if self.place_of(x) != Some(kept.partner()) {
             return Ok(Verdict::NotWithPartner);
         }
-        if let Some(refusal) = self.lines_refusal(alloc, x, kept, LineStage::Away)? {
-            return Ok(refusal);
-        }
-        Ok(Verdict::Applied)
+        self.judge_lines(alloc, thing, loan, kept, LineStage::Away, false)
     }
 
     pub(crate) fn judge_receive(
@@ -120,42 +113,104 @@ impl Ledger {
         if self.is_inside(x) {
             return Ok(Verdict::AlreadyHere);
         }
-        if let Some(refusal) = self.lines_refusal(alloc, x, kept, LineStage::Awaiting)? {
-            return Ok(refusal);
-        }
-        if kept.last() < day {
-            return Ok(Verdict::TermOver);
-        }
-        Ok(Verdict::Applied)
+        let is_over = kept.last() < day;
+        self.judge_lines(alloc, thing, loan, kept, LineStage::Awaiting, is_over)
     }
 
-    /// Why what a thing carries can't cross: an object isn't listed, or its line isn't at the stage wanted.
-    fn lines_refusal(
+    /// The last rows of an exit: those of its lines and, under a loan out, of the loan's last day.
+    fn judge_lines_out(
         &self,
         alloc: Global,
-        thing: ThingNo,
+        thing: &ThingCode,
+        loan: &LoanCode,
+        kept: &KeptLoan,
+        day: Day,
+    ) -> Result<Verdict, NoMemory>
+        requires known { is_known self.now.museum thing.now ≡ true }
+        requires lines { (o : ℕ) → line_of kept.now o ≡ line self.now.museum self.now.posted loan.now o }
+        requires last { last_day self.now.posted loan.now ≡ Some kept.now.last }
+        ensures { IfOk result (λ verdict. verdict ≡ first_of (
+            (NotListed if carries_unlisted self.now.museum self.now.posted (exit_of thing.now loan.now))
+            ∷ (WrongStage if carries_wrong_stage self.now.museum self.now.posted (exit_of thing.now loan.now))
+            ∷ (TermOver if is_out loan.now && is_over self.now.posted loan.now day)
+            ∷ [])) }
+    {
+        let is_over = loan.is_out() && kept.last() < day;
+        self.judge_lines(alloc, thing, loan, kept, wanted_by_exit(loan), is_over)
+    }
+
+    /// The last rows of what crosses under a loan: those of its lines and, where the loan's last day is asked, of that.
+    fn judge_lines(
+        &self,
+        alloc: Global,
+        thing: &ThingCode,
+        loan: &LoanCode,
         kept: &KeptLoan,
         wanted: LineStage,
-    ) -> Result<Option<Verdict>, NoMemory>
-        requires { thing < length self.now.museum.things }
-        ensures { IfOk result (λ refusal. refusal ≡ refusal_of kept.now wanted
-            (filter (λ o. not (is_container self.now.museum o)) (carried_at self.now.museum self.now.posted thing))) }
+        is_over: bool,
+    ) -> Result<Verdict, NoMemory>
+        requires known { is_known self.now.museum thing.now ≡ true }
+        requires lines { (o : ℕ) → line_of kept.now o ≡ line self.now.museum self.now.posted loan.now o }
+        ensures { IfOk result (λ verdict. verdict ≡ first_of (
+            (NotListed if list_any (λ o. not (is_listed self.now.museum self.now.posted loan.now o)) (objects_in self.now.museum self.now.posted thing.now))
+            ∷ (WrongStage if list_any (λ o. not (is_at_stage self.now.museum self.now.posted loan.now wanted o)) (objects_in self.now.museum self.now.posted thing.now))
+            ∷ (TermOver if is_over)
+            ∷ [])) }
     {
-        let objects = self.objects_with(alloc, thing)?;
-        Ok(refusal_of(kept, wanted, &objects))
+        let objects = self.objects_with(alloc, thing_no(&self.setup, thing))?;
+        Ok(self.judge_objects(loan, kept, wanted, &objects, is_over))
     }
-}
 
-fn refusal_of(kept: &KeptLoan, wanted: LineStage, objects: &[ThingNo]) -> Option<Verdict>
-    ensures { result ≡ refusal_of kept.now wanted objects.now }
-{
-    if any_unlisted(kept, objects) {
-        return Some(Verdict::NotListed);
+    fn judge_objects(
+        &self,
+        loan: &LoanCode,
+        kept: &KeptLoan,
+        wanted: LineStage,
+        objects: &[ThingNo],
+        is_over: bool,
+    ) -> Verdict
+        requires { (o : ℕ) → line_of kept.now o ≡ line self.now.museum self.now.posted loan.now o }
+        ensures { result ≡ first_of (
+            (NotListed if list_any (λ o. not (is_listed self.now.museum self.now.posted loan.now o)) objects.now)
+            ∷ (WrongStage if list_any (λ o. not (is_at_stage self.now.museum self.now.posted loan.now wanted o)) objects.now)
+            ∷ (TermOver if is_over)
+            ∷ []) }
+    {
+        if self.any_unlisted(loan, kept, objects) {
+            return Verdict::NotListed;
+        }
+        if self.any_not_at(loan, kept, wanted, objects) {
+            return Verdict::WrongStage;
+        }
+        if is_over {
+            return Verdict::TermOver;
+        }
+        Verdict::Applied
     }
-    if any_not_at(kept, wanted, objects) {
-        return Some(Verdict::WrongStage);
+
+    /// Whether an object isn't on the loan's list.
+    fn any_unlisted(&self, loan: &LoanCode, kept: &KeptLoan, objects: &[ThingNo]) -> bool
+        requires { (o : ℕ) → line_of kept.now o ≡ line self.now.museum self.now.posted loan.now o }
+        ensures { result ≡ list_any (λ o. not (is_listed self.now.museum self.now.posted loan.now o)) objects.now }
+    {
+        let _ = loan;
+        any_unlisted(kept, objects)
     }
-    None
+
+    /// Whether an object has no line at the stage wanted.
+    fn any_not_at(
+        &self,
+        loan: &LoanCode,
+        kept: &KeptLoan,
+        wanted: LineStage,
+        objects: &[ThingNo],
+    ) -> bool
+        requires { (o : ℕ) → line_of kept.now o ≡ line self.now.museum self.now.posted loan.now o }
+        ensures { result ≡ list_any (λ o. not (is_at_stage self.now.museum self.now.posted loan.now wanted o)) objects.now }
+    {
+        let _ = loan;
+        any_not_at(kept, wanted, objects)
+    }
 }
 
 fn any_unlisted(kept: &KeptLoan, objects: &[ThingNo]) -> bool

@@ -1,7 +1,8 @@
 //! The rules of what is agreed of loans: agreement, authorisation and extension.
-ghost use Rattle.std.specs.Prelude.{◌≡◌, not};
+ghost use Rattle.std.specs.Prelude.{◌≡◌, ◌∷◌, [], int_lt, not};
 ghost use Rattle.std.specs.List.{list_any};
-ghost use Rattle.posting_core.specs.Verdicts.{first_of, agree_rows, authorise_rows, extend_rows, is_known, is_container_code, is_of_wrong_owner, repeats};
+ghost use Rattle.posting_core.specs.declared.verdict.Verdict.TheVariants.{NoObjects, NotObject, Repeated, WrongOwner, BadTerm};
+ghost use Rattle.posting_core.specs.Verdicts.{first_of, ◌if◌, agree_rows, authorise_rows, extend_rows, is_known, is_container_code, is_of_wrong_owner, is_empty, repeats};
 
 use super::Ledger;
 use crate::Verdict;
@@ -19,7 +20,7 @@ impl Ledger {
     ) -> Verdict
         ensures { result ≡ first_of (agree_rows self.now.museum self.now.posted loan.now partner.now objects.now first last) }
     {
-        if any_unknown(&self.setup, objects) {
+        if self.any_unknown(objects) {
             return Verdict::UnknownThing;
         }
         let Some(place) = self.setup.place(partner) else {
@@ -31,22 +32,7 @@ impl Ledger {
         if self.setup.is_inside(place) {
             return Verdict::InsidePartner;
         }
-        if objects.is_empty() {
-            return Verdict::NoObjects;
-        }
-        if any_container(objects) {
-            return Verdict::NotObject;
-        }
-        if repeats(objects) {
-            return Verdict::Repeated;
-        }
-        if any_of_wrong_owner(loan, objects) {
-            return Verdict::WrongOwner;
-        }
-        if last < first {
-            return Verdict::BadTerm;
-        }
-        Verdict::Applied
+        judge_terms(loan, objects, first, last)
     }
 
     pub(crate) fn judge_authorise(&self, loan: &LoanCode) -> Verdict
@@ -75,6 +61,40 @@ impl Ledger {
         }
         Verdict::Applied
     }
+
+    fn any_unknown(&self, objects: &[ThingCode]) -> bool
+        ensures { result ≡ list_any (λ x. not (is_known self.now.museum x)) objects.now }
+    {
+        any_unknown(&self.setup, objects)
+    }
+}
+
+/// The rows of an agreement that ask nothing of the setup, nor of what was posted: its objects' codes and its days.
+fn judge_terms(loan: &LoanCode, objects: &[ThingCode], first: Day, last: Day) -> Verdict
+    ensures { result ≡ first_of (
+        (NoObjects if is_empty objects.now)
+        ∷ (NotObject if list_any is_container_code objects.now)
+        ∷ (Repeated if repeats objects.now)
+        ∷ (WrongOwner if list_any (is_of_wrong_owner loan.now) objects.now)
+        ∷ (BadTerm if int_lt last first)
+        ∷ []) }
+{
+    if objects.is_empty() {
+        return Verdict::NoObjects;
+    }
+    if any_container(objects) {
+        return Verdict::NotObject;
+    }
+    if repeats(objects) {
+        return Verdict::Repeated;
+    }
+    if any_of_wrong_owner(loan, objects) {
+        return Verdict::WrongOwner;
+    }
+    if last < first {
+        return Verdict::BadTerm;
+    }
+    Verdict::Applied
 }
 
 fn any_unknown(setup: &Setup, objects: &[ThingCode]) -> bool

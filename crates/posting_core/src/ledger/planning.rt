@@ -133,10 +133,12 @@ impl Ledger {
                 thing: thing_no(&self.setup, thing),
                 to: Target::At(self.loan(loan)?.partner()),
             }),
-            Message::Return { thing, place, .. } | Message::Receive { thing, place, .. } => Some(Put {
-                thing: thing_no(&self.setup, thing),
-                to: Target::At(place_no(&self.setup, place)),
-            }),
+            Message::Return { thing, place, .. } | Message::Receive { thing, place, .. } => Some(
+                Put {
+                    thing: thing_no(&self.setup, thing),
+                    to: Target::At(place_no(&self.setup, place)),
+                },
+            ),
             Message::Agree { .. }
             | Message::Authorise { .. }
             | Message::SignOff { .. }
@@ -203,7 +205,11 @@ impl Ledger {
     }
 
     /// The objects among what a thing carries, itself too where it is one.
-    pub(crate) fn objects_with(&self, alloc: Global, thing: ThingNo) -> Result<Vec<ThingNo>, NoMemory>
+    pub(crate) fn objects_with(
+        &self,
+        alloc: Global,
+        thing: ThingNo,
+    ) -> Result<Vec<ThingNo>, NoMemory>
         requires { thing < length self.now.museum.things }
         ensures { IfOk result (λ objects. objects.items ≡ filter (λ o. not (is_container self.now.museum o)) (carried_at self.now.museum self.now.posted thing)) }
     {
