@@ -6,6 +6,7 @@ pub mod OneList
 pub mod ListedRows
 pub mod PutRows
 pub mod LineRows
+pub mod LineKeys
 pub mod SpotRows
 pub mod SpotOrder
 pub mod Kept

@@ -3,7 +3,6 @@ use Rattle.std.specs.List.Sorted.{IsPermutation}
 use Rattle.indexmap.specs.IndexMap.{spare}
 use Rattle.register_store.specs.Plain.{line_rows}
 use Rattle.register_store.specs.StoredRows.{put_lines}
-use Rattle.register_store.proofs.LineRows.{next_lines}
 use Rattle.register_store.proofs.loan_rows.put_lines.Given as goal
 
 abbrev pub invariant-loop-i : goal.invariant-loop-i
