@@ -7,6 +7,9 @@ pub mod ListedRows
 pub mod PutRows
 pub mod LineRows
 pub mod LineKeys
+pub mod KeptPairs
+pub mod TermRows
+pub mod LedgerRows
 pub mod SpotRows
 pub mod SpotOrder
 pub mod Kept

@@ -1,14 +1,14 @@
 //! The rows of loans in memory: lines by loan and object, and last days by loan.
 ghost use Rattle.std.specs.Prelude.{◌≡◌, ◌<◌, ◌≤◌, ◌+◌, ◌++◌, length, map, Option, IfOk, OnOk, Some, slice_get};
 ghost use Rattle.std.specs.Bool.{Decides};
-ghost use Rattle.std.specs.List.{IsDistinct};
+ghost use Rattle.std.specs.List.{IsDistinct, list_all};
 ghost use Rattle.std.specs.List.Sorted.{IsPermutation};
 ghost use Rattle.std.specs.Map.{keys_of};
 ghost use Rattle.std.specs.Option.{option_map, option_map_or};
 ghost use Rattle.indexmap.specs.IndexMap.{spare};
 ghost use Rattle.posting_core.specs.Book.{loans_in};
 ghost use Rattle.register_store.specs.StoredRows.{TermRow, put_lines, put_term, term_of, rows_of_lines, rows_of_terms};
-ghost use Rattle.register_store.specs.Plain.{line_rows, term_rows, lines_of_loan};
+ghost use Rattle.register_store.specs.Plain.{line_rows, term_rows, lines_of_loan, day_of_loan, is_kept};
 
 use codes_core::{Day, LoanCode, NoMemory};
 use indexmap::IndexMap;
@@ -101,12 +101,19 @@ pub(crate) fn terms_of(alloc: Global, ledger: &Ledger) -> Result<Vec<(LoanCode, 
     ledger.is_lawful();
     let mut rows = Vec::new(alloc);
     for i in 0..ledger.loan_count() {
-        let loan = ledger.loan_at(i);
-        if let Some(day) = ledger.last_day(&loan) {
-            rows.push((loan, day))?;
-        }
+        push_day(&mut rows, ledger, ledger.loan_at(i))?;
     }
     Ok(rows)
+}
+
+/// Adds the last day of a loan.
+fn push_day(rows: &mut Vec<(LoanCode, Day)>, ledger: &Ledger, loan: LoanCode) -> Result<(), NoMemory>
+    ensures { OnOk result (term_rows rows.new.items ≡ term_rows rows.old.items ++ day_of_loan ledger.now loan) }
+{
+    if let Some(day) = ledger.last_day(&loan) {
+        rows.push((loan, day))?;
+    }
+    Ok(())
 }
 
 /// Whether the kept pairs are the wanted ones in some order.
@@ -116,20 +123,19 @@ pub(crate) fn has_all<K: Eq + Hash + Copy, V: Eq + Copy>(kept: &IndexMap<K, V>, 
     requires values { (a b : _) → Decides (V.eq a b) (a ≡ b) }
     ensures { Decides result (IsPermutation wanted.now kept.now.entries) }
 {
-    if kept.len() != wanted.len() {
-        return false;
-    }
-    for i in 0..wanted.len() {
-        if !has_pair(kept, wanted[i].0, wanted[i].1) {
-            return false;
-        }
-    }
-    true
+    kept.len() == wanted.len() && has_each(kept, wanted)
+}
+
+/// Whether each of the wanted pairs is kept.
+fn has_each<K: Eq + Hash + Copy, V: Eq + Copy>(kept: &IndexMap<K, V>, wanted: &[(K, V)]) -> bool
+    ensures { result ≡ list_all (is_kept K.eq V.eq kept.now.entries) wanted.now }
+{
+    wanted.iter().all(|pair| has_pair(kept, pair.0, pair.1))
 }
 
 /// Whether the key is kept with the value.
 fn has_pair<K: Eq + Hash + Copy, V: Eq + Copy>(kept: &IndexMap<K, V>, key: K, value: V) -> bool
-    ensures { result ≡ option_map_or (λ found. V.eq found value) (get K.eq kept.now key) false }
+    ensures { result ≡ is_kept K.eq V.eq kept.now.entries (key, value) }
 {
     match kept.get(&key) {
         Some(found) => *found == value,

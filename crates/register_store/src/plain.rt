@@ -125,8 +125,10 @@ impl Register for PlainRegister {
         let lines = lines_of(alloc, ledger)?;
         let terms = terms_of(alloc, ledger)?;
         ledger.is_lawful();
-        let same = has_rows(&mut self.spots, &spots);
-        Ok(same && has_all(&self.lines, &lines) && has_all(&self.terms, &terms))
+        let same_spots = has_rows(&mut self.spots, &spots);
+        let same_lines = has_all(&self.lines, &lines);
+        let same_terms = has_all(&self.terms, &terms);
+        Ok(same_spots && same_lines && same_terms)
     }
 }
 
