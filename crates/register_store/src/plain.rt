@@ -1,5 +1,5 @@
 //! A register in memory.
-ghost use Rattle.std.specs.Prelude.{◌≡◌, ◌≢◌, ◌↔◌, ◌⊎◌, ◌+◌, ◌∷◌, ◌++◌, [], ℕ, true, false, length, map, reverse, take, All, MatchOption, IfOk, IfErr, OnOk, OnErr, string_bytes};
+ghost use Rattle.std.specs.Prelude.{◌≡◌, ◌≢◌, ◌↔◌, ◌⊎◌, ◌&&◌, ◌+◌, ◌∷◌, ◌++◌, [], ℕ, true, false, length, map, reverse, take, All, MatchOption, IfOk, IfErr, OnOk, OnErr, string_bytes};
 ghost use Rattle.std.specs.Bool.{Decides};
 ghost use Rattle.std.specs.List.Sorted.{IsPermutation, IsNonDecreasingBy};
 ghost use Rattle.std.specs.declared.cmp.Ordering.TheVariants.{Less};
@@ -128,8 +128,15 @@ impl Register for PlainRegister {
         let same_spots = has_rows(&mut self.spots, &spots);
         let same_lines = has_all(&self.lines, &lines);
         let same_terms = has_all(&self.terms, &terms);
-        Ok(same_spots && same_lines && same_terms)
+        Ok(are_all(same_spots, same_lines, same_terms))
     }
+}
+
+/// Whether all three are the same.
+fn are_all(spots: bool, lines: bool, terms: bool) -> bool
+    ensures { result ≡ (spots && (lines && terms)) }
+{
+    spots && lines && terms
 }
 
 /// The texts of a setup's rows.
