@@ -1,5 +1,5 @@
 -- What the rows of a register in memory keep of what was there.
-use Rattle.std.proofs.Common.{◌≡◌, ◌≢◌, ◌↔◌, ◌&&◌, ℕ, ℤ, Bool, true, false, true≢false, List, [], ◌∷◌, ◌++◌, map, reverse, Option, Some, None, Vec, String, string_bytes, MatchOption, Result, Ok, Err, IfErr, refl, sym, subst, ap, ◌∙◌, arith}
+use Rattle.std.proofs.Common.{◌≡◌, ◌≢◌, ◌↔◌, ◌&&◌, ℕ, ℤ, Bool, true, false, true≢false, List, [], ◌∷◌, ◌++◌, map, reverse, Option, Some, None, Vec, String, string_bytes, MatchOption, Result, Ok, Err, IfErr, OnErr, ◌⊎◌, inl, refl, sym, subst, ap, ◌∙◌, arith}
 use Rattle.std.specs.declared.alloc.Global.{Global}
 use Rattle.std.specs.Bool.{Decides}
 use Rattle.std.proofs.lemmas.Bool.{and_parts}
@@ -137,6 +137,13 @@ posted_same o ps more ss longer ls new_ls ts new_ts row e changes K d pushed ext
       lines = IsPermutation-trans _ _ _ lined (put_lines_same changes.lines ls d.lines same.lines);
       terms = IsPermutation-trans _ _ _ dated (with_term_same (term_of e) ts d.terms same.terms);
     }
+
+-- growths alone leave what is held
+pub left_as_was : {T E : Type 0} (r : Result T E) (Q : Content → Type 0) (o : Option (Vec (String Global) Global)) (ps ps' : List PostingRow) (ss ss' : List NewSpot) (ks ks' : List (LineKey × LineStage)) (ts ts' : List (List ℕ × ℤ)) (K : Content)
+    → K ≡ content_of o (reverse ps) (reverse ss) (line_rows ks) (term_rows ts) → ps' ≡ ps → ss' ≡ ss → ks' ≡ ks → ts' ≡ ts
+    → OnErr r ((d : Content) → AreSame K d → AreSame (content_of o (reverse ps') (reverse ss') (line_rows ks') (term_rows ts')) d ⊎ Q d)
+left_as_was (Ok x) Q o ps ps' ss ss' ks ks' ts ts' K is p s k t = tt
+left_as_was (Err e) Q o ps ps' ss ss' ks ks' ts ts' K is p s k t = λ d h. inl (rw (p, s, k, t) (subst (λ (c : Content). AreSame c d) is h))
 
 -- the same rows in another order are held as before
 pub reordered : (o : Option (Vec (String Global) Global)) (ps ps' : List PostingRow) (ss ss' : List NewSpot) (lines : List NewLine) (terms : List TermRow) (K d : Content) → IsPermutation ps ps' → IsPermutation ss ss'

@@ -1,8 +1,8 @@
-use Rattle.std.proofs.Common.{rules, sym, subst, ap, reverse, ◌++◌}
+use Rattle.std.proofs.Common.{rules, refl, sym, subst, ap}
 use Rattle.std.specs.List.Sorted.{IsPermutation}
 use Rattle.register_store.specs.Plain.{Kept, line_rows, term_rows}
 use Rattle.register_store.specs.StoredRows.{put_lines, term_of}
-use Rattle.register_store.proofs.Kept.{posted_same}
+use Rattle.register_store.proofs.Kept.{posted_same, left_as_was}
 use Rattle.register_store.proofs.TermRows.{with_term}
 use Rattle.register_store.proofs.plain.PlainRegisterRegister.post.Goals as goal
 
@@ -22,7 +22,19 @@ returns-clause-posted c quiet d h =
 )
 
 pub returns-in_err-reserve-2-clause-failed : goal.returns-in_err-reserve-2-clause-failed
-returns-in_err-reserve-2-clause-failed c quiet = ?
+returns-in_err-reserve-2-clause-failed c quiet =
+    left_as_was c.from_residual-in_err-reserve-2.result _ c.self.inside.setup c.self.inside.postings.items c.reserve.new.self.items c.self.inside.spots.items c.self.inside.spots.items
+    c.self.inside.lines.entries c.reserve-2.new.self.entries c.self.inside.terms.entries c.self.inside.terms.entries c.args.self.now.content
+    (sym (ap (λ (k : Kept). k.content) c.self.view_is)) (search rules) refl c.reserve-2.ensures.entries refl
 
 pub returns-in_err-reserve-3-clause-failed : goal.returns-in_err-reserve-3-clause-failed
-returns-in_err-reserve-3-clause-failed c quiet = ?
+returns-in_err-reserve-3-clause-failed c quiet =
+    left_as_was c.from_residual-in_err-reserve-3.result _ c.self.inside.setup c.self.inside.postings.items c.reserve.new.self.items c.self.inside.spots.items c.self.inside.spots.items
+    c.self.inside.lines.entries c.reserve-2.new.self.entries c.self.inside.terms.entries c.reserve-3.new.self.entries c.args.self.now.content
+    (sym (ap (λ (k : Kept). k.content) c.self.view_is)) (search rules) refl c.reserve-2.ensures.entries c.reserve-3.ensures.entries
+
+pub returns-in_err-extend_from_slice-clause-failed : goal.returns-in_err-extend_from_slice-clause-failed
+returns-in_err-extend_from_slice-clause-failed c quiet =
+    left_as_was c.from_residual-in_err-extend_from_slice.result _ c.self.inside.setup c.self.inside.postings.items c.reserve.new.self.items c.self.inside.spots.items c.extend_from_slice.new.self.items
+    c.self.inside.lines.entries c.reserve-2.new.self.entries c.self.inside.terms.entries c.reserve-3.new.self.entries c.args.self.now.content
+    (sym (ap (λ (k : Kept). k.content) c.self.view_is)) (search rules) (search rules) c.reserve-2.ensures.entries c.reserve-3.ensures.entries
