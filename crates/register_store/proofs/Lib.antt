@@ -16,4 +16,5 @@ pub mod Kept
 pub mod Keeping
 pub mod WholeLists
 mod WorkedTexts
-mod WorkedRows
+pub mod WorkedRows
+mod WorkedLoans
