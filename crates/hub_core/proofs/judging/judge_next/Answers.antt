@@ -1,11 +1,14 @@
-use Rattle.std.proofs.Common.{◌≡◌, ap, sym, subst, arith, length, map, Bool}
+use Rattle.std.proofs.Common.{◌≡◌, ◌∙◌, ◌+◌, ap, sym, subst, arith, length, map, Bool}
 use Rattle.std.specs.Prelude.{slice_set}
-use Rattle.std.proofs.lemmas.List.{length-map}
+use Rattle.std.specs.List.{slice_get}
+use Rattle.std.proofs.lemmas.List.{length-map, length-reverse}
 use Rattle.posting_core.specs.declared.message.Message.{Message}
 use Rattle.posting_core.specs.Book.{Book}
 use Rattle.station_core.specs.Series.{opened}
 use Rattle.hub_core.specs.StandsFor.{InStep}
-use Rattle.hub_core.proofs.OpenLemmas.{judged_follows, next_step}
+use Rattle.hub_core.specs.Openings.{may_send}
+use Rattle.posting_core.proofs.AppliedRows.{false_true}
+use Rattle.hub_core.proofs.OpenLemmas.{judged_follows, follows_sends, next_step}
 use Rattle.hub_core.proofs.judging.judge_next.Goals as goal
 
 pub apply-requires-clause-follows : goal.apply-requires-clause-follows
@@ -34,3 +37,12 @@ returns-clause-in_step c =
     subst (λ (b : Book). InStep (map opened (slice_set starts e.station (record { posted = e.n; signed = c.is_sign_off.result }))) b.museum b.posted) (sym c.in_ok-apply.ensures.ok)
     (next_step L.museum L.depth L.posted e starts (slice_set starts e.station (record { posted = e.n; signed = c.is_sign_off.result })) c.requires f
     (ap (λ (b : Bool). slice_set starts e.station (record { posted = e.n; signed = b })) c.is_sign_off.ensures))
+
+pub returns-then-not-may_send-clause-cause : goal.returns-then-not-may_send-clause-cause
+returns-then-not-may_send-clause-cause c =
+    let L = c.args.ledger.now in
+    let starts = c.args.starts.now.items in
+    let sends : c.may_send.result ≡ may_send (slice_get starts c.args.entry.station) c.args.entry.n = rw (← c.deref.ensures.value) c.may_send.ensures in (
+      ap (λ n. n + 1) (ap length (sym c.posted.ensures) ∙ length-reverse c.posted.result.now),
+      λ follows. false_true (sym c.if-not-may_send.true ∙ sends ∙ follows_sends L.museum L.depth L.posted c.args.entry starts c.requires follows),
+    )
