@@ -74,6 +74,7 @@ among_own (o ∷ os) = (
     right : (b : Bool) → (b || true) ≡ true
     right true = refl
     right false = refl
+
     later : (ys : List ℕ) → AllByRecursion (λ y. is_among y os ≡ true) ys → AllByRecursion (λ y. is_among y (o ∷ os) ≡ true) ys
     later [] own = tt
     later (y ∷ ys) (one, more) = ((rw one (right (o == y))), later ys more)
@@ -81,6 +82,7 @@ among_own (o ∷ os) = (
 module _ (B : Book) where
   abbrev S : Museum
   S = B.museum
+
   abbrev P : List Entry
   P = B.posted
 

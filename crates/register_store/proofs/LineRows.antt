@@ -139,9 +139,9 @@ module _ (S : Museum) where
   has_at f loan o s [] there = absurd (false_true there)
   has_at f loan o s (t ∷ ts) there = list_any-append (is_same_line (row loan o s)) (lines_at S f t) (all_at S f ts) ∙ (elim (bytes_eq loan t.loan) as (λ b. bytes_eq loan t.loan ≡ b → is_among o (option_map_or (objects_of S) (cond b (Some t) (find (λ u. bytes_eq loan u.loan) ts)) []) ≡ true
       → (list_any (is_same_line (row loan o s)) (lines_at S f t) || list_any (is_same_line (row loan o s)) (all_at S f ts)) ≡ true) [
-    | true ↦ λ e h. let here : list_any (is_same_line (row loan o s)) (lines_at S f t) ≡ true = subst (λ l. list_any (is_same_line (row l o s)) (lines_at S f t) ≡ true) (sym (equal_is loan t.loan e)) (has_in f t.loan o s (objects_of S t) h) in rw here refl
-    | false ↦ λ e h. right (list_any (is_same_line (row loan o s)) (lines_at S f t)) (list_any (is_same_line (row loan o s)) (all_at S f ts)) (has_at f loan o s ts h)
-  ] refl there)
+        | true ↦ λ e h. let here : list_any (is_same_line (row loan o s)) (lines_at S f t) ≡ true = subst (λ l. list_any (is_same_line (row l o s)) (lines_at S f t) ≡ true) (sym (equal_is loan t.loan e)) (has_in f t.loan o s (objects_of S t) h) in rw here refl
+        | false ↦ λ e h. right (list_any (is_same_line (row loan o s)) (lines_at S f t)) (list_any (is_same_line (row loan o s)) (all_at S f ts)) (has_at f loan o s ts h)
+      ] refl there)
     where
       right : (a b : Bool) → b ≡ true → (a || b) ≡ true
       right true b h = refl
@@ -244,6 +244,7 @@ agreed S depth P m t lawful applied is none =
   where
     same_stage : (l : List ℕ) (o : ℕ) → stage_after S P true m l o ≡ stage S P l o
     same_stage l o = rw none refl
+
     last : (ts : List Agreement) → all_at S (stage S P) (ts ++ t ∷ []) ≡ all_at S (stage S P) ts ++ lines_at S (stage S P) t
     last [] = append-nil (lines_at S (stage S P) t)
     last (u ∷ ts) = ap (λ l. lines_at S (stage S P) u ++ l) (last ts) ∙ sym (append_assoc (lines_at S (stage S P) u) (all_at S (stage S P) ts) (lines_at S (stage S P) t))

@@ -49,11 +49,11 @@ module _ {R : Type 0} (same : R → R → Bool) where
   put_replaces apart r [] once there = absurd (let both : true ≡ false = sym there in cc)
   put_replaces apart r (q ∷ rows) once there = elim (same r q) as (λ b. same r q ≡ b → (b || list_any (same r) rows) ≡ true
       → IsPermutation ((if b then r else q) ∷ map (replaced r) rows) (r ∷ (if not b then q ∷ filter (λ s. not (same r s)) rows else filter (λ s. not (same r s)) rows))) [
-    | true ↦ λ e h.
-        let free : IsFree r rows = all_weaker (λ s. same q s ≡ false) (λ s. same r s ≡ false) (λ s apart_from. apart r q s e apart_from) rows once.0 in
-        IsPermutation-same _ _ (ap (λ l. r ∷ l) (none_replaced r rows free ∙ sym (all_stay r rows free)))
-    | false ↦ λ e h. IsPermutation-trans _ _ _ (IsPermutation-cons q _ _ (put_replaces apart r rows once.1 h)) (exchanged r q _)
-  ] refl there
+        | true ↦ λ e h.
+            let free : IsFree r rows = all_weaker (λ s. same q s ≡ false) (λ s. same r s ≡ false) (λ s apart_from. apart r q s e apart_from) rows once.0 in
+            IsPermutation-same _ _ (ap (λ l. r ∷ l) (none_replaced r rows free ∙ sym (all_stay r rows free)))
+        | false ↦ λ e h. IsPermutation-trans _ _ _ (IsPermutation-cons q _ _ (put_replaces apart r rows once.1 h)) (exchanged r q _)
+      ] refl there
 
   -- a pair that a map takes is put among its rows
   module _ {K V : Type 0} (eq : K → K → Bool) (exact : (k l : K) → eq k l ≡ true → k ≡ l) (row : K → V → R) (keyed : (k l : K) (v w : V) → same (row k v) (row l w) ≡ eq k l) where
@@ -69,12 +69,12 @@ module _ {R : Type 0} (same : R → R → Bool) where
     inserted k v [] distinct = IsPermutation-refl _
     inserted k v (e ∷ kept) distinct = elim (eq k e.0) as (λ b. eq k e.0 ≡ b → IsDistinct eq (keys_of (if b then (e.0, v) ∷ kept else e ∷ insert_entry eq kept k v))
         → IsPermutation (rows_of (if b then (e.0, v) ∷ kept else e ∷ insert_entry eq kept k v)) (put (row k v) (rows_of (e ∷ kept)))) [
-      | true ↦ λ h d.
-          let is : k ≡ e.0 = exact k e.0 h in
-          let free : IsFree (row k v) (rows_of kept) = others k v kept (subst (λ l. AllByRecursion (λ m. eq l m ≡ false) (keys_of kept)) (sym is) d.0) in
-          let gone : same (row k v) (row e.0 e.1) ≡ true = keyed k e.0 v e.1 ∙ h in
-          IsPermutation-same _ _ (rw gone (ap (λ l. row l v ∷ rows_of kept) (sym is) ∙ ap (λ l. row k v ∷ l) (sym (all_stay (row k v) (rows_of kept) free))))
-      | false ↦ λ h d.
-          let stays : same (row k v) (row e.0 e.1) ≡ false = keyed k e.0 v e.1 ∙ h in
-          rw stays (IsPermutation-trans _ _ _ (IsPermutation-cons (row e.0 e.1) _ _ (inserted k v kept d.1)) (exchanged (row k v) (row e.0 e.1) _))
-    ] refl distinct
+          | true ↦ λ h d.
+              let is : k ≡ e.0 = exact k e.0 h in
+              let free : IsFree (row k v) (rows_of kept) = others k v kept (subst (λ l. AllByRecursion (λ m. eq l m ≡ false) (keys_of kept)) (sym is) d.0) in
+              let gone : same (row k v) (row e.0 e.1) ≡ true = keyed k e.0 v e.1 ∙ h in
+              IsPermutation-same _ _ (rw gone (ap (λ l. row l v ∷ rows_of kept) (sym is) ∙ ap (λ l. row k v ∷ l) (sym (all_stay (row k v) (rows_of kept) free))))
+          | false ↦ λ h d.
+              let stays : same (row k v) (row e.0 e.1) ≡ false = keyed k e.0 v e.1 ∙ h in
+              rw stays (IsPermutation-trans _ _ _ (IsPermutation-cons (row e.0 e.1) _ _ (inserted k v kept d.1)) (exchanged (row k v) (row e.0 e.1) _))
+        ] refl distinct

@@ -165,7 +165,7 @@ moving number spots = record { entry = number; verdict = Applied; spots = spots;
 
 three-posted :
     with_posted row_3 entry_3 (moving 3 (spot object_1 2 3 s1_a ∷ []))
-        (with_posted row_2 entry_2 (moving 2 (spot object_2 1 2 s2 ∷ [])) (with_posted row_1 entry_1 (moving 1 (spot object_1 1 1 s1 ∷ [])) (bound_to museum new))) ≡ posted
+    (with_posted row_2 entry_2 (moving 2 (spot object_2 1 2 s2 ∷ [])) (with_posted row_1 entry_1 (moving 1 (spot object_1 1 1 s1 ∷ [])) (bound_to museum new))) ≡ posted
 three-posted = refl
 
 -- an old store stays, whatever it is bound to

@@ -65,7 +65,10 @@ fn term_of(entry: &Entry) -> Option<(LoanCode, Day)>
 }
 
 /// The lines of all loans, each at its stage.
-pub(crate) fn lines_of(alloc: Global, ledger: &Ledger) -> Result<Vec<(LineKey, LineStage)>, NoMemory>
+pub(crate) fn lines_of(
+    alloc: Global,
+    ledger: &Ledger,
+) -> Result<Vec<(LineKey, LineStage)>, NoMemory>
     ensures { IfOk result (λ rows. line_rows rows.items ≡ rows_of_lines ledger.now.museum ledger.now.posted) }
 {
     ledger.is_lawful();
@@ -107,7 +110,11 @@ pub(crate) fn terms_of(alloc: Global, ledger: &Ledger) -> Result<Vec<(LoanCode, 
 }
 
 /// Adds the last day of a loan.
-fn push_day(rows: &mut Vec<(LoanCode, Day)>, ledger: &Ledger, loan: LoanCode) -> Result<(), NoMemory>
+fn push_day(
+    rows: &mut Vec<(LoanCode, Day)>,
+    ledger: &Ledger,
+    loan: LoanCode,
+) -> Result<(), NoMemory>
     ensures { OnOk result (term_rows rows.new.items ≡ term_rows rows.old.items ++ day_of_loan ledger.now loan) }
 {
     if let Some(day) = ledger.last_day(&loan) {
@@ -117,7 +124,10 @@ fn push_day(rows: &mut Vec<(LoanCode, Day)>, ledger: &Ledger, loan: LoanCode) ->
 }
 
 /// Whether the kept pairs are the wanted ones in some order.
-pub(crate) fn has_all<K: Eq + Hash + Copy, V: Eq + Copy>(kept: &IndexMap<K, V>, wanted: &[(K, V)]) -> bool
+pub(crate) fn has_all<K: Eq + Hash + Copy, V: Eq + Copy>(
+    kept: &IndexMap<K, V>,
+    wanted: &[(K, V)],
+) -> bool
     requires distinct { IsDistinct K.eq (keys_of wanted.now) }
     requires keys { (a b : _) → Decides (K.eq a b) (a ≡ b) }
     requires values { (a b : _) → Decides (V.eq a b) (a ≡ b) }

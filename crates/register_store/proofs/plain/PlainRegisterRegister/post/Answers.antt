@@ -14,12 +14,12 @@ returns-clause-posted c quiet d h =
     (subst (λ es. IsPermutation (line_rows c.put_lines.new.kept.entries) (put_lines c.as_slice-lines.result.now (line_rows es))) c.reserve-2.ensures.entries put) in
     let dated : IsPermutation (term_rows c.put_term.new.kept.entries) (with_term (term_of c.args.entry.now) (term_rows c.self.inside.terms.entries)) =
     subst (λ es. IsPermutation (term_rows c.put_term.new.kept.entries) (with_term (term_of c.args.entry.now) (term_rows es))) c.reserve-3.ensures.entries c.put_term.ensures in (
-  c.in_ok-row.row,
-  c.in_ok-row.ensures,
-  posted_same c.self.inside.setup c.self.inside.postings.items c.push.new.self.items c.self.inside.spots.items c.extend_from_slice.new.self.items (line_rows c.self.inside.lines.entries) (line_rows c.put_lines.new.kept.entries)
-      (term_rows c.self.inside.terms.entries) (term_rows c.put_term.new.kept.entries) c.in_ok-row.row c.args.entry.now c.args.changes.now c.args.self.now.content d
-      (search rules) (search rules) lined dated (sym (ap (λ (k : Kept). k.content) c.self.view_is)) h,
-)
+      c.in_ok-row.row,
+      c.in_ok-row.ensures,
+      posted_same c.self.inside.setup c.self.inside.postings.items c.push.new.self.items c.self.inside.spots.items c.extend_from_slice.new.self.items (line_rows c.self.inside.lines.entries) (line_rows c.put_lines.new.kept.entries)
+          (term_rows c.self.inside.terms.entries) (term_rows c.put_term.new.kept.entries) c.in_ok-row.row c.args.entry.now c.args.changes.now c.args.self.now.content d
+          (search rules) (search rules) lined dated (sym (ap (λ (k : Kept). k.content) c.self.view_is)) h,
+    )
 
 pub returns-in_err-reserve-2-clause-failed : goal.returns-in_err-reserve-2-clause-failed
 returns-in_err-reserve-2-clause-failed c quiet =
