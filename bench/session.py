@@ -2,6 +2,7 @@
 """Writes a session to measure the program with: a setup, an empty line, and lines of one station.
 
     bench/session.py moves OBJECTS MESSAGES [IDLE]        each message moves the next object, to one place and another
+    bench/session.py mixed OBJECTS MESSAGES [IDLE]        the same from four stations by turns, mildly out of order
     bench/session.py crates CRATES OBJECTS MOVES [IDLE]   so many objects are packed into each crate, and then each
                                                           crate is moved so often, one after the other
     bench/session.py loans LOANS OBJECTS [IDLE]           all objects are moved to a place; then so many loans of so
@@ -79,10 +80,24 @@ def loans(things, count):
         yield from (come_back(thing, loan) for thing in listed)
 
 
+def numbered(stations, messages):
+    """The messages in the order in which they are sent: the stations by turns, each numbering its own."""
+    for number, message in enumerate(messages):
+        yield stations[number % len(stations)], number // len(stations) + 1, message
+
+
+def mildly_out_of_order(lines):
+    """The lines, where of each eight of a station the sixth comes last, so that the two after it wait."""
+    lines = list(lines)
+    for start in range(0, len(lines), 32):
+        part = lines[start:start + 32]
+        yield from part[:20] + part[24:] + part[20:24]
+
+
 def main():
     word, numbers = sys.argv[1], [int(argument) for argument in sys.argv[2:]]
-    places, boxes = "place,S1,inside\nplace,S2,inside", []
-    if word == "moves":
+    places, boxes, stations = "place,S1,inside\nplace,S2,inside", [], ["GAL"]
+    if word in ("moves", "mixed"):
         things = objects(0, numbers[0])
         messages, idle = moves(things, numbers[1]), numbers[2:]
     elif word == "loans":
@@ -93,14 +108,19 @@ def main():
         boxes = [f"C{n}" for n in range(1, numbers[0] + 1)]
         things = objects(0, numbers[0] * numbers[1])
         messages, idle = crates(boxes, things, numbers[2]), numbers[3:]
-    print(f"station,GAL\n{places}")
+    if word == "mixed":
+        stations = ["GAL", "PACK", "STORE-A", "STORE-B"]
+    lines = numbered(stations, messages)
+    if word == "mixed":
+        lines = mildly_out_of_order(lines)
+    print("\n".join(f"station,{station}" for station in stations) + f"\n{places}")
     for box in boxes:
         print(f"box,{box}")
     for thing in things + objects(len(things), sum(idle)):
         print(f"own,{thing},S1")
     print()
-    for n, message in enumerate(messages, 1):
-        print(f'{{"station":"GAL","n":{n},"message":{{{message}}}}}')
+    for station, n, message in lines:
+        print(f'{{"station":"{station}","n":{n},"message":{{{message}}}}}')
 
 
 if __name__ == "__main__":

@@ -176,7 +176,7 @@ number_of None n known = absurd (cc)
 number_of (Some k) n known = refl
 
 -- things of the setup with one number are one
-same_thing : (S : Museum) (x y : List ℕ) → not (is_known S x) ≡ false → not (is_known S y) ≡ false → thing_no S x ≡ thing_no S y → x ≡ y
+pub same_thing : (S : Museum) (x y : List ℕ) → not (is_known S x) ≡ false → not (is_known S y) ≡ false → thing_no S x ≡ thing_no S y → x ≡ y
 same_thing S x y known_x known_y same =
     stands_at x (thing_codes S) (thing_no S x) [] (number_of (find_thing S x) (length S.things) known_x)
     ∙ sym (stands_at y (thing_codes S) (thing_no S x) [] (number_of (find_thing S y) (length S.things) known_y ∙ ap Some (sym same)))

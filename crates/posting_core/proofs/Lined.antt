@@ -1,20 +1,18 @@
 -- What an entry writes in the rows of the loans is what looking back gives after it.
-use Rattle.std.specs.Prelude.{ℕ, ℤ, ◌≡◌, ◌+◌, ◌&&◌, ◌||◌, ◌==◌, Bool, true, false, not, cond, zero, suc, List, [], ◌∷◌, ◌++◌, Option, None, Some, length, map, refl, is_some, if◌then◌else◌, unwrap_or, slice_get, slice_set, nat_eq, nat_lt}
+use Rattle.std.specs.Prelude.{ℕ, ℤ, ◌≡◌, ◌+◌, ◌&&◌, ◌||◌, ◌==◌, Bool, true, false, not, cond, zero, suc, List, [], ◌∷◌, ◌++◌, Option, None, Some, length, map, refl, if◌then◌else◌, unwrap_or, slice_set, nat_eq, nat_lt}
 use Rattle.std.specs.List.{find, list_any, position, position_or_len, AllByRecursion}
-use Rattle.std.specs.Option.{option_map, option_map_or, option_and_then, option_to_list}
+use Rattle.std.specs.Option.{option_map, option_map_or, option_to_list}
 use Rattle.std.specs.Str.{bytes_eq}
-use Rattle.std.proofs.Common.{ap, ◌∙◌, sym, subst, arith, get_or}
+use Rattle.std.proofs.Common.{ap, ◌∙◌, sym, subst, arith}
 use Rattle.std.proofs.lemmas.Bool.{or_parts}
-use Rattle.std.proofs.lemmas.List.Quantifiers.{position-Some}
 use Rattle.std.proofs.Math.Path.{fun_ext}
 use Rattle.std.proofs.lemmas.Bool.Decides.{nat_tests}
 use Rattle.std.proofs.lemmas.List.{append-nil, map-append}
 use Rattle.std.proofs.lemmas.Slice.Eq.{bytes_eq-Decides}
-use Rattle.nest_core.specs.Museum.{Museum, find_thing, thing_codes}
+use Rattle.nest_core.specs.Museum.{Museum}
 use Rattle.nest_core.specs.Puts.{is_among}
 use Rattle.posting_core.specs.declared.message.Message.{Message}
 use Rattle.posting_core.specs.declared.message.Message.TheVariants.{Move, Pack, Agree, Authorise, Exit, Return, Receive, SignOff, Extend}
-use Rattle.posting_core.specs.declared.verdict.Verdict.{Verdict}
 use Rattle.posting_core.specs.declared.entry.Entry.{Entry}
 use Rattle.posting_core.specs.declared.entry.NewLine.{NewLine}
 use Rattle.posting_core.specs.declared.stage.LineStage.{LineStage}
@@ -22,14 +20,15 @@ use Rattle.posting_core.specs.declared.stage.LineStage.TheVariants.{Awaiting, Aw
 use Rattle.posting_core.specs.declared.verdict.Verdict.TheVariants.{Applied}
 use Rattle.posting_core.specs.VerdictNames.{is_applied}
 use Rattle.posting_core.specs.Messages.{thing_no, place_no}
-use Rattle.posting_core.specs.Agreements.{Agreement, agreement_in, agreements, agreement, authorises, is_authorised, extension_in, last_from}
+use Rattle.posting_core.specs.Agreements.{Agreement, agreement_in, agreements, authorises, is_authorised, extension_in, last_from}
 use Rattle.posting_core.specs.Loans.{Crossing, exit_of, crossing_in, objects_in, stage_by, stage, objects_of}
 use Rattle.posting_core.specs.Verdicts.{verdict, is_known, repeats}
 use Rattle.posting_core.specs.Lawful.{Follows, IsLawful}
 use Rattle.posting_core.specs.Book.{new_lines}
-use Rattle.posting_core.specs.LoanRows.{LoanRow, loan_row, loan_rows, with_stage, with_lines, changed, authorised_row, extended_row, agreed_row, rows_with}
-use Rattle.posting_core.proofs.AppliedRows.{none_some, false_true, held, applied_is}
-use Rattle.posting_core.proofs.Agreed.{IsSound, AreApart, IsUntouched, agreements_apart, agreements_sound, agree_applied, untouched, apart_sym}
+use Rattle.posting_core.specs.LoanRows.{LoanRow, loan_row, loan_rows, with_lines, changed, authorised_row, extended_row, agreed_row, rows_with}
+use Rattle.posting_core.proofs.AppliedRows.{none_some, false_true, applied_is}
+use Rattle.posting_core.proofs.Agreed.{IsSound, AreApart, IsUntouched, agreements_apart, agreements_sound, agree_applied, untouched}
+use Rattle.posting_core.proofs.KeptLoans.{same_thing}
 
 -- where a test first passes in a list of one more
 pub position_cons : {X : Type 0} (p : X → Bool) (x : X) (xs : List X) → position p (x ∷ xs) ≡ (if p x then Some zero else option_map suc (position p xs))
@@ -137,27 +136,15 @@ rows_by S P b m = map (row_by S P b m) (agreements P ++ option_to_list (if b the
 same_loans : (S : Museum) (P : List Entry) (m : Message) → agreement_in m ≡ None → (rows : List LoanRow) → map (row_by S P true m) (agreements P) ≡ rows → rows_by S P true m ≡ rows
 same_loans S P m none rows is = ap (λ o. map (row_by S P true m) (agreements P ++ option_to_list o)) none ∙ ap (map (row_by S P true m)) (append-nil (agreements P)) ∙ is
 
--- the number of a code is found by no other code
-no_other : (S : Museum) (a b : List ℕ) → is_known S a ≡ true → is_known S b ≡ true → thing_no S a ≡ thing_no S b → a ≡ b
-no_other S a b = other (find_thing S a) (find_thing S b) refl refl
-  where
-    other : (i j : Option ℕ) → find_thing S a ≡ i → find_thing S b ≡ j → is_some i ≡ true → is_some j ≡ true → unwrap_or i (length S.things) ≡ unwrap_or j (length S.things) → a ≡ b
-    other None j e f h k same = absurd (false_true h)
-    other (Some i) None e f h k same = absurd (false_true k)
-    other (Some i) (Some j) e f h k same =
-        (bytes_eq-Decides a (get_or (thing_codes S) i a)).0 (position-Some (bytes_eq a) (thing_codes S) i a e).1
-        ∙ ap (λ n. get_or (thing_codes S) n a) same
-        ∙ sym ((bytes_eq-Decides b (get_or (thing_codes S) j a)).0 (position-Some (bytes_eq b) (thing_codes S) j a f).1)
-
--- the objects of a sound agreement stand once
-unlike : (S : Museum) (x : List ℕ) (ys : List (List ℕ)) → is_known S x ≡ true → list_any (λ y. not (is_known S y)) ys ≡ false → list_any (bytes_eq x) ys ≡ false → is_among (thing_no S x) (map (thing_no S) ys) ≡ false
+-- the objects of an agreement stand once
+unlike : (S : Museum) (x : List ℕ) (ys : List (List ℕ)) → not (is_known S x) ≡ false → list_any (λ y. not (is_known S y)) ys ≡ false → list_any (bytes_eq x) ys ≡ false → is_among (thing_no S x) (map (thing_no S) ys) ≡ false
 unlike S x [] known all apart = refl
 unlike S x (y ∷ ys) known all apart =
     let both = or_parts (not (is_known S y)) (list_any (λ z. not (is_known S z)) ys) all in
     let two = or_parts (bytes_eq x y) (list_any (bytes_eq x) ys) apart in
     elim (thing_no S y == thing_no S x) as (λ b. (thing_no S y == thing_no S x) ≡ b → (b || is_among (thing_no S x) (map (thing_no S) ys)) ≡ false) [
       | true ↦ λ e. let same : thing_no S x ≡ thing_no S y = grind (arith, nat_tests) in
-          absurd (false_true (sym two.0 ∙ (bytes_eq-Decides x y).1 (no_other S x y known (held (is_known S y) both.0) same)))
+          absurd (false_true (sym two.0 ∙ (bytes_eq-Decides x y).1 (same_thing S x y known both.0 same)))
       | false ↦ λ e. unlike S x ys known both.1 two.1
     ] refl
 
@@ -166,7 +153,7 @@ numbers_once S [] known once = tt
 numbers_once S (x ∷ xs) known once =
     let both = or_parts (not (is_known S x)) (list_any (λ y. not (is_known S y)) xs) known in
     let two = or_parts (list_any (bytes_eq x) xs) (repeats xs) once in
-    (unlike S x xs (held (is_known S x) both.0) both.1 two.0, numbers_once S xs both.1 two.1)
+    (unlike S x xs both.0 both.1 two.0, numbers_once S xs both.1 two.1)
 
 -- what crosses gets its stage
 crossed : (S : Museum) (depth : ℕ) (P : List Entry) (m : Message) (c : Crossing) → IsLawful S depth P → crossing_in m ≡ Some c → agreement_in m ≡ None → ((t : Agreement) → extension_in m t.loan ≡ None) → ((t : Agreement) → authorises m t.loan ≡ false) →

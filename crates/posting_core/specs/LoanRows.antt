@@ -1,5 +1,5 @@
 -- What a ledger keeps of each loan, and what a message writes there.
-use Rattle.std.specs.Prelude.{ℕ, ℤ, ◌≡◌, Bool, true, false, not, is_some, List, [], ◌∷◌, ◌++◌, Option, Some, None, map, slice_get, slice_set, nat_eq, if◌then◌else◌}
+use Rattle.std.specs.Prelude.{ℕ, ℤ, ◌≡◌, Bool, true, false, not, List, [], ◌∷◌, ◌++◌, Option, None, map, slice_get, slice_set, nat_eq, if◌then◌else◌}
 use Rattle.std.specs.List.{position, find, list_any}
 use Rattle.std.specs.Option.{option_map_or, option_and_then}
 use Rattle.std.specs.Str.{bytes_eq}
@@ -11,12 +11,10 @@ use Rattle.posting_core.specs.declared.entry.NewLine.{NewLine}
 use Rattle.posting_core.specs.declared.stage.LineStage.{LineStage}
 use Rattle.posting_core.specs.declared.stage.LineStage.TheVariants.{Awaiting}
 use Rattle.posting_core.specs.declared.stage.LoanState.{LoanState}
-use Rattle.posting_core.specs.declared.verdict.Verdict.{Verdict}
-use Rattle.posting_core.specs.declared.verdict.Verdict.TheVariants.{NotListed, WrongStage}
 use Rattle.posting_core.specs.Messages.{place_no}
 use Rattle.posting_core.specs.Agreements.{Agreement, agreements, is_authorised, last_from}
 use Rattle.posting_core.specs.Loans.{stage, objects_of, state_by}
-use Rattle.posting_core.specs.Verdicts.{is_known, repeats, stage_eq}
+use Rattle.posting_core.specs.Verdicts.{is_known, repeats}
 
 -- a loan: the partner's place, the objects and the stages of their lines, the last day, and whether it is authorised
 pub record LoanRow : Type 0 where
@@ -99,9 +97,3 @@ pub record MayAgree (S : Museum) (rows : List LoanRow) (t : Agreement) : Type 0 
   pub known : list_any (λ x. not (is_known S x)) t.objects ≡ false
   pub once : repeats t.objects ≡ false
   pub new : find (λ row. bytes_eq t.loan row.loan) rows ≡ None
-
--- why what crosses under a loan is refused: an object isn't listed, or its line isn't at the stage wanted
-abbrev pub refusal_of : LoanRow → LineStage → List ℕ → Option Verdict
-refusal_of row wanted os =
-    if list_any (λ o. not (is_some (line_of row o))) os then Some NotListed
-    else (if list_any (λ o. not (option_map_or (stage_eq wanted) (line_of row o) false)) os then Some WrongStage else None)

@@ -1,0 +1,105 @@
+//! The shapes of codes, days and names.
+
+/// A right number: 1 to 999,999 without a 0 before it.
+fn is_number(text: &str) -> bool {
+    (1..=6).contains(&text.len())
+        && text.bytes().all(|byte| byte.is_ascii_digit())
+        && !text.starts_with('0')
+}
+
+fn are_digits(text: &[u8], count: usize) -> bool {
+    text.len() == count && text.iter().all(u8::is_ascii_digit)
+}
+
+/// A year, then one to three right numbers, then perhaps a letter.
+fn is_object(text: &str) -> bool {
+    let text = text
+        .strip_suffix(|last: char| last.is_ascii_lowercase())
+        .unwrap_or(text);
+    let mut parts = text.split('.');
+    let year = parts.next().unwrap_or("");
+    let mut count = 0;
+    for part in parts {
+        count += 1;
+        if count > 3 || !is_number(part) {
+            return false;
+        }
+    }
+    are_digits(year.as_bytes(), 4) && count > 0
+}
+
+pub fn is_own(text: &str) -> bool {
+    is_object(text)
+}
+
+pub fn is_borrowed(text: &str) -> bool {
+    text.strip_prefix('L').is_some_and(is_object)
+}
+
+pub fn is_container(text: &str) -> bool {
+    text.strip_prefix('C').is_some_and(is_number)
+}
+
+pub fn is_thing(text: &str) -> bool {
+    match text.as_bytes().first() {
+        Some(b'C') => is_container(text),
+        Some(b'L') => is_borrowed(text),
+        _ => is_own(text),
+    }
+}
+
+pub fn is_place(text: &str) -> bool {
+    let is_segment = |segment: &str| {
+        let is_right = |byte: u8| byte.is_ascii_uppercase() || byte.is_ascii_digit();
+        (1..=8).contains(&segment.len()) && segment.bytes().all(is_right)
+    };
+    text.split('-').all(is_segment) && text.split('-').count() <= 4
+}
+
+pub fn is_loan(text: &str) -> bool {
+    let Some(rest) = text.strip_prefix("LO").or(text.strip_prefix("LI")) else {
+        return false;
+    };
+    rest.split_once('.')
+        .is_some_and(|(year, number)| are_digits(year.as_bytes(), 4) && is_number(number))
+}
+
+/// A day of the calendar in the years 1 to 9999.
+pub fn is_day(text: &str) -> bool {
+    let bytes = text.as_bytes();
+    if bytes.len() != 10 || bytes[4] != b'-' || bytes[7] != b'-' {
+        return false;
+    }
+    if !are_digits(&bytes[..4], 4) || !are_digits(&bytes[5..7], 2) || !are_digits(&bytes[8..], 2) {
+        return false;
+    }
+    let number = |digits: &[u8]| {
+        digits
+            .iter()
+            .fold(0, |sum, byte| sum * 10 + u32::from(byte - b'0'))
+    };
+    let (year, month, day) = (
+        number(&bytes[..4]),
+        number(&bytes[5..7]),
+        number(&bytes[8..]),
+    );
+    let is_leap = year % 4 == 0 && (year % 100 != 0 || year % 400 == 0);
+    let last = match month {
+        2 => 28 + u32::from(is_leap),
+        4 | 6 | 9 | 11 => 30,
+        1..=12 => 31,
+        _ => 0,
+    };
+    year > 0 && (1..=last).contains(&day)
+}
+
+pub fn is_name(text: &str) -> bool {
+    (1..=60).contains(&text.len()) && text.bytes().all(|byte| byte >= 32 && byte != 127)
+}
+
+pub fn is_station(text: &str) -> bool {
+    (1..=16).contains(&text.len())
+        && text
+            .bytes()
+            .all(|byte| byte.is_ascii_alphanumeric() || byte == b'-')
+}
