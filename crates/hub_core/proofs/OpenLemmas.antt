@@ -26,7 +26,7 @@ use Rattle.station_core.proofs.GrowLemmas.{starts_empty, starts_other, starts_ne
 use Rattle.hub_core.specs.Points.{arrival_of}
 use Rattle.register_store.specs.declared.store_fault.StoreFault.{StoreFault}
 use Rattle.register_store.specs.declared.store_fault.StoreFault.TheVariants.{NoMemory, Store, OtherSetup, Damaged, OtherVersion}
-use Rattle.register_store.specs.StoredRows.{Content, IsBoundTo, HasList, rows_of_spots}
+use Rattle.register_store.specs.StoredRows.{Content, IsBoundTo, HasList, HasRows}
 use Rattle.register_store.specs.Registers.{is_new, bound_by, bound_to, IsOfStation}
 use Rattle.hub_core.specs.Openings.{may_send, IsEntryFault, IsJudgeFault, IsOpenFault}
 use Rattle.hub_core.specs.StandsFor.{InStep}
@@ -200,10 +200,9 @@ entry_fault S depth L O left left' e (Damaged at) museum limit list last law h =
       wrong = h.1;
     }))
 
--- the spots of a list, as a ledger with it has them
-pub same_spots : (S : Museum) (P : List Entry) (L : Book) (xs : List NewSpot) → L.museum ≡ S → L.posted ≡ P → IsPermutation (rows_of_spots S P) xs → IsPermutation (rows_of_spots L.museum L.posted) xs
-same_spots S P L xs museum list perm =
-    subst (λ (T : Museum). IsPermutation (rows_of_spots T L.posted) xs) (sym museum) (subst (λ (Q : List Entry). IsPermutation (rows_of_spots S Q) xs) (sym list) perm)
+-- the rows of a list, as a ledger with it has them
+pub same_rows : (S : Museum) (P : List Entry) (L : Book) (c : Content) → L.museum ≡ S → L.posted ≡ P → HasRows S P c → HasRows L.museum L.posted c
+same_rows S P L c museum list has = subst (λ (T : Museum). HasRows T L.posted c) (sym museum) (subst (λ (Q : List Entry). HasRows S Q c) (sym list) has)
 
 -- binding leaves the postings
 pub list_bound : (S : Museum) (c : Content) (P : List Entry) → HasList P c → HasList P (bound_to S c)

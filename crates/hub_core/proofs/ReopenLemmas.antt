@@ -12,7 +12,7 @@ use Rattle.posting_core.specs.Book.{Book}
 use Rattle.posting_core.specs.Lawful.{Follows, IsLawful}
 use Rattle.register_store.specs.declared.store_fault.StoreFault.{StoreFault}
 use Rattle.register_store.specs.declared.store_fault.StoreFault.TheVariants.{NoMemory, Store, OtherSetup, Damaged, OtherVersion}
-use Rattle.register_store.specs.StoredRows.{Content, MetaRow, PostingRow, IsPostingRow, ArePostings, IsStoreOf, rows_of_meta, rows_of_spots}
+use Rattle.register_store.specs.StoredRows.{Content, MetaRow, PostingRow, IsPostingRow, ArePostings, HasRows, IsStoreOf, rows_of_meta}
 use Rattle.register_store.specs.Registers.{is_failure, is_new, bound_by, bound_to, has_other_version, IsOfStation, IsFirstWrong}
 use Rattle.register_store.proofs.OneList.{as_many, one_list}
 use Rattle.station_core.specs.Runs.{Arrived}
@@ -21,7 +21,7 @@ use Rattle.hub_core.proofs.StoreLemmas.{one_depth}
 use Rattle.hub_core.proofs.StopLemmas.{Either}
 use Rattle.hub_core.specs.Points.{entry_of, post}
 use Rattle.hub_core.specs.StandsFor.{HasStore, HasSomeStore}
-use Rattle.hub_core.specs.Openings.{IsFirstUnlawful, HasWrongRow, HasWrongEntry, HasWrongSpots, IsOpenFault, OpensAgain}
+use Rattle.hub_core.specs.Openings.{IsFirstUnlawful, HasWrongRow, HasWrongEntry, HasOtherRows, IsOpenFault, OpensAgain}
 
 -- what each row of a lawful list tells
 record IsOfList (stations most : ℕ) (row : PostingRow) : Type 0 where
@@ -94,10 +94,10 @@ module _ (S : Museum) (depth : ℕ) (P : List Entry) (c : Content) (law : IsLawf
       let wrong : IsFirstUnlawful S depth P at = subst (λ d. IsFirstUnlawful S d P at) limit (subst (λ (O : List Entry). IsFirstUnlawful S h.depth O at) list h.wrong) in
       wrong.wrong (follows_in S depth wrong.before wrong.after wrong.entry (subst (IsLawful S depth) wrong.all law))
 
-  no_wrong_spots : (at : ℕ) → HasWrongSpots S c at → ⊥
-  no_wrong_spots at h =
+  no_other_rows : (at : ℕ) → HasOtherRows S c at → ⊥
+  no_other_rows at h =
       let list : h.entries ≡ P = one_list h.entries P c h.list store.list in
-      h.wrong (subst (λ (O : List Entry). IsPermutation (rows_of_spots S O) c.spots) (sym list) store.spots)
+      h.wrong (subst (λ (O : List Entry). HasRows S O c) (sym list) store.rows)
 
 -- the store of a lawful list has none of the causes
 pub opens : (S : Museum) (depth : ℕ) (P : List Entry) (c : Content) (fault : StoreFault) → IsLawful S depth P → IsStoreOf S depth P c → IsOpenFault S c fault → is_failure fault ≡ true
@@ -108,7 +108,7 @@ opens S depth P c OtherSetup law store h = absurd (h.1 store.bound.setup)
 opens S depth P c (Damaged at) law store (inl h) = absurd (h.3 (depth, store.bound.limit, store.bound.meta))
 opens S depth P c (Damaged at) law store (inr (inl h)) = absurd (no_wrong_row S depth P c law store at (subst (λ (d : Content). HasWrongRow S d at) (stays S depth P c law store) h))
 opens S depth P c (Damaged at) law store (inr (inr (inl h))) = absurd (no_wrong_entry S depth P c law store at (subst (λ (d : Content). HasWrongEntry S d at) (stays S depth P c law store) h))
-opens S depth P c (Damaged at) law store (inr (inr (inr h))) = absurd (no_wrong_spots S depth P c law store at (subst (λ (d : Content). HasWrongSpots S d at) (stays S depth P c law store) h))
+opens S depth P c (Damaged at) law store (inr (inr (inr h))) = absurd (no_other_rows S depth P c law store at (subst (λ (d : Content). HasOtherRows S d at) (stays S depth P c law store) h))
 
 module _ {R : Type 0} (quiet : R → Type 0) (holds : R → Content → Type 0) where
   -- a register with the book's list

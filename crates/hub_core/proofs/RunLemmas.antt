@@ -10,7 +10,7 @@ use Rattle.posting_core.specs.declared.entry.Entry.{Entry}
 use Rattle.register_store.specs.declared.plain.TheConstants.{NEW_DEPTH}
 use Rattle.register_store.specs.declared.store_fault.StoreFault.{StoreFault}
 use Rattle.register_store.specs.declared.store_fault.StoreFault.TheVariants as store
-use Rattle.register_store.specs.StoredRows.{Content, MetaRow, AreSame, HasList, rows_of_meta, rows_of_spots}
+use Rattle.register_store.specs.StoredRows.{Content, MetaRow, AreSame, HasList, HasRows, rows_of_meta}
 use Rattle.register_store.specs.Registers.{bound_to}
 use Rattle.register_store.specs.Plain.{Kept}
 use Rattle.register_store.proofs.OneList.{as_many}
@@ -31,7 +31,7 @@ use Rattle.hub_core.proofs.ReplayLemmas.{whole_input}
 
 -- nothing kept
 abbrev pub nothing : Content
-nothing = record { setup = []; meta = []; postings = []; spots = [] }
+nothing = record { setup = []; meta = []; postings = []; spots = []; lines = []; terms = [] }
 
 -- a list of nothing is empty
 no_entries : (P : List Entry) (c : Content) → c.postings ≡ [] → HasList P c → length P ≡ 0
@@ -58,7 +58,8 @@ only_memory S (store.Damaged at) (inr (inr (inl wrong))) count =
     absurd (omega (arith, length-append wrong.wrong.after (wrong.wrong.entry ∷ wrong.wrong.before)))
 only_memory S (store.Damaged at) (inr (inr (inr wrong))) count =
     let none = nil_from_length wrong.entries (no_entries wrong.entries (bound_to S nothing) refl wrong.list) in
-    absurd (wrong.wrong (subst (λ P. IsPermutation (rows_of_spots S P) []) (sym none) (IsPermutation-refl [])))
+    let has : HasRows S [] (bound_to S nothing) = record { spots = IsPermutation-refl []; lines = IsPermutation-refl []; terms = IsPermutation-refl [] } in
+    absurd (wrong.wrong (subst (λ P. HasRows S P (bound_to S nothing)) (sym none) has))
 
 abbrev Quiet : Kept → Type 0
 Quiet register = ⊤

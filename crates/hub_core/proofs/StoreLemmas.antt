@@ -1,5 +1,5 @@
 -- What a register has of a posted list, after one more posting.
-use Rattle.std.proofs.Common.{◌≡◌, ℕ, ◌+◌, List, ◌∷◌, ◌++◌, length, Result, Ok, Err, ◌⊎◌, inl, inr, ap, ◌∙◌, sym, subst, arith}
+use Rattle.std.proofs.Common.{◌≡◌, ℕ, ◌+◌, if◌then◌else◌, List, [], ◌∷◌, ◌++◌, length, Result, Ok, Err, ◌⊎◌, inl, inr, ap, ◌∙◌, sym, subst, arith}
 use Rattle.std.specs.Prelude.{reverse}
 use Rattle.std.specs.List.Sorted.{IsPermutation}
 use Rattle.std.specs.Result.{OnErr}
@@ -9,30 +9,41 @@ use Rattle.posting_core.specs.declared.message.Message.{Message}
 use Rattle.posting_core.specs.declared.entry.Entry.{Entry}
 use Rattle.posting_core.specs.declared.entry.Changes.{Changes}
 use Rattle.posting_core.specs.declared.entry.NewSpot.{NewSpot}
-use Rattle.posting_core.specs.Book.{Book, changes_of}
+use Rattle.posting_core.specs.declared.entry.NewLine.{NewLine}
+use Rattle.posting_core.specs.Book.{Book, changes_of, new_lines}
+use Rattle.posting_core.specs.Lawful.{Follows, IsLawful}
+use Rattle.posting_core.specs.VerdictNames.{is_applied}
 use Rattle.station_core.specs.Runs.{Arrived}
-use Rattle.register_store.specs.StoredRows.{Content, MetaRow, PostingRow, IsPostingRow, IsStoreOf, written, rows_of_meta, rows_of_spots, with_posted}
+use Rattle.register_store.specs.StoredRows.{Content, MetaRow, PostingRow, IsPostingRow, IsStoreOf, written, rows_of_meta, rows_of_spots, rows_of_lines, put_lines, with_posted}
+use Rattle.register_store.proofs.LineRows.{next_lines}
+use Rattle.register_store.proofs.TermRows.{next_terms}
 use Rattle.hub_core.specs.Points.{entry_of, post}
 use Rattle.hub_core.specs.declared.answer.HubFault.{HubFault}
 use Rattle.hub_core.specs.Faults.{CountsStore, CountsUp}
 
 -- the rows of a list, with one more entry
-store_next : (S : Museum) (depth : ℕ) (P : List Entry) (e : Entry) (row : PostingRow) (spots : List NewSpot) (c : Content)
-    → IsPostingRow (length P + 1) e row → written S P e ≡ spots → IsStoreOf S depth P c → IsStoreOf S depth (e ∷ P) (with_posted row spots c)
-store_next S depth P e row spots c is wrote store = record {
+store_next : (S : Museum) (depth : ℕ) (P : List Entry) (e : Entry) (row : PostingRow) (changes : Changes) (c : Content)
+    → IsLawful S depth P → Follows S depth P e → IsPostingRow (length P + 1) e row → written S P e ≡ changes.spots → (if is_applied e.verdict then new_lines S P e.message else []) ≡ changes.lines
+    → IsStoreOf S depth P c → IsStoreOf S depth (e ∷ P) (with_posted row e changes c)
+store_next S depth P e row changes c lawful follows is wrote lined store = record {
   bound = record { setup = store.bound.setup; meta = store.bound.meta; limit = store.bound.limit };
   list = record { rows = row ∷ store.list.rows; each = (is, store.list.each); all = IsPermutation-cons row _ _ store.list.all };
-  spots = subst (λ (xs : List NewSpot). IsPermutation (rows_of_spots S (e ∷ P)) (reverse xs ++ c.spots)) wrote (IsPermutation-append_right (reverse (written S P e)) _ _ store.spots);
+  rows = record {
+    spots = subst (λ (xs : List NewSpot). IsPermutation (rows_of_spots S (e ∷ P)) (reverse xs ++ c.spots)) wrote (IsPermutation-append_right (reverse (written S P e)) _ _ store.rows.spots);
+    lines = subst (λ (ls : List NewLine). IsPermutation (rows_of_lines S (e ∷ P)) (put_lines ls c.lines)) lined (next_lines S depth P e c.lines follows lawful store.rows.lines);
+    terms = next_terms S depth P e c.terms follows lawful store.rows.terms;
+  };
 }
 
 -- where the changes are those of the message
-pub store_posted : (L : Book) (r : Arrived Message) (changes : Changes) (row : PostingRow) (c : Content)
+pub store_posted : (L : Book) (r : Arrived Message) (changes : Changes) (row : PostingRow) (c : Content) → IsLawful L.museum L.depth L.posted → Follows L.museum L.depth L.posted (entry_of L.museum L.depth L.posted r)
     → changes ≡ changes_of L r.message → IsPostingRow changes.entry (record { station = r.station; n = r.n; message = r.message; verdict = changes.verdict }) row → IsStoreOf L.museum L.depth L.posted c
-    → IsStoreOf L.museum L.depth (post L.museum L.depth L.posted r) (with_posted row changes.spots c)
-store_posted L r changes row c planned is store =
-    store_next L.museum L.depth L.posted (entry_of L.museum L.depth L.posted r) row changes.spots c
+    → IsStoreOf L.museum L.depth (post L.museum L.depth L.posted r) (with_posted row (record { station = r.station; n = r.n; message = r.message; verdict = changes.verdict }) changes c)
+store_posted L r changes row c lawful follows planned is store =
+    subst (λ v. IsStoreOf L.museum L.depth (post L.museum L.depth L.posted r) (with_posted row (record { station = r.station; n = r.n; message = r.message; verdict = v }) changes c)) (ap (λ (x : Changes). x.verdict) (sym planned))
+    (store_next L.museum L.depth L.posted (entry_of L.museum L.depth L.posted r) row changes c lawful follows
     (subst (λ (x : Changes). IsPostingRow x.entry (record { station = r.station; n = r.n; message = r.message; verdict = x.verdict }) row) planned is)
-    (ap (λ (x : Changes). x.spots) (sym planned)) store
+    (ap (λ (x : Changes). x.spots) (sym planned)) (ap (λ (x : Changes). x.lines) (sym planned)) store)
 
 -- a store says one depth limit
 pub one_depth : (d e : ℕ) → IsPermutation (rows_of_meta d) (rows_of_meta e) → d ≡ e
@@ -40,30 +51,33 @@ one_depth d e same = let sums = sum_by-IsPermutation (λ (row : MetaRow). row.va
 
 module _ {R : Type 0} (holds : R → Content → Type 0) where
   abbrev HasRow : R → Entry → Changes → Content → Type 0
-  HasRow register e changes c = (row : PostingRow) × IsPostingRow changes.entry e row × holds register (with_posted row changes.spots c)
+  HasRow register e changes c = (row : PostingRow) × IsPostingRow changes.entry e row × holds register (with_posted row e changes c)
 
   -- what the register has of the book after the posting
-  pub stored_in : (register : R) (L : Book) (r : Arrived Message) (changes : Changes) (c : Content) → changes ≡ changes_of L r.message → IsStoreOf L.museum L.depth L.posted c
+  pub stored_in : (register : R) (L : Book) (r : Arrived Message) (changes : Changes) (c : Content) → IsLawful L.museum L.depth L.posted → Follows L.museum L.depth L.posted (entry_of L.museum L.depth L.posted r)
+      → changes ≡ changes_of L r.message → IsStoreOf L.museum L.depth L.posted c
       → HasRow register (record { station = r.station; n = r.n; message = r.message; verdict = changes.verdict }) changes c
       → (d : Content) × holds register d × IsStoreOf L.museum L.depth (post L.museum L.depth L.posted r) d
-  stored_in register L r changes c planned store row = (with_posted row.0 changes.spots c, row.2, store_posted L r changes row.0 c planned row.1 store)
+  stored_in register L r changes c lawful follows planned store row = (with_posted row.0 (record { station = r.station; n = r.n; message = r.message; verdict = changes.verdict }) changes c, row.2, store_posted L r changes row.0 c lawful follows planned row.1 store)
 
   -- and after a posting that failed
-  pub left_in : (register : R) (L : Book) (r : Arrived Message) (changes : Changes) (c : Content) → changes ≡ changes_of L r.message → IsStoreOf L.museum L.depth L.posted c
+  pub left_in : (register : R) (L : Book) (r : Arrived Message) (changes : Changes) (c : Content) → IsLawful L.museum L.depth L.posted → Follows L.museum L.depth L.posted (entry_of L.museum L.depth L.posted r)
+      → changes ≡ changes_of L r.message → IsStoreOf L.museum L.depth L.posted c
       → holds register c ⊎ HasRow register (record { station = r.station; n = r.n; message = r.message; verdict = changes.verdict }) changes c
       → (d : Content) × holds register d × (IsStoreOf L.museum L.depth L.posted d ⊎ IsStoreOf L.museum L.depth (post L.museum L.depth L.posted r) d)
-  left_in register L r changes c planned store (inl same) = (c, same, inl store)
-  left_in register L r changes c planned store (inr row) = (with_posted row.0 changes.spots c, row.2, inr (store_posted L r changes row.0 c planned row.1 store))
+  left_in register L r changes c lawful follows planned store (inl same) = (c, same, inl store)
+  left_in register L r changes c lawful follows planned store (inr row) = (with_posted row.0 (record { station = r.station; n = r.n; message = r.message; verdict = changes.verdict }) changes c, row.2, inr (store_posted L r changes row.0 c lawful follows planned row.1 store))
 
   -- the same, of the ledger after it
-  pub stored_book : (register : R) (L L' : Book) (r : Arrived Message) (changes : Changes) (c : Content) → changes ≡ changes_of L r.message → IsStoreOf L.museum L.depth L.posted c
+  pub stored_book : (register : R) (L L' : Book) (r : Arrived Message) (changes : Changes) (c : Content) → IsLawful L.museum L.depth L.posted → Follows L.museum L.depth L.posted (entry_of L.museum L.depth L.posted r)
+      → changes ≡ changes_of L r.message → IsStoreOf L.museum L.depth L.posted c
       → L' ≡ record L { posted = record { station = r.station; n = r.n; message = r.message; verdict = changes.verdict } ∷ L.posted }
       → HasRow register (record { station = r.station; n = r.n; message = r.message; verdict = changes.verdict }) changes c
       → (d : Content) × holds register d × IsStoreOf L'.museum L'.depth L'.posted d
-  stored_book register L L' r changes c planned store is row =
+  stored_book register L L' r changes c lawful follows planned store is row =
       let same : record L { posted = record { station = r.station; n = r.n; message = r.message; verdict = changes.verdict } ∷ L.posted } ≡ record L { posted = post L.museum L.depth L.posted r } =
       ap (λ (x : Changes). record L { posted = record { station = r.station; n = r.n; message = r.message; verdict = x.verdict } ∷ L.posted }) planned in
-      subst (λ (b : Book). (d : Content) × holds register d × IsStoreOf b.museum b.depth b.posted d) (sym (is ∙ same)) (stored_in register L r changes c planned store row)
+      subst (λ (b : Book). (d : Content) × holds register d × IsStoreOf b.museum b.depth b.posted d) (sym (is ∙ same)) (stored_in register L r changes c lawful follows planned store row)
 
 pub on_err : {T E P : Type 0} (r : Result T E) → P → OnErr r P
 on_err (Ok x) p = tt

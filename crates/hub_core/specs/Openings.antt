@@ -1,6 +1,5 @@
 -- Why a store can't be opened.
 use Rattle.std.specs.Prelude.{ℕ, ◌≡◌, ◌⊎◌, ◌+◌, ◌==◌, ◌&&◌, nat_le, not, All, Bool, true, false, List, ◌∷◌, ◌++◌, length, Option, Some, None, Err}
-use Rattle.std.specs.List.Sorted.{IsPermutation}
 use Rattle.nest_core.specs.Museum.{Museum}
 use Rattle.posting_core.specs.declared.entry.Entry.{Entry}
 use Rattle.posting_core.specs.Lawful.{Follows, IsLawful}
@@ -8,7 +7,7 @@ use Rattle.station_core.specs.declared.Start.{Start}
 use Rattle.station_core.specs.declared.TheConstants.{LAST}
 use Rattle.register_store.specs.declared.store_fault.StoreFault.{StoreFault}
 use Rattle.register_store.specs.declared.store_fault.StoreFault.TheVariants.{NoMemory, Store, OtherSetup, Damaged, OtherVersion}
-use Rattle.register_store.specs.StoredRows.{Content, IsBoundTo, HasList, rows_of_spots}
+use Rattle.register_store.specs.StoredRows.{Content, IsBoundTo, HasList, HasRows}
 use Rattle.register_store.specs.Registers.{CountsRefusal, is_failure, IsBindFault, IsOfStation, IsFirstWrong, bound_to}
 
 -- entry number `at` is the first that may not follow those before it
@@ -55,15 +54,15 @@ pub record HasWrongEntry (S : Museum) (c : Content) (at : ℕ) : Type 0 where
   pub stationed : All (IsOfStation (length S.stations)) entries
   pub wrong : IsFirstUnlawful S depth entries at
 
--- it has a lawful list of entries, and its spots aren't those of looking back
-pub record HasWrongSpots (S : Museum) (c : Content) (at : ℕ) : Type 0 where
+-- it has a lawful list of entries, and its rows of spots, of lines and of last days aren't those of looking back
+pub record HasOtherRows (S : Museum) (c : Content) (at : ℕ) : Type 0 where
   pub zero : at ≡ 0
   pub depth : ℕ
   pub bound : IsBoundTo S depth c
   pub entries : List Entry
   pub list : HasList entries c
   pub lawful : IsLawful S depth entries
-  pub wrong : IsPermutation (rows_of_spots S entries) c.spots → ⊥
+  pub wrong : HasRows S entries c → ⊥
 
 -- why a store can't be opened with a setup: each cause comes where none before it holds
 abbrev pub IsOpenFault : Museum → Content → StoreFault → Type 0
@@ -73,7 +72,7 @@ IsOpenFault S c OtherVersion = IsBindFault S c OtherVersion
 IsOpenFault S c OtherSetup = IsBindFault S c OtherSetup
 IsOpenFault S c (Damaged at) =
     IsBindFault S c (Damaged at)
-    ⊎ (HasWrongRow S (bound_to S c) at ⊎ (HasWrongEntry S (bound_to S c) at ⊎ HasWrongSpots S (bound_to S c) at))
+    ⊎ (HasWrongRow S (bound_to S c) at ⊎ (HasWrongEntry S (bound_to S c) at ⊎ HasOtherRows S (bound_to S c) at))
 
 -- where the register is quiet, nothing but want of memory, or a store that refuses, keeps it from being opened with the setup
 abbrev pub OpensAgain : {R : Type 0} → (R → Type 0) → (R → Content → Type 0) → R → Museum → Type 0

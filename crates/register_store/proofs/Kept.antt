@@ -1,28 +1,36 @@
 -- What the rows of a register in memory keep of what was there.
-use Rattle.std.proofs.Common.{◌≡◌, ◌≢◌, ◌↔◌, ℕ, Bool, true, false, true≢false, List, [], ◌∷◌, ◌++◌, map, reverse, Option, Some, None, Vec, String, string_bytes, MatchOption, Result, Ok, Err, IfErr, refl, sym, subst, ap, ◌∙◌, arith}
+use Rattle.std.proofs.Common.{◌≡◌, ◌≢◌, ◌↔◌, ◌&&◌, ℕ, ℤ, Bool, true, false, true≢false, List, [], ◌∷◌, ◌++◌, map, reverse, Option, Some, None, Vec, String, string_bytes, MatchOption, Result, Ok, Err, IfErr, OnErr, ◌⊎◌, inl, refl, sym, subst, ap, ◌∙◌, arith}
 use Rattle.std.specs.declared.alloc.Global.{Global}
 use Rattle.std.specs.Bool.{Decides}
+use Rattle.std.proofs.lemmas.Bool.{and_parts}
 use Rattle.std.proofs.lemmas.Bool.Decides.{not_from_Decides}
 use Rattle.std.proofs.lemmas.List.{reverse-append}
 use Rattle.std.specs.List.Sorted.{IsPermutation, IsNonDecreasingBy}
-use Rattle.std.proofs.lemmas.List.Sorted.{IsPermutation-refl, IsPermutation-sym, IsPermutation-trans, IsPermutation-cons, IsPermutation-append_right, IsPermutation-reverse, length_permutation}
+use Rattle.std.proofs.lemmas.List.Sorted.{IsPermutation-refl, IsPermutation-sym, IsPermutation-trans, IsPermutation-cons, IsPermutation-append_right, IsPermutation-reverse, IsPermutation-map as map-IsPermutation, length_permutation}
+use Rattle.sqlite_keyed.proofs.ListLemmas.{map_back}
 use Rattle.nest_core.specs.Museum.{Museum}
 use Rattle.nest_core.specs.SetupTexts.{setup_rows}
 use Rattle.posting_core.specs.declared.entry.Entry.{Entry}
+use Rattle.posting_core.specs.declared.entry.Changes.{Changes}
+use Rattle.posting_core.specs.declared.entry.NewLine.{NewLine}
 use Rattle.posting_core.specs.declared.entry.NewSpot.{NewSpot}
+use Rattle.posting_core.specs.declared.stage.LineStage.{LineStage}
+use Rattle.register_store.specs.declared.loan_rows.LineKey.{LineKey}
 use Rattle.register_store.specs.declared.store_fault.StoreFault.{StoreFault}
 use Rattle.register_store.specs.declared.store_fault.StoreFault.TheVariants.{NoMemory, Store, OtherSetup, Damaged, OtherVersion}
-use Rattle.register_store.specs.StoredRows.{Content, MetaRow, PostingRow, AreSame, numbered, rows_of_setup, rows_of_meta, IsBoundTo, rows_by_thing, rows_of_spots, with_posted}
+use Rattle.register_store.specs.StoredRows.{Content, MetaRow, PostingRow, TermRow, AreSame, HasRows, numbered, rows_of_setup, rows_of_meta, IsBoundTo, rows_by_thing, rows_of_spots, rows_of_lines, rows_of_terms, put_lines, term_of, with_posted}
 use Rattle.register_store.specs.Registers.{is_new, bound_by, bound_to, IsBindFault, IsWrongAt, IsListFault}
-use Rattle.register_store.specs.Plain.{texts_of, meta_of}
+use Rattle.register_store.specs.Plain.{texts_of, meta_of, line_rows, term_rows}
 use Rattle.register_store.proofs.OneList.{one_setup}
 use Rattle.register_store.proofs.SpotRows.{looking_back}
+use Rattle.register_store.proofs.LineRows.{put_lines_same}
+use Rattle.register_store.proofs.TermRows.{with_term, with_term_same}
 
 pub same_itself : (c : Content) → AreSame c c
-same_itself c = record { setup = IsPermutation-refl c.setup; meta = IsPermutation-refl c.meta; postings = IsPermutation-refl c.postings; spots = IsPermutation-refl c.spots }
+same_itself c = record { setup = IsPermutation-refl c.setup; meta = IsPermutation-refl c.meta; postings = IsPermutation-refl c.postings; spots = IsPermutation-refl c.spots; lines = IsPermutation-refl c.lines; terms = IsPermutation-refl c.terms }
 
 pub same_back : (c d : Content) → AreSame c d → AreSame d c
-same_back c d h = record { setup = IsPermutation-sym _ _ h.setup; meta = IsPermutation-sym _ _ h.meta; postings = IsPermutation-sym _ _ h.postings; spots = IsPermutation-sym _ _ h.spots }
+same_back c d h = record { setup = IsPermutation-sym _ _ h.setup; meta = IsPermutation-sym _ _ h.meta; postings = IsPermutation-sym _ _ h.postings; spots = IsPermutation-sym _ _ h.spots; lines = IsPermutation-sym _ _ h.lines; terms = IsPermutation-sym _ _ h.terms }
 
 pub same_then : (c d e : Content) → AreSame c d → AreSame d e → AreSame c e
 same_then c d e h k = record {
@@ -30,15 +38,19 @@ same_then c d e h k = record {
   meta = IsPermutation-trans _ _ _ h.meta k.meta;
   postings = IsPermutation-trans _ _ _ h.postings k.postings;
   spots = IsPermutation-trans _ _ _ h.spots k.spots;
+  lines = IsPermutation-trans _ _ _ h.lines k.lines;
+  terms = IsPermutation-trans _ _ _ h.terms k.terms;
 }
 
 -- one more posting on both sides
-pub same_posted : (c d : Content) (row : PostingRow) (spots : List NewSpot) → AreSame c d → AreSame (with_posted row spots c) (with_posted row spots d)
-same_posted c d row spots h = record {
+pub same_posted : (c d : Content) (row : PostingRow) (e : Entry) (changes : Changes) → AreSame c d → AreSame (with_posted row e changes c) (with_posted row e changes d)
+same_posted c d row e changes h = record {
   setup = h.setup;
   meta = h.meta;
   postings = IsPermutation-cons row _ _ h.postings;
-  spots = IsPermutation-append_right (reverse spots) _ _ h.spots;
+  spots = IsPermutation-append_right (reverse changes.spots) _ _ h.spots;
+  lines = put_lines_same changes.lines c.lines d.lines h.lines;
+  terms = with_term_same (term_of e) c.terms d.terms h.terms;
 }
 
 -- lists in another order, and turned round
@@ -54,53 +66,57 @@ not_new [] h = absurd (omega (arith, length_permutation _ _ h))
 not_new (row ∷ rows) h = refl
 
 -- a register in memory of these fields
-abbrev pub content_of : Option (Vec (String Global) Global) → List PostingRow → List NewSpot → Content
-content_of texts postings spots = record { setup = numbered (reverse (texts_of texts)); meta = meta_of texts; postings = postings; spots = spots }
+abbrev pub content_of : Option (Vec (String Global) Global) → List PostingRow → List NewSpot → List NewLine → List TermRow → Content
+content_of texts postings spots lines terms = record { setup = numbered (reverse (texts_of texts)); meta = meta_of texts; postings = postings; spots = spots; lines = lines; terms = terms }
 
 -- it takes a setup where it is new, or has this one
-pub bound_kept : (S : Museum) (o : Option (Vec (String Global) Global)) (texts : Vec (String Global) Global) (postings : List PostingRow) (spots : List NewSpot) (K d : Content)
-    → map string_bytes texts.items ≡ setup_rows S → MatchOption o (Unit {0}) (λ old. map string_bytes old.items ≡ map string_bytes texts.items) → K ≡ content_of o postings spots → AreSame K d
-    → AreSame (content_of (Some texts) postings spots) (bound_to S d)
-bound_kept S None texts postings spots K d rows fits is h =
-    let same : AreSame (content_of None postings spots) d = subst (λ (c : Content). AreSame c d) is h in
+pub bound_kept : (S : Museum) (o : Option (Vec (String Global) Global)) (texts : Vec (String Global) Global) (postings : List PostingRow) (spots : List NewSpot) (lines : List NewLine) (terms : List TermRow) (K d : Content)
+    → map string_bytes texts.items ≡ setup_rows S → MatchOption o (Unit {0}) (λ old. map string_bytes old.items ≡ map string_bytes texts.items) → K ≡ content_of o postings spots lines terms → AreSame K d
+    → AreSame (content_of (Some texts) postings spots lines terms) (bound_to S d)
+bound_kept S None texts postings spots lines terms K d rows fits is h =
+    let same : AreSame (content_of None postings spots lines terms) d = subst (λ (c : Content). AreSame c d) is h in
     let new : is_new d.meta ≡ true = ap is_new (none_more d.meta same.meta) in
-    subst (λ b. AreSame (content_of (Some texts) postings spots) (bound_by b S d)) (sym new) (record {
+    subst (λ b. AreSame (content_of (Some texts) postings spots lines terms) (bound_by b S d)) (sym new) (record {
       setup = subst (λ l. IsPermutation (numbered (reverse l)) (rows_of_setup S)) (sym rows) (IsPermutation-refl (rows_of_setup S));
       meta = IsPermutation-refl (rows_of_meta 12);
       postings = same.postings;
       spots = same.spots;
+      lines = same.lines;
+      terms = same.terms;
     })
-bound_kept S (Some old) texts postings spots K d rows fits is h =
-    let same : AreSame (content_of (Some old) postings spots) d = subst (λ (c : Content). AreSame c d) is h in
-    subst (λ b. AreSame (content_of (Some texts) postings spots) (bound_by b S d)) (sym (not_new d.meta same.meta)) (record {
+bound_kept S (Some old) texts postings spots lines terms K d rows fits is h =
+    let same : AreSame (content_of (Some old) postings spots lines terms) d = subst (λ (c : Content). AreSame c d) is h in
+    subst (λ b. AreSame (content_of (Some texts) postings spots lines terms) (bound_by b S d)) (sym (not_new d.meta same.meta)) (record {
       setup = subst (λ l. IsPermutation (numbered (reverse l)) d.setup) fits same.setup;
       meta = same.meta;
       postings = same.postings;
       spots = same.spots;
+      lines = same.lines;
+      terms = same.terms;
     })
 
 -- it is bound
-pub bound_now : (S : Museum) (texts : Vec (String Global) Global) (postings : List PostingRow) (spots : List NewSpot) (d : Content)
-    → map string_bytes texts.items ≡ setup_rows S → AreSame (content_of (Some texts) postings spots) d → IsBoundTo S 12 d
-bound_now S texts postings spots d rows h = record { setup = subst (λ l. IsPermutation (numbered (reverse l)) d.setup) rows h.setup; meta = h.meta; limit = refl }
+pub bound_now : (S : Museum) (texts : Vec (String Global) Global) (postings : List PostingRow) (spots : List NewSpot) (lines : List NewLine) (terms : List TermRow) (d : Content)
+    → map string_bytes texts.items ≡ setup_rows S → AreSame (content_of (Some texts) postings spots lines terms) d → IsBoundTo S 12 d
+bound_now S texts postings spots lines terms d rows h = record { setup = subst (λ l. IsPermutation (numbered (reverse l)) d.setup) rows h.setup; meta = h.meta; limit = refl }
 
 -- it has another setup
-pub other_setup : (S : Museum) (old texts : Vec (String Global) Global) (postings : List PostingRow) (spots : List NewSpot) (K d : Content)
-    → map string_bytes texts.items ≡ setup_rows S → (map string_bytes old.items ≡ map string_bytes texts.items → ⊥) → K ≡ content_of (Some old) postings spots → AreSame K d
+pub other_setup : (S : Museum) (old texts : Vec (String Global) Global) (postings : List PostingRow) (spots : List NewSpot) (lines : List NewLine) (terms : List TermRow) (K d : Content)
+    → map string_bytes texts.items ≡ setup_rows S → (map string_bytes old.items ≡ map string_bytes texts.items → ⊥) → K ≡ content_of (Some old) postings spots lines terms → AreSame K d
     → IsBindFault S d OtherSetup
-other_setup S old texts postings spots K d rows differ is h =
-    let same : AreSame (content_of (Some old) postings spots) d = subst (λ (c : Content). AreSame c d) is h in (
+other_setup S old texts postings spots lines terms K d rows differ is h =
+    let same : AreSame (content_of (Some old) postings spots lines terms) d = subst (λ (c : Content). AreSame c d) is h in (
       (12, refl, same.meta),
       λ alike. differ (sym (one_setup (setup_rows S) (map string_bytes old.items) (IsPermutation-trans _ _ _ alike (IsPermutation-sym _ _ same.setup))) ∙ sym rows),
     )
 
 -- what `bind` finds out of its texts
-pub refused_setup : (S : Museum) (o : Option (Vec (String Global) Global)) (texts : Vec (String Global) Global) (items : List (String Global)) (postings : List PostingRow) (spots : List NewSpot)
+pub refused_setup : (S : Museum) (o : Option (Vec (String Global) Global)) (texts : Vec (String Global) Global) (items : List (String Global)) (postings : List PostingRow) (spots : List NewSpot) (lines : List NewLine) (terms : List TermRow)
     (K d : Content) (r : Bool) → map string_bytes texts.items ≡ setup_rows S → items ≡ texts.items → MatchOption o (r ≡ true) (λ old. Decides r (map string_bytes old.items ≡ map string_bytes items)) → r ≡ false
-    → K ≡ content_of o postings spots → AreSame K d → IsBindFault S d OtherSetup
-refused_setup S None texts items postings spots K d r rows at told differs is h = absurd (true≢false (sym told ∙ differs))
-refused_setup S (Some old) texts items postings spots K d r rows at told differs is h =
-    other_setup S old texts postings spots K d rows (λ e. not_from_Decides r told differs (e ∙ ap (map string_bytes) (sym at))) is h
+    → K ≡ content_of o postings spots lines terms → AreSame K d → IsBindFault S d OtherSetup
+refused_setup S None texts items postings spots lines terms K d r rows at told differs is h = absurd (true≢false (sym told ∙ differs))
+refused_setup S (Some old) texts items postings spots lines terms K d r rows at told differs is h =
+    other_setup S old texts postings spots lines terms K d rows (λ e. not_from_Decides r told differs (e ∙ ap (map string_bytes) (sym at))) is h
 
 pub fitted : (o : Option (Vec (String Global) Global)) (texts : Vec (String Global) Global) (items : List (String Global)) (r : Bool) → items ≡ texts.items
     → MatchOption o (r ≡ true) (λ old. Decides r (map string_bytes old.items ≡ map string_bytes items)) → r ≡ true → MatchOption o (Unit {0}) (λ old. map string_bytes old.items ≡ map string_bytes texts.items)
@@ -108,49 +124,89 @@ fitted None texts items r at told fits = tt
 fitted (Some old) texts items r at told fits = told.0 fits ∙ ap (map string_bytes) at
 
 -- one more posting at the end of the kept rows
-pub posted_same : (o : Option (Vec (String Global) Global)) (ps more : List PostingRow) (ss longer news : List NewSpot) (row : PostingRow) (K d : Content)
-    → more ≡ ps ++ row ∷ [] → longer ≡ ss ++ news → K ≡ content_of o (reverse ps) (reverse ss) → AreSame K d → AreSame (content_of o (reverse more) (reverse longer)) (with_posted row news d)
-posted_same o ps more ss longer news row K d pushed extended is h =
-    let same : AreSame (content_of o (reverse ps) (reverse ss)) d = subst (λ (c : Content). AreSame c d) is h in
+pub posted_same : (o : Option (Vec (String Global) Global)) (ps more : List PostingRow) (ss longer : List NewSpot) (ls new_ls : List NewLine) (ts new_ts : List TermRow) (row : PostingRow) (e : Entry) (changes : Changes) (K d : Content)
+    → more ≡ ps ++ row ∷ [] → longer ≡ ss ++ changes.spots → IsPermutation new_ls (put_lines changes.lines ls) → IsPermutation new_ts (with_term (term_of e) ts)
+    → K ≡ content_of o (reverse ps) (reverse ss) ls ts → AreSame K d → AreSame (content_of o (reverse more) (reverse longer) new_ls new_ts) (with_posted row e changes d)
+posted_same o ps more ss longer ls new_ls ts new_ts row e changes K d pushed extended lined dated is h =
+    let same : AreSame (content_of o (reverse ps) (reverse ss) ls ts) d = subst (λ (c : Content). AreSame c d) is h in
     record {
       setup = same.setup;
       meta = same.meta;
       postings = subst (λ l. IsPermutation l (row ∷ d.postings)) (sym (ap reverse pushed ∙ reverse-append ps (row ∷ []))) (IsPermutation-cons row _ _ same.postings);
-      spots = subst (λ l. IsPermutation l (reverse news ++ d.spots)) (sym (ap reverse extended ∙ reverse-append ss news)) (IsPermutation-append_right (reverse news) _ _ same.spots);
+      spots = subst (λ l. IsPermutation l (reverse changes.spots ++ d.spots)) (sym (ap reverse extended ∙ reverse-append ss changes.spots)) (IsPermutation-append_right (reverse changes.spots) _ _ same.spots);
+      lines = IsPermutation-trans _ _ _ lined (put_lines_same changes.lines ls d.lines same.lines);
+      terms = IsPermutation-trans _ _ _ dated (with_term_same (term_of e) ts d.terms same.terms);
     }
 
+-- growths alone leave what is held
+pub left_as_was : {T E : Type 0} (r : Result T E) (Q : Content → Type 0) (o : Option (Vec (String Global) Global)) (ps ps' : List PostingRow) (ss ss' : List NewSpot) (ks ks' : List (LineKey × LineStage)) (ts ts' : List (List ℕ × ℤ)) (K : Content)
+    → K ≡ content_of o (reverse ps) (reverse ss) (line_rows ks) (term_rows ts) → ps' ≡ ps → ss' ≡ ss → ks' ≡ ks → ts' ≡ ts
+    → OnErr r ((d : Content) → AreSame K d → AreSame (content_of o (reverse ps') (reverse ss') (line_rows ks') (term_rows ts')) d ⊎ Q d)
+left_as_was (Ok x) Q o ps ps' ss ss' ks ks' ts ts' K is p s k t = tt
+left_as_was (Err e) Q o ps ps' ss ss' ks ks' ts ts' K is p s k t = λ d h. inl (rw (p, s, k, t) (subst (λ (c : Content). AreSame c d) is h))
+
 -- the same rows in another order are held as before
-pub reordered : (o : Option (Vec (String Global) Global)) (ps ps' : List PostingRow) (ss ss' : List NewSpot) (K d : Content) → IsPermutation ps ps' → IsPermutation ss ss' → K ≡ content_of o (reverse ps) (reverse ss)
-    → AreSame K d ↔ AreSame (content_of o (reverse ps') (reverse ss')) d
-reordered o ps ps' ss ss' K d p s is =
-    let now : AreSame (content_of o (reverse ps) (reverse ss)) (content_of o (reverse ps') (reverse ss')) =
-    record { setup = IsPermutation-refl _; meta = IsPermutation-refl _; postings = turned_same ps ps' p; spots = turned_same ss ss' s } in (
+pub reordered : (o : Option (Vec (String Global) Global)) (ps ps' : List PostingRow) (ss ss' : List NewSpot) (lines : List NewLine) (terms : List TermRow) (K d : Content) → IsPermutation ps ps' → IsPermutation ss ss'
+    → K ≡ content_of o (reverse ps) (reverse ss) lines terms → AreSame K d ↔ AreSame (content_of o (reverse ps') (reverse ss') lines terms) d
+reordered o ps ps' ss ss' lines terms K d p s is =
+    let now : AreSame (content_of o (reverse ps) (reverse ss) lines terms) (content_of o (reverse ps') (reverse ss') lines terms) = record {
+      setup = IsPermutation-refl _;
+      meta = IsPermutation-refl _;
+      postings = turned_same ps ps' p;
+      spots = turned_same ss ss' s;
+      lines = IsPermutation-refl _;
+      terms = IsPermutation-refl _;
+    } in (
       λ h. same_then _ _ _ (same_back _ _ now) (subst (λ (c : Content). AreSame c d) is h),
       λ h. subst (λ (c : Content). AreSame c d) (sym is) (same_then _ _ _ now h),
     )
 
 -- why its rows are no list
-pub listed_fault : (r : Result (Vec Entry Global) StoreFault) (stations stations' : ℕ) (rows items : List PostingRow) (o : Option (Vec (String Global) Global)) (spots : List NewSpot) → stations' ≡ stations → items ≡ rows
+pub listed_fault : (r : Result (Vec Entry Global) StoreFault) (stations stations' : ℕ) (rows items : List PostingRow) (o : Option (Vec (String Global) Global)) (spots : List NewSpot) (lines : List NewLine) (terms : List TermRow) → stations' ≡ stations → items ≡ rows
     → IsNonDecreasingBy (λ row. row.id) rows → IfErr r (λ fault. fault ≢ NoMemory → (at : ℕ) × (fault ≡ Damaged at) × IsWrongAt stations at items)
-    → IfErr r (λ fault. (d : Content) → AreSame (content_of o (reverse rows) spots) d → IsListFault stations' d fault)
-listed_fault (Ok entries) stations stations' rows items o spots st at order wrong = tt
-listed_fault (Err NoMemory) stations stations' rows items o spots st at order wrong = λ d h. tt
-listed_fault (Err Store) stations stations' rows items o spots st at order wrong = λ d h. tt
-listed_fault (Err OtherSetup) stations stations' rows items o spots st at order wrong = absurd (let w = wrong (λ e. cc) in let e = w.1 in cc)
-listed_fault (Err OtherVersion) stations stations' rows items o spots st at order wrong = absurd (let w = wrong (λ e. cc) in let e = w.1 in cc)
-listed_fault (Err (Damaged i)) stations stations' rows items o spots st at order wrong = λ d h.
+    → IfErr r (λ fault. (d : Content) → AreSame (content_of o (reverse rows) spots lines terms) d → IsListFault stations' d fault)
+listed_fault (Ok entries) stations stations' rows items o spots lines terms st at order wrong = tt
+listed_fault (Err NoMemory) stations stations' rows items o spots lines terms st at order wrong = λ d h. tt
+listed_fault (Err Store) stations stations' rows items o spots lines terms st at order wrong = λ d h. tt
+listed_fault (Err OtherSetup) stations stations' rows items o spots lines terms st at order wrong = absurd (let w = wrong (λ e. cc) in let e = w.1 in cc)
+listed_fault (Err OtherVersion) stations stations' rows items o spots lines terms st at order wrong = absurd (let w = wrong (λ e. cc) in let e = w.1 in cc)
+listed_fault (Err (Damaged i)) stations stations' rows items o spots lines terms st at order wrong = λ d h.
     let w = wrong (λ e. cc) in
     let e = w.1 in
     let same : w.0 ≡ i = cc in
     let first : IsWrongAt stations' i rows = subst (λ l. IsWrongAt stations' i l) at (subst (λ n. IsWrongAt n i items) (sym st) (subst (λ n. IsWrongAt stations n items) same w.2)) in
     record { rows = rows; all = IsPermutation-trans _ _ _ (IsPermutation-reverse rows) h.postings; order = order; first = first }
 
--- whether the wanted rows are there
-pub told_by : (r : Bool) (S : Museum) (P : List Entry) (wanted sorted : List NewSpot) (o : Option (Vec (String Global) Global)) (postings : List PostingRow) (d : Content) → wanted ≡ rows_by_thing S P
-    → Decides r (IsPermutation wanted sorted) → AreSame (content_of o postings (reverse sorted)) d → Decides r (IsPermutation (rows_of_spots S P) d.spots)
-told_by r S P wanted sorted o postings d is told h =
+-- whether the wanted rows of spots are there
+spots_told : (r : Bool) (S : Museum) (P : List Entry) (wanted sorted spots : List NewSpot) → wanted ≡ rows_by_thing S P → Decides r (IsPermutation wanted sorted) → IsPermutation (reverse sorted) spots
+    → Decides r (IsPermutation (rows_of_spots S P) spots)
+spots_told r S P wanted sorted spots is told held =
     let written : IsPermutation wanted (rows_of_spots S P) = subst (λ l. IsPermutation l (rows_of_spots S P)) (sym is) (looking_back S P) in
-    let kept : IsPermutation sorted d.spots = IsPermutation-trans _ _ _ (IsPermutation-reverse sorted) h.spots in (
+    let kept : IsPermutation sorted spots = IsPermutation-trans _ _ _ (IsPermutation-reverse sorted) held in (
       λ yes. IsPermutation-trans _ _ _ (IsPermutation-sym _ _ written) (IsPermutation-trans _ _ _ (told.0 yes) kept),
       λ alike. told.1 (IsPermutation-trans _ _ _ written (IsPermutation-trans _ _ _ alike (IsPermutation-sym _ _ kept))),
+    )
+
+-- the same of pairs and the rows that they stand for
+pairs_told : {A R : Type 0} (row : A → R) (pair : R → A) → ((a : A) → pair (row a) ≡ a) → (r : Bool) (wanted kept : List A) (rows held : List R) → map row wanted ≡ rows → Decides r (IsPermutation wanted kept)
+    → IsPermutation (map row kept) held → Decides r (IsPermutation rows held)
+pairs_told row pair back r wanted kept rows held is told same = (
+  λ yes. subst (λ l. IsPermutation l held) is (IsPermutation-trans _ _ _ (map-IsPermutation row wanted kept (told.0 yes)) same),
+  λ alike.
+      let rowed : IsPermutation (map row wanted) (map row kept) = IsPermutation-trans _ _ _ (subst (λ l. IsPermutation l held) (sym is) alike) (IsPermutation-sym _ _ same) in
+      told.1 (subst (λ l. IsPermutation l kept) (map_back row pair back wanted) (subst (IsPermutation (map pair (map row wanted))) (map_back row pair back kept) (map-IsPermutation pair _ _ rowed))),
+)
+
+pub told_by : (a b c : Bool) (S : Museum) (P : List Entry) (wanted sorted : List NewSpot) (lines kept_lines : List (LineKey × LineStage)) (terms kept_terms : List (List ℕ × ℤ)) (o : Option (Vec (String Global) Global))
+    (postings : List PostingRow) (d : Content) → wanted ≡ rows_by_thing S P → line_rows lines ≡ rows_of_lines S P → term_rows terms ≡ rows_of_terms P
+    → Decides a (IsPermutation wanted sorted) → Decides b (IsPermutation lines kept_lines) → Decides c (IsPermutation terms kept_terms)
+    → AreSame (content_of o postings (reverse sorted) (line_rows kept_lines) (term_rows kept_terms)) d → Decides (a && (b && c)) (HasRows S P d)
+told_by a b c S P wanted sorted lines kept_lines terms kept_terms o postings d is lined dated has_spots has_lines has_terms h =
+    let spots = spots_told a S P wanted sorted d.spots is has_spots h.spots in
+    let of_lines : Decides b (IsPermutation (rows_of_lines S P) d.lines) =
+    pairs_told (λ e. let l : NewLine = record { loan = e.0.loan; object = e.0.object; stage = e.1 } in l) (λ l. let k : LineKey = record { loan = l.loan; object = l.object } in (k, l.stage)) (λ e. refl) b lines kept_lines (rows_of_lines S P) d.lines lined has_lines h.lines in
+    let of_terms : Decides c (IsPermutation (rows_of_terms P) d.terms) =
+    pairs_told (λ e. let t : TermRow = record { loan = e.0; day = e.1 } in t) (λ t. (t.loan, t.day)) (λ e. refl) c terms kept_terms (rows_of_terms P) d.terms dated has_terms h.terms in (
+      λ yes. let first = and_parts a (b && c) yes in let rest = and_parts b c first.1 in record { spots = spots.0 first.0; lines = of_lines.0 rest.0; terms = of_terms.0 rest.1 },
+      λ has. rw (spots.1 has.spots, of_lines.1 has.lines, of_terms.1 has.terms) refl,
     )

@@ -4,10 +4,17 @@ pub mod RoundTrip
 pub mod Lists
 pub mod OneList
 pub mod ListedRows
+pub mod PutRows
+pub mod LineRows
+pub mod LineKeys
+pub mod KeptPairs
+pub mod TermRows
+pub mod LedgerRows
 pub mod SpotRows
 pub mod SpotOrder
 pub mod Kept
 pub mod Keeping
 pub mod WholeLists
 mod WorkedTexts
-mod WorkedRows
+pub mod WorkedRows
+mod WorkedLoans

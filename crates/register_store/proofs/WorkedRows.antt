@@ -5,7 +5,7 @@ use Rattle.std.specs.Str.{is_utf8, chars, bytes_eq}
 use Rattle.std.proofs.Math.Utf8.{encode}
 use Rattle.std.proofs.lemmas.List.Elements.{All-from_recursion}
 use Rattle.std.specs.List.Sorted.{IsPermutation, IsNonDecreasingBy}
-use Rattle.std.proofs.lemmas.List.Sorted.{IsPermutation-reverse, IsPermutation-append_comm, IsNonDecreasingBy-short, IsNonDecreasingBy-push, length_permutation}
+use Rattle.std.proofs.lemmas.List.Sorted.{IsPermutation-refl, IsPermutation-reverse, IsPermutation-append_comm, IsNonDecreasingBy-short, IsNonDecreasingBy-push, length_permutation}
 use Rattle.sqlite_trees.proofs.ListLemmas.{all-permutation}
 use Rattle.sqlite_keyed.proofs.ListLemmas.{IsPermutation-filter}
 use Rattle.jiff_core.specs.Calendar.{days_from_civil, day_count, days_of_years, days_of_months}
@@ -18,6 +18,7 @@ use Rattle.posting_core.specs.declared.message.Message.{Message}
 use Rattle.posting_core.specs.declared.message.Message.TheVariants.{Move}
 use Rattle.posting_core.specs.declared.verdict.Verdict.{Verdict}
 use Rattle.posting_core.specs.declared.verdict.Verdict.TheVariants.{Applied, ElsewherePlace}
+use Rattle.posting_core.specs.declared.entry.Changes.{Changes}
 use Rattle.posting_core.specs.declared.entry.Entry.{Entry}
 use Rattle.posting_core.specs.declared.entry.NewSpot.{NewSpot}
 use Rattle.register_store.specs.declared.store_fault.StoreFault.TheVariants.{NoMemory, Store, OtherSetup, Damaged, OtherVersion}
@@ -28,7 +29,7 @@ use Rattle.register_store.proofs.OneList.{all_verdicts, of_number}
 use Rattle.register_store.proofs.WorkedTexts.{may, may-spelled, first_move, first_text, ann, spaced_text, begins}
 
 -- two stations, three places of the museum's own and two partners', two crates, three own objects and a borrowed one
-abbrev museum : Museum
+abbrev pub museum : Museum
 museum = record {
   stations = codes "PACK" ∷ codes "GAL" ∷ [];
   places = (codes "S1", true) ∷ (codes "S1-A", true) ∷ (codes "S2", true) ∷ (codes "MUSEUM-X", false) ∷ (codes "LENDER-Y", false) ∷ [];
@@ -36,7 +37,7 @@ museum = record {
 }
 
 -- numbers in it
-abbrev pack : ℕ
+abbrev pub pack : ℕ
 pack = 0
 
 abbrev gal : ℕ
@@ -51,10 +52,10 @@ s1_a = 1
 abbrev s2 : ℕ
 s2 = 2
 
-abbrev object_1 : ℕ
+abbrev pub object_1 : ℕ
 object_1 = 2
 
-abbrev object_2 : ℕ
+abbrev pub object_2 : ℕ
 object_2 = 3
 
 -- setup_row_text: the setup's rows with their numbers, the last first
@@ -93,7 +94,7 @@ depths = refl
 
 -- held_then_posted: three entries of GAL, and what they wrote
 
-abbrev entry : ℕ → ℕ → Message → Verdict → Entry
+abbrev pub entry : ℕ → ℕ → Message → Verdict → Entry
 entry station n m v = record { station = station; n = n; message = m; verdict = v }
 
 abbrev spot : ℕ → ℕ → ℕ → ℕ → NewSpot
@@ -146,10 +147,10 @@ abbrev row_3 : PostingRow
 row_3 = posting 3 gal 3 (codes "{\"day\":\"2024-05-01\",\"kind\":\"move\",\"place\":\"S1-A\",\"thing\":\"2001.4.1\"}") 0
 
 abbrev new : Content
-new = record { setup = []; meta = []; postings = []; spots = [] }
+new = record { setup = []; meta = []; postings = []; spots = []; lines = []; terms = [] }
 
 abbrev bound : Content
-bound = record { setup = setup_down; meta = meta 2 12; postings = []; spots = [] }
+bound = record { setup = setup_down; meta = meta 2 12; postings = []; spots = []; lines = []; terms = [] }
 
 new-bound : bound_to museum new ≡ bound
 new-bound = refl
@@ -158,8 +159,13 @@ new-bound = refl
 abbrev posted : Content
 posted = record bound { postings = row_3 ∷ row_2 ∷ row_1 ∷ []; spots = spots_down }
 
+-- what an applied entry changes that is of no loan
+abbrev pub moving : ℕ → List NewSpot → Changes
+moving number spots = record { entry = number; verdict = Applied; spots = spots; lines = [] }
+
 three-posted :
-    with_posted row_3 (spot object_1 2 3 s1_a ∷ []) (with_posted row_2 (spot object_2 1 2 s2 ∷ []) (with_posted row_1 (spot object_1 1 1 s1 ∷ []) (bound_to museum new))) ≡ posted
+    with_posted row_3 entry_3 (moving 3 (spot object_1 2 3 s1_a ∷ []))
+    (with_posted row_2 entry_2 (moving 2 (spot object_2 1 2 s2 ∷ [])) (with_posted row_1 entry_1 (moving 1 (spot object_1 1 1 s1 ∷ [])) (bound_to museum new))) ≡ posted
 three-posted = refl
 
 -- an old store stays, whatever it is bound to
@@ -174,6 +180,8 @@ in_tables = record {
   meta = reverse (meta 2 12);
   postings = row_1 ∷ row_2 ∷ row_3 ∷ [];
   spots = spots_by_thing;
+  lines = [];
+  terms = [];
 }
 
 first_kept : IsPostingRow 1 entry_1 row_1
@@ -195,7 +203,11 @@ held_then_posted-stored : IsStoreOf museum 12 held_then_posted in_tables
 held_then_posted-stored = record {
   bound = record { setup = IsPermutation-reverse setup_down; meta = IsPermutation-reverse (meta 2 12); limit = refl };
   list = held_then_posted-listed;
-  spots = IsPermutation-append_comm (spot object_1 2 3 s1_a ∷ spot object_2 1 2 s2 ∷ []) (spot object_1 1 1 s1 ∷ []);
+  rows = record {
+    spots = IsPermutation-append_comm (spot object_1 2 3 s1_a ∷ spot object_2 1 2 s2 ∷ []) (spot object_1 1 1 s1 ∷ []);
+    lines = IsPermutation-refl [];
+    terms = IsPermutation-refl [];
+  };
 }
 
 held_then_posted-same : AreSame posted in_tables
@@ -203,7 +215,9 @@ held_then_posted-same = record {
   setup = IsPermutation-reverse setup_down;
   meta = IsPermutation-reverse (meta 2 12);
   postings = IsPermutation-reverse (row_3 ∷ row_2 ∷ row_1 ∷ []);
-  spots = held_then_posted-stored.spots;
+  spots = held_then_posted-stored.rows.spots;
+  lines = IsPermutation-refl [];
+  terms = IsPermutation-refl [];
 }
 
 -- why a store can't be bound

@@ -1,7 +1,14 @@
 -- What a register in memory keeps.
-use Rattle.std.specs.Prelude.{ℕ, Bool, List, [], map, Option, Some, None, Vec, String, string_bytes}
+use Rattle.std.specs.Prelude.{ℕ, ℤ, Bool, false, List, [], map, Option, Some, None, Vec, String, string_bytes}
+use Rattle.std.specs.List.{flat_map}
+use Rattle.std.specs.Map.{lookup}
+use Rattle.std.specs.Option.{option_map, option_map_or, option_to_list}
 use Rattle.std.specs.declared.alloc.Global.{Global}
-use Rattle.register_store.specs.StoredRows.{Content, MetaRow, rows_of_meta}
+use Rattle.posting_core.specs.Book.{Book, line_in, last_day_in}
+use Rattle.posting_core.specs.declared.entry.NewLine.{NewLine}
+use Rattle.posting_core.specs.declared.stage.LineStage.{LineStage}
+use Rattle.register_store.specs.declared.loan_rows.LineKey.{LineKey}
+use Rattle.register_store.specs.StoredRows.{Content, MetaRow, TermRow, rows_of_meta}
 
 -- the rows, whether a setup is bound to it, and how many stations that has
 pub record Kept : Type 0 where
@@ -18,3 +25,23 @@ texts_of (Some texts) = map string_bytes texts.items
 abbrev pub meta_of : Option (Vec (String Global) Global) → List MetaRow
 meta_of None = []
 meta_of (Some texts) = rows_of_meta 12
+
+-- the lines that are kept by loan and object
+abbrev pub line_rows : List (LineKey × LineStage) → List NewLine
+line_rows kept = map (λ e. record { loan = e.0.loan; object = e.0.object; stage = e.1 }) kept
+
+-- the last days that are kept by loan
+abbrev pub term_rows : List (List ℕ × ℤ) → List TermRow
+term_rows kept = map (λ e. record { loan = e.0; day = e.1 }) kept
+
+-- the lines of a loan with these objects
+abbrev pub lines_of_loan : Book → List ℕ → List ℕ → List NewLine
+lines_of_loan B loan os = flat_map (λ o. option_to_list (option_map (λ s. record { loan = loan; object = o; stage = s }) (line_in B loan o))) os
+
+-- the last day of a loan
+abbrev pub day_of_loan : Book → List ℕ → List TermRow
+day_of_loan B loan = option_to_list (option_map (λ day. record { loan = loan; day = day }) (last_day_in B loan))
+
+-- the key of the pair is kept, with its value
+abbrev pub is_kept : {K V : Type 0} → (K → K → Bool) → (V → V → Bool) → List (K × V) → K × V → Bool
+is_kept same_key same_value kept pair = option_map_or (λ value. same_value value pair.1) (lookup (same_key pair.0) kept) false

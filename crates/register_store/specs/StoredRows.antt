@@ -1,16 +1,23 @@
 -- What a register keeps of a posted list, row by row. Rows stand newest first; a store may hold them in any order.
-use Rattle.std.specs.Prelude.{ℕ, ◌≡◌, ◌+◌, ◌==◌, ◌||◌, Bool, true, Ok, List, [], ◌∷◌, ◌++◌, length, reverse, if◌then◌else◌, codes}
+use Rattle.std.specs.Prelude.{ℕ, ℤ, ◌≡◌, ◌+◌, ◌==◌, ◌&&◌, ◌||◌, Bool, true, not, Ok, List, [], ◌∷◌, ◌++◌, length, map, filter, reverse, Option, None, Some, if◌then◌else◌, codes}
 use Rattle.std.specs.List.{flat_map, range_with_len}
 use Rattle.std.specs.List.Sorted.{IsPermutation}
+use Rattle.std.specs.Option.{option_map_or}
+use Rattle.std.specs.Str.{bytes_eq}
 use Rattle.nest_core.specs.Museum.{Museum}
 use Rattle.nest_core.specs.SetupTexts.{setup_rows}
+use Rattle.posting_core.specs.declared.entry.Changes.{Changes}
 use Rattle.posting_core.specs.declared.entry.Entry.{Entry}
-use Rattle.posting_core.specs.declared.entry.Spot.{Spot}
+use Rattle.posting_core.specs.declared.entry.NewLine.{NewLine}
 use Rattle.posting_core.specs.declared.entry.NewSpot.{NewSpot}
-use Rattle.posting_core.specs.History.{spots}
-use Rattle.posting_core.specs.VerdictNames.{is_applied}
-use Rattle.posting_core.specs.VerdictNames.{verdict_number}
+use Rattle.posting_core.specs.declared.entry.Spot.{Spot}
+use Rattle.posting_core.specs.declared.message.Message.{Message}
+use Rattle.posting_core.specs.declared.message.Message.TheVariants.{Move, Pack, Agree, Authorise, Exit, Return, Receive, SignOff, Extend}
+use Rattle.posting_core.specs.Agreements.{Agreement, agreements, last_from}
 use Rattle.posting_core.specs.Book.{new_spots}
+use Rattle.posting_core.specs.History.{spots}
+use Rattle.posting_core.specs.Loans.{objects_of, stage}
+use Rattle.posting_core.specs.VerdictNames.{is_applied, verdict_number}
 use Rattle.register_store.specs.Kinds.{of_bytes}
 use Rattle.register_store.specs.MessageText.{IsTextOf}
 
@@ -32,12 +39,20 @@ pub record PostingRow : Type 0 where
   pub body : List ℕ
   pub verdict : ℕ
 
--- all rows of a store; a spot's row is the thing, the number of the spot in the thing's list, and the spot
+-- a loan with its last day
+pub record TermRow : Type 0 where
+  pub loan : List ℕ
+  pub day : ℤ
+
+-- all rows of a store; a spot's row is the thing, the number of the spot in the thing's list, and the spot; a line's row
+-- is the loan, the object, and the stage that it has come to
 pub record Content : Type 0 where
   pub setup : List SetupRow
   pub meta : List MetaRow
   pub postings : List PostingRow
   pub spots : List NewSpot
+  pub lines : List NewLine
+  pub terms : List TermRow
 
 -- the same rows, in some order
 pub record AreSame (c d : Content) : Type 0 where
@@ -45,6 +60,8 @@ pub record AreSame (c d : Content) : Type 0 where
   pub meta : IsPermutation c.meta d.meta
   pub postings : IsPermutation c.postings d.postings
   pub spots : IsPermutation c.spots d.spots
+  pub lines : IsPermutation c.lines d.lines
+  pub terms : IsPermutation c.terms d.terms
 
 -- each text with its number, the last first
 abbrev pub numbered : List (List ℕ) → List SetupRow
@@ -96,6 +113,18 @@ rows_of_thing x k (spot ∷ spots) = record { thing = x; k = k; spot = spot } �
 abbrev pub rows_by_thing : Museum → List Entry → List NewSpot
 rows_by_thing S P = flat_map (λ x. rows_of_thing x 1 (spots S P x)) (range_with_len 0 (length S.things))
 
+-- the lines of an agreement, each at its stage
+abbrev pub rows_of_agreement : Museum → List Entry → Agreement → List NewLine
+rows_of_agreement S P t = map (λ o. record { loan = t.loan; object = o; stage = stage S P t.loan o }) (objects_of S t)
+
+-- the lines of all loans, by looking back
+abbrev pub rows_of_lines : Museum → List Entry → List NewLine
+rows_of_lines S P = flat_map (rows_of_agreement S P) (agreements P)
+
+-- the last days of all loans, by looking back
+abbrev pub rows_of_terms : List Entry → List TermRow
+rows_of_terms P = map (λ t. record { loan = t.loan; day = last_from P t.loan t.last }) (agreements P)
+
 -- the store has this list of entries
 pub record HasList (P : List Entry) (c : Content) : Type 0 where
   pub rows : List PostingRow
@@ -108,12 +137,56 @@ pub record IsBoundTo (S : Museum) (depth : ℕ) (c : Content) : Type 0 where
   pub meta : IsPermutation (rows_of_meta depth) c.meta
   pub limit : is_depth depth ≡ true
 
+-- its rows of spots, lines and terms are those of looking back
+pub record HasRows (S : Museum) (P : List Entry) (c : Content) : Type 0 where
+  pub spots : IsPermutation (rows_of_spots S P) c.spots
+  pub lines : IsPermutation (rows_of_lines S P) c.lines
+  pub terms : IsPermutation (rows_of_terms P) c.terms
+
 -- the stored rows of a posted list
 pub record IsStoreOf (S : Museum) (depth : ℕ) (P : List Entry) (c : Content) : Type 0 where
   pub bound : IsBoundTo S depth c
   pub list : HasList P c
-  pub spots : IsPermutation (rows_of_spots S P) c.spots
+  pub rows : HasRows S P c
 
--- one more posting, with the spots that it wrote
-abbrev pub with_posted : PostingRow → List NewSpot → Content → Content
-with_posted row spots c = record c { postings = row ∷ c.postings; spots = reverse spots ++ c.spots }
+-- rows of the same object under the same loan
+abbrev pub is_same_line : NewLine → NewLine → Bool
+is_same_line l k = bytes_eq l.loan k.loan && (l.object == k.object)
+
+-- a line in place of the row of its loan and object, if there is one
+abbrev pub put_line : NewLine → List NewLine → List NewLine
+put_line l rows = l ∷ filter (λ k. not (is_same_line l k)) rows
+
+-- each of the lines in turn
+abbrev pub put_lines : List NewLine → List NewLine → List NewLine
+put_lines [] rows = rows
+put_lines (l ∷ ls) rows = put_lines ls (put_line l rows)
+
+-- a last day in place of the loan's row, if there is one
+abbrev pub put_term : TermRow → List TermRow → List TermRow
+put_term t rows = t ∷ filter (λ u. not (bytes_eq t.loan u.loan)) rows
+
+-- the last day that a message says
+abbrev pub term_in : Message → Option TermRow
+term_in (Move x p day) = None
+term_in (Pack x c day) = None
+term_in (Agree loan partner objects first last) = Some (record { loan = loan; day = last })
+term_in (Authorise loan name) = None
+term_in (Exit x loan day) = None
+term_in (Return x loan p day) = None
+term_in (Receive x loan p day) = None
+term_in (SignOff name) = None
+term_in (Extend loan last) = Some (record { loan = loan; day = last })
+
+-- the last day that an entry gives a loan
+abbrev pub term_of : Entry → Option TermRow
+term_of e = if is_applied e.verdict then term_in e.message else None
+
+-- one more posting: its spots are added, its lines and its last day take the place of those before
+abbrev pub with_posted : PostingRow → Entry → Changes → Content → Content
+with_posted row e changes c = record c {
+  postings = row ∷ c.postings;
+  spots = reverse changes.spots ++ c.spots;
+  lines = put_lines changes.lines c.lines;
+  terms = option_map_or (λ t. put_term t c.terms) (term_of e) c.terms;
+}

@@ -6,6 +6,9 @@ mod field;
 mod key;
 pub mod laws;
 mod loan_reader;
+mod loan_rows;
+#[cfg(test)]
+mod loan_tests;
 mod loan_writer;
 mod member;
 mod message_reader;

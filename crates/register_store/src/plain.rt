@@ -1,19 +1,21 @@
 //! A register in memory.
-ghost use Rattle.std.specs.Prelude.{◌≡◌, ◌≢◌, ◌↔◌, ◌⊎◌, ◌+◌, ◌∷◌, ◌++◌, [], ℕ, true, false, length, map, reverse, take, All, MatchOption, IfOk, IfErr, OnOk, OnErr, string_bytes};
+ghost use Rattle.std.specs.Prelude.{◌≡◌, ◌≢◌, ◌↔◌, ◌⊎◌, ◌&&◌, ◌+◌, ◌∷◌, ◌++◌, [], ℕ, true, false, length, map, reverse, take, All, MatchOption, IfOk, IfErr, OnOk, OnErr, string_bytes};
 ghost use Rattle.std.specs.Bool.{Decides};
 ghost use Rattle.std.specs.List.Sorted.{IsPermutation, IsNonDecreasingBy};
 ghost use Rattle.std.specs.declared.cmp.Ordering.TheVariants.{Less};
 ghost use Rattle.sqlite_trees.specs.Tree.{IsAscending};
 ghost use Rattle.posting_core.specs.declared.entry.Entry.{Entry};
 ghost use Rattle.nest_core.specs.SetupTexts.{setup_rows};
-ghost use Rattle.register_store.specs.StoredRows.{Content, IsBoundTo, HasList, IsPostingRow, ArePostings, rows_of_spots, rows_of_thing, rows_by_thing, with_posted};
+ghost use Rattle.register_store.specs.StoredRows.{Content, IsBoundTo, HasList, HasRows, IsPostingRow, ArePostings, rows_of_thing, rows_by_thing, with_posted};
 ghost use Rattle.register_store.specs.Registers.{CountsRefusal, is_failure, bound_to, IsBindFault, IsOfStation, IsListFault, IsWrongAt};
 
+use crate::loan_rows::{LineKey, has_all, lines_of, put_lines, put_term, terms_of};
 use crate::rows::{PostingRow, entry_of, is_same, row_of};
 use crate::{Register, StoreFault};
-use codes_core::NoMemory;
+use codes_core::{Day, LoanCode, NoMemory};
+use indexmap::IndexMap;
 use nest_core::{Setup, ThingNo};
-use posting_core::{Changes, Entry, Ledger, NewSpot, Spot};
+use posting_core::{Changes, Entry, Ledger, LineStage, NewSpot, Spot};
 use std::alloc::Global;
 use std::marker::Model;
 
@@ -27,19 +29,28 @@ pub struct PlainRegister {
     setup: Option<Vec<String>>,
     postings: Vec<PostingRow>,
     spots: Vec<NewSpot>,
+    lines: IndexMap<LineKey, LineStage>,
+    terms: IndexMap<LoanCode, Day>,
     bound: bool,
     stations: u32,
 }
 
 impl Model for PlainRegister {
     ghost use Rattle.std.specs.Prelude.{reverse};
-    ghost use Rattle.register_store.specs.Plain.{Kept, texts_of, meta_of};
+    ghost use Rattle.register_store.specs.Plain.{Kept, texts_of, meta_of, line_rows, term_rows};
     ghost use Rattle.register_store.specs.StoredRows.{numbered};
 
     ghost Value = { Kept };
 
     ghost view = { λ r. record {
-      content = record { setup = numbered (reverse (texts_of r.setup)); meta = meta_of r.setup; postings = reverse r.postings.items; spots = reverse r.spots.items };
+      content = record {
+        setup = numbered (reverse (texts_of r.setup));
+        meta = meta_of r.setup;
+        postings = reverse r.postings.items;
+        spots = reverse r.spots.items;
+        lines = line_rows r.lines.entries;
+        terms = term_rows r.terms.entries;
+      };
       bound = r.bound;
       stations = r.stations;
     } };
@@ -50,12 +61,14 @@ impl PlainRegister {
 
     /// A new store, with nothing kept and no setup bound. Takes no memory.
     pub fn new(alloc: Global) -> PlainRegister
-        ensures { result ≡ record { content = record { setup = []; meta = []; postings = []; spots = [] }; bound = false; stations = 0 } }
+        ensures { result ≡ record { content = record { setup = []; meta = []; postings = []; spots = []; lines = []; terms = [] }; bound = false; stations = 0 } }
     {
         PlainRegister {
             setup: None,
             postings: Vec::new(alloc),
             spots: Vec::new(alloc),
+            lines: IndexMap::new(alloc),
+            terms: IndexMap::new(alloc),
             bound: false,
             stations: 0,
         }
@@ -96,16 +109,34 @@ impl Register for PlainRegister {
 
     fn post(&mut self, alloc: Global, entry: &Entry, changes: &Changes) -> Result<(), StoreFault> {
         let row = row_of(alloc, changes.entry, entry)?;
+        let lines = changes.lines.as_slice();
         self.postings.reserve(1)?;
+        self.lines.reserve(lines.len())?;
+        self.terms.reserve(1)?;
         self.spots.extend_from_slice(changes.spots.as_slice())?;
+        put_lines(&mut self.lines, lines);
+        put_term(&mut self.terms, entry);
         self.postings.push(row).unwrap();
         Ok(())
     }
 
     fn agrees(&mut self, alloc: Global, ledger: &Ledger) -> Result<bool, StoreFault> {
-        let wanted = spot_rows(alloc, ledger)?;
-        Ok(has_rows(&mut self.spots, &wanted))
+        let spots = spot_rows(alloc, ledger)?;
+        let lines = lines_of(alloc, ledger)?;
+        let terms = terms_of(alloc, ledger)?;
+        ledger.is_lawful();
+        let same_spots = has_rows(&mut self.spots, &spots);
+        let same_lines = has_all(&self.lines, &lines);
+        let same_terms = has_all(&self.terms, &terms);
+        Ok(are_all(same_spots, same_lines, same_terms))
     }
+}
+
+/// Whether all three are the same.
+fn are_all(spots: bool, lines: bool, terms: bool) -> bool
+    ensures { result ≡ (spots && (lines && terms)) }
+{
+    spots && lines && terms
 }
 
 /// The texts of a setup's rows.

@@ -1,8 +1,7 @@
 //! What keeps a posted list.
 ghost use Rattle.std.specs.Prelude.{◌≡◌, ◌↔◌, ◌⊎◌, ℕ, Bool, true, false, length, reverse, All, IfOk, IfErr, OnOk, OnErr};
 ghost use Rattle.std.specs.Bool.{Decides};
-ghost use Rattle.std.specs.List.Sorted.{IsPermutation};
-ghost use Rattle.register_store.specs.StoredRows.{Content, PostingRow, IsBoundTo, HasList, IsPostingRow, rows_of_spots, with_posted};
+ghost use Rattle.register_store.specs.StoredRows.{Content, PostingRow, IsBoundTo, HasList, HasRows, IsPostingRow, with_posted};
 ghost use Rattle.register_store.specs.Registers.{CountsRefusal, is_failure, is_of_store, is_of_listing, bound_to, IsBindFault, IsOfStation, IsListFault};
 
 use crate::StoreFault;
@@ -10,8 +9,9 @@ use nest_core::Setup;
 use posting_core::{Changes, Entry, Ledger};
 use std::alloc::Global;
 
-/// What keeps a posted list: the setup and the depth limit that it was made with, a row for each entry, and one for
-/// each spot that it wrote.
+/// What keeps a posted list: the setup and the depth limit that it was made with, a row for each entry, one for each
+/// spot that it wrote, one for each object of each loan with the stage that it has come to, and one for each loan with
+/// its last day.
 ///
 /// Contracts speak of every content that the register held before a call, and of what it holds after it, where the
 /// store is quiet.
@@ -64,25 +64,26 @@ pub trait Register {
         ensures count { CountsRefusal (refusals self.old) (refusals self.new) result }
         ensures able { IfErr result (λ fault. is_of_store fault ≡ true → can_refuse ≡ true) };
 
-    /// Adds an entry and the spots of its changes, whole or, where it answers NoMemory or Store, perhaps not at all.
+    /// Adds an entry and the spots of its changes, and puts their lines and the last day that it gives a loan in the
+    /// place of those before, whole or, where it answers NoMemory or Store, perhaps not at all.
     fn post(&mut self, alloc: Global, entry: &Entry, changes: &Changes) -> Result<(), StoreFault>
         requires { is_bound self.old ≡ true }
         ensures quiet { is_quiet self.new → is_quiet self.old }
         ensures posted { is_quiet self.new → OnOk result ((c : Content) → holds self.old c
-            → (row : PostingRow) × IsPostingRow changes.now.entry entry.now row × holds self.new (with_posted row changes.now.spots c)) }
+            → (row : PostingRow) × IsPostingRow changes.now.entry entry.now row × holds self.new (with_posted row entry.now changes.now c)) }
         ensures failed { is_quiet self.new → OnErr result ((c : Content) → holds self.old c → holds self.new c
-            ⊎ ((row : PostingRow) × IsPostingRow changes.now.entry entry.now row × holds self.new (with_posted row changes.now.spots c))) }
+            ⊎ ((row : PostingRow) × IsPostingRow changes.now.entry entry.now row × holds self.new (with_posted row entry.now changes.now c))) }
         ensures faults { IfErr result (λ fault. is_failure fault ≡ true) }
         ensures still { (is_bound self.new ≡ true) × (stations self.new ≡ stations self.old) }
         ensures count { CountsRefusal (refusals self.old) (refusals self.new) result }
         ensures able { IfErr result (λ fault. is_of_store fault ≡ true → can_refuse ≡ true) };
 
-    /// Whether the rows of spots are exactly those of the ledger.
+    /// Whether the rows of spots, of lines and of last days are exactly those of the ledger.
     fn agrees(&mut self, alloc: Global, ledger: &Ledger) -> Result<bool, StoreFault>
         requires { is_bound self.old ≡ true }
         ensures quiet { is_quiet self.new → is_quiet self.old }
         ensures told { is_quiet self.new → IfOk result (λ same. (c : Content) → holds self.new c
-            → Decides same (IsPermutation (rows_of_spots ledger.now.museum ledger.now.posted) c.spots)) }
+            → Decides same (HasRows ledger.now.museum ledger.now.posted c)) }
         ensures there { is_quiet self.new → IfOk result (λ same. same ≡ true → (c : Content) × holds self.new c) }
         ensures faults { IfErr result (λ fault. is_failure fault ≡ true) }
         ensures unchanged { is_quiet self.new → (c : Content) → holds self.old c ↔ holds self.new c }

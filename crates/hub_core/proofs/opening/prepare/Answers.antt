@@ -15,7 +15,7 @@ use Rattle.register_store.specs.StoredRows.{Content}
 use Rattle.register_store.specs.Registers.{CountsRefusal, is_failure, bound_to, IsOfStation}
 use Rattle.hub_core.specs.Openings.{IsOpenFault}
 use Rattle.posting_core.proofs.AppliedRows.{false_true}
-use Rattle.hub_core.proofs.OpenLemmas.{sent, all_start, all_few, same_spots, judge_fault}
+use Rattle.hub_core.proofs.OpenLemmas.{sent, all_start, all_few, same_rows, judge_fault}
 use Rattle.hub_core.proofs.Written.{if_err}
 use Rattle.hub_core.proofs.opening.prepare.Goals as goal
 
@@ -36,8 +36,8 @@ returns-then-not-branch-clause-cause g c calm k had =
       entries = reverse c.in_ok-entries.entries.items;
       list = c.in_ok-entries.ensures.listed calm2 (bound_to S k) listed;
       lawful = law.lawful;
-      wrong = λ perm.
-          let on = told.1 (same_spots S (reverse c.in_ok-entries.entries.items) c.in_ok-starts.ledger _ law.museum law.posted perm) in
+      wrong = λ has.
+          let on = told.1 (same_rows S (reverse c.in_ok-entries.entries.items) c.in_ok-starts.ledger _ law.museum law.posted has) in
           let off = c.if-not-branch.true in
           absurd (false_true (sym off ∙ on));
     })))
