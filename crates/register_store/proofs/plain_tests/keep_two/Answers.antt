@@ -15,9 +15,9 @@ returns g c quiet =
     (λ d here empty.
     let bound = bound_to c.args.setup.now d in
     let one = c.in_ok-post.ensures.posted after_first bound (c.in_ok-bind.ensures.kept after_bind d here) in
-    let kept_one = with_posted one.0 c.args.first_changes.now.spots bound in
+    let kept_one = with_posted one.0 first c.args.first_changes.now bound in
     let two = c.in_ok-post-2.ensures.posted after_second kept_one one.2 in
-    let kept_two = with_posted two.0 c.args.second_changes.now.spots kept_one in
+    let kept_two = with_posted two.0 second c.args.second_changes.now kept_one in
     let held = (c.all.ensures.unchanged quiet kept_two).0 two.2 in
     let rows : kept_two.postings ≡ two.0 ∷ one.0 ∷ [] = ap (λ l. two.0 ∷ one.0 ∷ l) (postings_kept c.args.setup.now d ∙ empty) in
     two_listed c.all.result first second one.0 two.0 kept_two
