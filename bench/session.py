@@ -1,5 +1,5 @@
 #!/usr/bin/env python3
-"""Writes a session to measure the program with: a setup, an empty line, and lines of one station.
+"""Writes a session to measure the program with: a setup, an empty line, and lines, all of one station if not said else.
 
     bench/session.py moves OBJECTS MESSAGES [IDLE]        each message moves the next object, to one place and another
     bench/session.py mixed OBJECTS MESSAGES [IDLE]        the same from four stations by turns, mildly out of order
@@ -96,28 +96,25 @@ def mildly_out_of_order(lines):
 
 def main():
     word, numbers = sys.argv[1], [int(argument) for argument in sys.argv[2:]]
-    places, boxes, stations = "place,S1,inside\nplace,S2,inside", [], ["GAL"]
+    stations, places, boxes = ["GAL"], ["S1,inside", "S2,inside"], []
     if word in ("moves", "mixed"):
         things = objects(0, numbers[0])
         messages, idle = moves(things, numbers[1]), numbers[2:]
     elif word == "loans":
-        places += "\nplace,PARTNER,elsewhere"
+        places.append("PARTNER,elsewhere")
         things = objects(0, numbers[0] * numbers[1])
         messages, idle = loans(things, numbers[0]), numbers[2:]
     else:
         boxes = [f"C{n}" for n in range(1, numbers[0] + 1)]
         things = objects(0, numbers[0] * numbers[1])
         messages, idle = crates(boxes, things, numbers[2]), numbers[3:]
-    if word == "mixed":
-        stations = ["GAL", "PACK", "STORE-A", "STORE-B"]
     lines = numbered(stations, messages)
     if word == "mixed":
-        lines = mildly_out_of_order(lines)
-    print("\n".join(f"station,{station}" for station in stations) + f"\n{places}")
-    for box in boxes:
-        print(f"box,{box}")
-    for thing in things + objects(len(things), sum(idle)):
-        print(f"own,{thing},S1")
+        stations = ["GAL", "PACK", "STORE-A", "STORE-B"]
+        lines = mildly_out_of_order(numbered(stations, messages))
+    own = [f"{thing},S1" for thing in things + objects(len(things), sum(idle))]
+    for kind, rows in [("station", stations), ("place", places), ("box", boxes), ("own", own)]:
+        print("".join(f"{kind},{row}\n" for row in rows), end="")
     print()
     for station, n, message in lines:
         print(f'{{"station":"{station}","n":{n},"message":{{{message}}}}}')

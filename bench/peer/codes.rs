@@ -11,8 +11,8 @@ fn are_digits(text: &[u8], count: usize) -> bool {
     text.len() == count && text.iter().all(u8::is_ascii_digit)
 }
 
-/// A year, then one to three right numbers, then perhaps a letter.
-fn is_object(text: &str) -> bool {
+/// The code of an own object: a year, then one to three right numbers, then perhaps a letter.
+pub fn is_own(text: &str) -> bool {
     let text = text
         .strip_suffix(|last: char| last.is_ascii_lowercase())
         .unwrap_or(text);
@@ -28,12 +28,8 @@ fn is_object(text: &str) -> bool {
     are_digits(year.as_bytes(), 4) && count > 0
 }
 
-pub fn is_own(text: &str) -> bool {
-    is_object(text)
-}
-
 pub fn is_borrowed(text: &str) -> bool {
-    text.strip_prefix('L').is_some_and(is_object)
+    text.strip_prefix('L').is_some_and(is_own)
 }
 
 pub fn is_container(text: &str) -> bool {

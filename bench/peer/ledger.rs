@@ -20,7 +20,7 @@ pub struct Loan {
     is_authorised: bool,
 }
 
-/// A row of the record.
+/// A row of the record. Like a spot it is kept for what that costs: no reply tells it.
 #[allow(dead_code)]
 pub struct Row {
     station: usize,

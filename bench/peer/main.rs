@@ -14,13 +14,14 @@ use std::process::ExitCode;
 
 const LONGEST_HEAD: usize = 8_388_608;
 
-/// Reads a line, of which so many bytes are kept, and tells whether a line feed ended it. Before a read that may wait
-/// the output is flushed.
+/// Reads a line, of which so many bytes are kept, and tells whether a line feed ended it. Where more come, the rest is
+/// skipped, or the fault of a line that is full is told at once. Before a read that may wait the output is flushed.
 fn read_line<R: io::Read>(
     input: &mut BufReader<R>,
     output: &mut impl Write,
     line: &mut Vec<u8>,
     most: usize,
+    when_full: Result<(), &'static str>,
 ) -> Result<bool, &'static str> {
     line.clear();
     loop {
@@ -36,8 +37,8 @@ fn read_line<R: io::Read>(
         if feed.is_some() || taken == 0 {
             return Ok(feed.is_some());
         }
-        if most > LONGEST_HEAD && line.len() == most {
-            return Err("head");
+        if line.len() == most {
+            when_full?;
         }
     }
 }
@@ -50,7 +51,13 @@ fn without_return(line: &[u8]) -> &[u8] {
 fn read_head<R: io::Read>(input: &mut BufReader<R>) -> Result<Vec<u8>, &'static str> {
     let (mut head, mut line) = (Vec::new(), Vec::new());
     loop {
-        let fed = read_line(input, &mut io::sink(), &mut line, LONGEST_HEAD + 2)?;
+        let fed = read_line(
+            input,
+            &mut io::sink(),
+            &mut line,
+            LONGEST_HEAD + 2,
+            Err("head"),
+        )?;
         if without_return(&line).is_empty() {
             return Ok(head);
         }
@@ -73,7 +80,7 @@ fn session() -> Result<(), String> {
     let (mut line, mut said) = (Vec::new(), String::new());
     let mut number = 0;
     loop {
-        let fed = read_line(&mut input, &mut output, &mut line, LONGEST_LINE + 2)?;
+        let fed = read_line(&mut input, &mut output, &mut line, LONGEST_LINE + 2, Ok(()))?;
         number += 1;
         let text = without_return(&line);
         if !text.is_empty() {
