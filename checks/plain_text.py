@@ -1,4 +1,7 @@
-"""What the plain program reads: a setup without fault, and lines with the messages in them."""
+"""What the plain program reads: a setup without fault, and lines with the messages in them.
+
+JSON is read by Python's json, which takes more than the hub does: NaN, 1e999, half a pair of surrogates, and what is
+deeper than 127 levels. The streams have none of these."""
 import csv
 import datetime
 import json
