@@ -1,8 +1,8 @@
 -- A day of the calendar and its number determine each other, and so its text and its number.
 use Rattle.std.specs.Prelude.{◌≡◌, ℕ, ◌<◌, ◌≤◌, ◌&&◌, true, nat_lt, nat_le, List, refl, ℤ, pos, negsuc, ◌≤ℤ◌, unsigned_abs}
-use Rattle.std.proofs.Common.{arith, rules, subst, sym, ◌∙◌}
+use Rattle.std.proofs.Common.{arith, rules, subst, sym, ◌∙◌, to_z, w8, w16}
 use Rattle.std.proofs.lemmas.Bool.Decides.{nat_tests}
-use Rattle.std.proofs.lemmas.Int.{by_lt_z}
+use Rattle.std.proofs.lemmas.Int.{by_lt_z, ints}
 use Rattle.jiff_core.specs.declared.civil.date.Date.{Date}
 use Rattle.jiff_core.specs.Calendar.{day_count, days_from_civil, days_in_month}
 use Rattle.jiff_core.specs.Date.{epoch_day, IsYmd}
@@ -45,8 +45,14 @@ pub record IsMade (d : Date) (y m t : ℕ) : Type 0 where
 civil_true : (y m t k : ℕ) → 0 < y → (1 ≤ m) × (m ≤ 12) → (1 ≤ t) × (t ≤ k) → nat_lt 0 y && nat_lt 0 m && nat_le m 12 && nat_lt 0 t && nat_le t k ≡ true
 civil_true y m t k hy hm ht = grind (arith, nat_tests)
 
-pub made : (d : Date) (y m t : ℕ) → (y ≡ 0 → ⊥) → IsYmd (pos y) (pos m) (pos t) d → IsMade d y m t
-made d y m t some (year, month, date) =
+pub made : (d : Date) (y m t : ℕ) → (y ≡ 0 → ⊥) → (y ≤ 9999) × (m ≤ 99) × (t ≤ 99) → IsYmd (to_z w16 y) (to_z w8 m) (to_z w8 t) d → IsMade d y m t
+made d y m t some few ymd =
+    let year_number : to_z w16 y ≡ pos y = omega (arith, ints, few.0) in
+    let month_number : to_z w8 m ≡ pos m = omega (arith, ints, few.1) in
+    let date_number : to_z w8 t ≡ pos t = omega (arith, ints, few.2) in
+    let year : d.year ≡ pos y = ymd.0 ∙ year_number in
+    let month : pos d.month ≡ pos m = ymd.1 ∙ month_number in
+    let date : pos d.day ≡ pos t = ymd.2 ∙ date_number in
     let m_is : d.month ≡ m = omega (arith, signed_arith) in
     let t_is : d.day ≡ t = omega (arith, signed_arith) in
     let month_in : (1 ≤ m) × (m ≤ 12) = omega (arith, d.month_in) in

@@ -1,8 +1,8 @@
 -- A place's text from segment to segment.
-use Rattle.std.specs.Prelude.{◌≡◌, ℕ, ◌+◌, ◌-◌, ◌<◌, ◌≤◌, ◌==◌, ◌&&◌, Bool, true, false, nat_le, nat_lt, nat_eq, not, cond, List, [], ◌∷◌, length, suc, zero, take, drop, take_while, refl}
+use Rattle.std.specs.Prelude.{◌≡◌, ℕ, ◌+◌, ◌-◌, ◌*◌, ◌<◌, ◌≤◌, ◌==◌, ◌&&◌, Bool, true, false, nat_le, nat_lt, nat_eq, not, cond, List, [], ◌∷◌, length, suc, zero, take, drop, take_while, None, refl}
 use Rattle.std.specs.List.{list_all}
 use Rattle.std.specs.Cmp.Lexicographic.{pointwise}
-use Rattle.std.specs.Str.{bytes_eq}
+use Rattle.std.specs.Str.{bytes_eq, IsAscii}
 use Rattle.std.proofs.Math.Seq.{take-length}
 use Rattle.std.proofs.Common.{arith, length-drop, ap, sym, ◌∙◌}
 use Rattle.std.proofs.lemmas.Bool.{and_parts, eqb-true, eqb-false, eq-eqb, ne_eqb, leb-true, false≢true}
@@ -11,8 +11,6 @@ use Rattle.std.proofs.Math.Bool.{and_assoc}
 use Rattle.std.proofs.lemmas.List.Folds.{length-prefix_len}
 use Rattle.std.proofs.lemmas.List.Sums.{prefix_len-le-length, take_while-cons}
 use Rattle.std.proofs.lemmas.Str.Ascii.{IsAscii-nil, IsAscii-cons}
-use Rattle.std.specs.Str.{IsAscii}
-use Rattle.std.specs.Prelude.{None, ◌*◌}
 use Rattle.codes_core.specs.declared.fault.CodeFault.TheVariants.{BadNumber}
 use Rattle.codes_core.specs.Grammar.{code_fault}
 use Rattle.codes_core.proofs.Texts.{no_fault, IsShort}
@@ -125,18 +123,13 @@ first_then n text =
 front_taken : (text : List ℕ) → take (length (front text)) text ≡ front text
 front_taken text = rw (length-prefix_len is_plain text) refl
 
--- the text is cut before its first dash
-pub record IsCut (n : ℕ) (text first behind : List ℕ) : Type 0 where
-  pub some : n ≡ 0 → ⊥
-  pub first_is : first ≡ take (length (front text)) text
-  pub behind_is : behind ≡ drop (length (front text)) text
-
--- the first segment, and then the rest
-pub is_place_shape-cut : (n : ℕ) (text first behind : List ℕ) → IsCut n text first behind → is_place_shape n text ≡ is_segment first && goes_on (n - 1) behind
-is_place_shape-cut zero text first behind cut = absurd (cut.some refl)
-is_place_shape-cut (suc n) text first behind cut =
+-- a text that is cut before its first dash: its first segment is one or not, and then the rest goes on
+pub shape_by : (n count : ℕ) (text first behind : List ℕ) (is_one : Bool) → (n ≡ 0 → ⊥) → count ≡ length (front text) → first ≡ take count text → behind ≡ drop count text → is_segment first ≡ is_one
+    → is_place_shape n text ≡ is_one && goes_on (n - 1) behind
+shape_by zero count text first behind is_one some at cut rest_is told = absurd (some refl)
+shape_by (suc n) count text first behind is_one some at cut rest_is told =
     let less : suc n - 1 ≡ n = omega arith in
-    rw (cut.first_is, cut.behind_is, less, front_taken text) (first_then n text)
+    rw (← told, cut, rest_is, at, less, front_taken text) (first_then n text)
 
 pub goes_on-nil : (n : ℕ) (bs : List ℕ) → length bs < 1 → goes_on n bs ≡ true
 goes_on-nil n [] none = refl
@@ -145,16 +138,6 @@ goes_on-nil n (b ∷ bs) none = absurd (omega arith)
 pub goes_on-cons : (n : ℕ) (bs : List ℕ) → 1 ≤ length bs → goes_on n bs ≡ is_place_shape n (drop 1 bs)
 goes_on-cons n [] some = absurd (omega arith)
 goes_on-cons n (b ∷ bs) some = refl
-
-pub cut_at : (n count : ℕ) (text first behind : List ℕ) → (n ≡ 0 → ⊥) → count ≡ length (front text) → first ≡ take count text → behind ≡ drop count text → IsCut n text first behind
-cut_at n count text first behind some at f b =
-    record { some = some; first_is = f ∙ ap (λ k. take k text) at; behind_is = b ∙ ap (λ k. drop k text) at }
-
-pub shape_refused : (n : ℕ) (text first behind : List ℕ) → IsCut n text first behind → is_segment first ≡ false → is_place_shape n text ≡ false
-shape_refused n text first behind cut refused = is_place_shape-cut n text first behind cut ∙ ap (λ t. t && goes_on (n - 1) behind) refused
-
-pub shape_goes_on : (n : ℕ) (text first behind : List ℕ) → IsCut n text first behind → is_segment first ≡ true → is_place_shape n text ≡ goes_on (n - 1) behind
-shape_goes_on n text first behind cut passed = is_place_shape-cut n text first behind cut ∙ ap (λ t. t && goes_on (n - 1) behind) passed
 
 -- a slice from n on is all that follows
 pub all_taken : (n : ℕ) (bs : List ℕ) → take (length bs - n) (drop n bs) ≡ drop n bs

@@ -1,5 +1,5 @@
 -- What a code's shape says of its text: it is ASCII, and not long.
-use Rattle.std.specs.Prelude.{◌≡◌, ℕ, ◌+◌, ◌*◌, ◌<◌, ◌≤◌, ◌==◌, ◌&&◌, Bool, true, false, nat_lt, cond, List, [], ◌∷◌, ◌++◌, length, suc, zero, nat_eq, drop, refl, None, ◌||◌, codes}
+use Rattle.std.specs.Prelude.{◌≡◌, ℕ, ◌+◌, ◌*◌, ◌<◌, ◌≤◌, ◌==◌, ◌&&◌, Bool, true, false, nat_lt, cond, List, [], ◌∷◌, ◌++◌, length, suc, zero, nat_eq, drop, take_while, refl, None, ◌||◌, codes}
 use Rattle.std.proofs.Common.{arith, inl, inr, length-drop, subst, sym, ◌∙◌}
 use Rattle.std.proofs.lemmas.Bool.{and_parts, or_cases, eqb-true, leb-true, false≢true}
 use Rattle.std.proofs.lemmas.Bool.Decides.{nat_tests}
@@ -11,7 +11,6 @@ use Rattle.std.proofs.lemmas.Str.Ascii.{IsAscii-nil, IsAscii-cons}
 use Rattle.std.specs.Str.{IsAscii}
 use Rattle.std.specs.List.{starts_with, list_all, prefix_len}
 use Rattle.std.specs.Char.{is_ascii_digit, is_ascii_lowercase}
-use Rattle.std.specs.Prelude.{take_while}
 use Rattle.codes_core.specs.declared.fault.CodeFault.{CodeFault}
 use Rattle.codes_core.specs.declared.fault.CodeFault.TheVariants.{BadNumber}
 use Rattle.codes_core.specs.Grammar.{front_digits, after_digits, is_digits, is_right_number, code_fault}

@@ -43,11 +43,11 @@ pub record IsOnlySpelling (text : List ℕ) (number : ℤ) : Type 0 where
   pub spells : SpellsDay text number
   pub only : (other : List ℕ) → SpellsDay other number → other ≡ text
 
--- a number in two digits
+-- the last two digits of a number
 abbrev pub two_digits : ℕ → List ℕ
 two_digits n = (48 + n / 10 % 10) ∷ (48 + n % 10) ∷ []
 
--- the text of a civil day
+-- the text of a civil day, by its year, month and date
 abbrev pub date_text : ℕ → ℕ → ℕ → List ℕ
 date_text year month date =
     two_digits (year / 100) ++ two_digits year ++ 45 ∷ two_digits month ++ 45 ∷ two_digits date

@@ -17,7 +17,7 @@ after_digits text = drop (length (front_digits text)) text
 abbrev pub is_digits : List ℕ → Bool
 is_digits text = nat_lt 0 (length text) && list_all is_ascii_digit text
 
--- from 1 to 999,999, without a 0 before it
+-- that one digit or more spell a number from 1 to 999,999, without a 0 before it
 abbrev pub is_right_number : List ℕ → Bool
 is_right_number digits = nat_le (length digits) 6 && not (starts_with nat_eq digits (48 ∷ []))
 
@@ -25,7 +25,7 @@ is_right_number digits = nat_le (length digits) 6 && not (starts_with nat_eq dig
 abbrev pub number_of : List ℕ → ℕ
 number_of digits = fold (λ n d. 10 * n + (d - 48)) 0 digits
 
--- why a text is no code: its first fault, the last one being that of a text with the right shape
+-- why a text is no code: its first fault, `last` being that of a text with the right shape
 abbrev pub code_fault : CodeFault → Bool → Bool → List ℕ → Option CodeFault
 code_fault last has_shape is_right [] = Some Empty
 code_fault last has_shape is_right (b ∷ bs) =

@@ -28,7 +28,7 @@ is_segment s = nat_lt 0 (length s) && nat_le (length s) 8 && list_all is_segment
 abbrev pub is_place_shape : ℕ → List ℕ → Bool
 is_place_shape n text = nat_le (length (segments text)) n && list_all is_segment (segments text)
 
--- why the text is no place's code; without a fault it is the code
+-- why the text is no place's code, which has no number to be wrong; without a fault it is the code
 abbrev pub place_fault : List ℕ → Option CodeFault
 place_fault text = code_fault BadNumber (is_place_shape 4 text) true text
 

@@ -1,10 +1,7 @@
 //! Civil days.
-ghost use Rattle.std.specs.Prelude.{◌≡◌, true, false, ◌++◌, ◌∷◌, ◌-ℤ◌, ◌≤◌, ◌<◌, ◌↔◌, pos, [], List, ℕ, IsTrue, None, Some, OnOk, OnErr, MatchResult, MatchOption, length, string_bytes};
-ghost use Rattle.std.specs.List.{list_all};
-ghost use Rattle.std.specs.Char.{is_ascii_digit};
+ghost use Rattle.std.specs.Prelude.{◌≡◌, true, false, ◌++◌, ◌-ℤ◌, ◌≤◌, pos, List, ℕ, None, Some, OnOk, OnErr, MatchResult, MatchOption, string_bytes};
 ghost use Rattle.jiff_core.specs.Calendar.{days_from_civil};
-ghost use Rattle.codes_core.specs.Grammar.{number_of};
-ghost use Rattle.codes_core.specs.Day.{is_day_shape, is_civil, year_of, month_of, date_of, day_fault, day_number, IsOnlySpelling, date_text, two_digits};
+ghost use Rattle.codes_core.specs.Day.{is_day_shape, is_civil, day_fault, day_number, IsOnlySpelling, date_text, two_digits};
 
 use crate::digits::{are_digits, number_of};
 use crate::spelling::Spelling;
@@ -78,7 +75,7 @@ impl Day {
     }
 }
 
-/// The day of the calendar, if it has it.
+/// The day of this year, month and date, where the calendar has it and the year is not 0.
 fn civil_day(year: u16, month: u16, date: u16) -> Option<Day>
     requires year { year ≤ 9999 }
     requires month { month ≤ 99 }
@@ -90,8 +87,8 @@ fn civil_day(year: u16, month: u16, date: u16) -> Option<Day>
         return None;
     }
     match Date::new(year as i16, month as i8, date as i8) {
-        Ok(date) => Some(Day {
-            number: date.to_unix_epoch_day(),
+        Ok(found) => Some(Day {
+            number: found.to_unix_epoch_day(),
         }),
         Err(_) => None,
     }

@@ -16,7 +16,7 @@ pub(crate) fn count_digits(text: &[u8]) -> usize
 pub(crate) fn is_digits(text: &[u8]) -> bool
     ensures { result ≡ is_digits text.now }
 {
-    text.len() > 0 && are_digits(text)
+    !text.is_empty() && are_digits(text)
 }
 
 /// Whether each byte is a digit.
@@ -26,7 +26,7 @@ pub(crate) fn are_digits(text: &[u8]) -> bool
     text.iter().all(|b| b.is_ascii_digit())
 }
 
-/// Whether the digits are a number from 1 to 999,999 without a 0 before it.
+/// Whether one digit or more are a number from 1 to 999,999 without a 0 before it.
 pub(crate) fn is_right_number(digits: &[u8]) -> bool
     ensures { result ≡ is_right_number digits.now }
 {

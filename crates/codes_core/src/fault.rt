@@ -1,5 +1,6 @@
 //! Why a text is no code, and that memory is used up.
 ghost use Rattle.std.specs.Prelude.{◌≡◌, None, Some, MatchResult};
+ghost use Rattle.codes_core.specs.declared.fault.CodeFault.TheVariants.{BadNumber};
 ghost use Rattle.codes_core.specs.Grammar.{code_fault};
 
 use std::alloc::{AllocError, AllocFailed};
@@ -57,15 +58,11 @@ impl From<AllocError> for NameFault {
     }
 }
 
-/// The first fault of a text that has its code's shape or not, and is otherwise right or has this last fault.
-pub(crate) fn test(
-    bytes: &[u8],
-    has_shape: bool,
-    is_right: bool,
-    last: CodeFault,
-) -> Result<(), CodeFault>
-    ensures { MatchResult result (λ _. code_fault last has_shape is_right bytes.now ≡ None)
-        (λ fault. code_fault last has_shape is_right bytes.now ≡ Some fault) }
+/// The first fault of a code's text: Empty where it has no bytes, BadShape where it hasn't the code's shape,
+/// BadNumber where it has the shape, and a number in it isn't right.
+pub(crate) fn test(bytes: &[u8], has_shape: bool, has_numbers: bool) -> Result<(), CodeFault>
+    ensures { MatchResult result (λ _. code_fault BadNumber has_shape has_numbers bytes.now ≡ None)
+        (λ fault. code_fault BadNumber has_shape has_numbers bytes.now ≡ Some fault) }
 {
     if bytes.is_empty() {
         return Err(CodeFault::Empty);
@@ -73,8 +70,8 @@ pub(crate) fn test(
     if !has_shape {
         return Err(CodeFault::BadShape);
     }
-    if !is_right {
-        return Err(last);
+    if !has_numbers {
+        return Err(CodeFault::BadNumber);
     }
     Ok(())
 }

@@ -11,8 +11,6 @@ mod loan;
 mod name;
 mod place;
 mod spelling;
-#[cfg(test)]
-mod tests;
 mod thing;
 
 pub use day::Day;

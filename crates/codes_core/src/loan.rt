@@ -1,5 +1,5 @@
 //! Codes of loans.
-ghost use Rattle.std.specs.Prelude.{◌≡◌, ◌++◌, ◌∷◌, [], None, Some, OnOk, OnErr, MatchResult, string_bytes};
+ghost use Rattle.std.specs.Prelude.{◌≡◌, ◌++◌, None, Some, OnOk, OnErr, MatchResult, string_bytes};
 ghost use Rattle.codes_core.specs.Loan.{is_out, is_last_group, is_loan_shape, has_loan_number, loan_fault};
 
 use crate::digits::{count_digits, is_digits, is_right_number};
@@ -13,6 +13,7 @@ use std::marker::Model;
 /// any, a dot, and a number from 1 to 999,999 without a 0 before it (`LO2024.1`).
 #[derive(Clone, Copy, Debug, PartialEq, Eq, Hash)]
 pub struct LoanCode {
+    // at most LO or LI, four digits, a dot and six digits
     spelling: Spelling<13>,
 }
 
@@ -36,12 +37,7 @@ impl LoanCode {
         ensures exact { MatchResult result (λ code. (code ≡ bytes.now) × (loan_fault bytes.now ≡ None))
             (λ fault. loan_fault bytes.now ≡ Some fault) }
     {
-        test(
-            bytes,
-            is_loan_shape(bytes),
-            has_loan_number(bytes),
-            CodeFault::BadNumber,
-        )?;
+        test(bytes, is_loan_shape(bytes), has_loan_number(bytes))?;
         Ok(LoanCode {
             spelling: Spelling::new(bytes),
         })

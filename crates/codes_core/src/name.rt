@@ -1,5 +1,5 @@
-//! Names of people who sign or authorise.
-ghost use Rattle.std.specs.Prelude.{◌≡◌, ◌≤◌, ◌++◌, ◌≢◌, OnOk, OnErr, IfOk, MatchResult, IsTrue, ◌↔◌, All, string_bytes};
+//! Names of people who sign off or authorise.
+ghost use Rattle.std.specs.Prelude.{◌≡◌, ◌++◌, OnOk, OnErr, IfOk, MatchResult, string_bytes};
 ghost use Rattle.codes_core.specs.Name.{IsName, IsNameFault, is_name_byte};
 ghost use Rattle.std.specs.List.{list_all};
 

@@ -1,6 +1,5 @@
 //! Codes of places.
-ghost use Rattle.std.specs.Prelude.{◌≡◌, ◌++◌, ◌∷◌, ◌≤◌, [], not, ◌==◌, length, take, drop, None, Some, OnOk, OnErr, MatchResult, string_bytes};
-ghost use Rattle.std.specs.Prelude.{take_while};
+ghost use Rattle.std.specs.Prelude.{◌≡◌, ◌++◌, ◌≤◌, not, ◌==◌, length, take_while, None, Some, OnOk, OnErr, MatchResult, string_bytes};
 ghost use Rattle.std.specs.List.{list_all};
 ghost use Rattle.codes_core.specs.Place.{is_segment, is_segment_byte, is_place_shape, place_fault, lies_in, ends_segment};
 
@@ -14,6 +13,7 @@ use std::marker::Model;
 /// of 1 to 8 of A-Z and 0-9, joined by dashes (`S1-A`).
 #[derive(Clone, Copy, Debug, PartialEq, Eq, Hash)]
 pub struct PlaceCode {
+    // at most four segments of 8 and three dashes
     spelling: Spelling<35>,
 }
 
@@ -37,7 +37,8 @@ impl PlaceCode {
         ensures exact { MatchResult result (λ code. (code ≡ bytes.now) × (place_fault bytes.now ≡ None))
             (λ fault. place_fault bytes.now ≡ Some fault) }
     {
-        test(bytes, is_place_shape(bytes, 4), true, CodeFault::BadNumber)?;
+        // A place has no number that could be wrong.
+        test(bytes, is_place_shape(bytes, 4), true)?;
         Ok(PlaceCode {
             spelling: Spelling::new(bytes),
         })
@@ -103,7 +104,7 @@ fn are_segment_bytes(text: &[u8]) -> bool
 fn is_segment(text: &[u8]) -> bool
     ensures { result ≡ is_segment text.now }
 {
-    text.len() > 0 && text.len() <= 8 && are_segment_bytes(text)
+    !text.is_empty() && text.len() <= 8 && are_segment_bytes(text)
 }
 
 fn is_place_shape(text: &[u8], segments: u32) -> bool

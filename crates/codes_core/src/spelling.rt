@@ -105,6 +105,10 @@ impl<const N: usize> Hash for Spelling<N> {
 }
 
 impl<const N: usize> fmt::Debug for Spelling<N> {
+    ghost use Rattle.std.specs.Prelude.{Some};
+
+    ghost debug_output = { λ text. Some text };
+
     fn fmt<W: fmt::Write>(&self, f: &mut fmt::Formatter<W>) -> fmt::Result {
         f.write_str(self.as_str())
     }

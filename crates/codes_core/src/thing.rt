@@ -1,6 +1,5 @@
 //! Codes of things.
-ghost use Rattle.std.specs.Prelude.{◌≡◌, ◌++◌, ◌∷◌, [], nat_eq, None, Some, OnOk, OnErr, MatchResult, string_bytes};
-ghost use Rattle.std.specs.List.{starts_with};
+ghost use Rattle.std.specs.Prelude.{◌≡◌, ◌++◌, None, Some, OnOk, OnErr, MatchResult, string_bytes};
 ghost use Rattle.codes_core.specs.Thing.{thing_kind, is_ending, is_tail, is_object_shape, has_right_groups, has_object_numbers, is_thing_shape, has_thing_numbers, thing_fault};
 
 use crate::digits::{count_digits, is_digits, is_right_number};
@@ -25,6 +24,7 @@ pub enum ThingKind {
 /// A number is from 1 to 999,999 without a 0 before it. The four digits may be any.
 #[derive(Clone, Copy, Debug, PartialEq, Eq, Hash)]
 pub struct ThingCode {
+    // at most an L, four digits, three times a dot and six digits, and a letter
     spelling: Spelling<27>,
 }
 
@@ -48,12 +48,7 @@ impl ThingCode {
         ensures exact { MatchResult result (λ code. (code ≡ bytes.now) × (thing_fault bytes.now ≡ None))
             (λ fault. thing_fault bytes.now ≡ Some fault) }
     {
-        test(
-            bytes,
-            is_thing_shape(bytes),
-            has_thing_numbers(bytes),
-            CodeFault::BadNumber,
-        )?;
+        test(bytes, is_thing_shape(bytes), has_thing_numbers(bytes))?;
         Ok(ThingCode {
             spelling: Spelling::new(bytes),
         })
@@ -87,7 +82,7 @@ impl ThingCode {
     }
 }
 
-fn is_ending_text(text: &[u8]) -> bool
+fn is_ending(text: &[u8]) -> bool
     ensures { result ≡ is_ending text.now }
 {
     match text {
@@ -97,22 +92,16 @@ fn is_ending_text(text: &[u8]) -> bool
     }
 }
 
-fn is_tail_text(text: &[u8], groups: u32) -> bool
+fn is_tail(text: &[u8], groups: u32) -> bool
     ensures { result ≡ is_tail groups text.now }
 {
     match text {
         [b'.', rest @ ..] if groups > 0 => {
             let count = count_digits(rest);
-            count > 0 && is_tail_text(&rest[count..], groups - 1)
+            count > 0 && is_tail(&rest[count..], groups - 1)
         }
-        _ => is_ending_text(text),
+        _ => is_ending(text),
     }
-}
-
-fn starts_with_dot(text: &[u8]) -> bool
-    ensures { result ≡ starts_with nat_eq text.now (46 ∷ []) }
-{
-    matches!(text, [b'.', ..])
 }
 
 fn is_object_shape(text: &[u8]) -> bool
@@ -120,7 +109,7 @@ fn is_object_shape(text: &[u8]) -> bool
 {
     let count = count_digits(text);
     let rest = &text[count..];
-    count == 4 && starts_with_dot(rest) && is_tail_text(rest, 3)
+    count == 4 && rest.starts_with(b".") && is_tail(rest, 3)
 }
 
 fn has_right_groups(text: &[u8], groups: u32) -> bool

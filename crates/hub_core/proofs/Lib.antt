@@ -16,7 +16,6 @@ pub mod StopLemmas
 pub mod RowOrder
 pub mod ReopenLemmas
 pub mod StandLemmas
-pub mod TextLemmas
 pub mod CutLemmas
 pub mod LawLemmas
 pub mod RequestLemmas

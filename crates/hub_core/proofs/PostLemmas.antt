@@ -17,12 +17,18 @@ use Rattle.std.specs.Prelude.{slice_get, unwrap_or, is_some, nat_lt, nat_le}
 use Rattle.station_core.specs.declared.Refusal.TheVariants.{BadNumber, Double, SignedOff, TooEarly}
 use Rattle.station_core.specs.Series.{Series, series, series_at, counted, closed, refusal_of, refusal_in, held_at, window}
 use Rattle.station_core.specs.Runs.{Arrived, arrived, message_at, ready, due}
-use Rattle.station_core.specs.Progress.{IsEnding, AllMatch, ComesDue}
+use Rattle.station_core.specs.Progress.{IsPosting, IsEnding, AllMatch, ComesDue}
 use Rattle.station_core.proofs.BoolLemmas.{by_bool}
 use Rattle.station_core.proofs.RunLemmas.{due_next}
 use Rattle.station_core.proofs.StationLemmas.{series_at_set_same, series_at_set_other}
 use Rattle.hub_core.specs.Points.{entry_of, post}
-use Rattle.hub_core.specs.StandsFor.{InStep, Caught, Done}
+use Rattle.hub_core.specs.StandsFor.{InStep, Done}
+
+-- how far the posting of what is due at station s has come: k of its messages were posted before
+pub record Caught (S : Museum) (depth : ℕ) (taken : List (Arrived Message)) (s k : ℕ) (before : List Entry) (sequences : List (Series Message)) (now : List Entry) : Type 0 where
+  pub posting : IsPosting is_sign_off taken s sequences
+  pub forward : k ≤ (series_at sequences s).posted
+  pub list : now ≡ fold (post S depth) before (due taken s k ((series_at sequences s).posted - k))
 
 posted_next : (S : Museum) (depth : ℕ) (taken : List (Arrived Message)) (s k j n : ℕ) (before now : List Entry) (m : Message) → k ≤ j → n ≡ j + 1 → message_at taken s n ≡ Some m → now ≡ fold (post S depth) before (due taken s k (j - k))
     → post S depth now (arrived s n m) ≡ fold (post S depth) before (due taken s k (n - k))

@@ -1,11 +1,13 @@
 -- A replay, line by line.
-use Rattle.std.proofs.Common.{◌⊎◌, inl, inr, ◌≡◌, ℕ, zero, suc, ◌+◌, ◌≤◌, Bool, true, false, List, [], ◌∷◌, ◌++◌, length, take, Option, None, Some, refl, ap, ◌∙◌, sym, subst, arith, append_assoc, append-nil, true≢false, not}
+use Rattle.std.proofs.Common.{◌≡◌, ℕ, zero, suc, ◌+◌, ◌≤◌, Bool, true, false, List, [], ◌∷◌, ◌++◌, length, take, Option, None, Some, refl, ap, ◌∙◌, sym, subst, arith, append_assoc, append-nil, true≢false, not}
 use Rattle.std.specs.Prelude.{OnSome, IfSome}
 use Rattle.std.specs.Io.KnownBytes.{Appends, Consumes, Keeps, IsAtEnd}
 use Rattle.std.proofs.KnownBytes.{Consumes-nil, Consumes-trans, Appends-nil, Appends-trans}
 use Rattle.nest_core.specs.Museum.{Museum}
 use Rattle.posting_core.specs.declared.entry.Entry.{Entry}
 use Rattle.hub_core.specs.declared.answer.Arrival.{Arrival}
+use Rattle.hub_core.specs.declared.answer.HubFault.{HubFault}
+use Rattle.hub_core.specs.declared.answer.HubFault.TheVariants as hub_faults
 use Rattle.hub_core.specs.declared.replaying.ReplayFault.{ReplayFault}
 use Rattle.hub_core.specs.declared.replaying.ReplayFault.TheVariants.{NoMemory, Store, ReadFailed, WriteFailed}
 use Rattle.hub_core.specs.declared.line_reply.TheConstants.{LONGEST_LINE}
@@ -13,6 +15,7 @@ use Rattle.hub_core.specs.Reading.{HasNoFeed, feed_if, TakesLine, TakesStart}
 use Rattle.hub_core.specs.LineText.{lines, ended, text, arrivals, line_reply, line_arrivals, without_return}
 use Rattle.register_store.specs.StoredRows.{Content}
 use Rattle.hub_core.specs.StandsFor.{State, StandsFor, TakesSome}
+use Rattle.hub_core.specs.Faults.{replay_fault}
 use Rattle.hub_core.specs.Replayed.{lines_read, Answered, CutShort, BrokenOff, AfterFault}
 use Rattle.hub_core.proofs.LineLemmas.{IsWhole, whole_none, whole_more, ended_whole}
 use Rattle.hub_core.proofs.ReplyLemmas.{text_more, arrivals_more, count_more, one_start, one_line, one_arrivals}
@@ -242,8 +245,9 @@ read_out S depth O A i i' o o' quiet holds hub number u =
       stands = subst (λ (c : List ℕ). StandsFor quiet holds hub O (A ++ arrivals S c)) same u.stands;
     }
 
--- what stands after either fault of the hub
-pub after_either : {Q : Type 0} (S : Museum) (depth : ℕ) (O : List Entry) (A : List Arrival) (i i' o o' : Option (List ℕ)) (quiet : Q → Type 0) (holds : Q → Content → Type 0) (hub : State Q) (fault : ReplayFault)
-    → (fault ≡ NoMemory) ⊎ (fault ≡ Store) → BrokenOff S depth O A i i' o o' quiet holds hub → AfterFault S depth O A i i' o o' quiet holds hub fault
-after_either S depth O A i i' o o' quiet holds hub fault (inl e) broken = subst (AfterFault S depth O A i i' o o' quiet holds hub) (sym e) broken
-after_either S depth O A i i' o o' quiet holds hub fault (inr e) broken = subst (AfterFault S depth O A i i' o o' quiet holds hub) (sym e) broken
+-- what stands after a fault of the hub
+pub after_hub_fault : {Q : Type 0} (S : Museum) (depth : ℕ) (O : List Entry) (A : List Arrival) (i i' o o' : Option (List ℕ)) (quiet : Q → Type 0) (holds : Q → Content → Type 0) (hub : State Q) (fault : HubFault)
+    → BrokenOff S depth O A i i' o o' quiet holds hub → AfterFault S depth O A i i' o o' quiet holds hub (replay_fault fault)
+after_hub_fault S depth O A i i' o o' quiet holds hub hub_faults.NoMemory broken = broken
+after_hub_fault S depth O A i i' o o' quiet holds hub hub_faults.Store broken = broken
+after_hub_fault S depth O A i i' o o' quiet holds hub hub_faults.Down broken = broken

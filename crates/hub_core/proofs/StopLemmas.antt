@@ -13,7 +13,8 @@ use Rattle.station_core.proofs.BoolLemmas.{by_bool, down}
 use Rattle.station_core.proofs.RunLemmas.{unbroken_down, ready_fails, due_next, due_split}
 use Rattle.register_store.specs.StoredRows.{Content, IsStoreOf}
 use Rattle.hub_core.specs.Points.{post}
-use Rattle.hub_core.specs.StandsFor.{Caught, Stopped}
+use Rattle.hub_core.specs.StandsFor.{Stopped}
+use Rattle.hub_core.proofs.PostLemmas.{Caught}
 
 -- what is unbroken is ready
 pub unbroken_ready : (taken : List (Arrived Message)) (s n : ℕ) → unbroken is_sign_off taken s n ≡ true → n ≤ ready is_sign_off taken s

@@ -19,7 +19,7 @@ use Rattle.register_store.proofs.LineRows.{next_lines}
 use Rattle.register_store.proofs.TermRows.{next_terms}
 use Rattle.hub_core.specs.Points.{entry_of, post}
 use Rattle.hub_core.specs.declared.answer.HubFault.{HubFault}
-use Rattle.hub_core.specs.Faults.{CountsStore, CountsUp}
+use Rattle.hub_core.specs.Faults.{CountsStore}
 
 -- the rows of a list, with one more entry
 store_next : (S : Museum) (depth : ℕ) (P : List Entry) (e : Entry) (row : PostingRow) (changes : Changes) (c : Content)
@@ -86,6 +86,3 @@ on_err (Err e) p = p
 -- a call that succeeded counts no refusal
 pub counts_ok : {T : Type 0} (old new : ℕ) (r : Result T HubFault) (x : T) → r ≡ Ok x → CountsStore old new r → new ≡ old
 counts_ok {T} old new r x is = subst (λ (q : Result T HubFault). CountsStore old new q → new ≡ old) (sym is) (λ h. h)
-
-pub counts_up_ok : {T : Type 0} (old new : ℕ) (r : Result T HubFault) (x : T) → r ≡ Ok x → CountsUp old new r → new ≡ old
-counts_up_ok {T} old new r x is = subst (λ (q : Result T HubFault). CountsUp old new q → new ≡ old) (sym is) (λ h. h)

@@ -71,3 +71,11 @@ pub more_taken : (a b c : Option (List ℕ)) (text : List ℕ) (m n : ℕ) → A
 more_taken a b c text m n p q =
     let r : Appends b c (take n (drop m text)) = subst (λ (l : List ℕ). Appends b c (take n l)) (rest_all m text) q in
     subst (Appends a c) (take_on m n text) (Appends-trans a b c (take m text) (take n (drop m text)) p r)
+
+pub if_cause : {T E : Type 0} → (r : Result T E) (P : E → Type 0) (x : E) → IfErr r (λ y. y ≡ x) → P x → IfErr r P
+if_cause (Ok v) P x is p = tt
+if_cause (Err y) P x is p = subst P (sym is) p
+
+pub if_ok : {T E : Type 0} → (r : Result T E) (P : Type 0) → P → OnOk r P
+if_ok (Ok x) P p = p
+if_ok (Err e) P p = tt

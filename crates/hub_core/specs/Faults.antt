@@ -8,12 +8,12 @@ use Rattle.hub_core.specs.declared.answer.HubFault.{HubFault}
 use Rattle.hub_core.specs.declared.answer.HubFault.TheVariants.{NoMemory, Store, Down}
 
 -- a register's fault, as the hub tells it
-abbrev pub told : StoreFault → HubFault
-told store.NoMemory = NoMemory
-told store.Store = Store
-told store.OtherSetup = Store
-told (store.Damaged at) = Store
-told store.OtherVersion = Store
+abbrev pub hub_fault : StoreFault → HubFault
+hub_fault store.NoMemory = NoMemory
+hub_fault store.Store = Store
+hub_fault store.OtherSetup = Store
+hub_fault (store.Damaged at) = Store
+hub_fault store.OtherVersion = Store
 
 -- Store is told only where the register's count of refusals rose, or stands at the last number of 64 bits
 abbrev pub CountsStore : {T : Type 0} → ℕ → ℕ → Result T HubFault → Type 0
@@ -22,18 +22,11 @@ CountsStore old new (Err NoMemory) = new ≡ old
 CountsStore old new (Err Store) = new ≡ min (old + 1) (2 ^ 64 - 1)
 CountsStore old new (Err Down) = new ≡ old
 
--- the same of a hub that isn't down
-abbrev pub CountsUp : {T : Type 0} → ℕ → ℕ → Result T HubFault → Type 0
-CountsUp old new (Ok x) = new ≡ old
-CountsUp old new (Err NoMemory) = new ≡ old
-CountsUp old new (Err Store) = new ≡ min (old + 1) (2 ^ 64 - 1)
-CountsUp old new (Err Down) = ⊥
-
--- a hub's fault, as a replay tells it; the hub isn't down
-abbrev pub told_of_line : HubFault → ReplayFault
-told_of_line NoMemory = replay.NoMemory
-told_of_line Store = replay.Store
-told_of_line Down = replay.NoMemory
+-- a hub's fault, as a replay tells it; a replay's hub isn't down
+abbrev pub replay_fault : HubFault → ReplayFault
+replay_fault NoMemory = replay.NoMemory
+replay_fault Store = replay.Store
+replay_fault Down = replay.NoMemory
 
 -- a replay tells Store only where the register's count rose so
 abbrev pub CountsReplay : {T : Type 0} → ℕ → ℕ → Result T ReplayFault → Type 0

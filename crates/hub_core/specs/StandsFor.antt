@@ -1,5 +1,5 @@
 -- What a hub stands for.
-use Rattle.std.specs.Prelude.{ℕ, ◌≡◌, ◌-◌, ◌<◌, ◌≤◌, ◌⊎◌, ◌++◌, ◌∷◌, Bool, false, List, length, fold, take}
+use Rattle.std.specs.Prelude.{ℕ, ◌≡◌, ◌-◌, ◌<◌, ◌⊎◌, ◌++◌, ◌∷◌, Bool, false, List, length, fold, take}
 use Rattle.nest_core.specs.Museum.{Museum}
 use Rattle.posting_core.specs.declared.message.Message.{Message}
 use Rattle.posting_core.specs.declared.entry.Entry.{Entry}
@@ -8,7 +8,7 @@ use Rattle.posting_core.specs.Lawful.{count_at, is_signed_off, IsLawful}
 use Rattle.posting_core.specs.Book.{Book}
 use Rattle.station_core.specs.Series.{Series, series_at}
 use Rattle.station_core.specs.Runs.{Arrived, ready, due}
-use Rattle.station_core.specs.Progress.{IsPosting, AllMatch}
+use Rattle.station_core.specs.Progress.{AllMatch}
 use Rattle.register_store.specs.StoredRows.{Content, IsStoreOf}
 use Rattle.hub_core.specs.declared.answer.Arrival.{Arrival}
 use Rattle.hub_core.specs.Points.{point, post}
@@ -52,13 +52,7 @@ pub record InStep (sequences : List (Series Message)) (S : Museum) (P : List Ent
   pub count : (s : ℕ) → s < length sequences → (series_at sequences s).posted ≡ count_at s P
   pub sign : (s : ℕ) → s < length sequences → (series_at sequences s).signed ≡ is_signed_off s P
 
--- how far the posting of what is due at station s has come: k of its messages were posted before
-pub record Caught (S : Museum) (depth : ℕ) (taken : List (Arrived Message)) (s k : ℕ) (before : List Entry) (sequences : List (Series Message)) (now : List Entry) : Type 0 where
-  pub posting : IsPosting is_sign_off taken s sequences
-  pub forward : k ≤ (series_at sequences s).posted
-  pub list : now ≡ fold (post S depth) before (due taken s k ((series_at sequences s).posted - k))
-
--- all that is due is posted
+-- all that is due at station s is posted, where k of its messages were posted before
 pub record Done (S : Museum) (depth : ℕ) (taken : List (Arrived Message)) (s k : ℕ) (before : List Entry) (sequences : List (Series Message)) (now : List Entry) : Type 0 where
   pub matches : AllMatch is_sign_off taken sequences
   pub list : now ≡ fold (post S depth) before (due taken s k (ready is_sign_off taken s - k))

@@ -31,7 +31,7 @@ pub enum Where {
     At { place: PlaceNo, chain: ThingNos },
 }
 
-/// Why the hub gives no answer. Where several hold, the first in this order is told.
+/// Why the hub gives no answer. A hub that is down answers Down, whatever else holds.
 #[derive(Clone, Copy, Debug, PartialEq, Eq, Error)]
 pub enum HubFault {
     /// A growth was refused.

@@ -1,5 +1,5 @@
 //! The hub.
-ghost use Rattle.std.specs.Prelude.{◌≡◌, ◌≢◌, ◌↔◌, ◌⊎◌, List, [], ◌∷◌, ◌++◌, ℕ, length, reverse, replicate, true, false, IfOk, OnOk, OnErr, IsErr, IsErrOf, IfErr, Ok, Err};
+ghost use Rattle.std.specs.Prelude.{◌≡◌, ◌≢◌, ◌↔◌, ◌⊎◌, List, [], ◌∷◌, ◌++◌, ℕ, reverse, true, false, IfOk, OnOk, OnErr, IsErrOf, IfErr};
 ghost use Rattle.posting_core.specs.declared.entry.Entry.{Entry};
 ghost use Rattle.hub_core.specs.declared.answer.Arrival.{Arrival};
 ghost use Rattle.posting_core.specs.Messages.{is_sign_off};
@@ -56,10 +56,10 @@ impl<R: Register> Hub<R> {
     ghost use Rattle.hub_core.specs.StandsFor.{State, StandsFor, Stopped};
 
     /// A hub over this setup and what the register has. Binds the register, reads all its entries, judges them again in
-    /// their order, and compares its spots. The faults, first that holds: those of the binding; those of the reading;
-    /// Damaged(i) for the first entry, from 1, whose station, number or verdict isn't what the rules give; Damaged(0)
-    /// where the rows of spots aren't those of the entries. NoMemory and Store can stand in place of any. A refused
-    /// opening may have bound a new store; the setup is dropped.
+    /// their order, and compares its rows of spots, of lines and of last days. The faults, first that holds: those of the
+    /// binding; those of the reading; Damaged(i) for the first entry, from 1, whose station, number or verdict isn't what
+    /// the rules give; Damaged(0) where those rows aren't the entries'. NoMemory and Store can stand in place of any
+    /// answer. A refused opening may have bound a new store; the setup is dropped.
     pub fn open(alloc: Global, setup: Setup, register: R) -> Result<Hub<R>, OpenFault<R>>
         ensures setup { IfOk result (λ hub. hub.book.museum ≡ setup) }
         ensures stands { IfOk result (λ hub. StandsFor R.is_quiet R.holds hub hub.book.posted []) }
@@ -141,7 +141,7 @@ impl<R: Register> Hub<R> {
         })
     }
 
-    /// Where the thing with the code is. Down where the hub is down.
+    /// Where the thing with the code is. The faults: Down exactly where the hub is down; NoMemory.
     pub fn ask(&self, alloc: Global, code: &ThingCode) -> Result<Where, HubFault>
         ensures answer { IfOk result (λ place. place ≡ whereabouts self.now.book.museum self.now.book.posted code.now) }
         ensures placed { IfOk result (IsPlaced self.now.book.museum) }

@@ -16,7 +16,7 @@ use station_core::{LAST, Start};
 use std::alloc::Global;
 
 /// A ledger with these entries, each judged again after those before it, and how each station goes on from them.
-/// Damaged(i) for the first, from 1, whose station, number or verdict isn't what the rules give.
+/// Damaged(i) for the first, from 1, whose station, number or verdict isn't what the rules give; or NoMemory.
 pub(crate) fn judged(
     alloc: Global,
     setup: Setup,

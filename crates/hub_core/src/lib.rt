@@ -13,10 +13,6 @@ mod reader;
 mod replaying;
 mod replies;
 mod running;
-#[cfg(test)]
-mod tests;
-#[cfg(test)]
-mod tests_faults;
 
 pub use answer::{Answer, Arrival, HubFault, Where};
 pub use hub::{Hub, OpenFault};

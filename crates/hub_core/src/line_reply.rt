@@ -1,13 +1,13 @@
 //! What is said to a line.
-ghost use Rattle.std.specs.Prelude.{◌≡◌, ◌<◌, ◌++◌, List, ℕ, [], ◌∷◌, false, length, take, reverse, unwrap_or, string_bytes, IfOk, IfErr, IfSome, OnOk, OnErr, All};
+ghost use Rattle.std.specs.Prelude.{◌≡◌, ◌<◌, ◌++◌, List, false, length, reverse, string_bytes, IfOk, IfErr, IfSome, OnOk, OnErr, All};
 ghost use Rattle.posting_core.specs.declared.entry.Entry.{Entry};
 ghost use Rattle.hub_core.specs.declared.answer.Arrival.{Arrival};
 ghost use Rattle.hub_core.specs.declared.reader.Request.{Request as request};
 ghost use Rattle.hub_core.specs.declared.reader.Request.TheVariants as asks;
-ghost use Rattle.hub_core.specs.Points.{posted, reply, whereabouts, IsPlaced};
+ghost use Rattle.hub_core.specs.Points.{whereabouts, IsPlaced};
 ghost use Rattle.hub_core.specs.Requests.{line_in};
 ghost use Rattle.hub_core.specs.Replies.{asked_line, bad_line};
-ghost use Rattle.hub_core.specs.Faults.{CountsUp};
+ghost use Rattle.hub_core.specs.Faults.{CountsStore};
 ghost use Rattle.hub_core.specs.StandsFor.{StandsFor, TakesSome};
 ghost use Rattle.hub_core.specs.LineText.{without_return, fault_text, place_text, chain_text, posted_lines, answer_text, station_text, station_reply, sent_from, request_reply, sent_by, read_reply, sent, line_reply, line_arrivals};
 
@@ -42,7 +42,7 @@ pub(crate) fn reply_to<S: Register>(
         (string_bytes text ≡ line_reply hub.old.book.museum hub.old.book.depth O A number line.now) × StandsFor S.is_quiet S.holds hub.new O (A ++ line_arrivals hub.old.book.museum line.now)) }
     ensures fault { OnErr result ((O : List Entry) (A : List Arrival) → StandsFor S.is_quiet S.holds hub.old O A → TakesSome S.is_quiet S.holds hub.new O A (line_arrivals hub.old.book.museum line.now)) }
     ensures up { OnOk result (hub.new.down ≡ false) }
-    ensures count { CountsUp (S.refusals hub.old.register) (S.refusals hub.new.register) result }
+    ensures count { CountsStore (S.refusals hub.old.register) (S.refusals hub.new.register) result }
     ensures museum { hub.new.book.museum ≡ hub.old.book.museum }
     ensures depth { hub.new.book.depth ≡ hub.old.book.depth }
 {
@@ -67,7 +67,7 @@ fn read_reply<S: Register>(
         (string_bytes text ≡ read_reply hub.old.book.museum hub.old.book.depth O A number (line_in hub.old.book.museum line.now)) × StandsFor S.is_quiet S.holds hub.new O (A ++ sent (line_in hub.old.book.museum line.now))) }
     ensures fault { OnErr result ((O : List Entry) (A : List Arrival) → StandsFor S.is_quiet S.holds hub.old O A → TakesSome S.is_quiet S.holds hub.new O A (sent (line_in hub.old.book.museum line.now))) }
     ensures up { OnOk result (hub.new.down ≡ false) }
-    ensures count { CountsUp (S.refusals hub.old.register) (S.refusals hub.new.register) result }
+    ensures count { CountsStore (S.refusals hub.old.register) (S.refusals hub.new.register) result }
     ensures museum { hub.new.book.museum ≡ hub.old.book.museum }
     ensures depth { hub.new.book.depth ≡ hub.old.book.depth }
 {
@@ -91,7 +91,7 @@ fn request_reply<S: Register>(
         (string_bytes text ≡ request_reply hub.old.book.museum hub.old.book.depth O A number line.station line.request) × StandsFor S.is_quiet S.holds hub.new O (A ++ sent_by line.station line.request)) }
     ensures fault { OnErr result ((O : List Entry) (A : List Arrival) → StandsFor S.is_quiet S.holds hub.old O A → TakesSome S.is_quiet S.holds hub.new O A (sent_by line.station line.request)) }
     ensures up { OnOk result (hub.new.down ≡ false) }
-    ensures count { CountsUp (S.refusals hub.old.register) (S.refusals hub.new.register) result }
+    ensures count { CountsStore (S.refusals hub.old.register) (S.refusals hub.new.register) result }
     ensures museum { hub.new.book.museum ≡ hub.old.book.museum }
     ensures depth { hub.new.book.depth ≡ hub.old.book.depth }
 {
@@ -114,11 +114,11 @@ fn fault_text(alloc: Global, fault: ReadFault) -> Result<String, AllocError>
     ensures { IfOk result (λ text. string_bytes text ≡ fault_text fault) }
 {
     match fault {
-        ReadFault::NotJson => replies::joined(alloc, &["NotJson"]),
-        ReadFault::Missing(key) => replies::joined(alloc, &["Missing ", key.name()]),
-        ReadFault::BadKind => replies::joined(alloc, &["BadKind"]),
-        ReadFault::BadField(key) => replies::joined(alloc, &["BadField ", key.name()]),
-        ReadFault::NoMemory => replies::joined(alloc, &["NoMemory"]),
+        ReadFault::NotJson => ["NotJson"].concat(alloc),
+        ReadFault::Missing(key) => ["Missing ", key.name()].concat(alloc),
+        ReadFault::BadKind => ["BadKind"].concat(alloc),
+        ReadFault::BadField(key) => ["BadField ", key.name()].concat(alloc),
+        ReadFault::NoMemory => ["NoMemory"].concat(alloc),
     }
 }
 
@@ -135,7 +135,7 @@ fn station_reply<S: Register>(
         (string_bytes text ≡ station_reply hub.old.book.museum hub.old.book.depth O A station request) × StandsFor S.is_quiet S.holds hub.new O (A ++ sent_from station request)) }
     ensures fault { OnErr result ((O : List Entry) (A : List Arrival) → StandsFor S.is_quiet S.holds hub.old O A → TakesSome S.is_quiet S.holds hub.new O A (sent_from station request)) }
     ensures up { OnOk result (hub.new.down ≡ false) }
-    ensures count { CountsUp (S.refusals hub.old.register) (S.refusals hub.new.register) result }
+    ensures count { CountsStore (S.refusals hub.old.register) (S.refusals hub.new.register) result }
     ensures museum { hub.new.book.museum ≡ hub.old.book.museum }
     ensures depth { hub.new.book.depth ≡ hub.old.book.depth }
 {
@@ -159,7 +159,7 @@ fn scan_reply<S: Register>(
         (string_bytes text ≡ station_reply hub.old.book.museum hub.old.book.depth O A station (asks.Scan n message)) × StandsFor S.is_quiet S.holds hub.new O (A ++ sent_from station (asks.Scan n message))) }
     ensures fault { OnErr result ((O : List Entry) (A : List Arrival) → StandsFor S.is_quiet S.holds hub.old O A → TakesSome S.is_quiet S.holds hub.new O A (sent_from station (asks.Scan n message))) }
     ensures up { OnOk result (hub.new.down ≡ false) }
-    ensures count { CountsUp (S.refusals hub.old.register) (S.refusals hub.new.register) result }
+    ensures count { CountsStore (S.refusals hub.old.register) (S.refusals hub.new.register) result }
     ensures museum { hub.new.book.museum ≡ hub.old.book.museum }
     ensures depth { hub.new.book.depth ≡ hub.old.book.depth }
 {

@@ -1,6 +1,5 @@
 //! The opening of a hub over what a register has.
-ghost use Rattle.std.specs.Prelude.{◌≡◌, ◌⊎◌, List, true, reverse, map, OnOk, OnErr, IfOk, IfErr};
-ghost use Rattle.posting_core.specs.declared.entry.Entry.{Entry};
+ghost use Rattle.std.specs.Prelude.{◌≡◌, ◌⊎◌, true, reverse, map, OnOk, OnErr, IfOk, IfErr};
 ghost use Rattle.posting_core.specs.Messages.{is_sign_off};
 ghost use Rattle.station_core.specs.Progress.{AllMatch};
 ghost use Rattle.register_store.specs.StoredRows.{Content, HasList};

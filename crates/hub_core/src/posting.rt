@@ -9,7 +9,7 @@ ghost use Rattle.station_core.specs.Series.{series_at};
 ghost use Rattle.station_core.specs.Runs.{Arrived, arrived, due, ready};
 ghost use Rattle.station_core.specs.Progress.{IsPosting};
 ghost use Rattle.hub_core.specs.Points.{entry_of, post};
-ghost use Rattle.hub_core.specs.Faults.{told, CountsStore};
+ghost use Rattle.hub_core.specs.Faults.{hub_fault, CountsStore};
 ghost use Rattle.hub_core.specs.StandsFor.{InStep, Done, HasStore, HasSomeStore, Stopped};
 
 use crate::HubFault;
@@ -92,16 +92,16 @@ fn post_next<R: Register>(
         verdict,
     };
     if let Err(fault) = register.post(alloc, &entry, &changes) {
-        return Err(told(fault));
+        return Err(hub_fault(fault));
     }
     ledger.apply(alloc, entry, changes)?;
     Ok(())
 }
 
 /// A register's fault, as the hub tells it.
-fn told(fault: StoreFault) -> HubFault
+fn hub_fault(fault: StoreFault) -> HubFault
     requires { is_failure fault ≡ true }
-    ensures { result ≡ told fault }
+    ensures { result ≡ hub_fault fault }
 {
     match fault {
         StoreFault::NoMemory => HubFault::NoMemory,

@@ -1,17 +1,16 @@
 //! Lines in, replies out.
-ghost use Rattle.std.specs.Prelude.{◌≡◌, ◌⊎◌, ◌++◌, false, true, List, ℕ, take, OnOk, OnErr, IfErr, IfSome};
+ghost use Rattle.std.specs.Prelude.{◌≡◌, ◌++◌, false, true, List, ℕ, take, OnOk, OnErr, IfErr, IfSome};
 ghost use Rattle.std.specs.Io.KnownBytes.{Appends, IsAtEnd};
 ghost use Rattle.posting_core.specs.declared.entry.Entry.{Entry};
 ghost use Rattle.hub_core.specs.declared.answer.Arrival.{Arrival};
 ghost use Rattle.hub_core.specs.LineText.{text, arrivals};
-ghost use Rattle.hub_core.specs.Faults.{told_of_line, CountsReplay};
+ghost use Rattle.hub_core.specs.Faults.{CountsReplay};
 ghost use Rattle.hub_core.specs.StandsFor.{StandsFor};
 ghost use Rattle.hub_core.specs.Replayed.{Answered, AfterFault};
 
 use crate::line_reader::{Reads, flush, next_line};
 use crate::line_reply::{reply_to, without_return};
 use crate::{Hub, HubFault};
-use codes_core::NoMemory;
 use register_store::Register;
 use std::alloc::Global;
 use std::io::{BufRead, ErrorKind, Write};
@@ -29,24 +28,32 @@ pub enum ReplayFault {
     /// The reader failed, or gave no end within 4,294,967,295 reads.
     #[error("the input could not be read")]
     ReadFailed,
-    /// The writer failed, or took no byte.
+    /// The writer failed, took no byte, or hadn't taken a reply within 4,294,967,295 writes.
     #[error("the output could not be written")]
     WriteFailed,
 }
 
-impl From<NoMemory> for ReplayFault {
+impl From<HubFault> for ReplayFault {
     ghost use Rattle.std.specs.Prelude.{◌≡◌};
-    ghost use Rattle.hub_core.specs.declared.replaying.ReplayFault.TheVariants as faults;
+    ghost use Rattle.hub_core.specs.Faults.{replay_fault};
 
-    ghost from_gives = { λ _ e. e ≡ faults.NoMemory };
+    ghost from_gives = { λ fault e. e ≡ replay_fault fault };
 
-    fn from(_fault: NoMemory) -> ReplayFault {
-        ReplayFault::NoMemory
+    fn from(fault: HubFault) -> ReplayFault {
+        match fault {
+            HubFault::Store => ReplayFault::Store,
+            HubFault::NoMemory | HubFault::Down => ReplayFault::NoMemory,
+        }
     }
 }
 
-/// Answers the lines of the input, one after the other, over the hub. Lines are numbered from 1. A read is one call of
-/// `fill_buf`; there are at most 4,294,967,295.
+/// Answers the lines of the input, one after the other, over the hub, and writes the replies to the output. Lines are
+/// numbered from 1; one of more than LONGEST_LINE bytes is `bad TooLong`. The output is flushed before each read that may
+/// wait, and at the end. A read is one call of `fill_buf`; there are at most 4,294,967,295.
+///
+/// After ReadFailed the lines that have ended are answered. After WriteFailed the lines that were read are taken, and a
+/// front of their replies is written. After NoMemory or Store all lines before the one that met it are answered; the hub
+/// is down, or it has taken that line's arrival or not.
 pub fn replay<R: BufRead, W: Write, S: Register>(
     alloc: Global,
     input: &mut R,
@@ -91,39 +98,18 @@ pub(crate) fn replay_from<R: BufRead, W: Write, S: Register>(
     let mut reads = reads_left;
     let mut line = Vec::new(alloc);
     for number in 1..u64::MAX {
-        let fed = match next_line(input, output, &mut reads, &mut line) {
-            Ok(fed) => fed,
-            Err(fault) => return Err(fault),
-        };
-        let text = match reply_to(alloc, number, without_return(line.as_slice()), hub) {
-            Ok(text) => text,
-            Err(fault) => return Err(told(fault)),
-        };
-        let Ok(()) = write_text(output, text.as_bytes()) else {
-            return Err(ReplayFault::WriteFailed);
-        };
+        let fed = next_line(input, output, &mut reads, &mut line)?;
+        let text = reply_to(alloc, number, without_return(line.as_slice()), hub)?;
+        write_text(output, text.as_bytes())?;
         if !fed {
-            let Ok(()) = flush(output) else {
-                return Err(ReplayFault::WriteFailed);
-            };
-            return Ok(());
+            return flush(output);
         }
     }
     Err(ReplayFault::ReadFailed)
 }
 
-/// A hub's fault, as a replay tells it.
-fn told(fault: HubFault) -> ReplayFault
-    ensures told { result ≡ told_of_line fault }
-    ensures either { (result ≡ ReplayFault.NoMemory) ⊎ (result ≡ ReplayFault.Store) }
-{
-    match fault {
-        HubFault::Store => ReplayFault::Store,
-        _ => ReplayFault::NoMemory,
-    }
-}
-
-/// Writes these bytes, in at most 4,294,967,295 writes. A write that takes no byte has failed.
+/// Writes these bytes, in at most 4,294,967,295 writes. A write that takes no byte has failed. `Write::write_all` does the
+/// same, but doesn't promise that what it wrote before it failed is a front of them.
 fn write_text<W: Write>(output: &mut W, text: &[u8]) -> Result<(), ReplayFault>
     ensures ok { OnOk result (Appends (W.contents output.old) (W.contents output.new) text.now) }
     ensures fault { OnErr result ((k : ℕ) × Appends (W.contents output.old) (W.contents output.new) (take k text.now)) }

@@ -1,21 +1,8 @@
 //! The printed replies, each a line with its line feed.
-ghost use Rattle.std.specs.Prelude.{◌≡◌, ◌++◌, ◌∷◌, [], IfOk, codes, string_bytes, map};
-ghost use Rattle.std.specs.Fmt.{decimal};
-ghost use Rattle.std.specs.List.{concat};
+ghost use Rattle.std.specs.Prelude.{◌≡◌, IfOk, string_bytes};
 ghost use Rattle.hub_core.specs.Replies.{refused_line, unknown_station_line, held_line, posted_line, bad_line, asked_line};
 
 use std::alloc::{AllocError, Global};
-
-/// The parts joined to one text.
-pub(crate) fn joined(alloc: Global, parts: &[&str]) -> Result<String, AllocError>
-    ensures { IfOk result (λ text. string_bytes text ≡ concat (map (λ part. part.now) parts.now)) }
-{
-    let mut text = String::new(alloc);
-    for part in parts {
-        text.push_str(part)?;
-    }
-    Ok(text)
-}
 
 /// The reply to a message that isn't taken: `STATION n refused NAME`.
 pub(crate) fn refused(
@@ -27,10 +14,7 @@ pub(crate) fn refused(
     ensures { IfOk result (λ line. string_bytes line ≡ refused_line station.now n refusal.now) }
 {
     let n = n.to_string(alloc)?;
-    joined(
-        alloc,
-        &[station, " ", n.as_str(), " refused ", refusal, "\n"],
-    )
+    [station, " ", n.as_str(), " refused ", refusal, "\n"].concat(alloc)
 }
 
 /// The reply to a line of a station that the setup doesn't have: `line K refused UnknownStation`.
@@ -38,10 +22,7 @@ pub(crate) fn unknown_station(alloc: Global, number: u64) -> Result<String, Allo
     ensures { IfOk result (λ line. string_bytes line ≡ unknown_station_line number) }
 {
     let number = number.to_string(alloc)?;
-    joined(
-        alloc,
-        &["line ", number.as_str(), " refused UnknownStation\n"],
-    )
+    ["line ", number.as_str(), " refused UnknownStation\n"].concat(alloc)
 }
 
 /// The reply to a message that waits: `STATION n held`.
@@ -49,7 +30,7 @@ pub(crate) fn held(alloc: Global, station: &str, n: u64) -> Result<String, Alloc
     ensures { IfOk result (λ line. string_bytes line ≡ held_line station.now n) }
 {
     let n = n.to_string(alloc)?;
-    joined(alloc, &[station, " ", n.as_str(), " held\n"])
+    [station, " ", n.as_str(), " held\n"].concat(alloc)
 }
 
 /// The reply for a posted entry: `STATION n posted ENTRY VERDICT`.
@@ -64,19 +45,17 @@ pub(crate) fn posted(
 {
     let n = n.to_string(alloc)?;
     let entry = entry.to_string(alloc)?;
-    joined(
-        alloc,
-        &[
-            station,
-            " ",
-            n.as_str(),
-            " posted ",
-            entry.as_str(),
-            " ",
-            verdict,
-            "\n",
-        ],
-    )
+    [
+        station,
+        " ",
+        n.as_str(),
+        " posted ",
+        entry.as_str(),
+        " ",
+        verdict,
+        "\n",
+    ]
+    .concat(alloc)
 }
 
 /// The reply to a faulty line: `line K bad FAULT`.
@@ -84,7 +63,7 @@ pub(crate) fn bad(alloc: Global, number: u64, fault: &str) -> Result<String, All
     ensures { IfOk result (λ line. string_bytes line ≡ bad_line number fault.now) }
 {
     let number = number.to_string(alloc)?;
-    joined(alloc, &["line ", number.as_str(), " bad ", fault, "\n"])
+    ["line ", number.as_str(), " bad ", fault, "\n"].concat(alloc)
 }
 
 /// The reply to a question: `STATION ask CODE PLACE`, where PLACE is what is said of where the thing is.
@@ -96,5 +75,5 @@ pub(crate) fn asked(
 ) -> Result<String, AllocError>
     ensures { IfOk result (λ line. string_bytes line ≡ asked_line station.now code.now place.now) }
 {
-    joined(alloc, &[station, " ask ", code, " ", place, "\n"])
+    [station, " ask ", code, " ", place, "\n"].concat(alloc)
 }

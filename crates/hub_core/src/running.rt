@@ -32,13 +32,13 @@ pub enum RunFault {
     /// The reader failed, or gave no end within 4,294,967,295 reads.
     #[error("the input could not be read")]
     ReadFailed,
-    /// The writer failed, or took no byte.
+    /// The writer failed, took no byte, or hadn't taken a reply within 4,294,967,295 writes.
     #[error("the output could not be written")]
     WriteFailed,
-    /// The setup has this fault.
+    /// The first fault of the setup.
     #[error("the setup: {0}")]
     Setup(SetupFault),
-    /// The head is longer than a setup may be.
+    /// The head has more than LONGEST_HEAD bytes.
     #[error("the setup is too long")]
     HeadTooLong,
 }
@@ -70,9 +70,10 @@ impl From<ReplayFault> for RunFault {
     }
 }
 
-/// Reads the setup, which is the bytes before the first empty line, or all of them, and replays the rest over a new hub.
-/// HeadTooLong is found as soon as it holds, and before any fault of the setup. The reads of the head and of the lines are
-/// counted together.
+/// Reads the setup, which is the bytes before the first empty line, or all of them, and replays the rest over a new hub in
+/// memory. The faults of the head: ReadFailed; HeadTooLong, found as soon as it holds; the setup's first. Nothing is
+/// written then. In the lines each fault leaves what it leaves of a replay. NoMemory can stand in place of any answer, and
+/// Store never comes. The reads of the head and of the lines are counted together.
 pub fn run<R: BufRead, W: Write>(
     alloc: Global,
     input: &mut R,

@@ -2,6 +2,8 @@
 #![tactic(auto)]
 
 mod faults;
+#[cfg(test)]
+mod tests;
 
 use hub_core::{RunFault, run};
 use std::io;

@@ -52,7 +52,7 @@ pub row_of : (S : Museum) (row : Fields) (t : Bool) (k : Option RowKind) → (fi
 row_of S row t k e f =
     ap (λ b. cond b S (with_kind S row (row_kind (field row 0)))) e ∙ ap (λ q. cond t S (with_kind S row q)) f
 
-last_alone : (o : Option SetupFault) → first_some (o ∷ []) ≡ o
+pub last_alone : (o : Option SetupFault) → first_some (o ∷ []) ≡ o
 last_alone None = refl
 last_alone (Some f) = refl
 
@@ -79,12 +79,12 @@ chosen_is true x y e = (refl, cc)
 chosen_is false x y e = absurd (cc)
 
 -- what the tests of a row tell
-pub is_read : (row : Fields) (k : RowKind) (item : SetupRow) (count again wanted : ℕ) (word : Bool) → count ≡ field_count row → (count ≡ 0 → ⊥)
-    → row_kind (field row 0) ≡ Some k → again ≡ field_count row → wanted ≡ fields_of_kind k → again ≡ wanted → word ≡ has_word k row → word ≡ true
+pub is_read : (row : Fields) (k : RowKind) (item : SetupRow) (count wanted : ℕ) (word : Bool) → count ≡ field_count row → (count ≡ 0 → ⊥)
+    → row_kind (field row 0) ≡ Some k → wanted ≡ fields_of_kind k → count ≡ wanted → word ≡ has_word k row → word ≡ true
     → cond (has_codes k row) (Some (listed k row)) None ≡ Some item → IsRead row k item
-is_read row k item count again wanted word counted some kind_is again_counted wants enough has right chosen =
+is_read row k item count wanted word counted some kind_is wants enough has right chosen =
     let codes = chosen_is (has_codes k row) (listed k row) item chosen in
-    let fields : (field_count row == fields_of_kind k) ≡ true = same_number _ _ (sym again_counted ∙ enough ∙ wants) in
+    let fields : (field_count row == fields_of_kind k) ≡ true = same_number _ _ (sym counted ∙ enough ∙ wants) in
     let said : has_word k row ≡ true = sym has ∙ right in
     record {
       some = not_zero (field_count row) (λ none. some (counted ∙ none));

@@ -1,11 +1,12 @@
 -- What follows of a museum.
-use Rattle.std.specs.Prelude.{◌≡◌, ℕ, ◌<◌, ◌≤◌, Bool, true, false, nat_le, nat_lt, List, [], ◌∷◌, ◌++◌, length, map, Option, Some, None, IfSome, is_none, is_some, suc, refl}
+use Rattle.std.specs.Prelude.{◌≡◌, ℕ, ◌<◌, ◌≤◌, Bool, true, false, nat_le, nat_lt, List, [], ◌∷◌, ◌++◌, length, map, Option, Some, None, IfSome, is_none, is_some, refl}
 use Rattle.std.specs.List.{slice_get}
 use Rattle.std.specs.Option.{option_map_or, option_and_then}
 use Rattle.std.specs.Str.{bytes_eq}
-use Rattle.std.proofs.Common.{arith, sym, subst, ap}
+use Rattle.std.proofs.Common.{arith, sym, subst}
+use Rattle.std.proofs.lemmas.Bool.{and_parts}
 use Rattle.std.proofs.lemmas.Bool.Decides.{nat_tests}
-use Rattle.std.proofs.lemmas.List.{length-append, map-append}
+use Rattle.std.proofs.lemmas.List.{length-append, length-map, map-append}
 use Rattle.std.proofs.lemmas.List.Quantifiers.{position-Some}
 use Rattle.codes_core.specs.Place.{place_fault}
 use Rattle.codes_core.specs.Thing.{thing_fault, thing_kind}
@@ -16,7 +17,7 @@ use Rattle.nest_core.specs.SetupRows.{has_normal, is_right, lacks_normal, listin
 use Rattle.nest_core.specs.declared.setup_fault.SetupFault.TheVariants.{TooMany, UnknownNormal}
 use Rattle.nest_core.specs.StationName.{is_station_name}
 use Rattle.nest_core.specs.declared.setup_row.SetupRow.TheVariants as lists
-use Rattle.nest_core.proofs.Positions.{and_parts, passes_at, all_push, all_more, EachFound, EachFound-push}
+use Rattle.nest_core.proofs.Positions.{passes_at, all_push, all_more, EachFound, EachFound-push, test_true}
 
 below : (p n : ℕ) → nat_lt p n ≡ true → p < n
 below p n h = grind (arith, nat_tests)
@@ -103,22 +104,15 @@ lacking : (found : Option ℕ) → is_none found ≡ false → (p : ℕ) × (fou
 lacking None e = absurd (cc)
 lacking (Some p) e = (p, refl)
 
-codes_count : {Y : Type 0} (rows : List (List ℕ × Y)) → length (map (λ row. row.0) rows) ≡ length rows
-codes_count [] = refl
-codes_count (row ∷ rows) = ap suc (codes_count rows)
-
 place_below : (S : Museum) (code : List ℕ) (p : ℕ) → find_place S code ≡ Some p → p < length S.places
-place_below S code p found = omega (arith, (position-Some (bytes_eq code) (place_codes S) p [] found).0, codes_count S.places)
-
-test_below : (p n : ℕ) → p < n → nat_lt p n ≡ true
-test_below p n h = grind (arith, nat_tests)
+place_below S code p found = omega (arith, (position-Some (bytes_eq code) (place_codes S) p [] found).0, length-map S.places (λ (row : List ℕ × Bool). row.0))
 
 normal_found : (S : Museum) (kind : ThingKind) (normal : Option (List ℕ)) → has_normal kind normal ≡ true → option_map_or (λ place. is_none (find_place S place)) normal false ≡ false
     → has_right_normal (length S.places) kind (option_and_then (find_place S) normal) ≡ true
 normal_found S Own None h e = absurd (cc)
 normal_found S Own (Some place) h e =
     let there = lacking (find_place S place) e in
-    subst (λ o. has_right_normal (length S.places) Own o ≡ true) (sym there.1) (test_below there.0 (length S.places) (place_below S place there.0 there.1))
+    subst (λ o. has_right_normal (length S.places) Own o ≡ true) (sym there.1) (test_true there.0 (length S.places) (place_below S place there.0 there.1))
 normal_found S Borrowed None h e = refl
 normal_found S Borrowed (Some place) h e = absurd (cc)
 normal_found S Container None h e = refl

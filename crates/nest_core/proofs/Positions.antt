@@ -1,9 +1,9 @@
 -- Where a text stands in a list.
-use Rattle.std.specs.Prelude.{◌≡◌, ℕ, ◌+◌, ◌<◌, ◌≤◌, ◌&&◌, ◌||◌, ◌⊎◌, Bool, true, false, cond, not, List, [], ◌∷◌, ◌++◌, length, map, Option, Some, None, nat_lt, is_some, refl, zero, suc, eqb}
+use Rattle.std.specs.Prelude.{◌≡◌, ℕ, ◌+◌, ◌<◌, ◌≤◌, ◌||◌, ◌⊎◌, Bool, true, false, cond, not, List, [], ◌∷◌, ◌++◌, length, map, Option, Some, None, nat_lt, is_some, refl, zero, suc, eqb}
 use Rattle.std.specs.List.{position, position_or_len, list_all, list_any, slice_get}
 use Rattle.std.specs.Str.{bytes_eq}
 use Rattle.std.proofs.lemmas.Slice.Eq.{bytes_eq-Decides}
-use Rattle.std.proofs.lemmas.Bool.{false_from_ne_true}
+use Rattle.std.proofs.lemmas.Bool.{and_parts, false_from_ne_true}
 use Rattle.std.proofs.Common.{arith, ap, sym, ◌∙◌, subst, inl, inr}
 use Rattle.std.proofs.lemmas.Bool.Decides.{nat_tests}
 use Rattle.std.proofs.lemmas.List.{length-append}
@@ -11,10 +11,6 @@ use Rattle.std.proofs.lemmas.List.Folds.{position_or_len_push}
 use Rattle.std.proofs.lemmas.List.Sums.{prefix_len-le-length}
 use Rattle.indexmap.specs.IndexMap.{insert_entry}
 use Rattle.indexmap.specs.IndexSet.{insert_key}
-
-pub and_parts : (a b : Bool) → (a && b) ≡ true → (a ≡ true) × (b ≡ true)
-and_parts true b h = (refl, h)
-and_parts false b h = absurd (cc)
 
 -- a test that nothing in the list passes runs to its end
 or_len_none : {X : Type 0} (p q : X → Bool) (xs : List X) → list_all q xs ≡ true → ((x : X) → q x ≡ true → p x ≡ false) → position_or_len p xs ≡ length xs
@@ -38,11 +34,8 @@ passes_at q (y ∷ ys) (suc i) x h e = passes_at q ys i x (and_parts (q y) (list
 pub position_unlike : (q : List ℕ → Bool) (texts : List (List ℕ)) (text : List ℕ) → list_all q texts ≡ true → q text ≡ false → position (bytes_eq text) texts ≡ None
 position_unlike q texts text h no_pass = position_none (bytes_eq text) q texts h (λ x passes. false_from_ne_true (bytes_eq text x) (λ e. let same : text ≡ x = (bytes_eq-Decides text x).0 e in absurd (let e : q x ≡ false = subst (λ t. q t ≡ false) same no_pass in cc)))
 
-test_true : (a b : ℕ) → a < b → nat_lt a b ≡ true
+pub test_true : (a b : ℕ) → a < b → nat_lt a b ≡ true
 test_true a b h = grind (arith, nat_tests)
-
-test_false : (a b : ℕ) → b ≤ a → nat_lt a b ≡ false
-test_false a b h = grind (arith, nat_tests)
 
 apart : (a b : ℕ) → a < b → eqb a b ≡ false
 apart a b h = grind (arith, nat_tests)

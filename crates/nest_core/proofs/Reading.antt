@@ -11,6 +11,7 @@ use Rattle.nest_core.specs.Museum.{Museum, no_museum}
 use Rattle.nest_core.specs.SetupRows.{Fields, first_fault, first_some, museum_of, row_fault, with_row}
 use Rattle.nest_core.specs.declared.setup_fault.SetupFault.{SetupFault}
 use Rattle.nest_core.proofs.CsvRows.{left_at_start, left_none, left_some, next_leaves, rows_left}
+use Rattle.nest_core.proofs.Listings.{last_alone}
 
 -- the rows before row n of the text are listed in S and have no fault, and what is left is read from this state
 pub record IsUpTo (text : List ℕ) (S : Museum) (n : ℕ) (s : State) (xs : List ℕ) : Type 0 where
@@ -30,10 +31,6 @@ at_start text = record {
   fault = ap (first_fault []) (left_at_start text);
   rests = refl;
 }
-
-last_alone : (o : Option SetupFault) → first_some (o ∷ []) ≡ o
-last_alone None = refl
-last_alone (Some f) = refl
 
 none_first : (o q : Option SetupFault) → o ≡ None → first_some (o ∷ q ∷ []) ≡ q
 none_first o q e = ap (λ f. first_some (f ∷ q ∷ [])) e ∙ last_alone q

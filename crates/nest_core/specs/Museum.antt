@@ -49,11 +49,11 @@ place_code_of S p = slice_get (place_codes S) p
 abbrev pub thing_code_of : Museum → ℕ → Option (List ℕ)
 thing_code_of S x = slice_get (thing_codes S) x
 
--- place p is one of the museum's own; none is where p is no place
+-- place p is one of the museum's own; false where there is no place p
 abbrev pub is_inside : Museum → ℕ → Bool
 is_inside S p = option_map_or (λ row. row.1) (slice_get S.places p) false
 
--- place p is a partner's; none is where p is no place
+-- place p is a partner's; false where there is no place p
 abbrev pub is_elsewhere : Museum → ℕ → Bool
 is_elsewhere S p = option_map_or (λ row. not row.1) (slice_get S.places p) false
 

@@ -51,7 +51,7 @@ fields_of_kind kind.Box = 2
 fields_of_kind kind.Own = 3
 fields_of_kind kind.Lent = 2
 
--- a place says where it is
+-- a place's third field says where it is
 abbrev pub has_word : RowKind → Fields → Bool
 has_word kind.Station row = true
 has_word kind.Place row = bytes_eq (field row 2) (codes "inside") || bytes_eq (field row 2) (codes "elsewhere")

@@ -19,8 +19,3 @@ pub use setup::{PlaceNo, Setup, StationNo, ThingNo};
 pub use setup_fault::SetupFault;
 pub use steps::Steps;
 pub use thing_nos::{Moved, ThingNos};
-
-#[cfg(test)]
-mod nest_tests;
-#[cfg(test)]
-mod tests;

@@ -27,7 +27,7 @@ pub type StationNo = u32;
 pub struct Setup {
     stations: IndexSet<StationName>,
     places: IndexMap<PlaceCode, bool>,
-    things: IndexMap<ThingCode, Option<u32>>,
+    things: IndexMap<ThingCode, Option<PlaceNo>>,
 }
 
 impl Model for Setup {
@@ -42,7 +42,8 @@ impl Model for Setup {
 }
 
 impl Setup {
-    /// What holds of every setup: its codes are codes, none stands twice, and its lists are within their limits.
+    /// What holds of every setup: its codes are codes, none stands twice, and its lists are within their limits. Does
+    /// nothing: its contract is the law.
     pub fn is_museum(&self)
         ensures { IsMuseum self.now }
     {
@@ -214,6 +215,7 @@ impl Setup {
         Ok(())
     }
 
+    /// The number of the normal place, where there is one and it is listed.
     fn normal_no(&self, normal: Option<PlaceCode>) -> Option<PlaceNo>
         ensures { result ≡ option_and_then (find_place self.now) normal }
     {

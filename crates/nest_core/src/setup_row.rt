@@ -1,5 +1,5 @@
 //! What one row of a setup file lists.
-ghost use Rattle.std.specs.Prelude.{◌≡◌, true, None, Some, MatchResult, MatchOption, if◌then◌else◌};
+ghost use Rattle.std.specs.Prelude.{◌≡◌, true, None, Some, IfOk, IfErr, MatchOption, if◌then◌else◌};
 ghost use Rattle.csv.specs.Records.{fields_of};
 ghost use Rattle.nest_core.specs.Museum.{Museum};
 ghost use Rattle.nest_core.specs.SetupRows.{field, field_count, fields_of_kind, has_word, has_codes, is_thing_code, is_place_code, is_right, listed, listing_fault, row_fault, row_kind, with_listed, with_row};
@@ -48,6 +48,7 @@ fn field_count(row: &ByteRecord) -> usize
     count
 }
 
+/// What a row's first field says that it lists, if it is a word for that.
 fn row_kind(word: &[u8]) -> Option<RowKind>
     ensures { result ≡ row_kind word.now }
 {
@@ -76,7 +77,7 @@ fn fields_of_kind(kind: RowKind) -> usize
     }
 }
 
-/// Whether a place says where it is.
+/// Whether a place's row says where it is.
 fn has_word(kind: RowKind, row: &ByteRecord) -> bool
     ensures { result ≡ has_word kind (fields_of row.now) }
 {
@@ -89,6 +90,7 @@ fn has_word(kind: RowKind, row: &ByteRecord) -> bool
     }
 }
 
+/// The code that the bytes are, if they are one of the kind.
 fn thing_code(bytes: &[u8], kind: ThingKind) -> Option<ThingCode>
     ensures { result ≡ (if is_thing_code kind bytes.now then Some bytes.now else None) }
 {
@@ -98,13 +100,11 @@ fn thing_code(bytes: &[u8], kind: ThingKind) -> Option<ThingCode>
     }
 }
 
+/// The code that the bytes are, if they are one.
 fn place_code(bytes: &[u8]) -> Option<PlaceCode>
     ensures { result ≡ (if is_place_code bytes.now then Some bytes.now else None) }
 {
-    match PlaceCode::parse(bytes) {
-        Ok(code) => Some(code),
-        Err(_) => None,
-    }
+    PlaceCode::parse(bytes).ok()
 }
 
 /// What a row of the kind lists, if its codes are as the kind wants them.
@@ -139,20 +139,20 @@ impl SetupRow {
     /// What the row lists, or nothing where it is skipped; else its first fault by itself: BadKind, BadFields
     /// or BadCode.
     pub fn read(number: u64, row: &ByteRecord) -> Result<Option<SetupRow>, SetupFault>
-        // Whatever the rows before it list.
-        ensures { MatchResult result
-            (λ read. MatchOption read
+        // S is whatever the rows before it list.
+        ensures ok { IfOk result (λ read. MatchOption read
             ((S : Museum) → (row_fault S number (fields_of row.now) ≡ None) × (with_row S (fields_of row.now) ≡ S))
-            (λ item. (is_right item ≡ true) × ((S : Museum) → (row_fault S number (fields_of row.now) ≡ listing_fault S number item) × (with_row S (fields_of row.now) ≡ with_listed S item))))
-            (λ fault. (S : Museum) → row_fault S number (fields_of row.now) ≡ Some fault) }
+            (λ item. (is_right item ≡ true) × ((S : Museum) → (row_fault S number (fields_of row.now) ≡ listing_fault S number item) × (with_row S (fields_of row.now) ≡ with_listed S item)))) }
+        ensures fault { IfErr result (λ fault. (S : Museum) → row_fault S number (fields_of row.now) ≡ Some fault) }
     {
-        if field_count(row) == 0 {
+        let count = field_count(row);
+        if count == 0 {
             return Ok(None);
         }
         let Some(kind) = row_kind(field(row, 0)) else {
             return Err(SetupFault::BadKind(number));
         };
-        if field_count(row) != fields_of_kind(kind) || !has_word(kind, row) {
+        if count != fields_of_kind(kind) || !has_word(kind, row) {
             return Err(SetupFault::BadFields(number));
         }
         match listed(kind, row) {

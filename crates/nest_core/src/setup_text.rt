@@ -1,5 +1,5 @@
 //! The rows that list a setup, as text.
-ghost use Rattle.std.specs.Prelude.{◌≡◌, ◌-◌, ◌<◌, ◌≤◌, length, map, Some, IfOk, option_map, slice_get, string_bytes};
+ghost use Rattle.std.specs.Prelude.{◌≡◌, ◌-◌, ◌<◌, ◌≤◌, length, map, Some, IfOk, slice_get, string_bytes};
 ghost use Rattle.nest_core.specs.Museum.{row_count};
 ghost use Rattle.nest_core.specs.SetupTexts.{joined, kind_word, place_fields, setup_rows, station_fields, thing_fields};
 

@@ -1,17 +1,16 @@
 -- What was agreed over a lawful list: each loan once, of known objects, with a known partner; and what no entry touches.
-use Rattle.std.specs.Prelude.{ℕ, ℤ, ◌≡◌, ◌<◌, ◌&&◌, ◌||◌, Bool, true, false, not, cond, List, [], ◌∷◌, ◌++◌, Option, None, Some, length, refl, is_some, if◌then◌else◌, unwrap_or}
+use Rattle.std.specs.Prelude.{ℕ, ℤ, ◌≡◌, Bool, true, false, not, cond, List, [], ◌∷◌, ◌++◌, Option, None, Some, refl, is_some, if◌then◌else◌}
 use Rattle.std.specs.List.{find, list_any, AllByRecursion}
-use Rattle.std.specs.Option.{option_map, option_or, option_to_list}
+use Rattle.std.specs.Option.{option_or, option_to_list}
 use Rattle.std.specs.Str.{bytes_eq}
 use Rattle.std.proofs.Common.{ap, ◌∙◌, sym, subst}
-use Rattle.std.proofs.lemmas.Bool.{and_parts}
+use Rattle.std.proofs.lemmas.Bool.Decides.{same_from_decides}
 use Rattle.std.proofs.lemmas.List.{append-nil}
 use Rattle.std.proofs.lemmas.List.Folds.{find-append}
 use Rattle.std.proofs.lemmas.Slice.Eq.{bytes_eq-Decides}
 use Rattle.nest_core.specs.Museum.{Museum, is_inside}
 use Rattle.posting_core.specs.declared.message.Message.{Message}
 use Rattle.posting_core.specs.declared.message.Message.TheVariants.{Move, Pack, Agree, Authorise, Exit, Return, Receive, SignOff, Extend}
-use Rattle.posting_core.specs.declared.verdict.Verdict.{Verdict}
 use Rattle.posting_core.specs.declared.verdict.Verdict.TheVariants.{Applied}
 use Rattle.posting_core.specs.declared.entry.Entry.{Entry}
 use Rattle.posting_core.specs.declared.stage.LineStage.TheVariants.{Awaiting}
@@ -19,16 +18,18 @@ use Rattle.posting_core.specs.VerdictNames.{is_applied}
 use Rattle.posting_core.specs.Messages.{place_no}
 use Rattle.posting_core.specs.Agreements.{Agreement, agreement_in, agreement_by, agreements, agreement, is_agreed, authorises, is_authorised, extension_in, last_from}
 use Rattle.posting_core.specs.Loans.{stage_by, stage}
-use Rattle.posting_core.specs.Verdicts.{verdict, first_of, is_known, is_known_place, is_container_code, is_of_wrong_owner, repeats, agree_rows, authorise_rows, exit_rows, return_rows, receive_rows, extend_rows}
-use Rattle.posting_core.specs.Lawful.{Follows, IsLawful}
-use Rattle.posting_core.proofs.AppliedRows.{none_some, none_holds, held, applied_is}
+use Rattle.posting_core.specs.Verdicts.{verdict, is_known, is_known_place, is_container_code, is_of_wrong_owner, repeats, agree_rows, authorise_rows, exit_rows, return_rows, receive_rows, extend_rows}
+use Rattle.posting_core.specs.Lawful.{IsLawful}
+use Rattle.posting_core.proofs.AppliedRows.{none_some, false_true, none_holds, held, applied_is}
 
--- two spellings that are told apart are told apart either way
+-- two spellings compare the same either way
+pub bytes_eq-sym : (a b : List ℕ) → bytes_eq a b ≡ bytes_eq b a
+bytes_eq-sym a b =
+    let d = bytes_eq-Decides b a in
+    same_from_decides (bytes_eq a b) (bytes_eq b a) (bytes_eq-Decides a b) (λ e. sym (d.0 e), λ e. d.1 (sym e))
+
 pub apart_sym : (a b : List ℕ) → bytes_eq a b ≡ false → bytes_eq b a ≡ false
-apart_sym a b apart = elim (bytes_eq b a) as (λ t. bytes_eq b a ≡ t → t ≡ false) [
-  | true ↦ λ e. let same : b ≡ a = (bytes_eq-Decides b a).0 e in absurd (let yes : bytes_eq a b ≡ true = (bytes_eq-Decides a b).1 (sym same) in cc)
-  | false ↦ λ e. refl
-] refl
+apart_sym a b apart = bytes_eq-sym b a ∙ apart
 
 -- what is agreed of a loan keeps to the rules
 pub record IsSound (S : Museum) (t : Agreement) : Type 0 where
@@ -60,12 +61,12 @@ agree_applied S depth P (Agree loan partner objects first last) t applied is =
 
     unfound : (o : Option Agreement) → is_some o ≡ false → o ≡ None
     unfound None h = refl
-    unfound (Some u) h = absurd (let both : true ≡ false = h in cc)
+    unfound (Some u) h = absurd (false_true (sym h))
 agree_applied S depth P _ t applied is = absurd (none_some is)
 
 -- each agreement keeps to the rules
-find_append : (loan : List ℕ) (ts : List Agreement) (o : Option Agreement) → find (λ t. bytes_eq loan t.loan) (ts ++ option_to_list o) ≡ None → find (λ t. bytes_eq loan t.loan) ts ≡ None
-find_append loan ts o none = first (find (λ t. bytes_eq loan t.loan) ts) (find (λ t. bytes_eq loan t.loan) (option_to_list o)) (sym (find-append (λ (t : Agreement). bytes_eq loan t.loan) ts (option_to_list o)) ∙ none)
+not_found_before : (loan : List ℕ) (ts : List Agreement) (o : Option Agreement) → find (λ t. bytes_eq loan t.loan) (ts ++ option_to_list o) ≡ None → find (λ t. bytes_eq loan t.loan) ts ≡ None
+not_found_before loan ts o none = first (find (λ t. bytes_eq loan t.loan) ts) (find (λ t. bytes_eq loan t.loan) (option_to_list o)) (sym (find-append (λ (t : Agreement). bytes_eq loan t.loan) ts (option_to_list o)) ∙ none)
   where
     first : (a b : Option Agreement) → option_or a b ≡ None → a ≡ None
     first None b h = refl
@@ -95,7 +96,7 @@ found_is loan (u ∷ ts) t e = elim (bytes_eq loan u.loan) as (λ b. bytes_eq lo
   | false ↦ λ h k. found_is loan ts t k
 ] refl e
 
-pub found_holds : (Q : Agreement → Type 0) (p : Agreement → Bool) (ts : List Agreement) (t : Agreement) → AllByRecursion Q ts → find p ts ≡ Some t → Q t
+found_holds : (Q : Agreement → Type 0) (p : Agreement → Bool) (ts : List Agreement) (t : Agreement) → AllByRecursion Q ts → find p ts ≡ Some t → Q t
 found_holds Q p [] t all e = absurd (none_some e)
 found_holds Q p (u ∷ ts) t (q, all) e = elim (p u) as (λ b. cond b (Some u) (find p ts) ≡ Some t → Q t) [
   | true ↦ λ k. let same : u ≡ t = cc in subst Q same q
@@ -155,7 +156,7 @@ apart_from P l loan agreed none = elim (bytes_eq l loan) as (λ b. bytes_eq l lo
 ] refl
 
 -- an applied message that names a loan finds it agreed
-pub named_agreed : (S : Museum) (depth : ℕ) (P : List Entry) (m : Message) (loan : List ℕ) → verdict S depth P m ≡ Applied → agreement P loan ≡ None → names m loan ≡ false
+named_agreed : (S : Museum) (depth : ℕ) (P : List Entry) (m : Message) (loan : List ℕ) → verdict S depth P m ≡ Applied → agreement P loan ≡ None → names m loan ≡ false
 named_agreed S depth P (Authorise l name) loan applied none = apart_from P l loan (none_holds (authorise_rows P l) refl applied).0 none
 named_agreed S depth P (Exit x l day) loan applied none = apart_from P l loan (none_holds (exit_rows S P x l day) refl applied).1.0 none
 named_agreed S depth P (Return x l p day) loan applied none = apart_from P l loan (none_holds (return_rows S P x l p) refl applied).1.1.1.0 none
@@ -167,7 +168,7 @@ named_agreed S depth P (Agree l partner objects first last) loan applied none = 
 named_agreed S depth P (SignOff name) loan applied none = refl
 
 -- a message leaves a loan that it doesn't name
-pub unnamed : (S : Museum) (P : List Entry) (m : Message) (loan : List ℕ) → names m loan ≡ false → ((o : ℕ) → stage_by S P m loan o ≡ None) × (extension_in m loan ≡ None) × (authorises m loan ≡ false)
+unnamed : (S : Museum) (P : List Entry) (m : Message) (loan : List ℕ) → names m loan ≡ false → ((o : ℕ) → stage_by S P m loan o ≡ None) × (extension_in m loan ≡ None) × (authorises m loan ≡ false)
 unnamed S P (Move x p day) loan other = (λ o. refl, refl, refl)
 unnamed S P (Pack x c day) loan other = (λ o. refl, refl, refl)
 unnamed S P (Agree l partner objects first last) loan other = (λ o. refl, refl, refl)
@@ -187,7 +188,7 @@ pub record IsUntouched (S : Museum) (P : List Entry) (loan : List ℕ) : Type 0 
 pub untouched : (S : Museum) (depth : ℕ) (P : List Entry) (loan : List ℕ) → IsLawful S depth P → agreement P loan ≡ None → IsUntouched S P loan
 untouched S depth [] loan lawful none = record { awaited = λ o. refl; ends = λ day. refl; draft = refl }
 untouched S depth (e ∷ P) loan (follows, lawful) none =
-    let none' = find_append loan (agreements P) (agreement_by e.verdict e.message) none in
+    let none' = not_found_before loan (agreements P) (agreement_by e.verdict e.message) none in
     let before = untouched S depth P loan lawful none' in
     elim (is_applied e.verdict) as (λ b. is_applied e.verdict ≡ b → IsUntouched S (e ∷ P) loan) [
       | true ↦ λ h.

@@ -1,29 +1,25 @@
--- What stands in lists of numbers and of codes.
-use Rattle.std.specs.Prelude.{ℕ, ◌≡◌, ◌+◌, ◌<◌, ◌≤◌, ◌==◌, ◌||◌, Bool, true, false, not, cond, filter, List, [], ◌∷◌, length, map, None, Some, refl, zero, suc, is_some, unwrap_or}
-use Rattle.std.specs.List.{range_with_len, list_any}
+-- What stands in lists of numbers and of codes, and where.
+use Rattle.std.specs.Prelude.{ℕ, ◌≡◌, ◌+◌, ◌<◌, ◌≤◌, ◌==◌, ◌||◌, Bool, true, false, not, cond, filter, List, [], ◌∷◌, length, map, None, Some, refl, zero, suc, is_some, unwrap_or, nat_eq, nat_lt, if◌then◌else◌}
+use Rattle.std.specs.List.{range_with_len, list_any, position, position_or_len}
+use Rattle.std.specs.Option.{option_map}
 use Rattle.std.specs.Str.{bytes_eq}
 use Rattle.std.proofs.Common.{ap, ◌∙◌, sym, arith, get_or}
+use Rattle.std.proofs.lemmas.Bool.{or_parts}
 use Rattle.std.proofs.lemmas.Bool.Decides.{nat_tests}
 use Rattle.std.proofs.lemmas.List.Quantifiers.{position-Some}
 use Rattle.std.proofs.lemmas.Option.{slice_get-get_or}
 use Rattle.std.proofs.lemmas.Slice.Eq.{bytes_eq-Decides}
 use Rattle.nest_core.specs.Museum.{Museum, find_thing, thing_codes, thing_code_of}
 use Rattle.nest_core.specs.Puts.{is_among}
+use Rattle.nest_core.proofs.Moves.{by_eq}
 use Rattle.posting_core.specs.Messages.{thing_no}
 use Rattle.posting_core.specs.Verdicts.{is_known}
-use Rattle.posting_core.proofs.AppliedRows.{held}
-
--- by whether two numbers are the same
-by_same : (X : Type 0) (a b : ℕ) → ((a == b) ≡ true → a ≡ b → X) → ((a == b) ≡ false → X) → X
-by_same X a b same other = elim (a == b) as (λ t. (a == b) ≡ t → X) [
-  | true ↦ λ e. same e (let q : a ≡ b = grind (arith, nat_tests) in q)
-  | false ↦ λ e. other e
-] refl
+use Rattle.posting_core.proofs.AppliedRows.{false_true, held}
 
 -- what stands among those that pass stands among all
 pub among_passing : (p : ℕ → Bool) (xs : List ℕ) (o : ℕ) → p o ≡ true → is_among o (filter p xs) ≡ is_among o xs
 among_passing p [] o pass = refl
-among_passing p (x ∷ xs) o pass = by_same _ x o
+among_passing p (x ∷ xs) o pass = by_eq _ x o
     (λ t same. rw (ap p same ∙ pass, t) refl)
     (λ f. elim (p x) as (λ b. is_among o (cond b (x ∷ filter p xs) (filter p xs)) ≡ ((x == o) || is_among o xs)) [
       | true ↦ ap (λ b. (x == o) || b) (among_passing p xs o pass)
@@ -33,7 +29,7 @@ among_passing p (x ∷ xs) o pass = by_same _ x o
 -- what doesn't pass doesn't
 pub not_among_passing : (p : ℕ → Bool) (xs : List ℕ) (o : ℕ) → p o ≡ false → is_among o (filter p xs) ≡ false
 not_among_passing p [] o fails = refl
-not_among_passing p (x ∷ xs) o fails = by_same _ x o
+not_among_passing p (x ∷ xs) o fails = by_eq _ x o
     (λ t same. rw (ap p same ∙ fails) (not_among_passing p xs o fails))
     (λ f. elim (p x) as (λ b. is_among o (cond b (x ∷ filter p xs) (filter p xs)) ≡ false) [
       | true ↦ rw (f, not_among_passing p xs o fails) refl
@@ -43,27 +39,42 @@ not_among_passing p (x ∷ xs) o fails = by_same _ x o
 -- each number from a on, below the end
 pub among_range : (a n o : ℕ) → a ≤ o → o < a + n → is_among o (range_with_len a n) ≡ true
 among_range a zero o low less = absurd (omega arith)
-among_range a (suc n) o low less = by_same _ a o
+among_range a (suc n) o low less = by_eq _ a o
     (λ t same. ap (λ b. b || is_among o (range_with_len (a + 1) n)) t)
     (λ f. ap (λ b. b || is_among o (range_with_len (a + 1) n)) f ∙ among_range (a + 1) n o (grind (arith, nat_tests)) (omega arith))
 
-neither : (a b : Bool) → a || b ≡ false → (a ≡ false) × (b ≡ false)
-neither true b e = absurd (let q : true ≡ false = e in cc)
-neither false b e = (refl, e)
-
 -- where none fails, what stands among them passes
 pub none_fails : (p : ℕ → Bool) (xs : List ℕ) (o : ℕ) → list_any (λ x. not (p x)) xs ≡ false → is_among o xs ≡ true → p o ≡ true
-none_fails p [] o none h = absurd (let e : false ≡ true = h in cc)
+none_fails p [] o none h = absurd (false_true h)
 none_fails p (x ∷ xs) o none h =
-    let parts = neither (not (p x)) (list_any (λ x. not (p x)) xs) none in
-    by_same _ x o
+    let parts = or_parts (not (p x)) (list_any (λ x. not (p x)) xs) none in
+    by_eq _ x o
     (λ t same. ap p (sym same) ∙ held (p x) parts.0)
     (λ f. none_fails p xs o parts.1 (sym (ap (λ b. b || is_among o xs) f) ∙ h))
+
+-- where a test first passes in a list of one more
+pub position_cons : {X : Type 0} (p : X → Bool) (x : X) (xs : List X) → position p (x ∷ xs) ≡ (if p x then Some zero else option_map suc (position p xs))
+position_cons p x xs = elim (p x) as (λ b. p x ≡ b → position p (x ∷ xs) ≡ (if b then Some zero else option_map suc (position p xs))) [
+  | true ↦ λ e. rw e (first (length xs))
+  | false ↦ λ e. rw e (later (position_or_len p xs) (length xs))
+] refl
+  where
+    first : (len : ℕ) → cond (nat_lt zero (suc len)) (Some zero) None ≡ Some zero
+    first len = let same : nat_lt zero (suc len) ≡ true = grind (arith, nat_tests) in rw same refl
+
+    later : (n len : ℕ) → cond (nat_lt (1 + n) (suc len)) (Some (1 + n)) None ≡ option_map suc (cond (nat_lt n len) (Some n) None)
+    later n len = elim (nat_lt n len) as (λ b. nat_lt n len ≡ b → cond (nat_lt (1 + n) (suc len)) (Some (1 + n)) None ≡ option_map suc (cond b (Some n) None)) [
+      | true ↦ λ e. let same : nat_lt (1 + n) (suc len) ≡ true = grind (arith, nat_tests) in rw same (ap Some (omega arith))
+      | false ↦ λ e. let same : nat_lt (1 + n) (suc len) ≡ false = grind (arith, nat_tests) in rw same refl
+    ] refl
+
+pub eq_sym : (a b : ℕ) → nat_eq a b ≡ (b == a)
+eq_sym a b = grind (arith, nat_tests)
 
 -- the code of a known thing is the one that it is found by
 pub code_found : (S : Museum) (x : List ℕ) → is_known S x ≡ true → thing_code_of S (thing_no S x) ≡ Some x
 code_found S x known = elim (find_thing S x) as (λ o. find_thing S x ≡ o → is_some o ≡ true → thing_code_of S (unwrap_or o (length S.things)) ≡ Some x) [
-  | None ↦ λ e k. absurd (let q : false ≡ true = k in cc)
+  | None ↦ λ e k. absurd (false_true k)
   | Some i ↦ λ e k.
       let found = position-Some (bytes_eq x) (thing_codes S) i x e in
       slice_get-get_or (thing_codes S) i x found.0 ∙ ap Some (sym ((bytes_eq-Decides x (get_or (thing_codes S) i x)).0 found.1))
@@ -72,10 +83,10 @@ code_found S x known = elim (find_thing S x) as (λ o. find_thing S x ≡ o → 
 -- what stands among the numbers of known codes has one of these codes
 pub among_codes : (S : Museum) (bad : List ℕ → Bool) (xs : List (List ℕ)) (o : ℕ) → list_any (λ x. not (is_known S x)) xs ≡ false → list_any bad xs ≡ false → is_among o (map (thing_no S) xs) ≡ true →
     (x : List ℕ) × (thing_code_of S o ≡ Some x) × (bad x ≡ false)
-among_codes S bad [] o known fine h = absurd (let e : false ≡ true = h in cc)
+among_codes S bad [] o known fine h = absurd (false_true h)
 among_codes S bad (x ∷ xs) o known fine h =
-    let knowns = neither (not (is_known S x)) (list_any (λ x. not (is_known S x)) xs) known in
-    let fines = neither (bad x) (list_any bad xs) fine in
-    by_same _ (thing_no S x) o
+    let knowns = or_parts (not (is_known S x)) (list_any (λ x. not (is_known S x)) xs) known in
+    let fines = or_parts (bad x) (list_any bad xs) fine in
+    by_eq _ (thing_no S x) o
     (λ t same. (x, ap (thing_code_of S) (sym same) ∙ code_found S x (held (is_known S x) knowns.0), fines.0))
     (λ f. among_codes S bad xs o knowns.1 fines.1 (sym (ap (λ b. b || is_among o (map (thing_no S) xs)) f) ∙ h))

@@ -11,6 +11,7 @@ use Rattle.nest_core.proofs.NestLaws.{IsSound, chain_ends}
 use Rattle.posting_core.specs.declared.entry.Entry.{Entry}
 use Rattle.posting_core.specs.History.{puts, place_at}
 use Rattle.posting_core.specs.Lawful.{IsLawful}
+use Rattle.posting_core.proofs.AppliedRows.{false_true}
 use Rattle.posting_core.proofs.Placed.{lawful_sound}
 
 -- the chain of what stands below x ends where a chain of x does
@@ -20,9 +21,9 @@ record EndsWith (at : ℕ → Option Target) (steps y x : ℕ) : Type 0 where
   ends : outermost y (above at steps y) ≡ outermost x (above at less x)
 
 ends_with : (at : ℕ → Option Target) (steps y x : ℕ) → is_among x (above at steps y) ≡ true → EndsWith at steps y x
-ends_with at zero y x h = absurd (let e : false ≡ true = h in cc)
+ends_with at zero y x h = absurd (false_true h)
 ends_with at (suc steps) y x h = by_container _ at y
-    (λ none. absurd (let e : false ≡ true = sym (ap (is_among x) (above-none at (suc steps) y none)) ∙ h in cc))
+    (λ none. absurd (false_true (sym (ap (is_among x) (above-none at (suc steps) y none)) ∙ h)))
     (λ c some.
     let here = above-some at steps y c some in
     let h' : (c == x) || is_among x (above at steps c) ≡ true = sym (ap (is_among x) here) ∙ h in
@@ -44,8 +45,8 @@ same_place_below n d at y x sound h =
     ∙ sym (ap (λ cs. place_of (at (outermost x cs))) (same_chain at e.less n x ended (omega (arith, length_above at e.less x, e.few))))
 
 -- what a thing carries is where it is
-pub same_place : (S : Museum) (depth : ℕ) (P : List Entry) (x y : ℕ) → IsLawful S depth P → is_carried (length S.things) (puts S P) x y ≡ true → place_at S P y ≡ place_at S P x
-same_place S depth P x y lawful h =
+pub carried_place : (S : Museum) (depth : ℕ) (P : List Entry) (x y : ℕ) → IsLawful S depth P → is_carried (length S.things) (puts S P) x y ≡ true → place_at S P y ≡ place_at S P x
+carried_place S depth P x y lawful h =
     elim (y == x) as (λ b. (y == x) ≡ b → b || is_among x (above (last (puts S P)) (length S.things) y) ≡ true → place_at S P y ≡ place_at S P x) [
       | true ↦ λ e k. ap (place_at S P) (let same : y ≡ x = grind (arith, nat_tests) in same)
       | false ↦ λ e k. same_place_below (length S.things) depth (last (puts S P)) y x (lawful_sound S depth P lawful) k
@@ -57,5 +58,5 @@ carried_alone S P x y never h =
     let none : is_among x (above (last (puts S P)) (length S.things) y) ≡ false = ap (is_among x) (above-none (last (puts S P)) (length S.things) y (ap container_of never)) in
     elim (y == x) as (λ b. (y == x) ≡ b → b || is_among x (above (last (puts S P)) (length S.things) y) ≡ true → y ≡ x) [
       | true ↦ λ e k. let same : y ≡ x = grind (arith, nat_tests) in same
-      | false ↦ λ e k. absurd (let both : false ≡ true = sym none ∙ k in cc)
+      | false ↦ λ e k. absurd (false_true (sym none ∙ k))
     ] refl h

@@ -13,35 +13,35 @@ use Rattle.posting_core.specs.Verdicts.{is_away}
 use Rattle.posting_core.specs.Lawful.{IsLawful}
 use Rattle.posting_core.specs.Book.{Book}
 use Rattle.posting_core.specs.Accountability.{IsWithLender, IsGuest}
-use Rattle.posting_core.proofs.AppliedRows.{none_some}
+use Rattle.posting_core.proofs.AppliedRows.{none_some, false_true}
 use Rattle.posting_core.proofs.Accounted.{IsLeft, AtNone, AtOne, by_verdict, none_left, one_left, went, came}
 use Rattle.posting_core.proofs.Carried.{carried_alone}
 use Rattle.posting_core.proofs.Owners.{IsListed, listed_is, listed_stays, line_listed, line_stage, borrowed_object, borrowed_listed, partner_elsewhere}
 use Rattle.posting_core.proofs.Turns.{IsInside, IsObject, HasMoved, HasExited, HasReceived, Turn, Left, Moved, Exited, Returned, Received, turn}
 
 -- an object without a place was never put
-unplaced : (S : Museum) (P : List Entry) (e : Entry) (o : ℕ) → place_at S (e ∷ P) o ≡ None → (place_at S P o ≡ None → last (puts S P) o ≡ None) → Turn S P e o → last (puts S (e ∷ P)) o ≡ None
-unplaced S P e o none before (Left same) = same.target ∙ before (sym same.place ∙ none)
-unplaced S P e o none before (Moved m) = absurd (none_some (sym none ∙ m.after.is))
-unplaced S P e o none before (Exited x) = absurd (none_some (sym none ∙ x.after))
-unplaced S P e o none before (Returned r) = absurd (none_some (sym none ∙ r.after.is))
-unplaced S P e o none before (Received r) = absurd (none_some (sym none ∙ r.after.is))
+unplaced : {S : Museum} {P : List Entry} {e : Entry} {o : ℕ} → place_at S (e ∷ P) o ≡ None → (place_at S P o ≡ None → last (puts S P) o ≡ None) → Turn S P e o → last (puts S (e ∷ P)) o ≡ None
+unplaced none before (Left same) = same.stays.target ∙ before (sym same.stays.place ∙ none)
+unplaced none before (Moved m) = absurd (none_some (sym none ∙ m.after.is))
+unplaced none before (Exited x) = absurd (none_some (sym none ∙ x.after))
+unplaced none before (Returned r) = absurd (none_some (sym none ∙ r.after.is))
+unplaced none before (Received r) = absurd (none_some (sym none ∙ r.after.is))
 
 never_put : (S : Museum) (depth : ℕ) (P : List Entry) (o : ℕ) → IsLawful S depth P → IsObject S o → place_at S P o ≡ None → last (puts S P) o ≡ None
 never_put S depth [] o lawful object none = refl
-never_put S depth (e ∷ P) o (follows, lawful) object none = by_verdict _ S depth P e o follows lawful
-    (λ a. unplaced S P e o none (never_put S depth P o lawful object) (turn S depth P e o a object))
-    (λ same. unplaced S P e o none (never_put S depth P o lawful object) (Left same))
+never_put S depth (e ∷ P) o (follows, lawful) object none =
+    let before = never_put S depth P o lawful object in
+    by_verdict o follows lawful (λ a. unplaced none before (turn a object)) (λ same. unplaced none before (Left same))
 
 -- with its lender and a guest, by the stages
 record WithLender (S : Museum) (P : List Entry) (o : ℕ) : Type 0 where
   place : IfSome (place_at S P o) (λ p. is_elsewhere S p ≡ true)
-  loans : AtNone (λ loan. stage S P loan o) Here
+  loans : AtNone S P o Here
 
 record Guest (S : Museum) (P : List Entry) (o : ℕ) : Type 0 where
   loan : List ℕ
   loan_in : is_out loan ≡ false
-  here : AtOne (λ loan. stage S P loan o) Here loan
+  here : AtOne S P o Here loan
   listed : IsListed S P loan o
   place : IsInside S (place_at S P o)
 
@@ -49,87 +49,83 @@ abbrev Account : Museum → List Entry → ℕ → Type 0
 Account S P o = WithLender S P o ⊎ Guest S P o
 
 -- the same stages at a place inside
-stays_guest : (S : Museum) (P : List Entry) (e : Entry) (o : ℕ) → ((loan : List ℕ) → stage S (e ∷ P) loan o ≡ stage S P loan o) → IsInside S (place_at S (e ∷ P) o) → Guest S P o → Guest S (e ∷ P) o
-stays_guest S P e o stages place guest = record {
+stays_guest : {S : Museum} {P : List Entry} {e : Entry} {o : ℕ} → ((loan : List ℕ) → stage S (e ∷ P) loan o ≡ stage S P loan o) → IsInside S (place_at S (e ∷ P) o) → Guest S P o → Guest S (e ∷ P) o
+stays_guest {S} {P} {e} {o} stages place guest = record {
   loan = guest.loan;
   loan_in = guest.loan_in;
-  here = one_left (λ loan. stage S P loan o) (λ loan. stage S (e ∷ P) loan o) Here guest.loan stages guest.here;
+  here = one_left S P e o Here guest.loan stages guest.here;
   listed = listed_stays S P e guest.loan o guest.listed;
   place = place;
 }
 
-left : (S : Museum) (P : List Entry) (e : Entry) (o : ℕ) → IsLeft S P e o → Account S P o → Account S (e ∷ P) o
-left S P e o same (inl away) = inl (record {
-  place = subst (λ q. IfSome q (λ p. is_elsewhere S p ≡ true)) (sym same.place) away.place;
-  loans = none_left (λ loan. stage S P loan o) (λ loan. stage S (e ∷ P) loan o) Here same.stages away.loans;
+left : {S : Museum} {P : List Entry} {e : Entry} {o : ℕ} → IsLeft S P e o → Account S P o → Account S (e ∷ P) o
+left {S} {P} {e} {o} same (inl away) = inl (record {
+  place = subst (λ q. IfSome q (λ p. is_elsewhere S p ≡ true)) (sym same.stays.place) away.place;
+  loans = none_left S P e o Here same.stages away.loans;
 })
-left S P e o same (inr guest) = inr (stays_guest S P e o same.stages (subst (IsInside S) (sym same.place) guest.place) guest)
+left {S} same (inr guest) = inr (stays_guest same.stages (subst (IsInside S) (sym same.stays.place) guest.place) guest)
 
--- what is with its lender goes with no thing that may be moved
-not_moved : (S : Museum) (depth : ℕ) (P : List Entry) (e : Entry) (o : ℕ) → IsLawful S depth P → is_borrowed S o ≡ true → HasMoved S P e o → IfSome (place_at S P o) (λ p. is_elsewhere S p ≡ true) → ⊥
-not_moved S depth P e o lawful borrowed m = elim (place_at S P o) as (λ q. place_at S P o ≡ q → IfSome q (λ p. is_elsewhere S p ≡ true) → ⊥) [
-  | None ↦ λ none away.
-      let alone = carried_alone S P m.thing o (never_put S depth P o lawful (borrowed_object S o borrowed) none) m.carried in
-      let here : is_borrowed S m.thing ≡ false = ap (is_away S m.thing) (sym none ∙ m.before) ∙ m.here in
-      true_false (sym borrowed ∙ ap (is_borrowed S) alone ∙ here)
-  | Some p ↦ λ at away.
-      let here : is_elsewhere S p ≡ false = ap (is_away S m.thing) (sym at ∙ m.before) ∙ m.here in
-      true_false (sym away ∙ here)
-] refl
-  where
-    true_false : true ≡ false → ⊥
-    true_false e = cc
-
-moved : (S : Museum) (depth : ℕ) (P : List Entry) (e : Entry) (o : ℕ) → IsLawful S depth P → is_borrowed S o ≡ true → HasMoved S P e o → Account S P o → Account S (e ∷ P) o
-moved S depth P e o lawful borrowed m (inl away) = absurd (not_moved S depth P e o lawful borrowed m away.place)
-moved S depth P e o lawful borrowed m (inr guest) = inr (stays_guest S P e o m.stages m.after guest)
-
-exited : (S : Museum) (depth : ℕ) (P : List Entry) (e : Entry) (o : ℕ) → IsLawful S depth P → is_borrowed S o ≡ true → HasExited S P e o → Account S P o → Account S (e ∷ P) o
-exited S depth P e o lawful borrowed x account =
-    let loan_in = borrowed_listed S depth P x.loan o lawful borrowed x.ready.listed in
-    let here : stage S P x.loan o ≡ Here = x.ready.wanted ∙ ap (λ b. if b then Awaiting else Here) loan_in in
-    let leaves : (if is_out x.loan then Away else GivenBack) ≡ GivenBack = ap (λ b. if b then Away else GivenBack) loan_in in
-    by here leaves account
-  where
-    by : stage S P x.loan o ≡ Here → (if is_out x.loan then Away else GivenBack) ≡ GivenBack → Account S P o → Account S (e ∷ P) o
-    by here leaves (inl away) = absurd (away.loans x.loan here)
-    by here leaves (inr guest) =
-        let same : x.loan ≡ guest.loan = guest.here.1 x.loan here in
-        inl (record {
-          place = subst (λ q. IfSome q (λ p. is_elsewhere S p ≡ true)) (sym x.after) (partner_elsewhere S depth P x.loan x.agreed lawful x.found);
-          loans = came S P e _ o Here x.crossed (subst (AtOne (λ loan. stage S P loan o) Here) (sym same) guest.here) (λ back. absurd (let q : GivenBack ≡ Here = sym leaves ∙ back in cc));
-        })
-
-received : (S : Museum) (P : List Entry) (e : Entry) (o : ℕ) → HasReceived S P e o → Account S P o → Account S (e ∷ P) o
-received S P e o r (inl away) = inr (record {
+received : {S : Museum} {P : List Entry} {e : Entry} {o : ℕ} → HasReceived S P e o → Account S P o → Account S (e ∷ P) o
+received {S} {P} {e} {o} r (inl away) = inr (record {
   loan = r.loan;
   loan_in = r.loan_in;
-  here = went S P e _ o r.crossed away.loans;
+  here = went r.crossed away.loans;
   listed = listed_stays S P e r.loan o (listed_is S P r.loan o r.ready.listed);
   place = r.after;
 })
-received S P e o r (inr guest) =
+received {S} {P} {o} r (inr guest) =
     let inside : option_map_or (is_inside S) (place_at S P o) false ≡ true = ap (λ q. option_map_or (is_inside S) q false) guest.place.is ∙ guest.place.inside in
-    absurd (let both : true ≡ false = sym inside ∙ r.before in cc)
+    absurd (false_true (sym r.before ∙ inside))
 
-applied : (S : Museum) (depth : ℕ) (P : List Entry) (e : Entry) (o : ℕ) → IsLawful S depth P → is_borrowed S o ≡ true → Account S P o → Turn S P e o → Account S (e ∷ P) o
-applied S depth P e o lawful borrowed account (Left same) = left S P e o same account
-applied S depth P e o lawful borrowed account (Moved m) = moved S depth P e o lawful borrowed m account
-applied S depth P e o lawful borrowed account (Exited x) = exited S depth P e o lawful borrowed x account
-applied S depth P e o lawful borrowed account (Returned r) =
-    absurd (let both : true ≡ false = sym r.loan_out ∙ borrowed_listed S depth P r.loan o lawful borrowed r.ready.listed in cc)
-applied S depth P e o lawful borrowed account (Received r) = received S P e o r account
+-- of a borrowed object, entry by entry
+module _ (S : Museum) (depth : ℕ) (o : ℕ) (borrowed : is_borrowed S o ≡ true) where
+  -- what is with its lender goes with no thing that may be moved
+  not_moved : {P : List Entry} {e : Entry} → IsLawful S depth P → HasMoved S P e o → IfSome (place_at S P o) (λ p. is_elsewhere S p ≡ true) → ⊥
+  not_moved {P} lawful m = elim (place_at S P o) as (λ q. place_at S P o ≡ q → IfSome q (λ p. is_elsewhere S p ≡ true) → ⊥) [
+    | None ↦ λ none away.
+        let alone = carried_alone S P m.thing o (never_put S depth P o lawful (borrowed_object S o borrowed) none) m.carried in
+        let here : is_borrowed S m.thing ≡ false = ap (is_away S m.thing) (sym none ∙ m.before) ∙ m.here in
+        false_true (sym here ∙ sym (ap (is_borrowed S) alone) ∙ borrowed)
+    | Some p ↦ λ at away.
+        let here : is_elsewhere S p ≡ false = ap (is_away S m.thing) (sym at ∙ m.before) ∙ m.here in
+        false_true (sym here ∙ away)
+  ] refl
 
-accounted : (S : Museum) (depth : ℕ) (P : List Entry) (o : ℕ) → IsLawful S depth P → is_borrowed S o ≡ true → Account S P o
-accounted S depth [] o lawful borrowed = inl (record { place = tt; loans = λ loan e. absurd (let q : Awaiting ≡ Here = e in cc) })
-accounted S depth (e ∷ P) o (follows, lawful) borrowed =
-    let before = accounted S depth P o lawful borrowed in
-    by_verdict _ S depth P e o follows lawful
-    (λ a. applied S depth P e o lawful borrowed before (turn S depth P e o a (borrowed_object S o borrowed)))
-    (λ same. left S P e o same before)
+  moved : {P : List Entry} {e : Entry} → IsLawful S depth P → HasMoved S P e o → Account S P o → Account S (e ∷ P) o
+  moved lawful m (inl away) = absurd (not_moved lawful m away.place)
+  moved lawful m (inr guest) = inr (stays_guest m.stages m.after guest)
+
+  exited : {P : List Entry} {e : Entry} → IsLawful S depth P → HasExited S P e o → Account S P o → Account S (e ∷ P) o
+  exited {P} {e} lawful x account =
+      let loan_in = borrowed_listed S depth P x.loan o lawful borrowed x.ready.listed in
+      let here : stage S P x.loan o ≡ Here = x.ready.wanted ∙ ap (λ b. if b then Awaiting else Here) loan_in in
+      let leaves : (if is_out x.loan then Away else GivenBack) ≡ GivenBack = ap (λ b. if b then Away else GivenBack) loan_in in
+      by here leaves account
+    where
+      by : stage S P x.loan o ≡ Here → (if is_out x.loan then Away else GivenBack) ≡ GivenBack → Account S P o → Account S (e ∷ P) o
+      by here leaves (inl away) = absurd (away.loans x.loan here)
+      by here leaves (inr guest) =
+          let same : x.loan ≡ guest.loan = guest.here.1 x.loan here in
+          inl (record {
+            place = subst (λ q. IfSome q (λ p. is_elsewhere S p ≡ true)) (sym x.after) (partner_elsewhere S depth P x.loan x.agreed lawful x.found);
+            loans = came Here x.crossed (subst (AtOne S P o Here) (sym same) guest.here) (λ back. let q : GivenBack ≡ Here = sym leaves ∙ back in cc);
+          })
+
+  applied : {P : List Entry} {e : Entry} → IsLawful S depth P → Account S P o → Turn S P e o → Account S (e ∷ P) o
+  applied lawful account (Left same) = left same account
+  applied lawful account (Moved m) = moved lawful m account
+  applied lawful account (Exited x) = exited lawful x account
+  applied {P} lawful account (Returned r) = absurd (false_true (sym (borrowed_listed S depth P r.loan o lawful borrowed r.ready.listed) ∙ r.loan_out))
+  applied lawful account (Received r) = received r account
+
+  accounted : (P : List Entry) → IsLawful S depth P → Account S P o
+  accounted [] lawful = inl (record { place = tt; loans = λ loan e. let q : Awaiting ≡ Here = e in cc })
+  accounted (e ∷ P) (follows, lawful) =
+      let before = accounted P lawful in
+      by_verdict o follows lawful (λ a. applied lawful before (turn a (borrowed_object S o borrowed))) (λ same. left same before)
 
 pub borrowed_accounted : (B : Book) (o : ℕ) → IsLawful B.museum B.depth B.posted → is_borrowed B.museum o ≡ true → IsWithLender B o ⊎ IsGuest B o
-borrowed_accounted B o lawful borrowed = answer (accounted B.museum B.depth B.posted o lawful borrowed)
+borrowed_accounted B o lawful borrowed = answer (accounted B.museum B.depth o borrowed B.posted lawful)
   where
     answer : Account B.museum B.posted o → IsWithLender B o ⊎ IsGuest B o
     answer (inl away) = inl (record { place = away.place; loans = λ loan at. away.loans loan (line_stage B.museum B.posted loan o Here at) })

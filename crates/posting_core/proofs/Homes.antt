@@ -9,11 +9,12 @@ use Rattle.posting_core.specs.declared.entry.Entry.{Entry}
 use Rattle.posting_core.specs.declared.stage.LineStage.TheVariants.{Awaiting, Away, Back, GivenBack}
 use Rattle.posting_core.specs.Messages.{place_no}
 use Rattle.posting_core.specs.History.{place_at}
-use Rattle.posting_core.specs.Loans.{objects_of, stage}
+use Rattle.posting_core.specs.Loans.{objects_of}
 use Rattle.posting_core.specs.Verdicts.{is_away}
 use Rattle.posting_core.specs.Lawful.{IsLawful}
 use Rattle.posting_core.specs.Book.{Book}
 use Rattle.posting_core.specs.Accountability.{IsHome, IsLent}
+use Rattle.posting_core.proofs.AppliedRows.{false_true}
 use Rattle.posting_core.proofs.Accounted.{IsLeft, AtNone, AtOne, by_verdict, none_left, one_left, went, came}
 use Rattle.posting_core.proofs.Owners.{IsListed, listed_stays, line_listed, line_stage, own_object, own_listed, partner_elsewhere}
 use Rattle.posting_core.proofs.Turns.{IsInside, HasMoved, HasExited, HasReturned, Turn, Left, Moved, Exited, Returned, Received, turn, not_elsewhere_inside}
@@ -21,93 +22,92 @@ use Rattle.posting_core.proofs.Turns.{IsInside, HasMoved, HasExited, HasReturned
 -- home and lent, by the stages
 record Home (S : Museum) (P : List Entry) (o : ℕ) : Type 0 where
   place : IfSome (place_at S P o) (λ p. is_inside S p ≡ true)
-  loans : AtNone (λ loan. stage S P loan o) Away
+  loans : AtNone S P o Away
 
 record Lent (S : Museum) (P : List Entry) (o : ℕ) : Type 0 where
   loan : List ℕ
   loan_out : is_out loan ≡ true
-  away : AtOne (λ loan. stage S P loan o) Away loan
+  away : AtOne S P o Away loan
   listed : IsListed S P loan o
   place : place_at S P o ≡ Some (place_no S listed.agreed.partner)
 
 abbrev Account : Museum → List Entry → ℕ → Type 0
 Account S P o = Home S P o ⊎ Lent S P o
 
-placed_in : (S : Museum) (place : Option ℕ) → IsInside S place → IfSome place (λ p. is_inside S p ≡ true)
-placed_in S place at = subst (λ o. IfSome o (λ p. is_inside S p ≡ true)) (sym at.is) at.inside
-
-left : (S : Museum) (P : List Entry) (e : Entry) (o : ℕ) → IsLeft S P e o → Account S P o → Account S (e ∷ P) o
-left S P e o same (inl home) = inl (record {
-  place = subst (λ q. IfSome q (λ p. is_inside S p ≡ true)) (sym same.place) home.place;
-  loans = none_left (λ loan. stage S P loan o) (λ loan. stage S (e ∷ P) loan o) Away same.stages home.loans;
-})
-left S P e o same (inr lent) = inr (record {
-  loan = lent.loan;
-  loan_out = lent.loan_out;
-  away = one_left (λ loan. stage S P loan o) (λ loan. stage S (e ∷ P) loan o) Away lent.loan same.stages lent.away;
-  listed = listed_stays S P e lent.loan o lent.listed;
-  place = same.place ∙ lent.place;
-})
-
--- what isn't elsewhere is home
-not_lent : (S : Museum) (depth : ℕ) (P : List Entry) (o : ℕ) → IsLawful S depth P → IfSome (place_at S P o) (λ p. is_elsewhere S p ≡ false) → Account S P o → Home S P o
-not_lent S depth P o lawful here (inl home) = home
-not_lent S depth P o lawful here (inr lent) =
-    let at : is_elsewhere S (place_no S lent.listed.agreed.partner) ≡ false = subst (λ q. IfSome q (λ p. is_elsewhere S p ≡ false)) lent.place here in
-    absurd (let both : true ≡ false = sym (partner_elsewhere S depth P lent.loan lent.listed.agreed lawful lent.listed.found) ∙ at in cc)
+placed_in : {S : Museum} {place : Option ℕ} → IsInside S place → IfSome place (λ p. is_inside S p ≡ true)
+placed_in {S} at = subst (λ o. IfSome o (λ p. is_inside S p ≡ true)) (sym at.is) at.inside
 
 -- a thing that may be moved isn't elsewhere
 not_away : (S : Museum) (x : ℕ) (place : Option ℕ) → is_away S x place ≡ false → IfSome place (λ p. is_elsewhere S p ≡ false)
 not_away S x None h = tt
 not_away S x (Some p) h = h
 
-moved : (S : Museum) (depth : ℕ) (P : List Entry) (e : Entry) (o : ℕ) → IsLawful S depth P → HasMoved S P e o → Account S P o → Account S (e ∷ P) o
-moved S depth P e o lawful m account =
-    let here = subst (λ q. IfSome q (λ p. is_elsewhere S p ≡ false)) (sym m.before) (not_away S m.thing (place_at S P m.thing) m.here) in
-    let home = not_lent S depth P o lawful here account in
-    inl (record { place = placed_in S (place_at S (e ∷ P) o) m.after; loans = none_left (λ loan. stage S P loan o) (λ loan. stage S (e ∷ P) loan o) Away m.stages home.loans })
+left : {S : Museum} {P : List Entry} {e : Entry} {o : ℕ} → IsLeft S P e o → Account S P o → Account S (e ∷ P) o
+left {S} {P} {e} {o} same (inl home) = inl (record {
+  place = subst (λ q. IfSome q (λ p. is_inside S p ≡ true)) (sym same.stays.place) home.place;
+  loans = none_left S P e o Away same.stages home.loans;
+})
+left {S} {P} {e} {o} same (inr lent) = inr (record {
+  loan = lent.loan;
+  loan_out = lent.loan_out;
+  away = one_left S P e o Away lent.loan same.stages lent.away;
+  listed = listed_stays S P e lent.loan o lent.listed;
+  place = same.stays.place ∙ lent.place;
+})
 
-exited : (S : Museum) (depth : ℕ) (P : List Entry) (e : Entry) (o : ℕ) → IsLawful S depth P → is_own S o ≡ true → HasExited S P e o → Account S P o → Account S (e ∷ P) o
-exited S depth P e o lawful own x account =
-    let here = subst (λ q. IfSome q (λ p. is_elsewhere S p ≡ false)) (sym x.before.is) (not_elsewhere_inside S x.before.at x.before.inside) in
-    let home = not_lent S depth P o lawful here account in
-    let loan_out = own_listed S depth P x.loan o lawful own x.ready.listed in
-    let away : (if is_out x.loan then Away else GivenBack) ≡ Away = ap (λ b. if b then Away else GivenBack) loan_out in
-    inr (record {
-      loan = x.loan;
-      loan_out = loan_out;
-      away = subst (λ s. AtOne (λ loan. stage S (e ∷ P) loan o) s x.loan) away (went S P e _ o x.crossed (subst (AtNone (λ loan. stage S P loan o)) (sym away) home.loans));
-      listed = listed_stays S P e x.loan o (record { agreed = x.agreed; found = x.found; among = subst (λ t. is_among o (option_map_or (objects_of S) t []) ≡ true) x.found x.ready.listed });
-      place = x.after;
-    })
-
-returned : (S : Museum) (P : List Entry) (e : Entry) (o : ℕ) → HasReturned S P e o → Account S P o → Account S (e ∷ P) o
-returned S P e o r (inl home) = absurd (home.loans r.loan r.ready.wanted)
-returned S P e o r (inr lent) =
+returned : {S : Museum} {P : List Entry} {e : Entry} {o : ℕ} → HasReturned S P e o → Account S P o → Account S (e ∷ P) o
+returned r (inl home) = absurd (home.loans r.loan r.ready.wanted)
+returned {S} {P} {o} r (inr lent) =
     let same : r.loan ≡ lent.loan = lent.away.1 r.loan r.ready.wanted in
     inl (record {
-      place = placed_in S (place_at S (e ∷ P) o) r.after;
-      loans = came S P e _ o Away r.crossed (subst (AtOne (λ loan. stage S P loan o) Away) (sym same) lent.away) (λ back. absurd (let q : Back ≡ Away = back in cc));
+      place = placed_in r.after;
+      loans = came Away r.crossed (subst (AtOne S P o Away) (sym same) lent.away) (λ back. let q : Back ≡ Away = back in cc);
     })
 
-applied : (S : Museum) (depth : ℕ) (P : List Entry) (e : Entry) (o : ℕ) → IsLawful S depth P → is_own S o ≡ true → Account S P o → Turn S P e o → Account S (e ∷ P) o
-applied S depth P e o lawful own account (Left same) = left S P e o same account
-applied S depth P e o lawful own account (Moved m) = moved S depth P e o lawful m account
-applied S depth P e o lawful own account (Exited x) = exited S depth P e o lawful own x account
-applied S depth P e o lawful own account (Returned r) = returned S P e o r account
-applied S depth P e o lawful own account (Received r) =
-    absurd (let both : true ≡ false = sym (own_listed S depth P r.loan o lawful own r.ready.listed) ∙ r.loan_in in cc)
+-- of an own object, entry by entry
+module _ (S : Museum) (depth : ℕ) (o : ℕ) (own : is_own S o ≡ true) where
+  -- what isn't elsewhere is home
+  not_lent : {P : List Entry} → IsLawful S depth P → IfSome (place_at S P o) (λ p. is_elsewhere S p ≡ false) → Account S P o → Home S P o
+  not_lent lawful here (inl home) = home
+  not_lent {P} lawful here (inr lent) =
+      let at : is_elsewhere S (place_no S lent.listed.agreed.partner) ≡ false = subst (λ q. IfSome q (λ p. is_elsewhere S p ≡ false)) lent.place here in
+      absurd (false_true (sym at ∙ partner_elsewhere S depth P lent.loan lent.listed.agreed lawful lent.listed.found))
 
-accounted : (S : Museum) (depth : ℕ) (P : List Entry) (o : ℕ) → IsLawful S depth P → is_own S o ≡ true → Account S P o
-accounted S depth [] o lawful own = inl (record { place = tt; loans = λ loan e. absurd (let q : Awaiting ≡ Away = e in cc) })
-accounted S depth (e ∷ P) o (follows, lawful) own =
-    let before = accounted S depth P o lawful own in
-    by_verdict _ S depth P e o follows lawful
-    (λ a. applied S depth P e o lawful own before (turn S depth P e o a (own_object S o own)))
-    (λ same. left S P e o same before)
+  moved : {P : List Entry} {e : Entry} → IsLawful S depth P → HasMoved S P e o → Account S P o → Account S (e ∷ P) o
+  moved {P} {e} lawful m account =
+      let here = subst (λ q. IfSome q (λ p. is_elsewhere S p ≡ false)) (sym m.before) (not_away S m.thing (place_at S P m.thing) m.here) in
+      let home : Home S P o = not_lent lawful here account in
+      inl (record { place = placed_in m.after; loans = none_left S P e o Away m.stages home.loans })
+
+  exited : {P : List Entry} {e : Entry} → IsLawful S depth P → HasExited S P e o → Account S P o → Account S (e ∷ P) o
+  exited {P} {e} lawful x account =
+      let here = subst (λ q. IfSome q (λ p. is_elsewhere S p ≡ false)) (sym x.before.is) (not_elsewhere_inside S x.before.at x.before.inside) in
+      let home : Home S P o = not_lent lawful here account in
+      let loan_out = own_listed S depth P x.loan o lawful own x.ready.listed in
+      let away : (if is_out x.loan then Away else GivenBack) ≡ Away = ap (λ b. if b then Away else GivenBack) loan_out in
+      inr (record {
+        loan = x.loan;
+        loan_out = loan_out;
+        away = subst (λ s. AtOne S (e ∷ P) o s x.loan) away (went x.crossed (subst (AtNone S P o) (sym away) home.loans));
+        listed = listed_stays S P e x.loan o (record { agreed = x.agreed; found = x.found; among = subst (λ t. is_among o (option_map_or (objects_of S) t []) ≡ true) x.found x.ready.listed });
+        place = x.after;
+      })
+
+  applied : {P : List Entry} {e : Entry} → IsLawful S depth P → Account S P o → Turn S P e o → Account S (e ∷ P) o
+  applied lawful account (Left same) = left same account
+  applied lawful account (Moved m) = moved lawful m account
+  applied lawful account (Exited x) = exited lawful x account
+  applied lawful account (Returned r) = returned r account
+  applied {P} lawful account (Received r) = absurd (false_true (sym r.loan_in ∙ own_listed S depth P r.loan o lawful own r.ready.listed))
+
+  accounted : (P : List Entry) → IsLawful S depth P → Account S P o
+  accounted [] lawful = inl (record { place = tt; loans = λ loan e. let q : Awaiting ≡ Away = e in cc })
+  accounted (e ∷ P) (follows, lawful) =
+      let before = accounted P lawful in
+      by_verdict o follows lawful (λ a. applied lawful before (turn a (own_object S o own))) (λ same. left same before)
 
 pub own_accounted : (B : Book) (o : ℕ) → IsLawful B.museum B.depth B.posted → is_own B.museum o ≡ true → IsHome B o ⊎ IsLent B o
-own_accounted B o lawful own = answer (accounted B.museum B.depth B.posted o lawful own)
+own_accounted B o lawful own = answer (accounted B.museum B.depth o own B.posted lawful)
   where
     answer : Account B.museum B.posted o → IsHome B o ⊎ IsLent B o
     answer (inl home) = inl (record { place = home.place; loans = λ loan at. home.loans loan (line_stage B.museum B.posted loan o Away at) })

@@ -9,7 +9,7 @@ use Rattle.std.proofs.lemmas.Bool.{cases_eq}
 use Rattle.std.proofs.lemmas.Bool.Decides.{nat_tests}
 use Rattle.std.proofs.lemmas.List.{append-nil}
 use Rattle.nest_core.specs.Museum.{Museum, is_inside}
-use Rattle.nest_core.specs.Puts.{with_put, place, is_carried}
+use Rattle.nest_core.specs.Puts.{with_put, place}
 use Rattle.nest_core.specs.Nest.{is_same_place}
 use Rattle.posting_core.specs.declared.message.Message.{Message}
 use Rattle.posting_core.specs.declared.message.Message.TheVariants.{Move, Pack, Agree, Authorise, Exit, Return, Receive, SignOff, Extend}
@@ -24,10 +24,9 @@ use Rattle.posting_core.specs.History.{puts, put_in, spots, spot_from, place_at}
 use Rattle.posting_core.specs.VerdictNames.{is_applied}
 use Rattle.posting_core.specs.Verdicts.{verdict, pack_rows}
 use Rattle.posting_core.specs.Lawful.{Follows, IsLawful}
-use Rattle.posting_core.specs.Book.{Book, place_after}
 use Rattle.posting_core.specs.Rows.{place_to}
-use Rattle.posting_core.proofs.AppliedRows.{none_some, none_holds, applied_is}
-use Rattle.posting_core.proofs.Placed.{allowed_in, comes_along, stays}
+use Rattle.posting_core.proofs.AppliedRows.{none_some, none_holds}
+use Rattle.posting_core.proofs.Accounted.{IsApplied, by_verdict, nothing_put, by_carried}
 
 -- what places a thing bears a day
 placed_by_day : (S : Museum) (P : List Entry) (m : Message) → day_of m ≡ None → put_in S P m ≡ None
@@ -53,24 +52,14 @@ target_placed S depth P (SignOff name) h = tt
 target_placed S depth P (Extend loan last) h = tt
 
 -- a thing that has a place keeps having one
-keeps_place : (S : Museum) (depth : ℕ) (P : List Entry) (m : Message) → IsLawful S depth P → verdict S depth P m ≡ Applied → (x : ℕ) → place_after S P m x ≡ None → place_at S P x ≡ None
-keeps_place S depth P m lawful applied x gone = elim (put_in S P m) as (λ o. put_in S P m ≡ o → IfSome o (λ put. place_to S P put.to ≢ None) → place_at S P x ≡ None) [
-  | None ↦ λ is placed. sym (ap (λ o. place (length S.things) (with_put o (puts S P)) x) is) ∙ gone
-  | Some put ↦ λ is placed.
-      let B : Book = record { museum = S; depth = depth; posted = P } in
-      let allowed = allowed_in B m (put_in S P m) put lawful applied refl is in
-      elim (is_carried (length S.things) (puts S P) put.thing x) as (λ b. is_carried (length S.things) (puts S P) put.thing x ≡ b → place_at S P x ≡ None) [
-        | true ↦ λ carried. absurd (placed (sym (comes_along S depth P m put lawful is allowed x carried) ∙ gone))
-        | false ↦ λ apart. sym (stays S depth P m put lawful is allowed x apart) ∙ gone
-      ] refl
-] refl (target_placed S depth P m applied)
-
 entry_keeps_place : (S : Museum) (depth : ℕ) (P : List Entry) (e : Entry) → Follows S depth P e → IsLawful S depth P → (x : ℕ) → place_at S (e ∷ P) x ≡ None → place_at S P x ≡ None
-entry_keeps_place S depth P e follows lawful x =
-    elim (is_applied e.verdict) as (λ t. is_applied e.verdict ≡ t → place (length S.things) (with_put (if t then put_in S P e.message else None) (puts S P)) x ≡ None → place_at S P x ≡ None) [
-      | true ↦ λ h gone. keeps_place S depth P e.message lawful (sym follows.judged ∙ applied_is e.verdict h) x gone
-      | false ↦ λ h gone. gone
-    ] refl
+entry_keeps_place S depth P e follows lawful x gone = by_verdict x follows lawful applied (λ same. sym same.stays.place ∙ gone)
+  where
+    applied : IsApplied S depth P e → place_at S P x ≡ None
+    applied a = elim (put_in S P e.message) as (λ o. put_in S P e.message ≡ o → IfSome o (λ put. place_to S P put.to ≢ None) → place_at S P x ≡ None) [
+      | None ↦ λ is placed. sym (nothing_put a x is).place ∙ gone
+      | Some put ↦ λ is placed. by_carried a x put is (λ goes. absurd (placed (sym goes.after ∙ gone))) (λ apart stays. sym stays.place ∙ gone)
+    ] refl (target_placed S depth P e.message a.judged)
 
 entry_without_day : (S : Museum) (P : List Entry) (e : Entry) (x : ℕ) → day_of e.message ≡ None → place_at S (e ∷ P) x ≡ place_at S P x
 entry_without_day S P e x undated = ap (λ o. place (length S.things) (with_put o (puts S P)) x) (none (is_applied e.verdict))
@@ -117,8 +106,9 @@ unplaced_is_empty (s ∷ row) place is none = absurd (some_last row s (is ∙ no
     some_last [] s = λ e. cc
     some_last (r ∷ row) s = some_last row r
 
-abbrev pub AreApart : List Spot → Type 0
-AreApart row = AllAdjacentBelow (λ a b. a.place ≢ b.place) row (length row)
+-- each spot is at another place than the one before it
+abbrev pub AreChanges : List Spot → Type 0
+AreChanges row = AllAdjacentBelow (λ a b. a.place ≢ b.place) row (length row)
 
 last_at : (s : Spot) (row : List Spot) (d : Spot) → last_or (Some s) row ≡ Some (get_or (s ∷ row) (length row) d)
 last_at s [] d = refl
@@ -130,7 +120,7 @@ before_new (s ∷ row) new k d e last =
     let here : k ≡ length row = omega arith in
     subst (λ i. (get_or (s ∷ row) i d).place ≢ new.place) (sym here) (subst (λ o. IfSome o (λ s. s.place ≢ new.place)) (last_at s row d) last)
 
-apart_pushed : (row : List Spot) (new : Spot) → AreApart row → IfSome (last_or None row) (λ s. s.place ≢ new.place) → AreApart (row ++ new ∷ [])
+apart_pushed : (row : List Spot) (new : Spot) → AreChanges row → IfSome (last_or None row) (λ s. s.place ≢ new.place) → AreChanges (row ++ new ∷ [])
 apart_pushed row new apart last k d less =
     let fits : k + 1 < length row + 1 = subst (λ n. k + 1 < n) (length-append row (new ∷ [])) less in
     let one : get_or (row ++ new ∷ []) k d ≡ get_or row k d = get_or-append row (new ∷ []) d k (omega arith) in
@@ -153,17 +143,17 @@ differ_is before p row is differ = other (last_or None row) is
         absurd (grind (arith, nat_tests))
 
 -- an entry's spot is at another place than the one before it
-apart_after : (row : List Spot) (number : ℕ) (before after : Option ℕ) (day : Option ℤ) → current row ≡ before → AreApart row → AreApart (row ++ option_to_list (spot_from number before after day))
-apart_after row number before None day is apart = subst AreApart (sym (append-nil row)) apart
-apart_after row number before (Some p) None is apart = subst AreApart (sym (append-nil row)) apart
+apart_after : (row : List Spot) (number : ℕ) (before after : Option ℕ) (day : Option ℤ) → current row ≡ before → AreChanges row → AreChanges (row ++ option_to_list (spot_from number before after day))
+apart_after row number before None day is apart = subst AreChanges (sym (append-nil row)) apart
+apart_after row number before (Some p) None is apart = subst AreChanges (sym (append-nil row)) apart
 apart_after row number before (Some p) (Some day) is apart =
     let new : Spot = record { entry = number; place = p; day = day } in
-    elim (is_same_place before (Some p)) as (λ b. is_same_place before (Some p) ≡ b → AreApart (row ++ option_to_list (if b then None else Some new))) [
-      | true ↦ λ e. subst AreApart (sym (append-nil row)) apart
+    elim (is_same_place before (Some p)) as (λ b. is_same_place before (Some p) ≡ b → AreChanges (row ++ option_to_list (if b then None else Some new))) [
+      | true ↦ λ e. subst AreChanges (sym (append-nil row)) apart
       | false ↦ λ e. apart_pushed row new apart (differ_is before p row is e)
     ] refl
 
-pub spots_apart : (S : Museum) (depth : ℕ) (P : List Entry) (x : ℕ) → IsLawful S depth P → AreApart (spots S P x)
+pub spots_apart : (S : Museum) (depth : ℕ) (P : List Entry) (x : ℕ) → IsLawful S depth P → AreChanges (spots S P x)
 spots_apart S depth [] x lawful = λ k d less. absurd (omega arith)
 spots_apart S depth (e ∷ P) x (follows, lawful) =
     apart_after (spots S P x) (length P + 1) (place_at S P x) (place_at S (e ∷ P) x) (day_of e.message) (last_is_current S depth P x lawful) (spots_apart S depth P x lawful)

@@ -1,6 +1,6 @@
 -- What an entry writes in the rows of the loans is what looking back gives after it.
-use Rattle.std.specs.Prelude.{ℕ, ℤ, ◌≡◌, ◌+◌, ◌&&◌, ◌||◌, ◌==◌, Bool, true, false, not, cond, zero, suc, List, [], ◌∷◌, ◌++◌, Option, None, Some, length, map, refl, if◌then◌else◌, unwrap_or, slice_set, nat_eq, nat_lt}
-use Rattle.std.specs.List.{find, list_any, position, position_or_len, AllByRecursion}
+use Rattle.std.specs.Prelude.{ℕ, ℤ, ◌≡◌, ◌&&◌, ◌||◌, ◌==◌, Bool, true, false, not, cond, zero, suc, List, [], ◌∷◌, ◌++◌, Option, None, Some, map, refl, if◌then◌else◌, unwrap_or, slice_set, nat_eq}
+use Rattle.std.specs.List.{find, list_any, position, AllByRecursion}
 use Rattle.std.specs.Option.{option_map, option_map_or, option_to_list}
 use Rattle.std.specs.Str.{bytes_eq}
 use Rattle.std.proofs.Common.{ap, ◌∙◌, sym, subst, arith}
@@ -16,7 +16,7 @@ use Rattle.posting_core.specs.declared.message.Message.TheVariants.{Move, Pack, 
 use Rattle.posting_core.specs.declared.entry.Entry.{Entry}
 use Rattle.posting_core.specs.declared.entry.NewLine.{NewLine}
 use Rattle.posting_core.specs.declared.stage.LineStage.{LineStage}
-use Rattle.posting_core.specs.declared.stage.LineStage.TheVariants.{Awaiting, Away, Back, Here, GivenBack}
+use Rattle.posting_core.specs.declared.stage.LineStage.TheVariants.{Awaiting, Away, Back, Here}
 use Rattle.posting_core.specs.declared.verdict.Verdict.TheVariants.{Applied}
 use Rattle.posting_core.specs.VerdictNames.{is_applied}
 use Rattle.posting_core.specs.Messages.{thing_no, place_no}
@@ -27,27 +27,9 @@ use Rattle.posting_core.specs.Lawful.{Follows, IsLawful}
 use Rattle.posting_core.specs.Book.{new_lines}
 use Rattle.posting_core.specs.LoanRows.{LoanRow, loan_row, loan_rows, with_lines, changed, authorised_row, extended_row, agreed_row, rows_with}
 use Rattle.posting_core.proofs.AppliedRows.{none_some, false_true, applied_is}
+use Rattle.posting_core.proofs.Among.{position_cons}
 use Rattle.posting_core.proofs.Agreed.{IsSound, AreApart, IsUntouched, agreements_apart, agreements_sound, agree_applied, untouched}
-use Rattle.posting_core.proofs.KeptLoans.{same_thing}
-
--- where a test first passes in a list of one more
-pub position_cons : {X : Type 0} (p : X → Bool) (x : X) (xs : List X) → position p (x ∷ xs) ≡ (if p x then Some zero else option_map suc (position p xs))
-position_cons p x xs = elim (p x) as (λ b. p x ≡ b → position p (x ∷ xs) ≡ (if b then Some zero else option_map suc (position p xs))) [
-  | true ↦ λ e. rw e (first (length xs))
-  | false ↦ λ e. rw e (later (position_or_len p xs) (length xs))
-] refl
-  where
-    first : (len : ℕ) → cond (nat_lt zero (suc len)) (Some zero) None ≡ Some zero
-    first len = let same : nat_lt zero (suc len) ≡ true = grind (arith, nat_tests) in rw same refl
-
-    later : (n len : ℕ) → cond (nat_lt (1 + n) (suc len)) (Some (1 + n)) None ≡ option_map suc (cond (nat_lt n len) (Some n) None)
-    later n len = elim (nat_lt n len) as (λ b. nat_lt n len ≡ b → cond (nat_lt (1 + n) (suc len)) (Some (1 + n)) None ≡ option_map suc (cond b (Some n) None)) [
-      | true ↦ λ e. let same : nat_lt (1 + n) (suc len) ≡ true = grind (arith, nat_tests) in rw same (ap Some (omega arith))
-      | false ↦ λ e. let same : nat_lt (1 + n) (suc len) ≡ false = grind (arith, nat_tests) in rw same refl
-    ] refl
-
-pub eq_sym : (a b : ℕ) → nat_eq a b ≡ (b == a)
-eq_sym a b = grind (arith, nat_tests)
+use Rattle.posting_core.proofs.ObjectNumbers.{same_thing}
 
 -- none of the numbers stands twice
 abbrev pub AreOnce : List ℕ → Type 0
@@ -62,7 +44,7 @@ reset f os s o = option_map_or (λ t. t) (if is_among o os then Some s else None
 map_apart : (f : ℕ → LineStage) (o : ℕ) (s : LineStage) (os : List ℕ) → is_among o os ≡ false → map f os ≡ map (λ y. if o == y then s else f y) os
 map_apart f o s [] apart = refl
 map_apart f o s (y ∷ os) apart = elim (y == o) as (λ b. (y == o) ≡ b → (b || is_among o os) ≡ false → f y ∷ map f os ≡ (if o == y then s else f y) ∷ map (λ z. if o == z then s else f z) os) [
-  | true ↦ λ e h. absurd (let both : true ≡ false = h in cc)
+  | true ↦ λ e h. absurd (false_true (sym h))
   | false ↦ λ e h. let other : (o == y) ≡ false = grind (arith, nat_tests) in rw other (ap (λ ss. f y ∷ ss) (map_apart f o s os h))
 ] refl apart
 

@@ -13,21 +13,19 @@ use Rattle.posting_core.specs.declared.message.Message.TheVariants.{Exit, Return
 use Rattle.posting_core.specs.declared.verdict.Verdict.TheVariants.{Applied}
 use Rattle.posting_core.specs.declared.entry.Entry.{Entry}
 use Rattle.posting_core.specs.declared.stage.LineStage.{LineStage}
-use Rattle.posting_core.specs.declared.stage.LineStage.TheVariants.{Awaiting, Away, Back, Here, GivenBack}
+use Rattle.posting_core.specs.declared.stage.LineStage.TheVariants.{Back, GivenBack}
 use Rattle.posting_core.specs.declared.stage.LoanState.TheVariants.{Draft, Authorised, Running, Closed}
 use Rattle.posting_core.specs.Agreements.{Agreement, agreement, is_agreed, is_authorised, last_from, last_day}
 use Rattle.posting_core.specs.Loans.{objects_of, stage, line, is_done, is_awaiting, state_by, loan_state}
 use Rattle.posting_core.specs.Lawful.{IsLawful}
-use Rattle.posting_core.specs.Verdicts.{verdict, first_of, exit_rows, return_rows, receive_rows, is_over}
+use Rattle.posting_core.specs.Verdicts.{verdict, exit_rows, return_rows, receive_rows, is_over}
 use Rattle.posting_core.specs.Accountability.{IsOver, AtEachApplied, IsAuthorised, IsInTerm, IsWithin}
-use Rattle.posting_core.proofs.AppliedRows.{none_holds, held, applied_is}
+use Rattle.posting_core.proofs.AppliedRows.{false_true, none_holds, held, applied_is}
 
 done_over : (s : LineStage) → is_done s ≡ true → IsOver s
-done_over Awaiting h = absurd (let e : false ≡ true = h in cc)
-done_over Away h = absurd (let e : false ≡ true = h in cc)
 done_over Back h = inl refl
-done_over Here h = absurd (let e : false ≡ true = h in cc)
 done_over GivenBack h = inr refl
+done_over _ h = absurd (false_true h)
 
 closed_done : (authorised : Bool) (stages : List LineStage) → state_by authorised stages ≡ Closed → list_all is_done stages ≡ true
 closed_done false stages h = absurd (let e : Draft ≡ Closed = h in cc)
@@ -40,7 +38,7 @@ closed_done true stages h = elim (list_all is_done stages) as (λ b. (if b then 
 ] h
 
 all_done : (f : ℕ → LineStage) (os : List ℕ) (o : ℕ) → list_all is_done (map f os) ≡ true → is_among o os ≡ true → is_done (f o) ≡ true
-all_done f [] o all h = absurd (let e : false ≡ true = h in cc)
+all_done f [] o all h = absurd (false_true h)
 all_done f (x ∷ os) o all h =
     let parts = and_parts (is_done (f x)) (list_all is_done (map f os)) all in
     elim (x == o) as (λ b. (x == o) ≡ b → b || is_among o os ≡ true → is_done (f o) ≡ true) [
@@ -60,11 +58,8 @@ closed_line S P loan (Some t) o closed = elim (is_among o (objects_of S t)) as (
 pub closed_is_over : (S : Museum) (P : List Entry) (loan : List ℕ) → loan_state S P loan ≡ Some Closed → (o : ℕ) → IfSome (line S P loan o) IsOver
 closed_is_over S P loan closed o = closed_line S P loan (agreement P loan) o closed
 
-exit_authorised : (S : Museum) (P : List Entry) (x loan : List ℕ) (day : ℤ) → first_of (exit_rows S P x loan day) ≡ Applied → is_authorised P loan ≡ true
-exit_authorised S P x loan day h = held (is_authorised P loan) (none_holds (exit_rows S P x loan day) refl h).1.1.1.0
-
 authorised : (S : Museum) (depth : ℕ) (P : List Entry) (m : Message) → verdict S depth P m ≡ Applied → IsAuthorised P m
-authorised S depth P (Exit x loan day) h = exit_authorised S P x loan day h
+authorised S depth P (Exit x loan day) h = held (is_authorised P loan) (none_holds (exit_rows S P x loan day) refl h).1.1.1.0
 authorised S depth P (Return x loan p day) h = held (is_authorised P loan) (none_holds (return_rows S P x loan p) refl h).1.1.1.1.0
 authorised S depth P (Receive x loan p day) h = held (is_authorised P loan) (none_holds (receive_rows S P x loan p day) refl h).1.1.1.1.1.0
 authorised S depth P _ h = tt

@@ -17,21 +17,19 @@ use Rattle.posting_core.specs.declared.stage.LineStage.{LineStage}
 use Rattle.posting_core.specs.Loans.{objects_of, objects, stage, line}
 use Rattle.posting_core.specs.Verdicts.{is_of_wrong_owner}
 use Rattle.posting_core.specs.Lawful.{IsLawful}
+use Rattle.posting_core.proofs.AppliedRows.{false_true}
 use Rattle.posting_core.proofs.Agreed.{agreement_sound, found_is}
 use Rattle.posting_core.proofs.Placed.{place_below}
 use Rattle.posting_core.proofs.Among.{among_codes}
 use Rattle.posting_core.proofs.Accounted.{agreement_stays}
 use Rattle.posting_core.proofs.Turns.{IsObject, elsewhere_if_not_inside}
 
-false_not_true : (X : Type 0) → false ≡ true → X
-false_not_true X e = absurd (let q : false ≡ true = e in cc)
-
 -- a thing of the setup with a code whose kind isn't a container's is an object
 object_by : (S : Museum) (o : ℕ) (is_kind : ThingKind → Bool) → ((k : ThingKind) → is_kind k ≡ true → is_container_kind k ≡ false) →
     option_map_or is_kind (option_map thing_kind (thing_code_of S o)) false ≡ true → IsObject S o
 object_by S o is_kind no_container h =
     elim (thing_code_of S o) as (λ c. thing_code_of S o ≡ c → option_map_or is_kind (option_map thing_kind c) false ≡ true → IsObject S o) [
-      | None ↦ λ e k. false_not_true _ k
+      | None ↦ λ e k. absurd (false_true k)
       | Some x ↦ λ e k. record {
         below = subst (λ n. o < n) (length-map S.things (λ row. row.0)) (slice_get_within (thing_codes S) o x e);
         object = ap (λ c. option_map_or is_container_kind (option_map thing_kind c) false) e ∙ no_container (thing_kind x) k;
@@ -43,16 +41,16 @@ own_object S o own = object_by S o is_own_kind kinds own
   where
     kinds : (k : ThingKind) → is_own_kind k ≡ true → is_container_kind k ≡ false
     kinds Own h = refl
-    kinds Borrowed h = false_not_true _ h
-    kinds Container h = false_not_true _ h
+    kinds Borrowed h = absurd (false_true h)
+    kinds Container h = absurd (false_true h)
 
 pub borrowed_object : (S : Museum) (o : ℕ) → is_borrowed S o ≡ true → IsObject S o
 borrowed_object S o borrowed = object_by S o is_borrowed_kind kinds borrowed
   where
     kinds : (k : ThingKind) → is_borrowed_kind k ≡ true → is_container_kind k ≡ false
-    kinds Own h = false_not_true _ h
+    kinds Own h = absurd (false_true h)
     kinds Borrowed h = refl
-    kinds Container h = false_not_true _ h
+    kinds Container h = absurd (false_true h)
 
 -- what a loan lists, its agreement does
 pub record IsListed (S : Museum) (P : List Entry) (loan : List ℕ) (o : ℕ) : Type 0 where
@@ -62,7 +60,7 @@ pub record IsListed (S : Museum) (P : List Entry) (loan : List ℕ) (o : ℕ) : 
 
 pub listed_is : (S : Museum) (P : List Entry) (loan : List ℕ) (o : ℕ) → is_among o (objects S P loan) ≡ true → IsListed S P loan o
 listed_is S P loan o listed = elim (agreement P loan) as (λ t. agreement P loan ≡ t → is_among o (option_map_or (objects_of S) t []) ≡ true → IsListed S P loan o) [
-  | None ↦ λ e k. false_not_true _ k
+  | None ↦ λ e k. absurd (false_true k)
   | Some t ↦ λ e k. record { agreed = t; found = e; among = k }
 ] refl listed
 

@@ -1,9 +1,9 @@
 -- What an applied message puts where, and the places after it.
-use Rattle.std.specs.Prelude.{ℕ, ℤ, zero, suc, ◌≡◌, ◌<◌, Bool, true, false, All, List, [], ◌∷◌, Option, None, Some, length, refl, IfSome, is_some, unwrap_or, if◌then◌else◌}
+use Rattle.std.specs.Prelude.{ℕ, ℤ, zero, suc, ◌≡◌, ◌<◌, true, false, All, List, [], ◌∷◌, Option, None, Some, length, refl, IfSome, is_some, unwrap_or, if◌then◌else◌}
 use Rattle.std.specs.List.{position}
 use Rattle.std.specs.Option.{option_map, option_map_or}
 use Rattle.std.specs.Str.{bytes_eq}
-use Rattle.std.proofs.Common.{ap, ◌∙◌, sym, subst, arith}
+use Rattle.std.proofs.Common.{ap, ◌∙◌, sym, subst}
 use Rattle.std.proofs.lemmas.List.{length-map}
 use Rattle.std.proofs.lemmas.List.Elements.{All-nil, All-cons}
 use Rattle.std.proofs.lemmas.List.Quantifiers.{position-Some}
@@ -11,7 +11,7 @@ use Rattle.nest_core.specs.declared.put.Target.{Target}
 use Rattle.nest_core.specs.declared.put.Target.TheVariants.{At, Within}
 use Rattle.nest_core.specs.declared.put.Put.{Put}
 use Rattle.nest_core.specs.Museum.{Museum, find_thing, thing_codes, place_codes, is_container}
-use Rattle.nest_core.specs.Nest.{Nested, StandsFor, MayGo, put_at, pack_bar}
+use Rattle.nest_core.specs.Nest.{Nested, StandsFor, MayGo, put_at}
 use Rattle.nest_core.specs.Puts.{last, with_put, container_of, place_of, above, place_by, is_carried}
 use Rattle.nest_core.proofs.NestWords.{IsAllowed}
 use Rattle.nest_core.proofs.NestLaws.{IsSound, sound_put, may_pack, place_carried, place_packed, place_stays}
@@ -23,7 +23,7 @@ use Rattle.posting_core.specs.declared.entry.Entry.{Entry}
 use Rattle.posting_core.specs.Messages.{thing_no, place_no}
 use Rattle.posting_core.specs.History.{puts, put_in, put_by, chain_at, place_at}
 use Rattle.posting_core.specs.VerdictNames.{is_applied}
-use Rattle.posting_core.specs.Agreements.{Agreement, agreement}
+use Rattle.posting_core.specs.Agreements.{agreement}
 use Rattle.posting_core.specs.Verdicts.{verdict, move_rows, pack_rows, exit_rows, return_rows, receive_rows, is_known, is_known_place, is_known_container}
 use Rattle.posting_core.specs.Lawful.{IsLawful}
 use Rattle.posting_core.specs.Book.{Book, verdict_in, place_after}
@@ -31,14 +31,10 @@ use Rattle.posting_core.specs.Rows.{place_to}
 use Rattle.posting_core.proofs.AppliedRows.{none_some, false_true, none_holds, held, applied_is}
 use Rattle.posting_core.proofs.Agreed.{agreement_sound}
 
-below : (xs : List (List ℕ)) (code : List ℕ) (i : ℕ) → position (bytes_eq code) xs ≡ Some i → i < length xs
-below [] code i e = absurd (none_some e)
-below (x ∷ xs) code i e = (position-Some (bytes_eq code) (x ∷ xs) i x e).0
-
 found_below : (xs : List (List ℕ)) (code : List ℕ) (n : ℕ) → n ≡ length xs → is_some (position (bytes_eq code) xs) ≡ true → unwrap_or (position (bytes_eq code) xs) n < n
 found_below xs code n same = elim (position (bytes_eq code) xs) as (λ o. position (bytes_eq code) xs ≡ o → is_some o ≡ true → unwrap_or o n < n) [
   | None ↦ λ e h. absurd (false_true h)
-  | Some i ↦ λ e h. subst (λ k. i < k) (sym same) (below xs code i e)
+  | Some i ↦ λ e h. subst (λ k. i < k) (sym same) (position-Some (bytes_eq code) xs i [] e).0
 ] refl
 
 pub thing_below : (S : Museum) (x : List ℕ) → is_known S x ≡ true → thing_no S x < length S.things
@@ -96,8 +92,8 @@ put_allowed S depth P v m lawful judged =
     ] refl
 
 -- that of a ledger's applied message
-pub allowed_in : (B : Book) (m : Message) (o : Option Put) (put : Put) → IsLawful B.museum B.depth B.posted → verdict_in B m ≡ Applied → o ≡ put_in B.museum B.posted m → o ≡ Some put → IsAllowedPut B.museum B.depth B.posted put
-allowed_in B m o put lawful applied is some = subst (λ p. IfSome p (IsAllowedPut B.museum B.depth B.posted)) (sym is ∙ some) (put_applied B.museum B.depth B.posted m lawful applied)
+pub allowed_in : (B : Book) (m : Message) {o : Option Put} {put : Put} → IsLawful B.museum B.depth B.posted → verdict_in B m ≡ Applied → o ≡ put_in B.museum B.posted m → o ≡ Some put → IsAllowedPut B.museum B.depth B.posted put
+allowed_in B m lawful applied is some = subst (λ p. IfSome p (IsAllowedPut B.museum B.depth B.posted)) (sym is ∙ some) (put_applied B.museum B.depth B.posted m lawful applied)
 
 -- it may go into a nest that stands for the puts before it
 pub may_go : (N : Nested) (S : Museum) (P : List Entry) (put : Put) → N.things ≡ length S.things → N.places ≡ length S.places → StandsFor N (puts S P) → IsAllowedPut S N.depth P put →
@@ -119,22 +115,21 @@ lawful_sound S depth [] lawful = record { small = λ y c e. absurd (none_some e)
 lawful_sound S depth (e ∷ P) (follows, lawful) =
     with_sound S depth P (put_by S P e.verdict e.message) (put_allowed S depth P e.verdict e.message lawful follows.judged) (lawful_sound S depth P lawful)
 
--- what its thing carries comes to the place of its target
-pub comes_along : (S : Museum) (depth : ℕ) (P : List Entry) (m : Message) (put : Put) → IsLawful S depth P → put_in S P m ≡ Some put → IsAllowedPut S depth P put →
-    (y : ℕ) → is_carried (length S.things) (puts S P) put.thing y ≡ true → place_after S P m y ≡ place_to S P put.to
-comes_along S depth P m put lawful is allowed y carried =
-    ap (λ o. place_by (last (with_put o (puts S P))) (length S.things) y) is ∙ to put.to allowed.room
-  where
-    to : (t : Target) → IsAllowed (last (puts S P)) (length S.things) depth put.thing t → place_by (put_at (last (puts S P)) put.thing t) (length S.things) y ≡ place_to S P t
-    to (At p) room = place_carried (length S.things) depth (last (puts S P)) put.thing (At p) y (lawful_sound S depth P lawful) allowed.thing room carried
-    to (Within c) room = place_packed (length S.things) depth (last (puts S P)) put.thing c y (lawful_sound S depth P lawful) allowed.thing room carried
+-- what the put of an applied message does to a thing
+module _ {S : Museum} {depth : ℕ} {P : List Entry} (m : Message) {put : Put} (lawful : IsLawful S depth P) (is : put_in S P m ≡ Some put) (allowed : IsAllowedPut S depth P put) (y : ℕ) where
+  -- what its thing carries comes to the place of its target
+  pub comes_along : is_carried (length S.things) (puts S P) put.thing y ≡ true → place_after S P m y ≡ place_to S P put.to
+  comes_along carried = ap (λ o. place_by (last (with_put o (puts S P))) (length S.things) y) is ∙ to put.to allowed.room
+    where
+      to : (t : Target) → IsAllowed (last (puts S P)) (length S.things) depth put.thing t → place_by (put_at (last (puts S P)) put.thing t) (length S.things) y ≡ place_to S P t
+      to (At p) room = place_carried (length S.things) depth (last (puts S P)) put.thing (At p) y (lawful_sound S depth P lawful) allowed.thing room carried
+      to (Within c) room = place_packed (length S.things) depth (last (puts S P)) put.thing c y (lawful_sound S depth P lawful) allowed.thing room carried
 
--- what it doesn't carry stays where it is
-pub stays : (S : Museum) (depth : ℕ) (P : List Entry) (m : Message) (put : Put) → IsLawful S depth P → put_in S P m ≡ Some put → IsAllowedPut S depth P put →
-    (y : ℕ) → is_carried (length S.things) (puts S P) put.thing y ≡ false → place_after S P m y ≡ place_at S P y
-stays S depth P m put lawful is allowed y apart =
-    ap (λ o. place_by (last (with_put o (puts S P))) (length S.things) y) is
-    ∙ place_stays (length S.things) depth (last (puts S P)) put.thing put.to y (lawful_sound S depth P lawful) allowed.thing allowed.room apart
+  -- what it doesn't carry stays where it is
+  pub stays : is_carried (length S.things) (puts S P) put.thing y ≡ false → place_after S P m y ≡ place_at S P y
+  stays apart =
+      ap (λ o. place_by (last (with_put o (puts S P))) (length S.things) y) is
+      ∙ place_stays (length S.things) depth (last (puts S P)) put.thing put.to y (lawful_sound S depth P lawful) allowed.thing allowed.room apart
 
 -- the containers above a thing are things
 above_below : (n d : ℕ) (at : ℕ → Option Target) → IsSound n d at → (steps x : ℕ) → All (λ c. c < n) (above at steps x)

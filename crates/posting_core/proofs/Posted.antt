@@ -1,17 +1,17 @@
 -- What a ledger's fields keep, before and after an entry.
-use Rattle.std.specs.Prelude.{ℕ, ℤ, ◌≡◌, ◌+◌, ◌<◌, Bool, true, false, if◌then◌else◌, List, [], ◌∷◌, ◌++◌, Option, None, Some, length, All, Result, Ok, Err, IfOk, replicate, zero, suc, refl, IfSome, slice_set, slice_get, is_some, option_copied}
+use Rattle.std.specs.Prelude.{ℕ, ◌≡◌, ◌+◌, ◌<◌, Bool, true, false, if◌then◌else◌, List, [], ◌∷◌, ◌++◌, Option, None, Some, length, All, Result, Ok, Err, IfOk, replicate, zero, suc, refl, IfSome, slice_set, slice_get, is_some, option_copied}
 use Rattle.std.specs.Borrow.{Bor}
 use Rattle.std.specs.List.{find}
 use Rattle.std.specs.Str.{bytes_eq}
 use Rattle.std.specs.Option.{option_map, option_to_list}
 use Rattle.std.proofs.Common.{ap, ◌∙◌, sym, subst, arith, length-set}
 use Rattle.std.proofs.lemmas.List.{append-nil, length-replicate, length-map}
+use Rattle.std.proofs.lemmas.Option.{IfSome_then}
 use Rattle.nest_core.specs.declared.put.Put.{Put}
-use Rattle.nest_core.specs.declared.nest.PackBar.{PackBar}
 use Rattle.codes_core.specs.declared.fault.NoMemory.{NoMemory}
 use Rattle.nest_core.specs.Museum.{Museum}
-use Rattle.nest_core.specs.Nest.{Nested, StandsFor, MayGo, pack_bar}
-use Rattle.nest_core.specs.Puts.{last, with_put, place, chain, carried}
+use Rattle.nest_core.specs.Nest.{Nested, StandsFor, MayGo}
+use Rattle.nest_core.specs.Puts.{with_put, place, chain, carried}
 use Rattle.posting_core.specs.declared.message.Message.{Message}
 use Rattle.posting_core.specs.declared.message.Message.TheVariants.{Agree}
 use Rattle.posting_core.specs.declared.verdict.Verdict.{Verdict}
@@ -24,77 +24,55 @@ use Rattle.posting_core.specs.Messages.{day_of}
 use Rattle.posting_core.specs.History.{puts, put_in, put_by, spots, spot_from, place_at, carried_at}
 use Rattle.posting_core.specs.VerdictNames.{is_applied}
 use Rattle.posting_core.specs.Lawful.{Follows, IsLawful}
-use Rattle.posting_core.specs.Book.{Book, place_in, chain_in, loans_in, objects_of_loan, place_after, new_spot, new_spots, new_lines, changes_of}
+use Rattle.posting_core.specs.Book.{Book, chain_in, loans_in, objects_of_loan, place_after, new_spot, new_spots, new_lines, changes_of}
 use Rattle.posting_core.specs.Agreements.{Agreement, agreement_in, agreement_by, agreements, agreement, is_agreed}
 use Rattle.posting_core.specs.LoanRows.{LoanRow, loan_row, loan_rows, rows_with, MayAgree}
 use Rattle.posting_core.specs.Rows.{row_of, rows_after, AreAscending, IsKept}
 use Rattle.posting_core.proofs.AppliedRows.{false_true, applied_is}
 use Rattle.posting_core.proofs.Agreed.{IsSound, agree_applied}
 use Rattle.posting_core.proofs.Lined.{rows_after_entry}
-use Rattle.posting_core.proofs.Found.{IsRowOf, row_is, row_missing, code_at, objects_at}
-use Rattle.posting_core.proofs.Placed.{IsAllowedPut, put_allowed, may_go, chain_below}
+use Rattle.posting_core.proofs.LoanAnswers.{IsRowOf, row_is, row_missing, code_at, objects_at}
+use Rattle.posting_core.proofs.Placed.{put_allowed, may_go, chain_below}
 use Rattle.posting_core.proofs.Written.{rows_written, chosen_spot, own_spot, same_place, own_ascending}
 
 -- the book that a ledger's fields make
 abbrev pub book_of : Museum → List Entry → Nested → Book
 book_of S P N = record { museum = S; depth = N.depth; posted = P }
 
--- what the nest answers is looking back through the entries
+-- what is kept is what looking back through the entries of the ledger's book gives
+module _ {S : Museum} {P : List Entry} {N : Nested} {R : List (List Spot)} {L : List LoanRow} {B : Book} (kept : IsKept S P N R L) (same : book_of S P N ≡ B) where
+  pub lawful_kept : IsLawful B.museum B.depth B.posted
+  lawful_kept = subst (λ (C : Book). IsLawful C.museum C.depth C.posted) same kept.lawful
 
-pub thing_kept : (S : Museum) (P : List Entry) (N : Nested) (R : List (List Spot)) (L : List LoanRow) (B : Book) (x : ℕ) → book_of S P N ≡ B → IsKept S P N R L → x < length B.museum.things → x < N.things
-thing_kept S P N R L B x same kept less = subst (λ n. x < n) (sym kept.things) (subst (λ (C : Book). x < length C.museum.things) (sym same) less)
+  pub carried_kept : (x : ℕ) (ys : List ℕ) → ((Q : List Put) → StandsFor N Q → ys ≡ carried N.things Q x) → ys ≡ carried_at B.museum B.posted x
+  carried_kept x ys from = subst (λ (C : Book). ys ≡ carried_at C.museum C.posted x) same (from (puts S P) kept.nest ∙ ap (λ n. carried n (puts S P) x) kept.things)
 
-pub place_kept : (S : Museum) (P : List Entry) (N : Nested) (R : List (List Spot)) (L : List LoanRow) (B : Book) (x : ℕ) (r : Option ℕ) → book_of S P N ≡ B → IsKept S P N R L →
-    ((Q : List Put) → StandsFor N Q → r ≡ place N.things Q x) → r ≡ place_in B x
-place_kept S P N R L B x r same kept from = subst (λ (C : Book). r ≡ place_in C x) same (from (puts S P) kept.nest ∙ ap (λ n. place n (puts S P) x) kept.things)
+  -- a chain is of the setup's things
+  pub chain_within : (x : ℕ) (r : Result (List ℕ) NoMemory) → IfOk r (λ cs. (Q : List Put) → StandsFor N Q → cs ≡ chain N.things Q x) → IfOk r (All (λ c. c < length B.museum.things))
+  chain_within x (Ok cs) from = subst (All (λ c. c < length B.museum.things)) (sym is) (chain_below B.museum B.depth B.posted x lawful_kept)
+    where
+      is : cs ≡ chain_in B x
+      is = subst (λ (C : Book). cs ≡ chain_in C x) same (from (puts S P) kept.nest ∙ ap (λ n. chain n (puts S P) x) kept.things)
+  chain_within x (Err fault) from = tt
 
-pub place_within : (S : Museum) (P : List Entry) (N : Nested) (R : List (List Spot)) (L : List LoanRow) (B : Book) (r : Option ℕ) → book_of S P N ≡ B → IsKept S P N R L →
-    IfSome r (λ p. p < N.places) → IfSome r (λ p. p < length B.museum.places)
-place_within S P N R L B r same kept within = subst (λ (C : Book). IfSome r (λ p. p < length C.museum.places)) same (subst (λ n. IfSome r (λ p. p < n)) kept.places within)
+  -- what is kept of a loan is its row by looking back
+  pub loan_kept : (loan : List ℕ) (r : Option (Bor LoanRow)) → option_copied r ≡ find (λ row. bytes_eq loan row.loan) L →
+      (is_some r ≡ is_agreed B.posted loan) × IfSome r (λ row. IsRowOf B.museum B.posted loan row.now)
+  loan_kept loan r is =
+      subst (λ (C : Book). (is_some r ≡ is_agreed C.posted loan) × IfSome r (λ row. IsRowOf C.museum C.posted loan row.now)) same (borrowed r (row_is S P loan L (option_copied r) kept.loans is))
+    where
+      borrowed : (r : Option (Bor LoanRow)) → (is_some (option_copied r) ≡ is_agreed P loan) × IfSome (option_copied r) (IsRowOf S P loan) → (is_some r ≡ is_agreed P loan) × IfSome r (λ row. IsRowOf S P loan row.now)
+      borrowed None both = both
+      borrowed (Some row) both = both
 
-pub lawful_kept : (S : Museum) (P : List Entry) (N : Nested) (R : List (List Spot)) (L : List LoanRow) (B : Book) → book_of S P N ≡ B → IsKept S P N R L → IsLawful B.museum B.depth B.posted
-lawful_kept S P N R L B same kept = subst (λ (C : Book). IsLawful C.museum C.depth C.posted) same kept.lawful
+  pub code_kept : (i : ℕ) (row : LoanRow) → slice_get L i ≡ Some row → slice_get (loans_in B) i ≡ Some row.loan
+  code_kept i row at = subst (λ (C : Book). slice_get (loans_in C) i ≡ Some row.loan) same (code_at S P L i row kept.loans at)
 
-pub carried_kept : (S : Museum) (P : List Entry) (N : Nested) (R : List (List Spot)) (L : List LoanRow) (B : Book) (x : ℕ) (ys : List ℕ) → book_of S P N ≡ B → IsKept S P N R L →
-    ((Q : List Put) → StandsFor N Q → ys ≡ carried N.things Q x) → ys ≡ carried_at B.museum B.posted x
-carried_kept S P N R L B x ys same kept from = subst (λ (C : Book). ys ≡ carried_at C.museum C.posted x) same (from (puts S P) kept.nest ∙ ap (λ n. carried n (puts S P) x) kept.things)
+  pub objects_kept : (i : ℕ) (row : LoanRow) → slice_get L i ≡ Some row → option_map (objects_of_loan B) (slice_get (loans_in B) i) ≡ Some row.objects
+  objects_kept i row at = subst (λ (C : Book). option_map (objects_of_loan C) (slice_get (loans_in C) i) ≡ Some row.objects) same (objects_at S N.depth P L i row kept.lawful kept.loans at)
 
-pub chain_kept : (S : Museum) (P : List Entry) (N : Nested) (R : List (List Spot)) (L : List LoanRow) (B : Book) (x : ℕ) (cs : List ℕ) → book_of S P N ≡ B → IsKept S P N R L →
-    ((Q : List Put) → StandsFor N Q → cs ≡ chain N.things Q x) → cs ≡ chain_in B x
-chain_kept S P N R L B x cs same kept from = subst (λ (C : Book). cs ≡ chain_in C x) same (from (puts S P) kept.nest ∙ ap (λ n. chain n (puts S P) x) kept.things)
-
--- of the setup's things
-pub chain_within : (S : Museum) (P : List Entry) (N : Nested) (R : List (List Spot)) (L : List LoanRow) (B : Book) (x : ℕ) (r : Result (List ℕ) NoMemory) → book_of S P N ≡ B → IsKept S P N R L →
-    IfOk r (λ cs. (Q : List Put) → StandsFor N Q → cs ≡ chain N.things Q x) → IfOk r (All (λ c. c < length B.museum.things))
-chain_within S P N R L B x (Ok cs) same kept from = subst (All (λ c. c < length B.museum.things)) (sym (chain_kept S P N R L B x cs same kept from)) (chain_below B.museum B.depth B.posted x (lawful_kept S P N R L B same kept))
-chain_within S P N R L B x (Err fault) same kept from = tt
-
-pub bar_kept : (S : Museum) (P : List Entry) (N : Nested) (R : List (List Spot)) (L : List LoanRow) (B : Book) (x c : ℕ) (r : Option PackBar) → book_of S P N ≡ B → IsKept S P N R L →
-    ((Q : List Put) → StandsFor N Q → r ≡ pack_bar (last Q) N.things N.depth x c) → r ≡ pack_bar (last (puts B.museum B.posted)) (length B.museum.things) B.depth x c
-bar_kept S P N R L B x c r same kept from =
-    subst (λ (C : Book). r ≡ pack_bar (last (puts C.museum C.posted)) (length C.museum.things) C.depth x c) same
-    (from (puts S P) kept.nest ∙ ap (λ n. pack_bar (last (puts S P)) n N.depth x c) kept.things)
-
--- what is kept of a loan is its row by looking back
-pub loan_kept : (S : Museum) (P : List Entry) (N : Nested) (R : List (List Spot)) (L : List LoanRow) (B : Book) (loan : List ℕ) (r : Option (Bor LoanRow)) → book_of S P N ≡ B → IsKept S P N R L →
-    option_copied r ≡ find (λ row. bytes_eq loan row.loan) L → (is_some r ≡ is_agreed B.posted loan) × IfSome r (λ row. IsRowOf B.museum B.posted loan row.now)
-loan_kept S P N R L B loan r same kept is =
-    subst (λ (C : Book). (is_some r ≡ is_agreed C.posted loan) × IfSome r (λ row. IsRowOf C.museum C.posted loan row.now)) same (borrowed r (row_is S P loan L (option_copied r) kept.loans is))
-  where
-    borrowed : (r : Option (Bor LoanRow)) → (is_some (option_copied r) ≡ is_agreed P loan) × IfSome (option_copied r) (IsRowOf S P loan) → (is_some r ≡ is_agreed P loan) × IfSome r (λ row. IsRowOf S P loan row.now)
-    borrowed None both = both
-    borrowed (Some row) both = both
-
-pub code_kept : (S : Museum) (P : List Entry) (N : Nested) (R : List (List Spot)) (L : List LoanRow) (B : Book) (i : ℕ) (row : LoanRow) → book_of S P N ≡ B → IsKept S P N R L →
-    slice_get L i ≡ Some row → slice_get (loans_in B) i ≡ Some row.loan
-code_kept S P N R L B i row same kept at = subst (λ (C : Book). slice_get (loans_in C) i ≡ Some row.loan) same (code_at S P L i row kept.loans at)
-
-pub objects_kept : (S : Museum) (P : List Entry) (N : Nested) (R : List (List Spot)) (L : List LoanRow) (B : Book) (i : ℕ) (row : LoanRow) → book_of S P N ≡ B → IsKept S P N R L →
-    slice_get L i ≡ Some row → option_map (objects_of_loan B) (slice_get (loans_in B) i) ≡ Some row.objects
-objects_kept S P N R L B i row same kept at = subst (λ (C : Book). option_map (objects_of_loan C) (slice_get (loans_in C) i) ≡ Some row.objects) same (objects_at S N.depth P L i row kept.lawful kept.loans at)
-
-pub count_kept : (S : Museum) (P : List Entry) (N : Nested) (R : List (List Spot)) (L : List LoanRow) (B : Book) → book_of S P N ≡ B → IsKept S P N R L → length L ≡ length (loans_in B)
-count_kept S P N R L B same kept = subst (λ (C : Book). length L ≡ length (loans_in C)) same (ap length kept.loans ∙ length-map (agreements P) (loan_row S P) ∙ sym (length-map (agreements P) (λ t. t.loan)))
+  pub count_kept : length L ≡ length (loans_in B)
+  count_kept = subst (λ (C : Book). length L ≡ length (loans_in C)) same (ap length kept.loans ∙ length-map (agreements P) (loan_row S P) ∙ sym (length-map (agreements P) (λ t. t.loan)))
 
 -- what an entry writes
 
@@ -132,62 +110,6 @@ rows_length : (R : List (List Spot)) (ss : List NewSpot) → length (rows_after 
 rows_length R [] = refl
 rows_length R (s ∷ ss) = rows_length (slice_set R s.thing (row_of R s.thing ++ s.spot ∷ [])) ss ∙ length-set R s.thing (row_of R s.thing ++ s.spot ∷ [])
 
-news_are : (B : Book) (e : Entry) (changes : Changes) (news : List NewSpot) → news ≡ changes.spots → changes ≡ changes_of B e.message → Follows B.museum B.depth B.posted e →
-    news ≡ news_under B.museum B.posted e.verdict e.message
-news_are B e changes news h p follows =
-    h ∙ ap (λ (c : Changes). c.spots) p ∙ ap (λ (v : Verdict). news_under B.museum B.posted v e.message) (sym follows.judged)
-
-lines_are : (B : Book) (e : Entry) (changes : Changes) (lines : List NewLine) → lines ≡ changes.lines → changes ≡ changes_of B e.message → Follows B.museum B.depth B.posted e →
-    lines ≡ lines_under B.museum B.posted e.verdict e.message
-lines_are B e changes lines h p follows =
-    h ∙ ap (λ (c : Changes). c.lines) p ∙ ap (λ (v : Verdict). lines_under B.museum B.posted v e.message) (sym follows.judged)
-
--- what `apply` is told of its entry and its changes, over the ledger's fields
-pub record IsPlanned (S : Museum) (P : List Entry) (N : Nested) (R : List (List Spot)) (L : List LoanRow) (e : Entry) (news : List NewSpot) (lines : List NewLine) : Type 0 where
-  pub kept : IsKept S P N R L
-  pub follows : Follows S N.depth P e
-  pub news_is : news ≡ news_under S P e.verdict e.message
-  pub lines_is : lines ≡ lines_under S P e.verdict e.message
-
-pub planned : (S : Museum) (P : List Entry) (N : Nested) (R : List (List Spot)) (L : List LoanRow) (B : Book) (e : Entry) (changes : Changes) (news : List NewSpot) (lines : List NewLine) → book_of S P N ≡ B → IsKept S P N R L →
-    Follows B.museum B.depth B.posted e → changes ≡ changes_of B e.message → news ≡ changes.spots → lines ≡ changes.lines → IsPlanned S P N R L e news lines
-planned S P N R L B e changes news lines same kept follows plan h k =
-    let follows' : Follows S N.depth P e = subst (λ (C : Book). Follows C.museum C.depth C.posted e) (sym same) follows in
-    let plan' : changes ≡ changes_of (book_of S P N) e.message = subst (λ (C : Book). changes ≡ changes_of C e.message) (sym same) plan in
-    record { kept = kept; follows = follows'; news_is = news_are (book_of S P N) e changes news h plan' follows'; lines_is = lines_are (book_of S P N) e changes lines k plan' follows' }
-
-pub planned_ascending : (S : Museum) (P : List Entry) (N : Nested) (R : List (List Spot)) (L : List LoanRow) (e : Entry) (news : List NewSpot) (lines : List NewLine) (n : ℕ) → IsPlanned S P N R L e news lines → n ≡ length R → AreAscending 0 n news
-planned_ascending S P N R L e news lines n is sized = rw (is.news_is, sized, is.kept.rowed) (news_ascending S P e.verdict e.message)
-
-put_is : (S : Museum) (P : List Entry) (N : Nested) (B : Book) (e : Entry) (put : Option Put) → book_of S P N ≡ B → put ≡ put_by B.museum B.posted e.verdict e.message → put ≡ put_by S P e.verdict e.message
-put_is S P N B e put same h = subst (λ (C : Book). put ≡ put_by C.museum C.posted e.verdict e.message) (sym same) h
-
--- where the entry puts its thing, the nest lets it go
-pub planned_put : (S : Museum) (P : List Entry) (N : Nested) (R : List (List Spot)) (L : List LoanRow) (B : Book) (e : Entry) (news : List NewSpot) (lines : List NewLine) (put : Option Put) → book_of S P N ≡ B → IsPlanned S P N R L e news lines → put ≡ put_by B.museum B.posted e.verdict e.message →
-    IfSome put (λ p. (p.thing < N.things) × MayGo N p.thing p.to)
-planned_put S P N R L B e news lines put same is h =
-    subst (λ o. IfSome o (λ p. (p.thing < N.things) × MayGo N p.thing p.to)) (sym (put_is S P N B e put same h))
-    (if_some (put_by S P e.verdict e.message) (put_allowed S N.depth P e.verdict e.message is.kept.lawful is.follows.judged))
-  where
-    if_some : (o : Option Put) → IfSome o (IsAllowedPut S N.depth P) → IfSome o (λ p. (p.thing < N.things) × MayGo N p.thing p.to)
-    if_some None allowed = tt
-    if_some (Some p) allowed = may_go N S P p is.kept.things is.kept.places is.kept.nest allowed
-
--- an applied agreement can be kept
-pub planned_agree : (S : Museum) (P : List Entry) (N : Nested) (R : List (List Spot)) (L : List LoanRow) (e : Entry) (news : List NewSpot) (lines : List NewLine) → IsPlanned S P N R L e news lines →
-    IfSome (agreement_by e.verdict e.message) (MayAgree S L)
-planned_agree S P N R L e news lines is =
-    elim (is_applied e.verdict) as (λ b. is_applied e.verdict ≡ b → IfSome (if b then agreement_in e.message else None) (MayAgree S L)) [
-      | true ↦ λ h. new (agreement_in e.message) (λ t agreed. agree_applied S N.depth P e.message t (sym is.follows.judged ∙ applied_is e.verdict h) agreed)
-      | false ↦ λ h. tt
-    ] refl
-  where
-    new : (o : Option Agreement) → ((t : Agreement) → o ≡ Some t → (agreement P t.loan ≡ None) × IsSound S t) → IfSome o (MayAgree S L)
-    new None both = tt
-    new (Some t) both =
-        let (unknown, sound) = both t refl in
-        record { known = sound.known; once = sound.once; new = row_missing S P L t.loan is.kept.loans unknown }
-
 -- a message that agrees a loan puts nothing anywhere
 unplaced : (S : Museum) (P : List Entry) (v : Verdict) (m : Message) → is_some (agreement_in m) ≡ true → put_by S P v m ≡ None
 unplaced S P v (Agree loan partner objects first final) agrees = elim (is_applied v) as (λ b. put_of b ≡ None) [ true ↦ refl | false ↦ refl ]
@@ -196,43 +118,90 @@ unplaced S P v (Agree loan partner objects first final) agrees = elim (is_applie
     put_of b = if b then None else None
 unplaced S P v _ agrees = absurd (false_true agrees)
 
--- where an agreement finds no memory all is kept as it was
-pub kept_still : (S : Museum) (P P' : List Entry) (N M : Nested) (R R' : List (List Spot)) (L L' : List LoanRow) (B : Book) (e : Entry) (put : Option Put) → book_of S P N ≡ B → IsKept S P N R L →
-    put ≡ put_by B.museum B.posted e.verdict e.message → is_some (agreement_in e.message) ≡ true → P' ≡ P → ((Q : List Put) → StandsFor N Q → StandsFor M (with_put put Q)) →
-    M.things ≡ N.things → M.places ≡ N.places → M.depth ≡ N.depth → R' ≡ R → L' ≡ L → IsKept S P' M R' L'
-kept_still S P P' N M R R' L L' B e put same kept h agrees p stands things places depth r l =
-    subst (λ (K : List Entry). IsKept S K M R' L') (sym p) (record {
-      lawful = subst (λ d. IsLawful S d P) (sym depth) kept.lawful;
-      things = things ∙ kept.things;
-      places = places ∙ kept.places;
-      nest = subst (λ o. StandsFor M (with_put o (puts S P))) (put_is S P N B e put same h ∙ unplaced S P e.verdict e.message agrees) (stands (puts S P) kept.nest);
-      rowed = ap length r ∙ kept.rowed;
-      row = λ x less. ap (λ rs. row_of rs x) r ∙ kept.row x less;
-      loans = l ∙ kept.loans;
-    })
+-- what `apply` is told of its entry and its changes, over the ledger's fields
+pub record IsPlanned (S : Museum) (P : List Entry) (N : Nested) (R : List (List Spot)) (L : List LoanRow) (e : Entry) (news : List NewSpot) (lines : List NewLine) : Type 0 where
+  pub kept : IsKept S P N R L
+  pub follows : Follows S N.depth P e
+  pub news_is : news ≡ news_under S P e.verdict e.message
+  pub lines_is : lines ≡ lines_under S P e.verdict e.message
 
--- the rows of the loans after an entry
-loans_after : (S : Museum) (P : List Entry) (N : Nested) (R : List (List Spot)) (L L' : List LoanRow) (e : Entry) (news : List NewSpot) (lines : List NewLine) → IsPlanned S P N R L e news lines →
-    L' ≡ (if is_applied e.verdict then rows_with S L e.message lines else L) → L' ≡ loan_rows S (e ∷ P)
-loans_after S P N R L L' e news lines is l = l ∙ written ∙ sym (rows_after_entry S N.depth P e is.follows is.kept.lawful)
-  where
-    written : (if is_applied e.verdict then rows_with S L e.message lines else L) ≡ (if is_applied e.verdict then rows_with S (loan_rows S P) e.message (new_lines S P e.message) else loan_rows S P)
-    written = rw (is.kept.loans, is.lines_is) (elim (is_applied e.verdict) as (λ b. (if b then rows_with S (loan_rows S P) e.message (if b then new_lines S P e.message else []) else loan_rows S P) ≡ (if b then rows_with S (loan_rows S P) e.message (new_lines S P e.message) else loan_rows S P)) [ true ↦ refl | false ↦ refl ])
+-- what the changes of an entry that follows write
+written : (B : Book) (e : Entry) (changes : Changes) → Follows B.museum B.depth B.posted e → changes ≡ changes_of B e.message →
+    (changes.spots ≡ news_under B.museum B.posted e.verdict e.message) × (changes.lines ≡ lines_under B.museum B.posted e.verdict e.message)
+written B e changes follows plan = (
+  ap (λ (c : Changes). c.spots) plan ∙ ap (λ (v : Verdict). news_under B.museum B.posted v e.message) (sym follows.judged),
+  ap (λ (c : Changes). c.lines) plan ∙ ap (λ (v : Verdict). lines_under B.museum B.posted v e.message) (sym follows.judged),
+)
 
--- what is kept after an entry
-pub kept_after : (S : Museum) (P P' : List Entry) (N M : Nested) (R R' : List (List Spot)) (L L' : List LoanRow) (B : Book) (e : Entry) (news : List NewSpot) (lines : List NewLine) (put : Option Put) → book_of S P N ≡ B → IsPlanned S P N R L e news lines →
-    put ≡ put_by B.museum B.posted e.verdict e.message → P' ≡ e ∷ P → ((Q : List Put) → StandsFor N Q → StandsFor M (with_put put Q)) →
-    M.things ≡ N.things → M.places ≡ N.places → M.depth ≡ N.depth → R' ≡ rows_after R news → L' ≡ (if is_applied e.verdict then rows_with S L e.message lines else L) → IsKept S P' M R' L'
-kept_after S P P' N M R R' L L' B e news lines put same is h p stands things places depth r l =
-    subst (λ (K : List Entry). IsKept S K M R' L') (sym p) (record {
-      lawful = subst (λ d. IsLawful S d (e ∷ P)) (sym depth) (is.follows, is.kept.lawful);
-      things = things ∙ is.kept.things;
-      places = places ∙ is.kept.places;
-      nest = subst (λ o. StandsFor M (with_put o (puts S P))) (put_is S P N B e put same h) (stands (puts S P) is.kept.nest);
-      rowed = ap length r ∙ rows_length R news ∙ is.kept.rowed;
-      row = λ x less. ap (λ rs. row_of rs x) r ∙ ap (λ ns. row_of (rows_after R ns) x) is.news_is ∙ spots_after_entry S P N R L e is.kept x less;
-      loans = loans_after S P N R L L' e news lines is l;
-    })
+pub planned : {S : Museum} {P : List Entry} {N : Nested} {R : List (List Spot)} {L : List LoanRow} {B : Book} {e : Entry} {changes : Changes} {news : List NewSpot} {lines : List NewLine} → IsKept S P N R L → book_of S P N ≡ B →
+    Follows B.museum B.depth B.posted e → changes ≡ changes_of B e.message → news ≡ changes.spots → lines ≡ changes.lines → IsPlanned S P N R L e news lines
+planned {S} {P} {N} {B} {e} {changes} kept same follows plan spots_is lines_is =
+    let follows' : Follows S N.depth P e = subst (λ (C : Book). Follows C.museum C.depth C.posted e) (sym same) follows in
+    let both = written (book_of S P N) e changes follows' (subst (λ (C : Book). changes ≡ changes_of C e.message) (sym same) plan) in
+    record { kept = kept; follows = follows'; news_is = spots_is ∙ both.0; lines_is = lines_is ∙ both.1 }
+
+-- what follows of it
+module _ {S : Museum} {P : List Entry} {N : Nested} {R : List (List Spot)} {L : List LoanRow} {e : Entry} {news : List NewSpot} {lines : List NewLine} (is : IsPlanned S P N R L e news lines) where
+  pub planned_ascending : (n : ℕ) → n ≡ length R → AreAscending 0 n news
+  planned_ascending n sized = rw (is.news_is, sized, is.kept.rowed) (news_ascending S P e.verdict e.message)
+
+  -- an applied agreement can be kept
+  pub planned_agree : IfSome (agreement_by e.verdict e.message) (MayAgree S L)
+  planned_agree =
+      elim (is_applied e.verdict) as (λ b. is_applied e.verdict ≡ b → IfSome (if b then agreement_in e.message else None) (MayAgree S L)) [
+        | true ↦ λ h. new (agreement_in e.message) (λ t agreed. agree_applied S N.depth P e.message t (sym is.follows.judged ∙ applied_is e.verdict h) agreed)
+        | false ↦ λ h. tt
+      ] refl
+    where
+      new : (o : Option Agreement) → ((t : Agreement) → o ≡ Some t → (agreement P t.loan ≡ None) × IsSound S t) → IfSome o (MayAgree S L)
+      new None both = tt
+      new (Some t) both =
+          let (unknown, sound) = both t refl in
+          record { known = sound.known; once = sound.once; new = row_missing S P L t.loan is.kept.loans unknown }
+
+  -- the rows of the loans after the entry
+  loans_after : (L' : List LoanRow) → L' ≡ (if is_applied e.verdict then rows_with S L e.message lines else L) → L' ≡ loan_rows S (e ∷ P)
+  loans_after L' l = l ∙ in_rows ∙ sym (rows_after_entry S N.depth P e is.follows is.kept.lawful)
+    where
+      in_rows : (if is_applied e.verdict then rows_with S L e.message lines else L) ≡ (if is_applied e.verdict then rows_with S (loan_rows S P) e.message (new_lines S P e.message) else loan_rows S P)
+      in_rows = rw (is.kept.loans, is.lines_is) (elim (is_applied e.verdict) as (λ b. (if b then rows_with S (loan_rows S P) e.message (if b then new_lines S P e.message else []) else loan_rows S P) ≡ (if b then rows_with S (loan_rows S P) e.message (new_lines S P e.message) else loan_rows S P)) [ true ↦ refl | false ↦ refl ])
+
+  module _ {B : Book} {put : Option Put} (same : book_of S P N ≡ B) (put_is : put ≡ put_by B.museum B.posted e.verdict e.message) where
+    put_here : put ≡ put_by S P e.verdict e.message
+    put_here = subst (λ (C : Book). put ≡ put_by C.museum C.posted e.verdict e.message) (sym same) put_is
+
+    -- where the entry puts its thing, the nest lets it go
+    pub planned_put : IfSome put (λ p. (p.thing < N.things) × MayGo N p.thing p.to)
+    planned_put =
+        subst (λ o. IfSome o (λ p. (p.thing < N.things) × MayGo N p.thing p.to)) (sym put_here)
+        (IfSome_then (put_by S P e.verdict e.message) (put_allowed S N.depth P e.verdict e.message is.kept.lawful is.follows.judged) (λ p allowed. may_go N S P p is.kept.things is.kept.places is.kept.nest allowed))
+
+    module _ {M : Nested} (stands : (Q : List Put) → StandsFor N Q → StandsFor M (with_put put Q)) (things : M.things ≡ N.things) (places : M.places ≡ N.places) (depth : M.depth ≡ N.depth) where
+      -- what is kept after the entry
+      pub kept_after : {P' : List Entry} {R' : List (List Spot)} {L' : List LoanRow} → P' ≡ e ∷ P → R' ≡ rows_after R news → L' ≡ (if is_applied e.verdict then rows_with S L e.message lines else L) → IsKept S P' M R' L'
+      kept_after {R'} {L'} p r l =
+          subst (λ (K : List Entry). IsKept S K M R' L') (sym p) (record {
+            lawful = subst (λ d. IsLawful S d (e ∷ P)) (sym depth) (is.follows, is.kept.lawful);
+            things = things ∙ is.kept.things;
+            places = places ∙ is.kept.places;
+            nest = subst (λ o. StandsFor M (with_put o (puts S P))) put_here (stands (puts S P) is.kept.nest);
+            rowed = ap length r ∙ rows_length R news ∙ is.kept.rowed;
+            row = λ x less. ap (λ rs. row_of rs x) r ∙ ap (λ ns. row_of (rows_after R ns) x) is.news_is ∙ spots_after_entry S P N R L e is.kept x less;
+            loans = loans_after L' l;
+          })
+
+      -- where an agreement finds no memory all is kept as it was
+      pub kept_still : {P' : List Entry} {R' : List (List Spot)} {L' : List LoanRow} → is_some (agreement_in e.message) ≡ true → P' ≡ P → R' ≡ R → L' ≡ L → IsKept S P' M R' L'
+      kept_still {R'} {L'} agrees p r l =
+          subst (λ (K : List Entry). IsKept S K M R' L') (sym p) (record {
+            lawful = subst (λ d. IsLawful S d P) (sym depth) is.kept.lawful;
+            things = things ∙ is.kept.things;
+            places = places ∙ is.kept.places;
+            nest = subst (λ o. StandsFor M (with_put o (puts S P))) (put_here ∙ unplaced S P e.verdict e.message agrees) (stands (puts S P) is.kept.nest);
+            rowed = ap length r ∙ is.kept.rowed;
+            row = λ x less. ap (λ rs. row_of rs x) r ∙ is.kept.row x less;
+            loans = l ∙ is.kept.loans;
+          })
 
 row_none : (n x : ℕ) → row_of (replicate n []) x ≡ []
 row_none zero x = refl
@@ -240,8 +209,8 @@ row_none (suc n) zero = refl
 row_none (suc n) (suc x) = row_none n x
 
 -- what is kept of nothing
-pub kept_new : (S : Museum) (n : ℕ) (P : List Entry) (N : Nested) (R : List (List Spot)) (L : List LoanRow) → n ≡ length S.things → P ≡ [] → StandsFor N [] → N.things ≡ length S.things → N.places ≡ length S.places → R ≡ replicate n [] → L ≡ [] → IsKept S P N R L
-kept_new S n P N R L same p nest things places r l =
+pub kept_new : {S : Museum} {n : ℕ} {P : List Entry} {N : Nested} {R : List (List Spot)} {L : List LoanRow} → n ≡ length S.things → P ≡ [] → StandsFor N [] → N.things ≡ length S.things → N.places ≡ length S.places → R ≡ replicate n [] → L ≡ [] → IsKept S P N R L
+kept_new {S} {n} {N} {R} {L} same p nest things places r l =
     subst (λ (K : List Entry). IsKept S K N R L) (sym p) (record {
       lawful = tt;
       things = things;

@@ -1,38 +1,22 @@
 -- Room in the rows of spots, and what a write to one row leaves of the others.
-use Rattle.std.specs.Prelude.{ℕ, ◌≡◌, ◌+◌, ◌<◌, ◌≤◌, List, [], ◌∷◌, ◌++◌, Option, Some, length, All, zero, suc, refl, IfSome, slice_get, slice_set, Vec, vec_len, vec_capacity, drop, take}
-use Rattle.std.proofs.Math.Seq.{drop-cons, take-length}
-use Rattle.std.proofs.Common.{get_or, add-one, ap, ◌∙◌, sym, subst, arith, inl, inr}
+use Rattle.std.specs.Prelude.{ℕ, ◌≡◌, ◌+◌, ◌<◌, ◌≤◌, List, [], ◌∷◌, ◌++◌, Some, length, All, refl, IfSome, slice_get, slice_set, Vec, vec_len, vec_capacity}
+use Rattle.std.proofs.Common.{ap, ◌∙◌, sym, subst, arith, inl, inr}
 use Rattle.std.proofs.lemmas.Bool.{cases_eq}
 use Rattle.std.proofs.lemmas.List.Elements.{All-nil, All-cons, All-head, All-tail}
 use Rattle.std.proofs.lemmas.Option.{slice_get-map}
 use Rattle.std.proofs.lemmas.List.{map-set}
 use Rattle.std.specs.declared.alloc.Global.{Global}
+use Rattle.nest_core.proofs.Writes.{get_set_same, get_set_other}
 use Rattle.posting_core.specs.declared.entry.Spot.{Spot}
 use Rattle.posting_core.specs.declared.entry.NewSpot.{NewSpot}
 use Rattle.posting_core.specs.Rows.{rows_after, row_of, lists, AreAscending, HasRoom, AreReady}
 
-pub get_set_same : {X : Type 0} (xs : List X) (i : ℕ) (y : X) → i < length xs → slice_get (slice_set xs i y) i ≡ Some y
-get_set_same [] i y less = absurd (omega arith)
-get_set_same (x ∷ xs) zero y less = refl
-get_set_same (x ∷ xs) (suc i) y less = get_set_same xs i y (omega arith)
-
-pub get_set_other : {X : Type 0} (xs : List X) (i k : ℕ) (y : X) → (i ≡ k → ⊥) → slice_get (slice_set xs i y) k ≡ slice_get xs k
-get_set_other [] i k y n = refl
-get_set_other (x ∷ xs) zero zero y n = absurd (n refl)
-get_set_other (x ∷ xs) zero (suc k) y n = refl
-get_set_other (x ∷ xs) (suc i) zero y n = refl
-get_set_other (x ∷ xs) (suc i) (suc k) y n = get_set_other xs i k y (λ e. n (ap suc e))
-
 -- what holds of the new element and of the others holds after a write
-pub holds_set : {X : Type 0} (Q : X → Type 0) (xs : List X) (i : ℕ) (y : X) (k : ℕ) → Q y → i < length xs → ((i ≡ k → ⊥) → IfSome (slice_get xs k) Q) → IfSome (slice_get (slice_set xs i y) k) Q
+holds_set : {X : Type 0} (Q : X → Type 0) (xs : List X) (i : ℕ) (y : X) (k : ℕ) → Q y → i < length xs → ((i ≡ k → ⊥) → IfSome (slice_get xs k) Q) → IfSome (slice_get (slice_set xs i y) k) Q
 holds_set Q xs i y k q less h = elim (cases_eq i k) [
   | inl e ↦ subst (λ j. IfSome (slice_get (slice_set xs i y) j) Q) e (subst (λ o. IfSome o Q) (sym (get_set_same xs i y less)) q)
   | inr n ↦ subst (λ o. IfSome o Q) (sym (get_set_other xs i k y n)) (h n)
 ]
-
--- what holds where there is an element holds of it
-pub holds_at : {X : Type 0} (Q : X → Type 0) (o : Option X) (x : X) → o ≡ Some x → IfSome o Q → Q x
-holds_at Q o x e h = subst (λ p. IfSome p Q) e h
 
 -- one more spot written is the next of the list
 pub row_written : (rows : List (Vec Spot Global)) (s : NewSpot) (ss : List NewSpot) (old new : Vec Spot Global) → s.thing < length rows → slice_get rows s.thing ≡ Some old → new.items ≡ old.items ++ s.spot ∷ [] →
@@ -63,9 +47,3 @@ room_set rows i new x less room h = holds_set (λ row. vec_len row + 1 ≤ vec_c
 
 pub room_here : (rows : List (Vec Spot Global)) (i : ℕ) (new : Vec Spot Global) → i < length rows → vec_len new + 1 ≤ vec_capacity new → HasRoom (slice_set rows i new) i
 room_here rows i new less room = subst (λ o. IfSome o (λ row. vec_len row + 1 ≤ vec_capacity row)) (sym (get_set_same rows i new less)) room
-
-pub next_drop : (news : List NewSpot) (i : ℕ) (s : NewSpot) → i < length news → s ≡ get_or news i s → drop i news ≡ s ∷ drop (i + 1) news
-next_drop news i s less is = (rw add-one (drop-cons news i s less)) ∙ ap (λ t. t ∷ drop (i + 1) news) (sym is)
-
-pub whole_take : (P : NewSpot → Type 0) (news : List NewSpot) (i : ℕ) → length news ≤ i → i ≤ length news → All P (take i news) → All P news
-whole_take P news i low high h = let all : i ≡ length news = omega arith in subst (All P) (ap (λ n. take n news) all ∙ take-length news) h

@@ -1,8 +1,8 @@
 -- The spots that an applied message writes are those of what its thing carries.
 use Rattle.std.specs.Prelude.{ℕ, ℤ, zero, suc, ◌≡◌, ◌+◌, ◌<◌, ◌≤◌, Bool, true, false, cond, List, [], ◌∷◌, ◌++◌, Option, None, Some, length, filter, refl, All}
 use Rattle.std.specs.List.{filter_map, range_with_len, cons_option}
-use Rattle.std.proofs.Common.{ap, ◌∙◌, sym, arith, add-one, get_or, take}
-use Rattle.std.proofs.Math.Seq.{take-suc}
+use Rattle.std.proofs.Common.{ap, ◌∙◌, sym, arith, get_or, take}
+use Rattle.std.proofs.lemmas.List.{take_more}
 use Rattle.std.specs.Option.{option_to_list}
 use Rattle.std.proofs.lemmas.List.Elements.{All-nil, All-cons, All-filter, filter_map-append}
 use Rattle.nest_core.specs.declared.put.Put.{Put}
@@ -17,7 +17,7 @@ use Rattle.posting_core.specs.Lawful.{IsLawful}
 use Rattle.posting_core.specs.Book.{Book, place_in, spots_in, place_after, new_spot, new_spots}
 use Rattle.posting_core.specs.Rows.{place_to}
 use Rattle.posting_core.proofs.Placed.{IsAllowedPut, comes_along, stays}
-use Rattle.posting_core.proofs.Written.{same_place, no_spot}
+use Rattle.posting_core.proofs.Written.{same_place}
 
 -- what only some of a list have is what these have
 of_some : (c : ℕ → Bool) (f g : ℕ → Option NewSpot) (xs : List ℕ) → ((y : ℕ) → c y ≡ true → f y ≡ g y) → ((y : ℕ) → c y ≡ false → g y ≡ None) → filter_map f (filter c xs) ≡ filter_map g xs
@@ -30,43 +30,30 @@ of_some c f g (x ∷ xs) same none = elim (c x) as (λ b. c x ≡ b → filter_m
 unmoved : (number count : ℕ) (o : Option ℕ) (day : Option ℤ) (y : ℕ) → new_spot number count o o day y ≡ None
 unmoved number count o day y = rw (same_place number o day) refl
 
-undated : (number count : ℕ) (before after : Option ℕ) (y : ℕ) → new_spot number count before after None y ≡ None
-undated number count before None y = refl
-undated number count before (Some p) y = refl
-
 -- a thing's spot where it comes to this place
 abbrev spot_at : Museum → List Entry → Message → Option ℕ → ℕ → Option NewSpot
 spot_at S P m after y = new_spot (length P + 1) (length (spots S P y)) (place_at S P y) after (day_of m) y
 
-pub carried_spots : (S : Museum) (depth : ℕ) (P : List Entry) (m : Message) (put : Put) → IsLawful S depth P → put_in S P m ≡ Some put → IsAllowedPut S depth P put →
+carried_spots : {S : Museum} {depth : ℕ} {P : List Entry} (m : Message) {put : Put} → IsLawful S depth P → put_in S P m ≡ Some put → IsAllowedPut S depth P put →
     filter_map (spot_at S P m (place_to S P put.to)) (carried_at S P put.thing) ≡ new_spots S P m
-carried_spots S depth P m put lawful is allowed =
+carried_spots {S} {P} m {put} lawful is allowed =
     of_some (is_carried (length S.things) (puts S P) put.thing) (spot_at S P m (place_to S P put.to)) (λ y. spot_at S P m (place_after S P m y) y) (range_with_len 0 (length S.things))
-    (λ y carried. ap (λ o. spot_at S P m o y) (sym (comes_along S depth P m put lawful is allowed y carried)))
-    (λ y apart. ap (λ o. spot_at S P m o y) (stays S depth P m put lawful is allowed y apart) ∙ unmoved (length P + 1) (length (spots S P y)) (place_at S P y) (day_of m) y)
+    (λ y carried. ap (λ o. spot_at S P m o y) (sym (comes_along m lawful is allowed y carried)))
+    (λ y apart. ap (λ o. spot_at S P m o y) (stays m lawful is allowed y apart) ∙ unmoved (length P + 1) (length (spots S P y)) (place_at S P y) (day_of m) y)
 
+-- what gives nothing of each gives nothing of all
 none_of : (f : ℕ → Option NewSpot) (xs : List ℕ) → ((y : ℕ) → f y ≡ None) → filter_map f xs ≡ []
 none_of f [] none = refl
 none_of f (x ∷ xs) none = ap (λ o. cons_option o (filter_map f xs)) (none x) ∙ none_of f xs none
 
--- where the target has no place, nothing comes to another
-pub nowhere_spots : (S : Museum) (depth : ℕ) (P : List Entry) (m : Message) (put : Put) → IsLawful S depth P → put_in S P m ≡ Some put → IsAllowedPut S depth P put → place_to S P put.to ≡ None → [] ≡ new_spots S P m
-nowhere_spots S depth P m put lawful is allowed nowhere =
-    sym (none_of (spot_at S P m (place_to S P put.to)) (carried_at S P put.thing) (λ y. ap (λ o. spot_at S P m o y) nowhere)) ∙ carried_spots S depth P m put lawful is allowed
-
 -- a message that places nothing writes none
 pub unplaced_spots : (S : Museum) (P : List Entry) (m : Message) → put_in S P m ≡ None → [] ≡ new_spots S P m
-unplaced_spots S P m is = sym (no_spot (λ y. spot_at S P m (place_after S P m y) y) 0 (length S.things)
+unplaced_spots S P m is = sym (none_of (λ y. spot_at S P m (place_after S P m y) y) (range_with_len 0 (length S.things))
     (λ y. rw is (unmoved (length P + 1) (length (spots S P y)) (place_at S P y) (day_of m) y)))
-
--- nor does one without a day
-pub undated_spots : (S : Museum) (P : List Entry) (m : Message) → day_of m ≡ None → [] ≡ new_spots S P m
-undated_spots S P m is = sym (no_spot (λ y. spot_at S P m (place_after S P m y) y) 0 (length S.things)
-    (λ y. rw is (undated (length P + 1) (length (spots S P y)) (place_at S P y) (place_after S P m y) y)))
 
 -- one more of a list that is gone through
 one_more : (f : ℕ → Option NewSpot) (xs : List ℕ) (i d : ℕ) → i < length xs → filter_map f (take (i + 1) xs) ≡ filter_map f (take i xs) ++ option_to_list (f (get_or xs i d))
-one_more f xs i d less = ap (filter_map f) (rw add-one (take-suc xs i d less)) ∙ filter_map-append f (take i xs) (get_or xs i d ∷ []) ∙ ap (λ zs. filter_map f (take i xs) ++ zs) (alone (f (get_or xs i d)))
+one_more f xs i d less = ap (filter_map f) (take_more xs i d less) ∙ filter_map-append f (take i xs) (get_or xs i d ∷ []) ∙ ap (λ zs. filter_map f (take i xs) ++ zs) (alone (f (get_or xs i d)))
   where
     alone : (o : Option NewSpot) → cons_option o [] ≡ option_to_list o
     alone None = refl
@@ -78,16 +65,16 @@ one_more_spot f xs i d before after o less done one more =
     more ∙ ap (λ zs. zs ++ option_to_list o) done ∙ ap (λ p. filter_map f (take i xs) ++ option_to_list p) one ∙ sym (one_more f xs i d less)
 
 -- the spots that a ledger finds are those of the message
-pub found_spots : (B : Book) (m : Message) (put : Put) (place number : ℕ) (day : ℤ) (xs : List ℕ) → IsLawful B.museum B.depth B.posted → put_in B.museum B.posted m ≡ Some put → IsAllowedPut B.museum B.depth B.posted put →
+pub found_spots : (B : Book) (m : Message) {put : Put} {place number : ℕ} {day : ℤ} {xs : List ℕ} → IsLawful B.museum B.depth B.posted → put_in B.museum B.posted m ≡ Some put → IsAllowedPut B.museum B.depth B.posted put →
     number ≡ length B.posted + 1 → day_of m ≡ Some day → place_to B.museum B.posted put.to ≡ Some place → xs ≡ carried_at B.museum B.posted put.thing →
     filter_map (λ y. new_spot number (length (spots_in B y)) (place_in B y) (Some place) (Some day) y) xs ≡ new_spots B.museum B.posted m
-found_spots B m put place number day xs lawful is allowed counted dated there same =
+found_spots B m {put} {place} {day} {xs} lawful is allowed counted dated there same =
     let spot : ℕ → Option ℤ → Option ℕ → ℕ → Option NewSpot = λ n d o y. new_spot n (length (spots_in B y)) (place_in B y) o d y in
     ap (λ n. filter_map (spot n (Some day) (Some place)) xs) counted
     ∙ ap (λ d. filter_map (spot (length B.posted + 1) d (Some place)) xs) (sym dated)
     ∙ ap (λ o. filter_map (spot (length B.posted + 1) (day_of m) o) xs) (sym there)
     ∙ ap (filter_map (spot (length B.posted + 1) (day_of m) (place_to B.museum B.posted put.to))) same
-    ∙ carried_spots B.museum B.depth B.posted m put lawful is allowed
+    ∙ carried_spots m lawful is allowed
 
 range_below : (a n k : ℕ) → a + n ≤ k → All (λ y. y < k) (range_with_len a n)
 range_below a zero k few = All-nil (λ (y : ℕ). y < k)

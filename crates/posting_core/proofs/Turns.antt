@@ -1,7 +1,7 @@
 -- What an applied entry of each kind means for an object that it places.
 use Rattle.std.specs.Prelude.{ℕ, ℤ, ◌≡◌, ◌<◌, true, false, not, List, [], ◌∷◌, length, Option, None, Some, refl, is_some, slice_get}
 use Rattle.std.specs.Option.{option_map, option_map_or}
-use Rattle.std.proofs.Common.{ap, ◌∙◌, sym, subst, get_or}
+use Rattle.std.proofs.Common.{ap, ◌∙◌, sym, subst}
 use Rattle.std.proofs.lemmas.Option.{slice_get-get_or}
 use Rattle.codes_core.specs.Loan.{is_out}
 use Rattle.nest_core.specs.declared.put.Put.{Put}
@@ -19,25 +19,21 @@ use Rattle.posting_core.specs.History.{puts, put_in, place_at}
 use Rattle.posting_core.specs.Loans.{Crossing, crossing_in, exit_of, stage}
 use Rattle.posting_core.specs.Verdicts.{verdict, first_of, move_rows, pack_rows, exit_rows, return_rows, receive_rows, is_known_place, is_away, stands_inside, carries_unlisted, carries_wrong_stage}
 use Rattle.posting_core.specs.Rows.{place_to}
-use Rattle.posting_core.proofs.AppliedRows.{none_holds, held}
+use Rattle.posting_core.proofs.AppliedRows.{false_true, none_holds, held}
 use Rattle.posting_core.proofs.Placed.{place_below}
 use Rattle.posting_core.proofs.Accounted.{IsApplied, IsLeft, GoesWith, HasCrossed, IsReady, nothing_put, by_carried, carried_among, apart_not_among, nothing_crosses, crosses_without, crosses_with, ready}
 
 -- a place of the setup is inside or elsewhere
-
-pub inside_if_not_elsewhere : (S : Museum) (p : ℕ) → p < length S.places → is_elsewhere S p ≡ false → is_inside S p ≡ true
-inside_if_not_elsewhere S p less h =
-    let row = get_or S.places p ([], false) in
+elsewhere_is : (S : Museum) (p : ℕ) → p < length S.places → is_elsewhere S p ≡ not (is_inside S p)
+elsewhere_is S p less =
     let is = slice_get-get_or S.places p ([], false) less in
-    let at : not row.1 ≡ false = sym (ap (λ o. option_map_or (λ r. not r.1) o false) is) ∙ h in
-    ap (λ o. option_map_or (λ r. r.1) o false) is ∙ held row.1 at
+    ap (λ o. option_map_or (λ r. not r.1) o false) is ∙ sym (ap (λ o. not (option_map_or (λ r. r.1) o false)) is)
+
+inside_if_not_elsewhere : (S : Museum) (p : ℕ) → p < length S.places → is_elsewhere S p ≡ false → is_inside S p ≡ true
+inside_if_not_elsewhere S p less h = held (is_inside S p) (sym (elsewhere_is S p less) ∙ h)
 
 pub elsewhere_if_not_inside : (S : Museum) (p : ℕ) → p < length S.places → is_inside S p ≡ false → is_elsewhere S p ≡ true
-elsewhere_if_not_inside S p less h =
-    let row = get_or S.places p ([], false) in
-    let is = slice_get-get_or S.places p ([], false) less in
-    let at : row.1 ≡ false = sym (ap (λ o. option_map_or (λ r. r.1) o false) is) ∙ h in
-    ap (λ o. option_map_or (λ r. not r.1) o false) is ∙ ap not at
+elsewhere_if_not_inside S p less h = elsewhere_is S p less ∙ ap not h
 
 pub not_elsewhere_inside : (S : Museum) (p : ℕ) → is_inside S p ≡ true → is_elsewhere S p ≡ false
 not_elsewhere_inside S p = elim (slice_get S.places p) as (λ o. option_map_or (λ r. r.1) o false ≡ true → option_map_or (λ r. not r.1) o false ≡ false) [ None ↦ λ h. refl | Some row ↦ λ h. ap not h ]
@@ -49,7 +45,7 @@ pub record IsInside (S : Museum) (place : Option ℕ) : Type 0 where
   pub inside : is_inside S at ≡ true
 
 inside_is : (S : Museum) (place : Option ℕ) → option_map_or (is_inside S) place false ≡ true → IsInside S place
-inside_is S None h = absurd (let e : false ≡ true = h in cc)
+inside_is S None h = absurd (false_true h)
 inside_is S (Some p) h = record { at = p; is = refl; inside = h }
 
 -- the place of a message is a known one that isn't elsewhere
@@ -108,105 +104,102 @@ pub data Turn (S : Museum) (P : List Entry) (e : Entry) (o : ℕ) : Type 0 where
   Returned : HasReturned S P e o → Turn S P e o
   Received : HasReceived S P e o → Turn S P e o
 
--- a message that nothing crosses by, and that puts nothing
-nothing : (S : Museum) (depth : ℕ) (P : List Entry) (e : Entry) (o : ℕ) → IsApplied S depth P e → put_in S P e.message ≡ None → crossing_in e.message ≡ None → Turn S P e o
-nothing S depth P e o a unput uncrossed =
-    let same = nothing_put S depth P e o a unput in
-    Left (record { place = same.place; target = same.target; stages = nothing_crosses S depth P e o a uncrossed })
-
--- one that nothing crosses by
-moves : (S : Museum) (depth : ℕ) (P : List Entry) (e : Entry) (o : ℕ) (put : Put) → IsApplied S depth P e → put_in S P e.message ≡ Some put → crossing_in e.message ≡ None →
-    is_away S put.thing (place_at S P put.thing) ≡ false → IsInside S (place_to S P put.to) → Turn S P e o
-moves S depth P e o put a is uncrossed here to = by_carried _ S depth P e put o a is
-    (λ goes. Moved (record {
-      thing = put.thing;
-      carried = goes.carried;
-      before = goes.before;
-      here = here;
-      after = subst (IsInside S) (sym goes.after) to;
-      stages = nothing_crosses S depth P e o a uncrossed;
-    }))
-    (λ apart stays. Left (record { place = stays.place; target = stays.target; stages = nothing_crosses S depth P e o a uncrossed }))
-
--- by whether the object crosses
-crosses : (S : Museum) (depth : ℕ) (P : List Entry) (e : Entry) (o : ℕ) (put : Put) (c : Crossing) → IsApplied S depth P e → IsObject S o →
-    put_in S P e.message ≡ Some put → crossing_in e.message ≡ Some c → put.thing ≡ thing_no S c.thing → carries_unlisted S P c ≡ false → carries_wrong_stage S P c ≡ false →
-    (GoesWith S P e put o → HasCrossed S P e c o → IsReady S P c o → Turn S P e o) → Turn S P e o
-crosses S depth P e o put c a object is cross same unlisted wrong turn = by_carried _ S depth P e put o a is
-    (λ goes. let among = carried_among S P c.thing o object.below object.object (subst (λ x. is_carried (length S.things) (puts S P) x o ≡ true) same goes.carried) in
-    turn goes (crosses_with S depth P e o c a cross among) (ready S P c o unlisted wrong among))
-    (λ apart stays. Left (record {
-      place = stays.place;
-      target = stays.target;
-      stages = crosses_without S depth P e o c a cross (apart_not_among S P c.thing o object.object (subst (λ x. is_carried (length S.things) (puts S P) x o ≡ false) same apart));
-    }))
-
-exits : (S : Museum) (depth : ℕ) (P : List Entry) (e : Entry) (o : ℕ) (x loan : List ℕ) (day : ℤ) → IsApplied S depth P e → IsObject S o → e.message ≡ Exit x loan day → first_of (exit_rows S P x loan day) ≡ Applied → Turn S P e o
-exits S depth P e o x loan day a object is h =
-    let none = none_holds (exit_rows S P x loan day) refl h in
-    let stands = inside_is S (place_at S P (thing_no S x)) (held (stands_inside S P x) none.1.1.1.1.0) in
-    elim (agreement P loan) as (λ t. agreement P loan ≡ t → is_some t ≡ true → Turn S P e o) [
-      | None ↦ λ found agreed. absurd (let q : false ≡ true = agreed in cc)
-      | Some t ↦ λ found agreed.
-          let put : Put = record { thing = thing_no S x; to = At (place_no S t.partner) } in
-          let puts_it : put_in S P e.message ≡ Some put = ap (put_in S P) is ∙ ap (option_map (λ t. record { thing = thing_no S x; to = At (place_no S t.partner) })) found in
-          crosses S depth P e o put (exit_of x loan) a object puts_it (ap crossing_in is) refl none.1.1.1.1.1.0 none.1.1.1.1.1.1.0
-          (λ goes crossed ready. Exited (record {
-            x = x;
-            loan = loan;
-            before = subst (IsInside S) (sym goes.before) stands;
-            agreed = t;
-            found = found;
-            after = goes.after;
-            crossed = crossed;
-            ready = ready;
-          }))
-    ] refl (held (is_agreed P loan) none.1.0)
-
-returns : (S : Museum) (depth : ℕ) (P : List Entry) (e : Entry) (o : ℕ) (x loan p : List ℕ) (day : ℤ) → IsApplied S depth P e → IsObject S o → e.message ≡ Return x loan p day → first_of (return_rows S P x loan p) ≡ Applied → Turn S P e o
-returns S depth P e o x loan p day a object is h =
-    let none = none_holds (return_rows S P x loan p) refl h in
-    crosses S depth P e o (record { thing = thing_no S x; to = At (place_no S p) }) (record { thing = x; loan = loan; wanted = Away; stage = Back }) a object
-    (ap (put_in S P) is) (ap crossing_in is) refl none.1.1.1.1.1.1.1.0 none.1.1.1.1.1.1.1.1.0
-    (λ goes crossed ready. Returned (record {
-      x = x;
-      loan = loan;
-      loan_out = held (is_out loan) none.1.1.1.1.1.0;
-      after = subst (IsInside S) (sym goes.after) (comes_inside S p none.1.0 none.1.1.0);
-      crossed = crossed;
-      ready = ready;
-    }))
-
-receives : (S : Museum) (depth : ℕ) (P : List Entry) (e : Entry) (o : ℕ) (x loan p : List ℕ) (day : ℤ) → IsApplied S depth P e → IsObject S o → e.message ≡ Receive x loan p day → first_of (receive_rows S P x loan p day) ≡ Applied → Turn S P e o
-receives S depth P e o x loan p day a object is h =
-    let none = none_holds (receive_rows S P x loan p day) refl h in
-    crosses S depth P e o (record { thing = thing_no S x; to = At (place_no S p) }) (record { thing = x; loan = loan; wanted = Awaiting; stage = Here }) a object
-    (ap (put_in S P) is) (ap crossing_in is) refl none.1.1.1.1.1.1.1.1.0 none.1.1.1.1.1.1.1.1.1.0
-    (λ goes crossed ready. Received (record {
-      x = x;
-      loan = loan;
-      loan_in = none.1.1.1.1.1.1.0;
-      before = ap (λ o. option_map_or (is_inside S) o false) goes.before ∙ none.1.1.1.1.1.1.1.0;
-      after = subst (IsInside S) (sym goes.after) (comes_inside S p none.1.0 none.1.1.0);
-      crossed = crossed;
-      ready = ready;
-    }))
-
 -- what an applied entry means for an object
-pub turn : (S : Museum) (depth : ℕ) (P : List Entry) (e : Entry) (o : ℕ) → IsApplied S depth P e → IsObject S o → Turn S P e o
-turn S depth P e o a object = by e.message refl a.judged
-  where
-    by : (m : Message) → e.message ≡ m → verdict S depth P m ≡ Applied → Turn S P e o
-    by (Move x p day) is h =
-        let none = none_holds (move_rows S P x p) refl h in
-        moves S depth P e o (record { thing = thing_no S x; to = At (place_no S p) }) a (ap (put_in S P) is) (ap crossing_in is) none.1.1.1.0 (comes_inside S p none.1.0 none.1.1.0)
-    by (Pack x c day) is h =
-        let none = none_holds (pack_rows S depth P x c) refl h in
-        moves S depth P e o (record { thing = thing_no S x; to = Within (thing_no S c) }) a (ap (put_in S P) is) (ap crossing_in is) none.1.1.0 (inside_is S (place_at S P (thing_no S c)) (held (stands_inside S P c) none.1.1.1.0))
-    by (Agree loan partner objects first final) is h = nothing S depth P e o a (ap (put_in S P) is) (ap crossing_in is)
-    by (Authorise loan name) is h = nothing S depth P e o a (ap (put_in S P) is) (ap crossing_in is)
-    by (Exit x loan day) is h = exits S depth P e o x loan day a object is h
-    by (Return x loan p day) is h = returns S depth P e o x loan p day a object is h
-    by (Receive x loan p day) is h = receives S depth P e o x loan p day a object is h
-    by (SignOff name) is h = nothing S depth P e o a (ap (put_in S P) is) (ap crossing_in is)
-    by (Extend loan final) is h = nothing S depth P e o a (ap (put_in S P) is) (ap crossing_in is)
+module _ {S : Museum} {depth : ℕ} {P : List Entry} {e : Entry} {o : ℕ} (a : IsApplied S depth P e) (object : IsObject S o) where
+  -- by a message that nothing crosses by, and that puts nothing
+  nothing : put_in S P e.message ≡ None → crossing_in e.message ≡ None → Turn S P e o
+  nothing unput uncrossed = Left (record { stays = nothing_put a o unput; stages = nothing_crosses a o uncrossed })
+
+  -- by one that nothing crosses by
+  moves : (put : Put) → put_in S P e.message ≡ Some put → crossing_in e.message ≡ None →
+      is_away S put.thing (place_at S P put.thing) ≡ false → IsInside S (place_to S P put.to) → Turn S P e o
+  moves put is uncrossed here to = by_carried a o put is
+      (λ goes. Moved (record {
+        thing = put.thing;
+        carried = goes.carried;
+        before = goes.before;
+        here = here;
+        after = subst (IsInside S) (sym goes.after) to;
+        stages = nothing_crosses a o uncrossed;
+      }))
+      (λ apart stays. Left (record { stays = stays; stages = nothing_crosses a o uncrossed }))
+
+  -- by whether the object crosses
+  crosses : (put : Put) (c : Crossing) → put_in S P e.message ≡ Some put → crossing_in e.message ≡ Some c → put.thing ≡ thing_no S c.thing → carries_unlisted S P c ≡ false → carries_wrong_stage S P c ≡ false →
+      (GoesWith S P e put o → HasCrossed S P e c o → IsReady S P c o → Turn S P e o) → Turn S P e o
+  crosses put c is cross same unlisted wrong turn = by_carried a o put is
+      (λ goes. let among = carried_among S P c.thing o object.below object.object (subst (λ x. is_carried (length S.things) (puts S P) x o ≡ true) same goes.carried) in
+      turn goes (crosses_with a o c cross among) (ready S P c o unlisted wrong among))
+      (λ apart stays. Left (record {
+        stays = stays;
+        stages = crosses_without a o c cross (apart_not_among S P c.thing o object.object (subst (λ x. is_carried (length S.things) (puts S P) x o ≡ false) same apart));
+      }))
+
+  exits : (x loan : List ℕ) (day : ℤ) → e.message ≡ Exit x loan day → first_of (exit_rows S P x loan day) ≡ Applied → Turn S P e o
+  exits x loan day is h =
+      let none = none_holds (exit_rows S P x loan day) refl h in
+      let stands = inside_is S (place_at S P (thing_no S x)) (held (stands_inside S P x) none.1.1.1.1.0) in
+      elim (agreement P loan) as (λ t. agreement P loan ≡ t → is_some t ≡ true → Turn S P e o) [
+        | None ↦ λ found agreed. absurd (false_true agreed)
+        | Some t ↦ λ found agreed.
+            let put : Put = record { thing = thing_no S x; to = At (place_no S t.partner) } in
+            let puts_it : put_in S P e.message ≡ Some put = ap (put_in S P) is ∙ ap (option_map (λ t. record { thing = thing_no S x; to = At (place_no S t.partner) })) found in
+            crosses put (exit_of x loan) puts_it (ap crossing_in is) refl none.1.1.1.1.1.0 none.1.1.1.1.1.1.0
+            (λ goes crossed ready. Exited (record {
+              x = x;
+              loan = loan;
+              before = subst (IsInside S) (sym goes.before) stands;
+              agreed = t;
+              found = found;
+              after = goes.after;
+              crossed = crossed;
+              ready = ready;
+            }))
+      ] refl (held (is_agreed P loan) none.1.0)
+
+  returns : (x loan p : List ℕ) (day : ℤ) → e.message ≡ Return x loan p day → first_of (return_rows S P x loan p) ≡ Applied → Turn S P e o
+  returns x loan p day is h =
+      let none = none_holds (return_rows S P x loan p) refl h in
+      crosses (record { thing = thing_no S x; to = At (place_no S p) }) (record { thing = x; loan = loan; wanted = Away; stage = Back })
+      (ap (put_in S P) is) (ap crossing_in is) refl none.1.1.1.1.1.1.1.0 none.1.1.1.1.1.1.1.1.0
+      (λ goes crossed ready. Returned (record {
+        x = x;
+        loan = loan;
+        loan_out = held (is_out loan) none.1.1.1.1.1.0;
+        after = subst (IsInside S) (sym goes.after) (comes_inside S p none.1.0 none.1.1.0);
+        crossed = crossed;
+        ready = ready;
+      }))
+
+  receives : (x loan p : List ℕ) (day : ℤ) → e.message ≡ Receive x loan p day → first_of (receive_rows S P x loan p day) ≡ Applied → Turn S P e o
+  receives x loan p day is h =
+      let none = none_holds (receive_rows S P x loan p day) refl h in
+      crosses (record { thing = thing_no S x; to = At (place_no S p) }) (record { thing = x; loan = loan; wanted = Awaiting; stage = Here })
+      (ap (put_in S P) is) (ap crossing_in is) refl none.1.1.1.1.1.1.1.1.0 none.1.1.1.1.1.1.1.1.1.0
+      (λ goes crossed ready. Received (record {
+        x = x;
+        loan = loan;
+        loan_in = none.1.1.1.1.1.1.0;
+        before = ap (λ o. option_map_or (is_inside S) o false) goes.before ∙ none.1.1.1.1.1.1.1.0;
+        after = subst (IsInside S) (sym goes.after) (comes_inside S p none.1.0 none.1.1.0);
+        crossed = crossed;
+        ready = ready;
+      }))
+
+  by : (m : Message) → e.message ≡ m → verdict S depth P m ≡ Applied → Turn S P e o
+  by (Move x p day) is h =
+      let none = none_holds (move_rows S P x p) refl h in
+      moves (record { thing = thing_no S x; to = At (place_no S p) }) (ap (put_in S P) is) (ap crossing_in is) none.1.1.1.0 (comes_inside S p none.1.0 none.1.1.0)
+  by (Pack x c day) is h =
+      let none = none_holds (pack_rows S depth P x c) refl h in
+      moves (record { thing = thing_no S x; to = Within (thing_no S c) }) (ap (put_in S P) is) (ap crossing_in is) none.1.1.0 (inside_is S (place_at S P (thing_no S c)) (held (stands_inside S P c) none.1.1.1.0))
+  by (Agree loan partner objects first final) is h = nothing (ap (put_in S P) is) (ap crossing_in is)
+  by (Authorise loan name) is h = nothing (ap (put_in S P) is) (ap crossing_in is)
+  by (Exit x loan day) is h = exits x loan day is h
+  by (Return x loan p day) is h = returns x loan p day is h
+  by (Receive x loan p day) is h = receives x loan p day is h
+  by (SignOff name) is h = nothing (ap (put_in S P) is) (ap crossing_in is)
+  by (Extend loan final) is h = nothing (ap (put_in S P) is) (ap crossing_in is)
+
+  pub turn : Turn S P e o
+  turn = by e.message refl a.judged

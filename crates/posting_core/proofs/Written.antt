@@ -6,22 +6,17 @@ use Rattle.std.proofs.Common.{ap, ◌∙◌, sym, subst, arith, inl, inr, length
 use Rattle.std.proofs.lemmas.Bool.{cases_eq}
 use Rattle.std.proofs.lemmas.Bool.Decides.{nat_tests}
 use Rattle.std.proofs.lemmas.List.{append-nil}
+use Rattle.nest_core.proofs.Writes.{get_set_same, get_set_other}
 use Rattle.posting_core.specs.declared.entry.Spot.{Spot}
 use Rattle.posting_core.specs.declared.entry.NewSpot.{NewSpot}
 use Rattle.posting_core.specs.History.{spot_from}
 use Rattle.posting_core.specs.Book.{new_spot}
 use Rattle.posting_core.specs.Rows.{row_of, rows_after, AreAscending}
-use Rattle.posting_core.proofs.Rooms.{get_set_same, get_set_other}
+use Rattle.posting_core.proofs.AppliedRows.{none_some}
 
 -- each spot of f is of its own thing
 abbrev pub IsOwn : (ℕ → Option NewSpot) → Type 0
 IsOwn f = (y : ℕ) (s : NewSpot) → f y ≡ Some s → s.thing ≡ y
-
-none_some : {X : Type 0} {x : X} → None ≡ Some x → ⊥
-none_some {X} {x} e = cc
-
-some_same : {X : Type 0} {x y : X} → Some x ≡ Some y → x ≡ y
-some_same {X} {x} {y} e = cc
 
 row_other : (R : List (List Spot)) (i x : ℕ) (row : List Spot) → (i ≡ x → ⊥) → row_of (slice_set R i row) x ≡ row_of R x
 row_other R i x row n = ap (λ (o : Option (List Spot)). option_map_or (λ spots. spots) o []) (get_set_other R i x row n)
@@ -65,7 +60,8 @@ chosen_spot number count before after day x = elim (spot_from number before afte
 pub own_spot : (number count : ℕ) (before after : Option ℕ) (day : Option ℤ) (x : ℕ) (s : NewSpot) → new_spot number count before after day x ≡ Some s → s.thing ≡ x
 own_spot number count before after day x s = elim (spot_from number before after day) as (λ o. option_map (λ spot. let t : NewSpot = record { thing = x; k = count + 1; spot = spot } in t) o ≡ Some s → s.thing ≡ x) [
   | None ↦ λ e. absurd (none_some e)
-  | Some spot ↦ λ e. sym (ap (λ (t : NewSpot). t.thing) (some_same e))
+  | Some spot ↦ λ e. let made : NewSpot = record { thing = x; k = count + 1; spot = spot } in
+      let same : made ≡ s = cc in sym (ap (λ (t : NewSpot). t.thing) same)
 ]
 
 -- an entry that leaves the place writes no spot
@@ -81,27 +77,3 @@ own_ascending f from a (suc n) things own low high = elim (f a) as (λ o. f a �
   | None ↦ λ e. own_ascending f from (a + 1) n things own (omega arith) (omega arith)
   | Some s ↦ λ e. let t : s.thing ≡ a = own a s e in (omega arith, omega arith, own_ascending f (s.thing + 1) (a + 1) n things own (omega arith) (omega arith))
 ] refl
-
--- where only x has a spot, it is all that a range has
-none_from : (f : ℕ → Option NewSpot) (x a n : ℕ) → x < a → ((y : ℕ) → (y ≡ x → ⊥) → f y ≡ None) → filter_map f (range_with_len a n) ≡ []
-none_from f x a zero less none = refl
-none_from f x a (suc n) less none =
-    ap (λ o. cons_option o (filter_map f (range_with_len (a + 1) n))) (none a (λ e. absurd (omega arith))) ∙ none_from f x (a + 1) n (omega arith) none
-
-only_from : (f : ℕ → Option NewSpot) (x a n : ℕ) → a ≤ x → x < a + n → ((y : ℕ) → (y ≡ x → ⊥) → f y ≡ None) → filter_map f (range_with_len a n) ≡ option_to_list (f x)
-only_from f x a zero low high none = absurd (omega arith)
-only_from f x a (suc n) low high none = elim (cases_eq a x) [
-  | inl same ↦ ap (cons_option (f a)) (none_from f x (a + 1) n (omega arith) none) ∙ subst (λ y. cons_option (f a) [] ≡ option_to_list (f y)) same (alone (f a))
-  | inr other ↦ ap (λ o. cons_option o (filter_map f (range_with_len (a + 1) n))) (none a other) ∙ only_from f x (a + 1) n (omega arith) (omega arith) none
-]
-  where
-    alone : (o : Option NewSpot) → cons_option o [] ≡ option_to_list o
-    alone None = refl
-    alone (Some s) = refl
-
-pub only_spot : (f : ℕ → Option NewSpot) (x n : ℕ) → x < n → ((y : ℕ) → (y ≡ x → ⊥) → f y ≡ None) → filter_map f (range_with_len 0 n) ≡ option_to_list (f x)
-only_spot f x n less none = only_from f x 0 n (omega arith) (omega arith) none
-
-pub no_spot : (f : ℕ → Option NewSpot) (a n : ℕ) → ((y : ℕ) → f y ≡ None) → filter_map f (range_with_len a n) ≡ []
-no_spot f a zero none = refl
-no_spot f a (suc n) none = ap (λ o. cons_option o (filter_map f (range_with_len (a + 1) n))) (none a) ∙ no_spot f (a + 1) n none

@@ -79,7 +79,7 @@ IsAuthorised P (Extend loan last) = Unit {0}
 abbrev pub IsWithin : List Entry → List ℕ → ℤ → Type 0
 IsWithin P loan day = (last : ℤ) × (last_day P loan ≡ Some last) × (day ≤ℤ last)
 
--- a thing goes out under a loan out, and comes under a loan in, within the loan's term
+-- a thing goes out under a loan out, and comes under a loan in, no later than the loan's last day
 abbrev pub IsInTerm : List Entry → Message → Type 0
 IsInTerm P (Move x p day) = Unit {0}
 IsInTerm P (Pack x c day) = Unit {0}

@@ -59,7 +59,7 @@ verdict_in B m = verdict B.museum B.depth B.posted m
 abbrev pub place_after : Museum → List Entry → Message → ℕ → Option ℕ
 place_after S P m x = place (length S.things) (with_put (put_in S P m) (puts S P)) x
 
--- a thing's new spot where it moves from one place to another, numbered from 1 in the thing's list
+-- a thing's new spot, where its place differs from the one before, numbered from 1 in the thing's list
 abbrev pub new_spot : ℕ → ℕ → Option ℕ → Option ℕ → Option ℤ → ℕ → Option NewSpot
 new_spot number count before after day x =
     option_map (λ spot. record { thing = x; k = count + 1; spot = spot }) (spot_from number before after day)

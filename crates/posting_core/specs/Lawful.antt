@@ -15,7 +15,7 @@ count_at station (e ∷ P) = (if e.station == station then 1 else 0) + count_at 
 abbrev pub is_signed_off : ℕ → List Entry → Bool
 is_signed_off station P = list_any (λ e. (e.station == station) && is_sign_off e.message) P
 
--- the entry may follow P: it has its station's next number, after no sign-off, and its verdict over P
+-- the entry may follow P: it has the next number of a station of the setup, at most 999,999, after no sign-off, and its verdict over P
 pub record Follows (S : Museum) (depth : ℕ) (P : List Entry) (e : Entry) : Type 0 where
   pub known : e.station < length S.stations
   pub next : e.n ≡ count_at e.station P + 1

@@ -34,14 +34,22 @@ exit_of x loan = record {
   stage = if is_out loan then Away else GivenBack;
 }
 
+-- a return takes back what a loan out took away
+abbrev pub return_of : List ℕ → List ℕ → Crossing
+return_of x loan = record { thing = x; loan = loan; wanted = Away; stage = Back }
+
+-- a receipt takes in what a loan in awaits
+abbrev pub receive_of : List ℕ → List ℕ → Crossing
+receive_of x loan = record { thing = x; loan = loan; wanted = Awaiting; stage = Here }
+
 abbrev pub crossing_in : Message → Option Crossing
 crossing_in (Move x p day) = None
 crossing_in (Pack x c day) = None
 crossing_in (Agree loan partner objects first last) = None
 crossing_in (Authorise loan name) = None
 crossing_in (Exit x loan day) = Some (exit_of x loan)
-crossing_in (Return x loan p day) = Some (record { thing = x; loan = loan; wanted = Away; stage = Back })
-crossing_in (Receive x loan p day) = Some (record { thing = x; loan = loan; wanted = Awaiting; stage = Here })
+crossing_in (Return x loan p day) = Some (return_of x loan)
+crossing_in (Receive x loan p day) = Some (receive_of x loan)
 crossing_in (SignOff name) = None
 crossing_in (Extend loan last) = None
 

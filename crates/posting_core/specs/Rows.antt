@@ -1,5 +1,5 @@
 -- What a ledger's fields keep of its entries: the nest of what they put where, each thing's spots by number, and the loans.
-use Rattle.std.specs.Prelude.{ℕ, ◌≡◌, ◌+◌, ◌<◌, ◌≤◌, ◌++◌, List, [], ◌∷◌, Option, Some, None, length, map, slice_get, slice_set, Vec, vec_len, vec_capacity, IfSome}
+use Rattle.std.specs.Prelude.{ℕ, ◌≡◌, ◌+◌, ◌<◌, ◌≤◌, ◌++◌, List, [], ◌∷◌, Option, Some, length, map, slice_get, slice_set, Vec, vec_len, vec_capacity, IfSome}
 use Rattle.std.specs.Option.{option_map_or}
 use Rattle.std.specs.declared.alloc.Global.{Global}
 use Rattle.nest_core.specs.declared.put.Target.{Target}

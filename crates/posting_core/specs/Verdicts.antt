@@ -1,5 +1,5 @@
 -- The verdict on a message after the entries P: the first of its kind's rows that holds.
-use Rattle.std.specs.Prelude.{ℕ, ℤ, ◌&&◌, ◌||◌, Bool, true, false, not, List, [], ◌∷◌, length, Option, Some, None, if◌then◌else◌, is_some, is_none, int_lt, int_le}
+use Rattle.std.specs.Prelude.{ℕ, ℤ, ◌&&◌, ◌||◌, Bool, true, false, not, List, [], ◌∷◌, length, Option, Some, None, if◌then◌else◌, is_some, int_lt, int_le}
 use Rattle.std.specs.List.{list_any}
 use Rattle.std.specs.Option.{option_map_or}
 use Rattle.std.specs.Str.{bytes_eq}
@@ -19,7 +19,7 @@ use Rattle.posting_core.specs.declared.stage.LineStage.{LineStage}
 use Rattle.posting_core.specs.declared.stage.LineStage.TheVariants.{Awaiting, Away, Back, Here, GivenBack}
 use Rattle.posting_core.specs.Agreements.{agreement, is_agreed, is_authorised, last_day}
 use Rattle.posting_core.specs.History.{puts, chain_at, place_at}
-use Rattle.posting_core.specs.Loans.{Crossing, exit_of, objects_in, line}
+use Rattle.posting_core.specs.Loans.{Crossing, exit_of, return_of, receive_of, objects_in, line}
 
 -- a refusal, and whether its cause holds
 pub record Row : Type 0 where
@@ -142,7 +142,7 @@ is_at_stage S P loan wanted o = option_map_or (stage_eq wanted) (line S P loan o
 abbrev pub carries_unlisted : Museum → List Entry → Crossing → Bool
 carries_unlisted S P c = list_any (λ o. not (is_listed S P c.loan o)) (objects_in S P c.thing)
 
--- some object among what crosses has a line that isn't at the stage wanted
+-- some object among what crosses has no line at the stage wanted
 abbrev pub carries_wrong_stage : Museum → List Entry → Crossing → Bool
 carries_wrong_stage S P c = list_any (λ o. not (is_at_stage S P c.loan c.wanted o)) (objects_in S P c.thing)
 
@@ -178,8 +178,8 @@ return_rows S P x loan p =
     ∷ (NotAuthorised if not (is_authorised P loan))
     ∷ (WrongDirection if not (is_out loan))
     ∷ (NotWithPartner if not (is_with_partner S P x loan))
-    ∷ (NotListed if carries_unlisted S P (record { thing = x; loan = loan; wanted = Away; stage = Back }))
-    ∷ (WrongStage if carries_wrong_stage S P (record { thing = x; loan = loan; wanted = Away; stage = Back }))
+    ∷ (NotListed if carries_unlisted S P (return_of x loan))
+    ∷ (WrongStage if carries_wrong_stage S P (return_of x loan))
     ∷ []
 
 -- the rows of a Receive of thing x under a loan at place p
@@ -193,8 +193,8 @@ receive_rows S P x loan p day =
     ∷ (NotAuthorised if not (is_authorised P loan))
     ∷ (WrongDirection if is_out loan)
     ∷ (AlreadyHere if stands_inside S P x)
-    ∷ (NotListed if carries_unlisted S P (record { thing = x; loan = loan; wanted = Awaiting; stage = Here }))
-    ∷ (WrongStage if carries_wrong_stage S P (record { thing = x; loan = loan; wanted = Awaiting; stage = Here }))
+    ∷ (NotListed if carries_unlisted S P (receive_of x loan))
+    ∷ (WrongStage if carries_wrong_stage S P (receive_of x loan))
     ∷ (TermOver if is_over P loan day)
     ∷ []
 

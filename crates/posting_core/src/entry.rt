@@ -31,7 +31,7 @@ pub struct NewSpot {
     pub spot: Spot,
 }
 
-/// New spots, ascending by thing, at most one of each; seen as their list.
+/// New spots that an entry writes; seen as their list.
 #[derive(Debug, Drop)]
 pub struct NewSpots {
     items: Vec<NewSpot>,
@@ -83,7 +83,7 @@ pub struct NewLine {
     pub stage: LineStage,
 }
 
-/// Lines of one loan that an entry makes or changes; seen as their list.
+/// Lines that an entry makes or changes; seen as their list.
 #[derive(Debug, Drop)]
 pub struct NewLines {
     lines: Vec<NewLine>,
@@ -128,8 +128,8 @@ impl NewLines {
 }
 
 /// What posting a message changes: the number of its entry, from 1, its verdict, the new spots, and the lines of its
-/// loan that it makes or changes; no spots and no lines where it is refused. An agreement's lines stand in the order
-/// of its list, those of a crossing ascend by object.
+/// loan that it makes or changes; no spots and no lines where it is refused. The spots ascend by thing, at most one of
+/// each. An agreement's lines stand in the order of its list, those of a crossing ascend by object.
 #[derive(Debug, Drop)]
 pub struct Changes {
     pub entry: u64,

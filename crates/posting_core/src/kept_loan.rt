@@ -1,7 +1,6 @@
 //! What a ledger keeps of one loan.
-ghost use Rattle.std.specs.Prelude.{◌≡◌, ◌<◌, false, not, List, ℕ, map, IfOk};
+ghost use Rattle.std.specs.Prelude.{◌≡◌, ◌<◌, false, not, map, IfOk};
 ghost use Rattle.std.specs.List.{list_any};
-ghost use Rattle.posting_core.specs.declared.stage.LineStage.{LineStage as Stage};
 ghost use Rattle.posting_core.specs.declared.stage.LineStage.TheVariants.{Awaiting};
 ghost use Rattle.posting_core.specs.Messages.{thing_no, place_no};
 ghost use Rattle.posting_core.specs.Loans.{is_done, is_awaiting, state_by};

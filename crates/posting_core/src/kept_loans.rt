@@ -1,8 +1,8 @@
 //! What a ledger keeps of all loans, found by their codes.
-ghost use Rattle.std.specs.Prelude.{◌≡◌, ◌<◌, ◌++◌, ◌∷◌, [], List, ℕ, length, slice_get, Some, OnOk, OnErr, option_copied};
+ghost use Rattle.std.specs.Prelude.{◌≡◌, ◌<◌, ◌++◌, ◌∷◌, [], length, slice_get, Some, OnOk, OnErr, option_copied};
 ghost use Rattle.std.specs.List.{find};
 ghost use Rattle.std.specs.Str.{bytes_eq};
-ghost use Rattle.posting_core.specs.LoanRows.{LoanRow, changed, authorised_row, extended_row, with_lines};
+ghost use Rattle.posting_core.specs.LoanRows.{changed, authorised_row, extended_row, with_lines};
 
 use crate::NewLine;
 use crate::kept_loan::KeptLoan;

@@ -47,7 +47,8 @@ pub fn closed_loans_are_over(ledger: &Ledger)
     ledger.is_lawful();
 }
 
-/// Things cross only under loans that were authorised before, and go out or come in only within the loan's term.
+/// Things cross only under loans that were authorised before, and go out under a loan out, or come in, no later than the
+/// loan's last day.
 pub fn crossings_are_authorised(ledger: &Ledger)
     ensures authorised { AtEachApplied IsAuthorised ledger.now.posted }
     ensures in_term { AtEachApplied IsInTerm ledger.now.posted }

@@ -163,12 +163,12 @@ impl Ledger {
         ensures { IfOk result (λ verdict. verdict ≡ verdict_in self.now message.now) }
     {
         match message {
-            Message::Move { thing, place, day } => Ok(self.judge_move(thing, place, *day)),
+            Message::Move { thing, place, .. } => Ok(self.judge_move(thing, place)),
             Message::Pack {
                 thing,
                 container,
-                day,
-            } => Ok(self.judge_pack(thing, container, *day)),
+                ..
+            } => Ok(self.judge_pack(thing, container)),
             Message::Agree {
                 loan,
                 partner,
@@ -262,8 +262,7 @@ fn no_spots(alloc: Global, things: u32) -> Result<Vec<Vec<Spot>>, NoMemory>
     ensures { IfOk result (λ rows. lists rows.items ≡ replicate things []) }
 {
     let mut rows = Vec::new(alloc);
-    for thing in 0..things {
-        let _ = thing;
+    for _ in 0..things {
         rows.push(Vec::new(alloc))?;
     }
     Ok(rows)

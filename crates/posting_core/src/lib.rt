@@ -13,8 +13,6 @@ mod placing;
 mod recording;
 mod spot_rows;
 mod stage;
-#[cfg(test)]
-mod tests;
 mod verdict;
 
 pub use entry::{Changes, Entry, NewLine, NewLines, NewSpot, NewSpots, Spot};

@@ -39,7 +39,7 @@ fn push_spots_in(rows: &mut [Vec<Spot>], news: &[NewSpot])
     }
 }
 
-/// Makes room for one more spot in the row of each listed thing.
+/// `make_room_in` over a `Vec`, for a caller who then needs no fact about its slice.
 pub(crate) fn make_room(rows: &mut Vec<Vec<Spot>>, news: &[NewSpot]) -> Result<(), AllocError>
     requires { AreAscending 0 (length rows.old.items) news.now }
     ensures items { lists rows.new.items ≡ lists rows.old.items }
@@ -48,7 +48,7 @@ pub(crate) fn make_room(rows: &mut Vec<Vec<Spot>>, news: &[NewSpot]) -> Result<(
     make_room_in(rows, news)
 }
 
-/// Writes each spot at the end of its thing's row.
+/// `push_spots_in` over a `Vec`, likewise.
 pub(crate) fn push_spots(rows: &mut Vec<Vec<Spot>>, news: &[NewSpot])
     requires { AreReady rows.old.items 0 news.now }
     ensures { lists rows.new.items ≡ rows_after (lists rows.old.items) news.now }

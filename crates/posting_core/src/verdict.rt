@@ -5,31 +5,57 @@ ghost use Rattle.posting_core.specs.VerdictNames.{verdict_number, verdict_name};
 /// What the rules say to a message, in the order in which they are asked: the first refusal that holds, else Applied.
 #[derive(Clone, Copy, Debug, PartialEq, Eq)]
 pub enum Verdict {
+    /// No refusal holds: the message stands.
     Applied,
+    /// The setup doesn't have the thing, or one of the objects.
     UnknownThing,
+    /// The setup doesn't have the place, or the partner's.
     UnknownPlace,
+    /// The place is a partner's.
     ElsewherePlace,
+    /// The setup doesn't have the container, or that is an object.
     UnknownContainer,
+    /// The loan isn't agreed.
     UnknownLoan,
+    /// The loan is agreed already.
     LoanKnown,
+    /// The partner's place is the museum's own.
     InsidePartner,
+    /// No objects are listed.
     NoObjects,
+    /// A container is listed, is received, or exits under a loan in.
     NotObject,
+    /// An object is listed twice.
     Repeated,
+    /// A loan out lists a borrowed object, or a loan in an own one.
     WrongOwner,
+    /// The last day is before the first.
     BadTerm,
+    /// The loan is authorised already.
     AlreadyAuthorised,
+    /// The loan isn't authorised.
     NotAuthorised,
+    /// A return under a loan in, or a receipt under a loan out.
     WrongDirection,
+    /// The thing is elsewhere, or is borrowed and has no place yet; of an exit: it isn't inside.
     NotHere,
+    /// The container isn't inside.
     ContainerNotHere,
+    /// The container is the thing, or is in it.
     Cycle,
+    /// Some thing would have more containers above it than the depth limit.
     TooDeep,
+    /// The thing's place isn't that of the loan's partner.
     NotWithPartner,
+    /// The thing is inside.
     AlreadyHere,
+    /// An object that crosses isn't on the loan's list.
     NotListed,
+    /// The line of an object that crosses isn't at the stage before.
     WrongStage,
+    /// The day is after the loan's last day; never of an exit under a loan in.
     TermOver,
+    /// The new last day isn't after the loan's last day.
     NotLater,
 }
 

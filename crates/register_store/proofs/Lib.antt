@@ -13,7 +13,6 @@ pub mod LedgerRows
 pub mod SpotRows
 pub mod SpotOrder
 pub mod Kept
-pub mod Keeping
 pub mod WholeLists
 mod WorkedTexts
 pub mod WorkedRows

@@ -7,21 +7,15 @@ mod key;
 pub mod laws;
 mod loan_reader;
 mod loan_rows;
-#[cfg(test)]
-mod loan_tests;
 mod loan_writer;
 mod member;
 mod message_reader;
 mod message_writer;
 mod object_list;
 mod plain;
-#[cfg(test)]
-mod plain_tests;
 mod register;
 mod rows;
 mod store_fault;
-#[cfg(test)]
-mod tests;
 
 pub use fault::ReadFault;
 pub use field::{string_at, thing_at, value_at};

@@ -4,4 +4,4 @@ pub mod RunLemmas
 pub mod GrowLemmas
 pub mod SeriesLemmas
 pub mod StationLemmas
-pub mod Rows
+pub mod WorkedRows

@@ -1,9 +1,9 @@
 -- Lemmas on numbers found in a list of what was taken.
 use Rattle.std.proofs.Common.{◌≡◌, ◌≢◌, ℕ, zero, suc, ◌+◌, ◌-◌, ◌≤◌, ◌&&◌, ◌==◌, not, max, Bool, true, false, if◌then◌else◌, List, [], ◌∷◌, ◌++◌, Option, Some, None, is_some, refl, ap, ◌∙◌, arith, ⊎_elim, add-zero, add-suc, append-nil, append_assoc, add_assoc}
-use Rattle.std.proofs.lemmas.Bool.{cases_lt}
+use Rattle.std.proofs.lemmas.Bool.{cases_lt, and_parts, and_from, false_from_ne_true}
 use Rattle.std.proofs.lemmas.Bool.Decides.{nat_tests}
 use Rattle.station_core.specs.Runs.{Arrived, arrived, is_number, message_at, stops, ends, unbroken, highest, ready, due}
-use Rattle.station_core.proofs.BoolLemmas.{and_left, and_right, and_both, not_true, not_false, ended_test, greatest_holds, greatest_fails, greatest_is}
+use Rattle.station_core.proofs.BoolLemmas.{ended_test, greatest_holds, greatest_fails, greatest_is}
 
 module _ {M : Type 0} where
   -- another number after one more arrival
@@ -12,10 +12,10 @@ module _ {M : Type 0} where
   message_at_other (x ∷ rs) r s n h = ap (λ (o : Option M). if is_number s n x then Some x.message else o) (message_at_other rs r s n h)
 
   number_apart : (s n : ℕ) (r : Arrived M) → r.n ≢ n → is_number s n r ≡ false
-  number_apart s n r h = not_true (is_number s n r) (λ e. let q : (r.n == n) ≡ true = and_right (r.station == s) (r.n == n) e in h (grind (arith, nat_tests)))
+  number_apart s n r h = false_from_ne_true (is_number s n r) (λ e. let q : (r.n == n) ≡ true = (and_parts (r.station == s) (r.n == n) e).1 in h (grind (arith, nat_tests)))
 
   station_apart : (s n : ℕ) (r : Arrived M) → r.station ≢ s → is_number s n r ≡ false
-  station_apart s n r h = not_true (is_number s n r) (λ e. let q : (r.station == s) ≡ true = and_left (r.station == s) (r.n == n) e in h (grind (arith, nat_tests)))
+  station_apart s n r h = false_from_ne_true (is_number s n r) (λ e. let q : (r.station == s) ≡ true = (and_parts (r.station == s) (r.n == n) e).0 in h (grind (arith, nat_tests)))
 
   pub at_other_number : (rs : List (Arrived M)) (r : Arrived M) (s n : ℕ) → r.n ≢ n → message_at (rs ++ r ∷ []) s n ≡ message_at rs s n
   at_other_number rs r s n h = message_at_other rs r s n (number_apart s n r h)
@@ -42,7 +42,7 @@ module _ {M : Type 0} where
   message_at_new (x ∷ rs) r s n h e = either_none (is_number s n x) x.message (message_at rs s n) (message_at (rs ++ r ∷ []) s n) r.message (λ none. message_at_new rs r s n none e) h
 
   pub at_its_number : (rs : List (Arrived M)) (r : Arrived M) → message_at rs r.station r.n ≡ None → message_at (rs ++ r ∷ []) r.station r.n ≡ Some r.message
-  at_its_number rs r h = message_at_new rs r r.station r.n h (and_both (r.station == r.station) (r.n == r.n) (grind (arith, nat_tests)) (grind (arith, nat_tests)))
+  at_its_number rs r h = message_at_new rs r r.station r.n h (and_from (r.station == r.station) (r.n == r.n) (grind (arith, nat_tests)) (grind (arith, nat_tests)))
 
   -- no number that was taken is above the highest
   highest_step : (b : Bool) (m : M) (o : Option M) (n k h : ℕ) → (b ≡ true → n ≤ k) → (is_some o ≡ true → n ≤ h) → is_some (if b then Some m else o) ≡ true → n ≤ max k h
@@ -53,17 +53,16 @@ module _ {M : Type 0} where
   highest_bound [] s n h = absurd (cc)
   highest_bound (r ∷ rs) s n h =
       highest_step (is_number s n r) r.message (message_at rs s n) n r.n (highest rs)
-      (λ e. let q : (r.n == n) ≡ true = and_right (r.station == s) (r.n == n) e in grind (arith, nat_tests)) (highest_bound rs s n) h
+      (λ e. let q : (r.n == n) ≡ true = (and_parts (r.station == s) (r.n == n) e).1 in grind (arith, nat_tests)) (highest_bound rs s n) h
 
   -- an unbroken run, one message shorter
   pub unbroken_down : (signs : M → Bool) (rs : List (Arrived M)) (s j : ℕ) → unbroken signs rs s (suc j) ≡ true → unbroken signs rs s j ≡ true
-  unbroken_down signs rs s j h = and_left (unbroken signs rs s j) (is_some (message_at rs s (suc j)) && not (ends signs rs s j)) h
+  unbroken_down signs rs s j h = (and_parts (unbroken signs rs s j) (is_some (message_at rs s (suc j)) && not (ends signs rs s j)) h).0
 
   pub unbroken_found : (signs : M → Bool) (rs : List (Arrived M)) (s j : ℕ) → unbroken signs rs s (suc j) ≡ true → is_some (message_at rs s (suc j)) ≡ true
-  unbroken_found signs rs s j h = and_left (is_some (message_at rs s (suc j))) (not (ends signs rs s j)) (and_right (unbroken signs rs s j) (is_some (message_at rs s (suc j)) && not (ends signs rs s j)) h)
-
-  pub unbroken_goes_on : (signs : M → Bool) (rs : List (Arrived M)) (s k : ℕ) → unbroken signs rs s (suc k) ≡ true → ends signs rs s k ≡ false
-  unbroken_goes_on signs rs s k h = not_false (ends signs rs s k) (and_right (is_some (message_at rs s (suc k))) (not (ends signs rs s k)) (and_right (unbroken signs rs s k) (is_some (message_at rs s (suc k)) && not (ends signs rs s k)) h))
+  unbroken_found signs rs s j h =
+      let last = (and_parts (unbroken signs rs s j) (is_some (message_at rs s (suc j)) && not (ends signs rs s j)) h).1 in
+      (and_parts (is_some (message_at rs s (suc j))) (not (ends signs rs s j)) last).0
 
   bound_of : (signs : M → Bool) (rs : List (Arrived M)) (s k : ℕ) → unbroken signs rs s k ≡ true → k ≤ highest rs
   bound_of signs rs s zero h = omega arith
@@ -79,7 +78,7 @@ module _ {M : Type 0} where
   pub ready_fails : (signs : M → Bool) (rs : List (Arrived M)) (s : ℕ) → unbroken signs rs s (suc (ready signs rs s)) ≡ false
   ready_fails signs rs s =
       ⊎_elim (greatest_fails (unbroken signs rs s) (highest rs))
-      (λ ge. not_true (unbroken signs rs s (suc (ready signs rs s))) (λ on. let h = bound_of signs rs s (suc (ready signs rs s)) on in (omega arith)))
+      (λ ge. false_from_ne_true (unbroken signs rs s (suc (ready signs rs s))) (λ on. let h = bound_of signs rs s (suc (ready signs rs s)) on in (omega arith)))
       (cases_lt (ready signs rs s) (highest rs))
 
   -- a run stops at a sign-off, and where a number is missing

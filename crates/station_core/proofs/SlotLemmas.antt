@@ -42,10 +42,14 @@ module _ {M : Type 0} where
   slice_get_read (x ∷ xs) zero q h l = ap Some (sym h)
   slice_get_read (x ∷ xs) (suc s) q h l = slice_get_read xs s q h (omega arith)
 
+  -- the series of a station that is there
+  pub series_at_there : (all : List (Series M)) (s : ℕ) (q : Series M) → slice_get all s ≡ Some q → series_at all s ≡ q
+  series_at_there all s q h = ap (λ (o : Option (Series M)). unwrap_or o (series 0 false [])) h
+
   pub series_at_read : (all items : List (Series M)) (s : ℕ) (q : Series M) → items ≡ all → q ≡ get_or items s q → s < length all → series_at all s ≡ q
   series_at_read all items s q same read within =
       let here : s < length items = rw same within in
-      rw (← same) (ap (λ (o : Option (Series M)). unwrap_or o (series 0 false [])) (slice_get_read items s q read here))
+      rw (← same) (series_at_there items s q (slice_get_read items s q read here))
 
   -- a place past the window's end
   pub slot_past : (xs : List (Option M)) (i : ℕ) → length xs ≤ i → slot_at xs i ≡ None

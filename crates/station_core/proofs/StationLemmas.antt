@@ -1,6 +1,6 @@
 -- What the series of all stations hold of what was taken, call by call.
 use Rattle.std.proofs.Common.{◌≡◌, ◌≢◌, ℕ, zero, suc, ◌+◌, ◌<◌, ◌≤◌, ◌&&◌, ◌||◌, ◌==◌, not, nat_lt, nat_le, Bool, true, false, if◌then◌else◌, List, [], ◌∷◌, ◌++◌, length, map, Option, Some, None, is_some, refl, ap, ◌∙◌, sym, arith, ⊎_elim, add-one, length-set}
-use Rattle.std.proofs.lemmas.Bool.{cases_lt}
+use Rattle.std.proofs.lemmas.Bool.{cases_lt, or_parts}
 use Rattle.std.proofs.lemmas.Bool.Decides.{nat_tests}
 use Rattle.std.proofs.lemmas.List.{length-map}
 use Rattle.std.specs.Prelude.{slice_set, slice_get, unwrap_or, IfSome, IfNone, OnSome, get_or}
@@ -14,7 +14,8 @@ use Rattle.station_core.specs.declared.Refusal.TheVariants.{UnknownStation, BadN
 use Rattle.station_core.specs.Series.{Series, series, window, slot_at, series_at, refusal_of, opened, with_held, counted, closed}
 use Rattle.station_core.specs.Runs.{Arrived, arrived, message_at, ends, ready, is_signed, is_double, refusal, taken_after}
 use Rattle.station_core.specs.Progress.{Matches, AllMatch, IsPosting, IsEnding, ComesDue, StartsFrom, AllStart}
-use Rattle.station_core.proofs.BoolLemmas.{by_bool, or_false, none_there}
+use Rattle.station_core.proofs.BoolLemmas.{by_bool, none_there}
+use Rattle.station_core.proofs.SlotLemmas.{series_at_there}
 use Rattle.station_core.proofs.SeriesLemmas.{matches_opened, matches_other, pending_taken, pending_counted, ending_counted, matches_pending, matches_closed, next_of, held_is_taken}
 
 -- a test that refuses nothing
@@ -40,8 +41,8 @@ module _ {M : Type 0} where
   pub accepted : (signs : M → Bool) (stations : ℕ) (taken : List (Arrived M)) (s n : ℕ) → refusal signs stations taken s n ≡ None → IsAccepted signs stations taken s n
   accepted signs stations taken s n h =
       let tests = tests_none (nat_le stations s) ((n == 0) || nat_lt LAST n) (is_double signs taken s n) (is_signed signs taken s) (nat_lt (ready signs taken s + window) n) h in
-      let number = or_false (n == 0) (nat_lt LAST n) tests.1 in
-      let double = or_false (nat_le n (ready signs taken s)) (not (is_signed signs taken s) && is_some (message_at taken s n)) tests.2 in
+      let number = or_parts (n == 0) (nat_lt LAST n) tests.1 in
+      let double = or_parts (nat_le n (ready signs taken s)) (not (is_signed signs taken s) && is_some (message_at taken s n)) tests.2 in
       record {
         within = let t = tests.0 in grind (arith, nat_tests);
         low = let t = double.0 in grind (arith, nat_tests);
@@ -60,13 +61,18 @@ module _ {M : Type 0} where
 
   -- the series of a station after a change at one
   pub series_at_set_same : (all : List (Series M)) (s : ℕ) (q : Series M) → s < length all → series_at (slice_set all s q) s ≡ q
-  series_at_set_same all s q h = ap (λ (o : Option (Series M)). unwrap_or o (series 0 false [])) (slice_get-set_same all s q h)
+  series_at_set_same all s q h = series_at_there (slice_set all s q) s q (slice_get-set_same all s q h)
 
   pub series_at_set_other : (all : List (Series M)) (s t : ℕ) (q : Series M) → t ≢ s → series_at (slice_set all s q) t ≡ series_at all t
   series_at_set_other all s t q h = ap (λ (o : Option (Series M)). unwrap_or o (series 0 false [])) (slice_get-set_other all s t q h)
 
+  -- what holds of the other stations holds after it, too
+  others_stay : (all : List (Series M)) (s : ℕ) (q : Series M) (P : ℕ → Series M → Type 0) → ((t : ℕ) → t < length all → t ≢ s → P t (series_at all t))
+      → (t : ℕ) → t < length (slice_set all s q) → t ≢ s → P t (series_at (slice_set all s q) t)
+  others_stay all s q P stays t h ne = rw (series_at_set_other all s t q ne) (stays t (omega (arith, length-set all s q)) ne)
+
   pub series_there : (all : List (Series M)) (s : ℕ) → s < length all → slice_get all s ≡ Some (series_at all s)
-  series_there all s h = let p = slice_get-some all s h in p.1 ∙ ap Some (sym (ap (λ (o : Option (Series M)). unwrap_or o (series 0 false [])) p.1))
+  series_there all s h = let p = slice_get-some all s h in p.1 ∙ ap Some (sym (series_at_there all s p.0 p.1))
 
   -- the test says what looking back says
   pub refusal_agrees : (signs : M → Bool) (taken : List (Arrived M)) (all : List (Series M)) (s n : ℕ) → AllMatch signs taken all → refusal_of all s n ≡ refusal signs (length all) taken s n
@@ -101,7 +107,7 @@ module _ {M : Type 0} where
     each = λ s h.
         let p = opened_at starts s (omega (arith, length-map starts (opened {M = M}))) in
         let from : StartsFrom signs taken s p.0 = every.each s p.0 p.1 in
-        let q : series_at (map (opened {M = M}) starts) s ≡ opened p.0 = ap (λ (o : Option (Series M)). unwrap_or o (series 0 false [])) p.2 in
+        let q : series_at (map (opened {M = M}) starts) s ≡ opened p.0 = series_at_there (map (opened {M = M}) starts) s (opened p.0) p.2 in
         rw q (matches_opened signs taken s p.0 from.whole from.sign from.none_above);
   }
 
@@ -117,7 +123,7 @@ module _ {M : Type 0} where
       record {
         within = omega (arith, a.within, length-set all s (with_held q n m));
         here = rw (series_at_set_same all s (with_held q n m) a.within) (pending_taken signs taken (arrived s n m) q ms off low high a.free);
-        others = λ t h ne. rw (series_at_set_other all s t (with_held q n m) ne) (matches_other signs taken (arrived s n m) t (series_at all t) ne (every.each t (omega (arith, length-set all s (with_held q n m)))));
+        others = others_stay all s (with_held q n m) (Matches signs (taken ++ arrived s n m ∷ [])) (λ t h ne. matches_other signs taken (arrived s n m) t (series_at all t) ne (every.each t h));
       }
 
   -- the next message comes due
@@ -127,7 +133,7 @@ module _ {M : Type 0} where
       record {
         within = omega (arith, p.within, length-set all s (counted q));
         here = rw (series_at_set_same all s (counted q) p.within) (pending_counted signs taken s q m p.here here off);
-        others = λ t h ne. rw (series_at_set_other all s t (counted q) ne) (p.others t (omega (arith, length-set all s (counted q))) ne);
+        others = others_stay all s (counted q) (Matches signs taken) p.others;
       }
 
   pub posting_ending : (signs : M → Bool) (taken : List (Arrived M)) (all : List (Series M)) (s : ℕ) (m : M) → IsPosting signs taken s all → slot_at (series_at all s).slots 0 ≡ Some m → signs m ≡ true → IsEnding signs taken s (slice_set all s (counted (series_at all s)))
@@ -136,7 +142,7 @@ module _ {M : Type 0} where
       record {
         within = omega (arith, p.within, length-set all s (counted q));
         here = rw (series_at_set_same all s (counted q) p.within) (ending_counted signs taken s q m p.here here on);
-        others = λ t h ne. rw (series_at_set_other all s t (counted q) ne) (p.others t (omega (arith, length-set all s (counted q))) ne);
+        others = others_stay all s (counted q) (Matches signs taken) p.others;
       }
 
   pub comes_due : (signs : M → Bool) (taken : List (Arrived M)) (all : List (Series M)) (s n : ℕ) (m : M) → IsPosting signs taken s all → slot_at (series_at all s).slots 0 ≡ Some m → n ≡ (series_at all s).posted + 1
@@ -183,4 +189,4 @@ module _ {M : Type 0} where
       let q : Series M = series_at all s in
       all_from signs taken (slice_set all s (closed q)) s
       (rw (series_at_set_same all s (closed q) p.within) (matches_closed signs taken s q p.here))
-      (λ t h ne. rw (series_at_set_other all s t (closed q) ne) (p.others t (omega (arith, length-set all s (closed q))) ne))
+      (others_stay all s (closed q) (Matches signs taken) p.others)

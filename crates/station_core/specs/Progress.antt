@@ -26,7 +26,7 @@ module _ {M : Type 0} where
     pub width : length q.slots ≡ window
     pub held : HoldsAbove taken s q
 
-  -- the sign-off came due last, and the station isn't marked yet
+  -- the sign-off came due last: what is held above matters no more, and `sign_off` gives it up
   pub record Ending (signs : M → Bool) (taken : List (Arrived M)) (s : ℕ) (q : Series M) : Type 0 where
     pub whole : unbroken signs taken s q.posted ≡ true
     pub ended : ends signs taken s q.posted ≡ true

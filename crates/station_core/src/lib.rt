@@ -16,8 +16,8 @@ pub const WINDOW: usize = 256;
 /// The greatest number of a message.
 pub const LAST: u32 = 999_999;
 
-/// How a station starts: how many of its messages are posted, and whether the last of them is a
-/// sign-off.
+/// How a station starts: how many of its messages are posted, which are at most [`LAST`], and whether
+/// the last of them is a sign-off.
 #[derive(Clone, Copy, Debug, PartialEq, Eq)]
 pub struct Start {
     pub posted: u32,

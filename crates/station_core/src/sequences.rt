@@ -1,5 +1,5 @@
 //! The series of all stations.
-ghost use Rattle.std.specs.Prelude.{◌≡◌, ℕ, ◌+◌, ◌<◌, ◌≤◌, ◌↔◌, Bool, List, [], ◌∷◌, ◌++◌, IfOk, IfNone, IfSome, OnSome, All, map, length, slice_set, None, Some};
+ghost use Rattle.std.specs.Prelude.{◌≡◌, ◌+◌, ◌<◌, ◌≤◌, ◌↔◌, Bool, List, [], ◌∷◌, ◌++◌, IfOk, IfNone, IfSome, OnSome, All, map, length, slice_set, None, Some};
 ghost use Rattle.station_core.specs.declared.TheConstants.{LAST};
 ghost use Rattle.station_core.specs.Series.{opened, refusal_of, series_at, next_held, with_held, counted, closed};
 ghost use Rattle.station_core.specs.Runs.{Arrived, arrived, refusal};
@@ -139,6 +139,3 @@ impl<M: Drop> Sequences<M> {
         self.stations[s as usize].is_signed()
     }
 }
-
-#[cfg(test)]
-mod tests;

@@ -1,5 +1,5 @@
 //! The series of one station: a count of posted messages and a window of held ones.
-ghost use Rattle.std.specs.Prelude.{◌≡◌, ℕ, ◌+◌, ◌-◌, ◌<◌, ◌≤◌, ◌↔◌, [], IfOk, IfNone, IfSome, OnSome, length, replicate, slice_set, Some, None};
+ghost use Rattle.std.specs.Prelude.{◌≡◌, ◌+◌, ◌<◌, ◌≤◌, ◌↔◌, [], IfOk, IfNone, IfSome, OnSome, length, replicate, slice_set, Some, None};
 ghost use Rattle.circular_buffer.specs.Buffer.{buffer};
 ghost use Rattle.station_core.specs.Series.{opened, refusal_at, next_held, with_held, counted, closed};
 
@@ -101,9 +101,8 @@ impl<M: Drop> Station<M> {
         if !matches!(self.slots.front(), Some(Some(_))) {
             return None;
         }
-        let first = self.slots.pop_front();
-        self.slots.push_back(None);
-        let Some(Some(message)) = first else {
+        // The ring is full: a place at its end pushes the first one out.
+        let Some(Some(message)) = self.slots.push_back(None) else {
             unreachable!()
         };
         self.posted += 1;

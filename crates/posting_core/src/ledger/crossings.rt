@@ -3,11 +3,11 @@ ghost use Rattle.std.specs.Prelude.{◌≡◌, ◌&&◌, ◌∷◌, [], not, is_
 ghost use Rattle.std.specs.List.{list_any};
 ghost use Rattle.std.specs.Option.{option_map_or};
 ghost use Rattle.posting_core.specs.Loans.{exit_of, line, objects_in};
-ghost use Rattle.posting_core.specs.Verdicts.{first_of, exit_rows, return_rows, receive_rows, stage_eq, is_known, is_listed, is_at_stage, is_over, carries_unlisted, carries_wrong_stage, ◌if◌};
+ghost use Rattle.posting_core.specs.Verdicts.{first_of, exit_rows, return_rows, receive_rows, stage_eq, is_known, is_over, carries_unlisted, carries_wrong_stage, ◌if◌};
 ghost use Rattle.codes_core.specs.Loan.{is_out};
 ghost use Rattle.posting_core.specs.Agreements.{last_day};
 ghost use Rattle.posting_core.specs.declared.verdict.Verdict.TheVariants.{NotListed, WrongStage, TermOver};
-ghost use Rattle.posting_core.specs.LoanRows.{LoanRow, line_of};
+ghost use Rattle.posting_core.specs.LoanRows.{line_of};
 
 use super::Ledger;
 use super::loan_rules::is_container_code;
@@ -76,7 +76,7 @@ impl Ledger {
         if self.place_of(x) != Some(kept.partner()) {
             return Ok(Verdict::NotWithPartner);
         }
-        self.judge_lines(alloc, thing, loan, kept, LineStage::Away, false)
+        self.judge_lines(alloc, thing, kept, LineStage::Away, false)
     }
 
     pub(crate) fn judge_receive(
@@ -114,7 +114,7 @@ impl Ledger {
             return Ok(Verdict::AlreadyHere);
         }
         let is_over = kept.last() < day;
-        self.judge_lines(alloc, thing, loan, kept, LineStage::Awaiting, is_over)
+        self.judge_lines(alloc, thing, kept, LineStage::Awaiting, is_over)
     }
 
     /// The last rows of an exit: those of its lines and, under a loan out, of the loan's last day.
@@ -136,89 +136,59 @@ impl Ledger {
             ∷ [])) }
     {
         let is_over = loan.is_out() && kept.last() < day;
-        self.judge_lines(alloc, thing, loan, kept, wanted_by_exit(loan), is_over)
+        self.judge_lines(alloc, thing, kept, wanted_by_exit(loan), is_over)
     }
 
-    /// The last rows of what crosses under a loan: those of its lines and, where the loan's last day is asked, of that.
+    /// The last rows of what crosses under a loan, as the loan's row tells them: those of its lines and, where the loan's
+    /// last day is asked, of that.
     fn judge_lines(
         &self,
         alloc: Global,
         thing: &ThingCode,
-        loan: &LoanCode,
         kept: &KeptLoan,
         wanted: LineStage,
         is_over: bool,
     ) -> Result<Verdict, NoMemory>
-        requires known { is_known self.now.museum thing.now ≡ true }
-        requires lines { (o : ℕ) → line_of kept.now o ≡ line self.now.museum self.now.posted loan.now o }
+        requires { is_known self.now.museum thing.now ≡ true }
         ensures { IfOk result (λ verdict. verdict ≡ first_of (
-            (NotListed if list_any (λ o. not (is_listed self.now.museum self.now.posted loan.now o)) (objects_in self.now.museum self.now.posted thing.now))
-            ∷ (WrongStage if list_any (λ o. not (is_at_stage self.now.museum self.now.posted loan.now wanted o)) (objects_in self.now.museum self.now.posted thing.now))
+            (NotListed if list_any (λ o. not (is_some (line_of kept.now o))) (objects_in self.now.museum self.now.posted thing.now))
+            ∷ (WrongStage if list_any (λ o. not (option_map_or (stage_eq wanted) (line_of kept.now o) false)) (objects_in self.now.museum self.now.posted thing.now))
             ∷ (TermOver if is_over)
             ∷ [])) }
     {
         let objects = self.objects_with(alloc, thing_no(&self.setup, thing))?;
-        Ok(self.judge_objects(loan, kept, wanted, &objects, is_over))
-    }
-
-    fn judge_objects(
-        &self,
-        loan: &LoanCode,
-        kept: &KeptLoan,
-        wanted: LineStage,
-        objects: &[ThingNo],
-        is_over: bool,
-    ) -> Verdict
-        requires { (o : ℕ) → line_of kept.now o ≡ line self.now.museum self.now.posted loan.now o }
-        ensures { result ≡ first_of (
-            (NotListed if list_any (λ o. not (is_listed self.now.museum self.now.posted loan.now o)) objects.now)
-            ∷ (WrongStage if list_any (λ o. not (is_at_stage self.now.museum self.now.posted loan.now wanted o)) objects.now)
-            ∷ (TermOver if is_over)
-            ∷ []) }
-    {
-        if self.any_unlisted(loan, kept, objects) {
-            return Verdict::NotListed;
-        }
-        if self.any_not_at(loan, kept, wanted, objects) {
-            return Verdict::WrongStage;
-        }
-        if is_over {
-            return Verdict::TermOver;
-        }
-        Verdict::Applied
-    }
-
-    /// Whether an object isn't on the loan's list.
-    fn any_unlisted(&self, loan: &LoanCode, kept: &KeptLoan, objects: &[ThingNo]) -> bool
-        requires { (o : ℕ) → line_of kept.now o ≡ line self.now.museum self.now.posted loan.now o }
-        ensures { result ≡ list_any (λ o. not (is_listed self.now.museum self.now.posted loan.now o)) objects.now }
-    {
-        let _ = loan;
-        any_unlisted(kept, objects)
-    }
-
-    /// Whether an object has no line at the stage wanted.
-    fn any_not_at(
-        &self,
-        loan: &LoanCode,
-        kept: &KeptLoan,
-        wanted: LineStage,
-        objects: &[ThingNo],
-    ) -> bool
-        requires { (o : ℕ) → line_of kept.now o ≡ line self.now.museum self.now.posted loan.now o }
-        ensures { result ≡ list_any (λ o. not (is_at_stage self.now.museum self.now.posted loan.now wanted o)) objects.now }
-    {
-        let _ = loan;
-        any_not_at(kept, wanted, objects)
+        Ok(judge_objects(kept, wanted, &objects, is_over))
     }
 }
 
+/// These rows for the objects that cross.
+fn judge_objects(kept: &KeptLoan, wanted: LineStage, objects: &[ThingNo], is_over: bool) -> Verdict
+    ensures { result ≡ first_of (
+        (NotListed if list_any (λ o. not (is_some (line_of kept.now o))) objects.now)
+        ∷ (WrongStage if list_any (λ o. not (option_map_or (stage_eq wanted) (line_of kept.now o) false)) objects.now)
+        ∷ (TermOver if is_over)
+        ∷ []) }
+{
+    if any_unlisted(kept, objects) {
+        return Verdict::NotListed;
+    }
+    if any_not_at(kept, wanted, objects) {
+        return Verdict::WrongStage;
+    }
+    if is_over {
+        return Verdict::TermOver;
+    }
+    Verdict::Applied
+}
+
+/// Whether an object isn't on the loan's list.
 fn any_unlisted(kept: &KeptLoan, objects: &[ThingNo]) -> bool
     ensures { result ≡ list_any (λ o. not (is_some (line_of kept.now o))) objects.now }
 {
     objects.iter().any(|o| kept.stage_of(*o).is_none())
 }
 
+/// Whether an object has no line at the stage wanted.
 fn any_not_at(kept: &KeptLoan, wanted: LineStage, objects: &[ThingNo]) -> bool
     ensures { result ≡ list_any (λ o. not (option_map_or (stage_eq wanted) (line_of kept.now o) false)) objects.now }
 {

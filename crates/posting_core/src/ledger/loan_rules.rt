@@ -62,6 +62,7 @@ impl Ledger {
         Verdict::Applied
     }
 
+    /// Whether one isn't in the setup; told of the ledger's book, as the rows are.
     fn any_unknown(&self, objects: &[ThingCode]) -> bool
         ensures { result ≡ list_any (λ x. not (is_known self.now.museum x)) objects.now }
     {

@@ -1,4 +1,4 @@
-//! What an applied message puts where, and the spots that it writes.
+//! What an applied message puts where, and the spots and the lines that it writes.
 ghost use Rattle.std.specs.Prelude.{◌≡◌, ◌<◌, ◌+◌, [], if◌then◌else◌, length, All, IfOk, IfSome, Some, List, ℕ, true, not, map, filter};
 ghost use Rattle.std.specs.List.{filter_map};
 ghost use Rattle.nest_core.specs.Puts.{container_of};

@@ -1,22 +1,21 @@
-//! The rules: the verdict on a message, kind by kind.
+//! The rules of moves and packs.
 ghost use Rattle.std.specs.Prelude.{◌≡◌, ◌<◌, length, IfSome, None, false, if◌then◌else◌};
 ghost use Rattle.std.specs.Option.{option_map_or};
 ghost use Rattle.nest_core.specs.Museum.{find_thing, is_inside};
 ghost use Rattle.nest_core.specs.Puts.{last};
 ghost use Rattle.nest_core.specs.Nest.{pack_bar};
-ghost use Rattle.posting_core.specs.declared.message.Message.TheVariants.{Move, Pack};
 ghost use Rattle.posting_core.specs.History.{puts};
-ghost use Rattle.posting_core.specs.Verdicts.{is_away, is_known_container};
-ghost use Rattle.posting_core.specs.Book.{place_in, verdict_in};
+ghost use Rattle.posting_core.specs.Verdicts.{first_of, move_rows, pack_rows, is_away, is_known_container};
+ghost use Rattle.posting_core.specs.Book.{place_in};
 
 use super::Ledger;
 use crate::Verdict;
-use codes_core::{Day, PlaceCode, ThingCode, ThingKind};
+use codes_core::{PlaceCode, ThingCode, ThingKind};
 use nest_core::{PackBar, ThingNo};
 
 impl Ledger {
-    pub(crate) fn judge_move(&self, thing: &ThingCode, place: &PlaceCode, day: Day) -> Verdict
-        ensures { result ≡ verdict_in self.now (Move thing.now place.now day) }
+    pub(crate) fn judge_move(&self, thing: &ThingCode, place: &PlaceCode) -> Verdict
+        ensures { result ≡ first_of (move_rows self.now.museum self.now.posted thing.now place.now) }
     {
         let Some(x) = self.setup.thing(thing) else {
             return Verdict::UnknownThing;
@@ -33,8 +32,8 @@ impl Ledger {
         Verdict::Applied
     }
 
-    pub(crate) fn judge_pack(&self, thing: &ThingCode, container: &ThingCode, day: Day) -> Verdict
-        ensures { result ≡ verdict_in self.now (Pack thing.now container.now day) }
+    pub(crate) fn judge_pack(&self, thing: &ThingCode, container: &ThingCode) -> Verdict
+        ensures { result ≡ first_of (pack_rows self.now.museum self.now.depth self.now.posted thing.now container.now) }
     {
         let Some(x) = self.setup.thing(thing) else {
             return Verdict::UnknownThing;

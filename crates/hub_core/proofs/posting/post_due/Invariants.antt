@@ -4,7 +4,8 @@ use Rattle.posting_core.specs.Messages.{is_sign_off}
 use Rattle.station_core.specs.Series.{series_at}
 use Rattle.station_core.specs.Runs.{Arrived}
 use Rattle.station_core.specs.Progress.{IsPosting}
-use Rattle.hub_core.specs.StandsFor.{InStep, Caught, HasStore}
+use Rattle.hub_core.specs.StandsFor.{InStep, HasStore}
+use Rattle.hub_core.proofs.PostLemmas.{Caught}
 use Rattle.hub_core.proofs.posting.post_due.Given as goal
 
 abbrev pub invariant-loop-n : goal.invariant-loop-n

@@ -3,7 +3,7 @@ use Rattle.indexmap.specs.IndexSet.{insert_key}
 use Rattle.posting_core.specs.declared.stage.LineStage.{LineStage}
 use Rattle.posting_core.specs.declared.stage.LineStage.TheVariants.{Awaiting}
 use Rattle.posting_core.specs.Messages.{thing_no}
-use Rattle.posting_core.proofs.KeptLoans.{one_more_number, one_more_awaited}
+use Rattle.posting_core.proofs.ObjectNumbers.{one_more_number, one_more_awaited}
 use Rattle.posting_core.proofs.kept_loan.awaited.Goals as goal
 
 pub loop-i-preserved : goal.loop-i-preserved

@@ -1,9 +1,17 @@
-use Rattle.std.proofs.Common.{rules, tests, not}
+use Rattle.std.proofs.Common.{◌≡◌, Bool, List, true, false, not, refl, rules, tests}
+use Rattle.std.specs.List.{list_all, list_any}
 use Rattle.std.proofs.lemmas.Iterator.{YieldsList-from_slice}
 use Rattle.std.proofs.lemmas.Iterator.Search.{all_from_yields_List, any_from_yields_List}
-use Rattle.posting_core.specs.Loans.{is_done, is_awaiting}
-use Rattle.posting_core.proofs.KeptLoans.{is_closed, is_waiting}
+use Rattle.posting_core.specs.declared.stage.LineStage.{LineStage}
+use Rattle.posting_core.specs.declared.stage.LoanState.TheVariants.{Authorised, Closed}
+use Rattle.posting_core.specs.Loans.{is_done, is_awaiting, state_by}
 use Rattle.posting_core.proofs.kept_loan.state_of.Goals as goal
+
+is_closed : (authorised : Bool) (stages : List LineStage) → authorised ≡ true → list_all is_done stages ≡ true → Closed ≡ state_by authorised stages
+is_closed authorised stages a d = rw (a, d) refl
+
+is_waiting : (authorised : Bool) (stages : List LineStage) → authorised ≡ true → list_all is_done stages ≡ false → list_any (λ s. not (is_awaiting s)) stages ≡ false → Authorised ≡ state_by authorised stages
+is_waiting authorised stages a d n = rw (a, d, n) refl
 
 pub returns-then-all : goal.returns-then-all
 returns-then-all c =

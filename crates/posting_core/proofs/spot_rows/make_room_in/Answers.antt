@@ -1,8 +1,9 @@
-use Rattle.std.proofs.Common.{◌∙◌, ◌<◌, sym, subst, arith, length, get_or, slice_set, take}
+use Rattle.std.proofs.Common.{◌∙◌, ◌<◌, All, sym, subst, arith, length, get_or, slice_set, take}
 use Rattle.std.proofs.Math.Seq.{map-set_same}
+use Rattle.std.proofs.lemmas.List.{take_all}
 use Rattle.std.proofs.lemmas.List.Elements.{All-get_or, All-more, All-weaker}
 use Rattle.posting_core.specs.Rows.{AreAscending, HasRoom}
-use Rattle.posting_core.proofs.Rooms.{ascending_within, all_ready, room_set, room_here, whole_take}
+use Rattle.posting_core.proofs.Rooms.{ascending_within, all_ready, room_set, room_here}
 use Rattle.posting_core.proofs.spot_rows.make_room_in.Goals as goal
 
 pub bounds-rows-news : goal.bounds-rows-news
@@ -34,4 +35,4 @@ loop-i-preserved c =
 pub returns-clause-ready : goal.returns-clause-ready
 returns-clause-ready c =
     all_ready c.loop-i.rows 0 c.args.news.now (subst (λ n. AreAscending 0 n c.args.news.now) (sym c.loop-i.auto.rows) c.requires)
-    (whole_take (λ s. HasRoom c.loop-i.rows s.thing) c.args.news.now c.loop-i.i c.loop-i-test.false c.loop-i.auto.i-end c.loop-i.invariant.room)
+    (subst (All (λ s. HasRoom c.loop-i.rows s.thing)) (take_all c.loop-i.i c.args.news.now c.loop-i-test.false) c.loop-i.invariant.room)

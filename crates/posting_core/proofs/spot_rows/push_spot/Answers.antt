@@ -1,12 +1,13 @@
 use Rattle.std.proofs.Common.{subst, sym, IfSome, [], ◌≤◌, ◌+◌, vec_len, vec_capacity, arith, get_or}
 use Rattle.std.proofs.lemmas.Option.{slice_get-get_or}
-use Rattle.posting_core.proofs.Rooms.{holds_at, row_written, get_set_other}
+use Rattle.nest_core.proofs.Writes.{get_set_other}
+use Rattle.posting_core.proofs.Rooms.{row_written}
 use Rattle.posting_core.proofs.spot_rows.push_spot.Goals as goal
 
 pub unwrap-requires : goal.unwrap-requires
 unwrap-requires c =
     let old = get_or c.args.rows.now c.args.s.thing c.index-rows-s.result in
-    let room : vec_len old + 1 ≤ vec_capacity old = holds_at (λ row. vec_len row + 1 ≤ vec_capacity row) _ _ (slice_get-get_or c.args.rows.now c.args.s.thing c.index-rows-s.result c.requires.within) c.requires.room in
+    let room : vec_len old + 1 ≤ vec_capacity old = subst (λ o. IfSome o (λ row. vec_len row + 1 ≤ vec_capacity row)) (slice_get-get_or c.args.rows.now c.args.s.thing c.index-rows-s.result c.requires.within) c.requires.room in
     c.push.ensures.succeeds (omega arith)
 
 pub returns-clause-written : goal.returns-clause-written

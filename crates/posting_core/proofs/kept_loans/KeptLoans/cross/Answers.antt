@@ -8,10 +8,7 @@ invariant_of-self c =
     same_codes c.self.inside.codes.keys c.self.inside.rows.items c.in-Some.i c.index_mut.result.now c.cross.new.self c.self.invariant (ap (λ (row : LoanRow). row.loan) c.cross.ensures ∙ lines_loan c.args.lines.now c.index_mut.result.now) c.index_mut.ensures.value
 
 pub returns-in-Some : goal.returns-in-Some
-returns-in-Some c =
-    changed_kept (with_lines c.args.lines.now) c.args.loan.now c.self.inside.codes.keys c.self.inside.rows.items c.args.self.now c.in-Some.i c.index_mut.result.now c.cross.new.self
-    c.self.invariant c.in-Some.ensures.index c.cross.ensures c.index_mut.ensures.value c.self.view_is
+returns-in-Some c = changed_kept (with_lines c.args.lines.now) c.args.loan.now c.self.invariant c.self.view_is c.in-Some.ensures.index c.cross.ensures c.index_mut.ensures.value
 
 pub returns-in_default : goal.returns-in_default
-returns-in_default c =
-    unchanged_kept (with_lines c.args.lines.now) c.args.loan.now c.self.inside.codes.keys c.self.inside.rows.items c.args.self.now c.self.invariant c.in_default.ensures.index c.self.view_is
+returns-in_default c = unchanged_kept (with_lines c.args.lines.now) c.args.loan.now c.self.invariant c.self.view_is c.in_default.ensures.index

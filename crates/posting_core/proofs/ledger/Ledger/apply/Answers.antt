@@ -2,43 +2,37 @@ use Rattle.std.proofs.Common.{ap, ◌∙◌, sym, reverse, List, ◌∷◌, ◌+
 use Rattle.std.proofs.lemmas.List.{length-map, reverse-append}
 use Rattle.posting_core.specs.declared.entry.Entry.{Entry}
 use Rattle.posting_core.specs.declared.entry.Spot.{Spot}
-use Rattle.posting_core.specs.Rows.{rows_after, lists}
+use Rattle.posting_core.specs.Rows.{rows_after}
 use Rattle.posting_core.proofs.Posted.{planned, planned_ascending, planned_put, planned_agree, kept_still, kept_after}
 use Rattle.posting_core.proofs.ledger.Ledger.apply.Goals as goal
 
 pub make_room-requires : goal.make_room-requires
 make_room-requires c =
-    let is = planned _ _ c.self.inside.nest (lists c.self.inside.spots.items) c.self.inside.loans c.args.self.now c.args.entry c.args.changes c.as_slice-spots.result.now c.as_slice-lines.result.now
-    c.self.view_is c.self.invariant c.requires.follows c.requires.planned c.as_slice-spots.ensures c.as_slice-lines.ensures in
-    planned_ascending _ _ c.self.inside.nest (lists c.self.inside.spots.items) c.self.inside.loans c.args.entry c.as_slice-spots.result.now c.as_slice-lines.result.now _ is (sym (length-map c.self.inside.spots.items (λ row. row.items)))
+    let is = planned c.self.invariant c.self.view_is c.requires.follows c.requires.planned c.as_slice-spots.ensures c.as_slice-lines.ensures in
+    planned_ascending is _ (sym (length-map c.self.inside.spots.items (λ row. row.items)))
 
 pub place-requires : goal.place-requires
 place-requires c =
-    let is = planned _ _ c.self.inside.nest (lists c.self.inside.spots.items) c.self.inside.loans c.args.self.now c.args.entry c.args.changes c.as_slice-spots.result.now c.as_slice-lines.result.now
-    c.self.view_is c.self.invariant c.requires.follows c.requires.planned c.as_slice-spots.ensures c.as_slice-lines.ensures in
-    planned_put _ _ c.self.inside.nest (lists c.self.inside.spots.items) c.self.inside.loans c.args.self.now c.args.entry c.as_slice-spots.result.now c.as_slice-lines.result.now _ c.self.view_is is c.put_under-put.ensures
+    let is = planned c.self.invariant c.self.view_is c.requires.follows c.requires.planned c.as_slice-spots.ensures c.as_slice-lines.ensures in
+    planned_put is c.self.view_is c.put_under-put.ensures
 
 pub record-requires : goal.record-requires
 record-requires c =
-    let is = planned _ _ c.self.inside.nest (lists c.self.inside.spots.items) c.self.inside.loans c.args.self.now c.args.entry c.args.changes c.as_slice-spots.result.now c.as_slice-lines.result.now
-    c.self.view_is c.self.invariant c.requires.follows c.requires.planned c.as_slice-spots.ensures c.as_slice-lines.ensures in
-    planned_agree _ _ c.self.inside.nest (lists c.self.inside.spots.items) c.self.inside.loans c.args.entry c.as_slice-spots.result.now c.as_slice-lines.result.now is
+    planned_agree (planned c.self.invariant c.self.view_is c.requires.follows c.requires.planned c.as_slice-spots.ensures c.as_slice-lines.ensures)
 
 pub invariant_of-self-2 : goal.invariant_of-self-2
 invariant_of-self-2 c =
-    let is = planned _ _ c.self.inside.nest (lists c.self.inside.spots.items) c.self.inside.loans c.args.self.now c.args.entry c.args.changes c.as_slice-spots.result.now c.as_slice-lines.result.now
-    c.self.view_is c.self.invariant c.requires.follows c.requires.planned c.as_slice-spots.ensures c.as_slice-lines.ensures in
+    let is = planned c.self.invariant c.self.view_is c.requires.follows c.requires.planned c.as_slice-spots.ensures c.as_slice-lines.ensures in
     let pushed = rw c.unwrap.ensures at c.push.ensures.items in
-    kept_after _ _ _ c.self.inside.nest c.place.new.nest (lists c.self.inside.spots.items) _ c.self.inside.loans c.record.new.loans c.args.self.now c.args.entry c.as_slice-spots.result.now c.as_slice-lines.result.now c.put_under-put.result
-    c.self.view_is is c.put_under-put.ensures
-    (ap reverse (pushed ∙ ap (λ (es : List Entry). es ++ c.args.entry ∷ []) c.reserve.ensures.items) ∙ reverse-append c.self.inside.posted.items (c.args.entry ∷ []))
+    kept_after is c.self.view_is c.put_under-put.ensures
     c.in_ok-place.ensures.stands c.in_ok-place.ensures.sized.0 c.in_ok-place.ensures.sized.1 c.in_ok-place.ensures.sized.2
+    (ap reverse (pushed ∙ ap (λ (es : List Entry). es ++ c.args.entry ∷ []) c.reserve.ensures.items) ∙ reverse-append c.self.inside.posted.items (c.args.entry ∷ []))
     (c.push_spots.ensures ∙ ap (λ (rs : List (List Spot)). rows_after rs c.as_slice-spots.result.now) c.make_room.ensures.items)
     c.in_ok-record.ensures.ok
 
 pub invariant_of-self-in_err-record : goal.invariant_of-self-in_err-record
 invariant_of-self-in_err-record c =
-    kept_still _ _ _ c.self.inside.nest c.place.new.nest (lists c.self.inside.spots.items) _ c.self.inside.loans c.record.new.loans c.args.self.now c.args.entry c.put_under-put.result
-    c.self.view_is c.self.invariant c.put_under-put.ensures c.in_err-record.ensures.err.1 (ap reverse c.reserve.ensures.items)
+    let is = planned c.self.invariant c.self.view_is c.requires.follows c.requires.planned c.as_slice-spots.ensures c.as_slice-lines.ensures in
+    kept_still is c.self.view_is c.put_under-put.ensures
     c.in_ok-place.ensures.stands c.in_ok-place.ensures.sized.0 c.in_ok-place.ensures.sized.1 c.in_ok-place.ensures.sized.2
-    c.make_room.ensures.items c.in_err-record.ensures.err.0
+    c.in_err-record.ensures.err.1 (ap reverse c.reserve.ensures.items) c.make_room.ensures.items c.in_err-record.ensures.err.0

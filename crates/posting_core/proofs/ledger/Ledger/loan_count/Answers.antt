@@ -3,4 +3,4 @@ use Rattle.posting_core.proofs.Posted.{count_kept}
 use Rattle.posting_core.proofs.ledger.Ledger.loan_count.Goals as goal
 
 pub returns : goal.returns
-returns c = c.len.ensures ∙ count_kept _ _ c.self.inside.nest _ c.self.inside.loans c.args.self.now c.self.view_is c.self.invariant
+returns c = c.len.ensures ∙ count_kept c.self.invariant c.self.view_is

@@ -10,16 +10,16 @@ returns-in_default c = c.new.ensures ∙ unplaced_spots c.args.self.now.museum c
 
 pub spots_of-requires : goal.spots_of-requires
 spots_of-requires c =
-    let carried = c.as_slice.ensures ∙ carried_kept _ _ c.self.inside.nest _ _ c.args.self.now c.in-Some.put.thing _ c.self.view_is c.self.invariant c.in_ok-carried.ensures in
+    let carried = c.as_slice.ensures ∙ carried_kept c.self.invariant c.self.view_is c.in-Some.put.thing _ c.in_ok-carried.ensures in
     subst (All (λ y. y < length c.args.self.now.museum.things)) (sym carried) (carried_below (length c.args.self.now.museum.things) _ c.in-Some.put.thing)
 
 pub returns-in-Some-place_to : goal.returns-in-Some-place_to
 returns-in-Some-place_to c =
     let B = c.args.self.now in
-    let carried = c.as_slice.ensures ∙ carried_kept _ _ c.self.inside.nest _ _ B c.in-Some.put.thing _ c.self.view_is c.self.invariant c.in_ok-carried.ensures in
-    let allowed = allowed_in B c.args.message.now c.put_of.result c.in-Some.put (lawful_kept _ _ c.self.inside.nest _ _ B c.self.view_is c.self.invariant) c.requires.applied c.put_of.ensures c.in-Some.is in
+    let carried = c.as_slice.ensures ∙ carried_kept c.self.invariant c.self.view_is c.in-Some.put.thing _ c.in_ok-carried.ensures in
+    let lawful = lawful_kept c.self.invariant c.self.view_is in
+    let allowed = allowed_in B c.args.message.now lawful c.requires.applied c.put_of.ensures c.in-Some.is in
     subst (λ (news : List NewSpot). IfOk c.spots_of.result (λ spots. spots ≡ news))
-    (found_spots B c.args.message.now c.in-Some.put c.in-Some-place_to.place c.args.entry c.in-Some-day_of.day c.as_slice.result.now
-    (lawful_kept _ _ c.self.inside.nest _ _ B c.self.view_is c.self.invariant) (sym c.put_of.ensures ∙ c.in-Some.is) allowed c.requires.number
+    (found_spots B c.args.message.now lawful (sym c.put_of.ensures ∙ c.in-Some.is) allowed c.requires.number
     (sym c.day_of.ensures ∙ c.in-Some-day_of.is) (sym c.place_to.ensures ∙ c.in-Some-place_to.is) carried)
     c.spots_of.ensures

@@ -3,7 +3,7 @@ use Rattle.posting_core.proofs.Posted.{count_kept, objects_kept}
 use Rattle.posting_core.proofs.ledger.Ledger.objects.Goals as goal
 
 pub at-requires : goal.at-requires
-at-requires c = subst (λ n. c.args.i < n) (sym (count_kept _ _ c.self.inside.nest _ c.self.inside.loans c.args.self.now c.self.view_is c.self.invariant)) c.requires
+at-requires c = subst (λ n. c.args.i < n) (sym (count_kept c.self.invariant c.self.view_is)) c.requires
 
 pub returns : goal.returns
-returns c = rw c.objects.ensures (objects_kept _ _ c.self.inside.nest _ c.self.inside.loans c.args.self.now c.args.i c.at.result.now c.self.view_is c.self.invariant c.at.ensures)
+returns c = rw c.objects.ensures (objects_kept c.self.invariant c.self.view_is c.args.i c.at.result.now c.at.ensures)

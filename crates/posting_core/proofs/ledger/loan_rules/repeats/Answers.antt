@@ -1,21 +1,15 @@
-use Rattle.std.proofs.Common.{◌≡◌, ◌<◌, ◌+◌, ◌-◌, ◌||◌, ℕ, Bool, true, false, List, [], ◌∷◌, drop, take, get_or, length, refl, sym, ap, ◌∙◌, arith}
+use Rattle.std.proofs.Common.{◌≡◌, ◌<◌, ◌+◌, ◌-◌, ◌||◌, ℕ, true, false, List, [], ◌∷◌, drop, take, get_or, length, refl, sym, ap, ◌∙◌, arith}
 use Rattle.std.specs.List.{list_any}
 use Rattle.std.specs.Str.{bytes_eq}
-use Rattle.std.proofs.lemmas.Bool.Decides.{same_from_decides}
 use Rattle.std.proofs.lemmas.List.{drop_more, length-drop, take_all}
-use Rattle.std.proofs.lemmas.Slice.Eq.{bytes_eq-Decides}
 use Rattle.posting_core.specs.Verdicts.{repeats}
+use Rattle.posting_core.proofs.Agreed.{bytes_eq-sym}
 use Rattle.posting_core.proofs.ledger.loan_rules.repeats.Goals as goal
-
-bytes_eq_turned : (xs ys : List ℕ) → bytes_eq xs ys ≡ bytes_eq ys xs
-bytes_eq_turned xs ys =
-    let d = bytes_eq-Decides ys xs in
-    same_from_decides (bytes_eq xs ys) (bytes_eq ys xs) (bytes_eq-Decides xs ys) (λ e. sym (d.0 e), λ e. d.1 (sym e))
 
 -- `contains` compares each code with the one sought
 found_turned : (x : List ℕ) (xs : List (List ℕ)) → list_any (λ y. bytes_eq y x) xs ≡ list_any (bytes_eq x) xs
 found_turned x [] = refl
-found_turned x (y ∷ ys) = rw (bytes_eq_turned y x, found_turned x ys) refl
+found_turned x (y ∷ ys) = rw (bytes_eq-sym y x, found_turned x ys) refl
 
 -- the codes from one on: that code stands again after it, or some later one stands twice
 repeats_from : (xs : List (List ℕ)) (i : ℕ) (x : List ℕ) → i < length xs → x ≡ get_or xs i x

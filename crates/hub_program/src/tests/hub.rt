@@ -1,0 +1,227 @@
+//! A hub asked by its calls. What runs through the program stands in `cases/`.
+ghost use Rattle.std.specs.Prelude.{◌≡◌, true, IfErr};
+ghost use Rattle.register_store.specs.Registers.{is_failure};
+
+use super::{MUSEUM, SMALL};
+use codes_core::{Day, LoanCode, PlaceCode, ThingCode};
+use hub_core::{Answer, Arrival, Hub, OpenFault, Where, replay};
+use nest_core::{PlaceNo, Setup};
+use posting_core::{LoanState, Message};
+use register_store::{PlainRegister, Register, StoreFault};
+use station_core::Refusal;
+use std::alloc::Global;
+use std::process::Abort;
+use std::test::Fail;
+
+/// A move's number and its place, and the answer to it.
+type Row = (u64, &'static str, Answer);
+
+const HELD: &[Row] = &[
+    (2, "S1-A", Answer::Held),
+    (1, "S1", Answer::Posted { first: 1, last: 2 }),
+];
+
+const LAST_HELD: &[Row] = &[
+    (1, "S1", Answer::Posted { first: 1, last: 1 }),
+    (2, "S1-A", Answer::Posted { first: 2, last: 2 }),
+    (4, "S1", Answer::Held),
+];
+
+/// What was held is gone, what was posted is there.
+const OPENED_AGAIN: &[Row] = &[
+    (2, "S1-A", Answer::Refused(Refusal::Double)),
+    (3, "S1", Answer::Posted { first: 3, last: 3 }),
+];
+
+/// Thing 2 of the setup is 2001.4.1; places 0 and 1 are S1 and S1-A.
+const OBJECT: u32 = 2;
+
+/// GAL, the station 1, moves the object.
+fn moved(n: u64, place: &str) -> Result<Arrival, Fail> {
+    Ok(Arrival {
+        station: 1,
+        n,
+        message: Message::Move {
+            thing: ThingCode::parse(b"2001.4.1")?,
+            place: PlaceCode::parse(place.as_bytes())?,
+            day: Day::parse(b"2024-05-01")?,
+        },
+    })
+}
+
+/// A hub over the whole setup and this register.
+pub(crate) fn opened(alloc: Global, register: PlainRegister) -> Result<Hub<PlainRegister>, Fail> {
+    match Hub::open(alloc, Setup::read(alloc, MUSEUM.as_bytes())?, register) {
+        Ok(hub) => Ok(hub),
+        Err(_) => Err(Fail::from("not opened")),
+    }
+}
+
+/// Sends a move, and compares the answer.
+fn send(
+    rt: &impl Abort,
+    alloc: Global,
+    hub: &mut Hub<PlainRegister>,
+    row: &Row,
+) -> Result<(), Fail> {
+    let answer = hub.arrive(alloc, moved(row.0, row.1)?)?;
+    assert_eq!(rt; answer, row.2);
+    Ok(())
+}
+
+fn send_all(
+    rt: &impl Abort,
+    alloc: Global,
+    hub: &mut Hub<PlainRegister>,
+    rows: &[Row],
+) -> Result<(), Fail> {
+    for row in rows {
+        send(rt, alloc, hub, row)?;
+    }
+    Ok(())
+}
+
+/// The object's spots, each with its entry and its place.
+fn assert_spots(
+    rt: &impl Abort,
+    hub: &Hub<PlainRegister>,
+    want: &[(u64, PlaceNo)],
+) -> Result<(), Fail> {
+    let ledger = hub.ledger();
+    assert!(rt; ledger.setup().things() > OBJECT);
+    let spots = ledger.spots(OBJECT);
+    assert_eq!(rt; spots.len(), want.len());
+    for (spot, want) in spots.iter().zip(want) {
+        assert_eq!(rt; (spot.entry, spot.place), *want);
+    }
+    Ok(())
+}
+
+/// The hub says that the object is there, in no container.
+fn assert_asked(
+    rt: &impl Abort,
+    alloc: Global,
+    hub: &Hub<PlainRegister>,
+    want: Option<PlaceNo>,
+) -> Result<(), Fail> {
+    let place = match hub.ask(alloc, &ThingCode::parse(b"2001.4.1")?)? {
+        Where::At { place, chain } if chain.as_slice().is_empty() => Some(place),
+        Where::Unplaced => None,
+        _ => return Err(Fail::from("in a container")),
+    };
+    assert_eq!(rt; place, want);
+    Ok(())
+}
+
+const NO_SPOTS: &[(u64, PlaceNo)] = &[];
+
+const TWO_SPOTS: &[(u64, PlaceNo)] = &[(1, 0), (2, 1)];
+
+fn held_then_posted(
+    rt: &impl Abort,
+    alloc: Global,
+    hub: &mut Hub<PlainRegister>,
+) -> Result<(), Fail> {
+    assert_asked(rt, alloc, hub, None)?;
+    assert_spots(rt, hub, NO_SPOTS)?;
+    send_all(rt, alloc, hub, HELD)?;
+    assert_asked(rt, alloc, hub, Some(1))?;
+    assert_spots(rt, hub, TWO_SPOTS)
+}
+
+#[test]
+fn a_hub(rt: HostRuntime) -> Result<(), Fail> {
+    let mut hub = opened(rt.alloc(), PlainRegister::new(rt.alloc()))?;
+    held_then_posted(&rt, rt.alloc(), &mut hub)
+}
+
+/// A hub with two postings.
+fn posted_twice(rt: &impl Abort, alloc: Global) -> Result<Hub<PlainRegister>, Fail> {
+    let mut hub = opened(alloc, PlainRegister::new(alloc))?;
+    send_all(rt, alloc, &mut hub, LAST_HELD)?;
+    Ok(hub)
+}
+
+/// Closes a hub, be it down or not, and opens another over its register. What any caller may rest on: with the same
+/// setup and a quiet register only want of memory, or a store that refuses, keeps it from opening.
+fn opened_anew<R: Register>(
+    alloc: Global,
+    hub: Hub<R>,
+    setup: Setup,
+) -> Result<Hub<R>, OpenFault<R>>
+    ensures { IfErr result (λ failed. setup ≡ hub.book.museum → R.is_quiet failed.register → is_failure failed.fault ≡ true) }
+{
+    Hub::open(alloc, setup, hub.close())
+}
+
+/// A hub that has posted twice, closed and opened anew with the same setup.
+fn posted_and_opened(rt: &impl Abort, alloc: Global) -> Result<Hub<PlainRegister>, Fail> {
+    let setup = Setup::read(alloc, MUSEUM.as_bytes())?;
+    let hub = posted_twice(rt, alloc)?;
+    match opened_anew(alloc, hub, setup) {
+        Ok(hub) => Ok(hub),
+        Err(_) => Err(Fail::from("not opened")),
+    }
+}
+
+#[test]
+fn opened_again(rt: HostRuntime) -> Result<(), Fail> {
+    let mut hub = posted_and_opened(&rt, rt.alloc())?;
+    send_all(&rt, rt.alloc(), &mut hub, OPENED_AGAIN)
+}
+
+/// Why a register with two postings of the whole setup isn't opened with another.
+fn opened_with_another(rt: &impl Abort, alloc: Global) -> Result<Option<StoreFault>, Fail> {
+    let small = Setup::read(alloc, SMALL.as_bytes())?;
+    let register = posted_twice(rt, alloc)?.close();
+    match Hub::open(alloc, small, register) {
+        Ok(_) => Ok(None),
+        Err(failed) => Ok(Some(failed.fault)),
+    }
+}
+
+#[test]
+fn of_another_setup(rt: HostRuntime) -> Result<(), Fail> {
+    let fault = opened_with_another(&rt, rt.alloc())?;
+    assert_eq!(rt; fault, Some(StoreFault::OtherSetup));
+    Ok(())
+}
+
+/// PACK packs an object into a crate, which leaves under a loan; the loan is then extended.
+const LENT: &str =
+    "{\"station\":\"PACK\",\"n\":1,\"message\":{\"kind\":\"move\",\"thing\":\"C1\",\"place\":\"S1\",\"day\":\"2024-05-01\"}}
+{\"station\":\"PACK\",\"n\":2,\"message\":{\"kind\":\"pack\",\"thing\":\"2001.4.1\",\"container\":\"C1\",\"day\":\"2024-05-01\"}}
+{\"station\":\"PACK\",\"n\":3,\"message\":{\"kind\":\"agree\",\"loan\":\"LO2024.1\",\"partner\":\"MUSEUM-X\",\"objects\":[\"2001.4.1\",\"2001.4.2\"],\"first\":\"2024-05-01\",\"last\":\"2024-05-31\"}}
+{\"station\":\"PACK\",\"n\":4,\"message\":{\"kind\":\"authorise\",\"loan\":\"LO2024.1\",\"by\":\"A. Keeper\"}}
+{\"station\":\"PACK\",\"n\":5,\"message\":{\"kind\":\"exit\",\"thing\":\"C1\",\"loan\":\"LO2024.1\",\"day\":\"2024-05-02\"}}
+{\"station\":\"PACK\",\"n\":6,\"message\":{\"kind\":\"extend\",\"loan\":\"LO2024.1\",\"last\":\"2024-06-30\"}}
+";
+
+/// A hub to which a text is replayed.
+fn replayed(alloc: Global, text: &str) -> Result<Hub<PlainRegister>, Fail> {
+    let mut hub = opened(alloc, PlainRegister::new(alloc))?;
+    let mut reader = text.as_bytes();
+    let mut writer = Vec::new(alloc);
+    match replay(alloc, &mut reader, &mut writer, &mut hub) {
+        Ok(()) => Ok(hub),
+        Err(_) => Err(Fail::from("not replayed")),
+    }
+}
+
+/// How far the loan has come and its last day, in a hub with it that was closed and opened anew.
+fn lent_and_opened(alloc: Global) -> Result<(Option<LoanState>, Option<Day>), Fail> {
+    let setup = Setup::read(alloc, MUSEUM.as_bytes())?;
+    let loan = LoanCode::parse(b"LO2024.1")?;
+    match opened_anew(alloc, replayed(alloc, LENT)?, setup) {
+        Ok(hub) => Ok((hub.ledger().loan_state(&loan), hub.ledger().last_day(&loan))),
+        Err(_) => Err(Fail::from("not opened")),
+    }
+}
+
+#[test]
+fn loan_opened_again(rt: HostRuntime) -> Result<(), Fail> {
+    let (state, last) = lent_and_opened(rt.alloc())?;
+    assert_eq!(rt; state, Some(LoanState::Running));
+    assert_eq!(rt; last, Some(Day::parse(b"2024-06-30")?));
+    Ok(())
+}

@@ -1,0 +1,384 @@
+//! Registers in memory, bound, posted to and read back.
+ghost use Rattle.std.specs.Prelude.{◌≡◌, ◌∷◌, [], true, reverse, IfOk};
+ghost use Rattle.register_store.specs.StoredRows.{Content};
+
+use super::{MUSEUM, SMALL};
+use codes_core::{Day, Name, PlaceCode, ThingCode};
+use nest_core::{PlaceNo, Setup, StationNo, ThingNo};
+use posting_core::{Changes, Entry, Ledger, Message, NewLines, NewSpot, NewSpots, Spot, Verdict};
+use register_store::{PlainRegister, Register, StoreFault, message_text};
+use std::alloc::Global;
+use std::test::Fail;
+
+const MOVED: &str =
+    "1 1 Applied {\"day\":\"2024-05-01\",\"kind\":\"move\",\"place\":\"S1\",\"thing\":\"2001.4.1\"}";
+
+const SIGNED: &str = "0 1 Applied {\"by\":\"A. Keeper\",\"kind\":\"signoff\"}";
+
+/// The one entry's station, its number and its row's number, and whether the row is damaged.
+const CASES: &[(u32, u32, u64, bool)] = &[
+    (1, 1, 1, false),
+    (1, 999_999, 1, false),
+    (1, 1, 2, true),
+    (2, 1, 1, true),
+    (1, 0, 1, true),
+    (1, 1_000_000, 1, true),
+];
+
+const PACK: StationNo = 0;
+
+const GAL: StationNo = 1;
+
+/// Thing 2 of the setup is 2001.4.1, place 0 is S1.
+const OBJECT: ThingNo = 2;
+
+const S1: PlaceNo = 0;
+
+fn setup(alloc: Global, text: &str) -> Result<Setup, Fail> {
+    Ok(Setup::read(alloc, text.as_bytes())?)
+}
+
+fn day() -> Result<Day, Fail> {
+    Ok(Day::parse(b"2024-05-01")?)
+}
+
+/// The move of 2001.4.1 to S1.
+fn moved(station: StationNo, n: u32) -> Result<Entry, Fail> {
+    let message = Message::Move {
+        thing: ThingCode::parse(b"2001.4.1")?,
+        place: PlaceCode::parse(b"S1")?,
+        day: day()?,
+    };
+    Ok(Entry {
+        station,
+        n,
+        message,
+        verdict: Verdict::Applied,
+    })
+}
+
+fn signed(alloc: Global, station: StationNo, n: u32) -> Result<Entry, Fail> {
+    let name = Name::new(alloc, b"A. Keeper")?;
+    Ok(Entry {
+        station,
+        n,
+        message: Message::SignOff { name },
+        verdict: Verdict::Applied,
+    })
+}
+
+/// The changes of an entry that writes no spot.
+fn nothing(alloc: Global, entry: u64) -> Changes
+    ensures { result.entry ≡ entry }
+{
+    Changes {
+        entry,
+        verdict: Verdict::Applied,
+        spots: NewSpots::new(alloc),
+        lines: NewLines::new(alloc),
+    }
+}
+
+/// The changes of an entry that brings 2001.4.1 to S1.
+fn brought(alloc: Global, entry: u64) -> Result<Changes, Fail>
+    ensures { IfOk result (λ changes. changes.entry ≡ entry) }
+{
+    let mut changes = nothing(alloc, entry);
+    let spot = Spot {
+        entry,
+        place: S1,
+        day: day()?,
+    };
+    changes.spots.push(NewSpot {
+        thing: OBJECT,
+        k: 1,
+        spot,
+    })?;
+    Ok(changes)
+}
+
+/// Binds an empty register, posts two entries and reads all, by what every register promises.
+fn keep_two<R: Register>(
+    alloc: Global,
+    register: &mut R,
+    setup: &Setup,
+    first: &Entry,
+    first_changes: &Changes,
+    second: &Entry,
+    second_changes: &Changes,
+) -> Result<Vec<Entry>, StoreFault>
+    requires first_number { first_changes.now.entry ≡ 1 }
+    requires second_number { second_changes.now.entry ≡ 2 }
+    ensures { R.is_quiet register.new → IfOk result (λ entries. (c : Content) → R.holds register.old c → c.postings ≡ []
+        → reverse entries.items ≡ second.now ∷ first.now ∷ []) }
+{
+    register.bind(alloc, setup)?;
+    register.post(alloc, first, first_changes)?;
+    register.post(alloc, second, second_changes)?;
+    register.all(alloc)
+}
+
+/// The same in memory.
+fn kept_in_memory(
+    alloc: Global,
+    setup: &Setup,
+    first: &Entry,
+    first_changes: &Changes,
+    second: &Entry,
+    second_changes: &Changes,
+) -> Result<Vec<Entry>, StoreFault>
+    requires first_number { first_changes.now.entry ≡ 1 }
+    requires second_number { second_changes.now.entry ≡ 2 }
+{
+    let mut register = PlainRegister::new(alloc);
+    keep_two(
+        alloc,
+        &mut register,
+        setup,
+        first,
+        first_changes,
+        second,
+        second_changes,
+    )
+}
+
+/// A move and another station's sign-off, read back.
+fn two_read_back(alloc: Global) -> Result<Vec<Entry>, Fail> {
+    let moved = moved(GAL, 1)?;
+    let brought = brought(alloc, 1)?;
+    let signed = signed(alloc, PACK, 1)?;
+    let setup = setup(alloc, MUSEUM)?;
+    let nothing = nothing(alloc, 2);
+    Ok(kept_in_memory(alloc, &setup, &moved, &brought, &signed, &nothing)?)
+}
+
+/// An entry's station, its number and the text of its message.
+fn described(alloc: Global, entry: &Entry) -> Result<String, Fail> {
+    let text = message_text(alloc, &entry.message)?;
+    let (station, n, verdict) = (entry.station, entry.n, entry.verdict.name());
+    Ok(format!(in alloc; "{station} {n} {verdict} {text}")?)
+}
+
+#[test]
+fn two_entries(rt: HostRuntime) -> Result<(), Fail> {
+    let entries = two_read_back(rt.alloc())?;
+    assert_eq!(rt; entries.len(), 2);
+    let first = described(rt.alloc(), &entries[0])?;
+    assert_eq!(rt; first.as_str(), MOVED);
+    let second = described(rt.alloc(), &entries[1])?;
+    assert_eq!(rt; second.as_str(), SIGNED);
+    Ok(())
+}
+
+/// A register bound to one setup, posted to and bound to another: the answer, and how many entries there are then.
+fn bind_twice<R: Register>(
+    alloc: Global,
+    register: &mut R,
+    first: &Setup,
+    again: &Setup,
+    entry: &Entry,
+    changes: &Changes,
+) -> Result<(Result<u32, StoreFault>, usize), StoreFault> {
+    register.bind(alloc, first)?;
+    register.post(alloc, entry, changes)?;
+    let answer = register.bind(alloc, again);
+    Ok((answer, register.all(alloc)?.len()))
+}
+
+fn bound_in_memory(
+    alloc: Global,
+    first: &Setup,
+    again: &Setup,
+    entry: &Entry,
+    changes: &Changes,
+) -> Result<(Result<u32, StoreFault>, usize), StoreFault> {
+    let mut register = PlainRegister::new(alloc);
+    bind_twice(alloc, &mut register, first, again, entry, changes)
+}
+
+#[test]
+fn bound_to_one_setup(rt: HostRuntime) -> Result<(), Fail> {
+    let moved = moved(GAL, 1)?;
+    let brought = brought(rt.alloc(), 1)?;
+    let large = setup(rt.alloc(), MUSEUM)?;
+    let small = setup(rt.alloc(), SMALL)?;
+    let same = bound_in_memory(rt.alloc(), &large, &large, &moved, &brought);
+    assert_eq!(rt; same, Ok((Ok(12), 1)));
+    let other = bound_in_memory(rt.alloc(), &large, &small, &moved, &brought);
+    assert_eq!(rt; other, Ok((Err(StoreFault::OtherSetup), 1)));
+    Ok(())
+}
+
+/// Whether a register with this posting agrees with a ledger.
+fn agree_after<R: Register>(
+    alloc: Global,
+    register: &mut R,
+    ledger: &Ledger,
+    entry: &Entry,
+    changes: &Changes,
+) -> Result<bool, StoreFault> {
+    register.bind(alloc, ledger.setup())?;
+    register.post(alloc, entry, changes)?;
+    register.agrees(alloc, ledger)
+}
+
+fn agreed_in_memory(
+    alloc: Global,
+    ledger: &Ledger,
+    entry: &Entry,
+    changes: &Changes,
+) -> Result<bool, StoreFault> {
+    let mut register = PlainRegister::new(alloc);
+    agree_after(alloc, &mut register, ledger, entry, changes)
+}
+
+#[test]
+fn agrees_with_the_ledger(rt: HostRuntime) -> Result<(), Fail> {
+    let moved = moved(PACK, 1)?;
+    let brought = brought(rt.alloc(), 1)?;
+    let nothing = nothing(rt.alloc(), 1);
+    let ledger = Ledger::new(rt.alloc(), setup(rt.alloc(), MUSEUM)?, 12)?;
+    let more = agreed_in_memory(rt.alloc(), &ledger, &moved, &brought);
+    assert_eq!(rt; more, Ok(false));
+    let same = agreed_in_memory(rt.alloc(), &ledger, &moved, &nothing);
+    assert_eq!(rt; same, Ok(true));
+    Ok(())
+}
+
+/// What reading all answers where these are the entries, under these numbers.
+fn read_after<R: Register>(
+    alloc: Global,
+    register: &mut R,
+    setup: &Setup,
+    entries: &[(Entry, u64)],
+) -> Result<(), StoreFault> {
+    register.bind(alloc, setup)?;
+    for i in 0..entries.len() {
+        let (entry, number) = &entries[i];
+        register.post(alloc, entry, &nothing(alloc, *number))?;
+    }
+    register.all(alloc)?;
+    Ok(())
+}
+
+fn read_in_memory(alloc: Global, setup: &Setup, entries: &[(Entry, u64)]) -> Option<StoreFault> {
+    let mut register = PlainRegister::new(alloc);
+    read_after(alloc, &mut register, setup, entries).err()
+}
+
+#[test]
+fn damaged_rows(rt: HostRuntime) -> Result<(), Fail> {
+    let setup = setup(rt.alloc(), MUSEUM)?;
+    let damaged = Some(StoreFault::Damaged(1));
+    for (station, n, number, want) in CASES {
+        let entry = [(moved(*station, *n)?, *number)];
+        let got = read_in_memory(rt.alloc(), &setup, &entry);
+        assert_eq!(rt; got.is_some(), *want, "{station} {n} {number}");
+        assert!(rt; got.is_none() || got == damaged);
+    }
+    Ok(())
+}
+
+#[test]
+fn rows_in_the_order_of_their_numbers(rt: HostRuntime) -> Result<(), Fail> {
+    let setup = setup(rt.alloc(), MUSEUM)?;
+    let entries = [(moved(GAL, 2)?, 2), (moved(GAL, 1)?, 1)];
+    assert_eq!(rt; read_in_memory(rt.alloc(), &setup, &entries), None);
+    let missing = read_in_memory(rt.alloc(), &setup, &entries[..1]);
+    assert_eq!(rt; missing, Some(StoreFault::Damaged(1)));
+    Ok(())
+}
+
+/// How many entries there are; asked again where a growth is refused.
+fn count_of<R: Register>(alloc: Global, register: &mut R) -> Result<usize, StoreFault>
+    requires { R.is_bound register.old ≡ true }
+    ensures { R.is_bound register.new ≡ true }
+{
+    match register.all(alloc) {
+        Ok(entries) => Ok(entries.len()),
+        Err(_) => Ok(register.all(alloc)?.len()),
+    }
+}
+
+/// Whether it agrees with the ledger; asked again where a growth is refused.
+fn agrees_with<R: Register>(
+    alloc: Global,
+    register: &mut R,
+    ledger: &Ledger,
+) -> Result<bool, StoreFault>
+    requires { R.is_bound register.old ≡ true }
+    ensures { R.is_bound register.new ≡ true }
+{
+    match register.agrees(alloc, ledger) {
+        Ok(same) => Ok(same),
+        Err(_) => register.agrees(alloc, ledger),
+    }
+}
+
+/// How a posting went: whether it is posted, how many entries there are then, and whether there is no spot.
+type Posted = (bool, usize, bool);
+
+const POSTED: Posted = (true, 1, false);
+
+const NOT_POSTED: Posted = (false, 0, true);
+
+/// Posts an entry; the ledger has none.
+fn post_once<R: Register>(
+    alloc: Global,
+    register: &mut R,
+    ledger: &Ledger,
+    entry: &Entry,
+    changes: &Changes,
+) -> Result<Posted, StoreFault>
+    requires { R.is_bound register.old ≡ true }
+    ensures { R.is_bound register.new ≡ true }
+{
+    let posted = register.post(alloc, entry, changes).is_ok();
+    let count = count_of(alloc, register)?;
+    let same = agrees_with(alloc, register, ledger)?;
+    Ok((posted, count, same))
+}
+
+/// Binds a register to the ledger's setup or, where a growth is refused, to another one; posts to it, and once more
+/// where a growth is refused. How it went, and how it went at last.
+fn post_at_last<R: Register>(
+    alloc: Global,
+    register: &mut R,
+    ledger: &Ledger,
+    other: &Setup,
+    entry: &Entry,
+    changes: &Changes,
+) -> Result<(Posted, Posted), StoreFault> {
+    if register.bind(alloc, ledger.setup()).is_err() {
+        register.bind(alloc, other)?;
+    }
+    let once = post_once(alloc, register, ledger, entry, changes)?;
+    if once.0 {
+        return Ok((once, once));
+    }
+    let last = post_once(alloc, register, ledger, entry, changes)?;
+    Ok((once, last))
+}
+
+fn posted_in_memory(
+    alloc: Global,
+    ledger: &Ledger,
+    other: &Setup,
+    entry: &Entry,
+    changes: &Changes,
+) -> Result<(Posted, Posted), StoreFault> {
+    let mut register = PlainRegister::new(alloc);
+    post_at_last(alloc, &mut register, ledger, other, entry, changes)
+}
+
+/// A call whose growth is refused leaves the register as it was; to be run with each growth refused in turn.
+#[test]
+fn refused_growths(rt: HostRuntime) -> Result<(), Fail> {
+    let entry = moved(0, 1)?;
+    let changes = brought(rt.alloc(), 1)?;
+    let small = setup(rt.alloc(), SMALL)?;
+    let ledger = Ledger::new(rt.alloc(), setup(rt.alloc(), MUSEUM)?, 12)?;
+    let posted = posted_in_memory(rt.alloc(), &ledger, &small, &entry, &changes);
+    assert!(rt; posted == Ok((POSTED, POSTED)) || posted == Ok((NOT_POSTED, POSTED)));
+    Ok(())
+}

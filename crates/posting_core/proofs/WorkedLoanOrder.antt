@@ -1,0 +1,100 @@
+-- The order of the verdicts on loans computed on worked rows: where two neighbouring causes hold, the first is told.
+use Rattle.std.specs.Prelude.{ℕ, ◌≡◌, List, [], ◌∷◌, map, refl, codes}
+use Rattle.posting_core.specs.declared.message.Message.{Message}
+use Rattle.posting_core.specs.declared.message.Message.TheVariants.{Agree, Return, Receive, Extend}
+use Rattle.posting_core.specs.declared.verdict.Verdict.{Verdict}
+use Rattle.posting_core.specs.declared.verdict.Verdict.TheVariants.{UnknownThing, UnknownPlace, ElsewherePlace, UnknownLoan, LoanKnown, InsidePartner, NotObject, Repeated, WrongOwner, NotAuthorised, WrongDirection, NotHere, NotWithPartner, AlreadyHere, NotListed, WrongStage}
+use Rattle.posting_core.specs.declared.entry.Entry.{Entry}
+use Rattle.posting_core.specs.Verdicts.{verdict}
+use Rattle.posting_core.proofs.WorkedRows.{museum, pack, may, moved, run}
+use Rattle.posting_core.proofs.WorkedLoansOut.{may_31, june_1, loan_1, agreed, authorised, leaves}
+use Rattle.posting_core.proofs.WorkedLoansIn.{april_30, loan_in_1, borrowing}
+
+abbrev first_object : List ℕ
+first_object = codes "2001.4.1"
+
+-- a loan out and a loan in are agreed, and not authorised
+abbrev drafts : List Entry
+drafts = run [] ((pack, agreed loan_1 (first_object ∷ [])) ∷ (pack, borrowing) ∷ [])
+
+abbrev both_authorised : List Entry
+both_authorised = run drafts ((pack, authorised loan_1) ∷ (pack, authorised loan_in_1) ∷ [])
+
+-- the listed object and another are here; the first has left and come back
+abbrev came_back : List Entry
+came_back = run both_authorised (
+    (pack, moved first_object (codes "S1"))
+    ∷ (pack, moved (codes "2001.4.2") (codes "S1"))
+    ∷ (pack, leaves first_object loan_1 may)
+    ∷ (pack, Return first_object loan_1 (codes "S1") may)
+    ∷ [])
+
+-- the borrowed object came and was given back
+abbrev given_back : List Entry
+given_back = run both_authorised (
+    (pack, Receive (codes "L1999.7") loan_in_1 (codes "S1") may)
+    ∷ (pack, leaves (codes "L1999.7") loan_in_1 may)
+    ∷ [])
+
+abbrev told_after : List Entry → List Message → List Verdict
+told_after P ms = map (verdict museum 8 P) ms
+
+-- the last three list a container twice, a borrowed object twice, and a borrowed object for a term that ends before it begins
+agree : told_after drafts (
+    Agree (codes "LO2024.9") (codes "S9") (codes "2009.1" ∷ []) may may_31
+    ∷ Agree loan_1 (codes "S9") (first_object ∷ []) may may_31
+    ∷ Agree loan_1 (codes "S1") (first_object ∷ []) may may_31
+    ∷ Agree (codes "LO2024.9") (codes "S1") [] may may_31
+    ∷ agreed (codes "LO2024.9") (codes "C1" ∷ codes "C1" ∷ [])
+    ∷ agreed (codes "LO2024.9") (codes "L1999.7" ∷ codes "L1999.7" ∷ [])
+    ∷ Agree (codes "LO2024.9") (codes "MUSEUM-X") (codes "L1999.7" ∷ []) may april_30
+    ∷ [])
+    ≡ UnknownThing ∷ UnknownPlace ∷ LoanKnown ∷ InsidePartner ∷ NotObject ∷ Repeated ∷ WrongOwner ∷ []
+agree = refl
+
+exit-drafts : told_after drafts (
+    leaves (codes "2009.1") (codes "LO2024.9") may
+    ∷ leaves (codes "C1") (codes "LI2024.9") may
+    ∷ leaves (codes "C1") loan_in_1 may
+    ∷ leaves first_object loan_1 may
+    ∷ [])
+    ≡ UnknownThing ∷ UnknownLoan ∷ NotObject ∷ NotAuthorised ∷ []
+exit-drafts = refl
+
+exit-authorised : told_after both_authorised (leaves (codes "2001.4.2") loan_1 may ∷ []) ≡ NotHere ∷ []
+exit-authorised = refl
+
+-- what is not listed has no stage wanted either; the line of what came back isn't awaited, and the term is over
+exit-here : told_after came_back (leaves (codes "2001.4.2") loan_1 may ∷ leaves first_object loan_1 june_1 ∷ []) ≡ NotListed ∷ WrongStage ∷ []
+exit-here = refl
+
+return-drafts : told_after drafts (
+    Return (codes "2009.1") loan_1 (codes "S9") may
+    ∷ Return first_object (codes "LO2024.9") (codes "MUSEUM-X") may
+    ∷ Return first_object (codes "LO2024.9") (codes "S1") may
+    ∷ Return first_object loan_in_1 (codes "S1") may
+    ∷ [])
+    ≡ UnknownThing ∷ ElsewherePlace ∷ UnknownLoan ∷ NotAuthorised ∷ []
+return-drafts = refl
+
+return-authorised : told_after both_authorised (Return first_object loan_in_1 (codes "S1") may ∷ Return (codes "2001.4.2") loan_1 (codes "S1") may ∷ []) ≡ WrongDirection ∷ NotWithPartner ∷ []
+return-authorised = refl
+
+receive-drafts : told_after drafts (
+    Receive (codes "2009.1") loan_in_1 (codes "S9") may
+    ∷ Receive first_object (codes "LI2024.9") (codes "MUSEUM-X") may
+    ∷ Receive (codes "C1") (codes "LI2024.9") (codes "S1") may
+    ∷ Receive (codes "C1") loan_in_1 (codes "S1") may
+    ∷ Receive first_object loan_1 (codes "S1") may
+    ∷ [])
+    ≡ UnknownThing ∷ ElsewherePlace ∷ UnknownLoan ∷ NotObject ∷ NotAuthorised ∷ []
+receive-drafts = refl
+
+receive-here : told_after came_back (Receive first_object loan_1 (codes "S1") may ∷ Receive (codes "2001.4.2") loan_in_1 (codes "S1") may ∷ []) ≡ WrongDirection ∷ AlreadyHere ∷ []
+receive-here = refl
+
+receive-given_back : told_after given_back (Receive (codes "2001.4.2") loan_in_1 (codes "S1") may ∷ Receive (codes "L1999.7") loan_in_1 (codes "S1") june_1 ∷ []) ≡ NotListed ∷ WrongStage ∷ []
+receive-given_back = refl
+
+extend : told_after drafts (Extend (codes "LO2024.9") june_1 ∷ Extend loan_1 april_30 ∷ []) ≡ UnknownLoan ∷ NotAuthorised ∷ []
+extend = refl
