@@ -1,5 +1,6 @@
 -- The posted list cut to one station is that station's run.
-use Rattle.std.proofs.Common.{◌≡◌, ◌≢◌, ℕ, zero, suc, ◌+◌, ◌-◌, ◌<◌, ◌==◌, true, false, List, [], ◌∷◌, ◌++◌, length, Option, Some, None, refl, ap, ◌∙◌, sym, subst, arith, append_assoc, append-nil}
+use Rattle.std.proofs.Common.{◌≡◌, ◌≢◌, ℕ, zero, suc, ◌+◌, ◌-◌, ◌<◌, ◌==◌, inl, inr, ⊎_elim, true, false, List, [], ◌∷◌, ◌++◌, length, Option, Some, None, refl, ap, ◌∙◌, sym, subst, arith, append_assoc, append-nil}
+use Rattle.std.proofs.lemmas.Bool.{cases_eq, ne_eqb}
 use Rattle.std.proofs.lemmas.Bool.Decides.{nat_tests}
 use Rattle.std.specs.Prelude.{fold}
 use Rattle.std.proofs.lemmas.List.Sums.{fold-append}
@@ -9,7 +10,6 @@ use Rattle.posting_core.specs.declared.entry.Entry.{Entry}
 use Rattle.posting_core.specs.Messages.{is_sign_off}
 use Rattle.station_core.specs.declared.Refusal.{Refusal}
 use Rattle.station_core.specs.Runs.{Arrived, arrived, message_at, ready, refusal, taken_after, numbered, due, run}
-use Rattle.station_core.proofs.BoolLemmas.{by_bool}
 use Rattle.station_core.proofs.StationLemmas.{accepted}
 use Rattle.station_core.proofs.GrowLemmas.{starts_next, run_grows, run_other}
 use Rattle.station_core.proofs.RunLemmas.{at_its_number, ready_is, stops_at_missing}
@@ -30,8 +30,7 @@ module _ (S : Museum) (depth : ℕ) where
 
   cut_post_other : (s : ℕ) (P : List Entry) (r : Arrived Message) → r.station ≢ s → cut s (post S depth P r) ≡ cut s P
   cut_post_other s P r h =
-      let e : (r.station == s) ≡ false = by_bool (r.station == s) (λ t. let q : r.station ≡ s = grind (arith, nat_tests) in absurd (h q)) (λ f. f) in
-      rw e refl
+      let e : (r.station == s) ≡ false = ne_eqb r.station s h in rw e refl
 
   cut_numbered_same : (s n : ℕ) (o : Option Message) (P : List Entry) → cut s (fold (post S depth) P (numbered s n o)) ≡ cut s P ++ numbered s n o
   cut_numbered_same s n None P = sym (append-nil (cut s P))
@@ -58,11 +57,10 @@ module _ (S : Museum) (depth : ℕ) where
       let taken = p.taken ++ seen r ∷ [] in
       let k = ready is_sign_off p.taken r.station in
       let d = ready is_sign_off taken r.station - k in
-      by_bool (r.station == s)
-      (λ t. let e : r.station ≡ s = grind (arith, nat_tests) in
-      rw (← e) (cut_due_same taken r.station k d p.posted ∙ rw (runs r.station) (sym (run_grows is_sign_off p.taken (seen r) low))))
-      (λ f. let other : r.station ≢ s = grind (arith, nat_tests) in
-      cut_due_other taken r.station s k d p.posted other ∙ (runs s ∙ sym (run_other is_sign_off p.taken (seen r) s other)))
+      elim (cases_eq r.station s) [
+        | inl e ↦ rw (← e) (cut_due_same taken r.station k d p.posted ∙ rw (runs r.station) (sym (run_grows is_sign_off p.taken (seen r) low)))
+        | inr other ↦ cut_due_other taken r.station s k d p.posted other ∙ (runs s ∙ sym (run_other is_sign_off p.taken (seen r) s other))
+      ]
 
   runs_after : (p : Point) (r : Arrival) → AreRuns p → AreRuns (point_after S depth p r)
   runs_after p r runs = by_refusal (refusal is_sign_off (length S.stations) p.taken r.station r.n) refl
@@ -101,12 +99,11 @@ module _ (S : Museum) (depth : ℕ) where
   pub lawful_run : (P : List Entry) (s : ℕ) → IsLawful S depth P → cut s P ≡ run is_sign_off (sent P) s
   lawful_run [] s law = refl
   lawful_run (e ∷ P) s law =
-      (by_bool (e.station == s)
-      (λ t. let q : e.station ≡ s = grind (arith, nat_tests) in
-      subst (λ u. cut u (e ∷ P) ≡ run is_sign_off (sent P ++ arrival_of e ∷ []) u) q
+      (⊎_elim
+      (λ q. subst (λ u. cut u (e ∷ P) ≡ run is_sign_off (sent P ++ arrival_of e ∷ []) u) q
       (cut_post_same e.station P (arrival_of e) refl ∙ (ap (λ xs. xs ++ arrival_of e ∷ []) (lawful_run P e.station law.1) ∙ sym (run_next e P law.0 law.1))))
-      (λ f. let q : e.station ≢ s = grind (arith, nat_tests) in
-      cut_post_other s P (arrival_of e) q ∙ (lawful_run P s law.1 ∙ sym (run_other is_sign_off (sent P) (arrival_of e) s q))))
+      (λ q. cut_post_other s P (arrival_of e) q ∙ (lawful_run P s law.1 ∙ sym (run_other is_sign_off (sent P) (arrival_of e) s q)))
+      (cases_eq e.station s))
       ∙ ap (λ (taken : List (Arrived Message)). run is_sign_off taken s) (sym (sent_next e P))
 
   -- a lawful list was lawful before

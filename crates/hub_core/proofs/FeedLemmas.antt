@@ -1,11 +1,12 @@
 -- Pieces of a line.
-use Rattle.std.proofs.Common.{◌≡◌, ◌≢◌, ℕ, zero, suc, ◌+◌, ◌-◌, ◌<◌, ◌≤◌, min, Bool, true, false, List, [], ◌∷◌, ◌++◌, length, take, get_or, Option, None, Some, IfSome, refl, ap, ◌∙◌, sym, subst, arith, append_assoc, append-nil, length-append}
-use Rattle.std.specs.Prelude.{OnSome}
-use Rattle.std.specs.Io.KnownBytes.{Consumes, Keeps, IsAtEnd}
+use Rattle.std.proofs.Common.{◌≡◌, ◌≢◌, ℕ, zero, suc, ◌+◌, ◌-◌, ◌<◌, ◌≤◌, min, List, [], ◌∷◌, ◌++◌, length, take, get_or, Option, None, Some, refl, ap, ◌∙◌, sym, subst, arith, append-nil}
+use Rattle.std.specs.Prelude.{OnSome, unwrap_or}
+use Rattle.std.specs.Io.KnownBytes.{Consumes, IsAtEnd}
 use Rattle.std.proofs.lemmas.List.{take_more}
+use Rattle.memchr.specs.Find.{Nowhere, Passes, IsFirstByte, is_byte}
 use Rattle.hub_core.specs.declared.line_reader.End.{End}
 use Rattle.hub_core.specs.declared.line_reader.End.TheVariants.{Feed, Input, Open}
-use Rattle.hub_core.specs.Reading.{HasNoFeed, feed_if, is_feed, TakesPiece}
+use Rattle.hub_core.specs.Reading.{HasNoFeed, feed_if, is_feed}
 
 pub no_feed_join : (p q : List ℕ) → HasNoFeed p → HasNoFeed q → HasNoFeed (p ++ q)
 no_feed_join [] q h k = k
@@ -14,6 +15,21 @@ no_feed_join (x ∷ p) q h k = (h.0, no_feed_join p q h.1 k)
 -- one more byte that is no line feed
 pub no_feed_more : (bytes : List ℕ) (i d : ℕ) → i < length bytes → HasNoFeed (take i bytes) → get_or bytes i d ≢ 10 → HasNoFeed (take (i + 1) bytes)
 no_feed_more bytes i d less h ne = subst HasNoFeed (sym (take_more bytes i d less)) (no_feed_join (take i bytes) (get_or bytes i d ∷ []) h (ne, tt))
+
+-- no line feed among the bytes that a search passed over
+none_fed : (bytes : List ℕ) (n : ℕ) → n ≤ length bytes → Nowhere (Passes (is_byte 10) bytes) 0 n → HasNoFeed (take n bytes)
+none_fed bytes zero within none = tt
+none_fed bytes (suc n) within none =
+    let on : n + 1 ≡ suc n = omega arith in
+    let first : HasNoFeed (take n bytes) = none_fed bytes n (omega arith) (λ k low high. none k low (omega arith)) in
+    subst (λ m. HasNoFeed (take m bytes)) on (no_feed_more bytes n 0 (omega arith) first (λ e. none n (omega arith) (omega arith) (rw e refl)))
+
+-- none before the place that it found, or among all bytes
+pub none_before : (bytes : List ℕ) (found : Option ℕ) (n : ℕ) → IsFirstByte (is_byte 10) bytes found → n ≡ unwrap_or found (length bytes) → HasNoFeed (take n bytes)
+none_before bytes None n first e = subst (λ m. HasNoFeed (take m bytes)) (sym e) (none_fed bytes (length bytes) (omega arith) first)
+none_before bytes (Some k) n first e =
+    let below : k < length bytes = first.0.high in
+    subst (λ m. HasNoFeed (take m bytes)) (sym e) (none_fed bytes k (omega arith) first.0.before)
 
 -- the first `most` bytes of a line that grows
 pub take_join : (most n : ℕ) (line piece : List ℕ) → n ≡ min (length piece) (most - length (take most line)) → take most line ++ take n piece ≡ take most (line ++ piece)

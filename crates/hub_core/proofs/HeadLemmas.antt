@@ -1,10 +1,11 @@
 -- The head of a run, line by line.
 use Rattle.std.proofs.Common.{◌≡◌, ℕ, suc, ◌+◌, ◌-◌, ◌<◌, ◌≤◌, ◌==◌, ◌||◌, Bool, true, false, true≢false, if◌then◌else◌, ◌⊎◌, inl, inr, ◌≢◌, nat_eq, List, [], ◌∷◌, ◌++◌, length, length-append, length-take, take, drop, refl, ap, ◌∙◌, sym, arith, append_assoc, append-nil, cond, not}
 use Rattle.std.specs.List.{concat, before_first, after_first, list_any, prefix_len, ends_with}
+use Rattle.std.proofs.lemmas.Bool.{or_parts}
 use Rattle.std.proofs.lemmas.Bool.Decides.{eqb_tells}
 use Rattle.std.proofs.lemmas.List.Folds.{concat-append, list_any-append}
 use Rattle.hub_core.specs.Reading.{HasNoFeed}
-use Rattle.hub_core.specs.LineText.{before, pieces, is_empty, is_blank, without_return, head, after_head}
+use Rattle.hub_core.specs.Lines.{before, pieces, is_empty, is_blank, without_return, head, after_head}
 use Rattle.hub_core.specs.WholeRun.{has_empty_line}
 use Rattle.hub_core.proofs.FeedLemmas.{no_feed_join}
 use Rattle.hub_core.proofs.LineLemmas.{IsWhole, whole_none, whole_more, ended_whole, line_fed, line_last, pieces_fed, pieces_last}
@@ -49,21 +50,17 @@ module _ {X : Type 0} (test : X → Bool) where
       let more : (1 + n) + 1 ≡ suc (n + 1) = omega arith in
       ap (after_next x xs) e ∙ ap (λ k. drop k (x ∷ xs)) more
 
-  both_false : (a b : Bool) → (a || b) ≡ false → (a ≡ false) × (b ≡ false)
-  both_false true b e = absurd (true≢false e)
-  both_false false b e = (refl, e)
-
   -- none of the first elements passes
   pub before_none : (xs ys : List X) → list_any test xs ≡ false → before_first test (xs ++ ys) ≡ xs ++ before_first test ys
   before_none [] ys h = refl
   before_none (x ∷ xs) ys h =
-      let both = both_false (test x) (list_any test xs) h in
+      let both = or_parts (test x) (list_any test xs) h in
       before_failed x (xs ++ ys) both.0 ∙ ap (λ (l : List X). x ∷ l) (before_none xs ys both.1)
 
   pub after_none : (xs ys : List X) → list_any test xs ≡ false → after_first test (xs ++ ys) ≡ after_first test ys
   after_none [] ys h = refl
   after_none (x ∷ xs) ys h =
-      let both = both_false (test x) (list_any test xs) h in
+      let both = or_parts (test x) (list_any test xs) h in
       after_failed x (xs ++ ys) both.0 ∙ after_none xs ys both.1
 
 -- whole lines of which none is empty

@@ -10,7 +10,7 @@ use Rattle.hub_core.specs.declared.running.TheConstants.{LONGEST_HEAD}
 use Rattle.hub_core.specs.declared.running.RunFault.{RunFault}
 use Rattle.hub_core.specs.declared.running.RunFault.TheVariants.{NoMemory, Store, ReadFailed, WriteFailed, Setup, HeadTooLong}
 use Rattle.hub_core.specs.Reading.{HasNoFeed, feed_if, TakesLine}
-use Rattle.hub_core.specs.LineText.{is_empty, without_return, head, after_head}
+use Rattle.hub_core.specs.Lines.{is_empty, without_return, head, after_head}
 use Rattle.hub_core.specs.WholeRun.{head_fault, InHead, TakesHead, StopsInLine, BeforeLines, has_empty_line}
 use Rattle.hub_core.proofs.FeedLemmas.{end_after}
 use Rattle.hub_core.proofs.HeadLemmas.{IsFull, full_more, head_behind, after_behind, head_ends, after_ends, head_blank, head_last, after_last, head_goes_on, head_grows, kept_blank, part_of}

@@ -1,6 +1,6 @@
 -- A line of which the first bytes are kept.
-use Rattle.std.proofs.Common.{◌≡◌, ℕ, zero, suc, ◌+◌, ◌-◌, ◌<◌, ◌≤◌, Bool, true, false, if◌then◌else◌, List, [], ◌∷◌, ◌++◌, length, take, refl, ap, ◌∙◌, sym, arith, take_all, length-take-le, codes}
-use Rattle.std.specs.Prelude.{nat_eq, nat_lt, nat_le}
+use Rattle.std.proofs.Common.{◌≡◌, ℕ, ◌+◌, ◌-◌, ◌<◌, ◌≤◌, Bool, true, false, if◌then◌else◌, List, [], ◌∷◌, length, take, refl, ap, ◌∙◌, sym, arith, take_all, length-take-le, codes}
+use Rattle.std.specs.Prelude.{nat_eq, nat_le}
 use Rattle.std.specs.List.{ends_with}
 use Rattle.std.proofs.lemmas.Bool.Decides.{nat_tests}
 use Rattle.nest_core.specs.Museum.{Museum}
@@ -9,7 +9,8 @@ use Rattle.hub_core.specs.declared.answer.Arrival.{Arrival}
 use Rattle.hub_core.specs.declared.line_reply.TheConstants.{LONGEST_LINE}
 use Rattle.hub_core.specs.Replies.{bad_line}
 use Rattle.hub_core.specs.Requests.{line_in}
-use Rattle.hub_core.specs.LineText.{without_return, is_too_long, is_empty, line_reply, line_arrivals, read_reply, sent}
+use Rattle.hub_core.specs.Lines.{without_return}
+use Rattle.hub_core.specs.LineText.{is_too_long, line_reply, line_arrivals, read_reply, sent}
 
 one_off : (line : List ℕ) (b : Bool) → length line ≤ length (if b then take (length line - 1) line else line) + 1
 one_off line true = let t = length-take-le (length line - 1) line (omega arith) in omega (arith, t)

@@ -1,7 +1,9 @@
 -- Laws of what is posted.
-use Rattle.std.proofs.Common.{◌≡◌, ◌≢◌, ℕ, zero, suc, ◌+◌, ◌<◌, ◌≤◌, ◌==◌, ◌⊎◌, inl, inr, true, false, List, [], ◌∷◌, ◌++◌, length, Some, None, refl, ap, ◌∙◌, sym, arith, length-append}
+use Rattle.std.proofs.Common.{◌≡◌, ◌≢◌, ℕ, zero, suc, ◌+◌, ◌<◌, ◌≤◌, ◌==◌, ◌⊎◌, inl, inr, ⊎_elim, true, false, List, [], ◌∷◌, ◌++◌, length, Some, refl, ap, ◌∙◌, sym, arith, length-append}
 use Rattle.std.specs.Prelude.{slice_get, nat_le, nat_lt}
+use Rattle.std.proofs.lemmas.Bool.{cases_eq, ne_eqb}
 use Rattle.std.proofs.lemmas.Bool.Decides.{nat_tests}
+use Rattle.std.proofs.lemmas.Option.{none-some, same_Some}
 use Rattle.nest_core.specs.Museum.{Museum}
 use Rattle.posting_core.specs.declared.message.Message.{Message}
 use Rattle.posting_core.specs.declared.entry.Entry.{Entry}
@@ -10,7 +12,6 @@ use Rattle.posting_core.specs.Lawful.{count_at, IsLawful}
 use Rattle.station_core.specs.declared.TheConstants.{LAST}
 use Rattle.station_core.specs.declared.Refusal.TheVariants.{Double}
 use Rattle.station_core.specs.Runs.{Arrived, message_at, ready, due}
-use Rattle.station_core.proofs.BoolLemmas.{by_bool}
 use Rattle.station_core.proofs.RunLemmas.{ready_same, due_same}
 use Rattle.hub_core.specs.declared.answer.Arrival.{Arrival}
 use Rattle.hub_core.specs.declared.answer.Answer.TheVariants.{Refused}
@@ -19,16 +20,10 @@ use Rattle.hub_core.proofs.PostLemmas.{count_same, count_other}
 use Rattle.hub_core.proofs.StandLemmas.{refused_at, point_more, point_refused}
 use Rattle.hub_core.proofs.CutLemmas.{each_run}
 
-none_some : {X : Type 0} {x : X} → None ≡ Some x → ⊥
-none_some {X} {x} e = cc
-
-some_same : {X : Type 0} {x y : X} → Some x ≡ Some y → x ≡ y
-some_same {X} {x} {y} e = cc
-
 -- an item of a list with one more at its end
 get_push : {X : Type 0} (xs : List X) (y : X) (i : ℕ) (r : X) → slice_get (xs ++ y ∷ []) i ≡ Some r → (slice_get xs i ≡ Some r) ⊎ ((i ≡ length xs) × (y ≡ r))
-get_push [] y zero r e = inr (refl, some_same e)
-get_push [] y (suc i) r e = absurd (none_some e)
+get_push [] y zero r e = inr (refl, same_Some _ _ e)
+get_push [] y (suc i) r e = absurd (none-some _ e)
 get_push (x ∷ xs) y zero r e = inl e
 get_push (x ∷ xs) y (suc i) r e = elim (get_push xs y i r e) [ inl h ↦ inl h | inr h ↦ inr (ap suc h.0, h.1) ]
 
@@ -36,11 +31,11 @@ cut_same : (s : ℕ) (e : Entry) (P : List Entry) → e.station ≡ s → cut s 
 cut_same s e P h = let t : (e.station == s) ≡ true = grind (arith, nat_tests) in rw t refl
 
 cut_other : (s : ℕ) (e : Entry) (P : List Entry) → e.station ≢ s → cut s (e ∷ P) ≡ cut s P
-cut_other s e P h = let f : (e.station == s) ≡ false = by_bool (e.station == s) (λ t. let q : e.station ≡ s = grind (arith, nat_tests) in absurd (h q)) (λ f. f) in rw f refl
+cut_other s e P h = let f : (e.station == s) ≡ false = ne_eqb e.station s h in rw f refl
 
 -- by whether the entry is the station's
 by_station : {Q : Type 0} (e : Entry) (s : ℕ) → (e.station ≡ s → Q) → (e.station ≢ s → Q) → Q
-by_station e s f g = by_bool (e.station == s) (λ t. f (grind (arith, nat_tests))) (λ t. g (grind (arith, nat_tests)))
+by_station e s f g = ⊎_elim f g (cases_eq e.station s)
 
 cut_length : (s : ℕ) (P : List Entry) → length (cut s P) ≡ count_at s P
 cut_length s [] = refl
@@ -49,7 +44,7 @@ cut_length s (e ∷ P) = by_station e s
     (λ h. ap length (cut_other s e P h) ∙ (cut_length s P ∙ sym (count_other s e P h)))
 
 pub numbered : (S : Museum) (depth : ℕ) (P : List Entry) (s i : ℕ) (r : Arrived Message) → IsLawful S depth P → slice_get (cut s P) i ≡ Some r → r.n ≡ i + 1
-numbered S depth [] s i r law e = absurd (none_some e)
+numbered S depth [] s i r law e = absurd (none-some _ e)
 numbered S depth (e ∷ P) s i r law at = by_station e s
     (λ h. elim (get_push (cut s P) (arrival_of e) i r (ap (λ xs. slice_get xs i) (sym (cut_same s e P h)) ∙ at)) [
       | inl there ↦ numbered S depth P s i r law.1 there

@@ -1,10 +1,9 @@
 -- Bytes as lines.
-use Rattle.std.proofs.Common.{◌≡◌, ◌≢◌, ℕ, zero, suc, ◌+◌, ◌-◌, ◌<◌, ◌≤◌, ◌==◌, Bool, true, false, if◌then◌else◌, List, [], ◌∷◌, ◌++◌, length, take, map, refl, ap, ◌∙◌, sym, subst, arith, append_assoc, append-nil, ne_eqb, not, cond}
-use Rattle.std.specs.Prelude.{flat_map, take_while}
-use Rattle.std.specs.List.{concat, before_first}
+use Rattle.std.proofs.Common.{◌≡◌, ℕ, ◌==◌, if◌then◌else◌, List, [], ◌∷◌, ◌++◌, refl, ap, ◌∙◌, sym, append_assoc, append-nil, ne_eqb, not, cond}
+use Rattle.std.specs.Prelude.{take_while}
 use Rattle.std.proofs.lemmas.List.Sums.{take_while-cons}
-use Rattle.hub_core.specs.Reading.{HasNoFeed, feed_if}
-use Rattle.hub_core.specs.LineText.{before, pieces, line_of, lines, ended, is_empty, without_return}
+use Rattle.hub_core.specs.Reading.{HasNoFeed}
+use Rattle.hub_core.specs.Lines.{before, pieces, line_of, ended, is_empty, without_return}
 
 -- what stands before the line feed
 before_feed : (p rest : List ℕ) → HasNoFeed p → take_while (λ b. not (b == 10)) (p ++ 10 ∷ rest) ≡ p

@@ -1,6 +1,6 @@
 -- A line taken piece by piece.
-use Rattle.std.proofs.Common.{◌≡◌, ◌≢◌, ℕ, ◌+◌, Bool, true, false, List, [], ◌∷◌, ◌++◌, length, take, Option, None, Some, refl, ap, ◌∙◌, sym, subst, append_assoc, append-nil, true≢false}
-use Rattle.std.specs.Io.KnownBytes.{Consumes, Keeps}
+use Rattle.std.proofs.Common.{◌≡◌, ℕ, Bool, true, false, List, ◌++◌, take, Option, ap, sym, subst, append_assoc, append-nil, true≢false}
+use Rattle.std.specs.Io.KnownBytes.{Consumes}
 use Rattle.std.proofs.KnownBytes.{Consumes-trans}
 use Rattle.hub_core.specs.declared.line_reader.End.{End}
 use Rattle.hub_core.specs.declared.line_reader.End.TheVariants.{Feed, Input, Open}

@@ -2,17 +2,15 @@
 use Rattle.std.proofs.Common.{◌≡◌, ℕ, zero, suc, ◌+◌, ◌<◌, ◌≤◌, ◌==◌, ◌&&◌, not, Bool, true, false, List, [], ◌∷◌, ◌++◌, length, Option, Some, None, inl, inr, get_or, refl, ap, ◌∙◌, sym, subst, arith, append_assoc}
 use Rattle.std.specs.Prelude.{map, reverse, replicate, slice_get, slice_set, nat_le, All}
 use Rattle.std.proofs.lemmas.List.Elements.{All-from_get_or}
-use Rattle.std.specs.List.Sorted.{IsPermutation}
-use Rattle.std.proofs.lemmas.Bool.{cases_eq}
+use Rattle.std.proofs.lemmas.Bool.{cases_eq, and_parts, and_from, not-true}
 use Rattle.std.proofs.lemmas.Bool.Decides.{nat_tests}
 use Rattle.std.proofs.lemmas.List.{length-map, length-replicate, map-append, reverse-append}
-use Rattle.std.proofs.lemmas.Option.{slice_get_within, slice_get-get_or}
+use Rattle.std.proofs.lemmas.Option.{none-some, same_Some, slice_get_within, slice_get-get_or}
 use Rattle.nest_core.specs.Museum.{Museum}
 use Rattle.posting_core.specs.declared.message.Message.{Message}
 use Rattle.posting_core.specs.declared.entry.Entry.{Entry}
 use Rattle.posting_core.specs.Messages.{is_sign_off}
 use Rattle.posting_core.specs.declared.entry.Changes.{Changes}
-use Rattle.posting_core.specs.declared.entry.NewSpot.{NewSpot}
 use Rattle.posting_core.specs.Book.{Book, changes_of}
 use Rattle.posting_core.specs.Verdicts.{verdict}
 use Rattle.posting_core.specs.Lawful.{count_at, is_signed_off, Follows, IsLawful}
@@ -21,7 +19,6 @@ use Rattle.station_core.specs.declared.TheConstants.{LAST}
 use Rattle.station_core.specs.Series.{Series, series_at, opened}
 use Rattle.station_core.specs.Runs.{Arrived}
 use Rattle.station_core.specs.Progress.{StartsFrom, AllStart}
-use Rattle.station_core.proofs.BoolLemmas.{and_left, and_right, and_both, not_false}
 use Rattle.station_core.proofs.GrowLemmas.{starts_empty, starts_other, starts_next}
 use Rattle.hub_core.specs.Points.{arrival_of}
 use Rattle.register_store.specs.declared.store_fault.StoreFault.{StoreFault}
@@ -34,12 +31,6 @@ use Rattle.hub_core.proofs.PostLemmas.{IsWritten, written, step_written, count_s
 
 abbrev fresh : Start
 fresh = record { posted = 0; signed = false }
-
-none_some : {X : Type 0} {x : X} → None ≡ Some x → ⊥
-none_some {X} {x} e = cc
-
-some_same : {X : Type 0} {x y : X} → Some x ≡ Some y → x ≡ y
-some_same {X} {x} {y} e = cc
 
 opened_fresh : (n s : ℕ) → s < n → series_at (map opened (replicate n fresh)) s ≡ opened {M = Message} fresh
 opened_fresh zero s less = absurd (omega arith)
@@ -59,8 +50,8 @@ fresh_step S n starts sized h =
 
 -- the series of a start
 opened_at : (starts : List Start) (s : ℕ) (start : Start) → slice_get starts s ≡ Some start → series_at (map opened starts) s ≡ opened {M = Message} start
-opened_at [] s start e = absurd (none_some e)
-opened_at (x ∷ starts) zero start e = ap opened (some_same e)
+opened_at [] s start e = absurd (none-some _ e)
+opened_at (x ∷ starts) zero start e = ap opened (same_Some _ _ e)
 opened_at (x ∷ starts) (suc s) start e = opened_at starts s start e
 
 opened_set : (starts : List Start) (s : ℕ) (start : Start) → map (opened {M = Message}) (slice_set starts s start) ≡ slice_set (map opened starts) s (opened start)
@@ -90,10 +81,11 @@ follows_some : (S : Museum) (depth : ℕ) (P : List Entry) (e : Entry) (starts :
 follows_some S depth P e starts None at step h judged = absurd (cc)
 follows_some S depth P e starts (Some start) at step h judged =
     let is = is_start S P starts e.station start step at in
-    let n : (e.n == start.posted + 1) ≡ true = and_left (e.n == start.posted + 1) (nat_le e.n LAST && not start.signed) h in
-    let rest : (nat_le e.n LAST && not start.signed) ≡ true = and_right (e.n == start.posted + 1) (nat_le e.n LAST && not start.signed) h in
-    let few : nat_le e.n LAST ≡ true = and_left (nat_le e.n LAST) (not start.signed) rest in
-    let off : start.signed ≡ false = not_false start.signed (and_right (nat_le e.n LAST) (not start.signed) rest) in
+    let tests = and_parts (e.n == start.posted + 1) (nat_le e.n LAST && not start.signed) h in
+    let rest = and_parts (nat_le e.n LAST) (not start.signed) tests.1 in
+    let n : (e.n == start.posted + 1) ≡ true = tests.0 in
+    let few : nat_le e.n LAST ≡ true = rest.0 in
+    let off : start.signed ≡ false = not-true start.signed rest.1 in
     let next : e.n ≡ start.posted + 1 = grind (arith, nat_tests) in
     let low : e.n ≤ 999999 = grind (arith, nat_tests) in
     record {
@@ -112,14 +104,14 @@ follows_next S depth P e starts step h judged = follows_some S depth P e starts 
 sends_some : (S : Museum) (depth : ℕ) (P : List Entry) (e : Entry) (starts : List Start) (o : Option Start) → slice_get starts e.station ≡ o → InStep (map opened starts) S P → Follows S depth P e → may_send o e.n ≡ true
 sends_some S depth P e starts None at step f =
     let within : e.station < length starts = subst (λ n. e.station < n) (sym step.stations ∙ length-map starts (opened {M = Message})) f.known in
-    absurd (none_some (sym at ∙ slice_get-get_or starts e.station fresh within))
+    absurd (none-some _ (sym at ∙ slice_get-get_or starts e.station fresh within))
 sends_some S depth P e starts (Some start) at step f =
     let is = is_start S P starts e.station start step at in
     let next : e.n ≡ start.posted + 1 = f.next ∙ ap (λ k. k + 1) (sym is.count) in
     let off : start.signed ≡ false = is.sign ∙ f.unsigned in
     let low : e.n ≤ 999999 = f.few in
-    and_both (e.n == start.posted + 1) (nat_le e.n LAST && not start.signed) (grind (arith, nat_tests))
-    (and_both (nat_le e.n LAST) (not start.signed) (grind (arith, nat_tests)) (rw off refl))
+    and_from (e.n == start.posted + 1) (nat_le e.n LAST && not start.signed) (grind (arith, nat_tests))
+    (and_from (nat_le e.n LAST) (not start.signed) (grind (arith, nat_tests)) (rw off refl))
 
 pub follows_sends : (S : Museum) (depth : ℕ) (P : List Entry) (e : Entry) (starts : List Start) → InStep (map opened starts) S P → Follows S depth P e → may_send (slice_get starts e.station) e.n ≡ true
 follows_sends S depth P e starts step f = sends_some S depth P e starts (slice_get starts e.station) refl step f

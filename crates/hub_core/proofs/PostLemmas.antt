@@ -1,9 +1,11 @@
 -- The posting of what is due.
 use Rattle.std.proofs.Common.{◌≡◌, ◌≢◌, ℕ, suc, ◌+◌, ◌-◌, ◌<◌, ◌≤◌, ◌==◌, ◌||◌, inl, inr, Bool, true, false, List, [], ◌∷◌, length, Some, None, refl, ap, ◌∙◌, sym, subst, arith, length-set, if◌then◌else◌}
 use Rattle.std.specs.Prelude.{fold, slice_set}
+use Rattle.std.proofs.Math.Bool.{or-false}
 use Rattle.std.proofs.lemmas.List.Sums.{fold-append}
-use Rattle.std.proofs.lemmas.Bool.{cases_eq}
+use Rattle.std.proofs.lemmas.Bool.{cases_eq, ne_eqb}
 use Rattle.std.proofs.lemmas.Bool.Decides.{nat_tests}
+use Rattle.std.proofs.lemmas.Option.{none-some}
 use Rattle.nest_core.specs.Museum.{Museum}
 use Rattle.posting_core.specs.declared.message.Message.{Message}
 use Rattle.posting_core.specs.declared.entry.Entry.{Entry}
@@ -18,7 +20,6 @@ use Rattle.station_core.specs.declared.Refusal.TheVariants.{BadNumber, Double, S
 use Rattle.station_core.specs.Series.{Series, series, series_at, counted, closed, refusal_of, refusal_in, held_at, window}
 use Rattle.station_core.specs.Runs.{Arrived, arrived, message_at, ready, due}
 use Rattle.station_core.specs.Progress.{IsPosting, IsEnding, AllMatch, ComesDue}
-use Rattle.station_core.proofs.BoolLemmas.{by_bool}
 use Rattle.station_core.proofs.RunLemmas.{due_next}
 use Rattle.station_core.proofs.StationLemmas.{series_at_set_same, series_at_set_other}
 use Rattle.hub_core.specs.Points.{entry_of, post}
@@ -87,17 +88,13 @@ pub count_same : (s : ℕ) (e : Entry) (P : List Entry) → e.station ≡ s → 
 count_same s e P h = let here : (e.station == s) ≡ true = grind (arith, nat_tests) in rw here (omega arith)
 
 pub count_other : (s : ℕ) (e : Entry) (P : List Entry) → e.station ≢ s → count_at s (e ∷ P) ≡ count_at s P
-count_other s e P h = let there : (e.station == s) ≡ false = by_bool (e.station == s) (λ t. let q : e.station ≡ s = grind (arith, nat_tests) in absurd (h q)) (λ f. f) in rw there (omega arith)
+count_other s e P h = let there : (e.station == s) ≡ false = ne_eqb e.station s h in rw there (omega arith)
 
 pub signed_same : (s : ℕ) (e : Entry) (P : List Entry) (b : Bool) → e.station ≡ s → is_sign_off e.message ≡ b → is_signed_off s P ≡ false → is_signed_off s (e ∷ P) ≡ b
-signed_same s e P b h sign off = let here : (e.station == s) ≡ true = grind (arith, nat_tests) in rw (here, sign, off) (or_nothing b)
-  where
-    or_nothing : (b : Bool) → (b || false) ≡ b
-    or_nothing true = refl
-    or_nothing false = refl
+signed_same s e P b h sign off = let here : (e.station == s) ≡ true = grind (arith, nat_tests) in rw (here, sign, off) (or-false b)
 
 pub signed_other : (s : ℕ) (e : Entry) (P : List Entry) → e.station ≢ s → is_signed_off s (e ∷ P) ≡ is_signed_off s P
-signed_other s e P h = let there : (e.station == s) ≡ false = by_bool (e.station == s) (λ t. let q : e.station ≡ s = grind (arith, nat_tests) in absurd (h q)) (λ f. f) in rw there refl
+signed_other s e P h = let there : (e.station == s) ≡ false = ne_eqb e.station s h in rw there refl
 
 -- one station's series is this one, and the others are as before
 pub record IsWritten (all all' : List (Series Message)) (s : ℕ) (q : Series Message) : Type 0 where
@@ -165,18 +162,15 @@ step_held S P all all' s q step within is posted sign = record {
   ];
 }
 
-some_none : {X : Type 0} {x : X} → Some x ≡ None → ⊥
-some_none {X} {x} e = cc
-
 unsigned_if : (a b c d : Bool) → (if a then Some BadNumber else (if b then Some Double else (if c then Some SignedOff else (if d then Some TooEarly else None)))) ≡ None → c ≡ false
-unsigned_if true b c d h = absurd (some_none h)
-unsigned_if false true c d h = absurd (some_none h)
-unsigned_if false false true d h = absurd (some_none h)
+unsigned_if true b c d h = absurd (none-some _ (sym h))
+unsigned_if false true c d h = absurd (none-some _ (sym h))
+unsigned_if false false true d h = absurd (none-some _ (sym h))
 unsigned_if false false false d h = refl
 
 -- a station whose message is taken isn't signed off
 pub taken_unsigned : (all : List (Series Message)) (s n : ℕ) → refusal_of all s n ≡ None → (series_at all s).signed ≡ false
 taken_unsigned all s n = elim (slice_get all s) as (λ o. refusal_in o n ≡ None → (unwrap_or o (series 0 false [])).signed ≡ false) [
-  | None ↦ λ h. absurd (some_none h)
+  | None ↦ λ h. absurd (none-some _ (sym h))
   | Some q ↦ λ h. unsigned_if ((n == 0) || nat_lt LAST n) (nat_le n q.posted || is_some (held_at q n)) q.signed (nat_lt (q.posted + window) n) h
 ]

@@ -1,8 +1,9 @@
 -- A replay, line by line.
-use Rattle.std.proofs.Common.{◌≡◌, ℕ, zero, suc, ◌+◌, ◌≤◌, Bool, true, false, List, [], ◌∷◌, ◌++◌, length, take, Option, None, Some, refl, ap, ◌∙◌, sym, subst, arith, append_assoc, append-nil, true≢false, not}
+use Rattle.std.proofs.Common.{◌≡◌, ℕ, ◌+◌, ◌≤◌, Bool, true, false, List, [], ◌∷◌, ◌++◌, length, take, Option, None, Some, refl, ap, ◌∙◌, sym, subst, arith, append_assoc, append-nil, true≢false, not}
 use Rattle.std.specs.Prelude.{OnSome, IfSome}
 use Rattle.std.specs.Io.KnownBytes.{Appends, Consumes, Keeps, IsAtEnd}
 use Rattle.std.proofs.KnownBytes.{Consumes-nil, Consumes-trans, Appends-nil, Appends-trans}
+use Rattle.std.proofs.lemmas.Bool.{not-true}
 use Rattle.nest_core.specs.Museum.{Museum}
 use Rattle.posting_core.specs.declared.entry.Entry.{Entry}
 use Rattle.hub_core.specs.declared.answer.Arrival.{Arrival}
@@ -12,7 +13,8 @@ use Rattle.hub_core.specs.declared.replaying.ReplayFault.{ReplayFault}
 use Rattle.hub_core.specs.declared.replaying.ReplayFault.TheVariants.{NoMemory, Store, ReadFailed, WriteFailed}
 use Rattle.hub_core.specs.declared.line_reply.TheConstants.{LONGEST_LINE}
 use Rattle.hub_core.specs.Reading.{HasNoFeed, feed_if, TakesLine, TakesStart}
-use Rattle.hub_core.specs.LineText.{lines, ended, text, arrivals, line_reply, line_arrivals, without_return}
+use Rattle.hub_core.specs.Lines.{lines, ended, without_return}
+use Rattle.hub_core.specs.LineText.{text, arrivals, line_reply, line_arrivals}
 use Rattle.register_store.specs.StoredRows.{Content}
 use Rattle.hub_core.specs.StandsFor.{State, StandsFor, TakesSome}
 use Rattle.hub_core.specs.Faults.{replay_fault}
@@ -48,10 +50,6 @@ whole_is_ended c w = ap ended (sym (append-nil c)) ∙ ended_whole c [] w tt
 lines_now : (c p : List ℕ) (fed : Bool) → IsWhole c → HasNoFeed p → lines_read (not fed) (c ++ (p ++ feed_if fed)) ≡ c ++ (p ++ feed_if fed)
 lines_now c p true w h = whole_is_ended (c ++ (p ++ 10 ∷ [])) (whole_more c p w h)
 lines_now c p false w h = refl
-
-not_fed : (fed : Bool) → not fed ≡ true → fed ≡ false
-not_fed true e = absurd (true≢false (sym e))
-not_fed false e = refl
 
 -- whole lines behind whole lines
 more_whole : (c p : List ℕ) (fed : Bool) → IsWhole c → HasNoFeed p → fed ≡ true → IsWhole (c ++ (p ++ feed_if fed))
@@ -169,7 +167,7 @@ module _ {Q : Type 0} (S : Museum) (depth : ℕ) (O : List Entry) (A : List Arri
             at_end = not fed;
             k = m;
             read = read_now;
-            end = λ e. end_now (not_fed fed e);
+            end = λ e. end_now (not-true fed e);
             written = subst (λ (c : List ℕ). Appends o o3 (take m (text S depth O A c))) same (subst (Appends o o3) (front_now w.0) (Appends-trans o o2 o3 _ (take w.0 reply) (all_written k) w.1));
             stands = subst (λ (c : List ℕ). StandsFor quiet holds new O (A ++ arrivals S c)) same stands_now;
           }

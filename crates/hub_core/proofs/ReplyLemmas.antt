@@ -1,11 +1,12 @@
 -- The replies to lines.
-use Rattle.std.proofs.Common.{◌≡◌, ◌≢◌, ℕ, zero, suc, ◌+◌, ◌-◌, ◌<◌, ◌≤◌, ◌==◌, Bool, true, false, if◌then◌else◌, List, [], ◌∷◌, ◌++◌, length, take, map, refl, ap, ◌∙◌, sym, subst, arith, append_assoc, append-nil, length-append}
+use Rattle.std.proofs.Common.{◌≡◌, ℕ, ◌+◌, ◌≤◌, Bool, true, false, List, [], ◌∷◌, ◌++◌, length, map, refl, ap, ◌∙◌, sym, subst, arith, append_assoc, append-nil, length-append}
 use Rattle.std.specs.Prelude.{flat_map}
 use Rattle.nest_core.specs.Museum.{Museum}
 use Rattle.posting_core.specs.declared.entry.Entry.{Entry}
 use Rattle.hub_core.specs.declared.answer.Arrival.{Arrival}
 use Rattle.hub_core.specs.Reading.{HasNoFeed, feed_if}
-use Rattle.hub_core.specs.LineText.{pieces, line_of, lines, without_return, line_reply, line_arrivals, replies, text, arrivals}
+use Rattle.hub_core.specs.Lines.{pieces, line_of, lines, without_return}
+use Rattle.hub_core.specs.LineText.{line_reply, line_arrivals, replies, text, arrivals}
 use Rattle.hub_core.proofs.LineLemmas.{IsWhole, whole_none, line_fed, line_last, pieces_fed, pieces_last}
 
 zero_more : (k : ℕ) → k ≡ 0 + k

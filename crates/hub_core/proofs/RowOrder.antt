@@ -1,9 +1,10 @@
 -- The rows of a list, in the order of their numbers.
-use Rattle.std.proofs.Common.{◌≡◌, ℕ, suc, ◌+◌, ◌-◌, ◌<◌, ◌≤◌, min, true, false, if◌then◌else◌, List, [], ◌∷◌, ◌++◌, length, length-append, get_or, refl, sym, subst, ap, ◌∙◌, arith}
+use Rattle.std.proofs.Common.{◌≡◌, ℕ, suc, ◌+◌, ◌-◌, ◌<◌, ◌≤◌, min, inl, inr, true, false, if◌then◌else◌, List, [], ◌∷◌, ◌++◌, length, length-append, get_or, refl, sym, subst, ap, ◌∙◌, arith}
 use Rattle.std.specs.Prelude.{nat_le, sum_by}
 use Rattle.std.specs.List.{AllByRecursion}
 use Rattle.std.specs.List.Sorted.{IsPermutation, IsNonDecreasingBy}
 use Rattle.std.proofs.Math.Seq.{get_or-append_seam}
+use Rattle.std.proofs.lemmas.Bool.{cases_lt}
 use Rattle.std.proofs.lemmas.Bool.Decides.{nat_tests}
 use Rattle.std.proofs.lemmas.List.{get_or_append_left, get_or-append-add}
 use Rattle.std.proofs.lemmas.List.Elements.{recursion_from_All}
@@ -12,7 +13,6 @@ use Rattle.std.proofs.lemmas.List.Sums.{sum_by-append, sum_by-cons}
 use Rattle.posting_core.specs.declared.entry.Entry.{Entry}
 use Rattle.register_store.specs.StoredRows.{PostingRow, ArePostings}
 use Rattle.register_store.proofs.OneList.{as_many}
-use Rattle.station_core.proofs.BoolLemmas.{by_bool}
 
 -- one where the row's number is at most m
 abbrev low : ℕ → PostingRow → ℕ
@@ -29,7 +29,10 @@ low_few m [] = omega arith
 low_few m (row ∷ rows) =
     let more = sum_by-cons (low m) row rows in
     let few = low_few m rows in
-    by_bool (nat_le row.id m) (λ t. let one : low m row ≡ 1 = rw t refl in omega (arith, more, few, one)) (λ f. let none : low m row ≡ 0 = rw f refl in omega (arith, more, few, none))
+    elim (cases_lt m row.id) [
+      | inl above ↦ let none = low_none m row above in omega (arith, more, few, none)
+      | inr within ↦ let one = low_one m row within in omega (arith, more, few, one)
+    ]
 
 low_all : (m : ℕ) (rows : List PostingRow) → AllByRecursion (λ row. row.id ≤ m) rows → sum_by (low m) rows ≡ length rows
 low_all m [] h = refl
@@ -48,9 +51,10 @@ low_count m (e ∷ P) (row ∷ rows) h =
     let more = sum_by-cons (low m) row rows in
     let rest = low_count m P rows h.1 in
     let id : row.id ≡ length rows + 1 = h.0.id ∙ ap (λ n. n + 1) (as_many P rows h.1) in
-    by_bool (nat_le row.id m)
-    (λ t. let within : row.id ≤ m = grind (arith, nat_tests) in let one = low_one m row within in omega (arith, more, rest, id, one, within))
-    (λ f. let above : m < row.id = grind (arith, nat_tests) in let none = low_none m row above in omega (arith, more, rest, id, none, above))
+    elim (cases_lt m row.id) [
+      | inl above ↦ let none = low_none m row above in omega (arith, more, rest, id, none, above)
+      | inr within ↦ let one = low_one m row within in omega (arith, more, rest, id, one, within)
+    ]
 
 -- in the order of their numbers, each stands at its number
 pub at_number : (P : List Entry) (rows before after : List PostingRow) (row : PostingRow) → ArePostings P rows → IsPermutation (before ++ row ∷ after) rows

@@ -1,16 +1,15 @@
 -- A run: the hub over nothing posted, and the lines after the head.
 use Rattle.std.proofs.Common.{◌≡◌, ◌≢◌, ℕ, inl, inr, ◌∷◌, true, true≢false, List, [], length, length-append, Option, None, Some, Result, Err, IfErr, IsErrAnd, refl, ap, sym, subst, arith}
-use Rattle.std.specs.Prelude.{IfSome, ⊤}
+use Rattle.std.specs.Prelude.{IfSome}
 use Rattle.std.specs.Io.KnownBytes.{Appends, IsAtEnd}
-use Rattle.std.specs.List.Sorted.{IsPermutation}
 use Rattle.std.proofs.lemmas.List.{nil_from_length}
-use Rattle.std.proofs.lemmas.List.Sorted.{IsPermutation-refl, IsPermutation-sym, IsPermutation-trans, length_permutation, sum_by-IsPermutation}
+use Rattle.std.proofs.lemmas.List.Sorted.{IsPermutation-refl, IsPermutation-sym, IsPermutation-trans, length_permutation}
 use Rattle.nest_core.specs.Museum.{Museum}
 use Rattle.posting_core.specs.declared.entry.Entry.{Entry}
 use Rattle.register_store.specs.declared.plain.TheConstants.{NEW_DEPTH}
 use Rattle.register_store.specs.declared.store_fault.StoreFault.{StoreFault}
 use Rattle.register_store.specs.declared.store_fault.StoreFault.TheVariants as store
-use Rattle.register_store.specs.StoredRows.{Content, MetaRow, AreSame, HasList, HasRows, rows_of_meta}
+use Rattle.register_store.specs.StoredRows.{Content, AreSame, HasList, HasRows}
 use Rattle.register_store.specs.Registers.{bound_to}
 use Rattle.register_store.specs.Plain.{Kept}
 use Rattle.register_store.proofs.OneList.{as_many}
@@ -20,11 +19,11 @@ use Rattle.hub_core.specs.declared.replaying.ReplayFault.TheVariants as replay
 use Rattle.hub_core.specs.declared.running.RunFault.{RunFault}
 use Rattle.hub_core.specs.declared.running.RunFault.TheVariants.{NoMemory, Store, ReadFailed, WriteFailed}
 use Rattle.hub_core.specs.Faults.{CountsReplay}
-use Rattle.hub_core.specs.LineText.{head, after_head}
+use Rattle.hub_core.specs.Lines.{head, after_head}
 use Rattle.hub_core.specs.StandsFor.{State, StandsFor}
 use Rattle.hub_core.specs.Openings.{IsOpenFault, CountsFault}
 use Rattle.hub_core.specs.Replayed.{Answered, AfterFault}
-use Rattle.hub_core.specs.WholeRun.{head_fault, setup_in, run_text, run_fault, IsFresh, OpensHub, InLines}
+use Rattle.hub_core.specs.WholeRun.{head_fault, setup_in, run_text, run_fault, IsQuiet, Holds, IsFresh, OpensHub, InLines}
 use Rattle.hub_core.proofs.StoreLemmas.{one_depth}
 use Rattle.hub_core.proofs.Written.{if_err}
 use Rattle.hub_core.proofs.ReplayLemmas.{whole_input}
@@ -61,18 +60,12 @@ only_memory S (store.Damaged at) (inr (inr (inr wrong))) count =
     let has : HasRows S [] (bound_to S nothing) = record { spots = IsPermutation-refl []; lines = IsPermutation-refl []; terms = IsPermutation-refl [] } in
     absurd (wrong.wrong (subst (λ P. HasRows S P (bound_to S nothing)) (sym none) has))
 
-abbrev Quiet : Kept → Type 0
-Quiet register = ⊤
-
-abbrev Holds : Kept → Content → Type 0
-Holds register c = AreSame register.content c
-
 -- a register with nothing has the list of no entries
 pub no_list : HasList [] nothing
 no_list = record { rows = []; each = tt; all = IsPermutation-refl [] }
 
 -- what a hub that was opened over nothing is
-pub opened_fresh : (S : Museum) (hub : State Kept) → hub.book.museum ≡ S → AreSame hub.register.content (bound_to S nothing) → StandsFor Quiet Holds hub [] [] → IsFresh hub S
+pub opened_fresh : (S : Museum) (hub : State Kept) → hub.book.museum ≡ S → AreSame hub.register.content (bound_to S nothing) → StandsFor IsQuiet Holds hub [] [] → IsFresh hub S
 opened_fresh S hub museum kept stands =
     let held = stands.stored tt in
     let meta = IsPermutation-trans _ _ _ held.2.bound.meta (IsPermutation-trans _ _ _ (IsPermutation-sym _ _ held.1.meta) kept.meta) in
@@ -80,21 +73,21 @@ opened_fresh S hub museum kept stands =
 
 -- the lines after the head are all answered
 pub lines_answered : (i i1 i2 o o' : Option (List ℕ)) (hub new : State Kept) → OpensHub i i1 hub
-    → ((O : List Entry) (A : List Arrival) → StandsFor Quiet Holds hub O A → Answered hub.book.museum hub.book.depth O A i1 i2 o o' Quiet Holds new true)
+    → ((O : List Entry) (A : List Arrival) → StandsFor IsQuiet Holds hub O A → Answered hub.book.museum hub.book.depth O A i1 i2 o o' IsQuiet Holds new true)
     → IfSome i (λ bytes. (head_fault (head bytes) ≡ None) × IsAtEnd i2 × Appends o o' (run_text bytes))
 lines_answered None i1 i2 o o' hub new opens answered = tt
 lines_answered (Some bytes) i1 i2 o o' hub new opens answered =
     let fresh = opens.2 in
-    let all : Answered (setup_in bytes) NEW_DEPTH [] [] (Some (after_head bytes)) i2 o o' Quiet Holds new true =
-    subst (λ (S : Museum). Answered S NEW_DEPTH [] [] (Some (after_head bytes)) i2 o o' Quiet Holds new true) fresh.museum
-    (subst (λ depth. Answered hub.book.museum depth [] [] (Some (after_head bytes)) i2 o o' Quiet Holds new true) fresh.depth
-    (subst (λ (left : Option (List ℕ)). Answered hub.book.museum hub.book.depth [] [] left i2 o o' Quiet Holds new true) opens.1 (answered [] [] fresh.stands))) in
-    let whole = whole_input (setup_in bytes) NEW_DEPTH [] [] (Some (after_head bytes)) i2 o o' Quiet Holds new all in
+    let all : Answered (setup_in bytes) NEW_DEPTH [] [] (Some (after_head bytes)) i2 o o' IsQuiet Holds new true =
+    subst (λ (S : Museum). Answered S NEW_DEPTH [] [] (Some (after_head bytes)) i2 o o' IsQuiet Holds new true) fresh.museum
+    (subst (λ depth. Answered hub.book.museum depth [] [] (Some (after_head bytes)) i2 o o' IsQuiet Holds new true) fresh.depth
+    (subst (λ (left : Option (List ℕ)). Answered hub.book.museum hub.book.depth [] [] left i2 o o' IsQuiet Holds new true) opens.1 (answered [] [] fresh.stands))) in
+    let whole = whole_input (setup_in bytes) NEW_DEPTH [] [] (Some (after_head bytes)) i2 o o' IsQuiet Holds new all in
     (opens.0, whole.0, whole.1)
 
 -- a fault in them
 pub lines_fault : (i i1 i2 o o' : Option (List ℕ)) (hub new : State Kept) (fault : ReplayFault) → OpensHub i i1 hub
-    → ((O : List Entry) (A : List Arrival) → StandsFor Quiet Holds hub O A → AfterFault hub.book.museum hub.book.depth O A i1 i2 o o' Quiet Holds new fault)
+    → ((O : List Entry) (A : List Arrival) → StandsFor IsQuiet Holds hub O A → AfterFault hub.book.museum hub.book.depth O A i1 i2 o o' IsQuiet Holds new fault)
     → InLines i i2 o o' fault
 lines_fault None i1 i2 o o' hub new fault opens after = tt
 lines_fault (Some bytes) i1 i2 o o' hub new fault opens after =
@@ -102,9 +95,9 @@ lines_fault (Some bytes) i1 i2 o o' hub new fault opens after =
       opens.0,
       (
         new,
-        subst (λ (S : Museum). AfterFault S NEW_DEPTH [] [] (Some (after_head bytes)) i2 o o' Quiet Holds new fault) fresh.museum
-            (subst (λ depth. AfterFault hub.book.museum depth [] [] (Some (after_head bytes)) i2 o o' Quiet Holds new fault) fresh.depth
-            (subst (λ (left : Option (List ℕ)). AfterFault hub.book.museum hub.book.depth [] [] left i2 o o' Quiet Holds new fault) opens.1 (after [] [] fresh.stands))),
+        subst (λ (S : Museum). AfterFault S NEW_DEPTH [] [] (Some (after_head bytes)) i2 o o' IsQuiet Holds new fault) fresh.museum
+            (subst (λ depth. AfterFault hub.book.museum depth [] [] (Some (after_head bytes)) i2 o o' IsQuiet Holds new fault) fresh.depth
+            (subst (λ (left : Option (List ℕ)). AfterFault hub.book.museum hub.book.depth [] [] left i2 o o' IsQuiet Holds new fault) opens.1 (after [] [] fresh.stands))),
       ),
     )
 

@@ -1,6 +1,6 @@
 -- A fault in the middle of what is due.
 use Rattle.std.proofs.Common.{◌≡◌, ℕ, suc, ◌+◌, ◌-◌, ◌≤◌, true, false, List, [], ◌∷◌, ◌++◌, ◌⊎◌, Some, ap, ◌∙◌, sym, subst, arith, ⊎_elim, append_assoc}
-use Rattle.std.proofs.lemmas.Bool.{cases_lt}
+use Rattle.std.proofs.lemmas.Bool.{cases_Bool, cases_lt}
 use Rattle.nest_core.specs.Museum.{Museum}
 use Rattle.posting_core.specs.declared.message.Message.{Message}
 use Rattle.posting_core.specs.declared.entry.Entry.{Entry}
@@ -9,7 +9,7 @@ use Rattle.posting_core.specs.Book.{Book}
 use Rattle.station_core.specs.Series.{Series, series_at}
 use Rattle.station_core.specs.Runs.{Arrived, arrived, message_at, unbroken, ready, due}
 use Rattle.station_core.specs.Progress.{ComesDue}
-use Rattle.station_core.proofs.BoolLemmas.{by_bool, down}
+use Rattle.station_core.proofs.BoolLemmas.{down}
 use Rattle.station_core.proofs.RunLemmas.{unbroken_down, ready_fails, due_next, due_split}
 use Rattle.register_store.specs.StoredRows.{Content, IsStoreOf}
 use Rattle.hub_core.specs.Points.{post}
@@ -32,7 +32,7 @@ unbroken_ready taken s n h =
 -- a message that comes due is among those that are ready
 pub due_ready : (taken : List (Arrived Message)) (s n : ℕ) (m : Message) (all' : List (Series Message)) → ComesDue is_sign_off taken s n m all' → (series_at all' s).posted ≡ n → n ≤ ready is_sign_off taken s
 due_ready taken s n m all' d is = unbroken_ready taken s n
-    (by_bool (is_sign_off m) (λ on. ap (unbroken is_sign_off taken s) (sym is) ∙ (d.ends on).here.whole) (λ off. ap (unbroken is_sign_off taken s) (sym is) ∙ (d.goes_on off).here.whole))
+    (⊎_elim (λ on. ap (unbroken is_sign_off taken s) (sym is) ∙ (d.ends on).here.whole) (λ off. ap (unbroken is_sign_off taken s) (sym is) ∙ (d.goes_on off).here.whole) (cases_Bool (is_sign_off m)))
 
 -- what is due, with the message at which it stops
 due_parts : (taken : List (Arrived Message)) (s k j z : ℕ) (m : Message) → k ≤ j → suc j ≤ z → message_at taken s (suc j) ≡ Some m

@@ -13,7 +13,8 @@ use Rattle.hub_core.specs.declared.answer.Arrival.{Arrival}
 use Rattle.hub_core.specs.declared.answer.Answer.TheVariants.{Refused, Held, Posted}
 use Rattle.hub_core.specs.declared.answer.Where.TheVariants.{UnknownThing, Unplaced, At}
 use Rattle.hub_core.specs.declared.reader.Request.TheVariants.{Scan, Ask}
-use Rattle.hub_core.specs.LineText.{without_return, lines, ended, head, after_head, station_reply}
+use Rattle.hub_core.specs.Lines.{without_return, lines, ended, head, after_head}
+use Rattle.hub_core.specs.LineText.{station_reply}
 use Rattle.hub_core.specs.Requests.{line_of}
 use Rattle.hub_core.specs.Points.{reply, posted, whereabouts, cut}
 use Rattle.hub_core.specs.Replies.{refused_line, unknown_station_line, held_line, posted_line, bad_line, asked_line}

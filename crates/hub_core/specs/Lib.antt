@@ -2,6 +2,7 @@ pub mod Requests
 pub mod Points
 pub mod Replies
 pub mod Faults
+pub mod Lines
 pub mod LineText
 pub mod Reading
 pub mod StandsFor

@@ -7,7 +7,8 @@ use Rattle.register_store.specs.StoredRows.{Content}
 use Rattle.hub_core.specs.declared.answer.Arrival.{Arrival}
 use Rattle.hub_core.specs.declared.replaying.ReplayFault.{ReplayFault}
 use Rattle.hub_core.specs.declared.replaying.ReplayFault.TheVariants.{NoMemory, Store, ReadFailed, WriteFailed}
-use Rattle.hub_core.specs.LineText.{lines, ended, text, arrivals}
+use Rattle.hub_core.specs.Lines.{lines, ended}
+use Rattle.hub_core.specs.LineText.{text, arrivals}
 use Rattle.hub_core.specs.StandsFor.{State, StandsFor, TakesSome}
 
 -- the lines that were read: at the end of the input the last one needs no line feed

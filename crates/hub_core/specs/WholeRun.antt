@@ -6,7 +6,7 @@ use Rattle.std.specs.Io.KnownBytes.{Consumes, Keeps}
 use Rattle.nest_core.specs.Museum.{Museum}
 use Rattle.nest_core.specs.SetupRows.{rows_of, museum_of, setup_fault}
 use Rattle.register_store.specs.declared.plain.TheConstants.{NEW_DEPTH}
-use Rattle.register_store.specs.StoredRows.{AreSame}
+use Rattle.register_store.specs.StoredRows.{Content, AreSame}
 use Rattle.register_store.specs.Plain.{Kept}
 use Rattle.hub_core.specs.declared.replaying.ReplayFault.{ReplayFault}
 use Rattle.hub_core.specs.declared.replaying.ReplayFault.TheVariants as replay
@@ -14,7 +14,8 @@ use Rattle.hub_core.specs.declared.running.TheConstants.{LONGEST_HEAD}
 use Rattle.hub_core.specs.declared.running.RunFault.{RunFault}
 use Rattle.hub_core.specs.declared.running.RunFault.TheVariants.{NoMemory, Store, ReadFailed, WriteFailed, Setup, HeadTooLong}
 use Rattle.hub_core.specs.Reading.{HasNoFeed}
-use Rattle.hub_core.specs.LineText.{pieces, ended, is_blank, head, after_head, text}
+use Rattle.hub_core.specs.Lines.{pieces, ended, is_blank, head, after_head}
+use Rattle.hub_core.specs.LineText.{text}
 use Rattle.hub_core.specs.StandsFor.{State, StandsFor}
 use Rattle.hub_core.specs.Replayed.{AfterFault}
 
@@ -77,11 +78,19 @@ run_fault replay.Store = Store
 run_fault replay.ReadFailed = ReadFailed
 run_fault replay.WriteFailed = WriteFailed
 
+-- a register in memory is quiet, for nobody else writes it
+abbrev pub IsQuiet : Kept → Type 0
+IsQuiet register = ⊤
+
+-- it holds its rows, in any order
+abbrev pub Holds : Kept → Content → Type 0
+Holds register c = AreSame register.content c
+
 -- the hub of a run, over a register in memory: it has this setup and nothing posted
 pub record IsFresh (hub : State Kept) (S : Museum) : Type 0 where
   pub museum : hub.book.museum ≡ S
   pub depth : hub.book.depth ≡ NEW_DEPTH
-  pub stands : StandsFor (λ register. ⊤) (λ register c. AreSame register.content c) hub [] []
+  pub stands : StandsFor IsQuiet Holds hub [] []
 
 -- the head has no fault and is read, and the hub has its setup
 abbrev pub OpensHub : Option (List ℕ) → Option (List ℕ) → State Kept → Type 0
@@ -90,7 +99,7 @@ OpensHub i i' hub = IfSome i (λ bytes. (head_fault (head bytes) ≡ None) × (i
 -- a run met a fault in its lines, after a head without fault: what their replay leaves, over the run's hub
 abbrev pub InLines : Option (List ℕ) → Option (List ℕ) → Option (List ℕ) → Option (List ℕ) → ReplayFault → Type 0
 InLines i i' o o' fault = IfSome i (λ bytes. (head_fault (head bytes) ≡ None)
-    × ((hub : State Kept) × AfterFault (setup_in bytes) NEW_DEPTH [] [] (Some (after_head bytes)) i' o o' (λ register. ⊤) (λ register c. AreSame register.content c) hub fault))
+    × ((hub : State Kept) × AfterFault (setup_in bytes) NEW_DEPTH [] [] (Some (after_head bytes)) i' o o' IsQuiet Holds hub fault))
 
 -- after each fault of a run; before its lines nothing is written
 abbrev pub AfterRun : Option (List ℕ) → Option (List ℕ) → Option (List ℕ) → Option (List ℕ) → RunFault → Type 0

@@ -4,6 +4,7 @@ ghost use Rattle.std.specs.Io.KnownBytes.{Keeps};
 ghost use Rattle.hub_core.specs.Reading.{HasNoFeed, TakesPiece, TakesLine, TakesStart};
 
 use crate::ReplayFault;
+use memchr::memchr;
 use std::io::{BufRead, ErrorKind, Write};
 
 /// How many bytes of a line are kept: one more than a line may have with a carriage return at its end.
@@ -129,12 +130,7 @@ fn feed_at(bytes: &[u8]) -> usize
     ensures before { HasNoFeed (take result bytes.now) }
     ensures feed { result < length bytes.now → take (result + 1) bytes.now ≡ take result bytes.now ++ 10 ∷ [] }
 {
-    for i in 0..bytes.len() {
-        if bytes[i] == b'\n' {
-            return i;
-        }
-    }
-    bytes.len()
+    memchr(b'\n', bytes).unwrap_or(bytes.len())
 }
 
 /// Keeps more bytes of a line, as far as there is room.

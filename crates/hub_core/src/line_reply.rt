@@ -9,7 +9,8 @@ ghost use Rattle.hub_core.specs.Requests.{line_in};
 ghost use Rattle.hub_core.specs.Replies.{asked_line, bad_line};
 ghost use Rattle.hub_core.specs.Faults.{CountsStore};
 ghost use Rattle.hub_core.specs.StandsFor.{StandsFor, TakesSome};
-ghost use Rattle.hub_core.specs.LineText.{without_return, fault_text, place_text, chain_text, posted_lines, answer_text, station_text, station_reply, sent_from, request_reply, sent_by, read_reply, sent, line_reply, line_arrivals};
+ghost use Rattle.hub_core.specs.Lines.{without_return};
+ghost use Rattle.hub_core.specs.LineText.{fault_text, place_text, chain_text, posted_lines, answer_text, station_text, station_reply, sent_from, request_reply, sent_by, read_reply, sent, line_reply, line_arrivals};
 
 use crate::reader::{Line, Request, read_line};
 use crate::{Answer, Arrival, Hub, HubFault, Where, replies};

@@ -4,7 +4,7 @@ ghost use Rattle.std.specs.Io.KnownBytes.{Appends, IsAtEnd};
 ghost use Rattle.nest_core.specs.SetupRows.{rows_of, museum_of, setup_fault};
 ghost use Rattle.nest_core.specs.declared.setup_fault.SetupFault.{SetupFault};
 ghost use Rattle.hub_core.specs.Reading.{TakesLine, feed_if};
-ghost use Rattle.hub_core.specs.LineText.{head, is_empty, without_return};
+ghost use Rattle.hub_core.specs.Lines.{head, is_empty, without_return};
 ghost use Rattle.hub_core.specs.WholeRun.{head_fault, run_text, AfterRun, OpensHub, IsFresh, TakesHead, BeforeLines, StopsInLine};
 
 use crate::line_reader::{End, Reads, take_piece};

@@ -11,6 +11,11 @@ mod register;
 mod setup;
 mod stations;
 
+use posting_core::Message;
+use register_store::read_message;
+use std::alloc::Global;
+use std::test::Fail;
+
 /// The museum of the worked rows: a setup with rows of every kind. C1 and C2 are things 0 and 1, the objects 2 to 5; S1,
 /// S1-A and S2 are places 0 to 2, the partners' 3 and 4; PACK and GAL are stations 0 and 1.
 const MUSEUM: &str =
@@ -20,3 +25,9 @@ const MUSEUM: &str =
 
 /// A setup of one station, one place and one object.
 const SMALL: &str = "station,GAL\nplace,S1,inside\nown,2001.4.1,S1\n";
+
+/// The message of a text that is written with ' for ".
+fn message_of(alloc: Global, text: &str) -> Result<Message, Fail> {
+    let json = text.replace(alloc, '\'', "\"")?;
+    Ok(read_message(alloc, json.as_bytes())?)
+}

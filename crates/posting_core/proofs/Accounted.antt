@@ -4,6 +4,7 @@ use Rattle.std.specs.List.{find, range_with_len}
 use Rattle.std.specs.Option.{option_map_or, option_or, option_to_list, option_and_then}
 use Rattle.std.specs.Str.{bytes_eq}
 use Rattle.std.proofs.Common.{ap, ◌∙◌, sym, arith}
+use Rattle.std.proofs.lemmas.Bool.{false≢true}
 use Rattle.std.proofs.lemmas.Bool.Decides.{nat_tests}
 use Rattle.std.proofs.lemmas.List.Folds.{find-append}
 use Rattle.std.proofs.lemmas.Slice.Eq.{bytes_eq-Decides}
@@ -23,7 +24,7 @@ use Rattle.posting_core.specs.Verdicts.{verdict, stage_eq, is_at_stage, carries_
 use Rattle.posting_core.specs.Lawful.{Follows, IsLawful}
 use Rattle.posting_core.specs.Book.{Book, place_after}
 use Rattle.posting_core.specs.Rows.{place_to}
-use Rattle.posting_core.proofs.AppliedRows.{false_true, applied_is}
+use Rattle.posting_core.proofs.AppliedRows.{applied_is}
 use Rattle.posting_core.proofs.Placed.{allowed_in, comes_along, stays}
 use Rattle.posting_core.proofs.Carried.{carried_place}
 use Rattle.posting_core.proofs.Among.{among_passing, not_among_passing, among_range, none_fails}
@@ -63,7 +64,7 @@ other_target : (Q : List Put) (put : Put) (n o : ℕ) → is_carried n Q put.thi
 other_target Q put n o apart = elim (put.thing == o) as (λ b. (put.thing == o) ≡ b → (if b then Some put.to else last Q o) ≡ last Q o) [
   | true ↦ λ e.
       let same : (o == put.thing) ≡ true = grind (arith, nat_tests) in
-      absurd (false_true (sym apart ∙ ap (λ b. b || is_among put.thing (chain n Q o)) same))
+      absurd (false≢true (sym apart ∙ ap (λ b. b || is_among put.thing (chain n Q o)) same))
   | false ↦ λ e. refl
 ] refl
 
@@ -180,7 +181,7 @@ pub came : {S : Museum} {P : List Entry} {e : Entry} {c : Crossing} {o : ℕ} (s
 came {S} {P} {e} {c} {o} s has one leaves = λ loan at. by_loan _ c.loan loan
     (λ same. leaves (sym has.here ∙ ap (λ l. stage S (e ∷ P) l o) same ∙ at))
     (λ apart. let same : loan ≡ c.loan = one.1 loan (sym (has.others loan apart) ∙ at) in
-    absurd (false_true (sym apart ∙ (bytes_eq-Decides c.loan loan).1 (sym same))))
+    absurd (false≢true (sym apart ∙ (bytes_eq-Decides c.loan loan).1 (sym same))))
 
 -- what crosses is listed, at the stage wanted
 pub record IsReady (S : Museum) (P : List Entry) (c : Crossing) (o : ℕ) : Type 0 where
@@ -193,14 +194,14 @@ stage_same Away Away h = refl
 stage_same Back Back h = refl
 stage_same Here Here h = refl
 stage_same GivenBack GivenBack h = refl
-stage_same _ _ h = absurd (false_true h)
+stage_same _ _ h = absurd (false≢true h)
 
 pub ready : (S : Museum) (P : List Entry) (c : Crossing) (o : ℕ) → carries_unlisted S P c ≡ false → carries_wrong_stage S P c ≡ false → is_among o (objects_in S P c.thing) ≡ true → IsReady S P c o
 ready S P c o unlisted wrong among =
     let at = none_fails (is_at_stage S P c.loan c.wanted) (objects_in S P c.thing) o wrong among in
     elim (is_among o (objects S P c.loan)) as (λ b. is_among o (objects S P c.loan) ≡ b → option_map_or (stage_eq c.wanted) (if b then Some (stage S P c.loan o) else None) false ≡ true → IsReady S P c o) [
       | true ↦ λ e k. record { listed = e; wanted = stage_same c.wanted (stage S P c.loan o) k }
-      | false ↦ λ e k. absurd (false_true k)
+      | false ↦ λ e k. absurd (false≢true k)
     ] refl at
 
 -- an agreement stays

@@ -4,9 +4,11 @@ use Rattle.std.specs.List.{find, list_any, AllByRecursion}
 use Rattle.std.specs.Option.{option_or, option_to_list}
 use Rattle.std.specs.Str.{bytes_eq}
 use Rattle.std.proofs.Common.{ap, ◌∙◌, sym, subst}
+use Rattle.std.proofs.lemmas.Bool.{not-false, false≢true}
 use Rattle.std.proofs.lemmas.Bool.Decides.{same_from_decides}
 use Rattle.std.proofs.lemmas.List.{append-nil}
 use Rattle.std.proofs.lemmas.List.Folds.{find-append}
+use Rattle.std.proofs.lemmas.Option.{none-some, same_Some}
 use Rattle.std.proofs.lemmas.Slice.Eq.{bytes_eq-Decides}
 use Rattle.nest_core.specs.Museum.{Museum, is_inside}
 use Rattle.posting_core.specs.declared.message.Message.{Message}
@@ -20,7 +22,7 @@ use Rattle.posting_core.specs.Agreements.{Agreement, agreement_in, agreement_by,
 use Rattle.posting_core.specs.Loans.{stage_by, stage}
 use Rattle.posting_core.specs.Verdicts.{verdict, is_known, is_known_place, is_container_code, is_of_wrong_owner, repeats, agree_rows, authorise_rows, exit_rows, return_rows, receive_rows, extend_rows}
 use Rattle.posting_core.specs.Lawful.{IsLawful}
-use Rattle.posting_core.proofs.AppliedRows.{none_some, false_true, none_holds, held, applied_is}
+use Rattle.posting_core.proofs.AppliedRows.{none_holds, applied_is}
 
 -- two spellings compare the same either way
 pub bytes_eq-sym : (a b : List ℕ) → bytes_eq a b ≡ bytes_eq b a
@@ -44,11 +46,11 @@ pub record IsSound (S : Museum) (t : Agreement) : Type 0 where
 pub agree_applied : (S : Museum) (depth : ℕ) (P : List Entry) (m : Message) (t : Agreement) → verdict S depth P m ≡ Applied → agreement_in m ≡ Some t → (agreement P t.loan ≡ None) × IsSound S t
 agree_applied S depth P (Agree loan partner objects first last) t applied is =
     let none = none_holds (agree_rows S P loan partner objects first last) refl applied in
-    subst (λ u. (agreement P u.loan ≡ None) × IsSound S u) (some_same is) (
+    subst (λ u. (agreement P u.loan ≡ None) × IsSound S u) (same_Some _ _ is) (
       unfound (agreement P loan) none.1.1.0,
       record {
         known = none.0;
-        partner = held (is_known_place S partner) none.1.0;
+        partner = not-false (is_known_place S partner) none.1.0;
         elsewhere = none.1.1.1.0;
         objects = none.1.1.1.1.1.0;
         once = none.1.1.1.1.1.1.0;
@@ -56,13 +58,10 @@ agree_applied S depth P (Agree loan partner objects first last) t applied is =
       },
     )
   where
-    some_same : {X : Type 0} {x y : X} → Some x ≡ Some y → x ≡ y
-    some_same {X} {x} {y} e = cc
-
     unfound : (o : Option Agreement) → is_some o ≡ false → o ≡ None
     unfound None h = refl
-    unfound (Some u) h = absurd (false_true (sym h))
-agree_applied S depth P _ t applied is = absurd (none_some is)
+    unfound (Some u) h = absurd (false≢true (sym h))
+agree_applied S depth P _ t applied is = absurd (none-some _ is)
 
 -- each agreement keeps to the rules
 not_found_before : (loan : List ℕ) (ts : List Agreement) (o : Option Agreement) → find (λ t. bytes_eq loan t.loan) (ts ++ option_to_list o) ≡ None → find (λ t. bytes_eq loan t.loan) ts ≡ None
@@ -90,14 +89,14 @@ agreements_sound S depth (e ∷ P) (follows, lawful) = all_append (IsSound S) (a
 
 -- what is found is agreed of the loan, and keeps to the rules
 pub found_is : (loan : List ℕ) (ts : List Agreement) (t : Agreement) → find (λ u. bytes_eq loan u.loan) ts ≡ Some t → loan ≡ t.loan
-found_is loan [] t e = absurd (none_some e)
+found_is loan [] t e = absurd (none-some _ e)
 found_is loan (u ∷ ts) t e = elim (bytes_eq loan u.loan) as (λ b. bytes_eq loan u.loan ≡ b → cond b (Some u) (find (λ v. bytes_eq loan v.loan) ts) ≡ Some t → loan ≡ t.loan) [
   | true ↦ λ h k. (bytes_eq-Decides loan u.loan).0 h ∙ (let same : u ≡ t = cc in ap (λ v. v.loan) same)
   | false ↦ λ h k. found_is loan ts t k
 ] refl e
 
 found_holds : (Q : Agreement → Type 0) (p : Agreement → Bool) (ts : List Agreement) (t : Agreement) → AllByRecursion Q ts → find p ts ≡ Some t → Q t
-found_holds Q p [] t all e = absurd (none_some e)
+found_holds Q p [] t all e = absurd (none-some _ e)
 found_holds Q p (u ∷ ts) t (q, all) e = elim (p u) as (λ b. cond b (Some u) (find p ts) ≡ Some t → Q t) [
   | true ↦ λ k. let same : u ≡ t = cc in subst Q same q
   | false ↦ λ k. found_holds Q p ts t all k

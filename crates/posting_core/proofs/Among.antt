@@ -4,7 +4,7 @@ use Rattle.std.specs.List.{range_with_len, list_any, position, position_or_len}
 use Rattle.std.specs.Option.{option_map}
 use Rattle.std.specs.Str.{bytes_eq}
 use Rattle.std.proofs.Common.{ap, ◌∙◌, sym, arith, get_or}
-use Rattle.std.proofs.lemmas.Bool.{or_parts}
+use Rattle.std.proofs.lemmas.Bool.{or_parts, false≢true, not-false}
 use Rattle.std.proofs.lemmas.Bool.Decides.{nat_tests}
 use Rattle.std.proofs.lemmas.List.Quantifiers.{position-Some}
 use Rattle.std.proofs.lemmas.Option.{slice_get-get_or}
@@ -14,7 +14,6 @@ use Rattle.nest_core.specs.Puts.{is_among}
 use Rattle.nest_core.proofs.Moves.{by_eq}
 use Rattle.posting_core.specs.Messages.{thing_no}
 use Rattle.posting_core.specs.Verdicts.{is_known}
-use Rattle.posting_core.proofs.AppliedRows.{false_true, held}
 
 -- what stands among those that pass stands among all
 pub among_passing : (p : ℕ → Bool) (xs : List ℕ) (o : ℕ) → p o ≡ true → is_among o (filter p xs) ≡ is_among o xs
@@ -45,11 +44,11 @@ among_range a (suc n) o low less = by_eq _ a o
 
 -- where none fails, what stands among them passes
 pub none_fails : (p : ℕ → Bool) (xs : List ℕ) (o : ℕ) → list_any (λ x. not (p x)) xs ≡ false → is_among o xs ≡ true → p o ≡ true
-none_fails p [] o none h = absurd (false_true h)
+none_fails p [] o none h = absurd (false≢true h)
 none_fails p (x ∷ xs) o none h =
     let parts = or_parts (not (p x)) (list_any (λ x. not (p x)) xs) none in
     by_eq _ x o
-    (λ t same. ap p (sym same) ∙ held (p x) parts.0)
+    (λ t same. ap p (sym same) ∙ not-false (p x) parts.0)
     (λ f. none_fails p xs o parts.1 (sym (ap (λ b. b || is_among o xs) f) ∙ h))
 
 -- where a test first passes in a list of one more
@@ -74,7 +73,7 @@ eq_sym a b = grind (arith, nat_tests)
 -- the code of a known thing is the one that it is found by
 pub code_found : (S : Museum) (x : List ℕ) → is_known S x ≡ true → thing_code_of S (thing_no S x) ≡ Some x
 code_found S x known = elim (find_thing S x) as (λ o. find_thing S x ≡ o → is_some o ≡ true → thing_code_of S (unwrap_or o (length S.things)) ≡ Some x) [
-  | None ↦ λ e k. absurd (false_true k)
+  | None ↦ λ e k. absurd (false≢true k)
   | Some i ↦ λ e k.
       let found = position-Some (bytes_eq x) (thing_codes S) i x e in
       slice_get-get_or (thing_codes S) i x found.0 ∙ ap Some (sym ((bytes_eq-Decides x (get_or (thing_codes S) i x)).0 found.1))
@@ -83,10 +82,10 @@ code_found S x known = elim (find_thing S x) as (λ o. find_thing S x ≡ o → 
 -- what stands among the numbers of known codes has one of these codes
 pub among_codes : (S : Museum) (bad : List ℕ → Bool) (xs : List (List ℕ)) (o : ℕ) → list_any (λ x. not (is_known S x)) xs ≡ false → list_any bad xs ≡ false → is_among o (map (thing_no S) xs) ≡ true →
     (x : List ℕ) × (thing_code_of S o ≡ Some x) × (bad x ≡ false)
-among_codes S bad [] o known fine h = absurd (false_true h)
+among_codes S bad [] o known fine h = absurd (false≢true h)
 among_codes S bad (x ∷ xs) o known fine h =
     let knowns = or_parts (not (is_known S x)) (list_any (λ x. not (is_known S x)) xs) known in
     let fines = or_parts (bad x) (list_any bad xs) fine in
     by_eq _ (thing_no S x) o
-    (λ t same. (x, ap (thing_code_of S) (sym same) ∙ code_found S x (held (is_known S x) knowns.0), fines.0))
+    (λ t same. (x, ap (thing_code_of S) (sym same) ∙ code_found S x (not-false (is_known S x) knowns.0), fines.0))
     (λ f. among_codes S bad xs o knowns.1 fines.1 (sym (ap (λ b. b || is_among o (map (thing_no S) xs)) f) ∙ h))

@@ -1,18 +1,12 @@
 -- No row of an applied message's verdict holds.
-use Rattle.std.specs.Prelude.{◌≡◌, Bool, true, false, List, [], ◌∷◌, None, Some, refl, not, if◌then◌else◌}
+use Rattle.std.specs.Prelude.{◌≡◌, true, false, List, [], ◌∷◌, refl, not, if◌then◌else◌}
 use Rattle.std.specs.List.{list_all, AllByRecursion}
 use Rattle.std.proofs.Common.{ap, ◌∙◌, sym}
-use Rattle.std.proofs.lemmas.Bool.{and_parts}
+use Rattle.std.proofs.lemmas.Bool.{and_parts, false≢true}
 use Rattle.posting_core.specs.declared.verdict.Verdict.{Verdict}
 use Rattle.posting_core.specs.declared.verdict.Verdict.TheVariants.{Applied}
 use Rattle.posting_core.specs.VerdictNames.{is_applied}
 use Rattle.posting_core.specs.Verdicts.{Row, first_of}
-
-pub none_some : {X : Type 0} {x : X} → None ≡ Some x → ⊥
-none_some {X} {x} e = cc
-
-pub false_true : false ≡ true → ⊥
-false_true e = cc
 
 -- no row of an applied message holds
 pub none_holds : (rows : List Row) → list_all (λ row. not (is_applied row.verdict)) rows ≡ true → first_of rows ≡ Applied → AllByRecursion (λ row. row.holds ≡ false) rows
@@ -20,15 +14,10 @@ none_holds [] refusals h = tt
 none_holds (row ∷ rows) refusals h =
     let parts = and_parts (not (is_applied row.verdict)) (list_all (λ row. not (is_applied row.verdict)) rows) refusals in
     elim row.holds as (λ b. row.holds ≡ b → (if b then row.verdict else first_of rows) ≡ Applied → (b ≡ false) × AllByRecursion (λ row. row.holds ≡ false) rows) [
-      | true ↦ λ e k. absurd (false_true (ap (λ v. not (is_applied v)) (sym k) ∙ parts.0))
+      | true ↦ λ e k. absurd (false≢true (ap (λ v. not (is_applied v)) (sym k) ∙ parts.0))
       | false ↦ λ e k. (refl, none_holds rows parts.1 k)
     ] refl h
 
--- a test that isn't refused holds
-pub held : (b : Bool) → not b ≡ false → b ≡ true
-held true h = refl
-held false h = absurd (false_true (sym h))
-
 pub applied_is : (v : Verdict) → is_applied v ≡ true → v ≡ Applied
 applied_is Applied h = refl
-applied_is _ h = absurd (false_true h)
+applied_is _ h = absurd (false≢true h)

@@ -1,6 +1,7 @@
 -- What a thing carries: it is where the thing is, and a thing that has no place was never put.
 use Rattle.std.specs.Prelude.{ℕ, ◌≡◌, ◌≤◌, ◌==◌, ◌||◌, true, false, List, length, Option, None, refl, zero, suc}
 use Rattle.std.proofs.Common.{ap, ◌∙◌, sym, arith}
+use Rattle.std.proofs.lemmas.Bool.{false≢true}
 use Rattle.std.proofs.lemmas.Bool.Decides.{nat_tests}
 use Rattle.nest_core.specs.declared.put.Target.{Target}
 use Rattle.nest_core.specs.Museum.{Museum}
@@ -11,7 +12,6 @@ use Rattle.nest_core.proofs.NestLaws.{IsSound, chain_ends}
 use Rattle.posting_core.specs.declared.entry.Entry.{Entry}
 use Rattle.posting_core.specs.History.{puts, place_at}
 use Rattle.posting_core.specs.Lawful.{IsLawful}
-use Rattle.posting_core.proofs.AppliedRows.{false_true}
 use Rattle.posting_core.proofs.Placed.{lawful_sound}
 
 -- the chain of what stands below x ends where a chain of x does
@@ -21,9 +21,9 @@ record EndsWith (at : ℕ → Option Target) (steps y x : ℕ) : Type 0 where
   ends : outermost y (above at steps y) ≡ outermost x (above at less x)
 
 ends_with : (at : ℕ → Option Target) (steps y x : ℕ) → is_among x (above at steps y) ≡ true → EndsWith at steps y x
-ends_with at zero y x h = absurd (false_true h)
+ends_with at zero y x h = absurd (false≢true h)
 ends_with at (suc steps) y x h = by_container _ at y
-    (λ none. absurd (false_true (sym (ap (is_among x) (above-none at (suc steps) y none)) ∙ h)))
+    (λ none. absurd (false≢true (sym (ap (is_among x) (above-none at (suc steps) y none)) ∙ h)))
     (λ c some.
     let here = above-some at steps y c some in
     let h' : (c == x) || is_among x (above at steps c) ≡ true = sym (ap (is_among x) here) ∙ h in
@@ -58,5 +58,5 @@ carried_alone S P x y never h =
     let none : is_among x (above (last (puts S P)) (length S.things) y) ≡ false = ap (is_among x) (above-none (last (puts S P)) (length S.things) y (ap container_of never)) in
     elim (y == x) as (λ b. (y == x) ≡ b → b || is_among x (above (last (puts S P)) (length S.things) y) ≡ true → y ≡ x) [
       | true ↦ λ e k. let same : y ≡ x = grind (arith, nat_tests) in same
-      | false ↦ λ e k. absurd (false_true (sym none ∙ k))
+      | false ↦ λ e k. absurd (false≢true (sym none ∙ k))
     ] refl h

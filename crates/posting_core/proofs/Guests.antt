@@ -2,6 +2,8 @@
 use Rattle.std.specs.Prelude.{ℕ, ◌≡◌, ◌⊎◌, true, false, if◌then◌else◌, List, [], ◌∷◌, None, Some, refl, IfSome}
 use Rattle.std.specs.Option.{option_map_or}
 use Rattle.std.proofs.Common.{ap, ◌∙◌, sym, subst, inl, inr}
+use Rattle.std.proofs.lemmas.Bool.{false≢true}
+use Rattle.std.proofs.lemmas.Option.{none-some}
 use Rattle.codes_core.specs.Loan.{is_out}
 use Rattle.nest_core.specs.Museum.{Museum, is_borrowed, is_inside, is_elsewhere}
 use Rattle.nest_core.specs.Puts.{last}
@@ -13,7 +15,6 @@ use Rattle.posting_core.specs.Verdicts.{is_away}
 use Rattle.posting_core.specs.Lawful.{IsLawful}
 use Rattle.posting_core.specs.Book.{Book}
 use Rattle.posting_core.specs.Accountability.{IsWithLender, IsGuest}
-use Rattle.posting_core.proofs.AppliedRows.{none_some, false_true}
 use Rattle.posting_core.proofs.Accounted.{IsLeft, AtNone, AtOne, by_verdict, none_left, one_left, went, came}
 use Rattle.posting_core.proofs.Carried.{carried_alone}
 use Rattle.posting_core.proofs.Owners.{IsListed, listed_is, listed_stays, line_listed, line_stage, borrowed_object, borrowed_listed, partner_elsewhere}
@@ -22,10 +23,10 @@ use Rattle.posting_core.proofs.Turns.{IsInside, IsObject, HasMoved, HasExited, H
 -- an object without a place was never put
 unplaced : {S : Museum} {P : List Entry} {e : Entry} {o : ℕ} → place_at S (e ∷ P) o ≡ None → (place_at S P o ≡ None → last (puts S P) o ≡ None) → Turn S P e o → last (puts S (e ∷ P)) o ≡ None
 unplaced none before (Left same) = same.stays.target ∙ before (sym same.stays.place ∙ none)
-unplaced none before (Moved m) = absurd (none_some (sym none ∙ m.after.is))
-unplaced none before (Exited x) = absurd (none_some (sym none ∙ x.after))
-unplaced none before (Returned r) = absurd (none_some (sym none ∙ r.after.is))
-unplaced none before (Received r) = absurd (none_some (sym none ∙ r.after.is))
+unplaced none before (Moved m) = absurd (none-some _ (sym none ∙ m.after.is))
+unplaced none before (Exited x) = absurd (none-some _ (sym none ∙ x.after))
+unplaced none before (Returned r) = absurd (none-some _ (sym none ∙ r.after.is))
+unplaced none before (Received r) = absurd (none-some _ (sym none ∙ r.after.is))
 
 never_put : (S : Museum) (depth : ℕ) (P : List Entry) (o : ℕ) → IsLawful S depth P → IsObject S o → place_at S P o ≡ None → last (puts S P) o ≡ None
 never_put S depth [] o lawful object none = refl
@@ -75,7 +76,7 @@ received {S} {P} {e} {o} r (inl away) = inr (record {
 })
 received {S} {P} {o} r (inr guest) =
     let inside : option_map_or (is_inside S) (place_at S P o) false ≡ true = ap (λ q. option_map_or (is_inside S) q false) guest.place.is ∙ guest.place.inside in
-    absurd (false_true (sym r.before ∙ inside))
+    absurd (false≢true (sym r.before ∙ inside))
 
 -- of a borrowed object, entry by entry
 module _ (S : Museum) (depth : ℕ) (o : ℕ) (borrowed : is_borrowed S o ≡ true) where
@@ -85,10 +86,10 @@ module _ (S : Museum) (depth : ℕ) (o : ℕ) (borrowed : is_borrowed S o ≡ tr
     | None ↦ λ none away.
         let alone = carried_alone S P m.thing o (never_put S depth P o lawful (borrowed_object S o borrowed) none) m.carried in
         let here : is_borrowed S m.thing ≡ false = ap (is_away S m.thing) (sym none ∙ m.before) ∙ m.here in
-        false_true (sym here ∙ sym (ap (is_borrowed S) alone) ∙ borrowed)
+        false≢true (sym here ∙ sym (ap (is_borrowed S) alone) ∙ borrowed)
     | Some p ↦ λ at away.
         let here : is_elsewhere S p ≡ false = ap (is_away S m.thing) (sym at ∙ m.before) ∙ m.here in
-        false_true (sym here ∙ away)
+        false≢true (sym here ∙ away)
   ] refl
 
   moved : {P : List Entry} {e : Entry} → IsLawful S depth P → HasMoved S P e o → Account S P o → Account S (e ∷ P) o
@@ -115,7 +116,7 @@ module _ (S : Museum) (depth : ℕ) (o : ℕ) (borrowed : is_borrowed S o ≡ tr
   applied lawful account (Left same) = left same account
   applied lawful account (Moved m) = moved lawful m account
   applied lawful account (Exited x) = exited lawful x account
-  applied {P} lawful account (Returned r) = absurd (false_true (sym (borrowed_listed S depth P r.loan o lawful borrowed r.ready.listed) ∙ r.loan_out))
+  applied {P} lawful account (Returned r) = absurd (false≢true (sym (borrowed_listed S depth P r.loan o lawful borrowed r.ready.listed) ∙ r.loan_out))
   applied lawful account (Received r) = received r account
 
   accounted : (P : List Entry) → IsLawful S depth P → Account S P o

@@ -2,6 +2,7 @@
 use Rattle.std.specs.Prelude.{ℕ, ◌≡◌, ◌⊎◌, true, false, if◌then◌else◌, List, [], ◌∷◌, Option, None, Some, IfSome}
 use Rattle.std.specs.Option.{option_map, option_map_or}
 use Rattle.std.proofs.Common.{ap, ◌∙◌, sym, subst, inl, inr}
+use Rattle.std.proofs.lemmas.Bool.{false≢true}
 use Rattle.codes_core.specs.Loan.{is_out}
 use Rattle.nest_core.specs.Museum.{Museum, is_own, is_inside, is_elsewhere}
 use Rattle.nest_core.specs.Puts.{is_among}
@@ -14,7 +15,6 @@ use Rattle.posting_core.specs.Verdicts.{is_away}
 use Rattle.posting_core.specs.Lawful.{IsLawful}
 use Rattle.posting_core.specs.Book.{Book}
 use Rattle.posting_core.specs.Accountability.{IsHome, IsLent}
-use Rattle.posting_core.proofs.AppliedRows.{false_true}
 use Rattle.posting_core.proofs.Accounted.{IsLeft, AtNone, AtOne, by_verdict, none_left, one_left, went, came}
 use Rattle.posting_core.proofs.Owners.{IsListed, listed_stays, line_listed, line_stage, own_object, own_listed, partner_elsewhere}
 use Rattle.posting_core.proofs.Turns.{IsInside, HasMoved, HasExited, HasReturned, Turn, Left, Moved, Exited, Returned, Received, turn, not_elsewhere_inside}
@@ -71,7 +71,7 @@ module _ (S : Museum) (depth : ℕ) (o : ℕ) (own : is_own S o ≡ true) where
   not_lent lawful here (inl home) = home
   not_lent {P} lawful here (inr lent) =
       let at : is_elsewhere S (place_no S lent.listed.agreed.partner) ≡ false = subst (λ q. IfSome q (λ p. is_elsewhere S p ≡ false)) lent.place here in
-      absurd (false_true (sym at ∙ partner_elsewhere S depth P lent.loan lent.listed.agreed lawful lent.listed.found))
+      absurd (false≢true (sym at ∙ partner_elsewhere S depth P lent.loan lent.listed.agreed lawful lent.listed.found))
 
   moved : {P : List Entry} {e : Entry} → IsLawful S depth P → HasMoved S P e o → Account S P o → Account S (e ∷ P) o
   moved {P} {e} lawful m account =
@@ -98,7 +98,7 @@ module _ (S : Museum) (depth : ℕ) (o : ℕ) (own : is_own S o ≡ true) where
   applied lawful account (Moved m) = moved lawful m account
   applied lawful account (Exited x) = exited lawful x account
   applied lawful account (Returned r) = returned r account
-  applied {P} lawful account (Received r) = absurd (false_true (sym r.loan_in ∙ own_listed S depth P r.loan o lawful own r.ready.listed))
+  applied {P} lawful account (Received r) = absurd (false≢true (sym r.loan_in ∙ own_listed S depth P r.loan o lawful own r.ready.listed))
 
   accounted : (P : List Entry) → IsLawful S depth P → Account S P o
   accounted [] lawful = inl (record { place = tt; loans = λ loan e. let q : Awaiting ≡ Away = e in cc })

@@ -8,6 +8,7 @@ use Rattle.std.proofs.Math.Seq.{get_or-append_seam}
 use Rattle.std.proofs.lemmas.Bool.{cases_eq}
 use Rattle.std.proofs.lemmas.Bool.Decides.{nat_tests}
 use Rattle.std.proofs.lemmas.List.{append-nil}
+use Rattle.std.proofs.lemmas.Option.{none-some}
 use Rattle.nest_core.specs.Museum.{Museum, is_inside}
 use Rattle.nest_core.specs.Puts.{with_put, place}
 use Rattle.nest_core.specs.Nest.{is_same_place}
@@ -25,7 +26,7 @@ use Rattle.posting_core.specs.VerdictNames.{is_applied}
 use Rattle.posting_core.specs.Verdicts.{verdict, pack_rows}
 use Rattle.posting_core.specs.Lawful.{Follows, IsLawful}
 use Rattle.posting_core.specs.Rows.{place_to}
-use Rattle.posting_core.proofs.AppliedRows.{none_some, none_holds}
+use Rattle.posting_core.proofs.AppliedRows.{none_holds}
 use Rattle.posting_core.proofs.Accounted.{IsApplied, by_verdict, nothing_put, by_carried}
 
 -- what places a thing bears a day
@@ -38,16 +39,16 @@ placed_by_day S P _ e = cc
 
 -- what an applied message puts its thing at, or into, has a place
 target_placed : (S : Museum) (depth : ℕ) (P : List Entry) (m : Message) → verdict S depth P m ≡ Applied → IfSome (put_in S P m) (λ put. place_to S P put.to ≢ None)
-target_placed S depth P (Move x p day) h = λ e. none_some (sym e)
+target_placed S depth P (Move x p day) h = λ e. none-some _ (sym e)
 target_placed S depth P (Pack x c day) h = λ e.
     let none = none_holds (pack_rows S depth P x c) refl h in
     let outside : not (option_map_or (is_inside S) (place_at S P (thing_no S c)) false) ≡ true = ap (λ o. not (option_map_or (is_inside S) o false)) e in
     let both : true ≡ false = sym outside ∙ none.1.1.1.0 in cc
 target_placed S depth P (Agree loan partner objects first last) h = tt
 target_placed S depth P (Authorise loan name) h = tt
-target_placed S depth P (Exit x loan day) h = elim (agreement P loan) as (λ o. IfSome {T = Put} (option_map (λ t. record { thing = thing_no S x; to = At (place_no S t.partner) }) o) (λ put. place_to S P put.to ≢ None)) [ None ↦ tt | Some t ↦ λ e. none_some (sym e) ]
-target_placed S depth P (Return x loan p day) h = λ e. none_some (sym e)
-target_placed S depth P (Receive x loan p day) h = λ e. none_some (sym e)
+target_placed S depth P (Exit x loan day) h = elim (agreement P loan) as (λ o. IfSome {T = Put} (option_map (λ t. record { thing = thing_no S x; to = At (place_no S t.partner) }) o) (λ put. place_to S P put.to ≢ None)) [ None ↦ tt | Some t ↦ λ e. none-some _ (sym e) ]
+target_placed S depth P (Return x loan p day) h = λ e. none-some _ (sym e)
+target_placed S depth P (Receive x loan p day) h = λ e. none-some _ (sym e)
 target_placed S depth P (SignOff name) h = tt
 target_placed S depth P (Extend loan last) h = tt
 

@@ -4,10 +4,11 @@ use Rattle.std.specs.List.{find, list_any, position, AllByRecursion}
 use Rattle.std.specs.Option.{option_map, option_map_or, option_to_list}
 use Rattle.std.specs.Str.{bytes_eq}
 use Rattle.std.proofs.Common.{ap, ◌∙◌, sym, subst, arith}
-use Rattle.std.proofs.lemmas.Bool.{or_parts}
+use Rattle.std.proofs.lemmas.Bool.{or_parts, false≢true}
 use Rattle.std.proofs.Math.Path.{fun_ext}
 use Rattle.std.proofs.lemmas.Bool.Decides.{nat_tests}
 use Rattle.std.proofs.lemmas.List.{append-nil, map-append}
+use Rattle.std.proofs.lemmas.Option.{none-some}
 use Rattle.std.proofs.lemmas.Slice.Eq.{bytes_eq-Decides}
 use Rattle.nest_core.specs.Museum.{Museum}
 use Rattle.nest_core.specs.Puts.{is_among}
@@ -26,7 +27,7 @@ use Rattle.posting_core.specs.Verdicts.{verdict, is_known, repeats}
 use Rattle.posting_core.specs.Lawful.{Follows, IsLawful}
 use Rattle.posting_core.specs.Book.{new_lines}
 use Rattle.posting_core.specs.LoanRows.{LoanRow, loan_row, loan_rows, with_lines, changed, authorised_row, extended_row, agreed_row, rows_with}
-use Rattle.posting_core.proofs.AppliedRows.{none_some, false_true, applied_is}
+use Rattle.posting_core.proofs.AppliedRows.{applied_is}
 use Rattle.posting_core.proofs.Among.{position_cons}
 use Rattle.posting_core.proofs.Agreed.{IsSound, AreApart, IsUntouched, agreements_apart, agreements_sound, agree_applied, untouched}
 use Rattle.posting_core.proofs.ObjectNumbers.{same_thing}
@@ -44,7 +45,7 @@ reset f os s o = option_map_or (λ t. t) (if is_among o os then Some s else None
 map_apart : (f : ℕ → LineStage) (o : ℕ) (s : LineStage) (os : List ℕ) → is_among o os ≡ false → map f os ≡ map (λ y. if o == y then s else f y) os
 map_apart f o s [] apart = refl
 map_apart f o s (y ∷ os) apart = elim (y == o) as (λ b. (y == o) ≡ b → (b || is_among o os) ≡ false → f y ∷ map f os ≡ (if o == y then s else f y) ∷ map (λ z. if o == z then s else f z) os) [
-  | true ↦ λ e h. absurd (false_true (sym h))
+  | true ↦ λ e h. absurd (false≢true (sym h))
   | false ↦ λ e h. let other : (o == y) ≡ false = grind (arith, nat_tests) in rw other (ap (λ ss. f y ∷ ss) (map_apart f o s os h))
 ] refl apart
 
@@ -87,7 +88,7 @@ lines_set row loan f (o ∷ os) s once =
 others_stay : (f g : Agreement → LoanRow) (loan : List ℕ) (ts : List Agreement) → ((t : Agreement) → bytes_eq loan t.loan ≡ false → g t ≡ f t) → find (λ u. bytes_eq loan u.loan) ts ≡ None → map g ts ≡ map f ts
 others_stay f g loan [] same none = refl
 others_stay f g loan (t ∷ ts) same none = elim (bytes_eq loan t.loan) as (λ b. bytes_eq loan t.loan ≡ b → cond b (Some t) (find (λ u. bytes_eq loan u.loan) ts) ≡ None → g t ∷ map g ts ≡ f t ∷ map f ts) [
-  | true ↦ λ e h. absurd (none_some (sym h))
+  | true ↦ λ e h. absurd (none-some _ (sym h))
   | false ↦ λ e h. ap (λ r. r ∷ map g ts) (same t e) ∙ ap (λ rs. f t ∷ rs) (others_stay f g loan ts same h)
 ] refl none
 
@@ -126,7 +127,7 @@ unlike S x (y ∷ ys) known all apart =
     let two = or_parts (bytes_eq x y) (list_any (bytes_eq x) ys) apart in
     elim (thing_no S y == thing_no S x) as (λ b. (thing_no S y == thing_no S x) ≡ b → (b || is_among (thing_no S x) (map (thing_no S) ys)) ≡ false) [
       | true ↦ λ e. let same : thing_no S x ≡ thing_no S y = grind (arith, nat_tests) in
-          absurd (false_true (sym two.0 ∙ (bytes_eq-Decides x y).1 (same_thing S x y known both.0 same)))
+          absurd (false≢true (sym two.0 ∙ (bytes_eq-Decides x y).1 (same_thing S x y known both.0 same)))
       | false ↦ λ e. unlike S x ys known both.1 two.1
     ] refl
 

@@ -5,7 +5,7 @@ use Rattle.std.specs.Option.{option_map, option_map_or, option_and_then}
 use Rattle.std.specs.Str.{bytes_eq}
 use Rattle.std.proofs.Common.{ap, ◌∙◌, sym, subst, arith}
 use Rattle.std.proofs.lemmas.Bool.Decides.{nat_tests}
-use Rattle.std.proofs.lemmas.Option.{slice_get-map}
+use Rattle.std.proofs.lemmas.Option.{slice_get-map, none-some}
 use Rattle.std.proofs.Math.Path.{fun_ext}
 use Rattle.codes_core.specs.declared.fault.NoMemory.{NoMemory}
 use Rattle.std.proofs.lemmas.Slice.Eq.{bytes_eq-Decides}
@@ -21,7 +21,6 @@ use Rattle.posting_core.specs.Loans.{stage, objects_of, objects, line, loan_stat
 use Rattle.posting_core.specs.Verdicts.{first_of, ◌if◌, stage_eq, is_listed, is_at_stage}
 use Rattle.posting_core.specs.Lawful.{IsLawful}
 use Rattle.posting_core.specs.LoanRows.{LoanRow, loan_row, loan_rows, line_of, state_of}
-use Rattle.posting_core.proofs.AppliedRows.{none_some}
 use Rattle.posting_core.proofs.Agreed.{AreApart, agreements_apart, found_is}
 use Rattle.posting_core.proofs.Among.{position_cons, eq_sym}
 
@@ -93,17 +92,17 @@ pub code_at : (S : Museum) (P : List Entry) (rows : List LoanRow) (i : ℕ) (row
 code_at S P rows i row kept at =
     slice_get-map (λ (t : Agreement). t.loan) (agreements P) i
     ∙ (elim (slice_get (agreements P) i) as (λ o. option_map (loan_row S P) o ≡ Some row → option_map (λ t. t.loan) o ≡ Some row.loan) [
-      | None ↦ λ e. absurd (none_some e)
+      | None ↦ λ e. absurd (none-some _ e)
       | Some t ↦ λ e. ap (option_map (λ r. r.loan)) e
     ] (sym (slice_get-map (loan_row S P) (agreements P) i) ∙ sym (ap (λ rs. slice_get rs i) kept) ∙ at))
 
 found_at : (ts : List Agreement) (i : ℕ) (t : Agreement) → AreApart ts → slice_get ts i ≡ Some t → find (λ u. bytes_eq t.loan u.loan) ts ≡ Some t
-found_at [] i t apart e = absurd (none_some e)
+found_at [] i t apart e = absurd (none-some _ e)
 found_at (u ∷ ts) zero t apart e = let same : u ≡ t = cc in subst (λ v. cond (bytes_eq v.loan u.loan) (Some u) (find (λ w. bytes_eq v.loan w.loan) ts) ≡ Some v) same (rw ((bytes_eq-Decides u.loan u.loan).1 refl) refl)
 found_at (u ∷ ts) (suc i) t (other, apart) e = elim (bytes_eq t.loan u.loan) as (λ b. bytes_eq t.loan u.loan ≡ b → cond b (Some u) (find (λ w. bytes_eq t.loan w.loan) ts) ≡ Some t) [
   | true ↦ λ h. let same : t.loan ≡ u.loan = (bytes_eq-Decides t.loan u.loan).0 h in
       let there = found_at ts i t apart e in
-      absurd (none_some (sym other ∙ ap (λ l. find (λ w. bytes_eq l w.loan) ts) (sym same) ∙ there))
+      absurd (none-some _ (sym other ∙ ap (λ l. find (λ w. bytes_eq l w.loan) ts) (sym same) ∙ there))
   | false ↦ λ h. found_at ts i t apart e
 ] refl
 
@@ -112,6 +111,6 @@ pub objects_at : (S : Museum) (depth : ℕ) (P : List Entry) (rows : List LoanRo
 objects_at S depth P rows i row lawful kept at =
     ap (option_map (objects S P)) (slice_get-map (λ (t : Agreement). t.loan) (agreements P) i)
     ∙ (elim (slice_get (agreements P) i) as (λ o. slice_get (agreements P) i ≡ o → option_map (loan_row S P) o ≡ Some row → option_map (objects S P) (option_map (λ t. t.loan) o) ≡ Some row.objects) [
-      | None ↦ λ h e. absurd (none_some e)
+      | None ↦ λ h e. absurd (none-some _ e)
       | Some t ↦ λ h e. ap (λ o. Some (option_map_or (objects_of S) o [])) (found_at (agreements P) i t (agreements_apart S depth P lawful) h) ∙ ap (option_map (λ r. r.objects)) e
     ] refl (sym (slice_get-map (loan_row S P) (agreements P) i) ∙ sym (ap (λ rs. slice_get rs i) kept) ∙ at))

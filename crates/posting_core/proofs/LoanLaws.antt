@@ -3,7 +3,7 @@ use Rattle.std.specs.Prelude.{ℕ, ℤ, ◌≡◌, ◌≤ℤ◌, ◌&&◌, ◌||
 use Rattle.std.specs.List.{list_all, list_any}
 use Rattle.std.specs.Option.{option_map, option_map_or}
 use Rattle.std.proofs.Common.{ap, ◌∙◌, sym, subst, arith, inl, inr}
-use Rattle.std.proofs.lemmas.Bool.{and_parts}
+use Rattle.std.proofs.lemmas.Bool.{and_parts, false≢true, not-false}
 use Rattle.std.proofs.lemmas.Bool.Decides.{nat_tests}
 use Rattle.std.proofs.lemmas.Int.{ints}
 use Rattle.nest_core.specs.Museum.{Museum}
@@ -20,12 +20,12 @@ use Rattle.posting_core.specs.Loans.{objects_of, stage, line, is_done, is_awaiti
 use Rattle.posting_core.specs.Lawful.{IsLawful}
 use Rattle.posting_core.specs.Verdicts.{verdict, exit_rows, return_rows, receive_rows, is_over}
 use Rattle.posting_core.specs.Accountability.{IsOver, AtEachApplied, IsAuthorised, IsInTerm, IsWithin}
-use Rattle.posting_core.proofs.AppliedRows.{false_true, none_holds, held, applied_is}
+use Rattle.posting_core.proofs.AppliedRows.{none_holds, applied_is}
 
 done_over : (s : LineStage) → is_done s ≡ true → IsOver s
 done_over Back h = inl refl
 done_over GivenBack h = inr refl
-done_over _ h = absurd (false_true h)
+done_over _ h = absurd (false≢true h)
 
 closed_done : (authorised : Bool) (stages : List LineStage) → state_by authorised stages ≡ Closed → list_all is_done stages ≡ true
 closed_done false stages h = absurd (let e : Draft ≡ Closed = h in cc)
@@ -38,7 +38,7 @@ closed_done true stages h = elim (list_all is_done stages) as (λ b. (if b then 
 ] h
 
 all_done : (f : ℕ → LineStage) (os : List ℕ) (o : ℕ) → list_all is_done (map f os) ≡ true → is_among o os ≡ true → is_done (f o) ≡ true
-all_done f [] o all h = absurd (false_true h)
+all_done f [] o all h = absurd (false≢true h)
 all_done f (x ∷ os) o all h =
     let parts = and_parts (is_done (f x)) (list_all is_done (map f os)) all in
     elim (x == o) as (λ b. (x == o) ≡ b → b || is_among o os ≡ true → is_done (f o) ≡ true) [
@@ -59,9 +59,9 @@ pub closed_is_over : (S : Museum) (P : List Entry) (loan : List ℕ) → loan_st
 closed_is_over S P loan closed o = closed_line S P loan (agreement P loan) o closed
 
 authorised : (S : Museum) (depth : ℕ) (P : List Entry) (m : Message) → verdict S depth P m ≡ Applied → IsAuthorised P m
-authorised S depth P (Exit x loan day) h = held (is_authorised P loan) (none_holds (exit_rows S P x loan day) refl h).1.1.1.0
-authorised S depth P (Return x loan p day) h = held (is_authorised P loan) (none_holds (return_rows S P x loan p) refl h).1.1.1.1.0
-authorised S depth P (Receive x loan p day) h = held (is_authorised P loan) (none_holds (receive_rows S P x loan p day) refl h).1.1.1.1.1.0
+authorised S depth P (Exit x loan day) h = not-false (is_authorised P loan) (none_holds (exit_rows S P x loan day) refl h).1.1.1.0
+authorised S depth P (Return x loan p day) h = not-false (is_authorised P loan) (none_holds (return_rows S P x loan p) refl h).1.1.1.1.0
+authorised S depth P (Receive x loan p day) h = not-false (is_authorised P loan) (none_holds (receive_rows S P x loan p day) refl h).1.1.1.1.1.0
 authorised S depth P _ h = tt
 
 not_over : (o : Option ℤ) (day : ℤ) → is_some o ≡ true → option_map_or (λ last. int_lt last day) o false ≡ false → (last : ℤ) × (o ≡ Some last) × (day ≤ℤ last)
@@ -78,10 +78,10 @@ within P loan day agreed h = not_over (last_day P loan) day (known (agreement P 
 in_term : (S : Museum) (depth : ℕ) (P : List Entry) (m : Message) → verdict S depth P m ≡ Applied → IsInTerm P m
 in_term S depth P (Exit x loan day) h = λ out.
     let none = none_holds (exit_rows S P x loan day) refl h in
-    within P loan day (held (is_agreed P loan) none.1.0) (sym (ap (λ b. b && is_over P loan day) out) ∙ none.1.1.1.1.1.1.1.0)
+    within P loan day (not-false (is_agreed P loan) none.1.0) (sym (ap (λ b. b && is_over P loan day) out) ∙ none.1.1.1.1.1.1.1.0)
 in_term S depth P (Receive x loan p day) h =
     let none = none_holds (receive_rows S P x loan p day) refl h in
-    within P loan day (held (is_agreed P loan) none.1.1.1.0) none.1.1.1.1.1.1.1.1.1.1.0
+    within P loan day (not-false (is_agreed P loan) none.1.1.1.0) none.1.1.1.1.1.1.1.1.1.1.0
 in_term S depth P _ h = tt
 
 at_each : (S : Museum) (depth : ℕ) (P : List Entry) (R : List Entry → Message → Type 0) → ((Q : List Entry) (m : Message) → verdict S depth Q m ≡ Applied → R Q m) → IsLawful S depth P → AtEachApplied R P

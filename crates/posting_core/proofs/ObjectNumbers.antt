@@ -3,7 +3,7 @@ use Rattle.std.specs.Prelude.{◌≡◌, ℕ, ◌+◌, ◌<◌, Bool, true, fals
 use Rattle.std.specs.List.{list_any}
 use Rattle.std.specs.Str.{bytes_eq}
 use Rattle.std.proofs.Common.{arith, ap, sym, ◌∙◌, get_or, take}
-use Rattle.std.proofs.lemmas.Bool.{false_from_ne_true, eqb-true, or_parts}
+use Rattle.std.proofs.lemmas.Bool.{false_from_ne_true, eqb-true, or_parts, not-false, false≢true}
 use Rattle.std.proofs.lemmas.List.{map-append, take_more}
 use Rattle.std.proofs.lemmas.List.Folds.{list_any_at}
 use Rattle.std.proofs.lemmas.Slice.Eq.{bytes_eq-Decides}
@@ -13,13 +13,12 @@ use Rattle.posting_core.specs.declared.stage.LineStage.{LineStage}
 use Rattle.posting_core.specs.declared.stage.LineStage.TheVariants.{Awaiting}
 use Rattle.posting_core.specs.Messages.{thing_no}
 use Rattle.posting_core.specs.Verdicts.{is_known, repeats}
-use Rattle.posting_core.proofs.AppliedRows.{false_true, held}
 use Rattle.posting_core.proofs.Among.{code_found}
 
 -- things of the setup with one number are one
 pub same_thing : (S : Museum) (x y : List ℕ) → not (is_known S x) ≡ false → not (is_known S y) ≡ false → thing_no S x ≡ thing_no S y → x ≡ y
 same_thing S x y known_x known_y same =
-    let codes : Some x ≡ Some y = sym (code_found S x (held (is_known S x) known_x)) ∙ ap (thing_code_of S) same ∙ code_found S y (held (is_known S y) known_y) in cc
+    let codes : Some x ≡ Some y = sym (code_found S x (not-false (is_known S x) known_x)) ∙ ap (thing_code_of S) same ∙ code_found S y (not-false (is_known S y) known_y) in cc
 
 other_number : (S : Museum) (x y : List ℕ) → not (is_known S x) ≡ false → not (is_known S y) ≡ false → bytes_eq x y ≡ false → nat_eq (thing_no S y) (thing_no S x) ≡ false
 other_number S x y known_x known_y apart = false_from_ne_true (nat_eq (thing_no S y) (thing_no S x)) (λ e.
@@ -27,7 +26,7 @@ other_number S x y known_x known_y apart = false_from_ne_true (nat_eq (thing_no 
 
 -- what passes for none doesn't for one
 none_at : {X : Type 0} (p : X → Bool) (xs : List X) (i : ℕ) (d : X) → i < length xs → list_any p xs ≡ false → p (get_or xs i d) ≡ false
-none_at p xs i d less none = false_from_ne_true (p (get_or xs i d)) (λ passes. false_true (sym none ∙ list_any_at p xs i d less passes))
+none_at p xs i d less none = false_from_ne_true (p (get_or xs i d)) (λ passes. false≢true (sym none ∙ list_any_at p xs i d less passes))
 
 -- the next object's number is none of those before it
 new_number : (S : Museum) (xs : List (List ℕ)) (i : ℕ) (d : List ℕ) → i < length xs → list_any (λ x. not (is_known S x)) xs ≡ false → repeats xs ≡ false →

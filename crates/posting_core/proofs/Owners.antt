@@ -2,6 +2,7 @@
 use Rattle.std.specs.Prelude.{ℕ, ◌≡◌, ◌<◌, Bool, true, false, if◌then◌else◌, List, [], ◌∷◌, None, Some, refl}
 use Rattle.std.specs.Option.{option_map, option_map_or}
 use Rattle.std.proofs.Common.{ap, ◌∙◌, sym, subst}
+use Rattle.std.proofs.lemmas.Bool.{false≢true}
 use Rattle.std.proofs.lemmas.List.{length-map}
 use Rattle.std.proofs.lemmas.Option.{slice_get_within}
 use Rattle.codes_core.specs.declared.thing.ThingKind.{ThingKind}
@@ -17,7 +18,6 @@ use Rattle.posting_core.specs.declared.stage.LineStage.{LineStage}
 use Rattle.posting_core.specs.Loans.{objects_of, objects, stage, line}
 use Rattle.posting_core.specs.Verdicts.{is_of_wrong_owner}
 use Rattle.posting_core.specs.Lawful.{IsLawful}
-use Rattle.posting_core.proofs.AppliedRows.{false_true}
 use Rattle.posting_core.proofs.Agreed.{agreement_sound, found_is}
 use Rattle.posting_core.proofs.Placed.{place_below}
 use Rattle.posting_core.proofs.Among.{among_codes}
@@ -29,7 +29,7 @@ object_by : (S : Museum) (o : ℕ) (is_kind : ThingKind → Bool) → ((k : Thin
     option_map_or is_kind (option_map thing_kind (thing_code_of S o)) false ≡ true → IsObject S o
 object_by S o is_kind no_container h =
     elim (thing_code_of S o) as (λ c. thing_code_of S o ≡ c → option_map_or is_kind (option_map thing_kind c) false ≡ true → IsObject S o) [
-      | None ↦ λ e k. absurd (false_true k)
+      | None ↦ λ e k. absurd (false≢true k)
       | Some x ↦ λ e k. record {
         below = subst (λ n. o < n) (length-map S.things (λ row. row.0)) (slice_get_within (thing_codes S) o x e);
         object = ap (λ c. option_map_or is_container_kind (option_map thing_kind c) false) e ∙ no_container (thing_kind x) k;
@@ -41,16 +41,16 @@ own_object S o own = object_by S o is_own_kind kinds own
   where
     kinds : (k : ThingKind) → is_own_kind k ≡ true → is_container_kind k ≡ false
     kinds Own h = refl
-    kinds Borrowed h = absurd (false_true h)
-    kinds Container h = absurd (false_true h)
+    kinds Borrowed h = absurd (false≢true h)
+    kinds Container h = absurd (false≢true h)
 
 pub borrowed_object : (S : Museum) (o : ℕ) → is_borrowed S o ≡ true → IsObject S o
 borrowed_object S o borrowed = object_by S o is_borrowed_kind kinds borrowed
   where
     kinds : (k : ThingKind) → is_borrowed_kind k ≡ true → is_container_kind k ≡ false
-    kinds Own h = absurd (false_true h)
+    kinds Own h = absurd (false≢true h)
     kinds Borrowed h = refl
-    kinds Container h = absurd (false_true h)
+    kinds Container h = absurd (false≢true h)
 
 -- what a loan lists, its agreement does
 pub record IsListed (S : Museum) (P : List Entry) (loan : List ℕ) (o : ℕ) : Type 0 where
@@ -60,7 +60,7 @@ pub record IsListed (S : Museum) (P : List Entry) (loan : List ℕ) (o : ℕ) : 
 
 pub listed_is : (S : Museum) (P : List Entry) (loan : List ℕ) (o : ℕ) → is_among o (objects S P loan) ≡ true → IsListed S P loan o
 listed_is S P loan o listed = elim (agreement P loan) as (λ t. agreement P loan ≡ t → is_among o (option_map_or (objects_of S) t []) ≡ true → IsListed S P loan o) [
-  | None ↦ λ e k. absurd (false_true k)
+  | None ↦ λ e k. absurd (false≢true k)
   | Some t ↦ λ e k. record { agreed = t; found = e; among = k }
 ] refl listed
 

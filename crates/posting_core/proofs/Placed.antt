@@ -4,9 +4,11 @@ use Rattle.std.specs.List.{position}
 use Rattle.std.specs.Option.{option_map, option_map_or}
 use Rattle.std.specs.Str.{bytes_eq}
 use Rattle.std.proofs.Common.{ap, ◌∙◌, sym, subst}
+use Rattle.std.proofs.lemmas.Bool.{false≢true, not-false}
 use Rattle.std.proofs.lemmas.List.{length-map}
 use Rattle.std.proofs.lemmas.List.Elements.{All-nil, All-cons}
 use Rattle.std.proofs.lemmas.List.Quantifiers.{position-Some}
+use Rattle.std.proofs.lemmas.Option.{none-some}
 use Rattle.nest_core.specs.declared.put.Target.{Target}
 use Rattle.nest_core.specs.declared.put.Target.TheVariants.{At, Within}
 use Rattle.nest_core.specs.declared.put.Put.{Put}
@@ -28,12 +30,12 @@ use Rattle.posting_core.specs.Verdicts.{verdict, move_rows, pack_rows, exit_rows
 use Rattle.posting_core.specs.Lawful.{IsLawful}
 use Rattle.posting_core.specs.Book.{Book, verdict_in, place_after}
 use Rattle.posting_core.specs.Rows.{place_to}
-use Rattle.posting_core.proofs.AppliedRows.{none_some, false_true, none_holds, held, applied_is}
+use Rattle.posting_core.proofs.AppliedRows.{none_holds, applied_is}
 use Rattle.posting_core.proofs.Agreed.{agreement_sound}
 
 found_below : (xs : List (List ℕ)) (code : List ℕ) (n : ℕ) → n ≡ length xs → is_some (position (bytes_eq code) xs) ≡ true → unwrap_or (position (bytes_eq code) xs) n < n
 found_below xs code n same = elim (position (bytes_eq code) xs) as (λ o. position (bytes_eq code) xs ≡ o → is_some o ≡ true → unwrap_or o n < n) [
-  | None ↦ λ e h. absurd (false_true h)
+  | None ↦ λ e h. absurd (false≢true h)
   | Some i ↦ λ e h. subst (λ k. i < k) (sym same) (position-Some (bytes_eq code) xs i [] e).0
 ] refl
 
@@ -63,22 +65,22 @@ leaves_to S depth P x loan day lawful thing = elim (agreement P loan) as (λ o. 
 put_applied : (S : Museum) (depth : ℕ) (P : List Entry) (m : Message) → IsLawful S depth P → verdict S depth P m ≡ Applied → IfSome (put_in S P m) (IsAllowedPut S depth P)
 put_applied S depth P (Move x p day) lawful h =
     let none = none_holds (move_rows S P x p) refl h in
-    record { thing = thing_below S x (held (is_known S x) none.0); place = place_below S p (held (is_known_place S p) none.1.0); room = tt }
+    record { thing = thing_below S x (not-false (is_known S x) none.0); place = place_below S p (not-false (is_known_place S p) none.1.0); room = tt }
 put_applied S depth P (Pack x c day) lawful h =
     let none = none_holds (pack_rows S depth P x c) refl h in
     record {
-      thing = thing_below S x (held (is_known S x) none.0);
+      thing = thing_below S x (not-false (is_known S x) none.0);
       place = tt;
-      room = (thing_below S c (container_known S c (held (is_known_container S c) none.1.0)), none.1.1.1.1.0, none.1.1.1.1.1.0);
+      room = (thing_below S c (container_known S c (not-false (is_known_container S c) none.1.0)), none.1.1.1.1.0, none.1.1.1.1.1.0);
     }
 put_applied S depth P (Exit x loan day) lawful h =
-    leaves_to S depth P x loan day lawful (thing_below S x (held (is_known S x) (none_holds (exit_rows S P x loan day) refl h).0))
+    leaves_to S depth P x loan day lawful (thing_below S x (not-false (is_known S x) (none_holds (exit_rows S P x loan day) refl h).0))
 put_applied S depth P (Return x loan p day) lawful h =
     let none = none_holds (return_rows S P x loan p) refl h in
-    record { thing = thing_below S x (held (is_known S x) none.0); place = place_below S p (held (is_known_place S p) none.1.0); room = tt }
+    record { thing = thing_below S x (not-false (is_known S x) none.0); place = place_below S p (not-false (is_known_place S p) none.1.0); room = tt }
 put_applied S depth P (Receive x loan p day) lawful h =
     let none = none_holds (receive_rows S P x loan p day) refl h in
-    record { thing = thing_below S x (held (is_known S x) none.0); place = place_below S p (held (is_known_place S p) none.1.0); room = tt }
+    record { thing = thing_below S x (not-false (is_known S x) none.0); place = place_below S p (not-false (is_known_place S p) none.1.0); room = tt }
 put_applied S depth P (Agree loan partner objects first final) lawful h = tt
 put_applied S depth P (Authorise loan name) lawful h = tt
 put_applied S depth P (SignOff name) lawful h = tt
@@ -111,7 +113,7 @@ with_sound S depth P (Some put) allowed sound = sound_put (length S.things) dept
 
 -- over a lawful list no chain is cut, none is longer than the depth limit, and all are of things
 pub lawful_sound : (S : Museum) (depth : ℕ) (P : List Entry) → IsLawful S depth P → IsSound (length S.things) depth (last (puts S P))
-lawful_sound S depth [] lawful = record { small = λ y c e. absurd (none_some e); ended = λ y. refl; far = λ y ge. refl }
+lawful_sound S depth [] lawful = record { small = λ y c e. absurd (none-some _ e); ended = λ y. refl; far = λ y ge. refl }
 lawful_sound S depth (e ∷ P) (follows, lawful) =
     with_sound S depth P (put_by S P e.verdict e.message) (put_allowed S depth P e.verdict e.message lawful follows.judged) (lawful_sound S depth P lawful)
 

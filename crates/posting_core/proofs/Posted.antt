@@ -5,6 +5,7 @@ use Rattle.std.specs.List.{find}
 use Rattle.std.specs.Str.{bytes_eq}
 use Rattle.std.specs.Option.{option_map, option_to_list}
 use Rattle.std.proofs.Common.{ap, ◌∙◌, sym, subst, arith, length-set}
+use Rattle.std.proofs.lemmas.Bool.{false≢true}
 use Rattle.std.proofs.lemmas.List.{append-nil, length-replicate, length-map}
 use Rattle.std.proofs.lemmas.Option.{IfSome_then}
 use Rattle.nest_core.specs.declared.put.Put.{Put}
@@ -28,7 +29,7 @@ use Rattle.posting_core.specs.Book.{Book, chain_in, loans_in, objects_of_loan, p
 use Rattle.posting_core.specs.Agreements.{Agreement, agreement_in, agreement_by, agreements, agreement, is_agreed}
 use Rattle.posting_core.specs.LoanRows.{LoanRow, loan_row, loan_rows, rows_with, MayAgree}
 use Rattle.posting_core.specs.Rows.{row_of, rows_after, AreAscending, IsKept}
-use Rattle.posting_core.proofs.AppliedRows.{false_true, applied_is}
+use Rattle.posting_core.proofs.AppliedRows.{applied_is}
 use Rattle.posting_core.proofs.Agreed.{IsSound, agree_applied}
 use Rattle.posting_core.proofs.Lined.{rows_after_entry}
 use Rattle.posting_core.proofs.LoanAnswers.{IsRowOf, row_is, row_missing, code_at, objects_at}
@@ -116,7 +117,7 @@ unplaced S P v (Agree loan partner objects first final) agrees = elim (is_applie
   where
     put_of : Bool → Option Put
     put_of b = if b then None else None
-unplaced S P v _ agrees = absurd (false_true agrees)
+unplaced S P v _ agrees = absurd (false≢true agrees)
 
 -- what `apply` is told of its entry and its changes, over the ledger's fields
 pub record IsPlanned (S : Museum) (P : List Entry) (N : Nested) (R : List (List Spot)) (L : List LoanRow) (e : Entry) (news : List NewSpot) (lines : List NewLine) : Type 0 where

@@ -2,6 +2,7 @@
 use Rattle.std.specs.Prelude.{ℕ, ℤ, ◌≡◌, ◌<◌, true, false, not, List, [], ◌∷◌, length, Option, None, Some, refl, is_some, slice_get}
 use Rattle.std.specs.Option.{option_map, option_map_or}
 use Rattle.std.proofs.Common.{ap, ◌∙◌, sym, subst}
+use Rattle.std.proofs.lemmas.Bool.{not-false, false≢true}
 use Rattle.std.proofs.lemmas.Option.{slice_get-get_or}
 use Rattle.codes_core.specs.Loan.{is_out}
 use Rattle.nest_core.specs.declared.put.Put.{Put}
@@ -19,7 +20,7 @@ use Rattle.posting_core.specs.History.{puts, put_in, place_at}
 use Rattle.posting_core.specs.Loans.{Crossing, crossing_in, exit_of, stage}
 use Rattle.posting_core.specs.Verdicts.{verdict, first_of, move_rows, pack_rows, exit_rows, return_rows, receive_rows, is_known_place, is_away, stands_inside, carries_unlisted, carries_wrong_stage}
 use Rattle.posting_core.specs.Rows.{place_to}
-use Rattle.posting_core.proofs.AppliedRows.{false_true, none_holds, held}
+use Rattle.posting_core.proofs.AppliedRows.{none_holds}
 use Rattle.posting_core.proofs.Placed.{place_below}
 use Rattle.posting_core.proofs.Accounted.{IsApplied, IsLeft, GoesWith, HasCrossed, IsReady, nothing_put, by_carried, carried_among, apart_not_among, nothing_crosses, crosses_without, crosses_with, ready}
 
@@ -30,7 +31,7 @@ elsewhere_is S p less =
     ap (λ o. option_map_or (λ r. not r.1) o false) is ∙ sym (ap (λ o. not (option_map_or (λ r. r.1) o false)) is)
 
 inside_if_not_elsewhere : (S : Museum) (p : ℕ) → p < length S.places → is_elsewhere S p ≡ false → is_inside S p ≡ true
-inside_if_not_elsewhere S p less h = held (is_inside S p) (sym (elsewhere_is S p less) ∙ h)
+inside_if_not_elsewhere S p less h = not-false (is_inside S p) (sym (elsewhere_is S p less) ∙ h)
 
 pub elsewhere_if_not_inside : (S : Museum) (p : ℕ) → p < length S.places → is_inside S p ≡ false → is_elsewhere S p ≡ true
 elsewhere_if_not_inside S p less h = elsewhere_is S p less ∙ ap not h
@@ -45,12 +46,12 @@ pub record IsInside (S : Museum) (place : Option ℕ) : Type 0 where
   pub inside : is_inside S at ≡ true
 
 inside_is : (S : Museum) (place : Option ℕ) → option_map_or (is_inside S) place false ≡ true → IsInside S place
-inside_is S None h = absurd (false_true h)
+inside_is S None h = absurd (false≢true h)
 inside_is S (Some p) h = record { at = p; is = refl; inside = h }
 
 -- the place of a message is a known one that isn't elsewhere
 comes_inside : (S : Museum) (p : List ℕ) → not (is_known_place S p) ≡ false → is_elsewhere S (place_no S p) ≡ false → IsInside S (Some (place_no S p))
-comes_inside S p known there = record { at = place_no S p; is = refl; inside = inside_if_not_elsewhere S (place_no S p) (place_below S p (held (is_known_place S p) known)) there }
+comes_inside S p known there = record { at = place_no S p; is = refl; inside = inside_if_not_elsewhere S (place_no S p) (place_below S p (not-false (is_known_place S p) known)) there }
 
 -- an object of the setup
 pub record IsObject (S : Museum) (o : ℕ) : Type 0 where
@@ -138,9 +139,9 @@ module _ {S : Museum} {depth : ℕ} {P : List Entry} {e : Entry} {o : ℕ} (a : 
   exits : (x loan : List ℕ) (day : ℤ) → e.message ≡ Exit x loan day → first_of (exit_rows S P x loan day) ≡ Applied → Turn S P e o
   exits x loan day is h =
       let none = none_holds (exit_rows S P x loan day) refl h in
-      let stands = inside_is S (place_at S P (thing_no S x)) (held (stands_inside S P x) none.1.1.1.1.0) in
+      let stands = inside_is S (place_at S P (thing_no S x)) (not-false (stands_inside S P x) none.1.1.1.1.0) in
       elim (agreement P loan) as (λ t. agreement P loan ≡ t → is_some t ≡ true → Turn S P e o) [
-        | None ↦ λ found agreed. absurd (false_true agreed)
+        | None ↦ λ found agreed. absurd (false≢true agreed)
         | Some t ↦ λ found agreed.
             let put : Put = record { thing = thing_no S x; to = At (place_no S t.partner) } in
             let puts_it : put_in S P e.message ≡ Some put = ap (put_in S P) is ∙ ap (option_map (λ t. record { thing = thing_no S x; to = At (place_no S t.partner) })) found in
@@ -155,7 +156,7 @@ module _ {S : Museum} {depth : ℕ} {P : List Entry} {e : Entry} {o : ℕ} (a : 
               crossed = crossed;
               ready = ready;
             }))
-      ] refl (held (is_agreed P loan) none.1.0)
+      ] refl (not-false (is_agreed P loan) none.1.0)
 
   returns : (x loan p : List ℕ) (day : ℤ) → e.message ≡ Return x loan p day → first_of (return_rows S P x loan p) ≡ Applied → Turn S P e o
   returns x loan p day is h =
@@ -165,7 +166,7 @@ module _ {S : Museum} {depth : ℕ} {P : List Entry} {e : Entry} {o : ℕ} (a : 
       (λ goes crossed ready. Returned (record {
         x = x;
         loan = loan;
-        loan_out = held (is_out loan) none.1.1.1.1.1.0;
+        loan_out = not-false (is_out loan) none.1.1.1.1.1.0;
         after = subst (IsInside S) (sym goes.after) (comes_inside S p none.1.0 none.1.1.0);
         crossed = crossed;
         ready = ready;
@@ -192,7 +193,7 @@ module _ {S : Museum} {depth : ℕ} {P : List Entry} {e : Entry} {o : ℕ} (a : 
       moves (record { thing = thing_no S x; to = At (place_no S p) }) (ap (put_in S P) is) (ap crossing_in is) none.1.1.1.0 (comes_inside S p none.1.0 none.1.1.0)
   by (Pack x c day) is h =
       let none = none_holds (pack_rows S depth P x c) refl h in
-      moves (record { thing = thing_no S x; to = Within (thing_no S c) }) (ap (put_in S P) is) (ap crossing_in is) none.1.1.0 (inside_is S (place_at S P (thing_no S c)) (held (stands_inside S P c) none.1.1.1.0))
+      moves (record { thing = thing_no S x; to = Within (thing_no S c) }) (ap (put_in S P) is) (ap crossing_in is) none.1.1.0 (inside_is S (place_at S P (thing_no S c)) (not-false (stands_inside S P c) none.1.1.1.0))
   by (Agree loan partner objects first final) is h = nothing (ap (put_in S P) is) (ap crossing_in is)
   by (Authorise loan name) is h = nothing (ap (put_in S P) is) (ap crossing_in is)
   by (Exit x loan day) is h = exits x loan day is h

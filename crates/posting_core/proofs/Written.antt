@@ -6,13 +6,13 @@ use Rattle.std.proofs.Common.{ap, ◌∙◌, sym, subst, arith, inl, inr, length
 use Rattle.std.proofs.lemmas.Bool.{cases_eq}
 use Rattle.std.proofs.lemmas.Bool.Decides.{nat_tests}
 use Rattle.std.proofs.lemmas.List.{append-nil}
+use Rattle.std.proofs.lemmas.Option.{none-some}
 use Rattle.nest_core.proofs.Writes.{get_set_same, get_set_other}
 use Rattle.posting_core.specs.declared.entry.Spot.{Spot}
 use Rattle.posting_core.specs.declared.entry.NewSpot.{NewSpot}
 use Rattle.posting_core.specs.History.{spot_from}
 use Rattle.posting_core.specs.Book.{new_spot}
 use Rattle.posting_core.specs.Rows.{row_of, rows_after, AreAscending}
-use Rattle.posting_core.proofs.AppliedRows.{none_some}
 
 -- each spot of f is of its own thing
 abbrev pub IsOwn : (ℕ → Option NewSpot) → Type 0
@@ -59,7 +59,7 @@ chosen_spot number count before after day x = elim (spot_from number before afte
 
 pub own_spot : (number count : ℕ) (before after : Option ℕ) (day : Option ℤ) (x : ℕ) (s : NewSpot) → new_spot number count before after day x ≡ Some s → s.thing ≡ x
 own_spot number count before after day x s = elim (spot_from number before after day) as (λ o. option_map (λ spot. let t : NewSpot = record { thing = x; k = count + 1; spot = spot } in t) o ≡ Some s → s.thing ≡ x) [
-  | None ↦ λ e. absurd (none_some e)
+  | None ↦ λ e. absurd (none-some _ e)
   | Some spot ↦ λ e. let made : NewSpot = record { thing = x; k = count + 1; spot = spot } in
       let same : made ≡ s = cc in sym (ap (λ (t : NewSpot). t.thing) same)
 ]

@@ -1,6 +1,6 @@
 -- Pairs that a map keeps are the wanted ones where each wanted one is kept, and there are as many.
-use Rattle.std.specs.Prelude.{◌≡◌, ◌<◌, ℕ, zero, suc, Bool, true, false, cond, List, [], ◌∷◌, length, Some, refl}
-use Rattle.std.proofs.Common.{ap, sym, subst, ◌∙◌, arith, remove}
+use Rattle.std.specs.Prelude.{◌≡◌, zero, suc, Bool, true, false, cond, List, [], ◌∷◌, length, Some, refl}
+use Rattle.std.proofs.Common.{ap, sym, ◌∙◌, arith, remove}
 use Rattle.std.specs.Bool.{Decides}
 use Rattle.std.specs.List.{list_all, AllByRecursion, Contains, IsDistinct}
 use Rattle.std.specs.List.Sorted.{IsPermutation}

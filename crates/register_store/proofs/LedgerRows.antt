@@ -1,35 +1,33 @@
 -- The rows of lines and of last days, loan by loan as a ledger tells them.
-use Rattle.std.specs.Prelude.{ℕ, ℤ, ◌≡◌, ◌||◌, ◌==◌, ◌+◌, ◌<◌, zero, suc, Bool, true, false, cond, List, [], ◌∷◌, ◌++◌, length, map, drop, slice_get, Option, None, Some, if◌then◌else◌, refl}
+use Rattle.std.specs.Prelude.{ℕ, ℤ, ◌≡◌, ◌||◌, ◌==◌, ◌+◌, zero, suc, Bool, true, false, cond, List, [], ◌∷◌, ◌++◌, map, drop, slice_get, Option, None, Some, if◌then◌else◌, refl}
 use Rattle.std.proofs.Common.{ap, sym, subst, ◌∙◌, arith, add-one}
 use Rattle.std.specs.List.{find, flat_map, AllByRecursion, IsDistinct}
 use Rattle.std.specs.Map.{keys_of}
 use Rattle.std.specs.Option.{option_map, option_map_or, option_to_list}
 use Rattle.std.specs.Str.{bytes_eq}
 use Rattle.std.proofs.lemmas.Bool.Decides.{nat_tests}
-use Rattle.std.proofs.lemmas.List.{append_assoc, map-append}
+use Rattle.std.proofs.lemmas.List.{append_assoc}
+use Rattle.std.proofs.lemmas.Option.{none-some}
 use Rattle.std.proofs.lemmas.Slice.Eq.{bytes_eq-Decides}
-use Rattle.sqlite_keyed.proofs.ListLemmas.{flat_map-map}
 use Rattle.nest_core.specs.Museum.{Museum}
 use Rattle.nest_core.specs.Puts.{is_among}
 use Rattle.posting_core.specs.declared.entry.Entry.{Entry}
-use Rattle.posting_core.specs.declared.entry.NewLine.{NewLine}
 use Rattle.posting_core.specs.declared.stage.LineStage.{LineStage}
-use Rattle.posting_core.specs.Agreements.{Agreement, agreement, agreements, loans, last_day, last_from}
-use Rattle.posting_core.specs.Book.{Book, line_in, last_day_in, loans_in, objects_of_loan}
+use Rattle.posting_core.specs.Agreements.{Agreement, agreement, agreements, last_from}
+use Rattle.posting_core.specs.Book.{Book, loans_in, objects_of_loan}
 use Rattle.posting_core.specs.Lawful.{IsLawful}
-use Rattle.posting_core.specs.Loans.{line, objects, objects_of, stage}
-use Rattle.posting_core.proofs.AppliedRows.{none_some}
+use Rattle.posting_core.specs.Loans.{line, objects_of, stage}
 use Rattle.posting_core.proofs.Agreed.{AreApart, agreements_apart, apart_sym}
 use Rattle.register_store.specs.declared.loan_rows.LineKey.{LineKey}
 use Rattle.register_store.specs.contracts.loan_rows.LineKeyPartialEq.TheImpl.{ghosts}
 use Rattle.register_store.specs.Plain.{line_rows, term_rows, lines_of_loan, day_of_loan}
-use Rattle.register_store.specs.StoredRows.{TermRow, is_same_line, rows_of_agreement, rows_of_lines, rows_of_terms}
+use Rattle.register_store.specs.StoredRows.{is_same_line, rows_of_agreement, rows_of_lines, rows_of_terms}
 use Rattle.register_store.proofs.PutRows.{AreOnce, IsFree}
 use Rattle.register_store.proofs.LineRows.{lines_once}
 use Rattle.register_store.proofs.TermRows.{is_same_loan, terms_once}
 
 at : {X : Type 0} (xs : List X) (i : ℕ) (x : X) → slice_get xs i ≡ Some x → drop i xs ≡ x ∷ drop (suc i) xs
-at [] i x h = absurd (none_some h)
+at [] i x h = absurd (none-some _ h)
 at (y ∷ ys) zero x h = ap (λ z. z ∷ ys) (cc)
 at (y ∷ ys) (suc i) x h = at ys i x h
 
@@ -59,7 +57,7 @@ own_agreement (t ∷ ts) (new, apart) = (
     later : (us : List Agreement) → find (λ v. bytes_eq t.loan v.loan) us ≡ None → AllByRecursion (λ u. find (λ v. bytes_eq u.loan v.loan) ts ≡ Some u) us → AllByRecursion (λ u. find (λ v. bytes_eq u.loan v.loan) (t ∷ ts) ≡ Some u) us
     later [] none own = tt
     later (u ∷ us) none (one, more) = elim (bytes_eq t.loan u.loan) as (λ b. bytes_eq t.loan u.loan ≡ b → cond b (Some u) (find (λ v. bytes_eq t.loan v.loan) us) ≡ None → AllByRecursion (λ w. find (λ v. bytes_eq w.loan v.loan) (t ∷ ts) ≡ Some w) (u ∷ us)) [
-      | true ↦ λ e h. absurd (none_some (sym h))
+      | true ↦ λ e h. absurd (none-some _ (sym h))
       | false ↦ λ e h. ((rw (apart_sym t.loan u.loan e) one), later us h more)
     ] refl none
 

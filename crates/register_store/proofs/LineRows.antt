@@ -1,18 +1,18 @@
 -- The lines and the last days that an entry puts are those of looking back after it.
-use Rattle.std.specs.Prelude.{ℕ, ℤ, ◌≡◌, ◌&&◌, ◌||◌, ◌==◌, Bool, true, false, not, cond, List, [], ◌∷◌, ◌++◌, length, map, Option, None, Some, is_some, if◌then◌else◌, nat_eq, unwrap_or, refl}
+use Rattle.std.specs.Prelude.{ℕ, ◌≡◌, ◌&&◌, ◌||◌, ◌==◌, Bool, true, false, not, cond, List, [], ◌∷◌, ◌++◌, map, None, Some, is_some, if◌then◌else◌, refl}
 use Rattle.std.proofs.Common.{ap, sym, subst, ◌∙◌, arith}
 use Rattle.std.specs.List.{find, flat_map, list_any, AllByRecursion}
-use Rattle.std.specs.Option.{option_map, option_map_or, option_to_list}
+use Rattle.std.specs.Option.{option_map_or, option_to_list}
 use Rattle.std.specs.Str.{bytes_eq}
 use Rattle.std.specs.List.Sorted.{IsPermutation}
-use Rattle.std.proofs.Math.Path.{fun_ext}
-use Rattle.std.proofs.lemmas.Bool.{or_parts}
+use Rattle.std.proofs.lemmas.Bool.{or_parts, false≢true, not-false}
 use Rattle.std.proofs.lemmas.Bool.Decides.{nat_tests}
 use Rattle.std.proofs.lemmas.List.{append-nil, append_assoc}
 use Rattle.std.proofs.lemmas.List.Folds.{list_any-append}
-use Rattle.std.proofs.lemmas.List.Sorted.{IsPermutation-refl, IsPermutation-sym, IsPermutation-trans, IsPermutation-middle}
+use Rattle.std.proofs.lemmas.List.Sorted.{IsPermutation-trans, IsPermutation-middle}
+use Rattle.std.proofs.lemmas.Option.{none-some}
 use Rattle.std.proofs.lemmas.Slice.Eq.{bytes_eq-Decides}
-use Rattle.sqlite_keyed.proofs.ListLemmas.{all_weaker, all-map, all-flat_map, all-append, ascending-append, map-map, map-flat_map, map_same, flat_map_same_on, IsPermutation-same}
+use Rattle.sqlite_keyed.proofs.ListLemmas.{all_weaker, all-map, all-flat_map, ascending-append, map-map, map-flat_map, map_same, flat_map_same_on, IsPermutation-same}
 use Rattle.nest_core.specs.Museum.{Museum}
 use Rattle.nest_core.specs.Puts.{is_among}
 use Rattle.posting_core.specs.declared.message.Message.{Message}
@@ -22,17 +22,17 @@ use Rattle.posting_core.specs.declared.entry.Entry.{Entry}
 use Rattle.posting_core.specs.declared.entry.NewLine.{NewLine}
 use Rattle.posting_core.specs.declared.stage.LineStage.{LineStage}
 use Rattle.posting_core.specs.declared.stage.LineStage.TheVariants.{Awaiting, Away, Back, Here}
-use Rattle.posting_core.specs.Agreements.{Agreement, agreement, agreement_in, agreements, extension_in, last_from}
+use Rattle.posting_core.specs.Agreements.{Agreement, agreement_in, agreements}
 use Rattle.posting_core.specs.Book.{new_lines, lines_of_agreement, lines_of_crossing}
 use Rattle.posting_core.specs.Lawful.{Follows, IsLawful}
-use Rattle.posting_core.specs.Loans.{Crossing, exit_of, crossing_in, objects_in, objects_of, objects, line, stage, stage_by}
+use Rattle.posting_core.specs.Loans.{Crossing, exit_of, crossing_in, objects_in, objects_of, objects, stage, stage_by}
 use Rattle.posting_core.specs.VerdictNames.{is_applied}
 use Rattle.posting_core.specs.Verdicts.{verdict, carries_unlisted, is_listed, exit_rows, return_rows, receive_rows}
-use Rattle.posting_core.proofs.AppliedRows.{none_some, false_true, held, none_holds, applied_is}
+use Rattle.posting_core.proofs.AppliedRows.{none_holds, applied_is}
 use Rattle.posting_core.proofs.Agreed.{IsSound, AreApart, agreements_apart, agreements_sound, agree_applied, untouched, apart_sym}
 use Rattle.posting_core.proofs.Lined.{numbers_once}
 use Rattle.posting_core.proofs.Lined as numbers
-use Rattle.register_store.specs.StoredRows.{rows_of_lines, rows_of_agreement, is_same_line, put_line, put_lines}
+use Rattle.register_store.specs.StoredRows.{rows_of_lines, is_same_line, put_line, put_lines}
 use Rattle.register_store.proofs.PutRows.{IsFree, AreOnce, replaced, put_same, put_new, put_replaces}
 
 abbrev row : List ℕ → ℕ → LineStage → NewLine
@@ -62,8 +62,8 @@ same_apart r q s = λ same. by (bytes_eq r.loan q.loan) (r.object == q.object) r
     by : (a b : Bool) → bytes_eq r.loan q.loan ≡ a → (r.object == q.object) ≡ b → (a && b) ≡ true → is_same_line q s ≡ false → is_same_line r s ≡ false
     by true true h k both apart =
         subst (λ o. (bytes_eq r.loan s.loan && (o == s.object)) ≡ false) (sym (number_is r.object q.object k)) (subst (λ l. (bytes_eq l s.loan && (q.object == s.object)) ≡ false) (sym (equal_is r.loan q.loan h)) apart)
-    by true false h k both apart = absurd (false_true both)
-    by false b h k both apart = absurd (false_true both)
+    by true false h k both apart = absurd (false≢true both)
+    by false b h k both apart = absurd (false≢true both)
 
 same_turned : (r q : NewLine) → is_same_line r q ≡ false → is_same_line q r ≡ false
 same_turned r q = by (bytes_eq r.loan q.loan) refl
@@ -94,7 +94,7 @@ module _ (S : Museum) where
   other_loans : (loan : List ℕ) (ts : List Agreement) → find (λ u. bytes_eq loan u.loan) ts ≡ None → AllByRecursion (λ u. bytes_eq loan u.loan ≡ false) ts
   other_loans loan [] none = tt
   other_loans loan (t ∷ ts) none = elim (bytes_eq loan t.loan) as (λ b. cond b (Some t) (find (λ u. bytes_eq loan u.loan) ts) ≡ None → (b ≡ false) × AllByRecursion (λ u. bytes_eq loan u.loan ≡ false) ts) [
-    | true ↦ λ h. absurd (none_some (sym h))
+    | true ↦ λ h. absurd (none-some _ (sym h))
     | false ↦ λ h. (refl, other_loans loan ts h)
   ] none
 
@@ -126,7 +126,7 @@ module _ (S : Museum) where
 
   -- a listed object has a line
   has_in : (f : List ℕ → ℕ → LineStage) (loan : List ℕ) (o : ℕ) (s : LineStage) (os : List ℕ) → is_among o os ≡ true → list_any (is_same_line (row loan o s)) (map (λ y. row loan y (f loan y)) os) ≡ true
-  has_in f loan o s [] there = absurd (false_true there)
+  has_in f loan o s [] there = absurd (false≢true there)
   has_in f loan o s (y ∷ os) there =
       let loans : bytes_eq loan loan ≡ true = (bytes_eq-Decides loan loan).1 refl in
       rw loans (elim (y == o) as (λ b. (y == o) ≡ b → (b || is_among o os) ≡ true → ((o == y) || list_any (is_same_line (row loan o s)) (map (λ z. row loan z (f loan z)) os)) ≡ true) [
@@ -136,7 +136,7 @@ module _ (S : Museum) where
 
   has_at : (f : List ℕ → ℕ → LineStage) (loan : List ℕ) (o : ℕ) (s : LineStage) (ts : List Agreement) → is_among o (option_map_or (objects_of S) (find (λ u. bytes_eq loan u.loan) ts) []) ≡ true
       → list_any (is_same_line (row loan o s)) (all_at S f ts) ≡ true
-  has_at f loan o s [] there = absurd (false_true there)
+  has_at f loan o s [] there = absurd (false≢true there)
   has_at f loan o s (t ∷ ts) there = list_any-append (is_same_line (row loan o s)) (lines_at S f t) (all_at S f ts) ∙ (elim (bytes_eq loan t.loan) as (λ b. bytes_eq loan t.loan ≡ b → is_among o (option_map_or (objects_of S) (cond b (Some t) (find (λ u. bytes_eq loan u.loan) ts)) []) ≡ true
       → (list_any (is_same_line (row loan o s)) (lines_at S f t) || list_any (is_same_line (row loan o s)) (all_at S f ts)) ≡ true) [
         | true ↦ λ e h. let here : list_any (is_same_line (row loan o s)) (lines_at S f t) ≡ true = subst (λ l. list_any (is_same_line (row l o s)) (lines_at S f t) ≡ true) (sym (equal_is loan t.loan e)) (has_in f t.loan o s (objects_of S t) h) in rw here refl
@@ -207,11 +207,11 @@ all_listed : (S : Museum) (P : List Entry) (loan : List ℕ) (os : List ℕ) →
 all_listed S P loan [] none = tt
 all_listed S P loan (o ∷ os) none =
     let both = or_parts (not (is_listed S P loan o)) (list_any (λ y. not (is_listed S P loan y)) os) none in
-    (there (is_among o (objects S P loan)) (stage S P loan o) (held (is_listed S P loan o) both.0), all_listed S P loan os both.1)
+    (there (is_among o (objects S P loan)) (stage S P loan o) (not-false (is_listed S P loan o) both.0), all_listed S P loan os both.1)
   where
     there : (b : Bool) (s : LineStage) → is_some (if b then Some s else None) ≡ true → b ≡ true
     there true s h = refl
-    there false s h = absurd (false_true h)
+    there false s h = absurd (false≢true h)
 
 crossed : (S : Museum) (depth : ℕ) (P : List Entry) (m : Message) (c : Crossing) → IsLawful S depth P → crossing_in m ≡ Some c → agreement_in m ≡ None → carries_unlisted S P c ≡ false
     → IsPermutation (lines_after S P true m) (put_lines (lines_of_crossing S P c) (rows_of_lines S P))

@@ -1,12 +1,14 @@
 -- The last day that an entry puts is that of looking back after it.
 use Rattle.std.specs.Prelude.{ℕ, ℤ, ◌≡◌, ◌||◌, Bool, true, false, not, cond, List, [], ◌∷◌, ◌++◌, map, Option, None, Some, is_some, if◌then◌else◌, unwrap_or, refl}
 use Rattle.std.proofs.Common.{ap, sym, subst, ◌∙◌}
-use Rattle.std.specs.List.{find, list_any, AllByRecursion}
+use Rattle.std.specs.List.{find, list_any}
 use Rattle.std.specs.Option.{option_map_or, option_to_list}
 use Rattle.std.specs.Str.{bytes_eq}
 use Rattle.std.specs.List.Sorted.{IsPermutation}
+use Rattle.std.proofs.lemmas.Bool.{false≢true, not-false}
 use Rattle.std.proofs.lemmas.List.{append-nil, map-append}
 use Rattle.std.proofs.lemmas.List.Sorted.{IsPermutation-trans, IsPermutation-to_front}
+use Rattle.std.proofs.lemmas.Option.{none-some}
 use Rattle.std.proofs.lemmas.Slice.Eq.{bytes_eq-Decides}
 use Rattle.sqlite_keyed.proofs.ListLemmas.{map-map, map_same, IsPermutation-same}
 use Rattle.nest_core.specs.Museum.{Museum}
@@ -14,11 +16,11 @@ use Rattle.posting_core.specs.declared.message.Message.{Message}
 use Rattle.posting_core.specs.declared.message.Message.TheVariants.{Move, Pack, Agree, Authorise, Exit, Return, Receive, SignOff, Extend}
 use Rattle.posting_core.specs.declared.verdict.Verdict.TheVariants.{Applied}
 use Rattle.posting_core.specs.declared.entry.Entry.{Entry}
-use Rattle.posting_core.specs.Agreements.{Agreement, agreement, agreement_in, agreements, is_agreed, extension_in, last_from}
+use Rattle.posting_core.specs.Agreements.{Agreement, agreement_in, agreements, is_agreed, extension_in, last_from}
 use Rattle.posting_core.specs.Lawful.{Follows, IsLawful}
 use Rattle.posting_core.specs.VerdictNames.{is_applied}
 use Rattle.posting_core.specs.Verdicts.{verdict, extend_rows}
-use Rattle.posting_core.proofs.AppliedRows.{none_some, false_true, held, none_holds, applied_is}
+use Rattle.posting_core.proofs.AppliedRows.{none_holds, applied_is}
 use Rattle.posting_core.proofs.Agreed.{AreApart, agreements_apart, agree_applied, untouched}
 use Rattle.register_store.specs.StoredRows.{TermRow, rows_of_terms, put_term, term_in, term_of}
 use Rattle.register_store.proofs.PutRows.{IsFree, AreOnce, replaced, put_same, put_new, put_replaces}
@@ -38,7 +40,7 @@ same_apart r q s same apart = subst (λ l. bytes_eq l s.loan ≡ false) (sym ((b
 free_of : (f : Agreement → ℤ) (loan : List ℕ) (day : ℤ) (ts : List Agreement) → find (λ u. bytes_eq loan u.loan) ts ≡ None → IsFree is_same_loan (row loan day) (terms_at f ts)
 free_of f loan day [] none = tt
 free_of f loan day (t ∷ ts) none = elim (bytes_eq loan t.loan) as (λ b. cond b (Some t) (find (λ u. bytes_eq loan u.loan) ts) ≡ None → (b ≡ false) × IsFree is_same_loan (row loan day) (terms_at f ts)) [
-  | true ↦ λ h. absurd (none_some (sym h))
+  | true ↦ λ h. absurd (none-some _ (sym h))
   | false ↦ λ h. (refl, free_of f loan day ts h)
 ] none
 
@@ -47,7 +49,7 @@ once_at f [] apart = tt
 once_at f (t ∷ ts) (other, apart) = (free_of f t.loan (f t) ts other, once_at f ts apart)
 
 has_at : (f : Agreement → ℤ) (loan : List ℕ) (day : ℤ) (ts : List Agreement) → is_some (find (λ u. bytes_eq loan u.loan) ts) ≡ true → list_any (is_same_loan (row loan day)) (terms_at f ts) ≡ true
-has_at f loan day [] there = absurd (false_true there)
+has_at f loan day [] there = absurd (false≢true there)
 has_at f loan day (t ∷ ts) there = elim (bytes_eq loan t.loan) as (λ b. is_some (cond b (Some t) (find (λ u. bytes_eq loan u.loan) ts)) ≡ true → (b || list_any (is_same_loan (row loan day)) (terms_at f ts)) ≡ true) [
   | true ↦ λ h. refl
   | false ↦ λ h. has_at f loan day ts h
@@ -77,7 +79,7 @@ extended S depth P loan day lawful known =
     map-map (replaced is_same_loan (row loan day)) (λ t. row t.loan (f t)) (agreements P) ∙ map_same _ _ (one_set f loan day) (agreements P) in
     subst (λ ts. IsPermutation (terms_at (last_after P true (Extend loan day)) ts) (put_term (row loan day) (rows_of_terms P))) (sym (append-nil (agreements P)))
     (subst (λ rows. IsPermutation rows (put_term (row loan day) (rows_of_terms P))) each
-    (put_replaces is_same_loan same_apart (row loan day) (rows_of_terms P) (terms_once S depth P lawful) (has_at f loan day (agreements P) (held (is_agreed P loan) known))))
+    (put_replaces is_same_loan same_apart (row loan day) (rows_of_terms P) (terms_once S depth P lawful) (has_at f loan day (agreements P) (not-false (is_agreed P loan) known))))
 
 agreed : (S : Museum) (depth : ℕ) (P : List Entry) (m : Message) (t : Agreement) → IsLawful S depth P → verdict S depth P m ≡ Applied → agreement_in m ≡ Some t → ((u : Agreement) → extension_in m u.loan ≡ None)
     → IsPermutation (terms_after P true m) (put_term (row t.loan t.last) (rows_of_terms P))

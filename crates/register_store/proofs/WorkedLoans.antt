@@ -1,6 +1,5 @@
 -- The rows of lines and of last days computed on worked lists, and the edges of putting them.
 use Rattle.std.specs.Prelude.{ℕ, ℤ, pos, ◌≡◌, List, [], ◌∷◌, Some, None, refl, codes}
-use Rattle.posting_core.specs.declared.message.Message.{Message}
 use Rattle.posting_core.specs.declared.message.Message.TheVariants.{Move, Pack, Agree, Authorise, Exit, Return, Extend}
 use Rattle.posting_core.specs.declared.verdict.Verdict.TheVariants.{Applied, NotLater, LoanKnown}
 use Rattle.posting_core.specs.declared.entry.Entry.{Entry}

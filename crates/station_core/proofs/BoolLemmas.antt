@@ -3,26 +3,6 @@ use Rattle.std.proofs.Common.{◌≡◌, ℕ, zero, suc, ◌+◌, ◌-◌, ◌<�
 use Rattle.std.proofs.lemmas.Bool.{cases_lt}
 use Rattle.station_core.specs.Runs.{greatest}
 
--- a test, one way and the other
-pub by_bool : {P : Type 0} → (b : Bool) → (b ≡ true → P) → (b ≡ false → P) → P
-by_bool true f g = f refl
-by_bool false f g = g refl
-
-pub and_left : (a b : Bool) → (a && b) ≡ true → a ≡ true
-and_left true b h = refl
-and_left false b h = h
-
-pub and_right : (a b : Bool) → (a && b) ≡ true → b ≡ true
-and_right true b h = h
-and_right false b h = absurd (cc)
-
-pub and_both : (a b : Bool) → a ≡ true → b ≡ true → (a && b) ≡ true
-and_both a b p q = rw (p, q) refl
-
-pub not_false : (b : Bool) → not b ≡ true → b ≡ false
-not_false true h = absurd (cc)
-not_false false h = refl
-
 -- a step of a run after a sign-off
 pub ended_test : (a b e : Bool) → e ≡ true → (a && (b && not e)) ≡ false
 ended_test false b e h = refl

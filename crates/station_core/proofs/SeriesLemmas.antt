@@ -1,7 +1,7 @@
 -- What one station's series holds of what was taken, call by call.
-use Rattle.std.proofs.Common.{◌≡◌, ◌≢◌, ℕ, suc, ◌+◌, ◌-◌, ◌<◌, ◌≤◌, ◌&&◌, not, nat_lt, Bool, true, false, List, [], ◌∷◌, ◌++◌, length, drop, Some, None, is_some, refl, ap, ◌∙◌, sym, arith, ⊎_elim, add-one, length-append, length-drop, length-set}
+use Rattle.std.proofs.Common.{◌≡◌, ◌≢◌, ℕ, suc, ◌+◌, ◌-◌, ◌<◌, ◌≤◌, ◌&&◌, not, nat_lt, Bool, true, false, List, [], ◌∷◌, ◌++◌, length, drop, Some, None, is_some, inl, inr, refl, ap, ◌∙◌, sym, arith, ⊎_elim, add-one, length-append, length-drop, length-set}
 use Rattle.std.proofs.lemmas.List.{length-replicate}
-use Rattle.std.proofs.lemmas.Bool.{cases_lt}
+use Rattle.std.proofs.lemmas.Bool.{cases_Bool, cases_lt}
 use Rattle.std.proofs.lemmas.Bool.Decides.{nat_tests}
 use Rattle.std.specs.Prelude.{slice_set}
 use Rattle.station_core.specs.declared.Start.{Start}
@@ -9,7 +9,6 @@ use Rattle.station_core.specs.Series.{Series, window, slot_at, held_at, opened, 
 use Rattle.station_core.specs.Runs.{Arrived, message_at, ends, unbroken, ready}
 use Rattle.station_core.specs.Progress.{HoldsAbove, Matches, Pending, Ending}
 use Rattle.station_core.proofs.SlotLemmas.{window_is, slot_set_same, slot_set_other, slot_shift, slot_empty, slot_past}
-use Rattle.station_core.proofs.BoolLemmas.{by_bool}
 use Rattle.station_core.proofs.RunLemmas.{at_other_number, at_other_station, at_its_number, ends_same, unbroken_same, ready_is, ready_holds, ready_same, stops_at_sign_off, stops_at_missing}
 
 module _ {M : Type 0} where
@@ -149,9 +148,10 @@ module _ {M : Type 0} where
   held_is_taken signs taken s n q ms low =
       let lt : nat_lt q.posted n ≡ true = grind (arith, nat_tests) in
       let place : q.posted + (n - q.posted - 1 + 1) ≡ n = omega arith in
-      by_bool q.signed
-      (λ e. rw (lt, e, ms.empty e (n - q.posted - 1)) refl)
-      (λ e. ⊎_elim
-      (λ h. rw (lt, e, (ms.held e).inside (n - q.posted - 1) h, place) refl)
-      (λ h. rw (lt, e, slot_past q.slots (n - q.posted - 1) (omega (arith, ms.width)), (ms.held e).above n (omega arith)) refl)
-      (cases_lt (n - q.posted - 1) window))
+      elim (cases_Bool q.signed) [
+        | inl e ↦ rw (lt, e, ms.empty e (n - q.posted - 1)) refl
+        | inr e ↦ ⊎_elim
+            (λ h. rw (lt, e, (ms.held e).inside (n - q.posted - 1) h, place) refl)
+            (λ h. rw (lt, e, slot_past q.slots (n - q.posted - 1) (omega (arith, ms.width)), (ms.held e).above n (omega arith)) refl)
+            (cases_lt (n - q.posted - 1) window)
+      ]

@@ -1,6 +1,6 @@
 -- What the series of all stations hold of what was taken, call by call.
 use Rattle.std.proofs.Common.{◌≡◌, ◌≢◌, ℕ, zero, suc, ◌+◌, ◌<◌, ◌≤◌, ◌&&◌, ◌||◌, ◌==◌, not, nat_lt, nat_le, Bool, true, false, if◌then◌else◌, List, [], ◌∷◌, ◌++◌, length, map, Option, Some, None, is_some, refl, ap, ◌∙◌, sym, arith, ⊎_elim, add-one, length-set}
-use Rattle.std.proofs.lemmas.Bool.{cases_lt, or_parts}
+use Rattle.std.proofs.lemmas.Bool.{cases_lt, cases_eq, or_parts}
 use Rattle.std.proofs.lemmas.Bool.Decides.{nat_tests}
 use Rattle.std.proofs.lemmas.List.{length-map}
 use Rattle.std.specs.Prelude.{slice_set, slice_get, unwrap_or, IfSome, IfNone, OnSome, get_or}
@@ -14,7 +14,7 @@ use Rattle.station_core.specs.declared.Refusal.TheVariants.{UnknownStation, BadN
 use Rattle.station_core.specs.Series.{Series, series, window, slot_at, series_at, refusal_of, opened, with_held, counted, closed}
 use Rattle.station_core.specs.Runs.{Arrived, arrived, message_at, ends, ready, is_signed, is_double, refusal, taken_after}
 use Rattle.station_core.specs.Progress.{Matches, AllMatch, IsPosting, IsEnding, ComesDue, StartsFrom, AllStart}
-use Rattle.station_core.proofs.BoolLemmas.{by_bool, none_there}
+use Rattle.station_core.proofs.BoolLemmas.{none_there}
 use Rattle.station_core.proofs.SlotLemmas.{series_at_there}
 use Rattle.station_core.proofs.SeriesLemmas.{matches_opened, matches_other, pending_taken, pending_counted, ending_counted, matches_pending, matches_closed, next_of, held_is_taken}
 
@@ -156,9 +156,7 @@ module _ {M : Type 0} where
   -- one station and the others are all
   all_from : (signs : M → Bool) (taken : List (Arrived M)) (all : List (Series M)) (s : ℕ) → Matches signs taken s (series_at all s) → ((t : ℕ) → t < length all → t ≢ s → Matches signs taken t (series_at all t)) → AllMatch signs taken all
   all_from signs taken all s here others = record {
-    each = λ t h. by_bool (t == s)
-        (λ e. let eq : t ≡ s = grind (arith, nat_tests) in rw eq here)
-        (λ e. others t h (let ne : t ≢ s = grind (arith, nat_tests) in ne));
+    each = λ t h. ⊎_elim (λ eq. rw eq here) (λ ne. others t h ne) (cases_eq t s);
   }
 
   -- nothing more comes due

@@ -2,70 +2,74 @@
 ghost use Rattle.std.specs.Prelude.{◌≡◌, true, IfErr};
 ghost use Rattle.register_store.specs.Registers.{is_failure};
 
-use super::{MUSEUM, SMALL};
-use codes_core::{Day, LoanCode, PlaceCode, ThingCode};
-use hub_core::{Answer, Arrival, Hub, OpenFault, Where, replay};
-use nest_core::{PlaceNo, Setup};
-use posting_core::{LoanState, Message};
+use super::ledger::tell_all;
+use super::{MUSEUM, SMALL, message_of};
+use codes_core::{Day, LoanCode, ThingCode};
+use hub_core::{Answer, Arrival, Hub, OpenFault, Where};
+use nest_core::{PlaceNo, Setup, StationNo};
+use posting_core::LoanState;
 use register_store::{PlainRegister, Register, StoreFault};
 use station_core::Refusal;
 use std::alloc::Global;
 use std::process::Abort;
 use std::test::Fail;
 
-/// A move's number and its place, and the answer to it.
+const GAL: StationNo = 1;
+
+/// The number of a message of GAL, its text, and the answer to it.
 type Row = (u64, &'static str, Answer);
 
+const TO_S1: &str = "{'kind':'move','thing':'2001.4.1','place':'S1','day':'2024-05-01'}";
+
+const TO_S1_A: &str = "{'kind':'move','thing':'2001.4.1','place':'S1-A','day':'2024-05-01'}";
+
 const HELD: &[Row] = &[
-    (2, "S1-A", Answer::Held),
-    (1, "S1", Answer::Posted { first: 1, last: 2 }),
+    (2, TO_S1_A, Answer::Held),
+    (1, TO_S1, Answer::Posted { first: 1, last: 2 }),
 ];
 
 const LAST_HELD: &[Row] = &[
-    (1, "S1", Answer::Posted { first: 1, last: 1 }),
-    (2, "S1-A", Answer::Posted { first: 2, last: 2 }),
-    (4, "S1", Answer::Held),
+    (1, TO_S1, Answer::Posted { first: 1, last: 1 }),
+    (2, TO_S1_A, Answer::Posted { first: 2, last: 2 }),
+    (4, TO_S1, Answer::Held),
 ];
 
 /// What was held is gone, what was posted is there.
 const OPENED_AGAIN: &[Row] = &[
-    (2, "S1-A", Answer::Refused(Refusal::Double)),
-    (3, "S1", Answer::Posted { first: 3, last: 3 }),
+    (2, TO_S1_A, Answer::Refused(Refusal::Double)),
+    (3, TO_S1, Answer::Posted { first: 3, last: 3 }),
 ];
 
 /// Thing 2 of the setup is 2001.4.1; places 0 and 1 are S1 and S1-A.
 const OBJECT: u32 = 2;
 
-/// GAL, the station 1, moves the object.
-fn moved(n: u64, place: &str) -> Result<Arrival, Fail> {
-    Ok(Arrival {
-        station: 1,
-        n,
-        message: Message::Move {
-            thing: ThingCode::parse(b"2001.4.1")?,
-            place: PlaceCode::parse(place.as_bytes())?,
-            day: Day::parse(b"2024-05-01")?,
-        },
-    })
-}
-
-/// A hub over the whole setup and this register.
-pub(crate) fn opened(alloc: Global, register: PlainRegister) -> Result<Hub<PlainRegister>, Fail> {
-    match Hub::open(alloc, Setup::read(alloc, MUSEUM.as_bytes())?, register) {
+/// A hub over the whole setup, with nothing posted.
+pub(crate) fn opened(alloc: Global) -> Result<Hub<PlainRegister>, Fail> {
+    let setup = Setup::read(alloc, MUSEUM.as_bytes())?;
+    match Hub::open(alloc, setup, PlainRegister::new(alloc)) {
         Ok(hub) => Ok(hub),
         Err(_) => Err(Fail::from("not opened")),
     }
 }
 
-/// Sends a move, and compares the answer.
-fn send(
+/// Sends a message, and compares the answer.
+pub(crate) fn send(
     rt: &impl Abort,
     alloc: Global,
     hub: &mut Hub<PlainRegister>,
-    row: &Row,
+    station: StationNo,
+    n: u64,
+    text: &str,
+    want: Answer,
 ) -> Result<(), Fail> {
-    let answer = hub.arrive(alloc, moved(row.0, row.1)?)?;
-    assert_eq!(rt; answer, row.2);
+    let message = message_of(alloc, text)?;
+    let arrival = Arrival {
+        station,
+        n,
+        message,
+    };
+    let answer = hub.arrive(alloc, arrival)?;
+    assert_eq!(rt; answer, want, "{text}");
     Ok(())
 }
 
@@ -75,8 +79,8 @@ fn send_all(
     hub: &mut Hub<PlainRegister>,
     rows: &[Row],
 ) -> Result<(), Fail> {
-    for row in rows {
-        send(rt, alloc, hub, row)?;
+    for (n, text, want) in rows {
+        send(rt, alloc, hub, GAL, *n, text, *want)?;
     }
     Ok(())
 }
@@ -131,13 +135,13 @@ fn held_then_posted(
 
 #[test]
 fn a_hub(rt: HostRuntime) -> Result<(), Fail> {
-    let mut hub = opened(rt.alloc(), PlainRegister::new(rt.alloc()))?;
+    let mut hub = opened(rt.alloc())?;
     held_then_posted(&rt, rt.alloc(), &mut hub)
 }
 
 /// A hub with two postings.
 fn posted_twice(rt: &impl Abort, alloc: Global) -> Result<Hub<PlainRegister>, Fail> {
-    let mut hub = opened(alloc, PlainRegister::new(alloc))?;
+    let mut hub = opened(alloc)?;
     send_all(rt, alloc, &mut hub, LAST_HELD)?;
     Ok(hub)
 }
@@ -188,31 +192,29 @@ fn of_another_setup(rt: HostRuntime) -> Result<(), Fail> {
 }
 
 /// PACK packs an object into a crate, which leaves under a loan; the loan is then extended.
-const LENT: &str =
-    "{\"station\":\"PACK\",\"n\":1,\"message\":{\"kind\":\"move\",\"thing\":\"C1\",\"place\":\"S1\",\"day\":\"2024-05-01\"}}
-{\"station\":\"PACK\",\"n\":2,\"message\":{\"kind\":\"pack\",\"thing\":\"2001.4.1\",\"container\":\"C1\",\"day\":\"2024-05-01\"}}
-{\"station\":\"PACK\",\"n\":3,\"message\":{\"kind\":\"agree\",\"loan\":\"LO2024.1\",\"partner\":\"MUSEUM-X\",\"objects\":[\"2001.4.1\",\"2001.4.2\"],\"first\":\"2024-05-01\",\"last\":\"2024-05-31\"}}
-{\"station\":\"PACK\",\"n\":4,\"message\":{\"kind\":\"authorise\",\"loan\":\"LO2024.1\",\"by\":\"A. Keeper\"}}
-{\"station\":\"PACK\",\"n\":5,\"message\":{\"kind\":\"exit\",\"thing\":\"C1\",\"loan\":\"LO2024.1\",\"day\":\"2024-05-02\"}}
-{\"station\":\"PACK\",\"n\":6,\"message\":{\"kind\":\"extend\",\"loan\":\"LO2024.1\",\"last\":\"2024-06-30\"}}
-";
+const LENT: &str = "{'kind':'move','thing':'C1','place':'S1','day':'2024-05-01'}
+{'kind':'pack','thing':'2001.4.1','container':'C1','day':'2024-05-01'}
+{'kind':'agree','loan':'LO2024.1','partner':'MUSEUM-X','objects':['2001.4.1','2001.4.2'],'first':'2024-05-01','last':'2024-05-31'}
+{'kind':'authorise','loan':'LO2024.1','by':'A. Keeper'}
+{'kind':'exit','thing':'C1','loan':'LO2024.1','day':'2024-05-02'}
+{'kind':'extend','loan':'LO2024.1','last':'2024-06-30'}";
 
-/// A hub to which a text is replayed.
-fn replayed(alloc: Global, text: &str) -> Result<Hub<PlainRegister>, Fail> {
-    let mut hub = opened(alloc, PlainRegister::new(alloc))?;
-    let mut reader = text.as_bytes();
-    let mut writer = Vec::new(alloc);
-    match replay(alloc, &mut reader, &mut writer, &mut hub) {
-        Ok(()) => Ok(hub),
-        Err(_) => Err(Fail::from("not replayed")),
-    }
+/// A hub with a loan.
+fn lent(rt: &impl Abort, alloc: Global) -> Result<Hub<PlainRegister>, Fail> {
+    let mut hub = opened(alloc)?;
+    tell_all(rt, alloc, &mut hub, &[LENT])?;
+    Ok(hub)
 }
 
 /// How far the loan has come and its last day, in a hub with it that was closed and opened anew.
-fn lent_and_opened(alloc: Global) -> Result<(Option<LoanState>, Option<Day>), Fail> {
-    let setup = Setup::read(alloc, MUSEUM.as_bytes())?;
+fn lent_and_opened(
+    rt: &impl Abort,
+    alloc: Global,
+) -> Result<(Option<LoanState>, Option<Day>), Fail> {
     let loan = LoanCode::parse(b"LO2024.1")?;
-    match opened_anew(alloc, replayed(alloc, LENT)?, setup) {
+    let setup = Setup::read(alloc, MUSEUM.as_bytes())?;
+    let hub = lent(rt, alloc)?;
+    match opened_anew(alloc, hub, setup) {
         Ok(hub) => Ok((hub.ledger().loan_state(&loan), hub.ledger().last_day(&loan))),
         Err(_) => Err(Fail::from("not opened")),
     }
@@ -220,7 +222,7 @@ fn lent_and_opened(alloc: Global) -> Result<(Option<LoanState>, Option<Day>), Fa
 
 #[test]
 fn loan_opened_again(rt: HostRuntime) -> Result<(), Fail> {
-    let (state, last) = lent_and_opened(rt.alloc())?;
+    let (state, last) = lent_and_opened(&rt, rt.alloc())?;
     assert_eq!(rt; state, Some(LoanState::Running));
     assert_eq!(rt; last, Some(Day::parse(b"2024-06-30")?));
     Ok(())

@@ -3,25 +3,19 @@
 ghost use Rattle.std.specs.Prelude.{◌<◌, length};
 ghost use Rattle.posting_core.specs.Book.{loans_in};
 
-use super::hub::opened;
+use super::hub::{opened, send};
 use codes_core::LoanCode;
-use hub_core::{Answer, Arrival, Hub};
+use hub_core::{Answer, Hub};
 use nest_core::{StationNo, ThingNo};
-use posting_core::{Ledger, Message, Verdict};
-use register_store::{PlainRegister, read_message};
+use posting_core::{Ledger, Verdict};
+use register_store::PlainRegister;
 use std::alloc::Global;
 use std::process::Abort;
 use std::test::Fail;
 
 const PACK: StationNo = 0;
 
-/// The message of a text that is written with ' for ".
-pub(crate) fn message_of(alloc: Global, text: &str) -> Result<Message, Fail> {
-    let json = text.replace(alloc, '\'', "\"")?;
-    Ok(read_message(alloc, json.as_bytes())?)
-}
-
-/// Sends the next message of PACK, which is posted.
+/// PACK sends its next message, which is posted.
 fn tell(
     rt: &impl Abort,
     alloc: Global,
@@ -29,18 +23,19 @@ fn tell(
     text: &str,
 ) -> Result<(), Fail> {
     let n = hub.posted().len() as u64 + 1;
-    let message = message_of(alloc, text)?;
-    let arrival = Arrival {
-        station: PACK,
+    send(
+        rt,
+        alloc,
+        hub,
+        PACK,
         n,
-        message,
-    };
-    let answer = hub.arrive(alloc, arrival)?;
-    assert_eq!(rt; answer, Answer::Posted { first: n, last: n });
-    Ok(())
+        text,
+        Answer::Posted { first: n, last: n },
+    )
 }
 
-fn tell_all(
+/// PACK sends the messages of these texts, a line each.
+pub(crate) fn tell_all(
     rt: &impl Abort,
     alloc: Global,
     hub: &mut Hub<PlainRegister>,
@@ -116,7 +111,7 @@ fn described(rt: &impl Abort, alloc: Global, ledger: &Ledger) -> Result<String, 
 
 /// The loans after PACK has told these messages, a line each.
 fn loans_after(rt: &impl Abort, alloc: Global, parts: &[&str]) -> Result<String, Fail> {
-    let mut hub = opened(alloc, PlainRegister::new(alloc))?;
+    let mut hub = opened(alloc)?;
     tell_all(rt, alloc, &mut hub, parts)?;
     described(rt, alloc, hub.ledger())
 }

@@ -206,33 +206,6 @@ fn reads_and_writes(rt: HostRuntime) -> Result<(), Fail> {
     Ok(())
 }
 
-/// An agreement that lists 2001.4.1 so many times.
-fn agreement(alloc: Global, count: usize) -> Result<String, Fail> {
-    let mut text = String::from_str(
-        alloc,
-        "{\"first\":\"2024-05-01\",\"kind\":\"agree\",\"last\":\"2024-05-31\",\"loan\":\"LO2024.1\",\"objects\":[",
-    )?;
-    for i in 0..count {
-        let comma = if i == 0 { "" } else { "," };
-        text.push_str(comma)?;
-        text.push_str("\"2001.4.1\"")?;
-    }
-    text.push_str("],\"partner\":\"MUSEUM-X\"}")?;
-    Ok(text)
-}
-
-#[test]
-fn at_most_256_objects(rt: HostRuntime) -> Result<(), Fail> {
-    let most = agreement(rt.alloc(), 256)?;
-    let message = read_message(rt.alloc(), most.as_bytes())?;
-    let text = message_text(rt.alloc(), &message)?;
-    assert_eq!(rt; text.as_str(), most.as_str());
-    let more = agreement(rt.alloc(), 257)?;
-    let fault = read_message(rt.alloc(), more.as_bytes()).err();
-    assert_eq!(rt; fault, Some(BadField(Key::Objects)));
-    Ok(())
-}
-
 #[test]
 fn bytes_that_are_no_text(rt: HostRuntime) {
     let fault = read_message(rt.alloc(), b"{\"kind\":\"signoff\",\"by\":\"\xFF\"}").err();

@@ -1,5 +1,5 @@
 //! The list of objects that a loan agrees, and the copy of an agreement.
-use super::ledger::message_of;
+use super::message_of;
 use codes_core::ThingCode;
 use posting_core::{Message, Objects};
 use std::alloc::Global;

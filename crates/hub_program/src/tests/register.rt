@@ -2,10 +2,10 @@
 ghost use Rattle.std.specs.Prelude.{◌≡◌, ◌∷◌, [], true, reverse, IfOk};
 ghost use Rattle.register_store.specs.StoredRows.{Content};
 
-use super::{MUSEUM, SMALL};
-use codes_core::{Day, Name, PlaceCode, ThingCode};
+use super::{MUSEUM, SMALL, message_of};
+use codes_core::Day;
 use nest_core::{PlaceNo, Setup, StationNo, ThingNo};
-use posting_core::{Changes, Entry, Ledger, Message, NewLines, NewSpot, NewSpots, Spot, Verdict};
+use posting_core::{Changes, Entry, Ledger, NewLines, NewSpot, NewSpots, Spot, Verdict};
 use register_store::{PlainRegister, Register, StoreFault, message_text};
 use std::alloc::Global;
 use std::test::Fail;
@@ -38,17 +38,9 @@ fn setup(alloc: Global, text: &str) -> Result<Setup, Fail> {
     Ok(Setup::read(alloc, text.as_bytes())?)
 }
 
-fn day() -> Result<Day, Fail> {
-    Ok(Day::parse(b"2024-05-01")?)
-}
-
-/// The move of 2001.4.1 to S1.
-fn moved(station: StationNo, n: u32) -> Result<Entry, Fail> {
-    let message = Message::Move {
-        thing: ThingCode::parse(b"2001.4.1")?,
-        place: PlaceCode::parse(b"S1")?,
-        day: day()?,
-    };
+/// An applied message, as a station's.
+fn applied(alloc: Global, station: StationNo, n: u32, text: &str) -> Result<Entry, Fail> {
+    let message = message_of(alloc, text)?;
     Ok(Entry {
         station,
         n,
@@ -57,14 +49,14 @@ fn moved(station: StationNo, n: u32) -> Result<Entry, Fail> {
     })
 }
 
-fn signed(alloc: Global, station: StationNo, n: u32) -> Result<Entry, Fail> {
-    let name = Name::new(alloc, b"A. Keeper")?;
-    Ok(Entry {
+/// The move of 2001.4.1 to S1.
+fn moved(alloc: Global, station: StationNo, n: u32) -> Result<Entry, Fail> {
+    applied(
+        alloc,
         station,
         n,
-        message: Message::SignOff { name },
-        verdict: Verdict::Applied,
-    })
+        "{'kind':'move','thing':'2001.4.1','place':'S1','day':'2024-05-01'}",
+    )
 }
 
 /// The changes of an entry that writes no spot.
@@ -87,7 +79,7 @@ fn brought(alloc: Global, entry: u64) -> Result<Changes, Fail>
     let spot = Spot {
         entry,
         place: S1,
-        day: day()?,
+        day: Day::parse(b"2024-05-01")?,
     };
     changes.spots.push(NewSpot {
         thing: OBJECT,
@@ -144,9 +136,9 @@ fn kept_in_memory(
 
 /// A move and another station's sign-off, read back.
 fn two_read_back(alloc: Global) -> Result<Vec<Entry>, Fail> {
-    let moved = moved(GAL, 1)?;
+    let moved = moved(alloc, GAL, 1)?;
     let brought = brought(alloc, 1)?;
-    let signed = signed(alloc, PACK, 1)?;
+    let signed = applied(alloc, PACK, 1, "{'kind':'signoff','by':'A. Keeper'}")?;
     let setup = setup(alloc, MUSEUM)?;
     let nothing = nothing(alloc, 2);
     Ok(kept_in_memory(alloc, &setup, &moved, &brought, &signed, &nothing)?)
@@ -198,7 +190,7 @@ fn bound_in_memory(
 
 #[test]
 fn bound_to_one_setup(rt: HostRuntime) -> Result<(), Fail> {
-    let moved = moved(GAL, 1)?;
+    let moved = moved(rt.alloc(), GAL, 1)?;
     let brought = brought(rt.alloc(), 1)?;
     let large = setup(rt.alloc(), MUSEUM)?;
     let small = setup(rt.alloc(), SMALL)?;
@@ -234,7 +226,7 @@ fn agreed_in_memory(
 
 #[test]
 fn agrees_with_the_ledger(rt: HostRuntime) -> Result<(), Fail> {
-    let moved = moved(PACK, 1)?;
+    let moved = moved(rt.alloc(), PACK, 1)?;
     let brought = brought(rt.alloc(), 1)?;
     let nothing = nothing(rt.alloc(), 1);
     let ledger = Ledger::new(rt.alloc(), setup(rt.alloc(), MUSEUM)?, 12)?;
@@ -271,7 +263,7 @@ fn damaged_rows(rt: HostRuntime) -> Result<(), Fail> {
     let setup = setup(rt.alloc(), MUSEUM)?;
     let damaged = Some(StoreFault::Damaged(1));
     for (station, n, number, want) in CASES {
-        let entry = [(moved(*station, *n)?, *number)];
+        let entry = [(moved(rt.alloc(), *station, *n)?, *number)];
         let got = read_in_memory(rt.alloc(), &setup, &entry);
         assert_eq!(rt; got.is_some(), *want, "{station} {n} {number}");
         assert!(rt; got.is_none() || got == damaged);
@@ -282,7 +274,10 @@ fn damaged_rows(rt: HostRuntime) -> Result<(), Fail> {
 #[test]
 fn rows_in_the_order_of_their_numbers(rt: HostRuntime) -> Result<(), Fail> {
     let setup = setup(rt.alloc(), MUSEUM)?;
-    let entries = [(moved(GAL, 2)?, 2), (moved(GAL, 1)?, 1)];
+    let entries = [
+        (moved(rt.alloc(), GAL, 2)?, 2),
+        (moved(rt.alloc(), GAL, 1)?, 1),
+    ];
     assert_eq!(rt; read_in_memory(rt.alloc(), &setup, &entries), None);
     let missing = read_in_memory(rt.alloc(), &setup, &entries[..1]);
     assert_eq!(rt; missing, Some(StoreFault::Damaged(1)));
@@ -374,7 +369,7 @@ fn posted_in_memory(
 /// A call whose growth is refused leaves the register as it was; to be run with each growth refused in turn.
 #[test]
 fn refused_growths(rt: HostRuntime) -> Result<(), Fail> {
-    let entry = moved(0, 1)?;
+    let entry = moved(rt.alloc(), PACK, 1)?;
     let changes = brought(rt.alloc(), 1)?;
     let small = setup(rt.alloc(), SMALL)?;
     let ledger = Ledger::new(rt.alloc(), setup(rt.alloc(), MUSEUM)?, 12)?;

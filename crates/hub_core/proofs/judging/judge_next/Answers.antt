@@ -1,13 +1,13 @@
 use Rattle.std.proofs.Common.{◌≡◌, ◌∙◌, ◌+◌, ap, sym, subst, arith, length, map, Bool}
 use Rattle.std.specs.Prelude.{slice_set}
 use Rattle.std.specs.List.{slice_get}
+use Rattle.std.proofs.lemmas.Bool.{false≢true}
 use Rattle.std.proofs.lemmas.List.{length-map, length-reverse}
 use Rattle.posting_core.specs.declared.message.Message.{Message}
 use Rattle.posting_core.specs.Book.{Book}
 use Rattle.station_core.specs.Series.{opened}
 use Rattle.hub_core.specs.StandsFor.{InStep}
 use Rattle.hub_core.specs.Openings.{may_send}
-use Rattle.posting_core.proofs.AppliedRows.{false_true}
 use Rattle.hub_core.proofs.OpenLemmas.{judged_follows, follows_sends, next_step}
 use Rattle.hub_core.proofs.judging.judge_next.Goals as goal
 
@@ -44,5 +44,5 @@ returns-then-not-may_send-clause-cause c =
     let starts = c.args.starts.now.items in
     let sends : c.may_send.result ≡ may_send (slice_get starts c.args.entry.station) c.args.entry.n = rw (← c.deref.ensures.value) c.may_send.ensures in (
       ap (λ n. n + 1) (ap length (sym c.posted.ensures) ∙ length-reverse c.posted.result.now),
-      λ follows. false_true (sym c.if-not-may_send.true ∙ sends ∙ follows_sends L.museum L.depth L.posted c.args.entry starts c.requires follows),
+      λ follows. false≢true (sym c.if-not-may_send.true ∙ sends ∙ follows_sends L.museum L.depth L.posted c.args.entry starts c.requires follows),
     )

@@ -1,6 +1,7 @@
 use Rattle.std.proofs.Common.{ℕ, ◌≡◌, ◌∙◌, sym, subst, refl, inr, List, length, Bool, true, Result, Err}
 use Rattle.std.specs.Prelude.{reverse, All, ◌≤◌, ◌⊎◌}
 use Rattle.std.specs.Result.{IsErrAnd}
+use Rattle.std.proofs.lemmas.Bool.{false≢true}
 use Rattle.std.proofs.lemmas.Result.{err_from_is_err_and}
 use Rattle.nest_core.specs.Museum.{Museum}
 use Rattle.register_store.specs.declared.store_fault.StoreFault.{StoreFault}
@@ -14,7 +15,6 @@ use Rattle.station_core.specs.Progress.{AllMatch, AllStart}
 use Rattle.register_store.specs.StoredRows.{Content}
 use Rattle.register_store.specs.Registers.{CountsRefusal, is_failure, bound_to, IsOfStation}
 use Rattle.hub_core.specs.Openings.{IsOpenFault}
-use Rattle.posting_core.proofs.AppliedRows.{false_true}
 use Rattle.hub_core.proofs.OpenLemmas.{sent, all_start, all_few, same_rows, judge_fault}
 use Rattle.hub_core.proofs.Written.{if_err}
 use Rattle.hub_core.proofs.opening.prepare.Goals as goal
@@ -39,7 +39,7 @@ returns-then-not-branch-clause-cause g c calm k had =
       wrong = λ has.
           let on = told.1 (same_rows S (reverse c.in_ok-entries.entries.items) c.in_ok-starts.ledger _ law.museum law.posted has) in
           let off = c.if-not-branch.true in
-          absurd (false_true (sym off ∙ on));
+          absurd (false≢true (sym off ∙ on));
     })))
 
 pub new-requires : goal.new-requires
@@ -71,9 +71,9 @@ returns-in_err-starts-clause-cause g c calm =
 failed : (S : Museum) (k : Content) (fault : StoreFault) → is_failure fault ≡ true → IsOpenFault S k fault
 failed S k NoMemory fails = tt
 failed S k Store fails = tt
-failed S k OtherSetup fails = absurd (false_true fails)
-failed S k (Damaged at) fails = absurd (false_true fails)
-failed S k OtherVersion fails = absurd (false_true fails)
+failed S k OtherSetup fails = absurd (false≢true fails)
+failed S k (Damaged at) fails = absurd (false≢true fails)
+failed S k OtherVersion fails = absurd (false≢true fails)
 
 counts_err : (T U : Type 0) (old mid new : ℕ) (x : StoreFault) (r : Result U StoreFault) → mid ≡ old → CountsRefusal {T = T} mid new (Err x) → IsErrAnd r (λ y. y ≡ x) → CountsRefusal old new r
 counts_err T U old mid new x r same counts is =

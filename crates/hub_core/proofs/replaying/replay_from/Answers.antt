@@ -1,6 +1,7 @@
 use Rattle.std.proofs.Common.{◌≡◌, ◌∙◌, ◌++◌, ap, sym, subst, false, true, string_bytes, arith, rules}
 use Rattle.hub_core.specs.declared.replaying.ReplayFault.TheVariants.{WriteFailed}
-use Rattle.hub_core.specs.LineText.{without_return, arrivals}
+use Rattle.hub_core.specs.Lines.{without_return}
+use Rattle.hub_core.specs.LineText.{arrivals}
 use Rattle.hub_core.specs.Replayed.{AfterFault}
 use Rattle.hub_core.proofs.StoreLemmas.{counts_ok}
 use Rattle.hub_core.proofs.Written.{if_err, if_cause, if_ok}

@@ -1,6 +1,6 @@
 use Rattle.std.proofs.Common.{◌≡◌, ◌==◌, ◌∙◌, ap, ℕ, List, [], ◌∷◌, length, refl}
 use Rattle.std.proofs.Math.Dec.{eqb-suc-zero}
-use Rattle.hub_core.specs.LineText.{is_empty}
+use Rattle.hub_core.specs.Lines.{is_empty}
 use Rattle.hub_core.proofs.running.is_blank.Goals as goal
 
 counted : (line : List ℕ) → (length line == 0) ≡ is_empty line

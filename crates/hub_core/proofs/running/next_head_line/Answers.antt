@@ -1,5 +1,5 @@
 use Rattle.std.proofs.Common.{◌≡◌, ◌≤◌, ◌⊎◌, ◌∙◌, ap, sym, inl, inr, length, true, false, arith}
-use Rattle.hub_core.specs.LineText.{is_empty, without_return}
+use Rattle.hub_core.specs.Lines.{is_empty, without_return}
 use Rattle.hub_core.proofs.LineTaken.{line_fed, line_last, line_open}
 use Rattle.hub_core.proofs.HeadLemmas.{line_too_long, line_fits}
 use Rattle.hub_core.proofs.running.next_head_line.Goals.{else-len-room-via-then-len-room+else-not-is_blank, else-len-room-via-else-len-room}

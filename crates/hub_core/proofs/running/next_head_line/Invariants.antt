@@ -1,7 +1,7 @@
 use Rattle.std.proofs.Common.{◌≡◌, ◌≤◌, ◌+◌, List, ℕ, length, take}
 use Rattle.std.specs.Io.KnownBytes.{Consumes}
 use Rattle.hub_core.specs.Reading.{HasNoFeed}
-use Rattle.hub_core.specs.LineText.{head}
+use Rattle.hub_core.specs.Lines.{head}
 use Rattle.hub_core.proofs.running.next_head_line.Given as goal
 
 abbrev pub invariant-loop-reads : goal.invariant-loop-reads

@@ -2,7 +2,7 @@ use Rattle.std.proofs.Common.{◌≡◌, ◌++◌, ◌∙◌, ap, sym, refl, inl
 use mir.Val.{bool_byte}
 use Rattle.hub_core.specs.declared.running.RunFault.TheVariants.{NoMemory}
 use Rattle.hub_core.specs.Reading.{feed_if}
-use Rattle.hub_core.specs.LineText.{is_empty, without_return}
+use Rattle.hub_core.specs.Lines.{is_empty, without_return}
 use Rattle.hub_core.proofs.Written.{if_err}
 use Rattle.hub_core.proofs.HeadTaken.{stops_between, stops_in_line, ends_there, too_long_there, last_there, more_there, unkept_there}
 use Rattle.hub_core.proofs.running.read_head.Goals as goal

@@ -1,4 +1,4 @@
-use Rattle.std.proofs.Common.{rules, ◌≡◌, ℤ, List, ℕ, Some, ap, ◌∙◌, sym, subst, refl}
+use Rattle.std.proofs.Common.{rules, ◌≡◌, ℤ, List, ℕ, Some, sym, subst, refl}
 use Rattle.std.specs.Str.{bytes_eq}
 use Rattle.std.specs.List.{IsDistinct}
 use Rattle.std.specs.List.Sorted.{IsPermutation}

@@ -1,5 +1,5 @@
-use Rattle.std.proofs.Common.{subst}
-use Rattle.station_core.proofs.BoolLemmas.{by_bool}
+use Rattle.std.proofs.Common.{subst, ⊎_elim}
+use Rattle.std.proofs.lemmas.Bool.{cases_Bool}
 use Rattle.hub_core.specs.Openings.{OpensAgain}
 use Rattle.hub_core.specs.StandsFor.{State}
 use Rattle.hub_core.proofs.ReopenLemmas.{some_of_store, some_opens}
@@ -10,4 +10,4 @@ returns-clause-opens_again g c =
     let hub = c.self.inside in
     subst (λ (h : State g.row.R.Denot). OpensAgain g.R.Register.is_quiet g.R.Register.holds hub.register h.book.museum) c.self.view_is
     (some_opens g.R.Register.is_quiet g.R.Register.holds hub.register hub.ledger
-    (by_bool hub.down c.self.invariant.3 (λ up. some_of_store g.R.Register.is_quiet g.R.Register.holds hub.register hub.ledger c.is_lawful.ensures (c.self.invariant.2 up))))
+    (⊎_elim c.self.invariant.3 (λ up. some_of_store g.R.Register.is_quiet g.R.Register.holds hub.register hub.ledger c.is_lawful.ensures (c.self.invariant.2 up)) (cases_Bool hub.down)))
