@@ -23,7 +23,8 @@ use Rattle.hub_core.proofs.LineLemmas.{IsWhole, whole_none, whole_more, ended_wh
 use Rattle.hub_core.proofs.ReplyLemmas.{text_more, arrivals_more, count_more, one_start, one_line, one_arrivals}
 use Rattle.hub_core.proofs.KeptLemmas.{kept_reply, kept_arrivals}
 use Rattle.hub_core.proofs.FeedLemmas.{end_after}
-use Rattle.hub_core.proofs.Written.{appends_kept, take_front, take_past}
+use Rattle.hub_core.proofs.Written.{appends_kept}
+use Rattle.std.proofs.Math.Seq.{take-append_seam, take-append-add}
 
 -- whole lines are read and answered
 pub record Underway {Q : Type 0} (S : Museum) (depth : ℕ) (O : List Entry) (A : List Arrival) (i i' o o' : Option (List ℕ)) (quiet : Q → Type 0) (holds : Q → Content → Type 0) (hub : State Q) (next : ℕ) : Type 0 where
@@ -95,7 +96,7 @@ module _ {Q : Type 0} (S : Museum) (depth : ℕ) (O : List Entry) (A : List Arri
   fault_line t k WriteFailed =
       let same : u.bytes ≡ ended (u.bytes ++ t.0) = sym (ended_whole u.bytes t.0 u.whole t.2) in
       let front : text S depth O A u.bytes ≡ take (length (text S depth O A u.bytes)) (text S depth O A u.bytes) =
-      sym (ap (take (length (text S depth O A u.bytes))) (sym (append-nil (text S depth O A u.bytes))) ∙ take_front (text S depth O A u.bytes) []) in
+      sym (ap (take (length (text S depth O A u.bytes))) (sym (append-nil (text S depth O A u.bytes))) ∙ take-append_seam (text S depth O A u.bytes) []) in
       record {
         bytes = u.bytes ++ t.0;
         at_end = false;
@@ -155,7 +156,7 @@ module _ {Q : Type 0} (S : Museum) (depth : ℕ) (O : List Entry) (A : List Arri
       text_told = ap (λ (q : List ℕ). text S depth O A u.bytes ++ q) told ∙ sym text_now
 
       front_now : (j : ℕ) → text S depth O A u.bytes ++ take j reply ≡ take (length (text S depth O A u.bytes) + j) (text S depth O A now)
-      front_now j = sym (ap (take (length (text S depth O A u.bytes) + j)) (sym text_told) ∙ take_past (text S depth O A u.bytes) reply j)
+      front_now j = sym (ap (take (length (text S depth O A u.bytes) + j)) (sym text_told) ∙ take-append-add (text S depth O A u.bytes) reply j)
 
       -- a fault in the writing of the reply
       pub fault_write : (o3 : Option (List ℕ)) → (j : ℕ) × Appends o2 o3 (take j reply) → CutShort S depth O A i i2 o o3 quiet holds new
@@ -204,7 +205,7 @@ module _ {Q : Type 0} (S : Museum) (depth : ℕ) (O : List Entry) (A : List Arri
         k = length (text S depth O A now);
         read = read_now;
         end = λ _. end_now e;
-        written = subst (Appends o o4) (sym (ap (take (length (text S depth O A now))) (sym (append-nil (text S depth O A now))) ∙ take_front (text S depth O A now) [])) (appends_kept o o3 o4 _ (text_written o3 w) kept);
+        written = subst (Appends o o4) (sym (ap (take (length (text S depth O A now))) (sym (append-nil (text S depth O A now))) ∙ take-append_seam (text S depth O A now) [])) (appends_kept o o3 o4 _ (text_written o3 w) kept);
         stands = stands_now;
       }
 

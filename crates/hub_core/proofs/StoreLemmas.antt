@@ -1,8 +1,7 @@
 -- What a register has of a posted list, after one more posting.
-use Rattle.std.proofs.Common.{◌≡◌, ℕ, ◌+◌, if◌then◌else◌, List, [], ◌∷◌, ◌++◌, length, Result, Ok, Err, ◌⊎◌, inl, inr, ap, ◌∙◌, sym, subst, arith}
+use Rattle.std.proofs.Common.{◌≡◌, ℕ, ◌+◌, if◌then◌else◌, List, [], ◌∷◌, ◌++◌, length, Result, Ok, ◌⊎◌, inl, inr, ap, ◌∙◌, sym, subst, arith}
 use Rattle.std.specs.Prelude.{reverse}
 use Rattle.std.specs.List.Sorted.{IsPermutation}
-use Rattle.std.specs.Result.{OnErr}
 use Rattle.std.proofs.lemmas.List.Sorted.{IsPermutation-cons, IsPermutation-append_right, sum_by-IsPermutation}
 use Rattle.nest_core.specs.Museum.{Museum}
 use Rattle.posting_core.specs.declared.message.Message.{Message}
@@ -78,10 +77,6 @@ module _ {R : Type 0} (holds : R → Content → Type 0) where
       let same : record L { posted = record { station = r.station; n = r.n; message = r.message; verdict = changes.verdict } ∷ L.posted } ≡ record L { posted = post L.museum L.depth L.posted r } =
       ap (λ (x : Changes). record L { posted = record { station = r.station; n = r.n; message = r.message; verdict = x.verdict } ∷ L.posted }) planned in
       subst (λ (b : Book). (d : Content) × holds register d × IsStoreOf b.museum b.depth b.posted d) (sym (is ∙ same)) (stored_in register L r changes c lawful follows planned store row)
-
-pub on_err : {T E P : Type 0} (r : Result T E) → P → OnErr r P
-on_err (Ok x) p = tt
-on_err (Err e) p = p
 
 -- a call that succeeded counts no refusal
 pub counts_ok : {T : Type 0} (old new : ℕ) (r : Result T HubFault) (x : T) → r ≡ Ok x → CountsStore old new r → new ≡ old

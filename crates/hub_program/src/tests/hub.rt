@@ -4,8 +4,8 @@ ghost use Rattle.register_store.specs.Registers.{is_failure};
 
 use super::ledger::tell_all;
 use super::{MUSEUM, SMALL, message_of};
-use codes_core::{Day, LoanCode, ThingCode};
-use hub_core::{Answer, Arrival, Hub, OpenFault, Where};
+use codes_core::{Day, LoanCode};
+use hub_core::{Answer, Arrival, Hub, OpenFault};
 use nest_core::{PlaceNo, Setup, StationNo};
 use posting_core::LoanState;
 use register_store::{PlainRegister, Register, StoreFault};
@@ -69,7 +69,7 @@ pub(crate) fn send(
         message,
     };
     let answer = hub.arrive(alloc, arrival)?;
-    assert_eq!(rt; answer, want, "{text}");
+    assert_eq!(rt; answer, want);
     Ok(())
 }
 
@@ -101,22 +101,6 @@ fn assert_spots(
     Ok(())
 }
 
-/// The hub says that the object is there, in no container.
-fn assert_asked(
-    rt: &impl Abort,
-    alloc: Global,
-    hub: &Hub<PlainRegister>,
-    want: Option<PlaceNo>,
-) -> Result<(), Fail> {
-    let place = match hub.ask(alloc, &ThingCode::parse(b"2001.4.1")?)? {
-        Where::At { place, chain } if chain.as_slice().is_empty() => Some(place),
-        Where::Unplaced => None,
-        _ => return Err(Fail::from("in a container")),
-    };
-    assert_eq!(rt; place, want);
-    Ok(())
-}
-
 const NO_SPOTS: &[(u64, PlaceNo)] = &[];
 
 const TWO_SPOTS: &[(u64, PlaceNo)] = &[(1, 0), (2, 1)];
@@ -126,10 +110,8 @@ fn held_then_posted(
     alloc: Global,
     hub: &mut Hub<PlainRegister>,
 ) -> Result<(), Fail> {
-    assert_asked(rt, alloc, hub, None)?;
     assert_spots(rt, hub, NO_SPOTS)?;
     send_all(rt, alloc, hub, HELD)?;
-    assert_asked(rt, alloc, hub, Some(1))?;
     assert_spots(rt, hub, TWO_SPOTS)
 }
 

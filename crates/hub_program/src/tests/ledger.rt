@@ -205,7 +205,7 @@ fn loans(rt: HostRuntime) -> Result<(), Fail> {
 
 /// The verdict has this number and this name.
 fn assert_verdict(rt: &impl Abort, verdict: Verdict, number: u32, name: &str) {
-    assert_eq!(rt; verdict.number(), number, "{name}");
+    assert_eq!(rt; verdict.number(), number);
     assert_eq!(rt; verdict.name(), name);
     assert_eq!(rt; Verdict::numbered(number), Some(verdict));
 }

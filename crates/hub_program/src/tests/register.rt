@@ -1,5 +1,5 @@
 //! Registers in memory, bound, posted to and read back.
-ghost use Rattle.std.specs.Prelude.{◌≡◌, ◌∷◌, [], true, reverse, IfOk};
+ghost use Rattle.std.specs.Prelude.{◌≡◌, ◌∷◌, [], reverse, IfOk};
 ghost use Rattle.register_store.specs.StoredRows.{Content};
 
 use super::{MUSEUM, SMALL, message_of};
@@ -15,19 +15,25 @@ const MOVED: &str =
 
 const SIGNED: &str = "0 1 Applied {\"by\":\"A. Keeper\",\"kind\":\"signoff\"}";
 
-/// The one entry's station, its number and its row's number, and whether the row is damaged.
-const CASES: &[(u32, u32, u64, bool)] = &[
-    (1, 1, 1, false),
-    (1, 999_999, 1, false),
-    (1, 1, 2, true),
-    (2, 1, 1, true),
-    (1, 0, 1, true),
-    (1, 1_000_000, 1, true),
-];
-
 const PACK: StationNo = 0;
 
 const GAL: StationNo = 1;
+
+/// A station that the setup doesn't have.
+const NONE: StationNo = 2;
+
+/// Moves that are posted, each as its station, its number and its row's number, and the fault of reading them back.
+const READ: &[(&[(StationNo, u32, u64)], Option<StoreFault>)] = &[
+    (&[(GAL, 1, 1)], None),
+    (&[(GAL, 999_999, 1)], None),
+    (&[(GAL, 1, 2)], Some(StoreFault::Damaged(1))),
+    (&[(NONE, 1, 1)], Some(StoreFault::Damaged(1))),
+    (&[(GAL, 0, 1)], Some(StoreFault::Damaged(1))),
+    (&[(GAL, 1_000_000, 1)], Some(StoreFault::Damaged(1))),
+    // rows are read in the order of their numbers
+    (&[(GAL, 2, 2), (GAL, 1, 1)], None),
+    (&[(GAL, 2, 2)], Some(StoreFault::Damaged(1))),
+];
 
 /// Thing 2 of the setup is 2001.4.1, place 0 is S1.
 const OBJECT: ThingNo = 2;
@@ -258,122 +264,30 @@ fn read_in_memory(alloc: Global, setup: &Setup, entries: &[(Entry, u64)]) -> Opt
     read_after(alloc, &mut register, setup, entries).err()
 }
 
+/// Moves, each with its row's number.
+fn moves(alloc: Global, rows: &[(StationNo, u32, u64)]) -> Result<Vec<(Entry, u64)>, Fail> {
+    let mut entries = Vec::new(alloc);
+    for (station, n, number) in rows {
+        entries.push((moved(alloc, *station, *n)?, *number))?;
+    }
+    Ok(entries)
+}
+
+fn fault_of_reading(
+    alloc: Global,
+    setup: &Setup,
+    rows: &[(StationNo, u32, u64)],
+) -> Result<Option<StoreFault>, Fail> {
+    let entries = moves(alloc, rows)?;
+    Ok(read_in_memory(alloc, setup, entries.as_slice()))
+}
+
 #[test]
-fn damaged_rows(rt: HostRuntime) -> Result<(), Fail> {
+fn rows_read_back(rt: HostRuntime) -> Result<(), Fail> {
     let setup = setup(rt.alloc(), MUSEUM)?;
-    let damaged = Some(StoreFault::Damaged(1));
-    for (station, n, number, want) in CASES {
-        let entry = [(moved(rt.alloc(), *station, *n)?, *number)];
-        let got = read_in_memory(rt.alloc(), &setup, &entry);
-        assert_eq!(rt; got.is_some(), *want, "{station} {n} {number}");
-        assert!(rt; got.is_none() || got == damaged);
+    for (rows, want) in READ {
+        let fault = fault_of_reading(rt.alloc(), &setup, rows)?;
+        assert_eq!(rt; fault, *want);
     }
-    Ok(())
-}
-
-#[test]
-fn rows_in_the_order_of_their_numbers(rt: HostRuntime) -> Result<(), Fail> {
-    let setup = setup(rt.alloc(), MUSEUM)?;
-    let entries = [
-        (moved(rt.alloc(), GAL, 2)?, 2),
-        (moved(rt.alloc(), GAL, 1)?, 1),
-    ];
-    assert_eq!(rt; read_in_memory(rt.alloc(), &setup, &entries), None);
-    let missing = read_in_memory(rt.alloc(), &setup, &entries[..1]);
-    assert_eq!(rt; missing, Some(StoreFault::Damaged(1)));
-    Ok(())
-}
-
-/// How many entries there are; asked again where a growth is refused.
-fn count_of<R: Register>(alloc: Global, register: &mut R) -> Result<usize, StoreFault>
-    requires { R.is_bound register.old ≡ true }
-    ensures { R.is_bound register.new ≡ true }
-{
-    match register.all(alloc) {
-        Ok(entries) => Ok(entries.len()),
-        Err(_) => Ok(register.all(alloc)?.len()),
-    }
-}
-
-/// Whether it agrees with the ledger; asked again where a growth is refused.
-fn agrees_with<R: Register>(
-    alloc: Global,
-    register: &mut R,
-    ledger: &Ledger,
-) -> Result<bool, StoreFault>
-    requires { R.is_bound register.old ≡ true }
-    ensures { R.is_bound register.new ≡ true }
-{
-    match register.agrees(alloc, ledger) {
-        Ok(same) => Ok(same),
-        Err(_) => register.agrees(alloc, ledger),
-    }
-}
-
-/// How a posting went: whether it is posted, how many entries there are then, and whether there is no spot.
-type Posted = (bool, usize, bool);
-
-const POSTED: Posted = (true, 1, false);
-
-const NOT_POSTED: Posted = (false, 0, true);
-
-/// Posts an entry; the ledger has none.
-fn post_once<R: Register>(
-    alloc: Global,
-    register: &mut R,
-    ledger: &Ledger,
-    entry: &Entry,
-    changes: &Changes,
-) -> Result<Posted, StoreFault>
-    requires { R.is_bound register.old ≡ true }
-    ensures { R.is_bound register.new ≡ true }
-{
-    let posted = register.post(alloc, entry, changes).is_ok();
-    let count = count_of(alloc, register)?;
-    let same = agrees_with(alloc, register, ledger)?;
-    Ok((posted, count, same))
-}
-
-/// Binds a register to the ledger's setup or, where a growth is refused, to another one; posts to it, and once more
-/// where a growth is refused. How it went, and how it went at last.
-fn post_at_last<R: Register>(
-    alloc: Global,
-    register: &mut R,
-    ledger: &Ledger,
-    other: &Setup,
-    entry: &Entry,
-    changes: &Changes,
-) -> Result<(Posted, Posted), StoreFault> {
-    if register.bind(alloc, ledger.setup()).is_err() {
-        register.bind(alloc, other)?;
-    }
-    let once = post_once(alloc, register, ledger, entry, changes)?;
-    if once.0 {
-        return Ok((once, once));
-    }
-    let last = post_once(alloc, register, ledger, entry, changes)?;
-    Ok((once, last))
-}
-
-fn posted_in_memory(
-    alloc: Global,
-    ledger: &Ledger,
-    other: &Setup,
-    entry: &Entry,
-    changes: &Changes,
-) -> Result<(Posted, Posted), StoreFault> {
-    let mut register = PlainRegister::new(alloc);
-    post_at_last(alloc, &mut register, ledger, other, entry, changes)
-}
-
-/// A call whose growth is refused leaves the register as it was; to be run with each growth refused in turn.
-#[test]
-fn refused_growths(rt: HostRuntime) -> Result<(), Fail> {
-    let entry = moved(rt.alloc(), PACK, 1)?;
-    let changes = brought(rt.alloc(), 1)?;
-    let small = setup(rt.alloc(), SMALL)?;
-    let ledger = Ledger::new(rt.alloc(), setup(rt.alloc(), MUSEUM)?, 12)?;
-    let posted = posted_in_memory(rt.alloc(), &ledger, &small, &entry, &changes);
-    assert!(rt; posted == Ok((POSTED, POSTED)) || posted == Ok((NOT_POSTED, POSTED)));
     Ok(())
 }

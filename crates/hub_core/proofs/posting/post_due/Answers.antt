@@ -8,7 +8,8 @@ use Rattle.posting_core.specs.declared.message.Message.{Message}
 use Rattle.posting_core.specs.Book.{Book}
 use Rattle.hub_core.proofs.PostLemmas.{IsPosted, written, written_again, posted_list, posted_step, caught_next, done_sign, next_follows}
 use Rattle.hub_core.proofs.StopLemmas.{stopped_at}
-use Rattle.hub_core.proofs.StoreLemmas.{on_err, counts_ok}
+use Rattle.hub_core.proofs.StoreLemmas.{counts_ok}
+use Rattle.hub_core.proofs.Written.{on_err}
 use Rattle.hub_core.proofs.posting.post_due.Goals as goal
 
 pub next_due-requires : goal.next_due-requires

@@ -1,7 +1,8 @@
 use Rattle.std.proofs.Common.{inr, refl}
 use Rattle.station_core.specs.Runs.{Arrived, arrived}
 use Rattle.posting_core.specs.declared.message.Message.{Message}
-use Rattle.hub_core.proofs.StoreLemmas.{left_in, stored_in, stored_book, on_err}
+use Rattle.hub_core.proofs.StoreLemmas.{left_in, stored_in, stored_book}
+use Rattle.hub_core.proofs.Written.{on_err}
 use Rattle.hub_core.specs.StandsFor.{HasStore, HasSomeStore}
 use Rattle.hub_core.proofs.StopLemmas.{Either}
 use Rattle.hub_core.proofs.ReopenLemmas.{some_of_either}
