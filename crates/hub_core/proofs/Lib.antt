@@ -1,3 +1,4 @@
+pub mod PrepareLemmas
 pub mod RunLemmas
 pub mod StoreLemmas
 pub mod KeptLemmas

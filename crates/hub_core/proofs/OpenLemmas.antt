@@ -23,8 +23,8 @@ use Rattle.station_core.proofs.GrowLemmas.{starts_empty, starts_other, starts_ne
 use Rattle.hub_core.specs.Points.{arrival_of}
 use Rattle.register_store.specs.declared.store_fault.StoreFault.{StoreFault}
 use Rattle.register_store.specs.declared.store_fault.StoreFault.TheVariants.{NoMemory, Store, OtherSetup, Damaged, OtherVersion}
-use Rattle.register_store.specs.StoredRows.{Content, IsBoundTo, HasList, HasRows}
-use Rattle.register_store.specs.Registers.{is_new, bound_by, bound_to, IsOfStation}
+use Rattle.register_store.specs.StoredRows.{Content, IsBoundTo, HasList}
+use Rattle.register_store.specs.Registers.{bound_to, IsOfStation}
 use Rattle.hub_core.specs.Openings.{may_send, IsEntryFault, IsJudgeFault, IsOpenFault}
 use Rattle.hub_core.specs.StandsFor.{InStep}
 use Rattle.hub_core.proofs.PostLemmas.{IsWritten, written, step_written, count_same, count_other, signed_same, signed_other}
@@ -191,18 +191,6 @@ entry_fault S depth L O left left' e (Damaged at) museum limit list last law h =
       lawful = law;
       wrong = h.1;
     }))
-
--- the rows of a list, as a ledger with it has them
-pub same_rows : (S : Museum) (P : List Entry) (L : Book) (c : Content) → L.museum ≡ S → L.posted ≡ P → HasRows S P c → HasRows L.museum L.posted c
-same_rows S P L c museum list has = subst (λ (T : Museum). HasRows T L.posted c) (sym museum) (subst (λ (Q : List Entry). HasRows S Q c) (sym list) has)
-
--- binding leaves the postings
-pub list_bound : (S : Museum) (c : Content) (P : List Entry) → HasList P c → HasList P (bound_to S c)
-list_bound S c P has = by (is_new c.meta)
-  where
-    by : (b : Bool) → HasList P (bound_by b S c)
-    by true = record { rows = has.rows; each = has.each; all = has.all }
-    by false = has
 
 -- the fault of a bound store's list
 pub judge_fault : (S : Museum) (depth : ℕ) (c : Content) (P : List Entry) (fault : StoreFault) → IsBoundTo S depth (bound_to S c) → HasList P (bound_to S c) → All (IsOfStation (length S.stations)) P

@@ -1,6 +1,7 @@
 -- A store that has a lawful list can be opened.
-use Rattle.std.proofs.Common.{◌≡◌, inl, inr, ℕ, ◌+◌, ◌≤◌, true, false, List, [], ◌∷◌, ◌++◌, length, refl, sym, subst, ap, ◌∙◌, arith}
+use Rattle.std.proofs.Common.{◌≡◌, inl, inr, Bool, ℕ, ◌+◌, ◌≤◌, true, false, List, [], ◌∷◌, ◌++◌, length, refl, sym, subst, ap, ◌∙◌, arith}
 use Rattle.std.specs.Prelude.{All}
+use Rattle.std.proofs.lemmas.Bool.{false≢true}
 use Rattle.std.specs.List.{AllByRecursion}
 use Rattle.std.specs.List.Sorted.{IsPermutation, IsNonDecreasingBy}
 use Rattle.std.proofs.lemmas.List.Elements.{recursion_from_All, All-from_recursion}
@@ -14,14 +15,15 @@ use Rattle.register_store.specs.declared.store_fault.StoreFault.{StoreFault}
 use Rattle.register_store.specs.declared.store_fault.StoreFault.TheVariants.{NoMemory, Store, OtherSetup, Damaged, OtherVersion}
 use Rattle.register_store.specs.StoredRows.{Content, MetaRow, PostingRow, IsPostingRow, ArePostings, HasRows, IsStoreOf, rows_of_meta}
 use Rattle.register_store.specs.Registers.{is_failure, is_new, bound_by, bound_to, has_other_version, IsOfStation, IsFirstWrong}
+use Rattle.register_store.specs.Holdings.{Holding, Comes}
+use Rattle.register_store.proofs.HoldingLemmas.{has_more}
 use Rattle.register_store.proofs.OneList.{as_many, one_list}
 use Rattle.station_core.specs.Runs.{Arrived}
 use Rattle.hub_core.proofs.RowOrder.{at_number}
 use Rattle.hub_core.proofs.StoreLemmas.{one_depth}
-use Rattle.hub_core.proofs.StopLemmas.{Either}
 use Rattle.hub_core.specs.Points.{entry_of, post}
-use Rattle.hub_core.specs.StandsFor.{HasStore, HasSomeStore}
-use Rattle.hub_core.specs.Openings.{IsFirstUnlawful, HasWrongRow, HasWrongEntry, HasOtherRows, IsOpenFault, OpensAgain}
+use Rattle.hub_core.specs.StandsFor.{HasStore, HasSomeStore, HasEither}
+use Rattle.hub_core.specs.Openings.{IsFirstUnlawful, HasWrongRow, HasWrongEntry, HasOtherRows, IsOpenFault, OpensAgain, IsNotOpened}
 
 -- what each row of a lawful list tells
 record IsOfList (stations most : ℕ) (row : PostingRow) : Type 0 where
@@ -110,22 +112,33 @@ opens S depth P c (Damaged at) law store (inr (inl h)) = absurd (no_wrong_row S 
 opens S depth P c (Damaged at) law store (inr (inr (inl h))) = absurd (no_wrong_entry S depth P c law store at (subst (λ (d : Content). HasWrongEntry S d at) (stays S depth P c law store) h))
 opens S depth P c (Damaged at) law store (inr (inr (inr h))) = absurd (no_other_rows S depth P c law store at (subst (λ (d : Content). HasOtherRows S d at) (stays S depth P c law store) h))
 
-module _ {R : Type 0} (quiet : R → Type 0) (holds : R → Content → Type 0) where
-  -- a register with the book's list
-  pub some_of_store : (register : R) (book : Book) → IsLawful book.museum book.depth book.posted → HasStore quiet holds register book → HasSomeStore quiet holds register book
-  some_of_store register book law has calm = let store = has calm in (book.posted, store.0, law, store.1, store.2)
+module _ (store : Holding) where
+  -- a store with the book's list
+  pub some_of_store : (book : Book) → IsLawful book.museum book.depth book.posted → HasStore store book → HasSomeStore store book
+  some_of_store book law has = has_more store _ (λ c. (P : List Entry) × IsLawful book.museum book.depth P × IsStoreOf book.museum book.depth P c) (λ c is. (book.posted, law, is)) has
 
-  -- a register with a book's list, or that with one entry that may follow
-  pub some_of_either : (register : R) (L L' : Book) (next : Arrived Message) → IsLawful L.museum L.depth L.posted → Follows L.museum L.depth L.posted (entry_of L.museum L.depth L.posted next)
-      → L' ≡ L → Either quiet holds register L.museum L.depth L.posted next → HasSomeStore quiet holds register L'
-  some_of_either register L L' next law follows same either =
-      subst (λ (b : Book). HasSomeStore quiet holds register b) (sym same) (λ calm.
-      let has = either calm in
-      elim has.2 [
-        | inl store ↦ (L.posted, has.0, law, has.1, store)
-        | inr store ↦ (post L.museum L.depth L.posted next, has.0, (follows, law), has.1, store)
-      ])
+  -- a store with a book's list, or that with one entry that may follow
+  pub some_of_either : (L L' : Book) (next : Arrived Message) → IsLawful L.museum L.depth L.posted → Follows L.museum L.depth L.posted (entry_of L.museum L.depth L.posted next)
+      → L' ≡ L → HasEither store L.museum L.depth L.posted next → HasSomeStore store L'
+  some_of_either L L' next law follows same either =
+      subst (λ (b : Book). HasSomeStore store b) (sym same) (has_more store _ (λ c. (P : List Entry) × IsLawful L.museum L.depth P × IsStoreOf L.museum L.depth P c) (λ c has. elim has [
+        | inl is ↦ (L.posted, law, is)
+        | inr is ↦ (post L.museum L.depth L.posted next, (follows, law), is)
+      ]) either)
 
-  -- a register with a lawful list opens again
-  pub some_opens : (register : R) (book : Book) → HasSomeStore quiet holds register book → OpensAgain quiet holds register book.museum
-  some_opens register book has calm fault h = let some = has calm in opens book.museum book.depth some.0 some.1 fault some.2 some.4 (h some.1 some.3)
+  -- a store with a lawful list opens again
+  pub some_opens : (book : Book) → HasSomeStore store book → OpensAgain store book.museum
+  some_opens book has =
+      has_more store _ (λ c. (fault : StoreFault) → IsOpenFault book.museum c fault → is_failure fault ≡ true) (λ c some fault h. opens book.museum book.depth some.0 c fault some.1 some.2 h) has
+
+-- an opening of such a store fails for nothing else
+pub fails_so : (old new : Holding) (S T : Museum) (fault : StoreFault) → S ≡ T → OpensAgain old T → Comes old new (IsNotOpened S fault) → new.is_quiet → is_failure fault ≡ true
+fails_so old new S T fault same again comes quiet = by (is_failure fault) refl
+  where
+    by : (b : Bool) → is_failure fault ≡ b → is_failure fault ≡ true
+    by true on = on
+    by false off =
+        absurd (again.some (comes.quiet quiet) (comes.some quiet (λ d held.
+        let (c, was, cause) = comes.from quiet d held in
+        let on = again.each (comes.quiet quiet) c was fault (subst (λ (M : Museum). IsOpenFault M c fault) same cause.0) in
+        absurd (false≢true (sym off ∙ on)))))

@@ -15,7 +15,7 @@ use Rattle.hub_core.specs.declared.line_reply.TheConstants.{LONGEST_LINE}
 use Rattle.hub_core.specs.Reading.{HasNoFeed, feed_if, TakesLine, TakesStart}
 use Rattle.hub_core.specs.Lines.{lines, ended, without_return}
 use Rattle.hub_core.specs.LineText.{text, arrivals, line_reply, line_arrivals}
-use Rattle.register_store.specs.StoredRows.{Content}
+use Rattle.register_store.specs.Holdings.{Holding}
 use Rattle.hub_core.specs.StandsFor.{State, StandsFor, TakesSome}
 use Rattle.hub_core.specs.Faults.{replay_fault}
 use Rattle.hub_core.specs.Replayed.{lines_read, Answered, CutShort, BrokenOff, AfterFault}
@@ -27,21 +27,21 @@ use Rattle.hub_core.proofs.Written.{appends_kept}
 use Rattle.std.proofs.Math.Seq.{take-append_seam, take-append-add}
 
 -- whole lines are read and answered
-pub record Underway {Q : Type 0} (S : Museum) (depth : ℕ) (O : List Entry) (A : List Arrival) (i i' o o' : Option (List ℕ)) (quiet : Q → Type 0) (holds : Q → Content → Type 0) (hub : State Q) (next : ℕ) : Type 0 where
+pub record Underway {Q : Type 0} (S : Museum) (depth : ℕ) (O : List Entry) (A : List Arrival) (i i' o o' : Option (List ℕ)) (holding : Q → Holding) (hub : State Q) (next : ℕ) : Type 0 where
   pub bytes : List ℕ
   pub read : Consumes i i' bytes
   pub whole : IsWhole bytes
   pub written : Appends o o' (text S depth O A bytes)
-  pub stands : StandsFor quiet holds hub O (A ++ arrivals S bytes)
+  pub stands : StandsFor holding hub O (A ++ arrivals S bytes)
   pub number : next ≡ length (lines bytes) + 1
 
-pub under_start : {Q : Type 0} (S : Museum) (depth : ℕ) (O : List Entry) (A : List Arrival) (i o : Option (List ℕ)) (quiet : Q → Type 0) (holds : Q → Content → Type 0) (hub : State Q) → StandsFor quiet holds hub O A → Underway S depth O A i i o o quiet holds hub 1
-under_start S depth O A i o quiet holds hub st = record {
+pub under_start : {Q : Type 0} (S : Museum) (depth : ℕ) (O : List Entry) (A : List Arrival) (i o : Option (List ℕ)) (holding : Q → Holding) (hub : State Q) → StandsFor holding hub O A → Underway S depth O A i i o o holding hub 1
+under_start S depth O A i o holding hub st = record {
   bytes = [];
   read = Consumes-nil i;
   whole = whole_none;
   written = Appends-nil o;
-  stands = subst (StandsFor quiet holds hub O) (sym (append-nil A)) st;
+  stands = subst (StandsFor holding hub O) (sym (append-nil A)) st;
   number = refl;
 }
 
@@ -62,14 +62,14 @@ more_lines c p true w h e = count_more c p w h
 more_lines c p false w h e = absurd (true≢false (sym e))
 
 -- the line that comes next, with its reply
-module _ {Q : Type 0} (S : Museum) (depth : ℕ) (O : List Entry) (A : List Arrival) (i i1 i2 o o1 o2 : Option (List ℕ)) (quiet : Q → Type 0) (holds : Q → Content → Type 0) (hub : State Q) (number : ℕ) (u : Underway S depth O A i i1 o o1 quiet holds hub number) where
+module _ {Q : Type 0} (S : Museum) (depth : ℕ) (O : List Entry) (A : List Arrival) (i i1 i2 o o1 o2 : Option (List ℕ)) (holding : Q → Holding) (hub : State Q) (number : ℕ) (u : Underway S depth O A i i1 o o1 holding hub number) where
   whole_ended : ended u.bytes ≡ u.bytes
   whole_ended = whole_is_ended u.bytes u.whole
 
   all_written : Keeps o1 o2 → Appends o o2 (text S depth O A u.bytes)
   all_written k = appends_kept o o1 o2 _ u.written k
 
-  broken_before : TakesStart i1 i2 → Keeps o1 o2 → BrokenOff S depth O A i i2 o o2 quiet holds hub
+  broken_before : TakesStart i1 i2 → Keeps o1 o2 → BrokenOff S depth O A i i2 o o2 holding hub
   broken_before t k = record {
     before = u.bytes;
     line = t.0;
@@ -77,11 +77,11 @@ module _ {Q : Type 0} (S : Museum) (depth : ℕ) (O : List Entry) (A : List Arri
     whole = whole_ended;
     one = one_start t.0 t.2;
     written = all_written k;
-    stands = λ up. (0, subst (StandsFor quiet holds hub O) (sym (append-nil (A ++ arrivals S u.bytes))) u.stands);
+    stands = λ up. (0, subst (StandsFor holding hub O) (sym (append-nil (A ++ arrivals S u.bytes))) u.stands);
   }
 
   -- a fault before the line has ended
-  pub fault_line : TakesStart i1 i2 → Keeps o1 o2 → (fault : ReplayFault) → AfterFault S depth O A i i2 o o2 quiet holds hub fault
+  pub fault_line : TakesStart i1 i2 → Keeps o1 o2 → (fault : ReplayFault) → AfterFault S depth O A i i2 o o2 holding hub fault
   fault_line t k NoMemory = broken_before t k
   fault_line t k Store = broken_before t k
   fault_line t k ReadFailed =
@@ -91,7 +91,7 @@ module _ {Q : Type 0} (S : Museum) (depth : ℕ) (O : List Entry) (A : List Arri
         read = Consumes-trans i i1 i2 u.bytes t.0 u.read t.1;
         end = λ e. absurd (true≢false (sym e));
         written = subst (λ (c : List ℕ). Appends o o2 (text S depth O A c)) same (all_written k);
-        stands = subst (λ (c : List ℕ). StandsFor quiet holds hub O (A ++ arrivals S c)) same u.stands;
+        stands = subst (λ (c : List ℕ). StandsFor holding hub O (A ++ arrivals S c)) same u.stands;
       }
   fault_line t k WriteFailed =
       let same : u.bytes ≡ ended (u.bytes ++ t.0) = sym (ended_whole u.bytes t.0 u.whole t.2) in
@@ -104,7 +104,7 @@ module _ {Q : Type 0} (S : Museum) (depth : ℕ) (O : List Entry) (A : List Arri
         read = Consumes-trans i i1 i2 u.bytes t.0 u.read t.1;
         end = λ e. absurd (true≢false (sym e));
         written = subst (λ (c : List ℕ). Appends o o2 (take (length (text S depth O A u.bytes)) (text S depth O A c))) same (subst (Appends o o2) front (all_written k));
-        stands = subst (λ (c : List ℕ). StandsFor quiet holds hub O (A ++ arrivals S c)) same u.stands;
+        stands = subst (λ (c : List ℕ). StandsFor holding hub O (A ++ arrivals S c)) same u.stands;
       }
 
   module _ (most : ℕ) (held : List ℕ) (fed : Bool) (t : TakesLine i1 i2 most held fed) (enough : LONGEST_LINE + 2 ≤ most) (k : Keeps o1 o2) where
@@ -134,7 +134,7 @@ module _ {Q : Type 0} (S : Museum) (depth : ℕ) (O : List Entry) (A : List Arri
         ∙ ap (λ (q : List ℕ). text S depth O A u.bytes ++ line_reply S depth O (A ++ arrivals S u.bytes) number (without_return q)) (sym t.kept)))
 
     -- a fault before the reply is whole
-    pub fault_memory : (new : State Q) → TakesSome quiet holds new O (A ++ arrivals S u.bytes) (line_arrivals S (without_return held)) → BrokenOff S depth O A i i2 o o2 quiet holds new
+    pub fault_memory : (new : State Q) → TakesSome holding new O (A ++ arrivals S u.bytes) (line_arrivals S (without_return held)) → BrokenOff S depth O A i i2 o o2 holding new
     fault_memory new some =
         let line : List ℕ = t.bytes ++ feed_if fed in
         let sent : arrivals S line ≡ line_arrivals S (without_return held) = one_arrivals S t.bytes fed t.one ∙ sym sent_now in
@@ -145,12 +145,12 @@ module _ {Q : Type 0} (S : Museum) (depth : ℕ) (O : List Entry) (A : List Arri
           whole = whole_ended;
           one = one_line t.bytes fed t.one;
           written = all_written k;
-          stands = subst (TakesSome quiet holds new O (A ++ arrivals S u.bytes)) (sym sent) some;
+          stands = subst (TakesSome holding new O (A ++ arrivals S u.bytes)) (sym sent) some;
         }
 
-    module _ (new : State Q) (reply : List ℕ) (told : reply ≡ line_reply S depth O (A ++ arrivals S u.bytes) number (without_return held)) (st : StandsFor quiet holds new O ((A ++ arrivals S u.bytes) ++ line_arrivals S (without_return held))) where
-      stands_now : StandsFor quiet holds new O (A ++ arrivals S now)
-      stands_now = subst (StandsFor quiet holds new O) (sym arrived_now) st
+    module _ (new : State Q) (reply : List ℕ) (told : reply ≡ line_reply S depth O (A ++ arrivals S u.bytes) number (without_return held)) (st : StandsFor holding new O ((A ++ arrivals S u.bytes) ++ line_arrivals S (without_return held))) where
+      stands_now : StandsFor holding new O (A ++ arrivals S now)
+      stands_now = subst (StandsFor holding new O) (sym arrived_now) st
 
       text_told : text S depth O A u.bytes ++ reply ≡ text S depth O A now
       text_told = ap (λ (q : List ℕ). text S depth O A u.bytes ++ q) told ∙ sym text_now
@@ -159,7 +159,7 @@ module _ {Q : Type 0} (S : Museum) (depth : ℕ) (O : List Entry) (A : List Arri
       front_now j = sym (ap (take (length (text S depth O A u.bytes) + j)) (sym text_told) ∙ take-append-add (text S depth O A u.bytes) reply j)
 
       -- a fault in the writing of the reply
-      pub fault_write : (o3 : Option (List ℕ)) → (j : ℕ) × Appends o2 o3 (take j reply) → CutShort S depth O A i i2 o o3 quiet holds new
+      pub fault_write : (o3 : Option (List ℕ)) → (j : ℕ) × Appends o2 o3 (take j reply) → CutShort S depth O A i i2 o o3 holding new
       fault_write o3 w =
           let same : now ≡ lines_read (not fed) now = sym (lines_now u.bytes t.bytes fed u.whole t.one) in
           let m : ℕ = length (text S depth O A u.bytes) + w.0 in
@@ -170,14 +170,14 @@ module _ {Q : Type 0} (S : Museum) (depth : ℕ) (O : List Entry) (A : List Arri
             read = read_now;
             end = λ e. end_now (not-true fed e);
             written = subst (λ (c : List ℕ). Appends o o3 (take m (text S depth O A c))) same (subst (Appends o o3) (front_now w.0) (Appends-trans o o2 o3 _ (take w.0 reply) (all_written k) w.1));
-            stands = subst (λ (c : List ℕ). StandsFor quiet holds new O (A ++ arrivals S c)) same stands_now;
+            stands = subst (λ (c : List ℕ). StandsFor holding new O (A ++ arrivals S c)) same stands_now;
           }
 
       text_written : (o3 : Option (List ℕ)) → Appends o2 o3 reply → Appends o o3 (text S depth O A now)
       text_written o3 w = subst (Appends o o3) text_told (Appends-trans o o2 o3 _ reply (all_written k) w)
 
       -- the line is answered
-      pub answered_more : (o3 : Option (List ℕ)) → Appends o2 o3 reply → fed ≡ true → Underway S depth O A i i2 o o3 quiet holds new (number + 1)
+      pub answered_more : (o3 : Option (List ℕ)) → Appends o2 o3 reply → fed ≡ true → Underway S depth O A i i2 o o3 holding new (number + 1)
       answered_more o3 w e = record {
         bytes = now;
         read = read_now;
@@ -188,7 +188,7 @@ module _ {Q : Type 0} (S : Museum) (depth : ℕ) (O : List Entry) (A : List Arri
       }
 
       -- the last line is answered
-      pub answered_last : (o3 o4 : Option (List ℕ)) → Appends o2 o3 reply → Keeps o3 o4 → fed ≡ false → Answered S depth O A i i2 o o4 quiet holds new true
+      pub answered_last : (o3 o4 : Option (List ℕ)) → Appends o2 o3 reply → Keeps o3 o4 → fed ≡ false → Answered S depth O A i i2 o o4 holding new true
       answered_last o3 o4 w kept e = record {
         bytes = now;
         read = read_now;
@@ -198,7 +198,7 @@ module _ {Q : Type 0} (S : Museum) (depth : ℕ) (O : List Entry) (A : List Arri
       }
 
       -- all is answered, and what was written can't be handed on
-      pub fault_flush : (o3 o4 : Option (List ℕ)) → Appends o2 o3 reply → Keeps o3 o4 → fed ≡ false → CutShort S depth O A i i2 o o4 quiet holds new
+      pub fault_flush : (o3 o4 : Option (List ℕ)) → Appends o2 o3 reply → Keeps o3 o4 → fed ≡ false → CutShort S depth O A i i2 o o4 holding new
       fault_flush o3 o4 w kept e = record {
         bytes = now;
         at_end = true;
@@ -210,43 +210,43 @@ module _ {Q : Type 0} (S : Museum) (depth : ℕ) (O : List Entry) (A : List Arri
       }
 
 -- the end of a known input
-pub whole_input : {Q : Type 0} (S : Museum) (depth : ℕ) (O : List Entry) (A : List Arrival) (i i' o o' : Option (List ℕ)) (quiet : Q → Type 0) (holds : Q → Content → Type 0) (hub : State Q) → Answered S depth O A i i' o o' quiet holds hub true
-    → IfSome i (λ bytes. IsAtEnd i' × Appends o o' (text S depth O A bytes) × StandsFor quiet holds hub O (A ++ arrivals S bytes))
-whole_input S depth O A None i' o o' quiet holds hub a = tt
-whole_input S depth O A (Some xs) None o o' quiet holds hub a = absurd a.read
-whole_input S depth O A (Some xs) (Some ys) o o' quiet holds hub a =
+pub whole_input : {Q : Type 0} (S : Museum) (depth : ℕ) (O : List Entry) (A : List Arrival) (i i' o o' : Option (List ℕ)) (holding : Q → Holding) (hub : State Q) → Answered S depth O A i i' o o' holding hub true
+    → IfSome i (λ bytes. IsAtEnd i' × Appends o o' (text S depth O A bytes) × StandsFor holding hub O (A ++ arrivals S bytes))
+whole_input S depth O A None i' o o' holding hub a = tt
+whole_input S depth O A (Some xs) None o o' holding hub a = absurd a.read
+whole_input S depth O A (Some xs) (Some ys) o o' holding hub a =
     let none : ys ≡ [] = a.end refl in
     let same : a.bytes ≡ xs = sym (a.read ∙ ap (λ (q : List ℕ). a.bytes ++ q) none ∙ append-nil a.bytes) in
-    (none, subst (λ (c : List ℕ). Appends o o' (text S depth O A c)) same a.written, subst (λ (c : List ℕ). StandsFor quiet holds hub O (A ++ arrivals S c)) same a.stands)
+    (none, subst (λ (c : List ℕ). Appends o o' (text S depth O A c)) same a.written, subst (λ (c : List ℕ). StandsFor holding hub O (A ++ arrivals S c)) same a.stands)
 
 -- what is told of a hub with this museum and depth, of this line
-pub told_at : {Q : Type 0} (S S' : Museum) (depth depth' number : ℕ) (line line' reply : List ℕ) (quiet : Q → Type 0) (holds : Q → Content → Type 0) (new : State Q) (O : List Entry) (A : List Arrival) → S' ≡ S → depth' ≡ depth → line' ≡ line
-    → (reply ≡ line_reply S' depth' O A number line') × StandsFor quiet holds new O (A ++ line_arrivals S' line')
-    → (reply ≡ line_reply S depth O A number line) × StandsFor quiet holds new O (A ++ line_arrivals S line)
-told_at S S' depth depth' number line line' reply quiet holds new O A s d l h =
-    subst (λ (M : Museum). (reply ≡ line_reply M depth O A number line) × StandsFor quiet holds new O (A ++ line_arrivals M line)) s
-    (subst (λ n. (reply ≡ line_reply S' n O A number line) × StandsFor quiet holds new O (A ++ line_arrivals S' line)) d
-    (subst (λ (q : List ℕ). (reply ≡ line_reply S' depth' O A number q) × StandsFor quiet holds new O (A ++ line_arrivals S' q)) l h))
+pub told_at : {Q : Type 0} (S S' : Museum) (depth depth' number : ℕ) (line line' reply : List ℕ) (holding : Q → Holding) (new : State Q) (O : List Entry) (A : List Arrival) → S' ≡ S → depth' ≡ depth → line' ≡ line
+    → (reply ≡ line_reply S' depth' O A number line') × StandsFor holding new O (A ++ line_arrivals S' line')
+    → (reply ≡ line_reply S depth O A number line) × StandsFor holding new O (A ++ line_arrivals S line)
+told_at S S' depth depth' number line line' reply holding new O A s d l h =
+    subst (λ (M : Museum). (reply ≡ line_reply M depth O A number line) × StandsFor holding new O (A ++ line_arrivals M line)) s
+    (subst (λ n. (reply ≡ line_reply S' n O A number line) × StandsFor holding new O (A ++ line_arrivals S' line)) d
+    (subst (λ (q : List ℕ). (reply ≡ line_reply S' depth' O A number q) × StandsFor holding new O (A ++ line_arrivals S' q)) l h))
 
-pub some_at : {Q : Type 0} (S S' : Museum) (line line' : List ℕ) (quiet : Q → Type 0) (holds : Q → Content → Type 0) (new : State Q) (O : List Entry) (A : List Arrival) → S' ≡ S → line' ≡ line → TakesSome quiet holds new O A (line_arrivals S' line') → TakesSome quiet holds new O A (line_arrivals S line)
-some_at S S' line line' quiet holds new O A s l h =
-    subst (λ (M : Museum). TakesSome quiet holds new O A (line_arrivals M line)) s (subst (λ (q : List ℕ). TakesSome quiet holds new O A (line_arrivals S' q)) l h)
+pub some_at : {Q : Type 0} (S S' : Museum) (line line' : List ℕ) (holding : Q → Holding) (new : State Q) (O : List Entry) (A : List Arrival) → S' ≡ S → line' ≡ line → TakesSome holding new O A (line_arrivals S' line') → TakesSome holding new O A (line_arrivals S line)
+some_at S S' line line' holding new O A s l h =
+    subst (λ (M : Museum). TakesSome holding new O A (line_arrivals M line)) s (subst (λ (q : List ℕ). TakesSome holding new O A (line_arrivals S' q)) l h)
 
 -- all that was read is answered, and no more is read
-pub read_out : {Q : Type 0} (S : Museum) (depth : ℕ) (O : List Entry) (A : List Arrival) (i i' o o' : Option (List ℕ)) (quiet : Q → Type 0) (holds : Q → Content → Type 0) (hub : State Q) (number : ℕ) → Underway S depth O A i i' o o' quiet holds hub number → Answered S depth O A i i' o o' quiet holds hub false
-read_out S depth O A i i' o o' quiet holds hub number u =
+pub read_out : {Q : Type 0} (S : Museum) (depth : ℕ) (O : List Entry) (A : List Arrival) (i i' o o' : Option (List ℕ)) (holding : Q → Holding) (hub : State Q) (number : ℕ) → Underway S depth O A i i' o o' holding hub number → Answered S depth O A i i' o o' holding hub false
+read_out S depth O A i i' o o' holding hub number u =
     let same : u.bytes ≡ ended u.bytes = sym (whole_is_ended u.bytes u.whole) in
     record {
       bytes = u.bytes;
       read = u.read;
       end = λ e. absurd (true≢false (sym e));
       written = subst (λ (c : List ℕ). Appends o o' (text S depth O A c)) same u.written;
-      stands = subst (λ (c : List ℕ). StandsFor quiet holds hub O (A ++ arrivals S c)) same u.stands;
+      stands = subst (λ (c : List ℕ). StandsFor holding hub O (A ++ arrivals S c)) same u.stands;
     }
 
 -- what stands after a fault of the hub
-pub after_hub_fault : {Q : Type 0} (S : Museum) (depth : ℕ) (O : List Entry) (A : List Arrival) (i i' o o' : Option (List ℕ)) (quiet : Q → Type 0) (holds : Q → Content → Type 0) (hub : State Q) (fault : HubFault)
-    → BrokenOff S depth O A i i' o o' quiet holds hub → AfterFault S depth O A i i' o o' quiet holds hub (replay_fault fault)
-after_hub_fault S depth O A i i' o o' quiet holds hub hub_faults.NoMemory broken = broken
-after_hub_fault S depth O A i i' o o' quiet holds hub hub_faults.Store broken = broken
-after_hub_fault S depth O A i i' o o' quiet holds hub hub_faults.Down broken = broken
+pub after_hub_fault : {Q : Type 0} (S : Museum) (depth : ℕ) (O : List Entry) (A : List Arrival) (i i' o o' : Option (List ℕ)) (holding : Q → Holding) (hub : State Q) (fault : HubFault)
+    → BrokenOff S depth O A i i' o o' holding hub → AfterFault S depth O A i i' o o' holding hub (replay_fault fault)
+after_hub_fault S depth O A i i' o o' holding hub hub_faults.NoMemory broken = broken
+after_hub_fault S depth O A i i' o o' holding hub hub_faults.Store broken = broken
+after_hub_fault S depth O A i i' o o' holding hub hub_faults.Down broken = broken

@@ -1,6 +1,10 @@
 -- A run: the hub over nothing posted, and the lines after the head.
-use Rattle.std.proofs.Common.{◌≡◌, ◌≢◌, ℕ, inl, inr, ◌∷◌, true, true≢false, List, [], length, length-append, Option, None, Some, Result, Err, IfErr, IsErrAnd, refl, ap, sym, subst, arith}
-use Rattle.std.specs.Prelude.{IfSome}
+use Rattle.std.proofs.Common.{◌≡◌, ◌≢◌, ◌≤◌, ◌∙◌, ℕ, if◌then◌else◌, false, inl, inr, ◌∷◌, true, true≢false, List, [], length, length-append, Option, None, Some, Result, Err, IfErr, IsErrAnd, refl, ap, sym, subst, arith}
+use Rattle.std.specs.Prelude.{IfSome, nat_lt}
+use Rattle.std.specs.Option.{option_map}
+use Rattle.std.proofs.lemmas.Bool.Decides.{nat_tests}
+use Rattle.nest_core.specs.SetupRows.{rows_of, museum_of, setup_fault}
+use Rattle.hub_core.specs.declared.running.TheConstants.{LONGEST_HEAD}
 use Rattle.std.specs.Io.KnownBytes.{Appends, IsAtEnd}
 use Rattle.std.proofs.lemmas.List.{nil_from_length}
 use Rattle.std.proofs.lemmas.List.Sorted.{IsPermutation-refl, IsPermutation-sym, IsPermutation-trans, length_permutation}
@@ -11,19 +15,21 @@ use Rattle.register_store.specs.declared.store_fault.StoreFault.{StoreFault}
 use Rattle.register_store.specs.declared.store_fault.StoreFault.TheVariants as store
 use Rattle.register_store.specs.StoredRows.{Content, AreSame, HasList, HasRows}
 use Rattle.register_store.specs.Registers.{bound_to}
-use Rattle.register_store.specs.Plain.{Kept}
+use Rattle.register_store.specs.Plain.{Kept, in_memory}
+use Rattle.register_store.specs.Holdings.{Comes}
+use Rattle.register_store.proofs.Kept.{same_itself}
 use Rattle.register_store.proofs.OneList.{as_many}
 use Rattle.hub_core.specs.declared.answer.Arrival.{Arrival}
 use Rattle.hub_core.specs.declared.replaying.ReplayFault.{ReplayFault}
 use Rattle.hub_core.specs.declared.replaying.ReplayFault.TheVariants as replay
 use Rattle.hub_core.specs.declared.running.RunFault.{RunFault}
-use Rattle.hub_core.specs.declared.running.RunFault.TheVariants.{NoMemory, Store, ReadFailed, WriteFailed}
+use Rattle.hub_core.specs.declared.running.RunFault.TheVariants.{NoMemory, Store, ReadFailed, WriteFailed, Setup, HeadTooLong}
 use Rattle.hub_core.specs.Faults.{CountsReplay}
 use Rattle.hub_core.specs.Lines.{head, after_head}
 use Rattle.hub_core.specs.StandsFor.{State, StandsFor}
-use Rattle.hub_core.specs.Openings.{IsOpenFault, CountsFault}
+use Rattle.hub_core.specs.Openings.{IsOpenFault, CountsFault, Opened, IsNotOpened}
 use Rattle.hub_core.specs.Replayed.{Answered, AfterFault}
-use Rattle.hub_core.specs.WholeRun.{head_fault, setup_in, run_text, run_fault, IsQuiet, Holds, IsFresh, OpensHub, InLines}
+use Rattle.hub_core.specs.WholeRun.{head_fault, setup_in, run_text, run_fault, IsFresh, TakesHead, OpensHub, InLines}
 use Rattle.hub_core.proofs.StoreLemmas.{one_depth}
 use Rattle.hub_core.proofs.Written.{if_err}
 use Rattle.hub_core.proofs.ReplayLemmas.{whole_input}
@@ -41,7 +47,7 @@ no_entries P c none list =
     omega arith
 
 -- a register with nothing lacks nothing but memory
-pub only_memory : (S : Museum) (fault : StoreFault) → IsOpenFault S nothing fault → CountsFault 0 0 fault → fault ≡ store.NoMemory
+only_memory : (S : Museum) (fault : StoreFault) → IsOpenFault S nothing fault → CountsFault 0 0 fault → fault ≡ store.NoMemory
 only_memory S store.NoMemory cause count = refl
 only_memory S store.Store cause count = absurd (omega (arith, count))
 only_memory S store.OtherVersion cause count = absurd (true≢false (sym cause))
@@ -60,34 +66,69 @@ only_memory S (store.Damaged at) (inr (inr (inr wrong))) count =
     let has : HasRows S [] (bound_to S nothing) = record { spots = IsPermutation-refl []; lines = IsPermutation-refl []; terms = IsPermutation-refl [] } in
     absurd (wrong.wrong (subst (λ P. HasRows S P (bound_to S nothing)) (sym none) has))
 
--- a register with nothing has the list of no entries
-pub no_list : HasList [] nothing
-no_list = record { rows = []; each = tt; all = IsPermutation-refl [] }
+-- nothing, in any order
+only_nothing : (c : Content) → AreSame nothing c → c ≡ nothing
+only_nothing c same =
+    let setup = nil_from_length c.setup (length_permutation _ _ same.setup) in
+    let meta = nil_from_length c.meta (length_permutation _ _ same.meta) in
+    let postings = nil_from_length c.postings (length_permutation _ _ same.postings) in
+    let spots = nil_from_length c.spots (length_permutation _ _ same.spots) in
+    let lines = nil_from_length c.lines (length_permutation _ _ same.lines) in
+    let terms = nil_from_length c.terms (length_permutation _ _ same.terms) in
+    rw (setup, meta, postings, spots, lines, terms) refl
 
 -- what a hub that was opened over nothing is
-pub opened_fresh : (S : Museum) (hub : State Kept) → hub.book.museum ≡ S → AreSame hub.register.content (bound_to S nothing) → StandsFor IsQuiet Holds hub [] [] → IsFresh hub S
-opened_fresh S hub museum kept stands =
-    let held = stands.stored tt in
-    let meta = IsPermutation-trans _ _ _ held.2.bound.meta (IsPermutation-trans _ _ _ (IsPermutation-sym _ _ held.1.meta) kept.meta) in
-    record { museum = museum; depth = one_depth hub.book.depth NEW_DEPTH meta; stands = stands }
+pub opened_fresh : (S : Museum) (register : Kept) (hub : State Kept) → register.content ≡ nothing → Opened in_memory S register hub → IsFresh hub S
+opened_fresh S register hub new opened =
+    let (c, was, step) = opened.comes.from tt hub.register.content (same_itself hub.register.content) in
+    let is : c ≡ nothing = only_nothing c (subst (λ (k : Content). AreSame k c) new was) in
+    let store = opened.stands.stored.each tt hub.register.content (same_itself hub.register.content) in
+    let empty : hub.book.posted ≡ [] = nil_from_length hub.book.posted (no_entries hub.book.posted c (ap (λ (k : Content). k.postings) is) step.0) in
+    let at : AreSame (bound_to S nothing) hub.register.content = subst (λ (k : Content). AreSame (bound_to S k) hub.register.content) is step.1 in
+    let meta = IsPermutation-trans _ _ _ store.bound.meta (IsPermutation-sym _ _ at.meta) in
+    record {
+      museum = opened.setup;
+      depth = one_depth hub.book.depth NEW_DEPTH meta;
+      stands = subst (λ (P : List Entry). StandsFor in_memory hub P []) empty opened.stands;
+    }
+
+-- one that was not
+pub only_memory_lacks : (S : Museum) (register left : Kept) (fault : StoreFault) → register.content ≡ nothing → Comes (in_memory register) (in_memory left) (IsNotOpened S fault) → CountsFault 0 0 fault → fault ≡ store.NoMemory
+only_memory_lacks S register left fault new comes count =
+    let (c, was, cause) = comes.from tt left.content (same_itself left.content) in
+    let is : c ≡ nothing = only_nothing c (subst (λ (k : Content). AreSame k c) new was) in
+    only_memory S fault (subst (λ (k : Content). IsOpenFault S k fault) is cause.0) count
+
+-- over the head that was read
+pub opens_hub : (i i1 : Option (List ℕ)) (taken given : List ℕ) (setup : Museum) (hub : State Kept) → given ≡ taken → TakesHead i i1 taken → setup_fault given ≡ None → setup ≡ museum_of (rows_of given) → IsFresh hub setup → OpensHub i i1 hub
+opens_hub None i1 taken given setup hub at takes none is fresh = tt
+opens_hub (Some bytes) i1 taken given setup hub at (is_head, short, left) none is fresh =
+    let all : given ≡ head bytes = at ∙ is_head in
+    let few : length (head bytes) ≤ LONGEST_HEAD = subst (λ (l : List ℕ). length l ≤ LONGEST_HEAD) is_head short in
+    let within : nat_lt LONGEST_HEAD (length (head bytes)) ≡ false = grind (arith, nat_tests) in
+    let whole : setup_fault (head bytes) ≡ None = subst (λ (l : List ℕ). setup_fault l ≡ None) all none in (
+      ap (λ t. if t then Some HeadTooLong else option_map Setup (setup_fault (head bytes))) within ∙ ap (option_map Setup) whole,
+      left,
+      subst (λ (S : Museum). IsFresh hub S) (is ∙ ap (λ (l : List ℕ). museum_of (rows_of l)) all) fresh,
+    )
 
 -- the lines after the head are all answered
 pub lines_answered : (i i1 i2 o o' : Option (List ℕ)) (hub new : State Kept) → OpensHub i i1 hub
-    → ((O : List Entry) (A : List Arrival) → StandsFor IsQuiet Holds hub O A → Answered hub.book.museum hub.book.depth O A i1 i2 o o' IsQuiet Holds new true)
+    → ((O : List Entry) (A : List Arrival) → StandsFor in_memory hub O A → Answered hub.book.museum hub.book.depth O A i1 i2 o o' in_memory new true)
     → IfSome i (λ bytes. (head_fault (head bytes) ≡ None) × IsAtEnd i2 × Appends o o' (run_text bytes))
 lines_answered None i1 i2 o o' hub new opens answered = tt
 lines_answered (Some bytes) i1 i2 o o' hub new opens answered =
     let fresh = opens.2 in
-    let all : Answered (setup_in bytes) NEW_DEPTH [] [] (Some (after_head bytes)) i2 o o' IsQuiet Holds new true =
-    subst (λ (S : Museum). Answered S NEW_DEPTH [] [] (Some (after_head bytes)) i2 o o' IsQuiet Holds new true) fresh.museum
-    (subst (λ depth. Answered hub.book.museum depth [] [] (Some (after_head bytes)) i2 o o' IsQuiet Holds new true) fresh.depth
-    (subst (λ (left : Option (List ℕ)). Answered hub.book.museum hub.book.depth [] [] left i2 o o' IsQuiet Holds new true) opens.1 (answered [] [] fresh.stands))) in
-    let whole = whole_input (setup_in bytes) NEW_DEPTH [] [] (Some (after_head bytes)) i2 o o' IsQuiet Holds new all in
+    let all : Answered (setup_in bytes) NEW_DEPTH [] [] (Some (after_head bytes)) i2 o o' in_memory new true =
+    subst (λ (S : Museum). Answered S NEW_DEPTH [] [] (Some (after_head bytes)) i2 o o' in_memory new true) fresh.museum
+    (subst (λ depth. Answered hub.book.museum depth [] [] (Some (after_head bytes)) i2 o o' in_memory new true) fresh.depth
+    (subst (λ (left : Option (List ℕ)). Answered hub.book.museum hub.book.depth [] [] left i2 o o' in_memory new true) opens.1 (answered [] [] fresh.stands))) in
+    let whole = whole_input (setup_in bytes) NEW_DEPTH [] [] (Some (after_head bytes)) i2 o o' in_memory new all in
     (opens.0, whole.0, whole.1)
 
 -- a fault in them
 pub lines_fault : (i i1 i2 o o' : Option (List ℕ)) (hub new : State Kept) (fault : ReplayFault) → OpensHub i i1 hub
-    → ((O : List Entry) (A : List Arrival) → StandsFor IsQuiet Holds hub O A → AfterFault hub.book.museum hub.book.depth O A i1 i2 o o' IsQuiet Holds new fault)
+    → ((O : List Entry) (A : List Arrival) → StandsFor in_memory hub O A → AfterFault hub.book.museum hub.book.depth O A i1 i2 o o' in_memory new fault)
     → InLines i i2 o o' fault
 lines_fault None i1 i2 o o' hub new fault opens after = tt
 lines_fault (Some bytes) i1 i2 o o' hub new fault opens after =
@@ -95,9 +136,9 @@ lines_fault (Some bytes) i1 i2 o o' hub new fault opens after =
       opens.0,
       (
         new,
-        subst (λ (S : Museum). AfterFault S NEW_DEPTH [] [] (Some (after_head bytes)) i2 o o' IsQuiet Holds new fault) fresh.museum
-            (subst (λ depth. AfterFault hub.book.museum depth [] [] (Some (after_head bytes)) i2 o o' IsQuiet Holds new fault) fresh.depth
-            (subst (λ (left : Option (List ℕ)). AfterFault hub.book.museum hub.book.depth [] [] left i2 o o' IsQuiet Holds new fault) opens.1 (after [] [] fresh.stands))),
+        subst (λ (S : Museum). AfterFault S NEW_DEPTH [] [] (Some (after_head bytes)) i2 o o' in_memory new fault) fresh.museum
+            (subst (λ depth. AfterFault hub.book.museum depth [] [] (Some (after_head bytes)) i2 o o' in_memory new fault) fresh.depth
+            (subst (λ (left : Option (List ℕ)). AfterFault hub.book.museum hub.book.depth [] [] left i2 o o' in_memory new fault) opens.1 (after [] [] fresh.stands))),
       ),
     )
 

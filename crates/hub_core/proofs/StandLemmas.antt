@@ -15,7 +15,7 @@ use Rattle.station_core.specs.Runs.{Arrived, ready, refusal, due}
 use Rattle.station_core.specs.Progress.{IsPosting, AllMatch}
 use Rattle.station_core.specs.declared.Refusal.{Refusal}
 use Rattle.station_core.proofs.StationLemmas.{taken_refused, taken_accepted, series_at_set_same, accepted}
-use Rattle.register_store.specs.StoredRows.{Content}
+use Rattle.register_store.specs.Holdings.{Holding}
 use Rattle.hub_core.specs.declared.answer.Arrival.{Arrival}
 use Rattle.hub_core.specs.declared.answer.Answer.TheVariants.{Refused, Held, Posted}
 use Rattle.hub_core.specs.Points.{seen, post, Point, point_with, point_after, point, reply, reply_from, due_with, arrival_of}
@@ -35,10 +35,10 @@ point_accepted S depth p r h = ap (point_with S depth p r.station) (taken_accept
 pub point_more : (S : Museum) (depth : ℕ) (O : List Entry) (A : List Arrival) (r : Arrival) → point S depth O (A ++ r ∷ []) ≡ point_after S depth (point S depth O A) r
 point_more S depth O A r = fold_push (point_after S depth) (record { posted = O; taken = map arrival_of (reverse O) }) A r
 
-module _ {R : Type 0} (quiet : R → Type 0) (holds : R → Content → Type 0) where
+module _ {R : Type 0} (holding : R → Holding) where
   -- an arrival that is refused
-  pub stands_refused : (hub : State R) (O : List Entry) (A : List Arrival) (r : Arrival) (f : Refusal) → StandsFor quiet holds hub O A → refused_at hub.book.museum (point hub.book.museum hub.book.depth O A) r ≡ Some f
-      → (Refused f ≡ reply hub.book.museum hub.book.depth O A r) × StandsFor quiet holds hub O (A ++ r ∷ [])
+  pub stands_refused : (hub : State R) (O : List Entry) (A : List Arrival) (r : Arrival) (f : Refusal) → StandsFor holding hub O A → refused_at hub.book.museum (point hub.book.museum hub.book.depth O A) r ≡ Some f
+      → (Refused f ≡ reply hub.book.museum hub.book.depth O A r) × StandsFor holding hub O (A ++ r ∷ [])
   stands_refused hub O A r f st h =
       let S = hub.book.museum in
       let p : Point = point S hub.book.depth O A in
@@ -53,15 +53,15 @@ module _ {R : Type 0} (quiet : R → Type 0) (holds : R → Content → Type 0) 
       )
 
   -- an arrival that is taken
-  pub stands_taken : (hub new : State R) (mid : List (Series Message)) (O : List Entry) (A : List Arrival) (r : Arrival) → StandsFor quiet holds hub O A
+  pub stands_taken : (hub new : State R) (mid : List (Series Message)) (O : List Entry) (A : List Arrival) (r : Arrival) → StandsFor holding hub O A
       → length hub.sequences ≡ length hub.book.museum.stations
       → refused_at hub.book.museum (point hub.book.museum hub.book.depth O A) r ≡ None
       → new.down ≡ false → new.book.museum ≡ hub.book.museum → new.book.depth ≡ hub.book.depth
       → mid ≡ slice_set hub.sequences r.station (with_held (series_at hub.sequences r.station) r.n r.message)
       → ((taken : List (Arrived Message)) → AllMatch is_sign_off taken hub.sequences → IsPosting is_sign_off (taken ++ seen r ∷ []) r.station mid)
       → ((taken : List (Arrived Message)) → IsPosting is_sign_off taken r.station mid → Done hub.book.museum hub.book.depth taken r.station (series_at mid r.station).posted hub.book.posted new.sequences new.book.posted)
-      → (HasStore quiet holds hub.register hub.book → HasStore quiet holds new.register new.book)
-      → (reply_from None (length hub.book.posted) (length new.book.posted) ≡ reply hub.book.museum hub.book.depth O A r) × StandsFor quiet holds new O (A ++ r ∷ [])
+      → (HasStore (holding hub.register) hub.book → HasStore (holding new.register) new.book)
+      → (reply_from None (length hub.book.posted) (length new.book.posted) ≡ reply hub.book.museum hub.book.depth O A r) × StandsFor holding new O (A ++ r ∷ [])
   stands_taken hub new mid O A r st stations h up museum depth m take done keep =
       let S = hub.book.museum in
       let d' = hub.book.depth in
@@ -88,15 +88,15 @@ module _ {R : Type 0} (quiet : R → Type 0) (holds : R → Content → Type 0) 
       )
 
   -- an arrival that is taken, where a fault stops the posting
-  pub stands_stopped : (hub : State R) (register : R) (mid : List (Series Message)) (now : List Entry) (O : List Entry) (A : List Arrival) (r : Arrival) → StandsFor quiet holds hub O A
+  pub stands_stopped : (hub : State R) (store : Holding) (mid : List (Series Message)) (now : List Entry) (O : List Entry) (A : List Arrival) (r : Arrival) → StandsFor holding hub O A
       → length hub.sequences ≡ length hub.book.museum.stations
       → refused_at hub.book.museum (point hub.book.museum hub.book.depth O A) r ≡ None
       → mid ≡ slice_set hub.sequences r.station (with_held (series_at hub.sequences r.station) r.n r.message)
       → ((taken : List (Arrived Message)) → AllMatch is_sign_off taken hub.sequences → IsPosting is_sign_off (taken ++ seen r ∷ []) r.station mid)
-      → ((taken : List (Arrived Message)) → IsPosting is_sign_off taken r.station mid → HasStore quiet holds hub.register hub.book
-      → Stopped quiet holds register hub.book.museum hub.book.depth hub.book.posted (due taken r.station (series_at mid r.station).posted (ready is_sign_off taken r.station - (series_at mid r.station).posted)) now)
-      → Stopped quiet holds register hub.book.museum hub.book.depth hub.book.posted (due_with hub.book.museum hub.book.depth O A r) now
-  stands_stopped hub register mid now O A r st stations h m take stop =
+      → ((taken : List (Arrived Message)) → IsPosting is_sign_off taken r.station mid → HasStore (holding hub.register) hub.book
+      → Stopped store hub.book.museum hub.book.depth hub.book.posted (due taken r.station (series_at mid r.station).posted (ready is_sign_off taken r.station - (series_at mid r.station).posted)) now)
+      → Stopped store hub.book.museum hub.book.depth hub.book.posted (due_with hub.book.museum hub.book.depth O A r) now
+  stands_stopped hub store mid now O A r st stations h m take stop =
       let S = hub.book.museum in
       let d' = hub.book.depth in
       let p : Point = point S d' O A in
@@ -108,7 +108,7 @@ module _ {R : Type 0} (quiet : R → Type 0) (holds : R → Content → Type 0) 
       let same : due taken s (series_at mid s).posted (ready is_sign_off taken s - (series_at mid s).posted) ≡ due_with S d' O A r =
       ap (λ i. due taken s i (ready is_sign_off taken s - i)) k
       ∙ ap (λ (xs : List (Arrived Message)). due xs s (ready is_sign_off p.taken s) (ready is_sign_off xs s - ready is_sign_off p.taken s)) (sym (taken_accepted is_sign_off (length S.stations) p.taken (seen r) h)) in
-      subst (λ (messages : List (Arrived Message)). Stopped quiet holds register S d' hub.book.posted messages now) same (stop taken (take p.taken st.series) st.stored)
+      subst (λ (messages : List (Arrived Message)). Stopped store S d' hub.book.posted messages now) same (stop taken (take p.taken st.series) st.stored)
 
 pub reply_posted : (before now x y : ℕ) → x ≡ before → y ≡ now → (x ≡ y → ⊥) → Posted (x + 1) y ≡ reply_from None before now
 reply_posted before now x y p q h = let t : (before == now) ≡ false = grind (arith, nat_tests) in rw (t, p, q) refl

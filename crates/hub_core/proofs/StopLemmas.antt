@@ -1,5 +1,5 @@
 -- A fault in the middle of what is due.
-use Rattle.std.proofs.Common.{◌≡◌, ℕ, suc, ◌+◌, ◌-◌, ◌≤◌, true, false, List, [], ◌∷◌, ◌++◌, ◌⊎◌, Some, ap, ◌∙◌, sym, subst, arith, ⊎_elim, append_assoc}
+use Rattle.std.proofs.Common.{◌≡◌, ℕ, suc, ◌+◌, ◌-◌, ◌≤◌, true, false, List, [], ◌∷◌, ◌++◌, Some, ap, ◌∙◌, sym, subst, arith, ⊎_elim, append_assoc}
 use Rattle.std.proofs.lemmas.Bool.{cases_Bool, cases_lt}
 use Rattle.nest_core.specs.Museum.{Museum}
 use Rattle.posting_core.specs.declared.message.Message.{Message}
@@ -11,9 +11,8 @@ use Rattle.station_core.specs.Runs.{Arrived, arrived, message_at, unbroken, read
 use Rattle.station_core.specs.Progress.{ComesDue}
 use Rattle.station_core.proofs.BoolLemmas.{down}
 use Rattle.station_core.proofs.RunLemmas.{unbroken_down, ready_fails, due_next, due_split}
-use Rattle.register_store.specs.StoredRows.{Content, IsStoreOf}
-use Rattle.hub_core.specs.Points.{post}
-use Rattle.hub_core.specs.StandsFor.{Stopped}
+use Rattle.register_store.specs.Holdings.{Holding}
+use Rattle.hub_core.specs.StandsFor.{HasEither, Stopped}
 use Rattle.hub_core.proofs.PostLemmas.{Caught}
 
 -- what is unbroken is ready
@@ -45,27 +44,23 @@ due_parts taken s k j z m low high at =
     ∙ (ap (λ (xs : List (Arrived Message)). xs ++ due taken s (suc j) (z - suc j)) (due_next taken s k j m low at)
     ∙ append_assoc (due taken s k (j - k)) (arrived s (suc j) m ∷ []) (due taken s (suc j) (z - suc j)))))
 
-module _ {R : Type 0} (quiet : R → Type 0) (holds : R → Content → Type 0) where
-  -- the register has the list of a book, or that with one more
-  abbrev pub Either : R → Museum → ℕ → List Entry → Arrived Message → Type 0
-  Either register S depth P next = quiet register → (c : Content) × holds register c × (IsStoreOf S depth P c ⊎ IsStoreOf S depth (post S depth P next) c)
-
-  pub stopped_at : (register : R) (S : Museum) (depth : ℕ) (taken : List (Arrived Message)) (s k n : ℕ) (before : List Entry) (L L' : Book) (all all' : List (Series Message)) (m : Message)
+module _ (store : Holding) where
+  pub stopped_at : (S : Museum) (depth : ℕ) (taken : List (Arrived Message)) (s k n : ℕ) (before : List Entry) (L L' : Book) (all all' : List (Series Message)) (m : Message)
       → Caught S depth taken s k before all L.posted → n ≡ (series_at all s).posted + 1 → ComesDue is_sign_off taken s n m all' → (series_at all' s).posted ≡ n
-      → L.museum ≡ S → L.depth ≡ depth → L' ≡ L → Either register L.museum L.depth L.posted (arrived s n m)
-      → Stopped quiet holds register S depth before (due taken s k (ready is_sign_off taken s - k)) L'.posted
-  stopped_at register S depth taken s k n before L L' all all' m c e d is museum limit same left =
+      → L.museum ≡ S → L.depth ≡ depth → L' ≡ L → HasEither store L.museum L.depth L.posted (arrived s n m)
+      → Stopped store S depth before (due taken s k (ready is_sign_off taken s - k)) L'.posted
+  stopped_at S depth taken s k n before L L' all all' m c e d is museum limit same left =
       let j : ℕ = (series_at all s).posted in
       let q : n ≡ suc j = omega arith in
       let high : suc j ≤ ready is_sign_off taken s = omega (arith, due_ready taken s n m all' d is) in
       let at : message_at taken s (suc j) ≡ Some m = ap (message_at taken s) (sym q) ∙ d.message in
       let list : L'.posted ≡ L.posted = ap (λ (b : Book). b.posted) same in
-      let here : Either register S depth L.posted (arrived s n m) = subst (λ (S' : Museum). Either register S' depth L.posted (arrived s n m)) museum (subst (λ z. Either register L.museum z L.posted (arrived s n m)) limit left) in
+      let here : HasEither store S depth L.posted (arrived s n m) = subst (λ (S' : Museum). HasEither store S' depth L.posted (arrived s n m)) museum (subst (λ z. HasEither store L.museum z L.posted (arrived s n m)) limit left) in
       record {
         done = due taken s k (j - k);
         next = arrived s n m;
         rest = due taken s (suc j) (ready is_sign_off taken s - suc j);
         all = due_parts taken s k j (ready is_sign_off taken s) m c.forward high at ∙ ap (λ i. due taken s k (j - k) ++ arrived s i m ∷ due taken s (suc j) (ready is_sign_off taken s - suc j)) (sym q);
         list = list ∙ c.list;
-        stored = subst (λ (P : List Entry). Either register S depth P (arrived s n m)) (sym list) here;
+        stored = subst (λ (P : List Entry). HasEither store S depth P (arrived s n m)) (sym list) here;
       }

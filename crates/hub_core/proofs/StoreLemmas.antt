@@ -13,12 +13,15 @@ use Rattle.posting_core.specs.Book.{Book, changes_of, new_lines}
 use Rattle.posting_core.specs.Lawful.{Follows, IsLawful}
 use Rattle.posting_core.specs.VerdictNames.{is_applied}
 use Rattle.station_core.specs.Runs.{Arrived}
-use Rattle.register_store.specs.StoredRows.{Content, MetaRow, PostingRow, IsPostingRow, IsStoreOf, written, rows_of_meta, rows_of_spots, rows_of_lines, put_lines, with_posted}
+use Rattle.register_store.specs.StoredRows.{Content, MetaRow, PostingRow, AreSame, IsPostingRow, IsStoreOf, written, rows_of_meta, rows_of_spots, rows_of_lines, put_lines, with_posted}
+use Rattle.register_store.specs.Holdings.{Holding, Has, Comes, IsPosted}
+use Rattle.register_store.proofs.HoldingLemmas.{comes_has, has_more, same_store}
 use Rattle.register_store.proofs.LineRows.{next_lines}
 use Rattle.register_store.proofs.TermRows.{next_terms}
 use Rattle.hub_core.specs.Points.{entry_of, post}
 use Rattle.hub_core.specs.declared.answer.HubFault.{HubFault}
 use Rattle.hub_core.specs.Faults.{CountsStore}
+use Rattle.hub_core.specs.StandsFor.{HasStore, HasEither}
 
 -- the rows of a list, with one more entry
 store_next : (S : Museum) (depth : ℕ) (P : List Entry) (e : Entry) (row : PostingRow) (changes : Changes) (c : Content)
@@ -48,35 +51,37 @@ store_posted L r changes row c lawful follows planned is store =
 pub one_depth : (d e : ℕ) → IsPermutation (rows_of_meta d) (rows_of_meta e) → d ≡ e
 one_depth d e same = let sums = sum_by-IsPermutation (λ (row : MetaRow). row.val) _ _ same in omega arith
 
-module _ {R : Type 0} (holds : R → Content → Type 0) where
-  abbrev HasRow : R → Entry → Changes → Content → Type 0
-  HasRow register e changes c = (row : PostingRow) × IsPostingRow changes.entry e row × holds register (with_posted row e changes c)
+-- the entry of a message, as the register takes it
+abbrev pub entry_with : Arrived Message → Changes → Entry
+entry_with r changes = record { station = r.station; n = r.n; message = r.message; verdict = changes.verdict }
 
-  -- what the register has of the book after the posting
-  pub stored_in : (register : R) (L : Book) (r : Arrived Message) (changes : Changes) (c : Content) → IsLawful L.museum L.depth L.posted → Follows L.museum L.depth L.posted (entry_of L.museum L.depth L.posted r)
-      → changes ≡ changes_of L r.message → IsStoreOf L.museum L.depth L.posted c
-      → HasRow register (record { station = r.station; n = r.n; message = r.message; verdict = changes.verdict }) changes c
-      → (d : Content) × holds register d × IsStoreOf L.museum L.depth (post L.museum L.depth L.posted r) d
-  stored_in register L r changes c lawful follows planned store row = (with_posted row.0 (record { station = r.station; n = r.n; message = r.message; verdict = changes.verdict }) changes c, row.2, store_posted L r changes row.0 c lawful follows planned row.1 store)
+module _ (old new : Holding) (L : Book) (r : Arrived Message) (changes : Changes) (lawful : IsLawful L.museum L.depth L.posted) (follows : Follows L.museum L.depth L.posted (entry_of L.museum L.depth L.posted r)) (planned : changes ≡ changes_of L r.message) (has : HasStore old L) where
+  -- one posting more
+  step_posted : (c d : Content) → IsStoreOf L.museum L.depth L.posted c → IsPosted (entry_with r changes) changes c d → IsStoreOf L.museum L.depth (post L.museum L.depth L.posted r) d
+  step_posted c d store step =
+      same_store (with_posted step.0 (entry_with r changes) changes c) d step.2 L.museum L.depth (post L.museum L.depth L.posted r) (store_posted L r changes step.0 c lawful follows planned step.1 store)
+
+  -- what the store has after the posting
+  pub stored_in : Comes old new (IsPosted (entry_with r changes) changes) → Has new (IsStoreOf L.museum L.depth (post L.museum L.depth L.posted r))
+  stored_in comes = comes_has old new (IsPosted (entry_with r changes) changes) (IsStoreOf L.museum L.depth L.posted) (IsStoreOf L.museum L.depth (post L.museum L.depth L.posted r)) step_posted comes has
 
   -- and after a posting that failed
-  pub left_in : (register : R) (L : Book) (r : Arrived Message) (changes : Changes) (c : Content) → IsLawful L.museum L.depth L.posted → Follows L.museum L.depth L.posted (entry_of L.museum L.depth L.posted r)
-      → changes ≡ changes_of L r.message → IsStoreOf L.museum L.depth L.posted c
-      → holds register c ⊎ HasRow register (record { station = r.station; n = r.n; message = r.message; verdict = changes.verdict }) changes c
-      → (d : Content) × holds register d × (IsStoreOf L.museum L.depth L.posted d ⊎ IsStoreOf L.museum L.depth (post L.museum L.depth L.posted r) d)
-  left_in register L r changes c lawful follows planned store (inl same) = (c, same, inl store)
-  left_in register L r changes c lawful follows planned store (inr row) = (with_posted row.0 (record { station = r.station; n = r.n; message = r.message; verdict = changes.verdict }) changes c, row.2, inr (store_posted L r changes row.0 c lawful follows planned row.1 store))
+  pub left_in : Comes old new (λ c d. AreSame c d ⊎ IsPosted (entry_with r changes) changes c d) → HasEither new L.museum L.depth L.posted r
+  left_in comes =
+      comes_has old new (λ c d. AreSame c d ⊎ IsPosted (entry_with r changes) changes c d) (IsStoreOf L.museum L.depth L.posted) (λ c. IsStoreOf L.museum L.depth L.posted c ⊎ IsStoreOf L.museum L.depth (post L.museum L.depth L.posted r) c)
+      (λ c d store step. elim step [
+        | inl same ↦ inl (same_store c d same L.museum L.depth L.posted store)
+        | inr more ↦ inr (step_posted c d store more)
+      ]) comes has
+
+  pub either_in : Comes old new (IsPosted (entry_with r changes) changes) → HasEither new L.museum L.depth L.posted r
+  either_in comes = has_more new (IsStoreOf L.museum L.depth (post L.museum L.depth L.posted r)) (λ c. IsStoreOf L.museum L.depth L.posted c ⊎ IsStoreOf L.museum L.depth (post L.museum L.depth L.posted r) c) (λ c is. inr is) (stored_in comes)
 
   -- the same, of the ledger after it
-  pub stored_book : (register : R) (L L' : Book) (r : Arrived Message) (changes : Changes) (c : Content) → IsLawful L.museum L.depth L.posted → Follows L.museum L.depth L.posted (entry_of L.museum L.depth L.posted r)
-      → changes ≡ changes_of L r.message → IsStoreOf L.museum L.depth L.posted c
-      → L' ≡ record L { posted = record { station = r.station; n = r.n; message = r.message; verdict = changes.verdict } ∷ L.posted }
-      → HasRow register (record { station = r.station; n = r.n; message = r.message; verdict = changes.verdict }) changes c
-      → (d : Content) × holds register d × IsStoreOf L'.museum L'.depth L'.posted d
-  stored_book register L L' r changes c lawful follows planned store is row =
-      let same : record L { posted = record { station = r.station; n = r.n; message = r.message; verdict = changes.verdict } ∷ L.posted } ≡ record L { posted = post L.museum L.depth L.posted r } =
-      ap (λ (x : Changes). record L { posted = record { station = r.station; n = r.n; message = r.message; verdict = x.verdict } ∷ L.posted }) planned in
-      subst (λ (b : Book). (d : Content) × holds register d × IsStoreOf b.museum b.depth b.posted d) (sym (is ∙ same)) (stored_in register L r changes c lawful follows planned store row)
+  pub stored_book : (L' : Book) → L' ≡ record L { posted = entry_with r changes ∷ L.posted } → Comes old new (IsPosted (entry_with r changes) changes) → HasStore new L'
+  stored_book L' is comes =
+      let same : record L { posted = entry_with r changes ∷ L.posted } ≡ record L { posted = post L.museum L.depth L.posted r } = ap (λ (x : Changes). record L { posted = entry_with r x ∷ L.posted }) planned in
+      subst (λ (b : Book). HasStore new b) (sym (is ∙ same)) (stored_in comes)
 
 -- a call that succeeded counts no refusal
 pub counts_ok : {T : Type 0} (old new : ℕ) (r : Result T HubFault) (x : T) → r ≡ Ok x → CountsStore old new r → new ≡ old

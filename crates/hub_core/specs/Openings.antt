@@ -1,5 +1,5 @@
 -- Why a store can't be opened.
-use Rattle.std.specs.Prelude.{ℕ, ◌≡◌, ◌⊎◌, ◌+◌, ◌==◌, ◌&&◌, nat_le, not, All, Bool, true, false, List, ◌∷◌, ◌++◌, length, Option, Some, None, Err}
+use Rattle.std.specs.Prelude.{ℕ, ◌≡◌, ◌⊎◌, ◌+◌, ◌==◌, ◌&&◌, nat_le, not, All, Bool, true, false, List, [], ◌∷◌, ◌++◌, length, Option, Some, None, Err}
 use Rattle.nest_core.specs.Museum.{Museum}
 use Rattle.posting_core.specs.declared.entry.Entry.{Entry}
 use Rattle.posting_core.specs.Lawful.{Follows, IsLawful}
@@ -7,7 +7,9 @@ use Rattle.station_core.specs.declared.Start.{Start}
 use Rattle.station_core.specs.declared.TheConstants.{LAST}
 use Rattle.register_store.specs.declared.store_fault.StoreFault.{StoreFault}
 use Rattle.register_store.specs.declared.store_fault.StoreFault.TheVariants.{NoMemory, Store, OtherSetup, Damaged, OtherVersion}
-use Rattle.register_store.specs.StoredRows.{Content, IsBoundTo, HasList, HasRows}
+use Rattle.register_store.specs.StoredRows.{Content, AreSame, IsBoundTo, HasList, HasRows}
+use Rattle.register_store.specs.Holdings.{Holding, Has, Comes, IsBound}
+use Rattle.hub_core.specs.StandsFor.{State, StandsFor}
 use Rattle.register_store.specs.Registers.{CountsRefusal, is_failure, IsBindFault, IsOfStation, IsFirstWrong, bound_to}
 
 -- entry number `at` is the first that may not follow those before it
@@ -74,9 +76,19 @@ IsOpenFault S c (Damaged at) =
     IsBindFault S c (Damaged at)
     ⊎ (HasWrongRow S (bound_to S c) at ⊎ (HasWrongEntry S (bound_to S c) at ⊎ HasOtherRows S (bound_to S c) at))
 
--- where the register is quiet, nothing but want of memory, or a store that refuses, keeps it from being opened with the setup
-abbrev pub OpensAgain : {R : Type 0} → (R → Type 0) → (R → Content → Type 0) → R → Museum → Type 0
-OpensAgain quiet holds register S = quiet register → (fault : StoreFault) → ((c : Content) → holds register c → IsOpenFault S c fault) → is_failure fault ≡ true
+-- nothing but want of memory, or a store that refuses, keeps the store from being opened with the setup
+abbrev pub OpensAgain : Holding → Museum → Type 0
+OpensAgain store S = Has store (λ c. (fault : StoreFault) → IsOpenFault S c fault → is_failure fault ≡ true)
+
+-- a hub over the register, which stands for the list that the store had; the store is bound to its setup, and else as it was
+pub record Opened {R : Type 0} (holding : R → Holding) (S : Museum) (register : R) (hub : State R) : Type 0 where
+  pub setup : hub.book.museum ≡ S
+  pub stands : StandsFor holding hub hub.book.posted []
+  pub comes : Comes (holding register) (holding hub.register) (λ c d. HasList hub.book.posted c × IsBound S c d)
+
+-- the store isn't opened, for this cause, and is as it was, or bound
+abbrev pub IsNotOpened : Museum → StoreFault → Content → Content → Type 0
+IsNotOpened S fault c d = IsOpenFault S c fault × (AreSame c d ⊎ IsBound S c d)
 
 -- a refused opening counts where the store refused
 abbrev pub CountsFault : ℕ → ℕ → StoreFault → Type 0

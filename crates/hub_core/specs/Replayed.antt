@@ -3,7 +3,7 @@ use Rattle.std.specs.Prelude.{ℕ, ◌≡◌, ◌≤◌, ◌++◌, Bool, true, f
 use Rattle.std.specs.Io.KnownBytes.{Appends, Consumes, IsAtEnd}
 use Rattle.nest_core.specs.Museum.{Museum}
 use Rattle.posting_core.specs.declared.entry.Entry.{Entry}
-use Rattle.register_store.specs.StoredRows.{Content}
+use Rattle.register_store.specs.Holdings.{Holding}
 use Rattle.hub_core.specs.declared.answer.Arrival.{Arrival}
 use Rattle.hub_core.specs.declared.replaying.ReplayFault.{ReplayFault}
 use Rattle.hub_core.specs.declared.replaying.ReplayFault.TheVariants.{NoMemory, Store, ReadFailed, WriteFailed}
@@ -17,36 +17,36 @@ lines_read true bytes = bytes
 lines_read false bytes = ended bytes
 
 -- all lines read are answered
-pub record Answered {Q : Type 0} (S : Museum) (depth : ℕ) (O : List Entry) (A : List Arrival) (i i' o o' : Option (List ℕ)) (quiet : Q → Type 0) (holds : Q → Content → Type 0) (hub : State Q) (at_end : Bool) : Type 0 where
+pub record Answered {Q : Type 0} (S : Museum) (depth : ℕ) (O : List Entry) (A : List Arrival) (i i' o o' : Option (List ℕ)) (holding : Q → Holding) (hub : State Q) (at_end : Bool) : Type 0 where
   pub bytes : List ℕ
   pub read : Consumes i i' bytes
   pub end : at_end ≡ true → OnSome i (IsAtEnd i')
   pub written : Appends o o' (text S depth O A (lines_read at_end bytes))
-  pub stands : StandsFor quiet holds hub O (A ++ arrivals S (lines_read at_end bytes))
+  pub stands : StandsFor holding hub O (A ++ arrivals S (lines_read at_end bytes))
 
 -- all lines read are taken, and k bytes of their replies are written
-pub record CutShort {Q : Type 0} (S : Museum) (depth : ℕ) (O : List Entry) (A : List Arrival) (i i' o o' : Option (List ℕ)) (quiet : Q → Type 0) (holds : Q → Content → Type 0) (hub : State Q) : Type 0 where
+pub record CutShort {Q : Type 0} (S : Museum) (depth : ℕ) (O : List Entry) (A : List Arrival) (i i' o o' : Option (List ℕ)) (holding : Q → Holding) (hub : State Q) : Type 0 where
   pub bytes : List ℕ
   pub at_end : Bool
   pub k : ℕ
   pub read : Consumes i i' bytes
   pub end : at_end ≡ true → OnSome i (IsAtEnd i')
   pub written : Appends o o' (take k (text S depth O A (lines_read at_end bytes)))
-  pub stands : StandsFor quiet holds hub O (A ++ arrivals S (lines_read at_end bytes))
+  pub stands : StandsFor holding hub O (A ++ arrivals S (lines_read at_end bytes))
 
 -- all lines before the one that met the fault are answered; the hub is down, or it has taken that line's arrival or not
-pub record BrokenOff {Q : Type 0} (S : Museum) (depth : ℕ) (O : List Entry) (A : List Arrival) (i i' o o' : Option (List ℕ)) (quiet : Q → Type 0) (holds : Q → Content → Type 0) (hub : State Q) : Type 0 where
+pub record BrokenOff {Q : Type 0} (S : Museum) (depth : ℕ) (O : List Entry) (A : List Arrival) (i i' o o' : Option (List ℕ)) (holding : Q → Holding) (hub : State Q) : Type 0 where
   pub before : List ℕ
   pub line : List ℕ
   pub read : Consumes i i' (before ++ line)
   pub whole : ended before ≡ before
   pub one : length (lines line) ≤ 1
   pub written : Appends o o' (text S depth O A before)
-  pub stands : TakesSome quiet holds hub O (A ++ arrivals S before) (arrivals S line)
+  pub stands : TakesSome holding hub O (A ++ arrivals S before) (arrivals S line)
 
 -- after each fault
-abbrev pub AfterFault : {Q : Type 0} → Museum → ℕ → List Entry → List Arrival → Option (List ℕ) → Option (List ℕ) → Option (List ℕ) → Option (List ℕ) → (Q → Type 0) → (Q → Content → Type 0) → State Q → ReplayFault → Type 0
-AfterFault S depth O A i i' o o' quiet holds hub NoMemory = BrokenOff S depth O A i i' o o' quiet holds hub
-AfterFault S depth O A i i' o o' quiet holds hub Store = BrokenOff S depth O A i i' o o' quiet holds hub
-AfterFault S depth O A i i' o o' quiet holds hub ReadFailed = Answered S depth O A i i' o o' quiet holds hub false
-AfterFault S depth O A i i' o o' quiet holds hub WriteFailed = CutShort S depth O A i i' o o' quiet holds hub
+abbrev pub AfterFault : {Q : Type 0} → Museum → ℕ → List Entry → List Arrival → Option (List ℕ) → Option (List ℕ) → Option (List ℕ) → Option (List ℕ) → (Q → Holding) → State Q → ReplayFault → Type 0
+AfterFault S depth O A i i' o o' holding hub NoMemory = BrokenOff S depth O A i i' o o' holding hub
+AfterFault S depth O A i i' o o' holding hub Store = BrokenOff S depth O A i i' o o' holding hub
+AfterFault S depth O A i i' o o' holding hub ReadFailed = Answered S depth O A i i' o o' holding hub false
+AfterFault S depth O A i i' o o' holding hub WriteFailed = CutShort S depth O A i i' o o' holding hub

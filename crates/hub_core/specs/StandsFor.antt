@@ -9,7 +9,8 @@ use Rattle.posting_core.specs.Book.{Book}
 use Rattle.station_core.specs.Series.{Series, series_at}
 use Rattle.station_core.specs.Runs.{Arrived, ready, due}
 use Rattle.station_core.specs.Progress.{AllMatch}
-use Rattle.register_store.specs.StoredRows.{Content, IsStoreOf}
+use Rattle.register_store.specs.StoredRows.{IsStoreOf}
+use Rattle.register_store.specs.Holdings.{Holding, Has}
 use Rattle.hub_core.specs.declared.answer.Arrival.{Arrival}
 use Rattle.hub_core.specs.Points.{point, post}
 
@@ -20,31 +21,35 @@ pub record State (R : Type 0) : Type 0 where
   pub register : R
   pub down : Bool
 
--- where the register is quiet, it holds the stored rows of the book
-abbrev pub HasStore : {R : Type 0} → (R → Type 0) → (R → Content → Type 0) → R → Book → Type 0
-HasStore quiet holds register book = quiet register → (c : Content) × holds register c × IsStoreOf book.museum book.depth book.posted c
+-- the store has the rows of the book, and can have no others
+abbrev pub HasStore : Holding → Book → Type 0
+HasStore store book = Has store (IsStoreOf book.museum book.depth book.posted)
 
--- where the register is quiet, it holds the stored rows of some lawful list
-abbrev pub HasSomeStore : {R : Type 0} → (R → Type 0) → (R → Content → Type 0) → R → Book → Type 0
-HasSomeStore quiet holds register book = quiet register → (P : List Entry) × (c : Content) × IsLawful book.museum book.depth P × holds register c × IsStoreOf book.museum book.depth P c
+-- it has the rows of a lawful list
+abbrev pub HasSomeStore : Holding → Book → Type 0
+HasSomeStore store book = Has store (λ c. (P : List Entry) × IsLawful book.museum book.depth P × IsStoreOf book.museum book.depth P c)
+
+-- it has the rows of this list, or of that with the next message posted
+abbrev pub HasEither : Holding → Museum → ℕ → List Entry → Arrived Message → Type 0
+HasEither store S depth P next = Has store (λ c. IsStoreOf S depth P c ⊎ IsStoreOf S depth (post S depth P next) c)
 
 -- the hub isn't down, its posted list is that of the arrivals A from the posted list O, it holds what was taken above,
--- and its register has the posted list
-pub record StandsFor {R : Type 0} (quiet : R → Type 0) (holds : R → Content → Type 0) (hub : State R) (O : List Entry) (A : List Arrival) : Type 0 where
+-- and its store has the posted list
+pub record StandsFor {R : Type 0} (holding : R → Holding) (hub : State R) (O : List Entry) (A : List Arrival) : Type 0 where
   pub up : hub.down ≡ false
   pub list : hub.book.posted ≡ (point hub.book.museum hub.book.depth O A).posted
   pub series : AllMatch is_sign_off (point hub.book.museum hub.book.depth O A).taken hub.sequences
-  pub stored : HasStore quiet holds hub.register hub.book
+  pub stored : HasStore (holding hub.register) hub.book
 
--- a fault stopped the posting of these messages at `next`: those before it are posted, and the register, where it is
--- quiet, has that list, or that with `next`
-pub record Stopped {R : Type 0} (quiet : R → Type 0) (holds : R → Content → Type 0) (register : R) (S : Museum) (depth : ℕ) (before : List Entry) (messages : List (Arrived Message)) (now : List Entry) : Type 0 where
+-- a fault stopped the posting of these messages at `next`: those before it are posted, and the store has that list, or
+-- that with `next`
+pub record Stopped (store : Holding) (S : Museum) (depth : ℕ) (before : List Entry) (messages : List (Arrived Message)) (now : List Entry) : Type 0 where
   pub done : List (Arrived Message)
   pub next : Arrived Message
   pub rest : List (Arrived Message)
   pub all : messages ≡ done ++ next ∷ rest
   pub list : now ≡ fold (post S depth) before done
-  pub stored : quiet register → (c : Content) × holds register c × (IsStoreOf S depth now c ⊎ IsStoreOf S depth (post S depth now next) c)
+  pub stored : HasEither store S depth now next
 
 -- the stations' counts and marks are those of the posted list
 pub record InStep (sequences : List (Series Message)) (S : Museum) (P : List Entry) : Type 0 where
@@ -58,5 +63,5 @@ pub record Done (S : Museum) (depth : ℕ) (taken : List (Arrived Message)) (s k
   pub list : now ≡ fold (post S depth) before (due taken s k (ready is_sign_off taken s - k))
 
 -- the hub is down, or it has taken the first k of these arrivals
-abbrev pub TakesSome : {R : Type 0} → (R → Type 0) → (R → Content → Type 0) → State R → List Entry → List Arrival → List Arrival → Type 0
-TakesSome quiet holds hub O A sent = hub.down ≡ false → (k : ℕ) × StandsFor quiet holds hub O (A ++ take k sent)
+abbrev pub TakesSome : {R : Type 0} → (R → Holding) → State R → List Entry → List Arrival → List Arrival → Type 0
+TakesSome holding hub O A sent = hub.down ≡ false → (k : ℕ) × StandsFor holding hub O (A ++ take k sent)

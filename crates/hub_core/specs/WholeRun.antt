@@ -1,13 +1,12 @@
 -- What a run leaves. `i` and `i'` are what the reader has left before and after, `o` and `o'` what the writer holds.
-use Rattle.std.specs.Prelude.{ℕ, ◌≡◌, ◌≤◌, ◌<◌, ◌⊎◌, nat_lt, Bool, false, List, [], length, Option, Some, None, IfSome, ⊤, if◌then◌else◌}
+use Rattle.std.specs.Prelude.{ℕ, ◌≡◌, ◌≤◌, ◌<◌, ◌⊎◌, nat_lt, Bool, false, List, [], length, Option, Some, None, IfSome, if◌then◌else◌}
 use Rattle.std.specs.Option.{option_map}
 use Rattle.std.specs.List.{list_any}
 use Rattle.std.specs.Io.KnownBytes.{Consumes, Keeps}
 use Rattle.nest_core.specs.Museum.{Museum}
 use Rattle.nest_core.specs.SetupRows.{rows_of, museum_of, setup_fault}
 use Rattle.register_store.specs.declared.plain.TheConstants.{NEW_DEPTH}
-use Rattle.register_store.specs.StoredRows.{Content, AreSame}
-use Rattle.register_store.specs.Plain.{Kept}
+use Rattle.register_store.specs.Plain.{Kept, in_memory}
 use Rattle.hub_core.specs.declared.replaying.ReplayFault.{ReplayFault}
 use Rattle.hub_core.specs.declared.replaying.ReplayFault.TheVariants as replay
 use Rattle.hub_core.specs.declared.running.TheConstants.{LONGEST_HEAD}
@@ -78,19 +77,11 @@ run_fault replay.Store = Store
 run_fault replay.ReadFailed = ReadFailed
 run_fault replay.WriteFailed = WriteFailed
 
--- a register in memory is quiet, for nobody else writes it
-abbrev pub IsQuiet : Kept → Type 0
-IsQuiet register = ⊤
-
--- it holds its rows, in any order
-abbrev pub Holds : Kept → Content → Type 0
-Holds register c = AreSame register.content c
-
 -- the hub of a run, over a register in memory: it has this setup and nothing posted
 pub record IsFresh (hub : State Kept) (S : Museum) : Type 0 where
   pub museum : hub.book.museum ≡ S
   pub depth : hub.book.depth ≡ NEW_DEPTH
-  pub stands : StandsFor IsQuiet Holds hub [] []
+  pub stands : StandsFor in_memory hub [] []
 
 -- the head has no fault and is read, and the hub has its setup
 abbrev pub OpensHub : Option (List ℕ) → Option (List ℕ) → State Kept → Type 0
@@ -99,7 +90,7 @@ OpensHub i i' hub = IfSome i (λ bytes. (head_fault (head bytes) ≡ None) × (i
 -- a run met a fault in its lines, after a head without fault: what their replay leaves, over the run's hub
 abbrev pub InLines : Option (List ℕ) → Option (List ℕ) → Option (List ℕ) → Option (List ℕ) → ReplayFault → Type 0
 InLines i i' o o' fault = IfSome i (λ bytes. (head_fault (head bytes) ≡ None)
-    × ((hub : State Kept) × AfterFault (setup_in bytes) NEW_DEPTH [] [] (Some (after_head bytes)) i' o o' IsQuiet Holds hub fault))
+    × ((hub : State Kept) × AfterFault (setup_in bytes) NEW_DEPTH [] [] (Some (after_head bytes)) i' o o' in_memory hub fault))
 
 -- after each fault of a run; before its lines nothing is written
 abbrev pub AfterRun : Option (List ℕ) → Option (List ℕ) → Option (List ℕ) → Option (List ℕ) → RunFault → Type 0

@@ -1,14 +1,13 @@
 //! The hub.
-ghost use Rattle.std.specs.Prelude.{◌≡◌, ◌≢◌, ◌↔◌, ◌⊎◌, List, [], ◌∷◌, ◌++◌, ℕ, reverse, true, false, IfOk, OnOk, OnErr, IsErrOf, IfErr};
+ghost use Rattle.std.specs.Prelude.{◌≡◌, ◌≢◌, ◌↔◌, List, [], ◌∷◌, ◌++◌, ℕ, reverse, true, false, IfOk, OnOk, OnErr, IsErrOf, IfErr};
 ghost use Rattle.posting_core.specs.declared.entry.Entry.{Entry};
 ghost use Rattle.hub_core.specs.declared.answer.Arrival.{Arrival};
 ghost use Rattle.posting_core.specs.Messages.{is_sign_off};
 ghost use Rattle.posting_core.specs.Lawful.{IsLawful};
 ghost use Rattle.station_core.specs.Runs.{run};
 ghost use Rattle.station_core.specs.declared.Refusal.{Refusal};
-ghost use Rattle.register_store.specs.StoredRows.{Content, HasList};
-ghost use Rattle.register_store.specs.Registers.{bound_to};
-ghost use Rattle.hub_core.specs.Openings.{IsOpenFault, CountsFault, OpensAgain};
+ghost use Rattle.register_store.specs.Holdings.{Comes};
+ghost use Rattle.hub_core.specs.Openings.{CountsFault, Opened, IsNotOpened, OpensAgain};
 ghost use Rattle.hub_core.specs.Faults.{CountsStore};
 ghost use Rattle.hub_core.specs.Points.{point, reply, due_with, whereabouts, cut, IsPlaced};
 
@@ -42,7 +41,7 @@ impl<R: Register> Model for Hub<R> {
     ghost view = { λ h. record { sequences = h.sequences; book = h.ledger; register = h.register; down = h.down } };
 
     ghost invariant = { λ h. (h.down ≡ false → InStep h.sequences h.ledger.museum h.ledger.posted) × (R.is_bound h.register ≡ true)
-        × (h.down ≡ false → HasStore R.is_quiet R.holds h.register h.ledger) × (h.down ≡ true → HasSomeStore R.is_quiet R.holds h.register h.ledger) };
+        × (h.down ≡ false → HasStore (R.holding h.register) h.ledger) × (h.down ≡ true → HasSomeStore (R.holding h.register) h.ledger) };
 }
 
 /// Why a hub could not be opened, and its register, which it hands back.
@@ -61,18 +60,10 @@ impl<R: Register> Hub<R> {
     /// the rules give; Damaged(0) where those rows aren't the entries'. NoMemory and Store can stand in place of any
     /// answer. A refused opening may have bound a new store; the setup is dropped.
     pub fn open(alloc: Global, setup: Setup, register: R) -> Result<Hub<R>, OpenFault<R>>
-        ensures setup { IfOk result (λ hub. hub.book.museum ≡ setup) }
-        ensures stands { IfOk result (λ hub. StandsFor R.is_quiet R.holds hub hub.book.posted []) }
-        // It stands for every list of entries that the register had, which then has nothing but the binding besides.
-        ensures opened { IfOk result (λ hub. R.is_quiet hub.register → (c : Content) (O : List Entry) → R.holds register c → HasList O c →
-            StandsFor R.is_quiet R.holds hub O []) }
-        ensures kept { IfOk result (λ hub. R.is_quiet hub.register → (c : Content) → R.holds register c → R.holds hub.register (bound_to setup c)) }
-        ensures refused { IfErr result (λ failed. R.is_quiet failed.register → (c : Content) → R.holds register c → IsOpenFault setup c failed.fault) }
-        // A refused opening leaves the register as it was, or bound.
-        ensures left { IfErr result (λ failed. R.is_quiet failed.register → (c : Content) → R.holds register c →
-            R.holds failed.register c ⊎ R.holds failed.register (bound_to setup c)) }
-        ensures quiet { IfOk result (λ hub. R.is_quiet hub.register → R.is_quiet register) }
-        ensures quiet_before { IfErr result (λ failed. R.is_quiet failed.register → R.is_quiet register) }
+        // It stands for the list that the store had, which is bound then.
+        ensures opened { IfOk result (λ hub. Opened R.holding setup register hub) }
+        // A refused opening leaves the store as it was, or bound.
+        ensures refused { IfErr result (λ failed. Comes (R.holding register) (R.holding failed.register) (IsNotOpened setup failed.fault)) }
         ensures uncounted { IfOk result (λ hub. R.refusals hub.register ≡ R.refusals register) }
         ensures counted { IfErr result (λ failed. CountsFault (R.refusals register) (R.refusals failed.register) failed.fault) }
     {
@@ -92,22 +83,21 @@ impl<R: Register> Hub<R> {
     /// What is refused or held takes no memory, and always succeeds on a hub that isn't down.
     pub fn arrive(&mut self, alloc: Global, arrival: Arrival) -> Result<Answer, HubFault>
         // For every list of arrivals: the reply is that of looking back, and the hub stands for the list with this one.
-        ensures headline { IfOk result (λ answer. (O : List Entry) (A : List Arrival) → StandsFor R.is_quiet R.holds self.old O A →
-            (answer ≡ reply self.old.book.museum self.old.book.depth O A arrival) × StandsFor R.is_quiet R.holds self.new O (A ++ arrival ∷ [])) }
+        ensures headline { IfOk result (λ answer. (O : List Entry) (A : List Arrival) → StandsFor R.holding self.old O A →
+            (answer ≡ reply self.old.book.museum self.old.book.depth O A arrival) × StandsFor R.holding self.new O (A ++ arrival ∷ [])) }
         ensures up { OnOk result (self.new.down ≡ false) }
         ensures down { IsErrOf result HubFault.Down ↔ (self.old.down ≡ true) }
         ensures fault { OnErr result (self.new.down ≡ true) }
         ensures closed { self.old.down ≡ true → self.new ≡ self.old }
-        // A fault comes while messages are due: those before one of them are posted, and the register has that list, or
-        // that with the one.
-        ensures after_fault { OnErr result ((O : List Entry) (A : List Arrival) → StandsFor R.is_quiet R.holds self.old O A →
-            Stopped R.is_quiet R.holds self.new.register self.old.book.museum self.old.book.depth self.old.book.posted
+        // A fault comes while messages are due: those before one of them are posted, and the store has that list, or that
+        // with the one.
+        ensures after_fault { OnErr result ((O : List Entry) (A : List Arrival) → StandsFor R.holding self.old O A →
+            Stopped (R.holding self.new.register) self.old.book.museum self.old.book.depth self.old.book.posted
             (due_with self.old.book.museum self.old.book.depth O A arrival) self.new.book.posted) }
         // What is refused or held meets no fault.
-        ensures answers { OnErr result ((O : List Entry) (A : List Arrival) → StandsFor R.is_quiet R.holds self.old O A →
+        ensures answers { OnErr result ((O : List Entry) (A : List Arrival) → StandsFor R.holding self.old O A →
             (first : ℕ) × (last : ℕ) × (reply self.old.book.museum self.old.book.depth O A arrival ≡ Answer.Posted first last)) }
         ensures refused { IfOk result (λ answer. (refusal : Refusal) → answer ≡ Answer.Refused refusal → self.new ≡ self.old) }
-        ensures quiet { R.is_quiet self.new.register → R.is_quiet self.old.register }
         ensures count { CountsStore (R.refusals self.old.register) (R.refusals self.new.register) result }
         ensures museum { self.new.book.museum ≡ self.old.book.museum }
         ensures depth { self.new.book.depth ≡ self.old.book.depth }
@@ -159,7 +149,7 @@ impl<R: Register> Hub<R> {
         ensures list { reverse result.now ≡ self.now.book.posted }
         ensures lawful { IsLawful self.now.book.museum self.now.book.depth self.now.book.posted }
         // For all that the hub stands for: the entries of each station are the longest unbroken run of what it sent.
-        ensures runs { (O : List Entry) (A : List Arrival) → StandsFor R.is_quiet R.holds self.now O A → (s : ℕ) →
+        ensures runs { (O : List Entry) (A : List Arrival) → StandsFor R.holding self.now O A → (s : ℕ) →
             cut s self.now.book.posted ≡ run is_sign_off (point self.now.book.museum self.now.book.depth O A).taken s }
     {
         self.ledger.is_lawful();
@@ -183,7 +173,7 @@ impl<R: Register> Hub<R> {
     /// Gives the register back, as it is. It opens again with the hub's setup, after a fault too.
     pub fn close(self) -> R
         ensures same { result ≡ self.register }
-        ensures opens_again { OpensAgain R.is_quiet R.holds result self.book.museum }
+        ensures opens_again { OpensAgain (R.holding result) self.book.museum }
     {
         self.ledger.is_lawful();
         self.register

@@ -39,9 +39,9 @@ pub(crate) fn reply_to<S: Register>(
     hub: &mut Hub<S>,
 ) -> Result<String, HubFault>
     requires { hub.old.down ≡ false }
-    ensures reply { IfOk result (λ text. (O : List Entry) (A : List Arrival) → StandsFor S.is_quiet S.holds hub.old O A →
-        (string_bytes text ≡ line_reply hub.old.book.museum hub.old.book.depth O A number line.now) × StandsFor S.is_quiet S.holds hub.new O (A ++ line_arrivals hub.old.book.museum line.now)) }
-    ensures fault { OnErr result ((O : List Entry) (A : List Arrival) → StandsFor S.is_quiet S.holds hub.old O A → TakesSome S.is_quiet S.holds hub.new O A (line_arrivals hub.old.book.museum line.now)) }
+    ensures reply { IfOk result (λ text. (O : List Entry) (A : List Arrival) → StandsFor S.holding hub.old O A →
+        (string_bytes text ≡ line_reply hub.old.book.museum hub.old.book.depth O A number line.now) × StandsFor S.holding hub.new O (A ++ line_arrivals hub.old.book.museum line.now)) }
+    ensures fault { OnErr result ((O : List Entry) (A : List Arrival) → StandsFor S.holding hub.old O A → TakesSome S.holding hub.new O A (line_arrivals hub.old.book.museum line.now)) }
     ensures up { OnOk result (hub.new.down ≡ false) }
     ensures count { CountsStore (S.refusals hub.old.register) (S.refusals hub.new.register) result }
     ensures museum { hub.new.book.museum ≡ hub.old.book.museum }
@@ -64,9 +64,9 @@ fn read_reply<S: Register>(
     hub: &mut Hub<S>,
 ) -> Result<String, HubFault>
     requires { hub.old.down ≡ false }
-    ensures reply { IfOk result (λ text. (O : List Entry) (A : List Arrival) → StandsFor S.is_quiet S.holds hub.old O A →
-        (string_bytes text ≡ read_reply hub.old.book.museum hub.old.book.depth O A number (line_in hub.old.book.museum line.now)) × StandsFor S.is_quiet S.holds hub.new O (A ++ sent (line_in hub.old.book.museum line.now))) }
-    ensures fault { OnErr result ((O : List Entry) (A : List Arrival) → StandsFor S.is_quiet S.holds hub.old O A → TakesSome S.is_quiet S.holds hub.new O A (sent (line_in hub.old.book.museum line.now))) }
+    ensures reply { IfOk result (λ text. (O : List Entry) (A : List Arrival) → StandsFor S.holding hub.old O A →
+        (string_bytes text ≡ read_reply hub.old.book.museum hub.old.book.depth O A number (line_in hub.old.book.museum line.now)) × StandsFor S.holding hub.new O (A ++ sent (line_in hub.old.book.museum line.now))) }
+    ensures fault { OnErr result ((O : List Entry) (A : List Arrival) → StandsFor S.holding hub.old O A → TakesSome S.holding hub.new O A (sent (line_in hub.old.book.museum line.now))) }
     ensures up { OnOk result (hub.new.down ≡ false) }
     ensures count { CountsStore (S.refusals hub.old.register) (S.refusals hub.new.register) result }
     ensures museum { hub.new.book.museum ≡ hub.old.book.museum }
@@ -88,9 +88,9 @@ fn request_reply<S: Register>(
 ) -> Result<String, HubFault>
     requires up { hub.old.down ≡ false }
     requires known { IfSome line.station (λ s. s < length hub.old.book.museum.stations) }
-    ensures reply { IfOk result (λ text. (O : List Entry) (A : List Arrival) → StandsFor S.is_quiet S.holds hub.old O A →
-        (string_bytes text ≡ request_reply hub.old.book.museum hub.old.book.depth O A number line.station line.request) × StandsFor S.is_quiet S.holds hub.new O (A ++ sent_by line.station line.request)) }
-    ensures fault { OnErr result ((O : List Entry) (A : List Arrival) → StandsFor S.is_quiet S.holds hub.old O A → TakesSome S.is_quiet S.holds hub.new O A (sent_by line.station line.request)) }
+    ensures reply { IfOk result (λ text. (O : List Entry) (A : List Arrival) → StandsFor S.holding hub.old O A →
+        (string_bytes text ≡ request_reply hub.old.book.museum hub.old.book.depth O A number line.station line.request) × StandsFor S.holding hub.new O (A ++ sent_by line.station line.request)) }
+    ensures fault { OnErr result ((O : List Entry) (A : List Arrival) → StandsFor S.holding hub.old O A → TakesSome S.holding hub.new O A (sent_by line.station line.request)) }
     ensures up { OnOk result (hub.new.down ≡ false) }
     ensures count { CountsStore (S.refusals hub.old.register) (S.refusals hub.new.register) result }
     ensures museum { hub.new.book.museum ≡ hub.old.book.museum }
@@ -132,9 +132,9 @@ fn station_reply<S: Register>(
 ) -> Result<String, HubFault>
     requires up { hub.old.down ≡ false }
     requires known { station < length hub.old.book.museum.stations }
-    ensures reply { IfOk result (λ text. (O : List Entry) (A : List Arrival) → StandsFor S.is_quiet S.holds hub.old O A →
-        (string_bytes text ≡ station_reply hub.old.book.museum hub.old.book.depth O A station request) × StandsFor S.is_quiet S.holds hub.new O (A ++ sent_from station request)) }
-    ensures fault { OnErr result ((O : List Entry) (A : List Arrival) → StandsFor S.is_quiet S.holds hub.old O A → TakesSome S.is_quiet S.holds hub.new O A (sent_from station request)) }
+    ensures reply { IfOk result (λ text. (O : List Entry) (A : List Arrival) → StandsFor S.holding hub.old O A →
+        (string_bytes text ≡ station_reply hub.old.book.museum hub.old.book.depth O A station request) × StandsFor S.holding hub.new O (A ++ sent_from station request)) }
+    ensures fault { OnErr result ((O : List Entry) (A : List Arrival) → StandsFor S.holding hub.old O A → TakesSome S.holding hub.new O A (sent_from station request)) }
     ensures up { OnOk result (hub.new.down ≡ false) }
     ensures count { CountsStore (S.refusals hub.old.register) (S.refusals hub.new.register) result }
     ensures museum { hub.new.book.museum ≡ hub.old.book.museum }
@@ -156,9 +156,9 @@ fn scan_reply<S: Register>(
 ) -> Result<String, HubFault>
     requires up { hub.old.down ≡ false }
     requires known { station < length hub.old.book.museum.stations }
-    ensures reply { IfOk result (λ text. (O : List Entry) (A : List Arrival) → StandsFor S.is_quiet S.holds hub.old O A →
-        (string_bytes text ≡ station_reply hub.old.book.museum hub.old.book.depth O A station (asks.Scan n message)) × StandsFor S.is_quiet S.holds hub.new O (A ++ sent_from station (asks.Scan n message))) }
-    ensures fault { OnErr result ((O : List Entry) (A : List Arrival) → StandsFor S.is_quiet S.holds hub.old O A → TakesSome S.is_quiet S.holds hub.new O A (sent_from station (asks.Scan n message))) }
+    ensures reply { IfOk result (λ text. (O : List Entry) (A : List Arrival) → StandsFor S.holding hub.old O A →
+        (string_bytes text ≡ station_reply hub.old.book.museum hub.old.book.depth O A station (asks.Scan n message)) × StandsFor S.holding hub.new O (A ++ sent_from station (asks.Scan n message))) }
+    ensures fault { OnErr result ((O : List Entry) (A : List Arrival) → StandsFor S.holding hub.old O A → TakesSome S.holding hub.new O A (sent_from station (asks.Scan n message))) }
     ensures up { OnOk result (hub.new.down ≡ false) }
     ensures count { CountsStore (S.refusals hub.old.register) (S.refusals hub.new.register) result }
     ensures museum { hub.new.book.museum ≡ hub.old.book.museum }

@@ -1,11 +1,12 @@
 //! The opening of a hub over what a register has.
-ghost use Rattle.std.specs.Prelude.{◌≡◌, ◌⊎◌, true, reverse, map, OnOk, OnErr, IfOk, IfErr};
+ghost use Rattle.std.specs.Prelude.{◌≡◌, true, reverse, map, OnOk, IfOk, IfErr};
 ghost use Rattle.posting_core.specs.Messages.{is_sign_off};
 ghost use Rattle.station_core.specs.Progress.{AllMatch};
-ghost use Rattle.register_store.specs.StoredRows.{Content, HasList};
-ghost use Rattle.register_store.specs.Registers.{CountsRefusal, bound_to};
+ghost use Rattle.register_store.specs.StoredRows.{HasList};
+ghost use Rattle.register_store.specs.Registers.{CountsRefusal};
+ghost use Rattle.register_store.specs.Holdings.{Comes, IsBound};
 ghost use Rattle.hub_core.specs.Points.{arrival_of};
-ghost use Rattle.hub_core.specs.Openings.{IsOpenFault};
+ghost use Rattle.hub_core.specs.Openings.{IsNotOpened};
 ghost use Rattle.hub_core.specs.StandsFor.{InStep, HasStore};
 
 use crate::judging::judged;
@@ -24,13 +25,10 @@ pub(crate) fn prepare<R: Register>(
     ensures museum { IfOk result (λ p. p.1.museum ≡ setup) }
     ensures in_step { IfOk result (λ p. InStep p.0 p.1.museum p.1.posted) }
     ensures series { IfOk result (λ p. AllMatch is_sign_off (map arrival_of (reverse p.1.posted)) p.0) }
-    ensures stored { IfOk result (λ p. HasStore R.is_quiet R.holds register.new p.1) }
-    ensures list { R.is_quiet register.new → IfOk result (λ p. (c : Content) → R.holds register.old c →
-        R.holds register.new (bound_to setup c) × HasList p.1.posted (bound_to setup c)) }
-    ensures cause { R.is_quiet register.new → IfErr result (λ fault. (c : Content) → R.holds register.old c → IsOpenFault setup c fault) }
-    ensures left { R.is_quiet register.new → OnErr result ((c : Content) → R.holds register.old c → R.holds register.new c ⊎ R.holds register.new (bound_to setup c)) }
+    ensures stored { IfOk result (λ p. HasStore (R.holding register.new) p.1) }
+    ensures comes { IfOk result (λ p. Comes (R.holding register.old) (R.holding register.new) (λ c d. HasList p.1.posted c × IsBound setup c d)) }
+    ensures refused { IfErr result (λ fault. Comes (R.holding register.old) (R.holding register.new) (IsNotOpened setup fault)) }
     ensures bound { OnOk result (R.is_bound register.new ≡ true) }
-    ensures quiet { R.is_quiet register.new → R.is_quiet register.old }
     ensures count { CountsRefusal (R.refusals register.old) (R.refusals register.new) result }
 {
     let depth = register.bind(alloc, &setup)?;

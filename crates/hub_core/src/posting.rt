@@ -3,14 +3,13 @@ ghost use Rattle.std.specs.Prelude.{◌≡◌, ◌<◌, ◌⊎◌, ◌-◌, List
 ghost use Rattle.posting_core.specs.declared.message.Message.{Message};
 ghost use Rattle.posting_core.specs.Messages.{is_sign_off};
 ghost use Rattle.posting_core.specs.Lawful.{Follows};
-ghost use Rattle.register_store.specs.StoredRows.{Content, IsStoreOf};
 ghost use Rattle.register_store.specs.Registers.{is_failure};
 ghost use Rattle.station_core.specs.Series.{series_at};
 ghost use Rattle.station_core.specs.Runs.{Arrived, arrived, due, ready};
 ghost use Rattle.station_core.specs.Progress.{IsPosting};
 ghost use Rattle.hub_core.specs.Points.{entry_of, post};
 ghost use Rattle.hub_core.specs.Faults.{hub_fault, CountsStore};
-ghost use Rattle.hub_core.specs.StandsFor.{InStep, Done, HasStore, HasSomeStore, Stopped};
+ghost use Rattle.hub_core.specs.StandsFor.{InStep, Done, HasStore, HasSomeStore, HasEither, Stopped};
 
 use crate::HubFault;
 use nest_core::StationNo;
@@ -37,13 +36,12 @@ pub(crate) fn post_due<R: Register>(
     ensures in_step { OnOk result (InStep sequences.new ledger.new.museum ledger.new.posted) }
     ensures done { OnOk result ((taken : List (Arrived Message)) → IsPosting is_sign_off taken station sequences.old →
         Done ledger.old.museum ledger.old.depth taken station (series_at sequences.old station).posted ledger.old.posted sequences.new ledger.new.posted) }
-    ensures stored { OnOk result (HasStore R.is_quiet R.holds register.old ledger.old → HasStore R.is_quiet R.holds register.new ledger.new) }
+    ensures stored { OnOk result (HasStore (R.holding register.old) ledger.old → HasStore (R.holding register.new) ledger.new) }
     ensures stopped { OnErr result ((taken : List (Arrived Message)) → IsPosting is_sign_off taken station sequences.old →
-        HasStore R.is_quiet R.holds register.old ledger.old → Stopped R.is_quiet R.holds register.new ledger.old.museum ledger.old.depth ledger.old.posted
+        HasStore (R.holding register.old) ledger.old → Stopped (R.holding register.new) ledger.old.museum ledger.old.depth ledger.old.posted
         (due taken station (series_at sequences.old station).posted (ready is_sign_off taken station - (series_at sequences.old station).posted)) ledger.new.posted) }
-    ensures lawful { OnErr result (HasStore R.is_quiet R.holds register.old ledger.old → HasSomeStore R.is_quiet R.holds register.new ledger.new) }
+    ensures lawful { OnErr result (HasStore (R.holding register.old) ledger.old → HasSomeStore (R.holding register.new) ledger.new) }
     ensures bound { R.is_bound register.new ≡ true }
-    ensures quiet { R.is_quiet register.new → R.is_quiet register.old }
     ensures count { CountsStore (R.refusals register.old) (R.refusals register.new) result }
     ensures fault { IfErr result (λ fault. (fault ≡ HubFault.NoMemory) ⊎ (fault ≡ HubFault.Store)) }
 {
@@ -72,13 +70,11 @@ fn post_next<R: Register>(
     requires bound { R.is_bound register.old ≡ true }
     ensures ok { OnOk result (ledger.new ≡ record ledger.old { posted = post ledger.old.museum ledger.old.depth ledger.old.posted (arrived station n message) }) }
     ensures err { OnErr result (ledger.new ≡ ledger.old) }
-    ensures stored { OnOk result (HasStore R.is_quiet R.holds register.old ledger.old → HasStore R.is_quiet R.holds register.new ledger.new) }
-    ensures left { OnErr result (HasStore R.is_quiet R.holds register.old ledger.old → R.is_quiet register.new → (c : Content) × R.holds register.new c
-        × (IsStoreOf ledger.old.museum ledger.old.depth ledger.old.posted c
-        ⊎ IsStoreOf ledger.old.museum ledger.old.depth (post ledger.old.museum ledger.old.depth ledger.old.posted (arrived station n message)) c)) }
-    ensures lawful { OnErr result (HasStore R.is_quiet R.holds register.old ledger.old → HasSomeStore R.is_quiet R.holds register.new ledger.new) }
+    ensures stored { OnOk result (HasStore (R.holding register.old) ledger.old → HasStore (R.holding register.new) ledger.new) }
+    ensures left { OnErr result (HasStore (R.holding register.old) ledger.old →
+        HasEither (R.holding register.new) ledger.old.museum ledger.old.depth ledger.old.posted (arrived station n message)) }
+    ensures lawful { OnErr result (HasStore (R.holding register.old) ledger.old → HasSomeStore (R.holding register.new) ledger.new) }
     ensures bound { R.is_bound register.new ≡ true }
-    ensures quiet { R.is_quiet register.new → R.is_quiet register.old }
     ensures count { CountsStore (R.refusals register.old) (R.refusals register.new) result }
     ensures fault { IfErr result (λ fault. (fault ≡ HubFault.NoMemory) ⊎ (fault ≡ HubFault.Store)) }
 {

@@ -63,12 +63,12 @@ pub fn replay<R: BufRead, W: Write, S: Register>(
     requires { hub.old.down ≡ false }
     // For every list of arrivals that the hub stands for: all bytes are read, what is written is their text, and the
     // hub stands for the list with their arrivals.
-    ensures bytes_to_bytes { OnOk result ((O : List Entry) (A : List Arrival) → StandsFor S.is_quiet S.holds hub.old O A → IfSome (R.remaining input.old) (λ bytes.
+    ensures bytes_to_bytes { OnOk result ((O : List Entry) (A : List Arrival) → StandsFor S.holding hub.old O A → IfSome (R.remaining input.old) (λ bytes.
         IsAtEnd (R.remaining input.new)
         × Appends (W.contents output.old) (W.contents output.new) (text hub.old.book.museum hub.old.book.depth O A bytes)
-        × StandsFor S.is_quiet S.holds hub.new O (A ++ arrivals hub.old.book.museum bytes))) }
-    ensures faults { IfErr result (λ fault. (O : List Entry) (A : List Arrival) → StandsFor S.is_quiet S.holds hub.old O A →
-        AfterFault hub.old.book.museum hub.old.book.depth O A (R.remaining input.old) (R.remaining input.new) (W.contents output.old) (W.contents output.new) S.is_quiet S.holds hub.new fault) }
+        × StandsFor S.holding hub.new O (A ++ arrivals hub.old.book.museum bytes))) }
+    ensures faults { IfErr result (λ fault. (O : List Entry) (A : List Arrival) → StandsFor S.holding hub.old O A →
+        AfterFault hub.old.book.museum hub.old.book.depth O A (R.remaining input.old) (R.remaining input.new) (W.contents output.old) (W.contents output.new) S.holding hub.new fault) }
     ensures up { OnOk result (hub.new.down ≡ false) }
     ensures count { CountsReplay (S.refusals hub.old.register) (S.refusals hub.new.register) result }
     ensures museum { hub.new.book.museum ≡ hub.old.book.museum }
@@ -86,10 +86,10 @@ pub(crate) fn replay_from<R: BufRead, W: Write, S: Register>(
     reads_left: Reads,
 ) -> Result<(), ReplayFault>
     requires { hub.old.down ≡ false }
-    ensures answered { OnOk result ((O : List Entry) (A : List Arrival) → StandsFor S.is_quiet S.holds hub.old O A →
-        Answered hub.old.book.museum hub.old.book.depth O A (R.remaining input.old) (R.remaining input.new) (W.contents output.old) (W.contents output.new) S.is_quiet S.holds hub.new true) }
-    ensures faults { IfErr result (λ fault. (O : List Entry) (A : List Arrival) → StandsFor S.is_quiet S.holds hub.old O A →
-        AfterFault hub.old.book.museum hub.old.book.depth O A (R.remaining input.old) (R.remaining input.new) (W.contents output.old) (W.contents output.new) S.is_quiet S.holds hub.new fault) }
+    ensures answered { OnOk result ((O : List Entry) (A : List Arrival) → StandsFor S.holding hub.old O A →
+        Answered hub.old.book.museum hub.old.book.depth O A (R.remaining input.old) (R.remaining input.new) (W.contents output.old) (W.contents output.new) S.holding hub.new true) }
+    ensures faults { IfErr result (λ fault. (O : List Entry) (A : List Arrival) → StandsFor S.holding hub.old O A →
+        AfterFault hub.old.book.museum hub.old.book.depth O A (R.remaining input.old) (R.remaining input.new) (W.contents output.old) (W.contents output.new) S.holding hub.new fault) }
     ensures up { OnOk result (hub.new.down ≡ false) }
     ensures count { CountsReplay (S.refusals hub.old.register) (S.refusals hub.new.register) result }
     ensures museum { hub.new.book.museum ≡ hub.old.book.museum }

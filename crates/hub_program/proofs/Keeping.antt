@@ -1,33 +1,39 @@
 -- What a caller knows of any register that had no posting.
-use Rattle.std.proofs.Common.{◌≡◌, [], ◌∷◌, reverse, Vec, Result, Ok, Err, IfOk, true, false, refl, sym, subst}
-use Rattle.std.specs.declared.alloc.Global.{Global}
+use Rattle.std.proofs.Common.{◌≡◌, ◌∙◌, ℕ, ◌+◌, List, [], ◌∷◌, length, true, false, refl, sym, subst}
 use Rattle.std.specs.List.Sorted.{IsPermutation}
-use Rattle.std.proofs.lemmas.List.Sorted.{IsPermutation-refl}
+use Rattle.std.proofs.lemmas.List.Sorted.{IsPermutation-refl, IsPermutation-cons, IsPermutation-trans}
 use Rattle.nest_core.specs.Museum.{Museum}
+use Rattle.posting_core.specs.declared.entry.Changes.{Changes}
 use Rattle.posting_core.specs.declared.entry.Entry.{Entry}
-use Rattle.register_store.specs.declared.store_fault.StoreFault.{StoreFault}
-use Rattle.register_store.specs.StoredRows.{Content, PostingRow, IsPostingRow, HasList}
+use Rattle.register_store.specs.StoredRows.{Content, AreSame, IsPostingRow, HasList}
 use Rattle.register_store.specs.Registers.{is_new, bound_by, bound_to}
+use Rattle.register_store.specs.Holdings.{Holding, Each, Comes, IsPosted, IsBound}
+use Rattle.register_store.proofs.HoldingLemmas.{comes_on, comes_so, same_list}
 use Rattle.register_store.proofs.OneList.{one_list}
 
 -- binding leaves the postings
-pub postings_kept : (S : Museum) (c : Content) → (bound_to S c).postings ≡ c.postings
+postings_kept : (S : Museum) (c : Content) → (bound_to S c).postings ≡ c.postings
 postings_kept S c = elim (is_new c.meta) as (λ b. (bound_by b S c).postings ≡ c.postings) [ true ↦ refl | false ↦ refl ]
 
--- two rows are a list of two entries
-two_rows : (first second : Entry) (a b : PostingRow) (c : Content) → IsPostingRow 1 first a → IsPostingRow 2 second b → c.postings ≡ b ∷ a ∷ [] → HasList (second ∷ first ∷ []) c
-two_rows first second a b c h k is = record { rows = b ∷ a ∷ []; each = (k, (h, tt)); all = subst (IsPermutation (b ∷ a ∷ [])) (sym is) (IsPermutation-refl (b ∷ a ∷ [])) }
+none_listed : (S : Museum) (c d : Content) → IsBound S c d → c.postings ≡ [] → HasList [] d
+none_listed S c d same empty =
+    same_list (bound_to S c) d same [] (record { rows = []; each = tt; all = subst (IsPermutation []) (sym (postings_kept S c ∙ empty)) (IsPermutation-refl []) })
 
--- what is listed of them
-pub two_listed : (r : Result (Vec Entry Global) StoreFault) (first second : Entry) (a b : PostingRow) (c : Content) → IsPostingRow 1 first a → IsPostingRow 2 second b → c.postings ≡ b ∷ a ∷ []
-    → IfOk r (λ entries. HasList (reverse entries.items) c) → IfOk r (λ entries. reverse entries.items ≡ second ∷ first ∷ [])
-two_listed (Ok entries) first second a b c h k is listed = one_list (reverse entries.items) (second ∷ first ∷ []) c listed (two_rows first second a b c h k is)
-two_listed (Err fault) first second a b c h k is listed = tt
+-- one more posting is one more entry
+more_listed : (P : List Entry) (e : Entry) (changes : Changes) (c d : Content) → changes.entry ≡ length P + 1 → IsPosted e changes c d → HasList P c → HasList (e ∷ P) d
+more_listed P e changes c d number (row, is, same) list = record {
+  rows = row ∷ list.rows;
+  each = (subst (λ n. IsPostingRow n e row) number is, list.each);
+  all = IsPermutation-trans _ _ _ (IsPermutation-cons row _ _ list.all) same.postings;
+}
 
-pub at_content : (P : Content → Type 0) (r : Result (Vec Entry Global) StoreFault) (Q : Vec Entry Global → Content → Type 0) (c : Content) → P c → IfOk r (λ entries. (d : Content) → P d → Q entries d) → IfOk r (λ entries. Q entries c)
-at_content P (Ok entries) Q c here h = h c here
-at_content P (Err fault) Q c here h = tt
-
-pub for_each : (P : Content → Type 0) (r : Result (Vec Entry Global) StoreFault) (Q : Vec Entry Global → Type 0) → ((c : Content) → P c → c.postings ≡ [] → IfOk r Q) → IfOk r (λ entries. (c : Content) → P c → c.postings ≡ [] → Q entries)
-for_each P (Ok entries) Q h = h
-for_each P (Err fault) Q h = tt
+-- what is listed after two postings
+pub two_kept : (old bound one two new : Holding) (S : Museum) (first second : Entry) (a b : Changes) (O : List Entry) → a.entry ≡ 1 → b.entry ≡ 2
+    → Comes old bound (IsBound S) → Comes bound one (IsPosted first a) → Comes one two (IsPosted second b) → Comes two new AreSame → Each new (HasList O)
+    → Comes old new (λ c d. c.postings ≡ [] → O ≡ second ∷ first ∷ [])
+two_kept old bound one two new S first second a b O is_one is_two binds posts then_posts still listed =
+    let Had : List Entry → Content → Content → Type 0 = λ P c d. c.postings ≡ [] → HasList P d in
+    let at_one : Comes old one (Had (first ∷ [])) = comes_on old bound one (IsBound S) (IsPosted first a) (Had (first ∷ [])) (λ x y z was step empty. more_listed [] first a y z is_one step (none_listed S x y was empty)) binds posts in
+    let at_two : Comes old two (Had (second ∷ first ∷ [])) = comes_on old one two (Had (first ∷ [])) (IsPosted second b) (Had (second ∷ first ∷ [])) (λ x y z was step empty. more_listed (first ∷ []) second b y z is_two step (was empty)) at_one then_posts in
+    let now : Comes old new (Had (second ∷ first ∷ [])) = comes_on old two new (Had (second ∷ first ∷ [])) AreSame (Had (second ∷ first ∷ [])) (λ x y z was same empty. same_list y z same (second ∷ first ∷ []) (was empty)) at_two still in
+    comes_so old new (Had (second ∷ first ∷ [])) (λ c d. c.postings ≡ [] → O ≡ second ∷ first ∷ []) (HasList O) (λ c d was has empty. one_list O (second ∷ first ∷ []) d has (was empty)) now listed

@@ -20,7 +20,8 @@ use Rattle.register_store.specs.declared.store_fault.StoreFault.{StoreFault}
 use Rattle.register_store.specs.declared.store_fault.StoreFault.TheVariants.{NoMemory, Store, OtherSetup, Damaged, OtherVersion}
 use Rattle.register_store.specs.StoredRows.{Content, MetaRow, PostingRow, TermRow, AreSame, HasRows, numbered, rows_of_setup, rows_of_meta, IsBoundTo, rows_by_thing, rows_of_spots, rows_of_lines, rows_of_terms, put_lines, term_of, with_posted}
 use Rattle.register_store.specs.Registers.{is_new, bound_by, bound_to, IsBindFault, IsWrongAt, IsListFault}
-use Rattle.register_store.specs.Plain.{texts_of, meta_of, line_rows, term_rows}
+use Rattle.register_store.specs.Holdings.{Each, Comes}
+use Rattle.register_store.specs.Plain.{rows_in_memory, texts_of, meta_of, line_rows, term_rows}
 use Rattle.register_store.proofs.OneList.{one_setup}
 use Rattle.register_store.proofs.SpotRows.{looking_back}
 use Rattle.register_store.proofs.LineRows.{put_lines_same}
@@ -41,6 +42,17 @@ same_then c d e h k = record {
   lines = IsPermutation-trans _ _ _ h.lines k.lines;
   terms = IsPermutation-trans _ _ _ h.terms k.terms;
 }
+
+-- what memory may hold comes from what it held
+pub comes_from : (K L : Content) (Change : Content → Content → Type 0) → ((d : Content) → AreSame L d → Change K d) → Comes (rows_in_memory K) (rows_in_memory L) Change
+comes_from K L Change h = record {
+  quiet = λ quiet. quiet;
+  some = λ quiet none c held. none L (same_itself L);
+  from = λ quiet d held. (K, same_itself K, h d held);
+}
+
+pub comes_by : (K L : Content) (f : Content → Content) → AreSame L (f K) → Comes (rows_in_memory K) (rows_in_memory L) (λ c d. AreSame (f c) d)
+comes_by K L f same = comes_from K L (λ c d. AreSame (f c) d) (λ d held. same_then (f K) L d (same_back _ _ same) held)
 
 -- one more posting on both sides
 pub same_posted : (c d : Content) (row : PostingRow) (e : Entry) (changes : Changes) → AreSame c d → AreSame (with_posted row e changes c) (with_posted row e changes d)
@@ -139,11 +151,13 @@ posted_same o ps more ss longer ls new_ls ts new_ts row e changes K d pushed ext
     }
 
 -- growths alone leave what is held
-pub left_as_was : {T E : Type 0} (r : Result T E) (Q : Content → Type 0) (o : Option (Vec (String Global) Global)) (ps ps' : List PostingRow) (ss ss' : List NewSpot) (ks ks' : List (LineKey × LineStage)) (ts ts' : List (List ℕ × ℤ)) (K : Content)
-    → K ≡ content_of o (reverse ps) (reverse ss) (line_rows ks) (term_rows ts) → ps' ≡ ps → ss' ≡ ss → ks' ≡ ks → ts' ≡ ts
-    → OnErr r ((d : Content) → AreSame K d → AreSame (content_of o (reverse ps') (reverse ss') (line_rows ks') (term_rows ts')) d ⊎ Q d)
-left_as_was (Ok x) Q o ps ps' ss ss' ks ks' ts ts' K is p s k t = tt
-left_as_was (Err e) Q o ps ps' ss ss' ks ks' ts ts' K is p s k t = λ d h. inl (rw (p, s, k, t) (subst (λ (c : Content). AreSame c d) is h))
+pub left_as_was : {T E : Type 0} (r : Result T E) (Q : Content → Content → Type 0) (o : Option (Vec (String Global) Global)) (ps ps' : List PostingRow) (ss ss' : List NewSpot) (ks ks' : List (LineKey × LineStage)) (ts ts' : List (List ℕ × ℤ)) (K L : Content)
+    → K ≡ content_of o (reverse ps) (reverse ss) (line_rows ks) (term_rows ts) → L ≡ content_of o (reverse ps') (reverse ss') (line_rows ks') (term_rows ts') → ps' ≡ ps → ss' ≡ ss → ks' ≡ ks → ts' ≡ ts
+    → OnErr r (Comes (rows_in_memory K) (rows_in_memory L) (λ c d. AreSame c d ⊎ Q c d))
+left_as_was (Ok x) Q o ps ps' ss ss' ks ks' ts ts' K L is now p s k t = tt
+left_as_was (Err e) Q o ps ps' ss ss' ks ks' ts ts' K L is now p s k t =
+    let same : L ≡ K = now ∙ rw (p, s, k, t) (sym is) in
+    comes_from K L (λ c d. AreSame c d ⊎ Q c d) (λ d h. inl (subst (λ (c : Content). AreSame c d) same h))
 
 -- the same rows in another order are held as before
 pub reordered : (o : Option (Vec (String Global) Global)) (ps ps' : List PostingRow) (ss ss' : List NewSpot) (lines : List NewLine) (terms : List TermRow) (K d : Content) → IsPermutation ps ps' → IsPermutation ss ss'
@@ -164,13 +178,13 @@ reordered o ps ps' ss ss' lines terms K d p s is =
 -- why its rows are no list
 pub listed_fault : (r : Result (Vec Entry Global) StoreFault) (stations stations' : ℕ) (rows items : List PostingRow) (o : Option (Vec (String Global) Global)) (spots : List NewSpot) (lines : List NewLine) (terms : List TermRow) → stations' ≡ stations → items ≡ rows
     → IsNonDecreasingBy (λ row. row.id) rows → IfErr r (λ fault. fault ≢ NoMemory → (at : ℕ) × (fault ≡ Damaged at) × IsWrongAt stations at items)
-    → IfErr r (λ fault. (d : Content) → AreSame (content_of o (reverse rows) spots lines terms) d → IsListFault stations' d fault)
+    → IfErr r (λ fault. Each (rows_in_memory (content_of o (reverse rows) spots lines terms)) (λ d. IsListFault stations' d fault))
 listed_fault (Ok entries) stations stations' rows items o spots lines terms st at order wrong = tt
-listed_fault (Err NoMemory) stations stations' rows items o spots lines terms st at order wrong = λ d h. tt
-listed_fault (Err Store) stations stations' rows items o spots lines terms st at order wrong = λ d h. tt
+listed_fault (Err NoMemory) stations stations' rows items o spots lines terms st at order wrong = λ quiet d h. tt
+listed_fault (Err Store) stations stations' rows items o spots lines terms st at order wrong = λ quiet d h. tt
 listed_fault (Err OtherSetup) stations stations' rows items o spots lines terms st at order wrong = absurd (let w = wrong (λ e. cc) in let e = w.1 in cc)
 listed_fault (Err OtherVersion) stations stations' rows items o spots lines terms st at order wrong = absurd (let w = wrong (λ e. cc) in let e = w.1 in cc)
-listed_fault (Err (Damaged i)) stations stations' rows items o spots lines terms st at order wrong = λ d h.
+listed_fault (Err (Damaged i)) stations stations' rows items o spots lines terms st at order wrong = λ quiet d h.
     let w = wrong (λ e. cc) in
     let e = w.1 in
     let same : w.0 ≡ i = cc in

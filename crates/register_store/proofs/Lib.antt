@@ -1,3 +1,4 @@
+pub mod HoldingLemmas
 pub mod Fields
 pub mod ObjectLists
 pub mod RoundTrip

@@ -3,4 +3,5 @@ pub mod Kinds
 pub mod MessageText
 pub mod StoredRows
 pub mod Registers
+pub mod Holdings
 pub mod Plain

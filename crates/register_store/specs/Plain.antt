@@ -1,5 +1,5 @@
 -- What a register in memory keeps.
-use Rattle.std.specs.Prelude.{ℕ, ℤ, Bool, false, List, [], map, Option, Some, None, Vec, String, string_bytes}
+use Rattle.std.specs.Prelude.{ℕ, ℤ, Bool, false, List, [], map, Option, Some, None, ⊤, Vec, String, string_bytes}
 use Rattle.std.specs.List.{flat_map}
 use Rattle.std.specs.Map.{lookup}
 use Rattle.std.specs.Option.{option_map, option_map_or, option_to_list}
@@ -8,13 +8,21 @@ use Rattle.posting_core.specs.Book.{Book, line_in, last_day_in}
 use Rattle.posting_core.specs.declared.entry.NewLine.{NewLine}
 use Rattle.posting_core.specs.declared.stage.LineStage.{LineStage}
 use Rattle.register_store.specs.declared.loan_rows.LineKey.{LineKey}
-use Rattle.register_store.specs.StoredRows.{Content, MetaRow, TermRow, rows_of_meta}
+use Rattle.register_store.specs.StoredRows.{Content, MetaRow, TermRow, AreSame, rows_of_meta}
+use Rattle.register_store.specs.Holdings.{Holding}
 
 -- the rows, whether a setup is bound to it, and how many stations that has
 pub record Kept : Type 0 where
   pub content : Content
   pub bound : Bool
   pub stations : ℕ
+
+-- nobody else writes memory, and it holds these rows, in any order
+abbrev pub rows_in_memory : Content → Holding
+rows_in_memory content = record { is_quiet = ⊤; holds = AreSame content }
+
+abbrev pub in_memory : Kept → Holding
+in_memory register = rows_in_memory register.content
 
 -- the texts of the setup's rows, none where it is new
 abbrev pub texts_of : Option (Vec (String Global) Global) → List (List ℕ)

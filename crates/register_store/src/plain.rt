@@ -76,12 +76,10 @@ impl PlainRegister {
 }
 
 impl Register for PlainRegister {
-    ghost use Rattle.std.specs.Prelude.{false, ⊤};
-    ghost use Rattle.register_store.specs.StoredRows.{AreSame};
+    ghost use Rattle.std.specs.Prelude.{false};
+    ghost use Rattle.register_store.specs.Plain.{in_memory};
 
-    ghost holds = { λ r c. AreSame r.content c };
-
-    ghost is_quiet = { λ r. ⊤ };
+    ghost holding = { in_memory };
 
     ghost is_bound = { λ r. r.bound };
 

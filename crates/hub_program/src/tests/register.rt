@@ -1,6 +1,6 @@
 //! Registers in memory, bound, posted to and read back.
 ghost use Rattle.std.specs.Prelude.{◌≡◌, ◌∷◌, [], reverse, IfOk};
-ghost use Rattle.register_store.specs.StoredRows.{Content};
+ghost use Rattle.register_store.specs.Holdings.{Comes};
 
 use super::{MUSEUM, SMALL, message_of};
 use codes_core::Day;
@@ -107,8 +107,8 @@ fn keep_two<R: Register>(
 ) -> Result<Vec<Entry>, StoreFault>
     requires first_number { first_changes.now.entry ≡ 1 }
     requires second_number { second_changes.now.entry ≡ 2 }
-    ensures { R.is_quiet register.new → IfOk result (λ entries. (c : Content) → R.holds register.old c → c.postings ≡ []
-        → reverse entries.items ≡ second.now ∷ first.now ∷ []) }
+    ensures { IfOk result (λ entries. Comes (R.holding register.old) (R.holding register.new)
+        (λ c d. c.postings ≡ [] → reverse entries.items ≡ second.now ∷ first.now ∷ [])) }
 {
     register.bind(alloc, setup)?;
     register.post(alloc, first, first_changes)?;

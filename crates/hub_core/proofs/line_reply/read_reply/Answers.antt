@@ -14,4 +14,4 @@ pub returns-in-Ok-clause-fault : goal.returns-in-Ok-clause-fault
 returns-in-Ok-clause-fault g c =
     let same : line_in c.args.hub.now.book.museum c.args.line.now ≡ Ok c.in-Ok.line =
     ap (λ (S : Museum). line_in S c.args.line.now) (sym (c.setup.ensures ∙ ap (λ (b : Book). b.museum) c.ledger.ensures)) ∙ c.in-Ok.ensures.exact in
-    subst (λ (q : Result Line ReadFault). OnErr c.request_reply.result ((O : List Entry) → (A : List Arrival) → StandsFor g.S.Register.is_quiet g.S.Register.holds c.args.hub.now O A → TakesSome g.S.Register.is_quiet g.S.Register.holds c.request_reply.new.hub O A (sent q))) (sym same) c.request_reply.ensures.fault
+    subst (λ (q : Result Line ReadFault). OnErr c.request_reply.result ((O : List Entry) → (A : List Arrival) → StandsFor g.S.Register.holding c.args.hub.now O A → TakesSome g.S.Register.holding c.request_reply.new.hub O A (sent q))) (sym same) c.request_reply.ensures.fault

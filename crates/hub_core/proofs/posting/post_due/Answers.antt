@@ -29,11 +29,11 @@ returns-in_err-post_next-clause-stopped g c =
     let k = (series_at c.args.sequences.now s).posted in
     let within : s < length all = subst (λ n. s < n) (sym c.loop-n.invariant.stations) c.requires.known in
     let one = written all c.next_due.new.self s (counted (series_at all s)) within c.in-Some.ensures.counted in
-    let stop : (taken : List (Arrived Message)) → IsPosting is_sign_off taken s c.args.sequences.now → HasStore g.R.Register.is_quiet g.R.Register.holds c.args.register.now L
-    → Stopped g.R.Register.is_quiet g.R.Register.holds c.post_next.new.register L.museum L.depth L.posted (due taken s k (ready is_sign_off taken s - k)) c.post_next.new.ledger.posted =
+    let stop : (taken : List (Arrived Message)) → IsPosting is_sign_off taken s c.args.sequences.now → HasStore (g.R.Register.holding c.args.register.now) L
+    → Stopped (g.R.Register.holding c.post_next.new.register) L.museum L.depth L.posted (due taken s k (ready is_sign_off taken s - k)) c.post_next.new.ledger.posted =
     λ taken p had.
     let so_far = c.loop-n.invariant.caught taken p in
-    stopped_at g.R.Register.is_quiet g.R.Register.holds c.post_next.new.register L.museum L.depth taken s k c.in-Some.n L.posted c.loop-n.ledger c.post_next.new.ledger all c.next_due.new.self c.in-Some.message
+    stopped_at (g.R.Register.holding c.post_next.new.register) L.museum L.depth taken s k c.in-Some.n L.posted c.loop-n.ledger c.post_next.new.ledger all c.next_due.new.self c.in-Some.message
     so_far c.in-Some.ensures.number.0 (c.in-Some.ensures.due _ taken so_far.posting) (ap (λ (x : Series Message). x.posted) one.here ∙ sym c.in-Some.ensures.number.0)
     c.loop-n.invariant.museum c.loop-n.invariant.depth c.in_err-post_next.ensures.err (c.in_err-post_next.ensures.left (c.loop-n.invariant.stored had)) in
     on_err _ stop
@@ -71,7 +71,6 @@ loop-n-preserved g c =
       unsigned = ap (λ (x : Series Message). x.signed) one.here ∙ c.loop-n.invariant.unsigned;
       in_step = posted_step L c.post_next.new.ledger r all c.next_due.new.self (counted (series_at all s)) is c.loop-n.invariant.in_step within one refl (c.loop-n.invariant.unsigned ∙ sym off) c.loop-n.invariant.unsigned;
       bound = c.post_next.ensures.bound;
-      quiet = λ now. c.loop-n.invariant.quiet (c.post_next.ensures.quiet now);
       count = counts_ok _ _ _ _ c.in_ok-post_next.was c.post_next.ensures.count ∙ c.loop-n.invariant.count;
       stored = λ had. c.in_ok-post_next.ensures.stored (c.loop-n.invariant.stored had);
       caught = λ taken p.

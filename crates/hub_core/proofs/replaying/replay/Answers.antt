@@ -11,4 +11,4 @@ returns-clause-bytes_to_bytes g c =
     let o = g.W.Write.contents c.args.output.now in
     let o2 = g.W.Write.contents c.replay_from.new.output in
     let hub = c.replay_from.new.hub in
-    on_ok_weaker c.replay_from.result (λ a O A st. whole_input S depth O A i i2 o o2 g.S.Register.is_quiet g.S.Register.holds hub (a O A st)) c.replay_from.ensures.answered
+    on_ok_weaker c.replay_from.result (λ a O A st. whole_input S depth O A i i2 o o2 g.S.Register.holding hub (a O A st)) c.replay_from.ensures.answered

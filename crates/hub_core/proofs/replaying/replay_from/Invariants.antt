@@ -11,5 +11,5 @@ invariant-loop-number g l =
     × (l.hub.book.museum ≡ l.fn.hub.book.museum)
     × (l.hub.book.depth ≡ l.fn.hub.book.depth)
     × (g.S.Register.refusals l.hub.register ≡ g.S.Register.refusals l.fn.hub.register)
-    × ((O : List Entry) (A : List Arrival) → StandsFor g.S.Register.is_quiet g.S.Register.holds l.fn.hub O A →
-    Underway l.fn.hub.book.museum l.fn.hub.book.depth O A (g.R.Read.remaining l.fn.input) (g.R.Read.remaining l.input) (g.W.Write.contents l.fn.output) (g.W.Write.contents l.output) g.S.Register.is_quiet g.S.Register.holds l.hub l.number)
+    × ((O : List Entry) (A : List Arrival) → StandsFor g.S.Register.holding l.fn.hub O A →
+    Underway l.fn.hub.book.museum l.fn.hub.book.depth O A (g.R.Read.remaining l.fn.input) (g.R.Read.remaining l.input) (g.W.Write.contents l.fn.output) (g.W.Write.contents l.output) g.S.Register.holding l.hub l.number)

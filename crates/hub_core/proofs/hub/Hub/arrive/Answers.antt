@@ -15,8 +15,8 @@ use Rattle.hub_core.proofs.hub.Hub.arrive.Goals as goal
 pub returns-in-Some-clause-headline : goal.returns-in-Some-clause-headline
 returns-in-Some-clause-headline g c =
     let hub : State g.row.R.Denot = record { sequences = c.self.inside.sequences; book = c.self.inside.ledger; register = c.self.inside.register; down = c.self.inside.down } in
-    subst (λ (h : State g.row.R.Denot). (O : List Entry) (A : List Arrival) → StandsFor g.R.Register.is_quiet g.R.Register.holds h O A → (Refused c.in-Some.refusal ≡ reply h.book.museum h.book.depth O A c.args.arrival) × StandsFor g.R.Register.is_quiet g.R.Register.holds h O (A ++ c.args.arrival ∷ [])) c.self.view_is
-    (λ O A st. stands_refused g.R.Register.is_quiet g.R.Register.holds hub O A c.args.arrival c.in-Some.refusal st
+    subst (λ (h : State g.row.R.Denot). (O : List Entry) (A : List Arrival) → StandsFor g.R.Register.holding h O A → (Refused c.in-Some.refusal ≡ reply h.book.museum h.book.depth O A c.args.arrival) × StandsFor g.R.Register.holding h O (A ++ c.args.arrival ∷ [])) c.self.view_is
+    (λ O A st. stands_refused g.R.Register.holding hub O A c.args.arrival c.in-Some.refusal st
     (refused_by hub O A c.args.arrival _ _ (c.self.invariant.0 c.if-self.false) (c.test.ensures.taken is_sign_off _ st.series) c.in-Some.is))
 
 pub post_due-requires-clause-known : goal.post_due-requires-clause-known
@@ -50,9 +50,9 @@ returns-then-before-now-clause-headline g c =
     let new : State g.row.R.Denot = record { sequences = c.post_due.new.sequences; book = c.post_due.new.ledger; register = c.post_due.new.register; down = c.self.inside.down } in
     let step = c.self.invariant.0 c.if-self.false in
     let due = c.in_default-post_due.ensures in
-    subst (λ (h : State g.row.R.Denot). (O : List Entry) (A : List Arrival) → StandsFor g.R.Register.is_quiet g.R.Register.holds h O A → (Held ≡ reply h.book.museum h.book.depth O A c.args.arrival) × StandsFor g.R.Register.is_quiet g.R.Register.holds new O (A ++ c.args.arrival ∷ [])) c.self.view_is
+    subst (λ (h : State g.row.R.Denot). (O : List Entry) (A : List Arrival) → StandsFor g.R.Register.holding h O A → (Held ≡ reply h.book.museum h.book.depth O A c.args.arrival) × StandsFor g.R.Register.holding new O (A ++ c.args.arrival ∷ [])) c.self.view_is
     (λ O A st.
-    let h = stands_taken g.R.Register.is_quiet g.R.Register.holds hub new c.take.new.self O A c.args.arrival st step.stations
+    let h = stands_taken g.R.Register.holding hub new c.take.new.self O A c.args.arrival st step.stations
     (refused_by hub O A c.args.arrival _ _ step (c.test.ensures.taken is_sign_off _ st.series) c.in_default.is)
     c.if-self.false due.museum due.depth c.take.ensures.held (c.take.ensures.taken is_sign_off) due.done due.stored in (
       reply_held (length hub.book.posted) (length new.book.posted) (length c.posted.result.now) (length c.posted-2.result.now)
@@ -66,9 +66,9 @@ returns-clause-headline g c =
     let new : State g.row.R.Denot = record { sequences = c.post_due.new.sequences; book = c.post_due.new.ledger; register = c.post_due.new.register; down = c.self.inside.down } in
     let step = c.self.invariant.0 c.if-self.false in
     let due = c.in_default-post_due.ensures in
-    subst (λ (h : State g.row.R.Denot). (O : List Entry) (A : List Arrival) → StandsFor g.R.Register.is_quiet g.R.Register.holds h O A → (Posted (length c.posted.result.now + 1) (length c.posted-2.result.now) ≡ reply h.book.museum h.book.depth O A c.args.arrival) × StandsFor g.R.Register.is_quiet g.R.Register.holds new O (A ++ c.args.arrival ∷ [])) c.self.view_is
+    subst (λ (h : State g.row.R.Denot). (O : List Entry) (A : List Arrival) → StandsFor g.R.Register.holding h O A → (Posted (length c.posted.result.now + 1) (length c.posted-2.result.now) ≡ reply h.book.museum h.book.depth O A c.args.arrival) × StandsFor g.R.Register.holding new O (A ++ c.args.arrival ∷ [])) c.self.view_is
     (λ O A st.
-    let h = stands_taken g.R.Register.is_quiet g.R.Register.holds hub new c.take.new.self O A c.args.arrival st step.stations
+    let h = stands_taken g.R.Register.holding hub new c.take.new.self O A c.args.arrival st step.stations
     (refused_by hub O A c.args.arrival _ _ step (c.test.ensures.taken is_sign_off _ st.series) c.in_default.is)
     c.if-self.false due.museum due.depth c.take.ensures.held (c.take.ensures.taken is_sign_off) due.done due.stored in (
       reply_posted (length hub.book.posted) (length new.book.posted) (length c.posted.result.now) (length c.posted-2.result.now)
@@ -80,9 +80,9 @@ pub returns-in-Err-clause-after_fault : goal.returns-in-Err-clause-after_fault
 returns-in-Err-clause-after_fault g c =
     let hub : State g.row.R.Denot = record { sequences = c.self.inside.sequences; book = c.self.inside.ledger; register = c.self.inside.register; down = c.self.inside.down } in
     let step = c.self.invariant.0 c.if-self.false in
-    subst (λ (h : State g.row.R.Denot). (O : List Entry) (A : List Arrival) → StandsFor g.R.Register.is_quiet g.R.Register.holds h O A
-    → Stopped g.R.Register.is_quiet g.R.Register.holds c.post_due.new.register h.book.museum h.book.depth h.book.posted (due_with h.book.museum h.book.depth O A c.args.arrival) c.post_due.new.ledger.posted) c.self.view_is
-    (λ O A st. stands_stopped g.R.Register.is_quiet g.R.Register.holds hub c.post_due.new.register c.take.new.self c.post_due.new.ledger.posted O A c.args.arrival st step.stations
+    subst (λ (h : State g.row.R.Denot). (O : List Entry) (A : List Arrival) → StandsFor g.R.Register.holding h O A
+    → Stopped (g.R.Register.holding c.post_due.new.register) h.book.museum h.book.depth h.book.posted (due_with h.book.museum h.book.depth O A c.args.arrival) c.post_due.new.ledger.posted) c.self.view_is
+    (λ O A st. stands_stopped g.R.Register.holding hub (g.R.Register.holding c.post_due.new.register) c.take.new.self c.post_due.new.ledger.posted O A c.args.arrival st step.stations
     (refused_by hub O A c.args.arrival _ _ step (c.test.ensures.taken is_sign_off _ st.series) c.in_default.is)
     c.take.ensures.held (c.take.ensures.taken is_sign_off) c.in-Err.ensures.stopped)
 
@@ -90,10 +90,10 @@ pub returns-in-Err-clause-answers : goal.returns-in-Err-clause-answers
 returns-in-Err-clause-answers g c =
     let hub : State g.row.R.Denot = record { sequences = c.self.inside.sequences; book = c.self.inside.ledger; register = c.self.inside.register; down = c.self.inside.down } in
     let step = c.self.invariant.0 c.if-self.false in
-    subst (λ (h : State g.row.R.Denot). (O : List Entry) (A : List Arrival) → StandsFor g.R.Register.is_quiet g.R.Register.holds h O A
+    subst (λ (h : State g.row.R.Denot). (O : List Entry) (A : List Arrival) → StandsFor g.R.Register.holding h O A
     → (first : ℕ) × (last : ℕ) × (reply h.book.museum h.book.depth O A c.args.arrival ≡ Posted first last)) c.self.view_is
     (λ O A st.
     let none = refused_by hub O A c.args.arrival _ _ step (c.test.ensures.taken is_sign_off _ st.series) c.in_default.is in
-    let stop = stands_stopped g.R.Register.is_quiet g.R.Register.holds hub c.post_due.new.register c.take.new.self c.post_due.new.ledger.posted O A c.args.arrival st step.stations none
+    let stop = stands_stopped g.R.Register.holding hub (g.R.Register.holding c.post_due.new.register) c.take.new.self c.post_due.new.ledger.posted O A c.args.arrival st step.stations none
     c.take.ensures.held (c.take.ensures.taken is_sign_off) c.in-Err.ensures.stopped in
     reply_due hub.book.museum hub.book.depth O A c.args.arrival stop.done stop.next stop.rest none stop.all)

@@ -9,7 +9,7 @@ use Rattle.std.specs.Bool.{Decides}
 use Rattle.register_store.specs.StoredRows.{HasRows}
 use Rattle.register_store.proofs.LedgerRows.{line_keys_differ, term_keys_differ}
 use Rattle.register_store.proofs.SpotOrder.{rows_ascend}
-use Rattle.register_store.proofs.Kept.{same_itself, reordered, told_by}
+use Rattle.register_store.proofs.Kept.{same_itself, comes_by, reordered, told_by}
 use Rattle.register_store.proofs.plain.PlainRegisterRegister.agrees.Goals as goal
 
 by_thing : (a b : NewSpot) → a.thing < b.thing → (ghosts).cmp a b ≡ Less
@@ -39,10 +39,9 @@ pub has_all-same_terms-requires-clause-distinct : goal.has_all-same_terms-requir
 has_all-same_terms-requires-clause-distinct c =
     term_keys_differ c.args.ledger.now.museum c.args.ledger.now.depth c.args.ledger.now.posted c.deref-3.result.now c.is_lawful.ensures (ap term_rows c.deref-3.ensures.value ∙ c.in_ok-terms.ensures)
 
-pub returns-clause-there : goal.returns-clause-there
-returns-clause-there c quiet same = (_, same_itself _)
-
 pub returns-clause-unchanged : goal.returns-clause-unchanged
-returns-clause-unchanged c quiet d =
-    reordered c.self.inside.setup c.self.inside.postings.items c.self.inside.postings.items c.self.inside.spots.items c.has_rows-same_spots.new.rows.items (line_rows c.self.inside.lines.entries) (term_rows c.self.inside.terms.entries) c.args.self.now.content d
-    (IsPermutation-refl _) c.has_rows-same_spots.ensures.same (sym (ap (λ (k : Kept). k.content) c.self.view_is))
+returns-clause-unchanged c =
+    let K = c.args.self.now.content in
+    comes_by K _ (λ k. k)
+    ((reordered c.self.inside.setup c.self.inside.postings.items c.self.inside.postings.items c.self.inside.spots.items c.has_rows-same_spots.new.rows.items (line_rows c.self.inside.lines.entries) (term_rows c.self.inside.terms.entries) K K
+    (IsPermutation-refl _) c.has_rows-same_spots.ensures.same (sym (ap (λ (k : Kept). k.content) c.self.view_is))).0 (same_itself K))
