@@ -4,18 +4,23 @@ ghost use Rattle.std.specs.List.{slice_get};
 ghost use Rattle.nest_core.specs.Museum.{Museum};
 ghost use Rattle.posting_core.specs.declared.message.Message.{Message};
 ghost use Rattle.posting_core.specs.declared.entry.Entry.{Entry};
+ghost use Rattle.posting_core.specs.Book.{Book, changes_of};
 ghost use Rattle.posting_core.specs.Messages.{is_sign_off};
-ghost use Rattle.posting_core.specs.Lawful.{IsLawful};
+ghost use Rattle.posting_core.specs.Lawful.{Follows, IsLawful};
 ghost use Rattle.station_core.specs.declared.TheConstants.{LAST};
 ghost use Rattle.station_core.specs.declared.Refusal.{Refusal};
 ghost use Rattle.station_core.specs.Runs.{Arrived, message_at, ready, refusal};
 ghost use Rattle.register_store.specs.declared.store_fault.StoreFault.{StoreFault};
-ghost use Rattle.register_store.specs.StoredRows.{Content, IsStoreOf};
+ghost use Rattle.register_store.specs.StoredRows.{Content, AreSame, IsStoreOf};
 ghost use Rattle.register_store.specs.Registers.{is_failure};
+ghost use Rattle.register_store.specs.Holdings.{Comes, IsPosted};
 ghost use Rattle.hub_core.specs.declared.answer.Arrival.{Arrival};
 ghost use Rattle.hub_core.specs.declared.answer.Answer.TheVariants.{Refused};
-ghost use Rattle.hub_core.specs.Points.{point, reply, cut};
-ghost use Rattle.hub_core.specs.Openings.{IsOpenFault};
+ghost use Rattle.hub_core.specs.Points.{point, entry_of, post, reply, cut};
+ghost use Rattle.hub_core.specs.Openings.{IsOpenFault, Opened};
+ghost use Rattle.hub_core.specs.StandsFor.{State, HasStore};
+
+use register_store::Register;
 
 /// The posted messages of a station are numbered 1, 2, 3 and so on, without a gap.
 pub fn numbers_without_gap()
@@ -45,4 +50,27 @@ pub fn same_taken_same_posted()
 /// from that.
 pub fn stored_list_opens()
     ensures { (S : Museum) (depth : ℕ) (P : List Entry) (c : Content) (fault : StoreFault) → IsLawful S depth P → IsStoreOf S depth P c → IsOpenFault S c fault → is_failure fault ≡ true }
+{}
+
+/// Where a store has the rows of a lawful list, it has those of the list with the next entry after a posting of it that was
+/// answered Ok, and no others.
+pub fn next_entry_is_stored<R: Register>()
+    ensures { (old new : R) (book : Book) (r : Arrived Message) → IsLawful book.museum book.depth book.posted →
+        Follows book.museum book.depth book.posted (entry_of book.museum book.depth book.posted r) → HasStore (R.holding old) book →
+        Comes (R.holding old) (R.holding new) (IsPosted (entry_of book.museum book.depth book.posted r) (changes_of book r.message)) →
+        HasStore (R.holding new) (record book { posted = post book.museum book.depth book.posted r }) }
+{}
+
+/// A store that was opened, closed and opened again has the same posted list.
+pub fn opened_again_is_the_same<R: Register>()
+    ensures { (S T : Museum) (register : R) (first second : State R) (c : Content) → Opened R.holding S register first → Opened R.holding T first.register second →
+        (R.holding second.register).is_quiet → (R.holding second.register).holds c → second.book.posted ≡ first.book.posted }
+{}
+
+/// Two openings of a store that can hold only these rows tell the same posted list.
+pub fn openings_tell_the_same<R: Register>()
+    ensures { (S T : Museum) (register : R) (one other : State R) (c d e : Content) → ((k : Content) → (R.holding register).holds k → AreSame c k) →
+        Opened R.holding S register one → (R.holding one.register).is_quiet → (R.holding one.register).holds d →
+        Opened R.holding T register other → (R.holding other.register).is_quiet → (R.holding other.register).holds e →
+        one.book.posted ≡ other.book.posted }
 {}

@@ -1,0 +1,70 @@
+"""Where the functions of a crate stand in its text, which `rt fmt` has laid out: a function ends at the first brace that
+stands as far in as its head."""
+import glob
+import os
+import re
+
+HEAD = re.compile(r"( *)(?:pub(?:\([^)]*\))? )?(?:const )?fn (\w+)")
+TYPE = re.compile(r"(?m)^(?:pub(?:\([^)]*\))? )?(?:struct|enum) (\w+)")
+
+
+def text_of(path):
+    with open(path, encoding="utf-8") as it:
+        return it.read()
+
+
+class Impl:
+    """The block of a type's or a trait's methods; its name is the prover's: Type, TypeTrait or TypeFromOther."""
+
+    def __init__(self, head):
+        self.head = head.split("\n")[0]
+        said = re.sub(r"^impl\s*(<(?:[^<>]|<[^<>]*>)*>)?\s*", "", head.split("{")[0]).split(" where ")[0]
+        trait, _, of = said.rpartition(" for ")
+        bare = lambda text: re.sub(r"<.*", "", text).split("::")[-1].strip()
+        given = re.sub(r"<.*", "", trait.partition("<")[2].strip().rstrip(">")).split("::")
+        self.name = bare(of) + bare(trait) + "".join(it[:1].upper() + it[1:] for it in given)
+        self.is_of_trait = bool(trait)
+
+
+class Function:
+    """Lines first to last of a file, and the path by which the prover names it."""
+
+    def __init__(self, crate, file, lines, at, inside, module):
+        indent, self.name = HEAD.match(lines[at]).groups()
+        self.file, self.impl = file, inside
+        self.last = next((it for it in range(at, len(lines)) if lines[it] == indent + "}"), at)
+        while lines[at - 1].strip().startswith("#["):
+            at -= 1
+        self.first = at
+        self.path = [*module, *([inside.name] if inside else []), self.name]
+        self.recurs = os.path.isdir(f"{crate.folder}/proofs/{'/'.join(self.path[:-1])}/+{self.name}")
+
+    def can_be_copied(self):
+        return not self.recurs and not (self.impl and self.impl.is_of_trait)
+
+    def proofs(self):
+        return "/".join([*self.path[:-1], "+" * self.recurs + self.name])
+
+
+def module_of(file):
+    return [] if file in ("src/lib.rt", "src/main.rt") else re.sub(r"^src/|(/mod)?\.rt$", "", file).split("/")
+
+
+def functions(crate):
+    files = sorted(glob.glob("src/**/*.rt", root_dir=crate.folder, recursive=True))
+    texts = {it: text_of(f"{crate.folder}/{it}") for it in files}
+    homes = {name: module_of(it) for it in files for name in TYPE.findall(texts[it])}
+    types, found = sorted(homes, key=len, reverse=True), []
+    for file in files:
+        inside, lines = None, texts[file].split("\n")
+        for at, line in enumerate(lines):
+            if re.match(r"impl\b", line):
+                inside = Impl("\n".join(lines[at : at + 3]))
+            elif line.startswith("}"):
+                inside = None
+            head = HEAD.match(line)
+            if head and (inside or not head[1]):
+                # a method stands in the module of its type
+                own = next((it for it in types if inside and inside.name.startswith(it)), None)
+                found.append(Function(crate, file, lines, at, inside, homes.get(own, module_of(file))))
+    return found
