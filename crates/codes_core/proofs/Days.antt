@@ -11,7 +11,7 @@ use Rattle.jiff_core.proofs.CalendarLemmas.{days_in_month_bounds, days_from_civi
 use Rattle.jiff_core.proofs.MarchLemmas.{day_count-early}
 use Rattle.jiff_core.proofs.DateLemmas.{civil, epoch_day_injective, epoch_day_range}
 use Rattle.codes_core.specs.declared.fault.CodeFault.TheVariants.{NoSuchDay}
-use Rattle.codes_core.specs.Day.{is_day_shape, year_of, month_of, date_of, is_civil, day_number, SpellsDay, IsOnlySpelling, date_text}
+use Rattle.codes_core.specs.Day.{first_number, last_number, is_day_shape, year_of, month_of, date_of, is_civil, day_number, SpellsDay, IsOnlySpelling, date_text}
 use Rattle.codes_core.proofs.Texts.{no_fault}
 use Rattle.codes_core.proofs.DayTexts.{text_shape, year_back, month_back, date_back, day_parts, text_back, year_small}
 
@@ -20,14 +20,14 @@ year_one : day_count (pos 1) 1 1 ≡ 3652791
 year_one = day_count-early (pos 1) 10000 1 1 refl (omega arith) (omega arith) (omega arith)
 
 -- a day from 0001-01-01 on is of the year 1 or a later one
-pub year_positive : (d : Date) → negsuc 719161 ≤ℤ epoch_day d → pos 1 ≤ℤ d.year
+pub year_positive : (d : Date) → first_number ≤ℤ epoch_day d → pos 1 ≤ℤ d.year
 year_positive d h =
     by_lt_z d.year (pos 1)
     (λ lt. absurd (omega (arith, signed_arith, days_from_civil-day_count d.year d.month d.day, day_count-lt_year d.year d.month d.day (pos 1) 1 1 (civil d) (omega arith) lt, year_one)))
     (λ le. le)
 
 -- and the other way round
-pub number_low : (d : Date) → pos 1 ≤ℤ d.year → negsuc 719161 ≤ℤ epoch_day d
+pub number_low : (d : Date) → pos 1 ≤ℤ d.year → first_number ≤ℤ epoch_day d
 number_low d h =
     by_lt_z (pos 1) d.year
     (λ lt. omega (arith, signed_arith, days_from_civil-day_count d.year d.month d.day, day_count-later_year (pos 1) d.year (search rules) lt, day_count-day_of_year d.year d.month d.day d.day_in.0, year_one))
@@ -39,8 +39,8 @@ number_low d h =
 pub record IsMade (d : Date) (y m t : ℕ) : Type 0 where
   pub civil_is : is_civil y m t ≡ true
   pub number_is : epoch_day d ≡ days_from_civil (pos y) m t
-  pub low : negsuc 719161 ≤ℤ epoch_day d
-  pub high : epoch_day d ≤ℤ pos 2932896
+  pub low : first_number ≤ℤ epoch_day d
+  pub high : epoch_day d ≤ℤ last_number
 
 civil_true : (y m t k : ℕ) → 0 < y → (1 ≤ m) × (m ≤ 12) → (1 ≤ t) × (t ≤ k) → nat_lt 0 y && nat_lt 0 m && nat_le m 12 && nat_lt 0 t && nat_le t k ≡ true
 civil_true y m t k hy hm ht = grind (arith, nat_tests)
@@ -114,9 +114,9 @@ pos_abs (pos n) h = (refl, omega (arith, signed_arith))
 pos_abs (negsuc n) h = absurd (omega (arith, signed_arith))
 
 -- the text of a day's date is its only spelling
-pub only_spelling : (d : Date) (n : ℤ) → epoch_day d ≡ n → negsuc 719161 ≤ℤ n → IsOnlySpelling (date_text (unsigned_abs d.year) d.month d.day) n
+pub only_spelling : (d : Date) (n : ℤ) → epoch_day d ≡ n → first_number ≤ℤ n → IsOnlySpelling (date_text (unsigned_abs d.year) d.month d.day) n
 only_spelling d n same low =
-    let positive : pos 1 ≤ℤ d.year = year_positive d (subst (λ k. negsuc 719161 ≤ℤ k) (sym same) low) in
+    let positive : pos 1 ≤ℤ d.year = year_positive d (subst (λ k. first_number ≤ℤ k) (sym same) low) in
     let year = (pos_abs d.year positive).0 in
     let some = (pos_abs d.year positive).1 in
     subst (λ k. IsOnlySpelling (date_text (unsigned_abs d.year) d.month d.day) k) same

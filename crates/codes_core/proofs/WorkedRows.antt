@@ -1,5 +1,6 @@
 -- The definitions computed on worked texts: each code beside its nearest wrong neighbours.
 use Rattle.std.specs.Prelude.{◌≡◌, true, false, Some, None, [], refl, codes}
+use Rattle.codes_core.specs.declared.TheConstants.{LONGEST_NAME}
 use Rattle.codes_core.specs.declared.fault.CodeFault.TheVariants.{Empty, BadShape, BadNumber, NoSuchDay}
 use Rattle.codes_core.specs.declared.thing.ThingKind.TheVariants.{Own, Borrowed, Container}
 use Rattle.codes_core.specs.Thing.{thing_kind, thing_fault}
@@ -76,3 +77,6 @@ no_leap_day = refl
 
 pub short_month : day_fault (codes "2024-5-01") ≡ Some BadShape
 short_month = refl
+
+longest_name : LONGEST_NAME ≡ 60
+longest_name = refl

@@ -1,5 +1,5 @@
 -- Civil days (2024-05-01), each seen as its number from 1970-01-01.
-use Rattle.std.specs.Prelude.{ℕ, ℤ, pos, ◌≡◌, ◌+◌, ◌/◌, ◌%◌, ◌&&◌, ◌==◌, Bool, nat_lt, nat_le, List, [], ◌∷◌, ◌++◌, length, take, drop, slice_index, slice_range, Option, None}
+use Rattle.std.specs.Prelude.{ℕ, ℤ, pos, negsuc, ◌≡◌, ◌+◌, ◌/◌, ◌%◌, ◌&&◌, ◌==◌, Bool, nat_lt, nat_le, List, [], ◌∷◌, ◌++◌, length, take, drop, slice_index, slice_range, Option, None}
 use Rattle.std.specs.Char.{is_ascii_digit}
 use Rattle.std.specs.List.{list_all}
 use Rattle.jiff_core.specs.Calendar.{days_in_month, days_from_civil}
@@ -33,6 +33,13 @@ day_fault text = code_fault NoSuchDay (is_day_shape text) (is_civil (year_of tex
 
 abbrev pub day_number : List ℕ → ℤ
 day_number text = days_from_civil (pos (year_of text)) (month_of text) (date_of text)
+
+-- the numbers of 0001-01-01 and of 9999-12-31
+abbrev pub first_number : ℤ
+first_number = negsuc 719161
+
+abbrev pub last_number : ℤ
+last_number = pos 2932896
 
 -- the text spells the day of this number
 abbrev pub SpellsDay : List ℕ → ℤ → Type 0

@@ -1,6 +1,7 @@
 -- Names as people give them.
 use Rattle.std.specs.Prelude.{ℕ, ◌≡◌, ◌<◌, ◌≤◌, ◌==◌, ◌&&◌, not, nat_le, Bool, List, length, IsUtf8, IsTrue}
 use Rattle.std.specs.List.{list_all}
+use Rattle.codes_core.specs.declared.TheConstants.{LONGEST_NAME}
 use Rattle.codes_core.specs.declared.fault.NameFault.{NameFault}
 use Rattle.codes_core.specs.declared.fault.NameFault.TheVariants.{Empty, BadShape, NoMemory}
 
@@ -12,7 +13,7 @@ is_name_byte b = nat_le 32 b && not (b == 127)
 pub record IsName (text : List ℕ) : Type 0 where
   pub utf8 : IsUtf8 text
   pub some : 0 < length text
-  pub few : length text ≤ 60
+  pub few : length text ≤ LONGEST_NAME
   pub plain : IsTrue (list_all is_name_byte text)
 
 -- why the text is no name; a growth may be refused for any that is one

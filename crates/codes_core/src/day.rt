@@ -18,14 +18,14 @@ pub struct Day {
 }
 
 impl Model for Day {
-    ghost use Rattle.std.specs.Prelude.{ℤ, pos, negsuc, ◌≤ℤ◌};
+    ghost use Rattle.std.specs.Prelude.{ℤ, ◌≤ℤ◌};
+    ghost use Rattle.codes_core.specs.Day.{first_number, last_number};
 
     ghost Value = { ℤ };
 
     ghost view = { λ d. d.number };
 
-    // 0001-01-01 to 9999-12-31
-    ghost invariant = { λ d. (negsuc 719161 ≤ℤ d.number) × (d.number ≤ℤ pos 2932896) };
+    ghost invariant = { λ d. (first_number ≤ℤ d.number) × (d.number ≤ℤ last_number) };
 
     ghost inverse = { λ n. record { number = n } };
 }

@@ -20,3 +20,6 @@ pub use name::Name;
 pub use place::PlaceCode;
 pub use spelling::Spelling;
 pub use thing::{ThingCode, ThingKind};
+
+/// The most bytes of a name.
+pub const LONGEST_NAME: usize = 60;

@@ -3,7 +3,7 @@ ghost use Rattle.std.specs.Prelude.{◌≡◌, ◌++◌, OnOk, OnErr, IfOk, Matc
 ghost use Rattle.codes_core.specs.Name.{IsName, IsNameFault, is_name_byte};
 ghost use Rattle.std.specs.List.{list_all};
 
-use crate::{NameFault, NoMemory};
+use crate::{LONGEST_NAME, NameFault, NoMemory};
 use std::alloc::Global;
 use std::marker::Model;
 
@@ -33,7 +33,7 @@ impl Name {
         if bytes.is_empty() {
             return Err(NameFault::Empty);
         }
-        if bytes.len() > 60 || !are_name_bytes(bytes) {
+        if bytes.len() > LONGEST_NAME || !are_name_bytes(bytes) {
             return Err(NameFault::BadShape);
         }
         match str::from_utf8(bytes) {

@@ -12,6 +12,7 @@ use Rattle.codes_core.specs.Place.{place_fault}
 use Rattle.codes_core.specs.Thing.{thing_fault, thing_kind}
 use Rattle.codes_core.specs.declared.thing.ThingKind.{ThingKind}
 use Rattle.codes_core.specs.declared.thing.ThingKind.TheVariants.{Own, Borrowed, Container}
+use Rattle.nest_core.specs.declared.TheConstants.{MOST_STATIONS, MOST_PLACES, MOST_THINGS}
 use Rattle.nest_core.specs.Museum.{Museum, IsMuseum, find_station, find_place, find_thing, place_codes, thing_codes, has_right_normal, is_place_row, is_thing_row}
 use Rattle.nest_core.specs.SetupRows.{has_normal, is_right, lacks_normal, listing_fault, with_listed}
 use Rattle.nest_core.specs.declared.setup_fault.SetupFault.TheVariants.{TooMany, UnknownNormal}
@@ -49,7 +50,7 @@ thing_row_more n m row h e =
     rw (both.0, normal_more n m (thing_kind row.0) row.1 h both.1) refl
 
 -- one more station
-pub IsMuseum-station : (S : Museum) (name : List ℕ) → IsMuseum S → is_station_name name ≡ true → find_station S name ≡ None → length S.stations < 64
+pub IsMuseum-station : (S : Museum) (name : List ℕ) → IsMuseum S → is_station_name name ≡ true → find_station S name ≡ None → length S.stations < MOST_STATIONS
     → IsMuseum (record S { stations = S.stations ++ name ∷ [] })
 IsMuseum-station S name is right none few = record {
   names = all_push is_station_name S.stations name is.names right;
@@ -64,7 +65,7 @@ IsMuseum-station S name is right none few = record {
 }
 
 -- one more place
-pub IsMuseum-place : (S : Museum) (code : List ℕ) (inside : Bool) → IsMuseum S → is_none (place_fault code) ≡ true → find_place S code ≡ None → length S.places < 10000
+pub IsMuseum-place : (S : Museum) (code : List ℕ) (inside : Bool) → IsMuseum S → is_none (place_fault code) ≡ true → find_place S code ≡ None → length S.places < MOST_PLACES
     → IsMuseum (record S { places = S.places ++ (code, inside) ∷ [] })
 IsMuseum-place S code inside is right none few =
     let more = length-append S.places ((code, inside) ∷ []) in
@@ -83,7 +84,7 @@ IsMuseum-place S code inside is right none few =
     }
 
 -- one more thing
-pub IsMuseum-thing : (S : Museum) (code : List ℕ) (normal : Option ℕ) → IsMuseum S → is_thing_row (length S.places) (code, normal) ≡ true → find_thing S code ≡ None → length S.things < 100000
+pub IsMuseum-thing : (S : Museum) (code : List ℕ) (normal : Option ℕ) → IsMuseum S → is_thing_row (length S.places) (code, normal) ≡ true → find_thing S code ≡ None → length S.things < MOST_THINGS
     → IsMuseum (record S { things = S.things ++ (code, normal) ∷ [] })
 IsMuseum-thing S code normal is right none few =
     let more = length-append S.things ((code, normal) ∷ []) in
@@ -128,21 +129,21 @@ thing_row_right S code normal right found =
 few_left : (n limit : ℕ) → n < limit → nat_le limit n ≡ false
 few_left n limit h = grind (arith, nat_tests)
 
-place_fits : (S : Museum) (n : ℕ) (code : List ℕ) (inside : Bool) → find_place S code ≡ None → length S.places < 10000 → listing_fault S n (lists.Place code inside) ≡ None
-place_fits S n code inside none few = rw (none, few_left (length S.places) 10000 few) refl
+place_fits : (S : Museum) (n : ℕ) (code : List ℕ) (inside : Bool) → find_place S code ≡ None → length S.places < MOST_PLACES → listing_fault S n (lists.Place code inside) ≡ None
+place_fits S n code inside none few = rw (none, few_left (length S.places) MOST_PLACES few) refl
 
-thing_fits : (S : Museum) (n : ℕ) (code : List ℕ) (normal : Option (List ℕ)) → find_thing S code ≡ None → lacks_normal S (lists.Thing code normal) ≡ false → length S.things < 100000
+thing_fits : (S : Museum) (n : ℕ) (code : List ℕ) (normal : Option (List ℕ)) → find_thing S code ≡ None → lacks_normal S (lists.Thing code normal) ≡ false → length S.things < MOST_THINGS
     → listing_fault S n (lists.Thing code normal) ≡ None
-thing_fits S n code normal none found few = rw (none, found, few_left (length S.things) 100000 few) refl
+thing_fits S n code normal none found few = rw (none, found, few_left (length S.things) MOST_THINGS few) refl
 
 -- what has no fault goes last
-pub place_added : (S B : Museum) (n : ℕ) (code : List ℕ) (inside : Bool) → S ≡ B → find_place S code ≡ None → length S.places < 10000
+pub place_added : (S B : Museum) (n : ℕ) (code : List ℕ) (inside : Bool) → S ≡ B → find_place S code ≡ None → length S.places < MOST_PLACES
     → (listing_fault B n (lists.Place code inside) ≡ None) × (record S { places = S.places ++ (code, inside) ∷ [] } ≡ with_listed B (lists.Place code inside))
 place_added S B n code inside is none few =
     subst (λ (m : Museum). (listing_fault m n (lists.Place code inside) ≡ None) × (record S { places = S.places ++ (code, inside) ∷ [] } ≡ with_listed m (lists.Place code inside))) is
     (place_fits S n code inside none few, refl)
 
-pub thing_added : (S B : Museum) (n : ℕ) (code : List ℕ) (normal : Option (List ℕ)) → S ≡ B → find_thing S code ≡ None → lacks_normal S (lists.Thing code normal) ≡ false → length S.things < 100000
+pub thing_added : (S B : Museum) (n : ℕ) (code : List ℕ) (normal : Option (List ℕ)) → S ≡ B → find_thing S code ≡ None → lacks_normal S (lists.Thing code normal) ≡ false → length S.things < MOST_THINGS
     → (listing_fault B n (lists.Thing code normal) ≡ None)
     × (record S { things = S.things ++ (code, option_and_then (find_place S) normal) ∷ [] } ≡ with_listed B (lists.Thing code normal))
 thing_added S B n code normal is none found few =
@@ -169,6 +170,6 @@ none_left : (n limit : ℕ) → limit ≤ n → nat_le limit n ≡ true
 none_left n limit h = grind (arith, nat_tests)
 
 -- no more things fit
-pub things_full : (S : Museum) (n : ℕ) (code : List ℕ) (normal : Option (List ℕ)) → find_thing S code ≡ None → lacks_normal S (lists.Thing code normal) ≡ false → 100000 ≤ length S.things
+pub things_full : (S : Museum) (n : ℕ) (code : List ℕ) (normal : Option (List ℕ)) → find_thing S code ≡ None → lacks_normal S (lists.Thing code normal) ≡ false → MOST_THINGS ≤ length S.things
     → listing_fault S n (lists.Thing code normal) ≡ Some (TooMany n)
-things_full S n code normal none found most = rw (none, found, none_left (length S.things) 100000 most) refl
+things_full S n code normal none found most = rw (none, found, none_left (length S.things) MOST_THINGS most) refl

@@ -2,6 +2,7 @@
 use Rattle.std.specs.Prelude.{◌≡◌, List, ℕ, [], ◌∷◌, map, true, false, None, Some, codes, refl}
 use Rattle.csv.specs.Machine.{next_record}
 use Rattle.csv.specs.Reading.{records_from, strip_bom}
+use Rattle.nest_core.specs.declared.TheConstants.{MOST_STATIONS, MOST_PLACES, MOST_THINGS}
 use Rattle.nest_core.specs.Museum.{Museum}
 use Rattle.nest_core.specs.SetupRows.{first_fault, museum_of, rows_of}
 use Rattle.nest_core.specs.SetupTexts.{setup_rows}
@@ -21,6 +22,15 @@ museum = record {
   places = (codes "S1", true) ∷ (codes "MUSEUM-X", false) ∷ [];
   things = (codes "C1", None) ∷ (codes "2001.4.1", Some 0) ∷ (codes "L1999.7", None) ∷ [];
 }
+
+most_stations : MOST_STATIONS ≡ 64
+most_stations = refl
+
+most_places : MOST_PLACES ≡ 10000
+most_places = refl
+
+most_things : MOST_THINGS ≡ 100000
+most_things = refl
 
 pub a_museum : museum_of (rows_of file) ≡ museum
 unfolding next_record records_from strip_bom

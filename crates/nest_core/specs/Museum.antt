@@ -7,6 +7,7 @@ use Rattle.codes_core.specs.Thing.{thing_fault, thing_kind}
 use Rattle.codes_core.specs.Place.{place_fault}
 use Rattle.codes_core.specs.declared.thing.ThingKind.{ThingKind}
 use Rattle.codes_core.specs.declared.thing.ThingKind.TheVariants.{Own, Borrowed, Container}
+use Rattle.nest_core.specs.declared.TheConstants.{MOST_STATIONS, MOST_PLACES, MOST_THINGS}
 use Rattle.nest_core.specs.StationName.{is_station_name}
 
 -- stations by name; places by code, each inside the museum or elsewhere; things by code, an own object with its normal place
@@ -116,6 +117,6 @@ pub record IsMuseum (S : Museum) : Type 0 where
   pub each_station : (s : ℕ) (name : List ℕ) → station_name_of S s ≡ Some name → find_station S name ≡ Some s
   pub each_place : (p : ℕ) (code : List ℕ) → place_code_of S p ≡ Some code → find_place S code ≡ Some p
   pub each_thing : (x : ℕ) (code : List ℕ) → thing_code_of S x ≡ Some code → find_thing S code ≡ Some x
-  pub few_stations : length S.stations ≤ 64
-  pub few_places : length S.places ≤ 10000
-  pub few_things : length S.things ≤ 100000
+  pub few_stations : length S.stations ≤ MOST_STATIONS
+  pub few_places : length S.places ≤ MOST_PLACES
+  pub few_things : length S.things ≤ MOST_THINGS

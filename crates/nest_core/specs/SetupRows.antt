@@ -7,6 +7,7 @@ use Rattle.codes_core.specs.Thing.{thing_fault, thing_kind}
 use Rattle.codes_core.specs.Place.{place_fault}
 use Rattle.codes_core.specs.declared.thing.ThingKind.{ThingKind}
 use Rattle.codes_core.specs.declared.thing.ThingKind.TheVariants.{Own, Borrowed, Container}
+use Rattle.nest_core.specs.declared.TheConstants.{MOST_STATIONS, MOST_PLACES, MOST_THINGS}
 use Rattle.nest_core.specs.Museum.{Museum, no_museum, find_station, find_place, find_thing, is_own_kind, is_borrowed_kind, is_container_kind}
 use Rattle.nest_core.specs.StationName.{is_station_name}
 use Rattle.nest_core.specs.declared.setup_fault.SetupFault.{SetupFault}
@@ -111,11 +112,11 @@ lacks_normal S (lists.Station name) = false
 lacks_normal S (lists.Place code inside) = false
 lacks_normal S (lists.Thing code normal) = option_map_or (λ place. is_none (find_place S place)) normal false
 
--- no more of its sort fit: 64 stations, 10,000 places, 100,000 things
+-- no more of its sort fit
 abbrev pub is_full : Museum → SetupRow → Bool
-is_full S (lists.Station name) = nat_le 64 (length S.stations)
-is_full S (lists.Place code inside) = nat_le 10000 (length S.places)
-is_full S (lists.Thing code normal) = nat_le 100000 (length S.things)
+is_full S (lists.Station name) = nat_le MOST_STATIONS (length S.stations)
+is_full S (lists.Place code inside) = nat_le MOST_PLACES (length S.places)
+is_full S (lists.Thing code normal) = nat_le MOST_THINGS (length S.things)
 
 -- the station, place or thing of one more row goes last
 abbrev pub with_listed : Museum → SetupRow → Museum

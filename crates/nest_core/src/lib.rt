@@ -19,3 +19,12 @@ pub use setup::{PlaceNo, Setup, StationNo, ThingNo};
 pub use setup_fault::SetupFault;
 pub use steps::Steps;
 pub use thing_nos::{Moved, ThingNos};
+
+/// The most stations of a setup.
+pub const MOST_STATIONS: usize = 64;
+
+/// The most places of a setup.
+pub const MOST_PLACES: usize = 10_000;
+
+/// The most things of a setup.
+pub const MOST_THINGS: usize = 100_000;

@@ -1,5 +1,5 @@
 //! The setup: what the museum lists, and the look-ups in it.
-ghost use Rattle.std.specs.Prelude.{◌≡◌, ◌≢◌, ◌<◌, ◌≤◌, true, length, None, Some, IfSome, OnOk, IfErr};
+ghost use Rattle.std.specs.Prelude.{◌≡◌, ◌≢◌, ◌<◌, ◌≤◌, ◌+◌, true, length, None, Some, IfSome, OnOk, IfErr};
 ghost use Rattle.std.specs.Option.{option_and_then};
 ghost use Rattle.nest_core.specs.Museum.{IsMuseum, find_station, find_place, find_thing, station_name_of, place_code_of, thing_code_of, is_inside, kind_of, normal_of, row_count, no_museum};
 ghost use Rattle.nest_core.specs.SetupRows.{is_place_code, is_right, listing_fault, with_listed};
@@ -8,6 +8,7 @@ ghost use Rattle.nest_core.specs.StationName.{is_station_name};
 use crate::setup_fault::SetupFault;
 use crate::setup_row::SetupRow;
 use crate::station_name::StationName;
+use crate::{MOST_PLACES, MOST_STATIONS, MOST_THINGS};
 use codes_core::{PlaceCode, ThingCode, ThingKind};
 use indexmap::{IndexMap, IndexSet};
 use std::alloc::Global;
@@ -53,7 +54,7 @@ impl Setup {
     /// How many stations there are.
     pub fn stations(&self) -> u32
         ensures count { result ≡ length self.now.stations }
-        ensures few { result ≤ 64 }
+        ensures few { result ≤ MOST_STATIONS }
     {
         self.stations.len() as u32
     }
@@ -61,7 +62,7 @@ impl Setup {
     /// How many places there are.
     pub fn places(&self) -> u32
         ensures count { result ≡ length self.now.places }
-        ensures few { result ≤ 10000 }
+        ensures few { result ≤ MOST_PLACES }
     {
         self.places.len() as u32
     }
@@ -69,7 +70,7 @@ impl Setup {
     /// How many things there are.
     pub fn things(&self) -> u32
         ensures count { result ≡ length self.now.things }
-        ensures few { result ≤ 100000 }
+        ensures few { result ≤ MOST_THINGS }
     {
         self.things.len() as u32
     }
@@ -77,7 +78,7 @@ impl Setup {
     /// How many rows list it: one for each station, place and thing.
     pub fn rows(&self) -> u32
         ensures count { result ≡ row_count self.now }
-        ensures few { result ≤ 110064 }
+        ensures few { result ≤ MOST_STATIONS + MOST_PLACES + MOST_THINGS }
     {
         self.stations() + self.places() + self.things()
     }
@@ -193,7 +194,7 @@ impl Setup {
         if self.stations.get_index_of(&name).is_some() {
             return Err(SetupFault::Repeated(number));
         }
-        if self.stations.len() >= 64 {
+        if self.stations.len() >= MOST_STATIONS {
             return Err(SetupFault::TooMany(number));
         }
         self.stations.insert(name)?;
@@ -208,7 +209,7 @@ impl Setup {
         if self.places.get_index_of(&code).is_some() {
             return Err(SetupFault::Repeated(number));
         }
-        if self.places.len() >= 10000 {
+        if self.places.len() >= MOST_PLACES {
             return Err(SetupFault::TooMany(number));
         }
         self.places.insert(code, inside)?;
@@ -242,7 +243,7 @@ impl Setup {
         if normal.is_some() && normal_no.is_none() {
             return Err(SetupFault::UnknownNormal(number));
         }
-        if self.things.len() >= 100000 {
+        if self.things.len() >= MOST_THINGS {
             return Err(SetupFault::TooMany(number));
         }
         self.things.insert(code, normal_no)?;

@@ -3,8 +3,8 @@ use Rattle.std.specs.Prelude.{ℕ, ℤ, ◌≡◌, Bool, true, false, not, cond,
 use Rattle.std.specs.List.{find, list_any, AllByRecursion}
 use Rattle.std.specs.Option.{option_or, option_to_list}
 use Rattle.std.specs.Str.{bytes_eq}
-use Rattle.std.proofs.Common.{ap, ◌∙◌, sym, subst}
-use Rattle.std.proofs.lemmas.Bool.{not-false, false≢true}
+use Rattle.std.proofs.Common.{ap, ◌∙◌, sym, subst, rules}
+use Rattle.std.proofs.lemmas.Bool.{not-false}
 use Rattle.std.proofs.lemmas.Bool.Decides.{same_from_decides}
 use Rattle.std.proofs.lemmas.List.{append-nil}
 use Rattle.std.proofs.lemmas.List.Folds.{find-append}
@@ -46,8 +46,9 @@ pub record IsSound (S : Museum) (t : Agreement) : Type 0 where
 pub agree_applied : (S : Museum) (depth : ℕ) (P : List Entry) (m : Message) (t : Agreement) → verdict S depth P m ≡ Applied → agreement_in m ≡ Some t → (agreement P t.loan ≡ None) × IsSound S t
 agree_applied S depth P (Agree loan partner objects first last) t applied is =
     let none = none_holds (agree_rows S P loan partner objects first last) refl applied in
+    let new : agreement P loan ≡ None = let agreed : is_some (agreement P loan) ≡ false = none.1.1.0 in search rules in
     subst (λ u. (agreement P u.loan ≡ None) × IsSound S u) (same_Some _ _ is) (
-      unfound (agreement P loan) none.1.1.0,
+      new,
       record {
         known = none.0;
         partner = not-false (is_known_place S partner) none.1.0;
@@ -57,10 +58,6 @@ agree_applied S depth P (Agree loan partner objects first last) t applied is =
         owned = none.1.1.1.1.1.1.1.0;
       },
     )
-  where
-    unfound : (o : Option Agreement) → is_some o ≡ false → o ≡ None
-    unfound None h = refl
-    unfound (Some u) h = absurd (false≢true (sym h))
 agree_applied S depth P _ t applied is = absurd (none-some _ is)
 
 -- each agreement keeps to the rules

@@ -14,11 +14,10 @@ use Rattle.nest_core.specs.Puts.{is_among}
 use Rattle.posting_core.specs.declared.entry.Entry.{Entry}
 use Rattle.posting_core.specs.declared.stage.LineStage.{LineStage}
 use Rattle.posting_core.specs.declared.verdict.Verdict.{Verdict}
-use Rattle.posting_core.specs.declared.verdict.Verdict.TheVariants.{NotListed, WrongStage, TermOver}
 use Rattle.posting_core.specs.Messages.{place_no}
 use Rattle.posting_core.specs.Agreements.{Agreement, agreements, agreement, loans, is_agreed, is_authorised, last_day, last_from}
 use Rattle.posting_core.specs.Loans.{stage, objects_of, objects, line, loan_state, state_by}
-use Rattle.posting_core.specs.Verdicts.{first_of, ◌if◌, stage_eq, is_listed, is_at_stage}
+use Rattle.posting_core.specs.Verdicts.{first_of, line_rows}
 use Rattle.posting_core.specs.Lawful.{IsLawful}
 use Rattle.posting_core.specs.LoanRows.{LoanRow, loan_row, loan_rows, line_of, state_of}
 use Rattle.posting_core.proofs.Agreed.{AreApart, agreements_apart, found_is}
@@ -77,11 +76,8 @@ row_is S P loan rows r kept is =
 
 -- what crosses is judged by the loan's row as by looking back
 pub judged_by_row : (S : Museum) (P : List Entry) (loan : List ℕ) (row : LoanRow) (os : List ℕ) (wanted : LineStage) (late : Bool) (r : Result Verdict NoMemory) → ((o : ℕ) → line_of row o ≡ line S P loan o) →
-    IfOk r (λ v. v ≡ first_of ((NotListed if list_any (λ o. not (is_some (line_of row o))) os) ∷ (WrongStage if list_any (λ o. not (option_map_or (stage_eq wanted) (line_of row o) false)) os) ∷ (TermOver if late) ∷ [])) →
-    IfOk r (λ v. v ≡ first_of ((NotListed if list_any (λ o. not (is_listed S P loan o)) os) ∷ (WrongStage if list_any (λ o. not (is_at_stage S P loan wanted o)) os) ∷ (TermOver if late) ∷ []))
-judged_by_row S P loan row os wanted late r same h =
-    subst (λ (lines : ℕ → Option LineStage). IfOk r (λ v. v ≡ first_of ((NotListed if list_any (λ o. not (is_some (lines o))) os) ∷ (WrongStage if list_any (λ o. not (option_map_or (stage_eq wanted) (lines o) false)) os) ∷ (TermOver if late) ∷ [])))
-    (fun_ext same) h
+    IfOk r (λ v. v ≡ first_of (line_rows (line_of row) wanted os late)) → IfOk r (λ v. v ≡ first_of (line_rows (line S P loan) wanted os late))
+judged_by_row S P loan row os wanted late r same h = subst (λ (lines : ℕ → Option LineStage). IfOk r (λ v. v ≡ first_of (line_rows lines wanted os late))) (fun_ext same) h
 
 -- a loan that isn't agreed has no row
 pub row_missing : (S : Museum) (P : List Entry) (rows : List LoanRow) (loan : List ℕ) → rows ≡ loan_rows S P → agreement P loan ≡ None → find (λ row. bytes_eq loan row.loan) rows ≡ None

@@ -4,7 +4,7 @@ use Rattle.std.specs.Borrow.{Bor}
 use Rattle.std.specs.List.{find}
 use Rattle.std.specs.Str.{bytes_eq}
 use Rattle.std.specs.Option.{option_map, option_to_list}
-use Rattle.std.proofs.Common.{ap, ◌∙◌, sym, subst, arith, length-set}
+use Rattle.std.proofs.Common.{ap, ◌∙◌, sym, subst, arith}
 use Rattle.std.proofs.lemmas.Bool.{false≢true}
 use Rattle.std.proofs.lemmas.List.{append-nil, length-replicate, length-map}
 use Rattle.std.proofs.lemmas.Option.{IfSome_then}
@@ -34,6 +34,7 @@ use Rattle.posting_core.proofs.Agreed.{IsSound, agree_applied}
 use Rattle.posting_core.proofs.Lined.{rows_after_entry}
 use Rattle.posting_core.proofs.LoanAnswers.{IsRowOf, row_is, row_missing, code_at, objects_at}
 use Rattle.posting_core.proofs.Placed.{put_allowed, may_go, chain_below}
+use Rattle.posting_core.proofs.Rooms.{rows_length}
 use Rattle.posting_core.proofs.Written.{rows_written, chosen_spot, own_spot, same_place, own_ascending}
 
 -- the book that a ledger's fields make
@@ -106,10 +107,6 @@ news_ascending S P v m = elim (is_applied v) as (λ b. AreAscending 0 (length S.
   | true ↦ own_ascending (spot_for S P m) 0 0 (length S.things) (length S.things) (λ y s h. own_spot (length P + 1) (length (spots S P y)) (place_at S P y) (place_after S P m y) (day_of m) y s h) (omega arith) (omega arith)
   | false ↦ tt
 ]
-
-rows_length : (R : List (List Spot)) (ss : List NewSpot) → length (rows_after R ss) ≡ length R
-rows_length R [] = refl
-rows_length R (s ∷ ss) = rows_length (slice_set R s.thing (row_of R s.thing ++ s.spot ∷ [])) ss ∙ length-set R s.thing (row_of R s.thing ++ s.spot ∷ [])
 
 -- a message that agrees a loan puts nothing anywhere
 unplaced : (S : Museum) (P : List Entry) (v : Verdict) (m : Message) → is_some (agreement_in m) ≡ true → put_by S P v m ≡ None

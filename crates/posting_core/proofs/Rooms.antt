@@ -1,10 +1,10 @@
 -- Room in the rows of spots, and what a write to one row leaves of the others.
 use Rattle.std.specs.Prelude.{ℕ, ◌≡◌, ◌+◌, ◌<◌, ◌≤◌, List, [], ◌∷◌, ◌++◌, Some, length, All, refl, IfSome, slice_get, slice_set, Vec, vec_len, vec_capacity}
-use Rattle.std.proofs.Common.{ap, ◌∙◌, sym, subst, arith, inl, inr}
+use Rattle.std.proofs.Common.{ap, ◌∙◌, sym, subst, arith, inl, inr, get_or, length-set}
 use Rattle.std.proofs.lemmas.Bool.{cases_eq}
-use Rattle.std.proofs.lemmas.List.Elements.{All-nil, All-cons, All-head, All-tail}
+use Rattle.std.proofs.lemmas.List.Elements.{All-nil, All-cons, All-head, All-tail, All-get_or}
 use Rattle.std.proofs.lemmas.Option.{slice_get-map}
-use Rattle.std.proofs.lemmas.List.{map-set}
+use Rattle.std.proofs.lemmas.List.{map-set, length-map}
 use Rattle.std.specs.declared.alloc.Global.{Global}
 use Rattle.nest_core.proofs.Writes.{get_set_same, get_set_other}
 use Rattle.posting_core.specs.declared.entry.Spot.{Spot}
@@ -26,6 +26,14 @@ row_written rows s ss old new less at items =
     ∙ ap (slice_set (lists rows) s.thing) (items ∙ ap (λ (front : List Spot). front ++ s.spot ∷ [])
     (sym (let row : row_of (lists rows) s.thing ≡ old.items = rw (slice_get-map (λ (v : Vec Spot Global). v.items) rows s.thing, at) refl in row))))
 
+-- as many rows stand after what is written
+pub rows_length : (R : List (List Spot)) (ss : List NewSpot) → length (rows_after R ss) ≡ length R
+rows_length R [] = refl
+rows_length R (s ∷ ss) = rows_length (slice_set R s.thing (row_of R s.thing ++ s.spot ∷ [])) ss ∙ length-set R s.thing (row_of R s.thing ++ s.spot ∷ [])
+
+pub same_count : (rows rows' : List (Vec Spot Global)) → length (lists rows') ≡ length (lists rows) → length rows' ≡ length rows
+same_count rows rows' same = sym (length-map rows' (λ row. row.items)) ∙ same ∙ length-map rows (λ row. row.items)
+
 -- a write to an earlier row leaves the others ready
 pub ready_kept : (rows rows' : List (Vec Spot Global)) (t : ℕ) → length rows' ≡ length rows → ((x : ℕ) → t < x → HasRoom rows x → HasRoom rows' x) →
     (from : ℕ) (ss : List NewSpot) → t < from → AreReady rows from ss → AreReady rows' from ss
@@ -33,9 +41,13 @@ ready_kept rows rows' t same kept from [] later ready = tt
 ready_kept rows rows' t same kept from (s ∷ ss) later (low, within, room, rest) =
     (low, omega arith, kept s.thing (omega arith) room, ready_kept rows rows' t same kept (s.thing + 1) ss (omega arith) rest)
 
-pub ascending_within : (from things : ℕ) (ss : List NewSpot) → AreAscending from things ss → All (λ s. s.thing < things) ss
+ascending_within : (from things : ℕ) (ss : List NewSpot) → AreAscending from things ss → All (λ s. s.thing < things) ss
 ascending_within from things [] h = All-nil (λ (s : NewSpot). s.thing < things)
 ascending_within from things (s ∷ ss) (low, less, rest) = All-cons (λ (t : NewSpot). t.thing < things) s ss less (ascending_within (s.thing + 1) things ss rest)
+
+-- a listed thing has a row
+pub row_there : (things : ℕ) (news : List NewSpot) (i : ℕ) (d : NewSpot) → AreAscending 0 things news → i < length news → (get_or news i d).thing < things
+row_there things news i d ascending less = All-get_or (λ s. s.thing < things) news i d less (ascending_within 0 things news ascending)
 
 pub all_ready : (rows : List (Vec Spot Global)) (from : ℕ) (ss : List NewSpot) → AreAscending from (length rows) ss → All (λ s. HasRoom rows s.thing) ss → AreReady rows from ss
 all_ready rows from [] h room = tt

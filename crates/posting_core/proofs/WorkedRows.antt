@@ -3,6 +3,7 @@ use Rattle.std.specs.Prelude.{ℕ, ℤ, pos, ◌+◌, ◌≡◌, ◌<◌, ◌≤
 use Rattle.std.proofs.Common.{arith, sym}
 use Rattle.nest_core.specs.declared.put.Target.TheVariants.{At}
 use Rattle.nest_core.specs.Museum.{Museum}
+use Rattle.posting_core.specs.declared.TheConstants.{MOST_OBJECTS}
 use Rattle.posting_core.specs.declared.message.Message.{Message}
 use Rattle.posting_core.specs.declared.message.Message.TheVariants.{Move, SignOff}
 use Rattle.posting_core.specs.declared.verdict.Verdict.{Verdict}
@@ -231,6 +232,9 @@ sign_off-spots = refl
 
 sign_off-signed : map (λ station. is_signed_off station sign_off) (pack ∷ gal ∷ []) ≡ false ∷ true ∷ []
 sign_off-signed = refl
+
+most_objects : MOST_OBJECTS ≡ 256
+most_objects = refl
 
 -- which lists the rules let stand
 

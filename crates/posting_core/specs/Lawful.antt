@@ -2,6 +2,7 @@
 use Rattle.std.specs.Prelude.{ℕ, ◌≡◌, ◌+◌, ◌<◌, ◌≤◌, ◌==◌, ◌&&◌, Bool, false, List, [], ◌∷◌, length, if◌then◌else◌}
 use Rattle.std.specs.List.{list_any}
 use Rattle.nest_core.specs.Museum.{Museum}
+use Rattle.posting_core.specs.declared.TheConstants.{LAST_NUMBER}
 use Rattle.posting_core.specs.declared.entry.Entry.{Entry}
 use Rattle.posting_core.specs.Messages.{is_sign_off}
 use Rattle.posting_core.specs.Verdicts.{verdict}
@@ -15,11 +16,11 @@ count_at station (e ∷ P) = (if e.station == station then 1 else 0) + count_at 
 abbrev pub is_signed_off : ℕ → List Entry → Bool
 is_signed_off station P = list_any (λ e. (e.station == station) && is_sign_off e.message) P
 
--- the entry may follow P: it has the next number of a station of the setup, at most 999,999, after no sign-off, and its verdict over P
+-- the entry may follow P: it has the next number of a station of the setup, at most the last, after no sign-off, and its verdict over P
 pub record Follows (S : Museum) (depth : ℕ) (P : List Entry) (e : Entry) : Type 0 where
   pub known : e.station < length S.stations
   pub next : e.n ≡ count_at e.station P + 1
-  pub few : e.n ≤ 999999
+  pub few : e.n ≤ LAST_NUMBER
   pub unsigned : is_signed_off e.station P ≡ false
   pub judged : e.verdict ≡ verdict S depth P e.message
 

@@ -26,13 +26,14 @@ pub record Crossing : Type 0 where
   pub stage : LineStage
 
 -- an exit under a loan out takes objects away; one under a loan in gives them back
+abbrev pub wanted_by_exit : List ℕ → LineStage
+wanted_by_exit loan = if is_out loan then Awaiting else Here
+
+abbrev pub exit_stage : List ℕ → LineStage
+exit_stage loan = if is_out loan then Away else GivenBack
+
 abbrev pub exit_of : List ℕ → List ℕ → Crossing
-exit_of x loan = record {
-  thing = x;
-  loan = loan;
-  wanted = if is_out loan then Awaiting else Here;
-  stage = if is_out loan then Away else GivenBack;
-}
+exit_of x loan = record { thing = x; loan = loan; wanted = wanted_by_exit loan; stage = exit_stage loan }
 
 -- a return takes back what a loan out took away
 abbrev pub return_of : List ℕ → List ℕ → Crossing
@@ -53,9 +54,13 @@ crossing_in (Receive x loan p day) = Some (receive_of x loan)
 crossing_in (SignOff name) = None
 crossing_in (Extend loan last) = None
 
--- the objects among what a thing carries, itself too where it is one
+-- the objects among what thing x carries, itself too where it is one
+abbrev pub objects_with : Museum → List Entry → ℕ → List ℕ
+objects_with S P x = filter (λ o. not (is_container S o)) (carried_at S P x)
+
+-- those with the thing of a code
 abbrev pub objects_in : Museum → List Entry → List ℕ → List ℕ
-objects_in S P x = filter (λ o. not (is_container S o)) (carried_at S P (thing_no S x))
+objects_in S P code = objects_with S P (thing_no S code)
 
 -- the stage that an object's line gets by an entry after P, where it crosses under the loan in it
 abbrev pub stage_by : Museum → List Entry → Message → List ℕ → ℕ → Option LineStage

@@ -138,13 +138,29 @@ is_listed S P loan o = is_some (line S P loan o)
 abbrev pub is_at_stage : Museum → List Entry → List ℕ → LineStage → ℕ → Bool
 is_at_stage S P loan wanted o = option_map_or (stage_eq wanted) (line S P loan o) false
 
+-- some of these objects has no line, where `lines` says which line each has
+abbrev pub any_unlisted : (ℕ → Option LineStage) → List ℕ → Bool
+any_unlisted lines objects = list_any (λ o. not (is_some (lines o))) objects
+
+-- some of them has no line at the stage wanted
+abbrev pub any_not_at : (ℕ → Option LineStage) → LineStage → List ℕ → Bool
+any_not_at lines wanted objects = list_any (λ o. not (option_map_or (stage_eq wanted) (lines o) false)) objects
+
+-- the last rows of what crosses: of its objects' lines, and of the loan's last day where that is asked
+abbrev pub line_rows : (ℕ → Option LineStage) → LineStage → List ℕ → Bool → List Row
+line_rows lines wanted objects late =
+    (NotListed if any_unlisted lines objects)
+    ∷ (WrongStage if any_not_at lines wanted objects)
+    ∷ (TermOver if late)
+    ∷ []
+
 -- some object among what crosses isn't on the loan's list
 abbrev pub carries_unlisted : Museum → List Entry → Crossing → Bool
-carries_unlisted S P c = list_any (λ o. not (is_listed S P c.loan o)) (objects_in S P c.thing)
+carries_unlisted S P c = any_unlisted (line S P c.loan) (objects_in S P c.thing)
 
 -- some object among what crosses has no line at the stage wanted
 abbrev pub carries_wrong_stage : Museum → List Entry → Crossing → Bool
-carries_wrong_stage S P c = list_any (λ o. not (is_at_stage S P c.loan c.wanted o)) (objects_in S P c.thing)
+carries_wrong_stage S P c = any_not_at (line S P c.loan) c.wanted (objects_in S P c.thing)
 
 -- the day is after the loan's last day
 abbrev pub is_over : List Entry → List ℕ → ℤ → Bool

@@ -213,8 +213,8 @@ impl Ledger {
     }
 
     /// Posts an entry with what it changes, as `plan` told it for the entry's message on this ledger. The entry's
-    /// station is in the setup and has not signed off, its number is the station's next and at most 999,999, and its
-    /// verdict is that of `judge`.
+    /// station is in the setup and has not signed off, its number is the station's next and at most [`LAST_NUMBER`], and
+    /// its verdict is that of `judge`.
     ///
     /// All growths come first: after NoMemory the ledger is unchanged, and the entry and its changes are dropped.
     pub fn apply(&mut self, alloc: Global, entry: Entry, changes: Changes) -> Result<(), NoMemory>

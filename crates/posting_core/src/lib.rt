@@ -21,3 +21,9 @@ pub use message::Message;
 pub use objects::Objects;
 pub use stage::{LineStage, LoanState};
 pub use verdict::Verdict;
+
+/// The most objects of a loan.
+pub const MOST_OBJECTS: usize = 256;
+
+/// The greatest number of an entry among its station's.
+pub const LAST_NUMBER: u32 = 999_999;

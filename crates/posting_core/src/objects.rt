@@ -1,14 +1,12 @@
 //! The objects that a loan lists.
 ghost use Rattle.std.specs.Prelude.{◌≡◌, ◌<◌, ◌≤◌, length, Vec, MatchResult, IfOk};
 
+use crate::MOST_OBJECTS;
 use codes_core::{NoMemory, ThingCode};
 use std::alloc::Global;
 use std::marker::Model;
 
-/// The most objects that a loan lists.
-const MOST: usize = 256;
-
-/// The codes that a loan lists, in the order given; at most 256. Seen as their list.
+/// The codes that a loan lists, in the order given; at most [`MOST_OBJECTS`]. Seen as their list.
 #[derive(Drop)]
 pub struct Objects {
     codes: Vec<ThingCode>,
@@ -16,21 +14,22 @@ pub struct Objects {
 
 impl Model for Objects {
     ghost use Rattle.std.specs.Prelude.{List, ℕ, ◌≤◌, length};
+    ghost use Rattle.posting_core.specs.declared.TheConstants.{MOST_OBJECTS};
 
     ghost Value = { List (List ℕ) };
 
     ghost view = { λ o. o.codes.items };
 
-    ghost invariant = { λ o. length o.codes.items ≤ 256 };
+    ghost invariant = { λ o. length o.codes.items ≤ MOST_OBJECTS };
 }
 
 impl Objects {
-    /// These codes, of any kind; more than 256 are handed back.
+    /// These codes, of any kind; more than [`MOST_OBJECTS`] are handed back.
     pub fn new(codes: Vec<ThingCode>) -> Result<Objects, Vec<ThingCode>>
-        ensures { MatchResult result (λ objects. (objects ≡ codes.items) × (length codes.items ≤ 256))
-            (λ back. (back ≡ codes) × (256 < length codes.items)) }
+        ensures { MatchResult result (λ objects. (objects ≡ codes.items) × (length codes.items ≤ MOST_OBJECTS))
+            (λ back. (back ≡ codes) × (MOST_OBJECTS < length codes.items)) }
     {
-        if codes.len() > MOST {
+        if codes.len() > MOST_OBJECTS {
             return Err(codes);
         }
         Ok(Objects { codes })
@@ -39,7 +38,7 @@ impl Objects {
     /// The codes, in the order given.
     pub fn as_slice(&self) -> &[ThingCode]
         ensures codes { result.now ≡ self.now }
-        ensures few { length self.now ≤ 256 }
+        ensures few { length self.now ≤ MOST_OBJECTS }
     {
         &self.codes
     }

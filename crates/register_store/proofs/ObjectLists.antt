@@ -10,6 +10,7 @@ use Rattle.serde_json.specs.Data.{Data, string}
 use Rattle.serde_json.specs.Find.{as_array}
 use Rattle.serde_json.specs.View.{view, items_of}
 use Rattle.serde_json.specs.declared.value.Value.{Value}
+use Rattle.posting_core.specs.declared.TheConstants.{MOST_OBJECTS}
 use Rattle.register_store.specs.declared.fault.ReadFault.{ReadFault}
 use Rattle.register_store.specs.declared.fault.ReadFault.TheVariants.{BadField}
 use Rattle.register_store.specs.declared.key.Key.{Key}
@@ -25,7 +26,7 @@ when_amiss false all fault amiss = refl
 
 -- an array's fault is that of its items
 pub list_fault : (key : Key) (test : List ℕ → Bool) (o : Option Data) (ds : List Data) → option_and_then as_array o ≡ Some (items_of ds)
-    → value_fault (key lists test) o ≡ (if nat_le (length ds) 256 && list_all (is_string test) ds then None else Some (BadField key))
+    → value_fault (key lists test) o ≡ (if nat_le (length ds) MOST_OBJECTS && list_all (is_string test) ds then None else Some (BadField key))
 list_fault key test None ds e = cc
 list_fault key test (Some value) ds e = rw (e, items_list-items_of ds)
 
@@ -37,21 +38,21 @@ texts_there o ds e = rw (e, items_list-items_of ds)
 -- an item amiss
 pub listed_amiss : (key : Key) (test : List ℕ → Bool) (o : Option Data) (ds : List Data) → option_and_then as_array o ≡ Some (items_of ds) → list_all (is_string test) ds ≡ false
     → value_fault (key lists test) o ≡ Some (BadField key)
-listed_amiss key test o ds there amiss = list_fault key test o ds there ∙ when_amiss (nat_le (length ds) 256) _ (BadField key) amiss
+listed_amiss key test o ds there amiss = list_fault key test o ds there ∙ when_amiss (nat_le (length ds) MOST_OBJECTS) _ (BadField key) amiss
 
 -- no item amiss, and few
 pub listed_right : (key : Key) (test : List ℕ → Bool) (o : Option Data) (ds : List Data) (texts : List (List ℕ)) → option_and_then as_array o ≡ Some (items_of ds) → list_all (is_string test) ds ≡ true
-    → texts ≡ map (λ value. text_of (Some value)) ds → length texts ≤ 256 → value_fault (key lists test) o ≡ None
+    → texts ≡ map (λ value. text_of (Some value)) ds → length texts ≤ MOST_OBJECTS → value_fault (key lists test) o ≡ None
 listed_right key test o ds texts there right is few =
     let long = ap length is ∙ length-map ds (λ value. text_of (Some value)) in
-    list_fault key test o ds there ∙ rw (le-leb (length ds) 256 (omega arith), right)
+    list_fault key test o ds there ∙ rw (le-leb (length ds) MOST_OBJECTS (omega arith), right)
 
 -- no item amiss, and more
 pub listed_many : (key : Key) (test : List ℕ → Bool) (o : Option Data) (ds : List Data) (texts : List (List ℕ)) → option_and_then as_array o ≡ Some (items_of ds)
-    → texts ≡ map (λ value. text_of (Some value)) ds → 256 < length texts → value_fault (key lists test) o ≡ Some (BadField key)
+    → texts ≡ map (λ value. text_of (Some value)) ds → MOST_OBJECTS < length texts → value_fault (key lists test) o ≡ Some (BadField key)
 listed_many key test o ds texts there is many =
     let long = ap length is ∙ length-map ds (λ value. text_of (Some value)) in
-    let more : nat_le (length ds) 256 ≡ false = grind (arith, nat_tests) in
+    let more : nat_le (length ds) MOST_OBJECTS ≡ false = grind (arith, nat_tests) in
     list_fault key test o ds there ∙ rw more
 
 -- one that is no such string
@@ -63,7 +64,7 @@ all_strings : (test : List ℕ → Bool) (texts : List (List ℕ)) → list_all 
 all_strings test texts = list_all-map (is_string test) string texts
 
 -- few such texts are such strings
-pub strings_fit : (test : List ℕ → Bool) (texts : List (List ℕ)) → length texts ≤ 256 → list_all test texts ≡ true → are_strings test (items_of (map string texts)) ≡ true
+pub strings_fit : (test : List ℕ → Bool) (texts : List (List ℕ)) → length texts ≤ MOST_OBJECTS → list_all test texts ≡ true → are_strings test (items_of (map string texts)) ≡ true
 strings_fit test texts few all =
     rw (items_list-items_of (map string texts)) (and_from _ _ (le-leb _ _ (omega (arith, length-map texts string))) (all_strings test texts ∙ all))
 

@@ -7,6 +7,7 @@ use Rattle.serde_json.specs.Data.{Data, null, boolean, number, string, array, ob
 use Rattle.serde_json.specs.Find.{get, as_str, as_array}
 use Rattle.serde_json.specs.Read.{read}
 use Rattle.codes_core.specs.Day.{day_number}
+use Rattle.posting_core.specs.declared.TheConstants.{MOST_OBJECTS}
 use Rattle.posting_core.specs.declared.message.Message as message
 use Rattle.posting_core.specs.declared.message.Message.TheVariants.{Move, Pack, Agree, Authorise, Exit, Return, Receive, SignOff, Extend}
 use Rattle.register_store.specs.declared.fault.ReadFault.{ReadFault}
@@ -32,9 +33,9 @@ abbrev pub items_list : Items → List Data
 items_list no_items = []
 items_list (item d ds) = d ∷ items_list ds
 
--- at most 256 strings of such a text
+-- strings of such a text, no more than a loan lists objects
 abbrev pub are_strings : (List ℕ → Bool) → Items → Bool
-are_strings test ds = nat_le (length (items_list ds)) 256 && list_all (is_string test) (items_list ds)
+are_strings test ds = nat_le (length (items_list ds)) MOST_OBJECTS && list_all (is_string test) (items_list ds)
 
 infixl 10 ◌lists◌
 -- an array of them

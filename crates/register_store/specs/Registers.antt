@@ -4,6 +4,7 @@ use Rattle.std.specs.List.{list_any}
 use Rattle.std.specs.List.Sorted.{IsPermutation, IsNonDecreasingBy}
 use Rattle.std.specs.Str.{bytes_eq}
 use Rattle.nest_core.specs.Museum.{Museum}
+use Rattle.posting_core.specs.declared.TheConstants.{LAST_NUMBER}
 use Rattle.posting_core.specs.declared.entry.Entry.{Entry}
 use Rattle.register_store.specs.declared.store_fault.StoreFault.{StoreFault}
 use Rattle.register_store.specs.declared.store_fault.StoreFault.TheVariants.{NoMemory, Store, OtherSetup, Damaged, OtherVersion}
@@ -74,7 +75,7 @@ IsBindFault S c OtherSetup = IsWhole c.meta × (IsPermutation (rows_of_setup S) 
 pub record IsOfStation (stations : ℕ) (e : Entry) : Type 0 where
   pub known : e.station < stations
   pub first : 1 ≤ e.n
-  pub few : e.n ≤ 999999
+  pub few : e.n ≤ LAST_NUMBER
 
 -- no entry of these stations has such a row under this number
 abbrev pub IsWrongRow : ℕ → ℕ → PostingRow → Type 0

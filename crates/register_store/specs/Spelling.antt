@@ -7,6 +7,7 @@ use Rattle.codes_core.specs.Place.{place_fault}
 use Rattle.codes_core.specs.Loan.{loan_fault}
 use Rattle.codes_core.specs.Day.{day_fault}
 use Rattle.codes_core.specs.Name.{is_name_byte}
+use Rattle.codes_core.specs.declared.TheConstants.{LONGEST_NAME}
 use Rattle.register_store.specs.declared.key.Key.{Key}
 use Rattle.register_store.specs.declared.key.Key.TheVariants.{Kind, Thing, Place, Container, Day, By, Loan, Partner, Objects, First, Last, Station, N, Message, Ask}
 
@@ -43,6 +44,6 @@ is_loan text = is_none (loan_fault text)
 abbrev pub is_day : List ℕ → Bool
 is_day text = is_none (day_fault text)
 
--- a name: UTF-8 of 1 to 60 bytes, none of them a control
+-- a name: UTF-8 of some bytes and not too many, none of them a control
 abbrev pub is_name : List ℕ → Bool
-is_name text = is_utf8 text && nat_lt 0 (length text) && nat_le (length text) 60 && list_all is_name_byte text
+is_name text = is_utf8 text && nat_lt 0 (length text) && nat_le (length text) LONGEST_NAME && list_all is_name_byte text

@@ -9,7 +9,7 @@ ghost use Rattle.register_store.specs.Registers.{IsOfStation, IsWrongRow};
 
 use crate::{ReadFault, StoreFault, message_text, read_message};
 use codes_core::NoMemory;
-use posting_core::{Entry, Message, Verdict};
+use posting_core::{Entry, LAST_NUMBER, Message, Verdict};
 use std::alloc::Global;
 use std::marker::Model;
 
@@ -58,7 +58,7 @@ pub(crate) fn entry_of(
     ensures damaged { IfErr result (λ fault. fault ≢ StoreFault.NoMemory → fault ≡ StoreFault.Damaged number) }
     ensures wrong { IfErr result (λ fault. fault ≢ StoreFault.NoMemory → IsWrongRow stations number row.now) }
 {
-    if row.id != number || row.station >= stations || row.n == 0 || row.n > 999_999 {
+    if row.id != number || row.station >= stations || row.n == 0 || row.n > LAST_NUMBER {
         return Err(StoreFault::Damaged(number));
     }
     let Some(verdict) = Verdict::numbered(row.verdict) else {

@@ -1,5 +1,5 @@
 -- Lemmas on tests, and on the greatest number that passes one.
-use Rattle.std.proofs.Common.{◌≡◌, ℕ, zero, suc, ◌+◌, ◌-◌, ◌<◌, ◌≤◌, ◌&&◌, not, Bool, true, false, if◌then◌else◌, Option, Some, None, is_some, refl, arith, ⊎_elim, add-zero, add-suc}
+use Rattle.std.proofs.Common.{◌≡◌, ℕ, zero, suc, ◌+◌, ◌-◌, ◌<◌, ◌≤◌, ◌&&◌, not, Bool, true, false, if◌then◌else◌, refl, arith, ⊎_elim, add-zero, add-suc}
 use Rattle.std.proofs.lemmas.Bool.{cases_lt}
 use Rattle.station_core.specs.Runs.{greatest}
 
@@ -8,11 +8,6 @@ pub ended_test : (a b e : Bool) → e ≡ true → (a && (b && not e)) ≡ false
 ended_test false b e h = refl
 ended_test true false e h = refl
 ended_test true true e h = rw h refl
-
--- nothing is there
-pub none_there : {A : Type 0} → (o : Option A) → is_some o ≡ false → o ≡ None
-none_there None h = refl
-none_there (Some m) h = absurd (cc)
 
 -- the greatest number passes, where 0 does
 holds_step : (p : ℕ → Bool) (n g : ℕ) (b : Bool) → p (suc n) ≡ b → p g ≡ true → p (if b then suc n else g) ≡ true

@@ -1,7 +1,7 @@
 -- Lemmas on the places of a window.
 use Rattle.std.proofs.Common.{◌≡◌, ◌≢◌, ℕ, ◌<◌, ◌≤◌, List, [], ◌∷◌, ◌++◌, length, drop, replicate, Option, Some, None, refl, ap, ◌∙◌, sym, arith, zero, suc, get_or}
 use Rattle.std.specs.Prelude.{slice_get, slice_set, option_and_then, unwrap_or, false}
-use Rattle.std.proofs.lemmas.Option.{slice_get_past}
+use Rattle.std.proofs.lemmas.Option.{slice_get_past, slice_get_read}
 use Rattle.circular_buffer.proofs.Places.{slice_get-set_same, slice_get-set_other}
 use Rattle.station_core.specs.declared.TheConstants.{WINDOW, LAST}
 use Rattle.circular_buffer.specs.Buffer.{Buffer, buffer}
@@ -36,12 +36,6 @@ module _ {M : Type 0} where
   slot_empty (suc n) zero = refl
   slot_empty (suc n) (suc i) = slot_empty n i
 
-  -- what a read of the list of stations says
-  pub slice_get_read : (xs : List (Series M)) (s : ℕ) (q : Series M) → q ≡ get_or xs s q → s < length xs → slice_get xs s ≡ Some q
-  slice_get_read [] s q h l = absurd (omega arith)
-  slice_get_read (x ∷ xs) zero q h l = ap Some (sym h)
-  slice_get_read (x ∷ xs) (suc s) q h l = slice_get_read xs s q h (omega arith)
-
   -- the series of a station that is there
   pub series_at_there : (all : List (Series M)) (s : ℕ) (q : Series M) → slice_get all s ≡ Some q → series_at all s ≡ q
   series_at_there all s q h = ap (λ (o : Option (Series M)). unwrap_or o (series 0 false [])) h
@@ -49,7 +43,7 @@ module _ {M : Type 0} where
   pub series_at_read : (all items : List (Series M)) (s : ℕ) (q : Series M) → items ≡ all → q ≡ get_or items s q → s < length all → series_at all s ≡ q
   series_at_read all items s q same read within =
       let here : s < length items = rw same within in
-      rw (← same) (series_at_there items s q (slice_get_read items s q read here))
+      rw (← same) (series_at_there items s q (slice_get_read items (length items) s q refl here read))
 
   -- a place past the window's end
   pub slot_past : (xs : List (Option M)) (i : ℕ) → length xs ≤ i → slot_at xs i ≡ None

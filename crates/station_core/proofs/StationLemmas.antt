@@ -1,5 +1,5 @@
 -- What the series of all stations hold of what was taken, call by call.
-use Rattle.std.proofs.Common.{◌≡◌, ◌≢◌, ℕ, zero, suc, ◌+◌, ◌<◌, ◌≤◌, ◌&&◌, ◌||◌, ◌==◌, not, nat_lt, nat_le, Bool, true, false, if◌then◌else◌, List, [], ◌∷◌, ◌++◌, length, map, Option, Some, None, is_some, refl, ap, ◌∙◌, sym, arith, ⊎_elim, add-one, length-set}
+use Rattle.std.proofs.Common.{◌≡◌, ◌≢◌, ℕ, zero, suc, ◌+◌, ◌<◌, ◌≤◌, ◌&&◌, ◌||◌, ◌==◌, not, nat_lt, nat_le, Bool, true, false, if◌then◌else◌, List, [], ◌∷◌, ◌++◌, length, map, Option, Some, None, is_some, refl, ap, ◌∙◌, sym, arith, rules, ⊎_elim, add-one, length-set}
 use Rattle.std.proofs.lemmas.Bool.{cases_lt, cases_eq, or_parts}
 use Rattle.std.proofs.lemmas.Bool.Decides.{nat_tests}
 use Rattle.std.proofs.lemmas.List.{length-map}
@@ -14,7 +14,6 @@ use Rattle.station_core.specs.declared.Refusal.TheVariants.{UnknownStation, BadN
 use Rattle.station_core.specs.Series.{Series, series, window, slot_at, series_at, refusal_of, opened, with_held, counted, closed}
 use Rattle.station_core.specs.Runs.{Arrived, arrived, message_at, ends, ready, is_signed, is_double, refusal, taken_after}
 use Rattle.station_core.specs.Progress.{Matches, AllMatch, IsPosting, IsEnding, ComesDue, StartsFrom, AllStart}
-use Rattle.station_core.proofs.BoolLemmas.{none_there}
 use Rattle.station_core.proofs.SlotLemmas.{series_at_there}
 use Rattle.station_core.proofs.SeriesLemmas.{matches_opened, matches_other, pending_taken, pending_counted, ending_counted, matches_pending, matches_closed, next_of, held_is_taken}
 
@@ -49,7 +48,7 @@ module _ {M : Type 0} where
         high = let t = tests.4 in grind (arith, nat_tests);
         last = let t = number.1 in grind (arith, nat_tests);
         goes_on = tests.3;
-        free = none_there (message_at taken s n) (let t = double.1 in rw tests.3 at t);
+        free = let t : is_some (message_at taken s n) ≡ false = rw tests.3 at double.1 in search rules;
       }
 
   -- what is taken after an arrival

@@ -1,18 +1,15 @@
 //! The rules of what crosses under a loan: exit, return and receipt.
-ghost use Rattle.std.specs.Prelude.{◌≡◌, ◌&&◌, ◌∷◌, [], not, is_some, true, false, IfOk, Some, List, ℕ};
-ghost use Rattle.std.specs.List.{list_any};
+ghost use Rattle.std.specs.Prelude.{◌≡◌, ◌<◌, ◌&&◌, false, length, IfOk, Some, ℕ};
 ghost use Rattle.std.specs.Option.{option_map_or};
-ghost use Rattle.posting_core.specs.Loans.{exit_of, line, objects_in};
-ghost use Rattle.posting_core.specs.Verdicts.{first_of, exit_rows, return_rows, receive_rows, stage_eq, is_known, is_over, carries_unlisted, carries_wrong_stage, ◌if◌};
+ghost use Rattle.posting_core.specs.Loans.{line, objects_with, wanted_by_exit};
+ghost use Rattle.posting_core.specs.Verdicts.{first_of, exit_rows, return_rows, receive_rows, stage_eq, is_over, any_unlisted, any_not_at, line_rows};
 ghost use Rattle.codes_core.specs.Loan.{is_out};
 ghost use Rattle.posting_core.specs.Agreements.{last_day};
-ghost use Rattle.posting_core.specs.declared.verdict.Verdict.TheVariants.{NotListed, WrongStage, TermOver};
 ghost use Rattle.posting_core.specs.LoanRows.{line_of};
 
 use super::Ledger;
 use super::loan_rules::is_container_code;
 use crate::kept_loan::KeptLoan;
-use crate::numbers::thing_no;
 use crate::{LineStage, Verdict};
 use codes_core::{Day, LoanCode, NoMemory, PlaceCode, ThingCode};
 use nest_core::ThingNo;
@@ -43,7 +40,7 @@ impl Ledger {
         if !self.is_inside(x) {
             return Ok(Verdict::NotHere);
         }
-        self.judge_lines_out(alloc, thing, loan, kept, day)
+        self.judge_lines_out(alloc, x, loan, kept, day)
     }
 
     pub(crate) fn judge_return(
@@ -76,7 +73,7 @@ impl Ledger {
         if self.place_of(x) != Some(kept.partner()) {
             return Ok(Verdict::NotWithPartner);
         }
-        self.judge_lines(alloc, thing, kept, LineStage::Away, false)
+        self.judge_lines(alloc, x, kept, LineStage::Away, false)
     }
 
     pub(crate) fn judge_receive(
@@ -114,29 +111,28 @@ impl Ledger {
             return Ok(Verdict::AlreadyHere);
         }
         let is_over = kept.last() < day;
-        self.judge_lines(alloc, thing, kept, LineStage::Awaiting, is_over)
+        self.judge_lines(alloc, x, kept, LineStage::Awaiting, is_over)
     }
 
     /// The last rows of an exit: those of its lines and, under a loan out, of the loan's last day.
     fn judge_lines_out(
         &self,
         alloc: Global,
-        thing: &ThingCode,
+        x: ThingNo,
         loan: &LoanCode,
         kept: &KeptLoan,
         day: Day,
     ) -> Result<Verdict, NoMemory>
-        requires known { is_known self.now.museum thing.now ≡ true }
+        requires known { x < length self.now.museum.things }
         requires lines { (o : ℕ) → line_of kept.now o ≡ line self.now.museum self.now.posted loan.now o }
         requires last { last_day self.now.posted loan.now ≡ Some kept.now.last }
-        ensures { IfOk result (λ verdict. verdict ≡ first_of (
-            (NotListed if carries_unlisted self.now.museum self.now.posted (exit_of thing.now loan.now))
-            ∷ (WrongStage if carries_wrong_stage self.now.museum self.now.posted (exit_of thing.now loan.now))
-            ∷ (TermOver if is_out loan.now && is_over self.now.posted loan.now day)
-            ∷ [])) }
+        ensures { IfOk result (λ verdict. verdict ≡ first_of (line_rows
+            (line self.now.museum self.now.posted loan.now) (wanted_by_exit loan.now)
+            (objects_with self.now.museum self.now.posted x)
+            (is_out loan.now && is_over self.now.posted loan.now day))) }
     {
         let is_over = loan.is_out() && kept.last() < day;
-        self.judge_lines(alloc, thing, kept, wanted_by_exit(loan), is_over)
+        self.judge_lines(alloc, x, kept, wanted_by_exit(loan), is_over)
     }
 
     /// The last rows of what crosses under a loan, as the loan's row tells them: those of its lines and, where the loan's
@@ -144,30 +140,23 @@ impl Ledger {
     fn judge_lines(
         &self,
         alloc: Global,
-        thing: &ThingCode,
+        x: ThingNo,
         kept: &KeptLoan,
         wanted: LineStage,
         is_over: bool,
     ) -> Result<Verdict, NoMemory>
-        requires { is_known self.now.museum thing.now ≡ true }
-        ensures { IfOk result (λ verdict. verdict ≡ first_of (
-            (NotListed if list_any (λ o. not (is_some (line_of kept.now o))) (objects_in self.now.museum self.now.posted thing.now))
-            ∷ (WrongStage if list_any (λ o. not (option_map_or (stage_eq wanted) (line_of kept.now o) false)) (objects_in self.now.museum self.now.posted thing.now))
-            ∷ (TermOver if is_over)
-            ∷ [])) }
+        requires { x < length self.now.museum.things }
+        ensures { IfOk result (λ verdict. verdict ≡ first_of (line_rows
+            (line_of kept.now) wanted (objects_with self.now.museum self.now.posted x) is_over)) }
     {
-        let objects = self.objects_with(alloc, thing_no(&self.setup, thing))?;
+        let objects = self.objects_with(alloc, x)?;
         Ok(judge_objects(kept, wanted, &objects, is_over))
     }
 }
 
 /// These rows for the objects that cross.
 fn judge_objects(kept: &KeptLoan, wanted: LineStage, objects: &[ThingNo], is_over: bool) -> Verdict
-    ensures { result ≡ first_of (
-        (NotListed if list_any (λ o. not (is_some (line_of kept.now o))) objects.now)
-        ∷ (WrongStage if list_any (λ o. not (option_map_or (stage_eq wanted) (line_of kept.now o) false)) objects.now)
-        ∷ (TermOver if is_over)
-        ∷ []) }
+    ensures { result ≡ first_of (line_rows (line_of kept.now) wanted objects.now is_over) }
 {
     if any_unlisted(kept, objects) {
         return Verdict::NotListed;
@@ -183,14 +172,14 @@ fn judge_objects(kept: &KeptLoan, wanted: LineStage, objects: &[ThingNo], is_ove
 
 /// Whether an object isn't on the loan's list.
 fn any_unlisted(kept: &KeptLoan, objects: &[ThingNo]) -> bool
-    ensures { result ≡ list_any (λ o. not (is_some (line_of kept.now o))) objects.now }
+    ensures { result ≡ any_unlisted (line_of kept.now) objects.now }
 {
     objects.iter().any(|o| kept.stage_of(*o).is_none())
 }
 
 /// Whether an object has no line at the stage wanted.
 fn any_not_at(kept: &KeptLoan, wanted: LineStage, objects: &[ThingNo]) -> bool
-    ensures { result ≡ list_any (λ o. not (option_map_or (stage_eq wanted) (line_of kept.now o) false)) objects.now }
+    ensures { result ≡ any_not_at (line_of kept.now) wanted objects.now }
 {
     objects.iter().any(|o| !is_at(kept, wanted, *o))
 }
@@ -207,7 +196,7 @@ fn is_at(kept: &KeptLoan, wanted: LineStage, object: ThingNo) -> bool
 
 /// The stage that the lines of what leaves under the loan have before.
 fn wanted_by_exit(loan: &LoanCode) -> LineStage
-    ensures { (x : List ℕ) → result ≡ (exit_of x loan.now).wanted }
+    ensures { result ≡ wanted_by_exit loan.now }
 {
     if loan.is_out() {
         LineStage::Awaiting

@@ -7,7 +7,6 @@ ghost use Rattle.posting_core.specs.Verdicts.{first_of, ◌if◌, agree_rows, au
 use super::Ledger;
 use crate::Verdict;
 use codes_core::{Day, LoanCode, PlaceCode, ThingCode, ThingKind};
-use nest_core::Setup;
 
 impl Ledger {
     pub(crate) fn judge_agree(
@@ -62,11 +61,11 @@ impl Ledger {
         Verdict::Applied
     }
 
-    /// Whether one isn't in the setup; told of the ledger's book, as the rows are.
+    /// Whether one isn't in the setup.
     fn any_unknown(&self, objects: &[ThingCode]) -> bool
         ensures { result ≡ list_any (λ x. not (is_known self.now.museum x)) objects.now }
     {
-        any_unknown(&self.setup, objects)
+        objects.iter().any(|x| self.setup.thing(x).is_none())
     }
 }
 
@@ -96,12 +95,6 @@ fn judge_terms(loan: &LoanCode, objects: &[ThingCode], first: Day, last: Day) ->
         return Verdict::BadTerm;
     }
     Verdict::Applied
-}
-
-fn any_unknown(setup: &Setup, objects: &[ThingCode]) -> bool
-    ensures { result ≡ list_any (λ x. not (is_known setup.now x)) objects.now }
-{
-    objects.iter().any(|x| setup.thing(x).is_none())
 }
 
 /// Whether a code is a container's.

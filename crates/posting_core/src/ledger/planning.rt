@@ -1,12 +1,12 @@
 //! What an applied message puts where, and the spots and the lines that it writes.
-ghost use Rattle.std.specs.Prelude.{◌≡◌, ◌<◌, ◌+◌, [], if◌then◌else◌, length, All, IfOk, IfSome, Some, List, ℕ, true, not, map, filter};
+ghost use Rattle.std.specs.Prelude.{◌≡◌, ◌<◌, ◌+◌, [], if◌then◌else◌, length, All, IfOk, IfSome, Some, true, not, map, filter};
 ghost use Rattle.std.specs.List.{filter_map};
 ghost use Rattle.nest_core.specs.Puts.{container_of};
 ghost use Rattle.posting_core.specs.declared.verdict.Verdict.TheVariants.{Applied};
 ghost use Rattle.nest_core.specs.Museum.{is_container};
 ghost use Rattle.posting_core.specs.Messages.{thing_no, day_of};
-ghost use Rattle.posting_core.specs.History.{put_in, put_by, carried_at};
-ghost use Rattle.posting_core.specs.Loans.{exit_of, objects_in};
+ghost use Rattle.posting_core.specs.History.{put_in, put_by};
+ghost use Rattle.posting_core.specs.Loans.{exit_stage, objects_in, objects_with};
 ghost use Rattle.posting_core.specs.Verdicts.{is_known};
 ghost use Rattle.posting_core.specs.VerdictNames.{is_applied};
 ghost use Rattle.posting_core.specs.Book.{place_in, spots_in, verdict_in, new_spot, new_spots, new_lines};
@@ -211,7 +211,7 @@ impl Ledger {
         thing: ThingNo,
     ) -> Result<Vec<ThingNo>, NoMemory>
         requires { thing < length self.now.museum.things }
-        ensures { IfOk result (λ objects. objects.items ≡ filter (λ o. not (is_container self.now.museum o)) (carried_at self.now.museum self.now.posted thing)) }
+        ensures { IfOk result (λ objects. objects.items ≡ objects_with self.now.museum self.now.posted thing) }
     {
         let carried = self.nest.carried(alloc, thing)?;
         objects_among(alloc, &self.setup, carried.as_slice())
@@ -265,7 +265,7 @@ fn lines_of(
 
 /// The stage to which an exit under the loan takes its objects.
 fn exit_stage(loan: &LoanCode) -> LineStage
-    ensures { (x : List ℕ) → result ≡ (exit_of x loan.now).stage }
+    ensures { result ≡ exit_stage loan.now }
 {
     if loan.is_out() {
         LineStage::Away

@@ -1,5 +1,6 @@
 use Rattle.std.proofs.Common.{rules, ◌≡◌, ◌<◌, ◌≤◌, true, is_none, sym, subst, ◌∙◌, None, false, length, arith}
 use Rattle.std.specs.Option.{option_and_then}
+use Rattle.nest_core.specs.declared.TheConstants.{MOST_THINGS}
 use Rattle.nest_core.specs.Museum.{Museum, find_place, find_thing}
 use Rattle.nest_core.specs.SetupRows.{lacks_normal}
 use Rattle.nest_core.specs.declared.setup_row.SetupRow.TheVariants as lists
@@ -13,7 +14,7 @@ invariant_of-self-2 c =
     let fields = c.self.inside in
     let S : Museum = record { stations = fields.stations.keys; places = fields.places.entries; things = fields.things.entries } in
     let none : find_thing S c.args.code ≡ None = sym c.get_index_of.ensures.index ∙ not_found _ _ c.is_some.ensures c.if-is_some.false in
-    let few : length S.things < 100000 = omega arith in
+    let few : length S.things < MOST_THINGS = omega arith in
     let number : c.normal_no-normal_no.result ≡ option_and_then (find_place S) c.args.normal =
     subst (λ (m : Museum). c.normal_no-normal_no.result ≡ option_and_then (find_place m) c.args.normal) (sym c.self.view_is) c.normal_no-normal_no.ensures in
     let found : lacks_normal S (lists.Thing c.args.code c.args.normal) ≡ false = elim c.else-is_some-2.branch [
@@ -29,7 +30,7 @@ returns-clause-ok c =
     let fields = c.self.inside in
     let S : Museum = record { stations = fields.stations.keys; places = fields.places.entries; things = fields.things.entries } in
     let none : find_thing S c.args.code ≡ None = sym c.get_index_of.ensures.index ∙ not_found _ _ c.is_some.ensures c.if-is_some.false in
-    let few : length S.things < 100000 = omega arith in
+    let few : length S.things < MOST_THINGS = omega arith in
     let number : c.normal_no-normal_no.result ≡ option_and_then (find_place S) c.args.normal =
     subst (λ (m : Museum). c.normal_no-normal_no.result ≡ option_and_then (find_place m) c.args.normal) (sym c.self.view_is) c.normal_no-normal_no.ensures in
     let found : lacks_normal S (lists.Thing c.args.code c.args.normal) ≡ false = elim c.else-is_some-2.branch [
@@ -49,16 +50,16 @@ returns-then-is_none-clause-fault c =
     λ other. normal_missing c.args.self.now c.args.number c.args.code c.args.normal c.normal_no-normal_no.result
     (subst (λ (m : Museum). find_thing m c.args.code ≡ None) c.self.view_is none) c.normal_no-normal_no.ensures (sym c.is_some-2.ensures ∙ c.if-is_some-2.true) missing
 
-pub returns-then-len-ge100000-clause-fault : goal.returns-then-len-ge100000-clause-fault
-returns-then-len-ge100000-clause-fault c =
+pub returns-then-len-ge-MOST_THINGS-clause-fault : goal.returns-then-len-ge-MOST_THINGS-clause-fault
+returns-then-len-ge-MOST_THINGS-clause-fault c =
     let fields = c.self.inside in
     let S : Museum = record { stations = fields.stations.keys; places = fields.places.entries; things = fields.things.entries } in
     let none : find_thing S c.args.code ≡ None = sym c.get_index_of.ensures.index ∙ not_found _ _ c.is_some.ensures c.if-is_some.false in
-    let most : 100000 ≤ length S.things = omega arith in
+    let most : MOST_THINGS ≤ length S.things = omega arith in
     let found : lacks_normal c.args.self.now (lists.Thing c.args.code c.args.normal) ≡ false = elim c.else-is_some-2.branch [
       | else-is_some-2-via-then-is_some-2+else-is_none w ↦
           normal_there c.args.self.now c.args.code c.args.normal c.normal_no-normal_no.result c.normal_no-normal_no.ensures (let some = w.is_none.ensures in let there = w.if-is_none.false in search rules)
       | else-is_some-2-via-else-is_some-2 w ↦ normal_unasked c.args.self.now c.args.code c.args.normal (sym c.is_some-2.ensures ∙ w.if-is_some-2.false)
     ] in
     λ other. things_full c.args.self.now c.args.number c.args.code c.args.normal (subst (λ (m : Museum). find_thing m c.args.code ≡ None) c.self.view_is none) found
-    (subst (λ (m : Museum). 100000 ≤ length m.things) c.self.view_is most)
+    (subst (λ (m : Museum). MOST_THINGS ≤ length m.things) c.self.view_is most)

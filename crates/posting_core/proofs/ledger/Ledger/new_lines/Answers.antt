@@ -9,7 +9,7 @@ same_stage : (loan : List ℕ) (os : List ℕ) (s t : LineStage) (r : Result (Li
 same_stage loan os s t r same h = subst (λ u. IfOk r (λ lines. lines ≡ lines_at loan os u)) same h
 
 pub returns-in-Exit : goal.returns-in-Exit
-returns-in-Exit c = rw c.in-Exit.is (same_stage _ _ _ _ c.lines_across.result (c.exit_stage.ensures []) c.lines_across.ensures)
+returns-in-Exit c = rw c.in-Exit.is (same_stage _ _ _ _ c.lines_across.result c.exit_stage.ensures c.lines_across.ensures)
 
 pub returns-in-Return : goal.returns-in-Return
 returns-in-Return c = rw c.in-Return.is c.lines_across-in-Return.ensures
