@@ -32,7 +32,8 @@ class Function:
     def __init__(self, crate, file, lines, at, inside, module):
         indent, self.name = HEAD.match(lines[at]).groups()
         self.file, self.impl = file, inside
-        self.last = next((it for it in range(at, len(lines)) if lines[it] == indent + "}"), at)
+        ends = (indent + "}", indent + "{}")
+        self.last = next((it for it in range(at, len(lines)) if lines[it] in ends), at)
         while lines[at - 1].strip().startswith("#["):
             at -= 1
         self.first = at
