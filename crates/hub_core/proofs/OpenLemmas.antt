@@ -18,14 +18,12 @@ use Rattle.station_core.specs.declared.Start.{Start}
 use Rattle.station_core.specs.declared.TheConstants.{LAST}
 use Rattle.station_core.specs.Series.{Series, series_at, opened}
 use Rattle.station_core.specs.Runs.{Arrived}
-use Rattle.station_core.specs.Progress.{StartsFrom, AllStart}
+use Rattle.station_core.specs.Progress.{StartsFrom, AllStart, AllMatch}
 use Rattle.station_core.proofs.GrowLemmas.{starts_empty, starts_other, starts_next}
 use Rattle.hub_core.specs.Points.{arrival_of}
 use Rattle.register_store.specs.declared.store_fault.StoreFault.{StoreFault}
 use Rattle.register_store.specs.declared.store_fault.StoreFault.TheVariants.{NoMemory, Store, OtherSetup, Damaged, OtherVersion}
-use Rattle.register_store.specs.StoredRows.{Content, IsBoundTo, HasList}
-use Rattle.register_store.specs.Registers.{bound_to, IsOfStation}
-use Rattle.hub_core.specs.Openings.{may_send, IsEntryFault, IsJudgeFault, IsOpenFault}
+use Rattle.hub_core.specs.Openings.{GoesOn, may_send, IsEntryFault, IsJudgeFault}
 use Rattle.hub_core.specs.StandsFor.{InStep}
 use Rattle.hub_core.proofs.PostLemmas.{IsWritten, written, step_written, count_same, count_other, signed_same, signed_other}
 
@@ -167,6 +165,14 @@ all_start S depth P starts law step = record {
       subst (λ (x : Start). StartsFrom is_sign_off (sent P) s x) (rw (← is.count, ← is.sign) refl) (lawful_start S depth P s law);
 }
 
+-- the stations that are made from the starts go on from the list
+pub goes_on : (L : Book) (starts now : List Start) (all : List (Series Message)) → IsLawful L.museum L.depth L.posted → InStep (map opened starts) L.museum L.posted → now ≡ starts
+    → all ≡ map opened now → ((signs : Message → Bool) (taken : List (Arrived Message)) → AllStart signs taken now → AllMatch signs taken all) → GoesOn all L
+goes_on L starts now all law step is made matches = record {
+  in_step = subst (λ (xs : List (Series Message)). InStep xs L.museum L.posted) (sym (made ∙ ap (map opened) is)) step;
+  series = matches is_sign_off (sent L.posted) (subst (λ (xs : List Start). AllStart is_sign_off (sent L.posted) xs) (sym is) (all_start L.museum L.depth L.posted starts law step));
+}
+
 -- what the judging of an entry found
 pub judged_follows : (L : Book) (e : Entry) (starts now : List Start) (sends : Bool) (changes : Changes) → InStep (map opened starts) L.museum L.posted → now ≡ starts
     → sends ≡ may_send (slice_get now e.station) e.n → sends ≡ true → changes ≡ changes_of L e.message → changes.verdict ≡ e.verdict → Follows L.museum L.depth L.posted e
@@ -191,12 +197,3 @@ entry_fault S depth L O left left' e (Damaged at) museum limit list last law h =
       lawful = law;
       wrong = h.1;
     }))
-
--- the fault of a bound store's list
-pub judge_fault : (S : Museum) (depth : ℕ) (c : Content) (P : List Entry) (fault : StoreFault) → IsBoundTo S depth (bound_to S c) → HasList P (bound_to S c) → All (IsOfStation (length S.stations)) P
-    → IsJudgeFault S depth P fault → IsOpenFault S c fault
-judge_fault S depth c P NoMemory bound list of h = tt
-judge_fault S depth c P Store bound list of h = absurd h
-judge_fault S depth c P OtherSetup bound list of h = absurd h
-judge_fault S depth c P OtherVersion bound list of h = absurd h
-judge_fault S depth c P (Damaged at) bound list of h = inr (inr (inl (record { depth = depth; bound = bound; entries = P; list = list; stationed = of; wrong = h })))

@@ -1,43 +1,29 @@
 -- The opening of a store, call by call.
-use Rattle.std.proofs.Common.{◌≡◌, ℕ, Bool, true, false, List, length, inl, inr, refl, subst, sym}
+use Rattle.std.proofs.Common.{◌≡◌, ℕ, List, length, Bool, Result, Err, true, false, inl, inr, subst, sym}
 use Rattle.std.specs.Prelude.{All}
-use Rattle.std.specs.Bool.{Decides}
-use Rattle.std.proofs.lemmas.Bool.{false≢true}
+use Rattle.std.specs.Result.{IsErrAnd}
+use Rattle.std.proofs.lemmas.Result.{err_from_is_err_and}
 use Rattle.nest_core.specs.Museum.{Museum}
 use Rattle.posting_core.specs.declared.entry.Entry.{Entry}
 use Rattle.posting_core.specs.Book.{Book}
 use Rattle.posting_core.specs.Lawful.{IsLawful}
+use Rattle.station_core.specs.declared.Start.{Start}
 use Rattle.register_store.specs.declared.store_fault.StoreFault.{StoreFault}
 use Rattle.register_store.specs.declared.store_fault.StoreFault.TheVariants.{NoMemory, Store, OtherSetup, Damaged, OtherVersion}
 use Rattle.register_store.specs.StoredRows.{Content, AreSame, IsBoundTo, HasList, HasRows}
-use Rattle.register_store.specs.Registers.{is_failure, is_new, bound_by, bound_to, IsBindFault, IsOfStation, IsListFault}
+use Rattle.register_store.specs.Registers.{CountsRefusal, is_new, bound_by, bound_to, IsBindFault, IsOfStation, IsListFault}
 use Rattle.register_store.specs.Holdings.{Holding, Each, Has, Comes, IsBound, IsNotBound}
 use Rattle.register_store.proofs.Kept.{same_back, same_then}
 use Rattle.register_store.proofs.HoldingLemmas.{comes_has, comes_on, comes_so, same_bound, same_list, same_rows_held, same_wrong}
-use Rattle.hub_core.specs.Openings.{IsJudgeFault, IsOpenFault, IsNotOpened}
+use Rattle.hub_core.specs.Openings.{IsJudged, IsJudgeFault, IsOpenFault, IsNotOpened, IsRestoreFault, IsRowsFault}
 use Rattle.hub_core.specs.StandsFor.{HasStore}
-use Rattle.hub_core.proofs.OpenLemmas.{judge_fault}
 
--- bound, and so to this setup with this depth limit
-pub record IsBoundAs (S : Museum) (depth : ℕ) (c d : Content) : Type 0 where
-  pub is : IsBound S c d
-  pub to : IsBoundTo S depth (bound_to S c)
-
-pub comes_more : (old new : Holding) (F G : Content → Content → Type 0) → ((c d : Content) → F c d → G c d) → Comes old new F → Comes old new G
+comes_more : (old new : Holding) (F G : Content → Content → Type 0) → ((c d : Content) → F c d → G c d) → Comes old new F → Comes old new G
 comes_more old new F G more comes = record {
   quiet = comes.quiet;
   some = comes.some;
   from = λ quiet d held. let (c, was, step) = comes.from quiet d held in (c, was, more c d step);
 }
-
--- a change that leaves the rows as they are
-pub comes_still : (old a b : Holding) (S : Museum) (depth : ℕ) → Comes old a (IsBoundAs S depth) → Comes a b AreSame → Comes old b (IsBoundAs S depth)
-comes_still old a b S depth first still =
-    comes_on old a b (IsBoundAs S depth) AreSame (IsBoundAs S depth) (λ x y z step same. record { is = same_then (bound_to S x) y z step.is same; to = step.to }) first still
-
-pub comes_bound : (old a : Holding) (S : Museum) (depth : ℕ) → Comes old a (IsBound S) → Has a (IsBoundTo S depth) → Comes old a (IsBoundAs S depth)
-comes_bound old a S depth kept bound =
-    comes_so old a (IsBound S) (IsBoundAs S depth) (IsBoundTo S depth) (λ c d step to. record { is = step; to = same_bound d (bound_to S c) (same_back _ _ step) S depth to }) kept bound.each
 
 -- why it isn't bound is why it isn't opened
 bind_fault : (S : Museum) (c : Content) (fault : StoreFault) → IsBindFault S c fault → IsOpenFault S c fault
@@ -57,63 +43,123 @@ not_bound old new S fault comes =
       ],
     )) comes
 
--- no memory, or a store that refused, can be the cause whatever is stored
-failed : (S : Museum) (c : Content) (fault : StoreFault) → is_failure fault ≡ true → IsOpenFault S c fault
-failed S c NoMemory fails = tt
-failed S c Store fails = tt
-failed S c OtherSetup fails = absurd (false≢true fails)
-failed S c (Damaged at) fails = absurd (false≢true fails)
-failed S c OtherVersion fails = absurd (false≢true fails)
+-- a store that is bound and has the list
+pub record IsListed (store : Holding) (S : Museum) (depth : ℕ) (P : List Entry) : Type 0 where
+  pub bound : Has store (IsBoundTo S depth)
+  pub list : Each store (HasList P)
 
-pub not_answered : (old new : Holding) (S : Museum) (depth : ℕ) (fault : StoreFault) → is_failure fault ≡ true → Comes old new (IsBoundAs S depth) → Comes old new (IsNotOpened S fault)
-not_answered old new S depth fault fails comes = comes_more old new (IsBoundAs S depth) (IsNotOpened S fault) (λ c d step. (failed S c fault fails, inr step.is)) comes
+bound_still : (old new : Holding) (S : Museum) (depth : ℕ) → Comes old new AreSame → Has old (IsBoundTo S depth) → Has new (IsBoundTo S depth)
+bound_still old new S depth still has = comes_has old new AreSame (IsBoundTo S depth) (IsBoundTo S depth) (λ c d is step. same_bound c d step S depth is) still has
+
+pub is_listed : (old new : Holding) (S : Museum) (depth : ℕ) (P : List Entry) → Has old (IsBoundTo S depth) → Comes old new AreSame → Each new (HasList P) → IsListed new S depth P
+is_listed old new S depth P bound still list = record { bound = bound_still old new S depth still bound; list = list }
+
+pub listed_still : (old new : Holding) (S : Museum) (depth : ℕ) (P : List Entry) → IsListed old S depth P → Comes old new AreSame → IsListed new S depth P
+listed_still old new S depth P listed still = record {
+  bound = bound_still old new S depth still listed.bound;
+  list = λ quiet d held. let (c, was, step) = still.from quiet d held in same_list c d step P (listed.list (still.quiet quiet) c was);
+}
+
+pub still_on : (a b c : Holding) → Comes a b AreSame → Comes b c AreSame → Comes a c AreSame
+still_on a b c first next = comes_on a b c AreSame AreSame AreSame (λ x y z step last. same_then x y z step last) first next
 
 -- a wrong row
-list_fault : (S : Museum) (depth stations : ℕ) (c d : Content) (fault : StoreFault) → stations ≡ length S.stations → IsBoundAs S depth c d → IsListFault stations d fault → IsOpenFault S c fault
-list_fault S depth stations c d NoMemory is step h = tt
-list_fault S depth stations c d Store is step h = tt
-list_fault S depth stations c d OtherSetup is step h = absurd h
-list_fault S depth stations c d (Damaged at) is step h =
-    inr (inl (depth, step.to, subst (λ n. IsListFault n (bound_to S c) (Damaged at)) is (same_wrong d (bound_to S c) (same_back _ _ step.is) stations at h)))
-list_fault S depth stations c d OtherVersion is step h = absurd h
+list_fault : (S : Museum) (depth stations : ℕ) (c : Content) (fault : StoreFault) → stations ≡ length S.stations → IsBoundTo S depth c → IsListFault stations c fault → IsRestoreFault S c fault
+list_fault S depth stations c NoMemory is bound h = tt
+list_fault S depth stations c Store is bound h = tt
+list_fault S depth stations c OtherSetup is bound h = h
+list_fault S depth stations c (Damaged at) is bound h = inl (depth, bound, subst (λ n. IsListFault n c (Damaged at)) is h)
+list_fault S depth stations c OtherVersion is bound h = h
 
-pub not_listed : (old new : Holding) (S : Museum) (depth stations : ℕ) (fault : StoreFault) → stations ≡ length S.stations → Comes old new (IsBoundAs S depth) → Each new (λ c. IsListFault stations c fault) → Comes old new (IsNotOpened S fault)
-not_listed old new S depth stations fault is comes each =
-    comes_so old new (IsBoundAs S depth) (IsNotOpened S fault) (λ c. IsListFault stations c fault) (λ c d step h. (list_fault S depth stations c d fault is step h, inr step.is)) comes each
+pub not_listed : (old new : Holding) (S : Museum) (depth stations : ℕ) (fault : StoreFault) → stations ≡ length S.stations → Has old (IsBoundTo S depth) → Comes old new AreSame → Each new (λ c. IsListFault stations c fault)
+    → Each new (λ c. IsRestoreFault S c fault)
+not_listed old new S depth stations fault is bound still each = λ quiet c held. list_fault S depth stations c fault is ((bound_still old new S depth still bound).each quiet c held) (each quiet c held)
 
 -- a wrong entry
-pub not_lawful : (old new : Holding) (S : Museum) (depth : ℕ) (P : List Entry) (fault : StoreFault) → All (IsOfStation (length S.stations)) P → IsJudgeFault S depth P fault
-    → Comes old new (IsBoundAs S depth) → Each new (HasList P) → Comes old new (IsNotOpened S fault)
-not_lawful old new S depth P fault of wrong comes each =
-    comes_so old new (IsBoundAs S depth) (IsNotOpened S fault) (HasList P)
-    (λ c d step list. (judge_fault S depth c P fault step.to (same_list d (bound_to S c) (same_back _ _ step.is) P list) of wrong, inr step.is)) comes each
+judge_fault : (S : Museum) (depth : ℕ) (c : Content) (P : List Entry) (fault : StoreFault) → IsBoundTo S depth c → HasList P c → All (IsOfStation (length S.stations)) P → IsJudgeFault S depth P fault → IsRestoreFault S c fault
+judge_fault S depth c P NoMemory bound list of h = tt
+judge_fault S depth c P Store bound list of h = absurd h
+judge_fault S depth c P OtherVersion bound list of h = h
+judge_fault S depth c P OtherSetup bound list of h = h
+judge_fault S depth c P (Damaged at) bound list of h = inr (inl (record { depth = depth; bound = bound; entries = P; list = list; stationed = of; wrong = h }))
 
--- the rows of a ledger with the same list
-with_book : (S : Museum) (P : List Entry) (L : Book) (c : Content) → L.museum ≡ S → L.posted ≡ P → HasRows S P c → HasRows L.museum L.posted c
-with_book S P L c museum list has = subst (λ (T : Museum). HasRows T L.posted c) (sym museum) (subst (λ (Q : List Entry). HasRows S Q c) (sym list) has)
+pub not_judged : (store : Holding) (S : Museum) (depth : ℕ) (P : List Entry) (fault : StoreFault) → IsListed store S depth P → All (IsOfStation (length S.stations)) P → IsJudgeFault S depth P fault
+    → Each store (λ c. IsRestoreFault S c fault)
+not_judged store S depth P fault listed of wrong = λ quiet c held. judge_fault S depth c P fault (listed.bound.each quiet c held) (listed.list quiet c held) of wrong
 
--- other rows
-pub not_agreed : (old listed new : Holding) (S : Museum) (depth : ℕ) (P : List Entry) (L : Book) (same : Bool) → L.museum ≡ S → L.posted ≡ P → IsLawful S depth P
-    → Comes old listed (IsBoundAs S depth) → Each listed (HasList P) → Comes listed new AreSame → Each new (λ c. Decides same (HasRows L.museum L.posted c)) → (same ≡ true → ⊥)
-    → Comes old new (IsNotOpened S (Damaged 0))
-not_agreed old listed new S depth P L same museum list law comes each still told off =
-    let found : Comes listed new (λ c d. AreSame c d × (HasRows S P d → ⊥)) =
-    comes_so listed new AreSame (λ c d. AreSame c d × (HasRows S P d → ⊥)) (λ c. Decides same (HasRows L.museum L.posted c)) (λ c d step decides. (step, λ has. off (decides.1 (with_book S P L d museum list has)))) still told in
-    let had : Comes old listed (λ c d. IsBoundAs S depth c d × HasList P d) = comes_so old listed (IsBoundAs S depth) (λ c d. IsBoundAs S depth c d × HasList P d) (HasList P) (λ c d step has. (step, has)) comes each in
-    comes_on old listed new (λ c d. IsBoundAs S depth c d × HasList P d) (λ c d. AreSame c d × (HasRows S P d → ⊥)) (IsNotOpened S (Damaged 0)) (λ x y z step last.
-    let back = same_back _ _ step.0.is in
-    let whole = same_then (bound_to S x) y z step.0.is last.0 in (
-      inr (inr (inr (record {
-        zero = refl;
-        depth = depth;
-        bound = step.0.to;
-        entries = P;
-        list = same_list y (bound_to S x) back P step.1;
-        lawful = law;
-        wrong = λ has. last.1 (same_rows_held (bound_to S x) z whole S P has);
-      }))),
-      inr whole,
-    )) had found
+-- what a ledger with the list shows
+module _ (L : Book) (P : List Entry) (starts : List Start) (L' : Book) (judged : IsJudged L P starts L') where
+  rows_fault : (c : Content) (fault : StoreFault) → IsBoundTo L.museum L.depth c → HasList P c → IsRowsFault L'.museum L'.posted c fault → IsRestoreFault L.museum c fault
+  rows_fault c NoMemory bound list h = tt
+  rows_fault c Store bound list h = tt
+  rows_fault c OtherVersion bound list h = h
+  rows_fault c OtherSetup bound list h = h
+  rows_fault c (Damaged at) bound list h = inr (inr (record {
+    zero = h.0;
+    depth = L.depth;
+    bound = bound;
+    entries = P;
+    list = list;
+    lawful = lawful;
+    wrong = λ has. h.1 (subst (λ (S : Museum). HasRows S L'.posted c) (sym judged.museum) (subst (λ (Q : List Entry). HasRows L.museum Q c) (sym judged.posted) has));
+  }))
+    where
+      lawful : IsLawful L.museum L.depth P
+      lawful = subst (λ (S : Museum). IsLawful S L.depth P) judged.museum (subst (λ n. IsLawful L'.museum n P) judged.depth (subst (λ (Q : List Entry). IsLawful L'.museum L'.depth Q) judged.posted judged.lawful))
+
+  pub not_agreed : (store : Holding) (fault : StoreFault) → IsListed store L.museum L.depth P → Each store (λ c. IsRowsFault L'.museum L'.posted c fault) → Each store (λ c. IsRestoreFault L.museum c fault)
+  not_agreed store fault listed wrong = λ quiet c held. rows_fault c fault (listed.bound.each quiet c held) (listed.list quiet c held) (wrong quiet c held)
+
+  pub restored_store : (store : Holding) → IsListed store L.museum L.depth P → Each store (HasRows L'.museum L'.posted) → HasStore store L'
+  restored_store store listed rows = record {
+    some = listed.bound.some;
+    each = λ quiet c held. record {
+      bound = subst (λ (S : Museum). IsBoundTo S L'.depth c) (sym judged.museum) (subst (λ n. IsBoundTo L.museum n c) (sym judged.depth) (listed.bound.each quiet c held));
+      list = subst (λ (Q : List Entry). HasList Q c) (sym judged.posted) (listed.list quiet c held);
+      rows = rows quiet c held;
+    };
+  }
+
+-- the same rows have the same fault
+same_fault : (S : Museum) (c d : Content) (fault : StoreFault) → AreSame c d → IsRestoreFault S c fault → IsRestoreFault S d fault
+same_fault S c d NoMemory same h = tt
+same_fault S c d Store same h = tt
+same_fault S c d OtherSetup same h = h
+same_fault S c d OtherVersion same h = h
+same_fault S c d (Damaged at) same (inl h) = inl (h.0, same_bound c d same S h.0 h.1, same_wrong c d same (length S.stations) at h.2)
+same_fault S c d (Damaged at) same (inr (inl h)) = inr (inl (record {
+  depth = h.depth;
+  bound = same_bound c d same S h.depth h.bound;
+  entries = h.entries;
+  list = same_list c d same h.entries h.list;
+  stationed = h.stationed;
+  wrong = h.wrong;
+}))
+same_fault S c d (Damaged at) same (inr (inr h)) = inr (inr (record {
+  zero = h.zero;
+  depth = h.depth;
+  bound = same_bound c d same S h.depth h.bound;
+  entries = h.entries;
+  list = same_list c d same h.entries h.list;
+  lawful = h.lawful;
+  wrong = λ has. h.wrong (same_rows_held d c (same_back _ _ same) S h.entries has);
+}))
+
+restore_fault : (S : Museum) (c : Content) (fault : StoreFault) → IsRestoreFault S (bound_to S c) fault → IsOpenFault S c fault
+restore_fault S c NoMemory h = tt
+restore_fault S c Store h = tt
+restore_fault S c OtherSetup h = absurd h
+restore_fault S c (Damaged at) h = inr h
+restore_fault S c OtherVersion h = absurd h
+
+-- bound, and unchanged since then
+bound_on : (old mid new : Holding) (S : Museum) → Comes old mid (IsBound S) → Comes mid new AreSame → Comes old new (IsBound S)
+bound_on old mid new S bound still = comes_on old mid new (IsBound S) AreSame (IsBound S) (λ x y z step same. same_then (bound_to S x) y z step same) bound still
+
+pub not_restored : (old mid new : Holding) (S : Museum) (fault : StoreFault) → Comes old mid (IsBound S) → Comes mid new AreSame → Each new (λ c. IsRestoreFault S c fault) → Comes old new (IsNotOpened S fault)
+not_restored old mid new S fault bound still each =
+    comes_so old new (IsBound S) (IsNotOpened S fault) (λ c. IsRestoreFault S c fault)
+    (λ c d step h. (restore_fault S c fault (same_fault S d (bound_to S c) fault (same_back _ _ step) h), inr step)) (bound_on old mid new S bound still) each
 
 -- what is left of the list by binding
 list_before : (S : Museum) (c : Content) (P : List Entry) → HasList P (bound_to S c) → HasList P c
@@ -124,28 +170,20 @@ list_before S c P has = by (is_new c.meta) has
     by false has = has
 
 -- an opened store
-pub opened_from : (old listed new : Holding) (S : Museum) (depth : ℕ) (P Q : List Entry) → Q ≡ P → Comes old listed (IsBoundAs S depth) → Each listed (HasList P) → Comes listed new AreSame
-    → Comes old new (λ c d. HasList Q c × IsBound S c d)
-opened_from old listed new S depth P Q list comes each still =
-    comes_on old listed new (λ c d. HasList Q c × IsBound S c d) AreSame (λ c d. HasList Q c × IsBound S c d) (λ x y z step same. (step.0, same_then (bound_to S x) y z step.1 same))
-    (comes_so old listed (IsBoundAs S depth) (λ c d. HasList Q c × IsBound S c d) (HasList P)
-    (λ c d step has. (subst (λ (O : List Entry). HasList O c) (sym list) (list_before S c P (same_list d (bound_to S c) (same_back _ _ step.is) P has)), step.is)) comes each) still
+pub restored_from : (old mid new : Holding) (S : Museum) (L : Book) → Comes old mid (IsBound S) → Comes mid new AreSame → HasStore new L → Comes old new (λ c d. HasList L.posted c × IsBound S c d)
+restored_from old mid new S L bound still stored =
+    comes_so old new (IsBound S) (λ c d. HasList L.posted c × IsBound S c d) (HasList L.posted)
+    (λ c d step has. (list_before S c L.posted (same_list d (bound_to S c) (same_back _ _ step) L.posted has), step)) (bound_on old mid new S bound still) (λ quiet c held. (stored.each quiet c held).list)
 
-pub opened_store : (bound listed new : Holding) (S : Museum) (depth : ℕ) (P : List Entry) (L : Book) (same : Bool) → L.museum ≡ S → L.depth ≡ depth → L.posted ≡ P
-    → Has bound (IsBoundTo S depth) → Comes bound listed AreSame → Each listed (HasList P) → Comes listed new AreSame → Each new (λ c. Decides same (HasRows L.museum L.posted c)) → same ≡ true
-    → HasStore new L
-opened_store bound listed new S depth P L same museum limit list has still each after told on =
-    let first : Has listed (IsBoundTo S depth) = comes_has bound listed AreSame (IsBoundTo S depth) (IsBoundTo S depth) (λ c d is step. same_bound c d step S depth is) still has in
-    let both : Has listed (λ c. IsBoundTo S depth c × HasList P c) = record { some = first.some; each = λ quiet c held. (first.each quiet c held, each quiet c held) } in
-    let last : Has new (λ c. IsBoundTo S depth c × HasList P c) =
-    comes_has listed new AreSame (λ c. IsBoundTo S depth c × HasList P c) (λ c. IsBoundTo S depth c × HasList P c) (λ c d is step. (same_bound c d step S depth is.0, same_list c d step P is.1)) after both in
-    record {
-      some = last.some;
-      each = λ quiet c held.
-          let is = last.each quiet c held in
-          record {
-            bound = subst (λ (T : Museum). IsBoundTo T L.depth c) (sym museum) (subst (λ n. IsBoundTo S n c) (sym limit) is.0);
-            list = subst (λ (O : List Entry). HasList O c) (sym list) is.1;
-            rows = (told quiet c held).0 on;
-          };
-    }
+-- a call counted no refusal, and the next one met a fault
+pub counts_err : (T U : Type 0) (old mid new : ℕ) (x : StoreFault) (r : Result U StoreFault) → mid ≡ old → CountsRefusal {T = T} mid new (Err x) → IsErrAnd r (λ y. y ≡ x) → CountsRefusal old new r
+counts_err T U old mid new x r same counts is =
+    let (y, err, told) = err_from_is_err_and r is in
+    subst (λ (q : Result U StoreFault). CountsRefusal old new q) (sym err) (subst (λ z. CountsRefusal {T = U} old new (Err z)) (sym told) (subst (λ n. CountsRefusal {T = U} n new (Err x)) same (untyped x counts)))
+  where
+    untyped : (z : StoreFault) → CountsRefusal {T = T} mid new (Err z) → CountsRefusal {T = U} mid new (Err z)
+    untyped NoMemory h = h
+    untyped Store h = h
+    untyped OtherSetup h = h
+    untyped (Damaged at) h = h
+    untyped OtherVersion h = h

@@ -6,6 +6,7 @@ pub mod Lines
 pub mod LineText
 pub mod Reading
 pub mod StandsFor
+pub mod Serving
 pub mod Openings
 pub mod Replayed
 pub mod WholeRun

@@ -69,11 +69,13 @@ abbrev pub sent_by : Option ℕ → Request → List Arrival
 sent_by None request = []
 sent_by (Some s) request = sent_from s request
 
+-- the reply to one more arrival, after the arrivals A
+abbrev pub arrival_reply : Museum → ℕ → List Entry → List Arrival → Arrival → List ℕ
+arrival_reply S depth O A r = answer_text (station_text S r.station) r.n (posted S depth O (A ++ r ∷ [])) (reply S depth O A r)
+
 -- the reply to station s, after the arrivals A
 abbrev pub station_reply : Museum → ℕ → List Entry → List Arrival → ℕ → Request → List ℕ
-station_reply S depth O A s (Scan n message) =
-    let r : Arrival = record { station = s; n = n; message = message } in
-    answer_text (station_text S s) n (posted S depth O (A ++ r ∷ [])) (reply S depth O A r)
+station_reply S depth O A s (Scan n message) = arrival_reply S depth O A (record { station = s; n = n; message = message })
 station_reply S depth O A s (Ask code) =
     asked_line (station_text S s) code (place_text S (whereabouts S (posted S depth O A) code))
 

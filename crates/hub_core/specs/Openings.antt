@@ -1,15 +1,21 @@
 -- Why a store can't be opened.
-use Rattle.std.specs.Prelude.{ℕ, ◌≡◌, ◌⊎◌, ◌+◌, ◌==◌, ◌&&◌, nat_le, not, All, Bool, true, false, List, [], ◌∷◌, ◌++◌, length, Option, Some, None, Err}
+use Rattle.std.specs.Prelude.{ℕ, ◌≡◌, ◌⊎◌, ◌+◌, ◌==◌, ◌&&◌, nat_le, not, All, Bool, true, false, List, [], ◌∷◌, ◌++◌, length, map, reverse, Option, Some, None, Err}
 use Rattle.nest_core.specs.Museum.{Museum}
 use Rattle.posting_core.specs.declared.entry.Entry.{Entry}
+use Rattle.posting_core.specs.declared.message.Message.{Message}
+use Rattle.posting_core.specs.Messages.{is_sign_off}
+use Rattle.posting_core.specs.Book.{Book}
 use Rattle.posting_core.specs.Lawful.{Follows, IsLawful}
+use Rattle.station_core.specs.Series.{Series, opened}
+use Rattle.station_core.specs.Progress.{AllMatch}
 use Rattle.station_core.specs.declared.Start.{Start}
 use Rattle.station_core.specs.declared.TheConstants.{LAST}
 use Rattle.register_store.specs.declared.store_fault.StoreFault.{StoreFault}
 use Rattle.register_store.specs.declared.store_fault.StoreFault.TheVariants.{NoMemory, Store, OtherSetup, Damaged, OtherVersion}
 use Rattle.register_store.specs.StoredRows.{Content, AreSame, IsBoundTo, HasList, HasRows}
 use Rattle.register_store.specs.Holdings.{Holding, Has, Comes, IsBound}
-use Rattle.hub_core.specs.StandsFor.{State, StandsFor}
+use Rattle.hub_core.specs.Points.{arrival_of}
+use Rattle.hub_core.specs.StandsFor.{State, StandsFor, InStep, HasStore}
 use Rattle.register_store.specs.Registers.{CountsRefusal, is_failure, IsBindFault, IsOfStation, IsFirstWrong, bound_to}
 
 -- entry number `at` is the first that may not follow those before it
@@ -66,15 +72,33 @@ pub record HasOtherRows (S : Museum) (c : Content) (at : ℕ) : Type 0 where
   pub lawful : IsLawful S depth entries
   pub wrong : HasRows S entries c → ⊥
 
+-- a row, an entry or the rows of looking back: what is wrong with the list of a bound store
+abbrev pub HasWrongList : Museum → Content → ℕ → Type 0
+HasWrongList S c at = HasWrongRow S c at ⊎ (HasWrongEntry S c at ⊎ HasOtherRows S c at)
+
+-- why the list of a bound store can't be restored in a ledger
+abbrev pub IsRestoreFault : Museum → Content → StoreFault → Type 0
+IsRestoreFault S c NoMemory = Unit {0}
+IsRestoreFault S c Store = Unit {0}
+IsRestoreFault S c OtherVersion = ⊥
+IsRestoreFault S c OtherSetup = ⊥
+IsRestoreFault S c (Damaged at) = HasWrongList S c at
+
+-- why the rows of a store aren't those of looking back through these entries
+abbrev pub IsRowsFault : Museum → List Entry → Content → StoreFault → Type 0
+IsRowsFault S P c NoMemory = Unit {0}
+IsRowsFault S P c Store = Unit {0}
+IsRowsFault S P c OtherVersion = ⊥
+IsRowsFault S P c OtherSetup = ⊥
+IsRowsFault S P c (Damaged at) = (at ≡ 0) × (HasRows S P c → ⊥)
+
 -- why a store can't be opened with a setup: each cause comes where none before it holds
 abbrev pub IsOpenFault : Museum → Content → StoreFault → Type 0
 IsOpenFault S c NoMemory = Unit {0}
 IsOpenFault S c Store = Unit {0}
 IsOpenFault S c OtherVersion = IsBindFault S c OtherVersion
 IsOpenFault S c OtherSetup = IsBindFault S c OtherSetup
-IsOpenFault S c (Damaged at) =
-    IsBindFault S c (Damaged at)
-    ⊎ (HasWrongRow S (bound_to S c) at ⊎ (HasWrongEntry S (bound_to S c) at ⊎ HasOtherRows S (bound_to S c) at))
+IsOpenFault S c (Damaged at) = IsBindFault S c (Damaged at) ⊎ HasWrongList S (bound_to S c) at
 
 -- nothing but want of memory, or a store that refuses, keeps the store from being opened with the setup
 abbrev pub OpensAgain : Holding → Museum → Type 0
@@ -85,6 +109,32 @@ pub record Opened {R : Type 0} (holding : R → Holding) (S : Museum) (register 
   pub setup : hub.book.museum ≡ S
   pub stands : StandsFor holding hub hub.book.posted []
   pub comes : Comes (holding register) (holding hub.register) (λ c d. HasList hub.book.posted c × IsBound S c d)
+
+-- these entries are posted in a ledger that had none, each as the rules give it, and the stations start from them
+pub record IsJudged (old : Book) (P : List Entry) (starts : List Start) (new : Book) : Type 0 where
+  pub museum : new.museum ≡ old.museum
+  pub depth : new.depth ≡ old.depth
+  pub posted : new.posted ≡ P
+  pub lawful : IsLawful new.museum new.depth new.posted
+  pub in_step : InStep (map opened starts) new.museum new.posted
+
+-- the stations go on from what a ledger has posted
+pub record GoesOn (sequences : List (Series Message)) (book : Book) : Type 0 where
+  pub in_step : InStep sequences book.museum book.posted
+  pub series : AllMatch is_sign_off (map arrival_of (reverse book.posted)) sequences
+
+-- a new ledger has the store's list, and the stations go on from it
+pub record IsRestored (store : Holding) (old : Book) (sequences : List (Series Message)) (new : Book) : Type 0 where
+  pub museum : new.museum ≡ old.museum
+  pub goes_on : GoesOn sequences new
+  pub stored : HasStore store new
+
+-- a ledger of the setup has the list that the store had, which is bound to the setup, and the stations go on from it
+pub record IsPrepared (old new : Holding) (S : Museum) (sequences : List (Series Message)) (book : Book) : Type 0 where
+  pub museum : book.museum ≡ S
+  pub goes_on : GoesOn sequences book
+  pub stored : HasStore new book
+  pub comes : Comes old new (λ c d. HasList book.posted c × IsBound S c d)
 
 -- the store isn't opened, for this cause, and is as it was, or bound
 abbrev pub IsNotOpened : Museum → StoreFault → Content → Content → Type 0

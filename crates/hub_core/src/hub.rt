@@ -24,7 +24,6 @@ use std::marker::Model;
 
 /// The hub: it takes arrivals from all stations, holds back what is early, and posts the rest in each station's order,
 /// each entry in the register and in the ledger.
-#[derive(Drop)]
 pub struct Hub<R: Register> {
     sequences: Sequences<Message>,
     ledger: Ledger,
@@ -42,6 +41,21 @@ impl<R: Register> Model for Hub<R> {
 
     ghost invariant = { λ h. (h.down ≡ false → InStep h.sequences h.ledger.museum h.ledger.posted) × (R.is_bound h.register ≡ true)
         × (h.down ≡ false → HasStore (R.holding h.register) h.ledger) × (h.down ≡ true → HasSomeStore (R.holding h.register) h.ledger) };
+}
+
+/// Written out, so that whoever drops a hub calls it: a derived drop would stand whole at each of their ways out.
+impl<R: Register + Drop> Drop for Hub<R> {
+    fn drop(self) {
+        let Hub {
+            sequences,
+            ledger,
+            register,
+            down: _,
+        } = self;
+        drop(sequences);
+        drop(ledger);
+        drop(register);
+    }
 }
 
 /// Why a hub could not be opened, and its register, which it hands back.
@@ -176,7 +190,15 @@ impl<R: Register> Hub<R> {
         ensures opens_again { OpensAgain (R.holding result) self.book.museum }
     {
         self.ledger.is_lawful();
-        self.register
+        let Hub {
+            sequences,
+            ledger,
+            register,
+            down: _,
+        } = self;
+        drop(sequences);
+        drop(ledger);
+        register
     }
 }
 

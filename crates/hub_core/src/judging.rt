@@ -1,45 +1,37 @@
 //! The judging again of what a register has.
-ghost use Rattle.std.specs.Prelude.{◌≡◌, ◌∷◌, false, reverse, replicate, map, OnOk, IfOk, IfErr};
+ghost use Rattle.std.specs.Prelude.{◌≡◌, ◌∷◌, [], false, reverse, replicate, map, OnOk, IfOk, IfErr};
 ghost use Rattle.std.specs.Bool.{Decides};
 ghost use Rattle.std.specs.List.{slice_get};
-ghost use Rattle.posting_core.specs.Lawful.{Follows, IsLawful};
+ghost use Rattle.posting_core.specs.Lawful.{Follows};
 ghost use Rattle.station_core.specs.Series.{opened};
-ghost use Rattle.hub_core.specs.Openings.{IsJudgeFault, IsEntryFault, may_send};
+ghost use Rattle.hub_core.specs.Openings.{IsJudged, IsJudgeFault, IsEntryFault, may_send};
 ghost use Rattle.hub_core.specs.StandsFor.{InStep};
 
 use crate::posting::is_sign_off;
 use codes_core::NoMemory;
-use nest_core::Setup;
 use posting_core::{Entry, Ledger, Verdict};
 use register_store::StoreFault;
 use station_core::{LAST, Start};
 use std::alloc::Global;
 
-/// A ledger with these entries, each judged again after those before it, and how each station goes on from them.
-/// Damaged(i) for the first, from 1, whose station, number or verdict isn't what the rules give; or NoMemory.
+/// Posts these entries in a new ledger, each judged again after those before it, and answers how each station goes on
+/// from them. Damaged(i) for the first, from 1, whose station, number or verdict isn't what the rules give; or NoMemory.
 pub(crate) fn judged(
     alloc: Global,
-    setup: Setup,
-    depth: u32,
+    ledger: &mut Ledger,
     entries: Vec<Entry>,
-) -> Result<(Vec<Start>, Ledger), StoreFault>
-    ensures museum { IfOk result (λ p. p.1.museum ≡ setup) }
-    ensures depth { IfOk result (λ p. p.1.depth ≡ depth) }
-    ensures posted { IfOk result (λ p. p.1.posted ≡ reverse entries.items) }
-    ensures lawful { IfOk result (λ p. IsLawful setup depth (reverse entries.items)) }
-    ensures in_step { IfOk result (λ p. InStep (map opened p.0.items) setup (reverse entries.items)) }
-    ensures cause { IfErr result (λ fault. IsJudgeFault setup depth (reverse entries.items) fault) }
+) -> Result<Vec<Start>, StoreFault>
+    requires { ledger.old.posted ≡ [] }
+    ensures judged { IfOk result (λ starts. IsJudged ledger.old (reverse entries.items) starts.items ledger.new) }
+    ensures cause { IfErr result (λ fault. IsJudgeFault ledger.old.museum ledger.old.depth (reverse entries.items) fault) }
 {
-    let mut starts = no_starts(alloc, setup.stations())?;
-    let mut ledger = Ledger::new(alloc, setup, depth)?;
+    let mut starts = no_starts(alloc, ledger.setup().stations())?;
     let mut left = entries;
     left.reverse();
     while let Some(entry) = left.pop() {
-        if let Err(fault) = judge_next(alloc, &mut ledger, &mut starts, entry) {
-            return Err(fault);
-        }
+        judge_next(alloc, ledger, &mut starts, entry)?;
     }
-    Ok((starts, ledger))
+    Ok(starts)
 }
 
 /// Judges an entry again, and posts it in the ledger.

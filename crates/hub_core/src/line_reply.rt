@@ -1,22 +1,17 @@
 //! What is said to a line.
-ghost use Rattle.std.specs.Prelude.{◌≡◌, ◌<◌, ◌++◌, List, false, length, reverse, string_bytes, IfOk, IfErr, IfSome, OnOk, OnErr, All};
-ghost use Rattle.posting_core.specs.declared.entry.Entry.{Entry};
-ghost use Rattle.hub_core.specs.declared.answer.Arrival.{Arrival};
-ghost use Rattle.hub_core.specs.declared.reader.Request.{Request as request};
-ghost use Rattle.hub_core.specs.declared.reader.Request.TheVariants as asks;
+ghost use Rattle.std.specs.Prelude.{◌≡◌, ◌<◌, ◌∷◌, ◌++◌, [], false, length, reverse, string_bytes, IfOk, IfErr, IfSome, OnOk, All};
 ghost use Rattle.hub_core.specs.Points.{whereabouts, IsPlaced};
 ghost use Rattle.hub_core.specs.Requests.{line_in};
 ghost use Rattle.hub_core.specs.Replies.{asked_line, bad_line};
-ghost use Rattle.hub_core.specs.Faults.{CountsStore};
-ghost use Rattle.hub_core.specs.StandsFor.{StandsFor, TakesSome};
+ghost use Rattle.hub_core.specs.Serving.{Serves};
 ghost use Rattle.hub_core.specs.Lines.{without_return};
-ghost use Rattle.hub_core.specs.LineText.{fault_text, place_text, chain_text, posted_lines, answer_text, station_text, station_reply, sent_from, request_reply, sent_by, read_reply, sent, line_reply, line_arrivals};
+ghost use Rattle.hub_core.specs.LineText.{fault_text, place_text, chain_text, posted_lines, answer_text, arrival_reply, station_text, station_reply, sent_from, request_reply, sent_by, read_reply, sent, line_reply, line_arrivals};
 
 use crate::reader::{Line, Request, read_line};
 use crate::{Answer, Arrival, Hub, HubFault, Where, replies};
 use codes_core::{NoMemory, ThingCode};
 use nest_core::{Setup, StationNo};
-use posting_core::{Entry, Message};
+use posting_core::Entry;
 use register_store::{ReadFault, Register};
 use std::alloc::{AllocError, Global};
 
@@ -39,13 +34,9 @@ pub(crate) fn reply_to<S: Register>(
     hub: &mut Hub<S>,
 ) -> Result<String, HubFault>
     requires { hub.old.down ≡ false }
-    ensures reply { IfOk result (λ text. (O : List Entry) (A : List Arrival) → StandsFor S.holding hub.old O A →
-        (string_bytes text ≡ line_reply hub.old.book.museum hub.old.book.depth O A number line.now) × StandsFor S.holding hub.new O (A ++ line_arrivals hub.old.book.museum line.now)) }
-    ensures fault { OnErr result ((O : List Entry) (A : List Arrival) → StandsFor S.holding hub.old O A → TakesSome S.holding hub.new O A (line_arrivals hub.old.book.museum line.now)) }
-    ensures up { OnOk result (hub.new.down ≡ false) }
-    ensures count { CountsStore (S.refusals hub.old.register) (S.refusals hub.new.register) result }
-    ensures museum { hub.new.book.museum ≡ hub.old.book.museum }
-    ensures depth { hub.new.book.depth ≡ hub.old.book.depth }
+    ensures { Serves S.holding S.refusals hub.old hub.new
+        (λ O A. line_reply hub.old.book.museum hub.old.book.depth O A number line.now)
+        (line_arrivals hub.old.book.museum line.now) result }
 {
     if line.is_empty() {
         return Ok(String::new(alloc));
@@ -64,13 +55,9 @@ fn read_reply<S: Register>(
     hub: &mut Hub<S>,
 ) -> Result<String, HubFault>
     requires { hub.old.down ≡ false }
-    ensures reply { IfOk result (λ text. (O : List Entry) (A : List Arrival) → StandsFor S.holding hub.old O A →
-        (string_bytes text ≡ read_reply hub.old.book.museum hub.old.book.depth O A number (line_in hub.old.book.museum line.now)) × StandsFor S.holding hub.new O (A ++ sent (line_in hub.old.book.museum line.now))) }
-    ensures fault { OnErr result ((O : List Entry) (A : List Arrival) → StandsFor S.holding hub.old O A → TakesSome S.holding hub.new O A (sent (line_in hub.old.book.museum line.now))) }
-    ensures up { OnOk result (hub.new.down ≡ false) }
-    ensures count { CountsStore (S.refusals hub.old.register) (S.refusals hub.new.register) result }
-    ensures museum { hub.new.book.museum ≡ hub.old.book.museum }
-    ensures depth { hub.new.book.depth ≡ hub.old.book.depth }
+    ensures { Serves S.holding S.refusals hub.old hub.new
+        (λ O A. read_reply hub.old.book.museum hub.old.book.depth O A number (line_in hub.old.book.museum line.now))
+        (sent (line_in hub.old.book.museum line.now)) result }
 {
     match read_line(alloc, hub.ledger().setup(), line) {
         Ok(line) => request_reply(alloc, number, line, hub),
@@ -88,13 +75,9 @@ fn request_reply<S: Register>(
 ) -> Result<String, HubFault>
     requires up { hub.old.down ≡ false }
     requires known { IfSome line.station (λ s. s < length hub.old.book.museum.stations) }
-    ensures reply { IfOk result (λ text. (O : List Entry) (A : List Arrival) → StandsFor S.holding hub.old O A →
-        (string_bytes text ≡ request_reply hub.old.book.museum hub.old.book.depth O A number line.station line.request) × StandsFor S.holding hub.new O (A ++ sent_by line.station line.request)) }
-    ensures fault { OnErr result ((O : List Entry) (A : List Arrival) → StandsFor S.holding hub.old O A → TakesSome S.holding hub.new O A (sent_by line.station line.request)) }
-    ensures up { OnOk result (hub.new.down ≡ false) }
-    ensures count { CountsStore (S.refusals hub.old.register) (S.refusals hub.new.register) result }
-    ensures museum { hub.new.book.museum ≡ hub.old.book.museum }
-    ensures depth { hub.new.book.depth ≡ hub.old.book.depth }
+    ensures { Serves S.holding S.refusals hub.old hub.new
+        (λ O A. request_reply hub.old.book.museum hub.old.book.depth O A number line.station line.request)
+        (sent_by line.station line.request) result }
 {
     match line.station {
         None => Ok(replies::unknown_station(alloc, number)?),
@@ -132,43 +115,37 @@ fn station_reply<S: Register>(
 ) -> Result<String, HubFault>
     requires up { hub.old.down ≡ false }
     requires known { station < length hub.old.book.museum.stations }
-    ensures reply { IfOk result (λ text. (O : List Entry) (A : List Arrival) → StandsFor S.holding hub.old O A →
-        (string_bytes text ≡ station_reply hub.old.book.museum hub.old.book.depth O A station request) × StandsFor S.holding hub.new O (A ++ sent_from station request)) }
-    ensures fault { OnErr result ((O : List Entry) (A : List Arrival) → StandsFor S.holding hub.old O A → TakesSome S.holding hub.new O A (sent_from station request)) }
-    ensures up { OnOk result (hub.new.down ≡ false) }
-    ensures count { CountsStore (S.refusals hub.old.register) (S.refusals hub.new.register) result }
-    ensures museum { hub.new.book.museum ≡ hub.old.book.museum }
-    ensures depth { hub.new.book.depth ≡ hub.old.book.depth }
+    ensures { Serves S.holding S.refusals hub.old hub.new
+        (λ O A. station_reply hub.old.book.museum hub.old.book.depth O A station request)
+        (sent_from station request) result }
 {
     match request {
-        Request::Scan { n, message } => scan_reply(alloc, station, n, message, hub),
+        Request::Scan { n, message } => {
+            let arrival = Arrival {
+                station,
+                n,
+                message,
+            };
+            scan_reply(alloc, arrival, hub)
+        }
         Request::Ask { code } => question_reply(alloc, station, &code, hub),
     }
 }
 
-/// Hands a message to the hub, and answers the reply.
+/// Hands an arrival to the hub, and answers the reply.
 fn scan_reply<S: Register>(
     alloc: Global,
-    station: StationNo,
-    n: u64,
-    message: Message,
+    arrival: Arrival,
     hub: &mut Hub<S>,
 ) -> Result<String, HubFault>
     requires up { hub.old.down ≡ false }
-    requires known { station < length hub.old.book.museum.stations }
-    ensures reply { IfOk result (λ text. (O : List Entry) (A : List Arrival) → StandsFor S.holding hub.old O A →
-        (string_bytes text ≡ station_reply hub.old.book.museum hub.old.book.depth O A station (asks.Scan n message)) × StandsFor S.holding hub.new O (A ++ sent_from station (asks.Scan n message))) }
-    ensures fault { OnErr result ((O : List Entry) (A : List Arrival) → StandsFor S.holding hub.old O A → TakesSome S.holding hub.new O A (sent_from station (asks.Scan n message))) }
-    ensures up { OnOk result (hub.new.down ≡ false) }
-    ensures count { CountsStore (S.refusals hub.old.register) (S.refusals hub.new.register) result }
-    ensures museum { hub.new.book.museum ≡ hub.old.book.museum }
-    ensures depth { hub.new.book.depth ≡ hub.old.book.depth }
+    requires known { arrival.station < length hub.old.book.museum.stations }
+    ensures { Serves S.holding S.refusals hub.old hub.new
+        (λ O A. arrival_reply hub.old.book.museum hub.old.book.depth O A arrival)
+        (arrival ∷ []) result }
 {
-    let arrival = Arrival {
-        station,
-        n,
-        message,
-    };
+    let station = arrival.station;
+    let n = arrival.n;
     match hub.arrive(alloc, arrival) {
         Ok(answer) => Ok(answer_text(alloc, station, n, answer, hub)?),
         Err(fault) => Err(fault),

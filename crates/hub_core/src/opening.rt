@@ -1,13 +1,9 @@
 //! The opening of a hub over what a register has.
-ghost use Rattle.std.specs.Prelude.{◌≡◌, true, reverse, map, OnOk, IfOk, IfErr};
-ghost use Rattle.posting_core.specs.Messages.{is_sign_off};
-ghost use Rattle.station_core.specs.Progress.{AllMatch};
-ghost use Rattle.register_store.specs.StoredRows.{HasList};
+ghost use Rattle.std.specs.Prelude.{◌≡◌, [], true, length, OnOk, IfOk, IfErr};
+ghost use Rattle.register_store.specs.StoredRows.{AreSame, HasRows, IsBoundTo};
 ghost use Rattle.register_store.specs.Registers.{CountsRefusal};
-ghost use Rattle.register_store.specs.Holdings.{Comes, IsBound};
-ghost use Rattle.hub_core.specs.Points.{arrival_of};
-ghost use Rattle.hub_core.specs.Openings.{IsNotOpened};
-ghost use Rattle.hub_core.specs.StandsFor.{InStep, HasStore};
+ghost use Rattle.register_store.specs.Holdings.{Comes, Each, Has, IsBound};
+ghost use Rattle.hub_core.specs.Openings.{IsNotOpened, IsPrepared, IsRestored, IsRestoreFault, IsRowsFault};
 
 use crate::judging::judged;
 use nest_core::Setup;
@@ -22,23 +18,73 @@ pub(crate) fn prepare<R: Register>(
     setup: Setup,
     register: &mut R,
 ) -> Result<(Sequences<Message>, Ledger), StoreFault>
-    ensures museum { IfOk result (λ p. p.1.museum ≡ setup) }
-    ensures in_step { IfOk result (λ p. InStep p.0 p.1.museum p.1.posted) }
-    ensures series { IfOk result (λ p. AllMatch is_sign_off (map arrival_of (reverse p.1.posted)) p.0) }
-    ensures stored { IfOk result (λ p. HasStore (R.holding register.new) p.1) }
-    ensures comes { IfOk result (λ p. Comes (R.holding register.old) (R.holding register.new) (λ c d. HasList p.1.posted c × IsBound setup c d)) }
+    ensures prepared { IfOk result (λ p. IsPrepared (R.holding register.old) (R.holding register.new) setup p.0 p.1) }
     ensures refused { IfErr result (λ fault. Comes (R.holding register.old) (R.holding register.new) (IsNotOpened setup fault)) }
     ensures bound { OnOk result (R.is_bound register.new ≡ true) }
     ensures count { CountsRefusal (R.refusals register.old) (R.refusals register.new) result }
 {
-    let depth = register.bind(alloc, &setup)?;
-    let entries = register.all(alloc)?;
-    let (starts, ledger) = judged(alloc, setup, depth, entries)?;
-    if !register.agrees(alloc, &ledger)? {
-        return Err(StoreFault::Damaged(0));
+    let mut ledger = bound(alloc, setup, register)?;
+    match restore(alloc, &mut ledger, register) {
+        Ok(sequences) => Ok((sequences, ledger)),
+        Err(fault) => {
+            drop(ledger);
+            Err(fault)
+        }
     }
-    let Ok(sequences) = Sequences::new(alloc, &starts) else {
-        return Err(StoreFault::NoMemory);
-    };
-    Ok((sequences, ledger))
+}
+
+/// Binds the register to the setup, and makes a ledger of it with the register's depth limit and nothing posted.
+fn bound<R: Register>(alloc: Global, setup: Setup, register: &mut R) -> Result<Ledger, StoreFault>
+    ensures new { IfOk result (λ ledger. (ledger.museum ≡ setup) × (ledger.posted ≡ [])) }
+    ensures bound { IfOk result (λ ledger. Has (R.holding register.new) (IsBoundTo setup ledger.depth)) }
+    ensures kept { OnOk result (Comes (R.holding register.old) (R.holding register.new) (IsBound setup)) }
+    ensures ready { OnOk result ((R.is_bound register.new ≡ true) × (R.stations register.new ≡ length setup.stations)) }
+    ensures refused { IfErr result (λ fault. Comes (R.holding register.old) (R.holding register.new) (IsNotOpened setup fault)) }
+    ensures count { CountsRefusal (R.refusals register.old) (R.refusals register.new) result }
+{
+    match register.bind(alloc, &setup) {
+        Ok(depth) => Ok(Ledger::new(alloc, setup, depth)?),
+        Err(fault) => {
+            drop(setup);
+            Err(fault)
+        }
+    }
+}
+
+/// Posts again in a new ledger what the register has, compares its rows with the ledger's, and answers the stations as
+/// they go on.
+fn restore<R: Register>(
+    alloc: Global,
+    ledger: &mut Ledger,
+    register: &mut R,
+) -> Result<Sequences<Message>, StoreFault>
+    requires new { ledger.old.posted ≡ [] }
+    requires ready { (R.is_bound register.old ≡ true) × (R.stations register.old ≡ length ledger.old.museum.stations) }
+    requires bound { Has (R.holding register.old) (IsBoundTo ledger.old.museum ledger.old.depth) }
+    ensures restored { IfOk result (λ sequences. IsRestored (R.holding register.new) ledger.old sequences ledger.new) }
+    ensures fault { IfErr result (λ fault. Each (R.holding register.new) (λ c. IsRestoreFault ledger.old.museum c fault)) }
+    ensures unchanged { Comes (R.holding register.old) (R.holding register.new) AreSame }
+    ensures bound { R.is_bound register.new ≡ true }
+    ensures count { CountsRefusal (R.refusals register.old) (R.refusals register.new) result }
+{
+    let entries = register.all(alloc)?;
+    let starts = judged(alloc, ledger, entries)?;
+    compare(alloc, ledger, register)?;
+    Ok(Sequences::new(alloc, &starts)?)
+}
+
+/// Compares the register's rows with those of the ledger.
+fn compare<R: Register>(alloc: Global, ledger: &Ledger, register: &mut R) -> Result<(), StoreFault>
+    requires { R.is_bound register.old ≡ true }
+    ensures rows { OnOk result (Each (R.holding register.new) (HasRows ledger.now.museum ledger.now.posted)) }
+    ensures fault { IfErr result (λ fault. Each (R.holding register.new) (λ c. IsRowsFault ledger.now.museum ledger.now.posted c fault)) }
+    ensures unchanged { Comes (R.holding register.old) (R.holding register.new) AreSame }
+    ensures bound { R.is_bound register.new ≡ true }
+    ensures count { CountsRefusal (R.refusals register.old) (R.refusals register.new) result }
+{
+    if register.agrees(alloc, ledger)? {
+        Ok(())
+    } else {
+        Err(StoreFault::Damaged(0))
+    }
 }

@@ -2,6 +2,7 @@
 ghost use Rattle.std.specs.Prelude.{◌≡◌, ◌≢◌, [], false, None, Some, OnOk, IfErr, MatchResult};
 ghost use Rattle.std.specs.Str.{is_utf8};
 ghost use Rattle.csv.specs.Records.{fields_of};
+ghost use Rattle.nest_core.specs.Museum.{no_museum};
 ghost use Rattle.nest_core.specs.SetupRows.{first_fault, museum_of, row_fault, rows_of, setup_fault, with_row};
 
 use crate::setup::Setup;
@@ -41,6 +42,17 @@ fn read_rows(alloc: Global, bytes: &[u8]) -> Result<Setup, SetupFault>
         (λ fault. fault ≢ SetupFault.NoMemory → first_fault [] (rows_of bytes.now) ≡ Some fault) }
 {
     let mut setup = Setup::new(alloc);
+    add_rows(alloc, &mut setup, bytes)?;
+    Ok(setup)
+}
+
+/// Adds what the rows list to a setup that lists nothing; else the fault of the first that has one, or NoMemory.
+fn add_rows(alloc: Global, setup: &mut Setup, bytes: &[u8]) -> Result<(), SetupFault>
+    requires { setup.old ≡ no_museum }
+    ensures { MatchResult result
+        (λ _. (first_fault [] (rows_of bytes.now) ≡ None) × (setup.new ≡ museum_of (rows_of bytes.now)))
+        (λ fault. fault ≢ SetupFault.NoMemory → first_fault [] (rows_of bytes.now) ≡ Some fault) }
+{
     let mut reader = ReaderBuilder::new()
         .has_headers(false)
         .flexible(true)
@@ -52,9 +64,9 @@ fn read_rows(alloc: Global, bytes: &[u8]) -> Result<Setup, SetupFault>
             return Err(SetupFault::NoMemory);
         };
         if !found {
-            return Ok(setup);
+            return Ok(());
         }
-        add_row(&mut setup, number, &row)?;
+        add_row(setup, number, &row)?;
     }
     // No memory holds so many rows.
     Err(SetupFault::NoMemory)

@@ -7,8 +7,8 @@ use Rattle.hub_core.proofs.judging.judged.Given as goal
 
 abbrev pub invariant-loop-entry : goal.invariant-loop-entry
 invariant-loop-entry l = record {
-  museum : l.ledger.museum ≡ l.fn.setup;
-  depth : l.ledger.depth ≡ l.fn.depth;
+  museum : l.ledger.museum ≡ l.fn.ledger.museum;
+  depth : l.ledger.depth ≡ l.fn.ledger.depth;
   list : reverse l.fn.entries.items ≡ l.left.items ++ l.ledger.posted;
   lawful : IsLawful l.ledger.museum l.ledger.depth l.ledger.posted;
   in_step : InStep (map opened l.starts.items) l.ledger.museum l.ledger.posted;

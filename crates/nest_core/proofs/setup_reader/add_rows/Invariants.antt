@@ -2,7 +2,7 @@ use Rattle.std.proofs.Common.{◌≡◌, ℕ, List, Some}
 use Rattle.csv.specs.Reading.{Ready, default_config, reader_config, reader_state, reader_trim, source_of, strip_bom}
 use Rattle.csv.specs.declared.reader.Trim.TheVariants as trim
 use Rattle.nest_core.proofs.Reading.{IsUpTo}
-use Rattle.nest_core.proofs.setup_reader.read_rows.Given as goal
+use Rattle.nest_core.proofs.setup_reader.add_rows.Given as goal
 
 -- the rows before this one are listed, and the reader stands behind them
 abbrev pub invariant-loop-number : goal.invariant-loop-number

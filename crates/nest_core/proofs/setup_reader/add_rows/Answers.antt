@@ -6,7 +6,7 @@ use Rattle.csv.specs.Reading.{default_config}
 use Rattle.nest_core.proofs.CsvRows.{read_some}
 use Rattle.nest_core.proofs.Outcomes.{match_err}
 use Rattle.nest_core.proofs.Reading.{at_end, at_start, fault_here, one_more}
-use Rattle.nest_core.proofs.setup_reader.read_rows.Goals as goal
+use Rattle.nest_core.proofs.setup_reader.add_rows.Goals as goal
 
 pub loop-number-init : goal.loop-number-init
 loop-number-init c =
@@ -18,7 +18,7 @@ loop-number-init c =
       rw (built, named) at made.config ∙ c.new.ensures.config,
       strip_bom c.args.bytes.now,
       made.source,
-      rw (c.new-setup.ensures, made.state) (at_start (strip_bom c.args.bytes.now)),
+      rw (c.requires, made.state) (at_start (strip_bom c.args.bytes.now)),
     )
 
 pub loop-number-preserved : goal.loop-number-preserved
