@@ -22,6 +22,7 @@ use Rattle.station_core.specs.Runs.{Arrived}
 use Rattle.hub_core.proofs.RowOrder.{at_number}
 use Rattle.hub_core.proofs.StoreLemmas.{one_depth}
 use Rattle.hub_core.specs.Points.{entry_of, post}
+use Rattle.hub_core.specs.Posting.{LeavesUnposted}
 use Rattle.hub_core.specs.StandsFor.{HasStore, HasSomeStore, HasEither}
 use Rattle.hub_core.specs.Openings.{IsFirstUnlawful, HasWrongRow, HasWrongEntry, HasOtherRows, IsOpenFault, OpensAgain, IsNotOpened}
 
@@ -118,7 +119,7 @@ module _ (store : Holding) where
   some_of_store book law has = has_more store _ (λ c. (P : List Entry) × IsLawful book.museum book.depth P × IsStoreOf book.museum book.depth P c) (λ c is. (book.posted, law, is)) has
 
   -- a store with a book's list, or that with one entry that may follow
-  pub some_of_either : (L L' : Book) (next : Arrived Message) → IsLawful L.museum L.depth L.posted → Follows L.museum L.depth L.posted (entry_of L.museum L.depth L.posted next)
+  some_of_either : (L L' : Book) (next : Arrived Message) → IsLawful L.museum L.depth L.posted → Follows L.museum L.depth L.posted (entry_of L.museum L.depth L.posted next)
       → L' ≡ L → HasEither store L.museum L.depth L.posted next → HasSomeStore store L'
   some_of_either L L' next law follows same either =
       subst (λ (b : Book). HasSomeStore store b) (sym same) (has_more store _ (λ c. (P : List Entry) × IsLawful L.museum L.depth P × IsStoreOf L.museum L.depth P c) (λ c has. elim has [
@@ -130,6 +131,11 @@ module _ (store : Holding) where
   pub some_opens : (book : Book) → HasSomeStore store book → OpensAgain store book.museum
   some_opens book has =
       has_more store _ (λ c. (fault : StoreFault) → IsOpenFault book.museum c fault → is_failure fault ≡ true) (λ c some fault h. opens book.museum book.depth some.0 c fault some.1 some.2 h) has
+
+-- a message that isn't posted leaves a store with a lawful list
+pub unposted : (old new : Holding) (L L' : Book) (next : Arrived Message) → IsLawful L.museum L.depth L.posted → Follows L.museum L.depth L.posted (entry_of L.museum L.depth L.posted next)
+    → L' ≡ L → (HasStore old L → HasEither new L.museum L.depth L.posted next) → LeavesUnposted old new L L' next
+unposted old new L L' next law follows same left = record { ledger = same; left = left; lawful = λ had. some_of_either new L L' next law follows same (left had) }
 
 -- an opening of such a store fails for nothing else
 pub fails_so : (old new : Holding) (S T : Museum) (fault : StoreFault) → S ≡ T → OpensAgain old T → Comes old new (IsNotOpened S fault) → new.is_quiet → is_failure fault ≡ true

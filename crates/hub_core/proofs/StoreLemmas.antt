@@ -55,6 +55,14 @@ one_depth d e same = let sums = sum_by-IsPermutation (λ (row : MetaRow). row.va
 abbrev pub entry_with : Arrived Message → Changes → Entry
 entry_with r changes = record { station = r.station; n = r.n; message = r.message; verdict = changes.verdict }
 
+-- the ledger with the entry that the changes tell
+pub posted_book : (L : Book) (r : Arrived Message) (changes : Changes) → changes ≡ changes_of L r.message → (L' : Book) → L' ≡ record L { posted = entry_with r changes ∷ L.posted } → L' ≡ record L { posted = post L.museum L.depth L.posted r }
+posted_book L r changes planned L' is = is ∙ ap (λ (x : Changes). record L { posted = entry_with r x ∷ L.posted }) planned
+
+-- a store with the ledger's rows
+pub either_of : (store : Holding) (L : Book) (r : Arrived Message) → HasStore store L → HasEither store L.museum L.depth L.posted r
+either_of store L r has = has_more store (IsStoreOf L.museum L.depth L.posted) (λ c. IsStoreOf L.museum L.depth L.posted c ⊎ IsStoreOf L.museum L.depth (post L.museum L.depth L.posted r) c) (λ c is. inl is) has
+
 module _ (old new : Holding) (L : Book) (r : Arrived Message) (changes : Changes) (lawful : IsLawful L.museum L.depth L.posted) (follows : Follows L.museum L.depth L.posted (entry_of L.museum L.depth L.posted r)) (planned : changes ≡ changes_of L r.message) (has : HasStore old L) where
   -- one posting more
   step_posted : (c d : Content) → IsStoreOf L.museum L.depth L.posted c → IsPosted (entry_with r changes) changes c d → IsStoreOf L.museum L.depth (post L.museum L.depth L.posted r) d
@@ -79,9 +87,7 @@ module _ (old new : Holding) (L : Book) (r : Arrived Message) (changes : Changes
 
   -- the same, of the ledger after it
   pub stored_book : (L' : Book) → L' ≡ record L { posted = entry_with r changes ∷ L.posted } → Comes old new (IsPosted (entry_with r changes) changes) → HasStore new L'
-  stored_book L' is comes =
-      let same : record L { posted = entry_with r changes ∷ L.posted } ≡ record L { posted = post L.museum L.depth L.posted r } = ap (λ (x : Changes). record L { posted = entry_with r x ∷ L.posted }) planned in
-      subst (λ (b : Book). HasStore new b) (sym (is ∙ same)) (stored_in comes)
+  stored_book L' is comes = subst (λ (b : Book). HasStore new b) (sym (posted_book L r changes planned L' is)) (stored_in comes)
 
 -- a call that succeeded counts no refusal
 pub counts_ok : {T : Type 0} (old new : ℕ) (r : Result T HubFault) (x : T) → r ≡ Ok x → CountsStore old new r → new ≡ old

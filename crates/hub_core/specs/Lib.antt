@@ -7,6 +7,7 @@ pub mod LineText
 pub mod Reading
 pub mod StandsFor
 pub mod Serving
+pub mod Posting
 pub mod Openings
 pub mod Replayed
 pub mod WholeRun

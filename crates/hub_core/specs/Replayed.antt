@@ -1,5 +1,5 @@
 -- What a replay leaves. `i` and `i'` are what the reader has left before and after, `o` and `o'` what the writer holds.
-use Rattle.std.specs.Prelude.{ℕ, ◌≡◌, ◌≤◌, ◌++◌, Bool, true, false, List, Option, OnSome, length, take}
+use Rattle.std.specs.Prelude.{ℕ, ◌≡◌, ◌≤◌, ◌++◌, Bool, true, false, List, Option, OnSome, Result, OnOk, IfErr, length, take}
 use Rattle.std.specs.Io.KnownBytes.{Appends, Consumes, IsAtEnd}
 use Rattle.nest_core.specs.Museum.{Museum}
 use Rattle.posting_core.specs.declared.entry.Entry.{Entry}
@@ -7,6 +7,7 @@ use Rattle.register_store.specs.Holdings.{Holding}
 use Rattle.hub_core.specs.declared.answer.Arrival.{Arrival}
 use Rattle.hub_core.specs.declared.replaying.ReplayFault.{ReplayFault}
 use Rattle.hub_core.specs.declared.replaying.ReplayFault.TheVariants.{NoMemory, Store, ReadFailed, WriteFailed}
+use Rattle.hub_core.specs.Faults.{CountsReplay}
 use Rattle.hub_core.specs.Lines.{lines, ended}
 use Rattle.hub_core.specs.LineText.{text, arrivals}
 use Rattle.hub_core.specs.StandsFor.{State, StandsFor, TakesSome}
@@ -50,3 +51,11 @@ AfterFault S depth O A i i' o o' holding hub NoMemory = BrokenOff S depth O A i 
 AfterFault S depth O A i i' o o' holding hub Store = BrokenOff S depth O A i i' o o' holding hub
 AfterFault S depth O A i i' o o' holding hub ReadFailed = Answered S depth O A i i' o o' holding hub false
 AfterFault S depth O A i i' o o' holding hub WriteFailed = CutShort S depth O A i i' o o' holding hub
+
+-- what a replay leaves, however it ends
+pub record EndsReplay {Q T : Type 0} (holding : Q → Holding) (refusals : Q → ℕ) (i i' o o' : Option (List ℕ)) (old new : State Q) (result : Result T ReplayFault) : Type 0 where
+  pub faults : IfErr result (λ fault. (O : List Entry) (A : List Arrival) → StandsFor holding old O A → AfterFault old.book.museum old.book.depth O A i i' o o' holding new fault)
+  pub up : OnOk result (new.down ≡ false)
+  pub count : CountsReplay (refusals old.register) (refusals new.register) result
+  pub museum : new.book.museum ≡ old.book.museum
+  pub depth : new.book.depth ≡ old.book.depth

@@ -1,15 +1,14 @@
 //! The posting of what is due.
-ghost use Rattle.std.specs.Prelude.{◌≡◌, ◌<◌, ◌⊎◌, ◌-◌, List, false, true, length, OnOk, OnErr, IfErr};
-ghost use Rattle.posting_core.specs.declared.message.Message.{Message};
+ghost use Rattle.std.specs.Prelude.{◌≡◌, ◌<◌, ◌⊎◌, false, true, length, OnOk, OnErr, IfErr};
 ghost use Rattle.posting_core.specs.Messages.{is_sign_off};
 ghost use Rattle.posting_core.specs.Lawful.{Follows};
 ghost use Rattle.register_store.specs.Registers.{is_failure};
 ghost use Rattle.station_core.specs.Series.{series_at};
-ghost use Rattle.station_core.specs.Runs.{Arrived, arrived, due, ready};
-ghost use Rattle.station_core.specs.Progress.{IsPosting};
-ghost use Rattle.hub_core.specs.Points.{entry_of, post};
+ghost use Rattle.station_core.specs.Runs.{arrived};
+ghost use Rattle.hub_core.specs.Points.{entry_of};
 ghost use Rattle.hub_core.specs.Faults.{hub_fault, CountsStore};
-ghost use Rattle.hub_core.specs.StandsFor.{InStep, Done, HasStore, HasSomeStore, HasEither, Stopped};
+ghost use Rattle.hub_core.specs.StandsFor.{InStep};
+ghost use Rattle.hub_core.specs.Posting.{Posts, LeavesUnposted, PostsDue, StopsDue};
 
 use crate::HubFault;
 use nest_core::StationNo;
@@ -33,14 +32,8 @@ pub(crate) fn post_due<R: Register>(
     ensures museum { ledger.new.museum ≡ ledger.old.museum }
     ensures depth { ledger.new.depth ≡ ledger.old.depth }
     ensures stations { length sequences.new ≡ length sequences.old }
-    ensures in_step { OnOk result (InStep sequences.new ledger.new.museum ledger.new.posted) }
-    ensures done { OnOk result ((taken : List (Arrived Message)) → IsPosting is_sign_off taken station sequences.old →
-        Done ledger.old.museum ledger.old.depth taken station (series_at sequences.old station).posted ledger.old.posted sequences.new ledger.new.posted) }
-    ensures stored { OnOk result (HasStore (R.holding register.old) ledger.old → HasStore (R.holding register.new) ledger.new) }
-    ensures stopped { OnErr result ((taken : List (Arrived Message)) → IsPosting is_sign_off taken station sequences.old →
-        HasStore (R.holding register.old) ledger.old → Stopped (R.holding register.new) ledger.old.museum ledger.old.depth ledger.old.posted
-        (due taken station (series_at sequences.old station).posted (ready is_sign_off taken station - (series_at sequences.old station).posted)) ledger.new.posted) }
-    ensures lawful { OnErr result (HasStore (R.holding register.old) ledger.old → HasSomeStore (R.holding register.new) ledger.new) }
+    ensures posted { OnOk result (PostsDue (R.holding register.old) (R.holding register.new) station sequences.old sequences.new ledger.old ledger.new) }
+    ensures stopped { OnErr result (StopsDue (R.holding register.old) (R.holding register.new) station sequences.old ledger.old ledger.new) }
     ensures bound { R.is_bound register.new ≡ true }
     ensures count { CountsStore (R.refusals register.old) (R.refusals register.new) result }
     ensures fault { IfErr result (λ fault. (fault ≡ HubFault.NoMemory) ⊎ (fault ≡ HubFault.Store)) }
@@ -68,12 +61,8 @@ fn post_next<R: Register>(
     requires follows { Follows ledger.old.museum ledger.old.depth ledger.old.posted
         (entry_of ledger.old.museum ledger.old.depth ledger.old.posted (arrived station n message)) }
     requires bound { R.is_bound register.old ≡ true }
-    ensures ok { OnOk result (ledger.new ≡ record ledger.old { posted = post ledger.old.museum ledger.old.depth ledger.old.posted (arrived station n message) }) }
-    ensures err { OnErr result (ledger.new ≡ ledger.old) }
-    ensures stored { OnOk result (HasStore (R.holding register.old) ledger.old → HasStore (R.holding register.new) ledger.new) }
-    ensures left { OnErr result (HasStore (R.holding register.old) ledger.old →
-        HasEither (R.holding register.new) ledger.old.museum ledger.old.depth ledger.old.posted (arrived station n message)) }
-    ensures lawful { OnErr result (HasStore (R.holding register.old) ledger.old → HasSomeStore (R.holding register.new) ledger.new) }
+    ensures posted { OnOk result (Posts (R.holding register.old) (R.holding register.new) ledger.old ledger.new (arrived station n message)) }
+    ensures left { OnErr result (LeavesUnposted (R.holding register.old) (R.holding register.new) ledger.old ledger.new (arrived station n message)) }
     ensures bound { R.is_bound register.new ≡ true }
     ensures count { CountsStore (R.refusals register.old) (R.refusals register.new) result }
     ensures fault { IfErr result (λ fault. (fault ≡ HubFault.NoMemory) ⊎ (fault ≡ HubFault.Store)) }

@@ -4,9 +4,8 @@ ghost use Rattle.std.specs.Io.KnownBytes.{Appends, IsAtEnd};
 ghost use Rattle.posting_core.specs.declared.entry.Entry.{Entry};
 ghost use Rattle.hub_core.specs.declared.answer.Arrival.{Arrival};
 ghost use Rattle.hub_core.specs.LineText.{text, arrivals};
-ghost use Rattle.hub_core.specs.Faults.{CountsReplay};
 ghost use Rattle.hub_core.specs.StandsFor.{StandsFor};
-ghost use Rattle.hub_core.specs.Replayed.{Answered, AfterFault};
+ghost use Rattle.hub_core.specs.Replayed.{Answered, EndsReplay};
 
 use crate::line_reader::{Reads, flush, next_line};
 use crate::line_reply::{reply_to, without_return};
@@ -67,12 +66,7 @@ pub fn replay<R: BufRead, W: Write, S: Register>(
         IsAtEnd (R.remaining input.new)
         × Appends (W.contents output.old) (W.contents output.new) (text hub.old.book.museum hub.old.book.depth O A bytes)
         × StandsFor S.holding hub.new O (A ++ arrivals hub.old.book.museum bytes))) }
-    ensures faults { IfErr result (λ fault. (O : List Entry) (A : List Arrival) → StandsFor S.holding hub.old O A →
-        AfterFault hub.old.book.museum hub.old.book.depth O A (R.remaining input.old) (R.remaining input.new) (W.contents output.old) (W.contents output.new) S.holding hub.new fault) }
-    ensures up { OnOk result (hub.new.down ≡ false) }
-    ensures count { CountsReplay (S.refusals hub.old.register) (S.refusals hub.new.register) result }
-    ensures museum { hub.new.book.museum ≡ hub.old.book.museum }
-    ensures depth { hub.new.book.depth ≡ hub.old.book.depth }
+    ensures ends { EndsReplay S.holding S.refusals (R.remaining input.old) (R.remaining input.new) (W.contents output.old) (W.contents output.new) hub.old hub.new result }
 {
     replay_from(alloc, input, output, hub, Reads::new())
 }
@@ -88,12 +82,7 @@ pub(crate) fn replay_from<R: BufRead, W: Write, S: Register>(
     requires { hub.old.down ≡ false }
     ensures answered { OnOk result ((O : List Entry) (A : List Arrival) → StandsFor S.holding hub.old O A →
         Answered hub.old.book.museum hub.old.book.depth O A (R.remaining input.old) (R.remaining input.new) (W.contents output.old) (W.contents output.new) S.holding hub.new true) }
-    ensures faults { IfErr result (λ fault. (O : List Entry) (A : List Arrival) → StandsFor S.holding hub.old O A →
-        AfterFault hub.old.book.museum hub.old.book.depth O A (R.remaining input.old) (R.remaining input.new) (W.contents output.old) (W.contents output.new) S.holding hub.new fault) }
-    ensures up { OnOk result (hub.new.down ≡ false) }
-    ensures count { CountsReplay (S.refusals hub.old.register) (S.refusals hub.new.register) result }
-    ensures museum { hub.new.book.museum ≡ hub.old.book.museum }
-    ensures depth { hub.new.book.depth ≡ hub.old.book.depth }
+    ensures ends { EndsReplay S.holding S.refusals (R.remaining input.old) (R.remaining input.new) (W.contents output.old) (W.contents output.new) hub.old hub.new result }
 {
     let mut reads = reads_left;
     let mut line = Vec::new(alloc);

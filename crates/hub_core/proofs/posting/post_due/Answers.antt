@@ -1,9 +1,7 @@
-use Rattle.std.proofs.Common.{◌≡◌, ◌+◌, ◌-◌, ◌<◌, ◌∙◌, List, sym, ap, subst, arith, length, refl}
+use Rattle.std.proofs.Common.{◌≡◌, ◌+◌, ◌<◌, ◌∙◌, sym, ap, subst, arith, length, refl}
 use Rattle.station_core.specs.Series.{series_at, Series, counted, closed}
-use Rattle.station_core.specs.Runs.{Arrived, arrived, ready, due}
-use Rattle.station_core.specs.Progress.{IsPosting}
-use Rattle.posting_core.specs.Messages.{is_sign_off}
-use Rattle.hub_core.specs.StandsFor.{HasStore, Stopped}
+use Rattle.station_core.specs.Runs.{Arrived, arrived}
+use Rattle.hub_core.specs.Posting.{StopsDue}
 use Rattle.posting_core.specs.declared.message.Message.{Message}
 use Rattle.posting_core.specs.Book.{Book}
 use Rattle.hub_core.proofs.PostLemmas.{IsPosted, written, written_again, posted_list, posted_step, caught_next, done_sign, next_follows}
@@ -26,16 +24,19 @@ returns-in_err-post_next-clause-stopped g c =
     let s = c.args.station in
     let all = c.loop-n.sequences in
     let L = c.args.ledger.now in
-    let k = (series_at c.args.sequences.now s).posted in
-    let within : s < length all = subst (λ n. s < n) (sym c.loop-n.invariant.stations) c.requires.known in
+    let inv = c.loop-n.invariant in
+    let left = c.in_err-post_next.ensures.left in
+    let store = g.R.Register.holding c.post_next.new.register in
+    let within : s < length all = subst (λ n. s < n) (sym inv.stations) c.requires.known in
     let one = written all c.next_due.new.self s (counted (series_at all s)) within c.in-Some.ensures.counted in
-    let stop : (taken : List (Arrived Message)) → IsPosting is_sign_off taken s c.args.sequences.now → HasStore (g.R.Register.holding c.args.register.now) L
-    → Stopped (g.R.Register.holding c.post_next.new.register) L.museum L.depth L.posted (due taken s k (ready is_sign_off taken s - k)) c.post_next.new.ledger.posted =
-    λ taken p had.
-    let so_far = c.loop-n.invariant.caught taken p in
-    stopped_at (g.R.Register.holding c.post_next.new.register) L.museum L.depth taken s k c.in-Some.n L.posted c.loop-n.ledger c.post_next.new.ledger all c.next_due.new.self c.in-Some.message
-    so_far c.in-Some.ensures.number.0 (c.in-Some.ensures.due _ taken so_far.posting) (ap (λ (x : Series Message). x.posted) one.here ∙ sym c.in-Some.ensures.number.0)
-    c.loop-n.invariant.museum c.loop-n.invariant.depth c.in_err-post_next.ensures.err (c.in_err-post_next.ensures.left (c.loop-n.invariant.stored had)) in
+    let stop : StopsDue (g.R.Register.holding c.args.register.now) store s c.args.sequences.now L c.post_next.new.ledger = record {
+      stopped = λ taken p had.
+          let so_far = inv.caught taken p in
+          stopped_at store L.museum L.depth taken s (series_at c.args.sequences.now s).posted c.in-Some.n L.posted c.loop-n.ledger c.post_next.new.ledger all c.next_due.new.self c.in-Some.message
+          so_far c.in-Some.ensures.number.0 (c.in-Some.ensures.due _ taken so_far.posting) (ap (λ (x : Series Message). x.posted) one.here ∙ sym c.in-Some.ensures.number.0)
+          inv.museum inv.depth left.ledger (left.left (inv.stored had));
+      lawful = λ had. left.lawful (inv.stored had);
+    } in
     on_err _ stop
 
 pub sign_off-requires : goal.sign_off-requires
@@ -61,7 +62,7 @@ loop-n-preserved g c =
     let L = c.loop-n.ledger in
     let r : Arrived Message = arrived s c.in-Some.n c.in-Some.message in
     let within : s < length all = subst (λ n. s < n) (sym c.loop-n.invariant.stations) c.requires.known in
-    let is : IsPosted L c.post_next.new.ledger r = c.in_ok-post_next.ensures.ok in
+    let is : IsPosted L c.post_next.new.ledger r = c.in_ok-post_next.ensures.posted.ledger in
     let one = written all c.next_due.new.self s (counted (series_at all s)) within c.in-Some.ensures.counted in
     let off = sym c.is_sign_off-signs_off.ensures ∙ c.if-signs_off.false in
     record {
@@ -72,32 +73,32 @@ loop-n-preserved g c =
       in_step = posted_step L c.post_next.new.ledger r all c.next_due.new.self (counted (series_at all s)) is c.loop-n.invariant.in_step within one refl (c.loop-n.invariant.unsigned ∙ sym off) c.loop-n.invariant.unsigned;
       bound = c.post_next.ensures.bound;
       count = counts_ok _ _ _ _ c.in_ok-post_next.was c.post_next.ensures.count ∙ c.loop-n.invariant.count;
-      stored = λ had. c.in_ok-post_next.ensures.stored (c.loop-n.invariant.stored had);
+      stored = λ had. c.in_ok-post_next.ensures.posted.stored (c.loop-n.invariant.stored had);
       caught = λ taken p.
           let so_far = c.loop-n.invariant.caught taken p in
           caught_next c.args.ledger.now.museum c.args.ledger.now.depth taken s _ c.in-Some.n _ _ _ all _ c.in-Some.message so_far c.in-Some.ensures.number.0 (c.in-Some.ensures.due _ taken so_far.posting) off c.in-Some.ensures.counted
           (posted_list L c.post_next.new.ledger c.args.ledger.now.museum c.args.ledger.now.depth r is c.loop-n.invariant.museum c.loop-n.invariant.depth);
     }
 
-pub returns-then-signs_off-clause-in_step : goal.returns-then-signs_off-clause-in_step
-returns-then-signs_off-clause-in_step g c =
+pub returns-then-signs_off-clause-posted : goal.returns-then-signs_off-clause-posted
+returns-then-signs_off-clause-posted g c =
     let s = c.args.station in
     let all = c.loop-n.sequences in
+    let mid = c.next_due.new.self in
     let L = c.loop-n.ledger in
+    let inv = c.loop-n.invariant in
     let r : Arrived Message = arrived s c.in-Some.n c.in-Some.message in
-    let within : s < length all = subst (λ n. s < n) (sym c.loop-n.invariant.stations) c.requires.known in
-    let is : IsPosted L c.post_next.new.ledger r = c.in_ok-post_next.ensures.ok in
-    let one = written all c.next_due.new.self s (counted (series_at all s)) within c.in-Some.ensures.counted in
-    let two = written c.next_due.new.self c.sign_off.new.self s (closed (series_at c.next_due.new.self s)) (subst (λ n. s < n) (sym one.same_length) within) c.sign_off.ensures.closed in
+    let within : s < length all = subst (λ n. s < n) (sym inv.stations) c.requires.known in
+    let is : IsPosted L c.post_next.new.ledger r = c.in_ok-post_next.ensures.posted.ledger in
+    let one = written all mid s (counted (series_at all s)) within c.in-Some.ensures.counted in
+    let two = written mid c.sign_off.new.self s (closed (series_at mid s)) (subst (λ n. s < n) (sym one.same_length) within) c.sign_off.ensures.closed in
     let on = sym c.is_sign_off-signs_off.ensures ∙ c.if-signs_off.true in
-    posted_step L c.post_next.new.ledger r all c.sign_off.new.self (closed (series_at c.next_due.new.self s)) is c.loop-n.invariant.in_step within
-    (written_again all c.next_due.new.self c.sign_off.new.self s (counted (series_at all s)) (closed (series_at c.next_due.new.self s)) one two) (ap (λ (x : Series Message). x.posted) one.here) (sym on) c.loop-n.invariant.unsigned
-
-pub returns-then-signs_off-clause-done : goal.returns-then-signs_off-clause-done
-returns-then-signs_off-clause-done g c = λ taken p.
-    let so_far = c.loop-n.invariant.caught taken p in
-    let r : Arrived Message = arrived c.args.station c.in-Some.n c.in-Some.message in
-    let is : IsPosted c.loop-n.ledger c.post_next.new.ledger r = c.in_ok-post_next.ensures.ok in
-    let on = sym c.is_sign_off-signs_off.ensures ∙ c.if-signs_off.true in
-    done_sign c.args.ledger.now.museum c.args.ledger.now.depth taken c.args.station _ c.in-Some.n _ _ _ c.loop-n.sequences c.next_due.new.self _ c.in-Some.message so_far c.in-Some.ensures.number.0 (c.in-Some.ensures.due _ taken so_far.posting) (c.sign_off.ensures.taken _ taken) on c.in-Some.ensures.counted c.sign_off.ensures.closed
-    (posted_list c.loop-n.ledger c.post_next.new.ledger c.args.ledger.now.museum c.args.ledger.now.depth r is c.loop-n.invariant.museum c.loop-n.invariant.depth)
+    record {
+      in_step = posted_step L c.post_next.new.ledger r all c.sign_off.new.self (closed (series_at mid s)) is inv.in_step within
+          (written_again all mid c.sign_off.new.self s (counted (series_at all s)) (closed (series_at mid s)) one two) (ap (λ (x : Series Message). x.posted) one.here) (sym on) inv.unsigned;
+      done = λ taken p.
+          let so_far = inv.caught taken p in
+          done_sign c.args.ledger.now.museum c.args.ledger.now.depth taken s _ c.in-Some.n _ _ _ all mid _ c.in-Some.message so_far c.in-Some.ensures.number.0 (c.in-Some.ensures.due _ taken so_far.posting) (c.sign_off.ensures.taken _ taken) on c.in-Some.ensures.counted c.sign_off.ensures.closed
+          (posted_list L c.post_next.new.ledger c.args.ledger.now.museum c.args.ledger.now.depth r is inv.museum inv.depth);
+      stored = λ had. c.in_ok-post_next.ensures.posted.stored (inv.stored had);
+    }

@@ -6,10 +6,11 @@ use Rattle.hub_core.proofs.ReplayLemmas.{Underway}
 use Rattle.hub_core.proofs.replaying.replay_from.Given as goal
 
 abbrev pub invariant-loop-number : goal.invariant-loop-number
-invariant-loop-number g l =
-    (l.hub.down ≡ false)
-    × (l.hub.book.museum ≡ l.fn.hub.book.museum)
-    × (l.hub.book.depth ≡ l.fn.hub.book.depth)
-    × (g.S.Register.refusals l.hub.register ≡ g.S.Register.refusals l.fn.hub.register)
-    × ((O : List Entry) (A : List Arrival) → StandsFor g.S.Register.holding l.fn.hub O A →
-    Underway l.fn.hub.book.museum l.fn.hub.book.depth O A (g.R.Read.remaining l.fn.input) (g.R.Read.remaining l.input) (g.W.Write.contents l.fn.output) (g.W.Write.contents l.output) g.S.Register.holding l.hub l.number)
+invariant-loop-number g l = record {
+  up : l.hub.down ≡ false;
+  museum : l.hub.book.museum ≡ l.fn.hub.book.museum;
+  depth : l.hub.book.depth ≡ l.fn.hub.book.depth;
+  count : g.S.Register.refusals l.hub.register ≡ g.S.Register.refusals l.fn.hub.register;
+  underway : (O : List Entry) (A : List Arrival) → StandsFor g.S.Register.holding l.fn.hub O A →
+      Underway l.fn.hub.book.museum l.fn.hub.book.depth O A (g.R.Read.remaining l.fn.input) (g.R.Read.remaining l.input) (g.W.Write.contents l.fn.output) (g.W.Write.contents l.output) g.S.Register.holding l.hub l.number;
+}

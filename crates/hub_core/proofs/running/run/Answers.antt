@@ -18,7 +18,7 @@ returns-in_err-replay_from-clause-faults g c =
     let o2 : Option (List ℕ) = g.W.Write.contents c.replay_from.new.output in
     let fault = c.in_err-replay_from.field-0.0 in
     if_err c.from_residual-in_err-replay_from.result (AfterRun i i2 o o2) (run_fault fault) c.from_residual-in_err-replay_from.ensures.1
-    (inr (fault, refl, lines_fault i i1 i2 o o2 c.in_ok-hub.hub c.replay_from.new.hub fault c.in_ok-hub.ensures.hub c.in_err-replay_from.ensures.faults))
+    (inr (fault, refl, lines_fault i i1 i2 o o2 c.in_ok-hub.hub c.replay_from.new.hub fault c.in_ok-hub.ensures.hub c.in_err-replay_from.ensures.ends.faults))
 
 pub returns-in_err-replay_from-clause-never_store : goal.returns-in_err-replay_from-clause-never_store
-returns-in_err-replay_from-clause-never_store g c = no_store c.from_residual-in_err-replay_from.result c.in_err-replay_from.field-0.0 c.from_residual-in_err-replay_from.ensures.1 c.in_err-replay_from.ensures.count
+returns-in_err-replay_from-clause-never_store g c = no_store c.from_residual-in_err-replay_from.result c.in_err-replay_from.field-0.0 c.from_residual-in_err-replay_from.ensures.1 c.in_err-replay_from.ensures.ends.count

@@ -54,7 +54,7 @@ returns-then-before-now-clause-headline g c =
     (λ O A st.
     let h = stands_taken g.R.Register.holding hub new c.take.new.self O A c.args.arrival st step.stations
     (refused_by hub O A c.args.arrival _ _ step (c.test.ensures.taken is_sign_off _ st.series) c.in_default.is)
-    c.if-self.false due.museum due.depth c.take.ensures.held (c.take.ensures.taken is_sign_off) due.done due.stored in (
+    c.if-self.false due.museum due.depth c.take.ensures.held (c.take.ensures.taken is_sign_off) due.posted.done due.posted.stored in (
       reply_held (length hub.book.posted) (length new.book.posted) (length c.posted.result.now) (length c.posted-2.result.now)
           (length_back c.posted.result.now hub.book.posted c.posted.ensures) (length_back c.posted-2.result.now new.book.posted c.posted-2.ensures) c.if-before-now.true ∙ h.0,
       h.1,
@@ -70,7 +70,7 @@ returns-clause-headline g c =
     (λ O A st.
     let h = stands_taken g.R.Register.holding hub new c.take.new.self O A c.args.arrival st step.stations
     (refused_by hub O A c.args.arrival _ _ step (c.test.ensures.taken is_sign_off _ st.series) c.in_default.is)
-    c.if-self.false due.museum due.depth c.take.ensures.held (c.take.ensures.taken is_sign_off) due.done due.stored in (
+    c.if-self.false due.museum due.depth c.take.ensures.held (c.take.ensures.taken is_sign_off) due.posted.done due.posted.stored in (
       reply_posted (length hub.book.posted) (length new.book.posted) (length c.posted.result.now) (length c.posted-2.result.now)
           (length_back c.posted.result.now hub.book.posted c.posted.ensures) (length_back c.posted-2.result.now new.book.posted c.posted-2.ensures) c.if-before-now.false ∙ h.0,
       h.1,
@@ -84,7 +84,7 @@ returns-in-Err-clause-after_fault g c =
     → Stopped (g.R.Register.holding c.post_due.new.register) h.book.museum h.book.depth h.book.posted (due_with h.book.museum h.book.depth O A c.args.arrival) c.post_due.new.ledger.posted) c.self.view_is
     (λ O A st. stands_stopped g.R.Register.holding hub (g.R.Register.holding c.post_due.new.register) c.take.new.self c.post_due.new.ledger.posted O A c.args.arrival st step.stations
     (refused_by hub O A c.args.arrival _ _ step (c.test.ensures.taken is_sign_off _ st.series) c.in_default.is)
-    c.take.ensures.held (c.take.ensures.taken is_sign_off) c.in-Err.ensures.stopped)
+    c.take.ensures.held (c.take.ensures.taken is_sign_off) c.in-Err.ensures.stopped.stopped)
 
 pub returns-in-Err-clause-answers : goal.returns-in-Err-clause-answers
 returns-in-Err-clause-answers g c =
@@ -95,5 +95,5 @@ returns-in-Err-clause-answers g c =
     (λ O A st.
     let none = refused_by hub O A c.args.arrival _ _ step (c.test.ensures.taken is_sign_off _ st.series) c.in_default.is in
     let stop = stands_stopped g.R.Register.holding hub (g.R.Register.holding c.post_due.new.register) c.take.new.self c.post_due.new.ledger.posted O A c.args.arrival st step.stations none
-    c.take.ensures.held (c.take.ensures.taken is_sign_off) c.in-Err.ensures.stopped in
+    c.take.ensures.held (c.take.ensures.taken is_sign_off) c.in-Err.ensures.stopped.stopped in
     reply_due hub.book.museum hub.book.depth O A c.args.arrival stop.done stop.next stop.rest none stop.all)
