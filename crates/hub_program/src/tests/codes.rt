@@ -3,6 +3,7 @@ use codes_core::CodeFault::{BadNumber, BadShape, Empty, NoSuchDay};
 use codes_core::ThingKind::{Borrowed, Container, Own};
 use codes_core::{CodeFault, Day, LoanCode, Name, NameFault, PlaceCode, ThingCode, ThingKind};
 use std::alloc::Global;
+use std::process::Abort;
 use std::test::Fail;
 
 const THINGS: &[(&str, Result<ThingKind, CodeFault>)] = &[
@@ -41,13 +42,14 @@ const THINGS: &[(&str, Result<ThingKind, CodeFault>)] = &[
     ("C1000000", Err(BadNumber)),
 ];
 
-#[test]
-fn things(rt: HostRuntime) -> Result<(), Fail> {
+fn kind(text: &str) -> Result<ThingKind, CodeFault> {
+    Ok(ThingCode::parse(text.as_bytes())?.kind())
+}
+
+fn assert_things(rt: &impl Abort) {
     for (text, want) in THINGS {
-        let kind = ThingCode::parse(text.as_bytes()).map(|code| code.kind());
-        assert_eq!(rt; &kind, want, "reading {text:?}");
+        assert!(rt; kind(text) == *want, "{text:?}");
     }
-    Ok(())
 }
 
 const LOANS: &[(&str, Result<bool, CodeFault>)] = &[
@@ -71,13 +73,14 @@ const LOANS: &[(&str, Result<bool, CodeFault>)] = &[
     ("LI2024.1000000", Err(BadNumber)),
 ];
 
-#[test]
-fn loans(rt: HostRuntime) -> Result<(), Fail> {
+fn is_out(text: &str) -> Result<bool, CodeFault> {
+    Ok(LoanCode::parse(text.as_bytes())?.is_out())
+}
+
+fn assert_loans(rt: &impl Abort) {
     for (text, want) in LOANS {
-        let is_out = LoanCode::parse(text.as_bytes()).map(|code| code.is_out());
-        assert_eq!(rt; &is_out, want, "reading {text:?}");
+        assert!(rt; is_out(text) == *want, "{text:?}");
     }
-    Ok(())
 }
 
 const LYING: &[(&str, &str, bool)] = &[
@@ -110,24 +113,22 @@ const PLACES: &[(&str, Option<CodeFault>)] = &[
     ("É", Some(BadShape)),
 ];
 
-fn lies_in(place: &str, other: &str) -> Result<bool, Fail> {
-    let (place, other) = (
-        PlaceCode::parse(place.as_bytes())?,
-        PlaceCode::parse(other.as_bytes())?,
-    );
+fn lies_in(place: &str, other: &str) -> Result<bool, CodeFault> {
+    let place = PlaceCode::parse(place.as_bytes())?;
+    let other = PlaceCode::parse(other.as_bytes())?;
     Ok(place.lies_in(&other))
 }
 
-#[test]
-fn places(rt: HostRuntime) -> Result<(), Fail> {
+fn assert_places(rt: &impl Abort) {
     for (text, want) in PLACES {
-        let fault = PlaceCode::parse(text.as_bytes()).err();
-        assert_eq!(rt; &fault, want, "reading {text:?}");
+        assert!(rt;
+            PlaceCode::parse(text.as_bytes()).err() == *want,
+            "{text:?}"
+        );
     }
     for (place, other, want) in LYING {
-        assert_eq!(rt; lies_in(place, other)?, *want, "{place} in {other}");
+        assert!(rt; lies_in(place, other) == Ok(*want), "{place} in {other}");
     }
-    Ok(())
 }
 
 const DAYS: &[(&str, Result<i32, CodeFault>)] = &[
@@ -159,53 +160,74 @@ const DAYS: &[(&str, Result<i32, CodeFault>)] = &[
     ("2024-01-00", Err(NoSuchDay)),
 ];
 
-/// Day numbers are those of Python's datetime.
-#[test]
-fn days(rt: HostRuntime) -> Result<(), Fail> {
-    let first = Day::parse(b"1970-01-01")?;
-    for (text, want) in DAYS {
-        let number = Day::parse(text.as_bytes()).map(|day| day.days_after(first));
-        assert_eq!(rt; &number, want, "reading {text:?}");
-    }
-    let (may_first, may_last) = (Day::parse(b"2024-05-01")?, Day::parse(b"2024-05-31")?);
-    assert_eq!(rt; may_last.days_after(may_first), 30);
-    assert_eq!(rt; may_first.days_after(may_last), -30);
-    Ok(())
+/// How many days a day is after another one.
+fn days_after(day: &str, other: &str) -> Result<i32, CodeFault> {
+    let day = Day::parse(day.as_bytes())?;
+    let other = Day::parse(other.as_bytes())?;
+    Ok(day.days_after(other))
 }
 
-const NAMES: &[(&[u8], usize, Option<NameFault>)] = &[
-    (b"a", 1, None),
-    (b"a", 60, None),
-    (b" ", 1, None),
-    (b"~", 1, None),
-    (b"\xc3\xa9", 30, None),
-    (b"", 1, Some(NameFault::Empty)),
-    (b"a", 61, Some(NameFault::BadShape)),
-    (b"\xc3\xa9", 31, Some(NameFault::BadShape)),
-    (b"\x7f", 1, Some(NameFault::BadShape)),
-    (b"\x1f", 1, Some(NameFault::BadShape)),
-    (b"\xc3", 1, Some(NameFault::BadShape)),
+/// Day numbers are those of Python's datetime.
+fn assert_days(rt: &impl Abort) {
+    for (text, want) in DAYS {
+        assert!(rt; days_after(text, "1970-01-01") == *want, "{text:?}");
+    }
+    assert!(rt; days_after("2024-05-31", "2024-05-01") == Ok(30));
+    assert!(rt; days_after("2024-05-01", "2024-05-31") == Ok(-30));
+}
+
+#[test]
+fn codes_and_days(rt: HostRuntime) {
+    assert_things(&rt);
+    assert_loans(&rt);
+    assert_places(&rt);
+    assert_days(&rt);
+}
+
+const NAMES: &[(&str, Option<NameFault>)] = &[
+    ("a", None),
+    (" ", None),
+    ("~", None),
+    (
+        "012345678901234567890123456789012345678901234567890123456789",
+        None,
+    ),
+    ("éééééééééééééééééééééééééééééé", None),
+    ("", Some(NameFault::Empty)),
+    (
+        "0123456789012345678901234567890123456789012345678901234567890",
+        Some(NameFault::BadShape),
+    ),
+    ("ééééééééééééééééééééééééééééééé", Some(NameFault::BadShape)),
+    ("\x7f", Some(NameFault::BadShape)),
+    ("\x1f", Some(NameFault::BadShape)),
 ];
 
 /// Lengths of names, and the bytes that a name may have.
 #[test]
-fn names(rt: HostRuntime) -> Result<(), Fail> {
-    for (piece, count, want) in NAMES {
-        let bytes = piece.repeat(rt.alloc(), *count)?;
-        let fault = Name::new(rt.alloc(), &bytes).err();
-        assert_eq!(rt; &fault, want, "{count} of {piece:?}");
+fn name_lengths(rt: HostRuntime) {
+    for (text, want) in NAMES {
+        let fault = Name::new(rt.alloc(), text.as_bytes()).err();
+        assert!(rt; fault == *want, "{text:?}");
     }
-    Ok(())
+    let fault = Name::new(rt.alloc(), b"\xc3").err();
+    assert!(rt; fault == Some(NameFault::BadShape), "no UTF-8");
 }
 
 fn write_codes(alloc: Global, text: &mut String) -> Result<(), Fail> {
-    ThingCode::parse(b"2001.4.2a")?.write(alloc, text)?;
-    ThingCode::parse(b"L1999.7")?.write(alloc, text)?;
-    ThingCode::parse(b"C17")?.write(alloc, text)?;
+    for code in ["2001.4.2a", "L1999.7", "C17"] {
+        ThingCode::parse(code.as_bytes())?.write(alloc, text)?;
+    }
     LoanCode::parse(b"LI2024.1")?.write(alloc, text)?;
     PlaceCode::parse(b"S1-A")?.write(alloc, text)?;
     Day::parse(b"0987-06-05")?.write(alloc, text)?;
     Ok(())
+}
+
+fn write_name(alloc: Global, text: &mut String) -> Result<(), Fail> {
+    let name = Name::new(alloc, b"Ada B.")?;
+    let copy = name.copy(alloc)?;
+    Ok(copy.write(alloc, text)?)
 }
 
 /// Writes append the spelling, behind what the text has.
@@ -213,27 +235,8 @@ fn write_codes(alloc: Global, text: &mut String) -> Result<(), Fail> {
 fn spellings(rt: HostRuntime) -> Result<(), Fail> {
     let mut text = String::from_str(rt.alloc(), "at ")?;
     write_codes(rt.alloc(), &mut text)?;
-    assert_eq!(rt;
-        text.as_str(),
-        "at 2001.4.2aL1999.7C17LI2024.1S1-A0987-06-05"
-    );
-    Ok(())
-}
-
-#[test]
-fn names_written(rt: HostRuntime) -> Result<(), Fail> {
-    let mut text = String::from_str(rt.alloc(), "by ")?;
-    Name::new(rt.alloc(), b"Ada B.")?
-        .copy(rt.alloc())?
-        .write(rt.alloc(), &mut text)?;
-    assert_eq!(rt; text.as_str(), "by Ada B.");
-    Ok(())
-}
-
-/// A failed test shows a code's text.
-#[test]
-fn shown(rt: HostRuntime) -> Result<(), Fail> {
-    let shown = format!(in rt.alloc(); "{:?}", PlaceCode::parse(b"S1-A")?)?;
-    assert_eq!(rt; shown.as_str(), "PlaceCode { spelling: S1-A }");
+    write_name(rt.alloc(), &mut text)?;
+    let want = "at 2001.4.2aL1999.7C17LI2024.1S1-A0987-06-05Ada B.";
+    assert!(rt; text.as_str() == want);
     Ok(())
 }

@@ -1,11 +1,11 @@
 //! A reader and a writer that fail.
-use super::SMALL;
+use super::{SMALL, small_museum};
 use hub_core::{Hub, ReplayFault, RunFault, replay, run};
-use nest_core::Setup;
 use register_store::PlainRegister;
 use std::alloc::Global;
 use std::io;
 use std::io::{BufRead, ErrorKind, Read, Write};
+use std::process::Abort;
 use std::test::Fail;
 
 /// Gives these bytes; a read after them fails.
@@ -60,57 +60,65 @@ impl Write for Full {
 
 /// GAL's first message moves the object.
 const MOVE: &str =
-    "{\"station\":\"GAL\",\"n\":1,\"message\":{\"kind\":\"move\",\"thing\":\"2001.4.1\",\"place\":\"S1\",\"day\":\"2024-05-01\"}}\n";
+    r#"{"station":"GAL","n":1,"message":{"kind":"move","thing":"2001.4.1","place":"S1","day":"2024-05-01"}}
+"#;
 
-/// How a run ends whose reader fails after these bytes, and what is written.
-fn run_broken(alloc: Global, bytes: &[u8]) -> Result<(Result<(), RunFault>, String), Fail> {
+/// The small setup, and that line.
+const SESSION: &str = r#"station,GAL
+place,S1,inside
+own,2001.4.1,S1
+
+{"station":"GAL","n":1,"message":{"kind":"move","thing":"2001.4.1","place":"S1","day":"2024-05-01"}}
+"#;
+
+/// Whether a run whose reader fails after these bytes ends with ReadFailed, and has written this.
+fn ends_broken(alloc: Global, bytes: &[u8], want: &str) -> bool {
     let mut reader = Broken { left: bytes };
     let mut writer = Vec::new(alloc);
     let ended = run(alloc, &mut reader, &mut writer);
-    Ok((ended, String::from_utf8(writer)?))
+    ended == Err(RunFault::ReadFailed) && writer.as_slice() == want.as_bytes()
 }
 
 #[test]
-fn read_fails(rt: HostRuntime) -> Result<(), Fail> {
-    let input = format!(in rt.alloc(); "{SMALL}\n{MOVE}")?;
-    let (ended, written) = run_broken(rt.alloc(), input.as_bytes())?;
-    assert_eq!(&rt; ended, Err(RunFault::ReadFailed));
-    assert_eq!(&rt; written.as_str(), "GAL 1 posted 1 Applied\n");
-    Ok(())
+fn read_fails(rt: HostRuntime) {
+    let lines = ends_broken(rt.alloc(), SESSION.as_bytes(), "GAL 1 posted 1 Applied\n");
+    assert!(rt; lines);
+    let head = ends_broken(rt.alloc(), SMALL.as_bytes(), "");
+    assert!(rt; head);
 }
 
-#[test]
-fn read_fails_in_the_head(rt: HostRuntime) -> Result<(), Fail> {
-    let (ended, written) = run_broken(rt.alloc(), SMALL.as_bytes())?;
-    assert_eq!(&rt; ended, Err(RunFault::ReadFailed));
-    assert_eq!(&rt; written.as_str(), "");
-    Ok(())
+/// A hub over a setup of one station, one place and one object.
+fn small_hub(alloc: Global) -> Result<Hub<PlainRegister>, Fail> {
+    let setup = small_museum(alloc)?;
+    let hub = Hub::open(alloc, setup, PlainRegister::new(alloc)).ok();
+    Ok(hub.ok_or("not opened")?)
 }
 
-/// How a replay ends whose writer has room for so many bytes, and what is written.
-fn replay_full(
+/// Whether a replay whose writer has room for so many bytes ends with WriteFailed, and has written this.
+fn ends_full(
+    rt: &impl Abort,
     alloc: Global,
+    hub: &mut Hub<PlainRegister>,
     room: usize,
-) -> Result<(Result<(), ReplayFault>, String, usize), Fail> {
-    let setup = Setup::read(alloc, SMALL.as_bytes())?;
-    let Ok(mut hub) = Hub::open(alloc, setup, PlainRegister::new(alloc)) else {
-        return Err(Fail::from("not opened"));
-    };
+    want: &str,
+) -> bool {
+    assert!(rt; !hub.is_down());
     let mut reader = MOVE.as_bytes();
     let mut writer = Full {
         taken: Vec::new(alloc),
         room,
     };
-    let ended = replay(alloc, &mut reader, &mut writer, &mut hub);
-    let posted = hub.posted().len();
-    Ok((ended, String::from_utf8(writer.taken)?, posted))
+    let ended = replay(alloc, &mut reader, &mut writer, hub);
+    ended == Err(ReplayFault::WriteFailed) && writer.taken.as_slice() == want.as_bytes()
 }
 
 #[test]
 fn write_fails(rt: HostRuntime) -> Result<(), Fail> {
-    let (ended, written, posted) = replay_full(rt.alloc(), 10)?;
-    assert_eq!(&rt; ended, Err(ReplayFault::WriteFailed));
-    assert_eq!(&rt; written.as_str(), "GAL 1 post");
-    assert_eq!(&rt; posted, 1);
+    let mut hub = small_hub(rt.alloc())?;
+    let fails = ends_full(&rt, rt.alloc(), &mut hub, 10, "GAL 1 post");
+    let posted = hub.posted().len();
+    drop(hub);
+    assert!(rt; fails);
+    assert!(rt; posted == 1);
     Ok(())
 }

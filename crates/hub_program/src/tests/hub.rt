@@ -3,12 +3,12 @@ ghost use Rattle.std.specs.Prelude.{◌≡◌, true, IfErr};
 ghost use Rattle.register_store.specs.Registers.{is_failure};
 
 use super::ledger::tell_all;
-use super::{MUSEUM, SMALL, message_of};
+use super::{TO_S1, kept, museum, small_museum};
 use codes_core::{Day, LoanCode};
 use hub_core::{Answer, Arrival, Hub, OpenFault};
 use nest_core::{PlaceNo, Setup, StationNo};
-use posting_core::LoanState;
-use register_store::{PlainRegister, Register, StoreFault};
+use posting_core::{Ledger, LoanState};
+use register_store::{PlainRegister, Register, StoreFault, read_message};
 use station_core::Refusal;
 use std::alloc::Global;
 use std::process::Abort;
@@ -19,9 +19,7 @@ const GAL: StationNo = 1;
 /// The number of a message of GAL, its text, and the answer to it.
 type Row = (u64, &'static str, Answer);
 
-const TO_S1: &str = "{'kind':'move','thing':'2001.4.1','place':'S1','day':'2024-05-01'}";
-
-const TO_S1_A: &str = "{'kind':'move','thing':'2001.4.1','place':'S1-A','day':'2024-05-01'}";
+const TO_S1_A: &str = r#"{"kind":"move","thing":"2001.4.1","place":"S1-A","day":"2024-05-01"}"#;
 
 const HELD: &[Row] = &[
     (2, TO_S1_A, Answer::Held),
@@ -45,11 +43,9 @@ const OBJECT: u32 = 2;
 
 /// A hub over the whole setup, with nothing posted.
 pub(crate) fn opened(alloc: Global) -> Result<Hub<PlainRegister>, Fail> {
-    let setup = Setup::read(alloc, MUSEUM.as_bytes())?;
-    match Hub::open(alloc, setup, PlainRegister::new(alloc)) {
-        Ok(hub) => Ok(hub),
-        Err(_) => Err(Fail::from("not opened")),
-    }
+    let setup = museum(alloc)?;
+    let hub = Hub::open(alloc, setup, PlainRegister::new(alloc)).ok();
+    Ok(hub.ok_or("not opened")?)
 }
 
 /// Sends a message, and compares the answer.
@@ -62,7 +58,7 @@ pub(crate) fn send(
     text: &str,
     want: Answer,
 ) -> Result<(), Fail> {
-    let message = message_of(alloc, text)?;
+    let message = read_message(alloc, text.as_bytes())?;
     let arrival = Arrival {
         station,
         n,
@@ -85,47 +81,47 @@ fn send_all(
     Ok(())
 }
 
-/// The object's spots, each with its entry and its place.
-fn assert_spots(
-    rt: &impl Abort,
-    hub: &Hub<PlainRegister>,
-    want: &[(u64, PlaceNo)],
-) -> Result<(), Fail> {
-    let ledger = hub.ledger();
-    assert!(rt; ledger.setup().things() > OBJECT);
-    let spots = ledger.spots(OBJECT);
-    assert_eq!(rt; spots.len(), want.len());
-    for (spot, want) in spots.iter().zip(want) {
-        assert_eq!(rt; (spot.entry, spot.place), *want);
+/// Whether these are the object's spots, each with its entry and its place.
+fn has_spots(ledger: &Ledger, want: &[(u64, PlaceNo)]) -> bool {
+    if ledger.setup().things() <= OBJECT {
+        return false;
     }
-    Ok(())
+    let spots = ledger.spots(OBJECT);
+    if spots.len() != want.len() {
+        return false;
+    }
+    for i in 0..want.len() {
+        if (spots[i].entry, spots[i].place) != want[i] {
+            return false;
+        }
+    }
+    true
 }
-
-const NO_SPOTS: &[(u64, PlaceNo)] = &[];
-
-const TWO_SPOTS: &[(u64, PlaceNo)] = &[(1, 0), (2, 1)];
 
 fn held_then_posted(
     rt: &impl Abort,
     alloc: Global,
     hub: &mut Hub<PlainRegister>,
 ) -> Result<(), Fail> {
-    assert_spots(rt, hub, NO_SPOTS)?;
+    assert!(rt; has_spots(hub.ledger(), &[]));
     send_all(rt, alloc, hub, HELD)?;
-    assert_spots(rt, hub, TWO_SPOTS)
+    assert!(rt; has_spots(hub.ledger(), &[(1, 0), (2, 1)]));
+    Ok(())
 }
 
 #[test]
 fn a_hub(rt: HostRuntime) -> Result<(), Fail> {
     let mut hub = opened(rt.alloc())?;
-    held_then_posted(&rt, rt.alloc(), &mut hub)
+    let told = held_then_posted(&rt, rt.alloc(), &mut hub);
+    drop(hub);
+    told
 }
 
 /// A hub with two postings.
 fn posted_twice(rt: &impl Abort, alloc: Global) -> Result<Hub<PlainRegister>, Fail> {
     let mut hub = opened(alloc)?;
-    send_all(rt, alloc, &mut hub, LAST_HELD)?;
-    Ok(hub)
+    let sent = send_all(rt, alloc, &mut hub, LAST_HELD);
+    kept(hub, sent)
 }
 
 /// Closes a hub, be it down or not, and opens another over its register. What any caller may rest on: with the same
@@ -140,72 +136,75 @@ fn opened_anew<R: Register>(
     Hub::open(alloc, setup, hub.close())
 }
 
-/// A hub that has posted twice, closed and opened anew with the same setup.
-fn posted_and_opened(rt: &impl Abort, alloc: Global) -> Result<Hub<PlainRegister>, Fail> {
-    let setup = Setup::read(alloc, MUSEUM.as_bytes())?;
-    let hub = posted_twice(rt, alloc)?;
-    match opened_anew(alloc, hub, setup) {
-        Ok(hub) => Ok(hub),
-        Err(_) => Err(Fail::from("not opened")),
+/// A hub over the register of another one that was closed, with the same setup.
+fn opened_after(alloc: Global, hub: Hub<PlainRegister>) -> Result<Hub<PlainRegister>, Fail> {
+    match museum(alloc) {
+        Ok(setup) => Ok(opened_anew(alloc, hub, setup).ok().ok_or("not opened")?),
+        Err(fail) => {
+            drop(hub);
+            Err(fail)
+        }
     }
 }
 
 #[test]
 fn opened_again(rt: HostRuntime) -> Result<(), Fail> {
-    let mut hub = posted_and_opened(&rt, rt.alloc())?;
-    send_all(&rt, rt.alloc(), &mut hub, OPENED_AGAIN)
+    let first = posted_twice(&rt, rt.alloc())?;
+    let mut hub = opened_after(rt.alloc(), first)?;
+    let sent = send_all(&rt, rt.alloc(), &mut hub, OPENED_AGAIN);
+    drop(hub);
+    sent
 }
 
-/// Why a register with two postings of the whole setup isn't opened with another.
-fn opened_with_another(rt: &impl Abort, alloc: Global) -> Result<Option<StoreFault>, Fail> {
-    let small = Setup::read(alloc, SMALL.as_bytes())?;
-    let register = posted_twice(rt, alloc)?.close();
-    match Hub::open(alloc, small, register) {
-        Ok(_) => Ok(None),
-        Err(failed) => Ok(Some(failed.fault)),
+fn fault_of<R: Drop>(failed: OpenFault<R>) -> StoreFault {
+    failed.fault
+}
+
+/// Why the register of a hub isn't opened with the small setup.
+fn opened_with_another(alloc: Global, hub: Hub<PlainRegister>) -> Result<Option<StoreFault>, Fail> {
+    match small_museum(alloc) {
+        Ok(setup) => {
+            let opened = Hub::open(alloc, setup, hub.close());
+            Ok(opened.err().map(fault_of))
+        }
+        Err(fail) => {
+            drop(hub);
+            Err(fail)
+        }
     }
 }
 
 #[test]
 fn of_another_setup(rt: HostRuntime) -> Result<(), Fail> {
-    let fault = opened_with_another(&rt, rt.alloc())?;
+    let hub = posted_twice(&rt, rt.alloc())?;
+    let fault = opened_with_another(rt.alloc(), hub)?;
     assert_eq!(rt; fault, Some(StoreFault::OtherSetup));
     Ok(())
 }
 
 /// PACK packs an object into a crate, which leaves under a loan; the loan is then extended.
-const LENT: &str = "{'kind':'move','thing':'C1','place':'S1','day':'2024-05-01'}
-{'kind':'pack','thing':'2001.4.1','container':'C1','day':'2024-05-01'}
-{'kind':'agree','loan':'LO2024.1','partner':'MUSEUM-X','objects':['2001.4.1','2001.4.2'],'first':'2024-05-01','last':'2024-05-31'}
-{'kind':'authorise','loan':'LO2024.1','by':'A. Keeper'}
-{'kind':'exit','thing':'C1','loan':'LO2024.1','day':'2024-05-02'}
-{'kind':'extend','loan':'LO2024.1','last':'2024-06-30'}";
+const LENT: &str = r#"{"kind":"move","thing":"C1","place":"S1","day":"2024-05-01"}
+{"kind":"pack","thing":"2001.4.1","container":"C1","day":"2024-05-01"}
+{"kind":"agree","loan":"LO2024.1","partner":"MUSEUM-X","objects":["2001.4.1","2001.4.2"],"first":"2024-05-01","last":"2024-05-31"}
+{"kind":"authorise","loan":"LO2024.1","by":"A. Keeper"}
+{"kind":"exit","thing":"C1","loan":"LO2024.1","day":"2024-05-02"}
+{"kind":"extend","loan":"LO2024.1","last":"2024-06-30"}"#;
 
 /// A hub with a loan.
 fn lent(rt: &impl Abort, alloc: Global) -> Result<Hub<PlainRegister>, Fail> {
     let mut hub = opened(alloc)?;
-    tell_all(rt, alloc, &mut hub, &[LENT])?;
-    Ok(hub)
-}
-
-/// How far the loan has come and its last day, in a hub with it that was closed and opened anew.
-fn lent_and_opened(
-    rt: &impl Abort,
-    alloc: Global,
-) -> Result<(Option<LoanState>, Option<Day>), Fail> {
-    let loan = LoanCode::parse(b"LO2024.1")?;
-    let setup = Setup::read(alloc, MUSEUM.as_bytes())?;
-    let hub = lent(rt, alloc)?;
-    match opened_anew(alloc, hub, setup) {
-        Ok(hub) => Ok((hub.ledger().loan_state(&loan), hub.ledger().last_day(&loan))),
-        Err(_) => Err(Fail::from("not opened")),
-    }
+    let told = tell_all(rt, alloc, &mut hub, LENT);
+    kept(hub, told)
 }
 
 #[test]
 fn loan_opened_again(rt: HostRuntime) -> Result<(), Fail> {
-    let (state, last) = lent_and_opened(&rt, rt.alloc())?;
+    let (loan, want) = (LoanCode::parse(b"LO2024.1")?, Day::parse(b"2024-06-30")?);
+    let first = lent(&rt, rt.alloc())?;
+    let hub = opened_after(rt.alloc(), first)?;
+    let (state, last) = (hub.ledger().loan_state(&loan), hub.ledger().last_day(&loan));
+    drop(hub);
     assert_eq!(rt; state, Some(LoanState::Running));
-    assert_eq!(rt; last, Some(Day::parse(b"2024-06-30")?));
+    assert_eq!(rt; last, Some(want));
     Ok(())
 }

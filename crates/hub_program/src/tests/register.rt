@@ -1,19 +1,20 @@
 //! Registers in memory, bound, posted to and read back.
-ghost use Rattle.std.specs.Prelude.{◌≡◌, ◌∷◌, [], reverse, IfOk};
+ghost use Rattle.std.specs.Prelude.{◌≡◌, ◌∷◌, [], true, reverse, IfOk};
 ghost use Rattle.register_store.specs.Holdings.{Comes};
 
-use super::{MUSEUM, SMALL, message_of};
+use super::{TO_S1, museum};
 use codes_core::Day;
 use nest_core::{PlaceNo, Setup, StationNo, ThingNo};
 use posting_core::{Changes, Entry, Ledger, NewLines, NewSpot, NewSpots, Spot, Verdict};
-use register_store::{PlainRegister, Register, StoreFault, message_text};
+use register_store::{PlainRegister, Register, StoreFault, message_text, read_message};
 use std::alloc::Global;
+use std::process::Abort;
 use std::test::Fail;
 
-const MOVED: &str =
-    "1 1 Applied {\"day\":\"2024-05-01\",\"kind\":\"move\",\"place\":\"S1\",\"thing\":\"2001.4.1\"}";
+/// The move's own text.
+const MOVED: &str = r#"{"day":"2024-05-01","kind":"move","place":"S1","thing":"2001.4.1"}"#;
 
-const SIGNED: &str = "0 1 Applied {\"by\":\"A. Keeper\",\"kind\":\"signoff\"}";
+const SIGNED: &str = r#"{"by":"A. Keeper","kind":"signoff"}"#;
 
 const PACK: StationNo = 0;
 
@@ -22,8 +23,11 @@ const GAL: StationNo = 1;
 /// A station that the setup doesn't have.
 const NONE: StationNo = 2;
 
-/// Moves that are posted, each as its station, its number and its row's number, and the fault of reading them back.
-const READ: &[(&[(StationNo, u32, u64)], Option<StoreFault>)] = &[
+/// A move that is posted: its station, its number and its row's number.
+type Posted = (StationNo, u32, u64);
+
+/// Moves that are posted, and the fault of reading them back.
+const READ: &[(&[Posted], Option<StoreFault>)] = &[
     (&[(GAL, 1, 1)], None),
     (&[(GAL, 999_999, 1)], None),
     (&[(GAL, 1, 2)], Some(StoreFault::Damaged(1))),
@@ -40,29 +44,15 @@ const OBJECT: ThingNo = 2;
 
 const S1: PlaceNo = 0;
 
-fn setup(alloc: Global, text: &str) -> Result<Setup, Fail> {
-    Ok(Setup::read(alloc, text.as_bytes())?)
-}
-
 /// An applied message, as a station's.
 fn applied(alloc: Global, station: StationNo, n: u32, text: &str) -> Result<Entry, Fail> {
-    let message = message_of(alloc, text)?;
+    let message = read_message(alloc, text.as_bytes())?;
     Ok(Entry {
         station,
         n,
         message,
         verdict: Verdict::Applied,
     })
-}
-
-/// The move of 2001.4.1 to S1.
-fn moved(alloc: Global, station: StationNo, n: u32) -> Result<Entry, Fail> {
-    applied(
-        alloc,
-        station,
-        n,
-        "{'kind':'move','thing':'2001.4.1','place':'S1','day':'2024-05-01'}",
-    )
 }
 
 /// The changes of an entry that writes no spot.
@@ -116,94 +106,60 @@ fn keep_two<R: Register>(
     register.all(alloc)
 }
 
-/// The same in memory.
+/// The same in memory: what is read back after a posting with a spot and one without.
 fn kept_in_memory(
     alloc: Global,
     setup: &Setup,
     first: &Entry,
-    first_changes: &Changes,
     second: &Entry,
-    second_changes: &Changes,
-) -> Result<Vec<Entry>, StoreFault>
-    requires first_number { first_changes.now.entry ≡ 1 }
-    requires second_number { second_changes.now.entry ≡ 2 }
-{
+) -> Result<Vec<Entry>, Fail> {
+    let brought = brought(alloc, 1)?;
     let mut register = PlainRegister::new(alloc);
-    keep_two(
+    let kept = keep_two(
         alloc,
         &mut register,
         setup,
         first,
-        first_changes,
+        &brought,
         second,
-        second_changes,
-    )
+        &nothing(alloc, 2),
+    );
+    drop(register);
+    Ok(kept?)
 }
 
 /// A move and another station's sign-off, read back.
-fn two_read_back(alloc: Global) -> Result<Vec<Entry>, Fail> {
-    let moved = moved(alloc, GAL, 1)?;
-    let brought = brought(alloc, 1)?;
-    let signed = applied(alloc, PACK, 1, "{'kind':'signoff','by':'A. Keeper'}")?;
-    let setup = setup(alloc, MUSEUM)?;
-    let nothing = nothing(alloc, 2);
-    Ok(kept_in_memory(alloc, &setup, &moved, &brought, &signed, &nothing)?)
+fn two_read_back(alloc: Global, setup: &Setup) -> Result<Vec<Entry>, Fail> {
+    let moved = applied(alloc, GAL, 1, TO_S1)?;
+    let signed = applied(alloc, PACK, 1, SIGNED)?;
+    kept_in_memory(alloc, setup, &moved, &signed)
 }
 
-/// An entry's station, its number and the text of its message.
-fn described(alloc: Global, entry: &Entry) -> Result<String, Fail> {
-    let text = message_text(alloc, &entry.message)?;
-    let (station, n, verdict) = (entry.station, entry.n, entry.verdict.name());
-    Ok(format!(in alloc; "{station} {n} {verdict} {text}")?)
+/// Whether an entry is this one, with this text of its message.
+fn is_applied(
+    alloc: Global,
+    entry: &Entry,
+    station: StationNo,
+    n: u32,
+    text: &str,
+) -> Result<bool, Fail> {
+    let own = message_text(alloc, &entry.message)?;
+    Ok(
+        (entry.station, entry.n) == (station, n)
+            && entry.verdict == Verdict::Applied
+            && own.as_str() == text,
+    )
 }
 
 #[test]
 fn two_entries(rt: HostRuntime) -> Result<(), Fail> {
-    let entries = two_read_back(rt.alloc())?;
-    assert_eq!(rt; entries.len(), 2);
-    let first = described(rt.alloc(), &entries[0])?;
-    assert_eq!(rt; first.as_str(), MOVED);
-    let second = described(rt.alloc(), &entries[1])?;
-    assert_eq!(rt; second.as_str(), SIGNED);
-    Ok(())
-}
-
-/// A register bound to one setup, posted to and bound to another: the answer, and how many entries there are then.
-fn bind_twice<R: Register>(
-    alloc: Global,
-    register: &mut R,
-    first: &Setup,
-    again: &Setup,
-    entry: &Entry,
-    changes: &Changes,
-) -> Result<(Result<u32, StoreFault>, usize), StoreFault> {
-    register.bind(alloc, first)?;
-    register.post(alloc, entry, changes)?;
-    let answer = register.bind(alloc, again);
-    Ok((answer, register.all(alloc)?.len()))
-}
-
-fn bound_in_memory(
-    alloc: Global,
-    first: &Setup,
-    again: &Setup,
-    entry: &Entry,
-    changes: &Changes,
-) -> Result<(Result<u32, StoreFault>, usize), StoreFault> {
-    let mut register = PlainRegister::new(alloc);
-    bind_twice(alloc, &mut register, first, again, entry, changes)
-}
-
-#[test]
-fn bound_to_one_setup(rt: HostRuntime) -> Result<(), Fail> {
-    let moved = moved(rt.alloc(), GAL, 1)?;
-    let brought = brought(rt.alloc(), 1)?;
-    let large = setup(rt.alloc(), MUSEUM)?;
-    let small = setup(rt.alloc(), SMALL)?;
-    let same = bound_in_memory(rt.alloc(), &large, &large, &moved, &brought);
-    assert_eq!(rt; same, Ok((Ok(12), 1)));
-    let other = bound_in_memory(rt.alloc(), &large, &small, &moved, &brought);
-    assert_eq!(rt; other, Ok((Err(StoreFault::OtherSetup), 1)));
+    let setup = museum(rt.alloc())?;
+    let read = two_read_back(rt.alloc(), &setup);
+    drop(setup);
+    let entries = read?;
+    assert!(rt; entries.len() == 2);
+    assert!(rt; is_applied(rt.alloc(), &entries[0], GAL, 1, MOVED)?);
+    assert!(rt; is_applied(rt.alloc(), &entries[1], PACK, 1, SIGNED)?);
     Ok(())
 }
 
@@ -220,74 +176,78 @@ fn agree_after<R: Register>(
     register.agrees(alloc, ledger)
 }
 
-fn agreed_in_memory(
-    alloc: Global,
-    ledger: &Ledger,
-    entry: &Entry,
-    changes: &Changes,
-) -> Result<bool, StoreFault> {
+/// Whether a register in memory agrees with a ledger whose one posting changed this.
+fn agreed_in_memory(alloc: Global, ledger: &Ledger, changes: &Changes) -> Result<bool, Fail> {
+    let moved = applied(alloc, PACK, 1, TO_S1)?;
     let mut register = PlainRegister::new(alloc);
-    agree_after(alloc, &mut register, ledger, entry, changes)
+    let agreed = agree_after(alloc, &mut register, ledger, &moved, changes);
+    drop(register);
+    Ok(agreed?)
+}
+
+/// The same of a posting with a spot, and of one without.
+fn agreed_twice(alloc: Global, ledger: &Ledger) -> Result<(bool, bool), Fail> {
+    let brought = brought(alloc, 1)?;
+    let more = agreed_in_memory(alloc, ledger, &brought)?;
+    let same = agreed_in_memory(alloc, ledger, &nothing(alloc, 1))?;
+    Ok((more, same))
 }
 
 #[test]
 fn agrees_with_the_ledger(rt: HostRuntime) -> Result<(), Fail> {
-    let moved = moved(rt.alloc(), PACK, 1)?;
-    let brought = brought(rt.alloc(), 1)?;
-    let nothing = nothing(rt.alloc(), 1);
-    let ledger = Ledger::new(rt.alloc(), setup(rt.alloc(), MUSEUM)?, 12)?;
-    let more = agreed_in_memory(rt.alloc(), &ledger, &moved, &brought);
-    assert_eq!(rt; more, Ok(false));
-    let same = agreed_in_memory(rt.alloc(), &ledger, &moved, &nothing);
-    assert_eq!(rt; same, Ok(true));
+    let ledger = Ledger::new(rt.alloc(), museum(rt.alloc())?, 12)?;
+    let agreed = agreed_twice(rt.alloc(), &ledger);
+    drop(ledger);
+    assert!(rt; agreed? == (false, true));
     Ok(())
 }
 
-/// What reading all answers where these are the entries, under these numbers.
+/// Posts a move under its row's number.
+fn post_move<R: Register>(alloc: Global, register: &mut R, row: &Posted) -> Result<(), Fail>
+    requires { R.is_bound register.old ≡ true }
+    ensures { R.is_bound register.new ≡ true }
+{
+    let (station, n, number) = row;
+    let entry = applied(alloc, *station, *n, TO_S1)?;
+    Ok(register.post(alloc, &entry, &nothing(alloc, *number))?)
+}
+
+/// The fault of reading all where these moves are posted, if there is one.
 fn read_after<R: Register>(
     alloc: Global,
     register: &mut R,
     setup: &Setup,
-    entries: &[(Entry, u64)],
-) -> Result<(), StoreFault> {
+    rows: &[Posted],
+) -> Result<Option<StoreFault>, Fail> {
     register.bind(alloc, setup)?;
-    for i in 0..entries.len() {
-        let (entry, number) = &entries[i];
-        register.post(alloc, entry, &nothing(alloc, *number))?;
+    for row in rows {
+        post_move(alloc, register, row)?;
     }
-    register.all(alloc)?;
-    Ok(())
+    Ok(register.all(alloc).err())
 }
 
-fn read_in_memory(alloc: Global, setup: &Setup, entries: &[(Entry, u64)]) -> Option<StoreFault> {
-    let mut register = PlainRegister::new(alloc);
-    read_after(alloc, &mut register, setup, entries).err()
-}
-
-/// Moves, each with its row's number.
-fn moves(alloc: Global, rows: &[(StationNo, u32, u64)]) -> Result<Vec<(Entry, u64)>, Fail> {
-    let mut entries = Vec::new(alloc);
-    for (station, n, number) in rows {
-        entries.push((moved(alloc, *station, *n)?, *number))?;
-    }
-    Ok(entries)
-}
-
-fn fault_of_reading(
+fn read_in_memory(
     alloc: Global,
     setup: &Setup,
-    rows: &[(StationNo, u32, u64)],
+    rows: &[Posted],
 ) -> Result<Option<StoreFault>, Fail> {
-    let entries = moves(alloc, rows)?;
-    Ok(read_in_memory(alloc, setup, entries.as_slice()))
+    let mut register = PlainRegister::new(alloc);
+    let fault = read_after(alloc, &mut register, setup, rows);
+    drop(register);
+    fault
+}
+
+fn assert_read(rt: &impl Abort, alloc: Global, setup: &Setup) -> Result<(), Fail> {
+    for (rows, want) in READ {
+        assert!(rt; read_in_memory(alloc, setup, rows)? == *want, "{rows:?}");
+    }
+    Ok(())
 }
 
 #[test]
 fn rows_read_back(rt: HostRuntime) -> Result<(), Fail> {
-    let setup = setup(rt.alloc(), MUSEUM)?;
-    for (rows, want) in READ {
-        let fault = fault_of_reading(rt.alloc(), &setup, rows)?;
-        assert_eq!(rt; fault, *want);
-    }
-    Ok(())
+    let setup = museum(rt.alloc())?;
+    let told = assert_read(&rt, rt.alloc(), &setup);
+    drop(setup);
+    told
 }

@@ -1,171 +1,154 @@
 //! Setups read, looked up by code and by number, and given back as rows.
-use super::MUSEUM;
-use codes_core::{PlaceCode, ThingCode, ThingKind};
-use nest_core::{Setup, SetupFault};
+use super::{museum, setup_of};
+use codes_core::{CodeFault, NoMemory, PlaceCode, ThingCode, ThingKind};
+use nest_core::{PlaceNo, Setup, SetupFault, ThingNo};
 use std::alloc::Global;
-use std::process::Abort;
 use std::test::Fail;
 
-fn fault_of(alloc: Global, bytes: &[u8]) -> Option<SetupFault> {
-    match Setup::read(alloc, bytes) {
-        Ok(_) => None,
-        Err(fault) => Some(fault),
-    }
+/// Whether the setup has two stations, five places and six things, and finds GAL alone of these names.
+fn has_stations(setup: &Setup) -> bool {
+    (setup.stations(), setup.places(), setup.things()) == (2, 5, 6)
+        && setup.station("GAL") == Some(1)
+        && setup.station("NONE").is_none()
+        && setup.station("no name").is_none()
+        && setup.stations() == 2
+        && setup.station_name(1) == "GAL"
 }
 
-fn stations(alloc: Global, count: u32) -> Result<String, Fail> {
-    let mut text = String::new(alloc);
-    for i in 0..count {
-        text.push_str(format!(in alloc; "station,S{i}\n")?.as_str())?;
-    }
-    Ok(text)
-}
-
-fn assert_counts(rt: &impl Abort, setup: &Setup) {
-    assert_eq!(rt;
-        (setup.stations(), setup.places(), setup.things()),
-        (2, 5, 6)
-    );
-}
-
-fn assert_stations(rt: &impl Abort, setup: &Setup) {
-    assert!(rt; setup.stations() == 2);
-    assert_eq!(rt; setup.station_name(1), "GAL");
-    assert_eq!(rt; setup.station("GAL"), Some(1));
-    assert_eq!(rt; setup.station("NONE"), None);
-    assert_eq!(rt; setup.station("no name"), None);
-}
-
-/// What the setup doesn't list has no number.
-fn assert_unknown(rt: &impl Abort, setup: &Setup) -> Result<(), Fail> {
-    assert_eq!(rt; setup.thing(&ThingCode::parse(b"2009.1")?), None);
-    assert_eq!(rt; setup.place(&PlaceCode::parse(b"S9")?), None);
-    Ok(())
+/// Whether the setup finds no thing and no place that it doesn't list.
+fn has_no_other(setup: &Setup) -> Result<bool, CodeFault> {
+    let thing = setup.thing(&ThingCode::parse(b"2009.1")?);
+    let place = setup.place(&PlaceCode::parse(b"S9")?);
+    Ok(thing.is_none() && place.is_none())
 }
 
 #[test]
 fn nothing_posted(rt: HostRuntime) -> Result<(), Fail> {
-    let setup = Setup::read(rt.alloc(), MUSEUM.as_bytes())?;
-    assert_counts(&rt, &setup);
-    assert_stations(&rt, &setup);
-    assert_unknown(&rt, &setup)
+    let setup = museum(rt.alloc())?;
+    let (stations, others) = (has_stations(&setup), has_no_other(&setup));
+    drop(setup);
+    assert!(rt; stations);
+    assert!(rt; others == Ok(true));
+    Ok(())
 }
 
-const THINGS: &[(&str, u32, ThingKind, Option<u32>)] = &[
+/// A thing's code, its number, what it is, and its normal place.
+type Thing = (&'static str, ThingNo, ThingKind, Option<PlaceNo>);
+
+const THINGS: &[Thing] = &[
     ("C1", 0, ThingKind::Container, None),
     ("2001.4.1", 2, ThingKind::Own, Some(1)),
     ("2001.4.3", 4, ThingKind::Own, Some(1)),
     ("L1999.7", 5, ThingKind::Borrowed, None),
 ];
 
-fn assert_things(rt: &impl Abort, setup: &Setup) -> Result<(), Fail> {
+fn has_things(setup: &Setup) -> Result<bool, CodeFault> {
     for (code, number, kind, normal) in THINGS {
         let code = ThingCode::parse(code.as_bytes())?;
-        assert_eq!(rt; setup.thing(&code), Some(*number));
-        assert!(rt; *number < setup.things());
-        assert_eq!(rt; setup.thing_code(*number), code);
-        assert_eq!(rt; setup.kind(*number), *kind);
-        assert_eq!(rt; setup.normal(*number), *normal);
+        if setup.thing(&code) != Some(*number)
+            || *number >= setup.things()
+            || setup.thing_code(*number) != code
+            || setup.kind(*number) != *kind
+            || setup.normal(*number) != *normal
+        {
+            return Ok(false);
+        }
     }
-    Ok(())
+    Ok(true)
 }
 
 #[test]
 fn things_by_number(rt: HostRuntime) -> Result<(), Fail> {
-    let setup = Setup::read(rt.alloc(), MUSEUM.as_bytes())?;
-    assert_things(&rt, &setup)
+    let setup = museum(rt.alloc())?;
+    let found = has_things(&setup);
+    drop(setup);
+    assert!(rt; found == Ok(true));
+    Ok(())
 }
 
-const PLACES: &[(&str, u32, bool)] = &[("S1", 0, true), ("S1-A", 1, true), ("MUSEUM-X", 3, false)];
+const PLACES: &[(&str, PlaceNo, bool)] = &[
+    ("S1", 0, true),
+    ("S1-A", 1, true),
+    ("MUSEUM-X", 3, false),
+];
 
-fn assert_places(rt: &impl Abort, setup: &Setup) -> Result<(), Fail> {
+fn has_places(setup: &Setup) -> Result<bool, CodeFault> {
     for (code, number, inside) in PLACES {
         let code = PlaceCode::parse(code.as_bytes())?;
-        assert_eq!(rt; setup.place(&code), Some(*number));
-        assert!(rt; *number < setup.places());
-        assert_eq!(rt; setup.place_code(*number), code);
-        assert_eq!(rt; setup.is_inside(*number), *inside);
+        if setup.place(&code) != Some(*number)
+            || *number >= setup.places()
+            || setup.place_code(*number) != code
+            || setup.is_inside(*number) != *inside
+        {
+            return Ok(false);
+        }
     }
-    Ok(())
+    Ok(true)
 }
 
 #[test]
 fn places_by_number(rt: HostRuntime) -> Result<(), Fail> {
-    let setup = Setup::read(rt.alloc(), MUSEUM.as_bytes())?;
-    assert_places(&rt, &setup)
+    let setup = museum(rt.alloc())?;
+    let found = has_places(&setup);
+    drop(setup);
+    assert!(rt; found == Ok(true));
+    Ok(())
 }
 
 // Each fault's smallest example, and beside it the nearest right file.
-const FILES: &[(&str, Option<SetupFault>)] = &[
-    ("", Some(SetupFault::NoStation)),
-    ("place,S1,inside", Some(SetupFault::NoStation)),
-    ("station,GAL", None),
-    ("shelf,S1", Some(SetupFault::BadKind(1))),
-    (",S1", Some(SetupFault::BadKind(1))),
-    ("station,GAL\nplace,S1,here", Some(SetupFault::BadFields(2))),
-    ("station,GAL\nplace,S1,inside", None),
-    ("station,GAL,x", Some(SetupFault::BadFields(1))),
-    ("station", Some(SetupFault::BadFields(1))),
-    ("box,C01", Some(SetupFault::BadCode(1))),
-    ("station,GAL\nbox,C10", None),
-    ("station,GAL\nbox,L1999.7", Some(SetupFault::BadCode(2))),
-    ("station,GAL\nlent,L1999.7", None),
-    ("station,a-name-of-sixteen", Some(SetupFault::BadCode(1))),
-    ("station,name-of-sixteen-", None),
-    ("box,C1\nbox,C1", Some(SetupFault::Repeated(2))),
-    ("box,C1\nbox,C2\nbox,C1", Some(SetupFault::Repeated(3))),
-    ("station,GAL\nbox,C1\nbox,C2", None),
-    ("own,2001.4.1,S1", Some(SetupFault::UnknownNormal(1))),
+const FILES: &[(&[u8], Option<SetupFault>)] = &[
+    (b"", Some(SetupFault::NoStation)),
+    (b"place,S1,inside", Some(SetupFault::NoStation)),
+    (b"station,GAL", None),
+    (b"shelf,S1", Some(SetupFault::BadKind(1))),
+    (b",S1", Some(SetupFault::BadKind(1))),
     (
-        "own,2001.4.1,S1\nplace,S1,inside",
+        b"station,GAL\nplace,S1,here",
+        Some(SetupFault::BadFields(2)),
+    ),
+    (b"station,GAL\nplace,S1,inside", None),
+    (b"station,GAL,x", Some(SetupFault::BadFields(1))),
+    (b"station", Some(SetupFault::BadFields(1))),
+    (b"box,C01", Some(SetupFault::BadCode(1))),
+    (b"station,GAL\nbox,C10", None),
+    (b"station,GAL\nbox,L1999.7", Some(SetupFault::BadCode(2))),
+    (b"station,GAL\nlent,L1999.7", None),
+    (b"station,a-name-of-sixteen", Some(SetupFault::BadCode(1))),
+    (b"station,name-of-sixteen-", None),
+    (b"box,C1\nbox,C1", Some(SetupFault::Repeated(2))),
+    (b"box,C1\nbox,C2\nbox,C1", Some(SetupFault::Repeated(3))),
+    (b"station,GAL\nbox,C1\nbox,C2", None),
+    (b"own,2001.4.1,S1", Some(SetupFault::UnknownNormal(1))),
+    (
+        b"own,2001.4.1,S1\nplace,S1,inside",
         Some(SetupFault::UnknownNormal(1)),
     ),
-    ("station,GAL\nplace,S1,inside\nown,2001.4.1,S1", None),
+    (b"station,GAL\nplace,S1,inside\nown,2001.4.1,S1", None),
     // The first in order, and rows that are skipped but counted.
-    ("place,s1,here", Some(SetupFault::BadFields(1))),
+    (b"place,s1,here", Some(SetupFault::BadFields(1))),
     (
-        "place,S1,inside\nown,2001.4.1,S1\nown,2001.4.1,S9",
+        b"place,S1,inside\nown,2001.4.1,S1\nown,2001.4.1,S9",
         Some(SetupFault::Repeated(3)),
     ),
-    ("station,GAL\n,,\n\nbox,C01", Some(SetupFault::BadCode(3))),
-    ("station,GAL\n,,\n\nbox,C1", None),
+    (b"station,GAL\n,,\n\nbox,C01", Some(SetupFault::BadCode(3))),
+    (b"station,GAL\n,,\n\nbox,C1", None),
+    // Bytes: UTF-8, a byte order mark, carriage returns, empty fields at the end of a row.
+    (b"\xFF", Some(SetupFault::NotCsv)),
+    (b"station,\xC3", Some(SetupFault::NotCsv)),
+    (b"station,\xC3\xA9", Some(SetupFault::BadCode(1))),
+    (b"\xEF\xBB\xBFstation,GAL,,\r\nbox,C1,,\r\n", None),
+    (
+        b"\xEF\xBB\xBF\xEF\xBB\xBFstation,GAL",
+        Some(SetupFault::BadKind(1)),
+    ),
 ];
 
 #[test]
 fn setup_faults(rt: HostRuntime) {
-    for (text, fault) in FILES {
-        assert_eq!(rt; fault_of(rt.alloc(), text.as_bytes()), *fault, "at {text}");
+    for (bytes, want) in FILES {
+        let fault = Setup::read(rt.alloc(), bytes).err();
+        assert!(rt; fault == *want, "{bytes:?}");
     }
-}
-
-#[test]
-fn setup_faults_of_bytes(rt: HostRuntime) {
-    let alloc = rt.alloc();
-    assert_eq!(rt; fault_of(alloc, b"\xFF"), Some(SetupFault::NotCsv));
-    assert_eq!(rt; fault_of(alloc, b"station,\xC3"), Some(SetupFault::NotCsv));
-    assert_eq!(rt;
-        fault_of(alloc, b"station,\xC3\xA9"),
-        Some(SetupFault::BadCode(1))
-    );
-    assert_eq!(rt;
-        fault_of(alloc, b"\xEF\xBB\xBFstation,GAL,,\r\nbox,C1,,\r\n"),
-        None
-    );
-    assert_eq!(rt;
-        fault_of(alloc, b"\xEF\xBB\xBF\xEF\xBB\xBFstation,GAL"),
-        Some(SetupFault::BadKind(1))
-    );
-}
-
-#[test]
-fn sixty_four_stations(rt: HostRuntime) -> Result<(), Fail> {
-    let alloc = rt.alloc();
-    assert_eq!(rt; fault_of(alloc, stations(alloc, 64)?.as_bytes()), None);
-    assert_eq!(rt;
-        fault_of(alloc, stations(alloc, 65)?.as_bytes()),
-        Some(SetupFault::TooMany(65))
-    );
-    Ok(())
 }
 
 const ROWS: &[(u32, &str)] = &[
@@ -177,24 +160,28 @@ const ROWS: &[(u32, &str)] = &[
     (13, "lent,L1999.7"),
 ];
 
-fn assert_rows(
-    rt: &impl Abort,
+/// Whether the setup has so many rows, and these among them.
+fn has_rows(
     alloc: Global,
     setup: &Setup,
+    count: u32,
     rows: &[(u32, &str)],
-) -> Result<(), Fail> {
+) -> Result<bool, NoMemory> {
     for (i, text) in rows {
-        assert!(rt; *i >= 1 && *i <= setup.rows());
-        assert_eq!(rt; setup.row_text(alloc, *i)?.as_str(), *text);
+        if *i < 1 || *i > setup.rows() || setup.row_text(alloc, *i)?.as_str() != *text {
+            return Ok(false);
+        }
     }
-    Ok(())
+    Ok(setup.rows() == count)
 }
 
 #[test]
 fn setup_row_text(rt: HostRuntime) -> Result<(), Fail> {
-    let setup = Setup::read(rt.alloc(), MUSEUM.as_bytes())?;
-    assert_eq!(rt; setup.rows(), 13);
-    assert_rows(&rt, rt.alloc(), &setup, ROWS)
+    let setup = museum(rt.alloc())?;
+    let found = has_rows(rt.alloc(), &setup, 13, ROWS);
+    drop(setup);
+    assert!(rt; found == Ok(true));
+    Ok(())
 }
 
 const MIXED: &str = "box,C1\nplace,S1,inside\nstation,GAL\nown,2001.4.1,S1\nplace,M,elsewhere\n";
@@ -203,14 +190,9 @@ const MIXED_ROWS: &[(u32, &str)] = &[(1, "station,GAL"), (3, "place,M,elsewhere"
 
 #[test]
 fn rows_in_number_order(rt: HostRuntime) -> Result<(), Fail> {
-    let setup = Setup::read(rt.alloc(), MIXED.as_bytes())?;
-    assert_rows(&rt, rt.alloc(), &setup, MIXED_ROWS)
-}
-
-#[test]
-fn fault_names(rt: HostRuntime) {
-    assert_eq!(rt; SetupFault::BadCode(3).name(), "BadCode");
-    assert_eq!(rt; SetupFault::BadCode(3).row(), Some(3));
-    assert_eq!(rt; SetupFault::NoStation.name(), "NoStation");
-    assert_eq!(rt; SetupFault::NoStation.row(), None);
+    let setup = setup_of(rt.alloc(), MIXED)?;
+    let found = has_rows(rt.alloc(), &setup, 5, MIXED_ROWS);
+    drop(setup);
+    assert!(rt; found == Ok(true));
+    Ok(())
 }
