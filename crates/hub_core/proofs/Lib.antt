@@ -14,7 +14,6 @@ pub mod ReplyLemmas
 pub mod PostLemmas
 pub mod OpenLemmas
 pub mod StopLemmas
-pub mod RowOrder
 pub mod ReopenLemmas
 pub mod StandLemmas
 pub mod CutLemmas

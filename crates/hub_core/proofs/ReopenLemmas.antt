@@ -3,9 +3,9 @@ use Rattle.std.proofs.Common.{◌≡◌, inl, inr, Bool, ℕ, ◌+◌, ◌≤◌
 use Rattle.std.specs.Prelude.{All}
 use Rattle.std.proofs.lemmas.Bool.{false≢true}
 use Rattle.std.specs.List.{AllByRecursion}
-use Rattle.std.specs.List.Sorted.{IsPermutation, IsNonDecreasingBy}
-use Rattle.std.proofs.lemmas.List.Elements.{recursion_from_All, All-from_recursion}
-use Rattle.std.proofs.lemmas.List.Sorted.{IsPermutation-sym, IsPermutation-trans, length_permutation, All-permutation, list_any-IsPermutation}
+use Rattle.std.specs.List.Sorted.{IsPermutation}
+use Rattle.std.proofs.lemmas.List.Elements.{All-from_recursion}
+use Rattle.std.proofs.lemmas.List.Sorted.{IsPermutation-sym, IsPermutation-trans, length_permutation, list_any-IsPermutation}
 use Rattle.nest_core.specs.Museum.{Museum}
 use Rattle.posting_core.specs.declared.entry.Entry.{Entry}
 use Rattle.posting_core.specs.declared.message.Message.{Message}
@@ -13,47 +13,23 @@ use Rattle.posting_core.specs.Book.{Book}
 use Rattle.posting_core.specs.Lawful.{Follows, IsLawful}
 use Rattle.register_store.specs.declared.store_fault.StoreFault.{StoreFault}
 use Rattle.register_store.specs.declared.store_fault.StoreFault.TheVariants.{NoMemory, Store, OtherSetup, Damaged, OtherVersion}
-use Rattle.register_store.specs.StoredRows.{Content, MetaRow, PostingRow, IsPostingRow, ArePostings, HasRows, IsStoreOf, rows_of_meta}
+use Rattle.register_store.specs.StoredRows.{Content, MetaRow, HasRows, IsStoreOf, rows_of_meta}
 use Rattle.register_store.specs.Registers.{is_failure, is_new, bound_by, bound_to, has_other_version, IsOfStation, IsFirstWrong}
 use Rattle.register_store.specs.Holdings.{Holding, Comes}
 use Rattle.register_store.proofs.HoldingLemmas.{has_more}
-use Rattle.register_store.proofs.OneList.{as_many, one_list}
+use Rattle.register_store.proofs.OneList.{one_list}
+use Rattle.register_store.proofs.WholeLists.{never_wrong}
 use Rattle.station_core.specs.Runs.{Arrived}
-use Rattle.hub_core.proofs.RowOrder.{at_number}
 use Rattle.hub_core.proofs.StoreLemmas.{one_depth}
 use Rattle.hub_core.specs.Points.{entry_of, post}
 use Rattle.hub_core.specs.Posting.{LeavesUnposted}
 use Rattle.hub_core.specs.StandsFor.{HasStore, HasSomeStore, HasEither}
 use Rattle.hub_core.specs.Openings.{IsFirstUnlawful, HasWrongRow, HasWrongEntry, HasOtherRows, IsOpenFault, OpensAgain, IsNotOpened}
 
--- what each row of a lawful list tells
-record IsOfList (stations most : ℕ) (row : PostingRow) : Type 0 where
-  pub entry : Entry
-  pub is : IsPostingRow row.id entry row
-  pub of : IsOfStation stations entry
-  pub first : 1 ≤ row.id
-  pub last : row.id ≤ most
-
-rows_of_list : (S : Museum) (depth : ℕ) (P : List Entry) (rows : List PostingRow) (most : ℕ) → IsLawful S depth P → ArePostings P rows → length rows ≤ most → AllByRecursion (IsOfList (length S.stations) most) rows
-rows_of_list S depth [] [] most law is few = tt
-rows_of_list S depth [] (row ∷ rows) most law is few = absurd is
-rows_of_list S depth (e ∷ P) [] most law is few = absurd is
-rows_of_list S depth (e ∷ P) (row ∷ rows) most law is few =
-    let id : row.id ≡ length rows + 1 = is.0.id ∙ ap (λ n. n + 1) (as_many P rows is.1) in
-    let next = law.0.next in (
-      record {
-        entry = e;
-        is = subst (λ n. IsPostingRow n e row) (sym is.0.id) is.0;
-        of = record { known = law.0.known; first = omega (arith, next); few = law.0.few };
-        first = omega (arith, id);
-        last = omega (arith, id, few);
-      },
-      rows_of_list S depth P rows most law.1 is.1 (omega (arith, few)),
-    )
-
-middle : {X : Type 0} (Q : X → Type 0) (before after : List X) (x : X) → AllByRecursion Q (before ++ x ∷ after) → Q x
-middle Q [] after x all = all.0
-middle Q (y ∷ before) after x all = middle Q before after x all.1
+-- the entries of a lawful list are of its stations
+of_stations : (S : Museum) (depth : ℕ) (P : List Entry) → IsLawful S depth P → AllByRecursion (IsOfStation (length S.stations)) P
+of_stations S depth [] law = tt
+of_stations S depth (e ∷ P) law = let next = law.0.next in (record { known = law.0.known; first = omega (arith, next); few = law.0.few }, of_stations S depth P law.1)
 
 follows_in : (S : Museum) (depth : ℕ) (before after : List Entry) (e : Entry) → IsLawful S depth (after ++ e ∷ before) → Follows S depth before e
 follows_in S depth before [] e law = law.0
@@ -78,17 +54,7 @@ module _ (S : Museum) (depth : ℕ) (P : List Entry) (c : Content) (law : IsLawf
       absurd (cc)
 
   no_wrong_row : (at : ℕ) → HasWrongRow S c at → ⊥
-  no_wrong_row at h =
-      let first : IsFirstWrong (length S.stations) at c = h.2 in
-      let w = first.first in
-      let rows : List PostingRow = store.list.rows in
-      let same : IsPermutation (w.before ++ w.row ∷ w.after) rows = subst (λ (rs : List PostingRow). IsPermutation rs rows) w.split (IsPermutation-trans _ _ _ first.all (IsPermutation-sym _ _ store.list.all)) in
-      let order : IsNonDecreasingBy (λ (r : PostingRow). r.id) (w.before ++ w.row ∷ w.after) = subst (IsNonDecreasingBy (λ (r : PostingRow). r.id)) w.split first.order in
-      let Is : PostingRow → Type 0 = IsOfList (length S.stations) (length rows) in
-      let each : All Is rows = All-from_recursion Is rows (rows_of_list S depth P rows (length rows) law store.list.each (omega arith)) in
-      let of : Is w.row = middle Is w.before w.after w.row (recursion_from_All Is _ (All-permutation Is rows _ (IsPermutation-sym _ _ same) each)) in
-      let number : w.row.id ≡ at = at_number P rows w.before w.after w.row store.list.each same order of.last of.first ∙ w.number in
-      w.wrong of.entry (subst (λ n. IsPostingRow n of.entry w.row) number of.is) of.of
+  no_wrong_row at h = never_wrong (length S.stations) at P c store.list (All-from_recursion (IsOfStation (length S.stations)) P (of_stations S depth P law)) h.2
 
   no_wrong_entry : (at : ℕ) → HasWrongEntry S c at → ⊥
   no_wrong_entry at h =

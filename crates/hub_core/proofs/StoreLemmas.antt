@@ -1,5 +1,5 @@
 -- What a register has of a posted list, after one more posting.
-use Rattle.std.proofs.Common.{◌≡◌, ℕ, ◌+◌, if◌then◌else◌, List, [], ◌∷◌, ◌++◌, length, Result, Ok, ◌⊎◌, inl, inr, ap, ◌∙◌, sym, subst, arith}
+use Rattle.std.proofs.Common.{◌≡◌, ℕ, nat_abs, map, ◌+◌, if◌then◌else◌, List, [], ◌∷◌, ◌++◌, length, Result, Ok, ◌⊎◌, inl, inr, ap, ◌∙◌, sym, subst, arith}
 use Rattle.std.specs.Prelude.{reverse}
 use Rattle.std.specs.List.Sorted.{IsPermutation}
 use Rattle.std.proofs.lemmas.List.Sorted.{IsPermutation-cons, IsPermutation-append_right, sum_by-IsPermutation}
@@ -13,10 +13,11 @@ use Rattle.posting_core.specs.Book.{Book, changes_of, new_lines}
 use Rattle.posting_core.specs.Lawful.{Follows, IsLawful}
 use Rattle.posting_core.specs.VerdictNames.{is_applied}
 use Rattle.station_core.specs.Runs.{Arrived}
-use Rattle.register_store.specs.StoredRows.{Content, MetaRow, PostingRow, AreSame, IsPostingRow, IsStoreOf, written, rows_of_meta, rows_of_spots, rows_of_lines, put_lines, with_posted}
+use Rattle.register_store.specs.StoredRows.{Content, MetaRow, PostingRow, AreSame, IsPostingRow, IsStoreOf, written, spot_row, line_row, is_same_line, rows_of_meta, rows_of_spots, rows_of_lines, put_each, with_posted}
 use Rattle.register_store.specs.Holdings.{Holding, Has, Comes, IsPosted}
 use Rattle.register_store.proofs.HoldingLemmas.{comes_has, has_more, same_store}
-use Rattle.register_store.proofs.LineRows.{next_lines}
+use Rattle.register_store.proofs.LineRows.{next_line_rows}
+use Rattle.register_store.proofs.SpotRows.{next_spot_rows}
 use Rattle.register_store.proofs.TermRows.{next_terms}
 use Rattle.hub_core.specs.Points.{entry_of, post}
 use Rattle.hub_core.specs.declared.answer.HubFault.{HubFault}
@@ -31,8 +32,8 @@ store_next S depth P e row changes c lawful follows is wrote lined store = recor
   bound = record { setup = store.bound.setup; meta = store.bound.meta; limit = store.bound.limit };
   list = record { rows = row ∷ store.list.rows; each = (is, store.list.each); all = IsPermutation-cons row _ _ store.list.all };
   rows = record {
-    spots = subst (λ (xs : List NewSpot). IsPermutation (rows_of_spots S (e ∷ P)) (reverse xs ++ c.spots)) wrote (IsPermutation-append_right (reverse (written S P e)) _ _ store.rows.spots);
-    lines = subst (λ (ls : List NewLine). IsPermutation (rows_of_lines S (e ∷ P)) (put_lines ls c.lines)) lined (next_lines S depth P e c.lines follows lawful store.rows.lines);
+    spots = subst (λ (xs : List NewSpot). IsPermutation (rows_of_spots S (e ∷ P)) (map spot_row (reverse xs) ++ c.spots)) wrote (next_spot_rows S P e c.spots store.rows.spots);
+    lines = subst (λ (ls : List NewLine). IsPermutation (rows_of_lines S (e ∷ P)) (put_each is_same_line (map line_row ls) c.lines)) lined (next_line_rows S depth P e c.lines follows lawful store.rows.lines);
     terms = next_terms S depth P e c.terms follows lawful store.rows.terms;
   };
 }
@@ -49,7 +50,7 @@ store_posted L r changes row c lawful follows planned is store =
 
 -- a store says one depth limit
 pub one_depth : (d e : ℕ) → IsPermutation (rows_of_meta d) (rows_of_meta e) → d ≡ e
-one_depth d e same = let sums = sum_by-IsPermutation (λ (row : MetaRow). row.val) _ _ same in omega arith
+one_depth d e same = let sums = sum_by-IsPermutation (λ (row : MetaRow). nat_abs row.val) _ _ same in omega arith
 
 -- the entry of a message, as the register takes it
 abbrev pub entry_with : Arrived Message → Changes → Entry

@@ -3,6 +3,7 @@ pub mod Messages
 pub mod Agreements
 pub mod History
 pub mod Loans
+pub mod StageNumbers
 pub mod Verdicts
 pub mod Lawful
 pub mod Book

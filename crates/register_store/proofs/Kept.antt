@@ -1,13 +1,13 @@
 -- What the rows of a register in memory keep of what was there.
-use Rattle.std.proofs.Common.{◌≡◌, ◌≢◌, ◌↔◌, ◌&&◌, ℕ, ℤ, Bool, true, false, true≢false, List, [], ◌∷◌, ◌++◌, map, reverse, Option, Some, None, Vec, String, string_bytes, MatchOption, Result, Ok, Err, IfErr, OnErr, ◌⊎◌, inl, refl, sym, subst, ap, ◌∙◌, arith}
+use Rattle.std.proofs.Common.{◌≡◌, ◌≢◌, ◌↔◌, ◌&&◌, ℕ, ℤ, nat_abs, Bool, true, false, true≢false, List, [], ◌∷◌, ◌++◌, map, reverse, get_or, Option, Some, None, Vec, String, string_bytes, MatchOption, Result, Ok, Err, IfErr, OnErr, ◌⊎◌, inl, refl, sym, subst, ap, ◌∙◌, arith}
 use Rattle.std.specs.declared.alloc.Global.{Global}
 use Rattle.std.specs.Bool.{Decides}
 use Rattle.std.proofs.lemmas.Bool.{and_parts}
 use Rattle.std.proofs.lemmas.Bool.Decides.{not_from_Decides}
-use Rattle.std.proofs.lemmas.List.{reverse-append}
+use Rattle.std.proofs.lemmas.List.{reverse-append, map-append}
 use Rattle.std.specs.List.Sorted.{IsPermutation, IsNonDecreasingBy}
 use Rattle.std.proofs.lemmas.List.Sorted.{IsPermutation-refl, IsPermutation-sym, IsPermutation-trans, IsPermutation-cons, IsPermutation-append_right, IsPermutation-reverse, IsPermutation-map as map-IsPermutation, length_permutation}
-use Rattle.sqlite_keyed.proofs.ListLemmas.{map_back}
+use Rattle.sqlite_keyed.proofs.ListLemmas.{map_back, map-map}
 use Rattle.nest_core.specs.Museum.{Museum}
 use Rattle.nest_core.specs.SetupTexts.{setup_rows}
 use Rattle.posting_core.specs.declared.entry.Entry.{Entry}
@@ -15,16 +15,21 @@ use Rattle.posting_core.specs.declared.entry.Changes.{Changes}
 use Rattle.posting_core.specs.declared.entry.NewLine.{NewLine}
 use Rattle.posting_core.specs.declared.entry.NewSpot.{NewSpot}
 use Rattle.posting_core.specs.declared.stage.LineStage.{LineStage}
+use Rattle.posting_core.specs.declared.stage.LineStage.TheVariants.{Awaiting, Away, Back, Here, GivenBack}
+use Rattle.posting_core.specs.StageNumbers.{stage_number}
 use Rattle.register_store.specs.declared.loan_rows.LineKey.{LineKey}
+use Rattle.register_store.specs.declared.rows.KeptPosting.{KeptPosting}
 use Rattle.register_store.specs.declared.store_fault.StoreFault.{StoreFault}
 use Rattle.register_store.specs.declared.store_fault.StoreFault.TheVariants.{NoMemory, Store, OtherSetup, Damaged, OtherVersion}
-use Rattle.register_store.specs.StoredRows.{Content, MetaRow, PostingRow, TermRow, AreSame, HasRows, numbered, rows_of_setup, rows_of_meta, IsBoundTo, rows_by_thing, rows_of_spots, rows_of_lines, rows_of_terms, put_lines, term_of, with_posted}
+use Rattle.register_store.specs.StoredRows.{Content, MetaRow, PostingRow, SpotRow, LineRow, TermRow, AreSame, HasRows, numbered, rows_of_setup, rows_of_meta, IsBoundTo, spot_row, line_row, spots_by_thing, lines_by_loan, rows_of_spots, rows_of_lines, rows_of_terms, is_same_line, put_each, term_of, with_posted}
 use Rattle.register_store.specs.Registers.{is_new, bound_by, bound_to, IsBindFault, IsWrongAt, IsListFault}
 use Rattle.register_store.specs.Holdings.{Each, Comes}
-use Rattle.register_store.specs.Plain.{rows_in_memory, texts_of, meta_of, line_rows, term_rows}
+use Rattle.register_store.specs.Plain.{rows_in_memory, texts_of, meta_of, posting_row, has_same_key, held_lines, term_rows}
 use Rattle.register_store.proofs.OneList.{one_setup}
 use Rattle.register_store.proofs.SpotRows.{looking_back}
-use Rattle.register_store.proofs.LineRows.{put_lines_same}
+use Rattle.register_store.proofs.ListedRows.{in_order}
+use Rattle.register_store.proofs.PutRows.{put_each_same, put_mapped}
+use Rattle.register_store.proofs.LineRows.{keyed_rows}
 use Rattle.register_store.proofs.TermRows.{with_term, with_term_same}
 
 pub same_itself : (c : Content) → AreSame c c
@@ -60,8 +65,8 @@ same_posted c d row e changes h = record {
   setup = h.setup;
   meta = h.meta;
   postings = IsPermutation-cons row _ _ h.postings;
-  spots = IsPermutation-append_right (reverse changes.spots) _ _ h.spots;
-  lines = put_lines_same changes.lines c.lines d.lines h.lines;
+  spots = IsPermutation-append_right (map spot_row (reverse changes.spots)) _ _ h.spots;
+  lines = put_each_same is_same_line (map line_row changes.lines) c.lines d.lines h.lines;
   terms = with_term_same (term_of e) c.terms d.terms h.terms;
 }
 
@@ -78,11 +83,18 @@ not_new [] h = absurd (omega (arith, length_permutation _ _ h))
 not_new (row ∷ rows) h = refl
 
 -- a register in memory of these fields
-abbrev pub content_of : Option (Vec (String Global) Global) → List PostingRow → List NewSpot → List NewLine → List TermRow → Content
-content_of texts postings spots lines terms = record { setup = numbered (reverse (texts_of texts)); meta = meta_of texts; postings = postings; spots = spots; lines = lines; terms = terms }
+abbrev pub content_of : Option (Vec (String Global) Global) → List KeptPosting → List NewSpot → List NewLine → List TermRow → Content
+content_of texts postings spots lines terms = record {
+  setup = numbered (reverse (texts_of texts));
+  meta = meta_of texts;
+  postings = map posting_row postings;
+  spots = map spot_row spots;
+  lines = map line_row lines;
+  terms = terms;
+}
 
 -- it takes a setup where it is new, or has this one
-pub bound_kept : (S : Museum) (o : Option (Vec (String Global) Global)) (texts : Vec (String Global) Global) (postings : List PostingRow) (spots : List NewSpot) (lines : List NewLine) (terms : List TermRow) (K d : Content)
+pub bound_kept : (S : Museum) (o : Option (Vec (String Global) Global)) (texts : Vec (String Global) Global) (postings : List KeptPosting) (spots : List NewSpot) (lines : List NewLine) (terms : List TermRow) (K d : Content)
     → map string_bytes texts.items ≡ setup_rows S → MatchOption o (Unit {0}) (λ old. map string_bytes old.items ≡ map string_bytes texts.items) → K ≡ content_of o postings spots lines terms → AreSame K d
     → AreSame (content_of (Some texts) postings spots lines terms) (bound_to S d)
 bound_kept S None texts postings spots lines terms K d rows fits is h =
@@ -108,12 +120,12 @@ bound_kept S (Some old) texts postings spots lines terms K d rows fits is h =
     })
 
 -- it is bound
-pub bound_now : (S : Museum) (texts : Vec (String Global) Global) (postings : List PostingRow) (spots : List NewSpot) (lines : List NewLine) (terms : List TermRow) (d : Content)
+pub bound_now : (S : Museum) (texts : Vec (String Global) Global) (postings : List KeptPosting) (spots : List NewSpot) (lines : List NewLine) (terms : List TermRow) (d : Content)
     → map string_bytes texts.items ≡ setup_rows S → AreSame (content_of (Some texts) postings spots lines terms) d → IsBoundTo S 12 d
 bound_now S texts postings spots lines terms d rows h = record { setup = subst (λ l. IsPermutation (numbered (reverse l)) d.setup) rows h.setup; meta = h.meta; limit = refl }
 
 -- it has another setup
-pub other_setup : (S : Museum) (old texts : Vec (String Global) Global) (postings : List PostingRow) (spots : List NewSpot) (lines : List NewLine) (terms : List TermRow) (K d : Content)
+pub other_setup : (S : Museum) (old texts : Vec (String Global) Global) (postings : List KeptPosting) (spots : List NewSpot) (lines : List NewLine) (terms : List TermRow) (K d : Content)
     → map string_bytes texts.items ≡ setup_rows S → (map string_bytes old.items ≡ map string_bytes texts.items → ⊥) → K ≡ content_of (Some old) postings spots lines terms → AreSame K d
     → IsBindFault S d OtherSetup
 other_setup S old texts postings spots lines terms K d rows differ is h =
@@ -123,7 +135,7 @@ other_setup S old texts postings spots lines terms K d rows differ is h =
     )
 
 -- what `bind` finds out of its texts
-pub refused_setup : (S : Museum) (o : Option (Vec (String Global) Global)) (texts : Vec (String Global) Global) (items : List (String Global)) (postings : List PostingRow) (spots : List NewSpot) (lines : List NewLine) (terms : List TermRow)
+pub refused_setup : (S : Museum) (o : Option (Vec (String Global) Global)) (texts : Vec (String Global) Global) (items : List (String Global)) (postings : List KeptPosting) (spots : List NewSpot) (lines : List NewLine) (terms : List TermRow)
     (K d : Content) (r : Bool) → map string_bytes texts.items ≡ setup_rows S → items ≡ texts.items → MatchOption o (r ≡ true) (λ old. Decides r (map string_bytes old.items ≡ map string_bytes items)) → r ≡ false
     → K ≡ content_of o postings spots lines terms → AreSame K d → IsBindFault S d OtherSetup
 refused_setup S None texts items postings spots lines terms K d r rows at told differs is h = absurd (true≢false (sym told ∙ differs))
@@ -136,23 +148,26 @@ fitted None texts items r at told fits = tt
 fitted (Some old) texts items r at told fits = told.0 fits ∙ ap (map string_bytes) at
 
 -- one more posting at the end of the kept rows
-pub posted_same : (o : Option (Vec (String Global) Global)) (ps more : List PostingRow) (ss longer : List NewSpot) (ls new_ls : List NewLine) (ts new_ts : List TermRow) (row : PostingRow) (e : Entry) (changes : Changes) (K d : Content)
-    → more ≡ ps ++ row ∷ [] → longer ≡ ss ++ changes.spots → IsPermutation new_ls (put_lines changes.lines ls) → IsPermutation new_ts (with_term (term_of e) ts)
-    → K ≡ content_of o (reverse ps) (reverse ss) ls ts → AreSame K d → AreSame (content_of o (reverse more) (reverse longer) new_ls new_ts) (with_posted row e changes d)
+pub posted_same : (o : Option (Vec (String Global) Global)) (ps more : List KeptPosting) (ss longer : List NewSpot) (ls new_ls : List NewLine) (ts new_ts : List TermRow) (row : KeptPosting) (e : Entry) (changes : Changes) (K d : Content)
+    → more ≡ ps ++ row ∷ [] → longer ≡ ss ++ changes.spots → IsPermutation new_ls (put_each has_same_key changes.lines ls) → IsPermutation new_ts (with_term (term_of e) ts)
+    → K ≡ content_of o (reverse ps) (reverse ss) ls ts → AreSame K d → AreSame (content_of o (reverse more) (reverse longer) new_ls new_ts) (with_posted (posting_row row) e changes d)
 posted_same o ps more ss longer ls new_ls ts new_ts row e changes K d pushed extended lined dated is h =
     let same : AreSame (content_of o (reverse ps) (reverse ss) ls ts) d = subst (λ (c : Content). AreSame c d) is h in
     record {
       setup = same.setup;
       meta = same.meta;
-      postings = subst (λ l. IsPermutation l (row ∷ d.postings)) (sym (ap reverse pushed ∙ reverse-append ps (row ∷ []))) (IsPermutation-cons row _ _ same.postings);
-      spots = subst (λ l. IsPermutation l (reverse changes.spots ++ d.spots)) (sym (ap reverse extended ∙ reverse-append ss changes.spots)) (IsPermutation-append_right (reverse changes.spots) _ _ same.spots);
-      lines = IsPermutation-trans _ _ _ lined (put_lines_same changes.lines ls d.lines same.lines);
+      postings = subst (λ l. IsPermutation (map posting_row l) (posting_row row ∷ d.postings)) (sym (ap reverse pushed ∙ reverse-append ps (row ∷ []))) (IsPermutation-cons (posting_row row) _ _ same.postings);
+      spots = subst (λ l. IsPermutation l (map spot_row (reverse changes.spots) ++ d.spots)) (sym (ap (λ l. map spot_row (reverse l)) extended ∙ ap (map spot_row) (reverse-append ss changes.spots) ∙ map-append spot_row (reverse changes.spots) (reverse ss)))
+          (IsPermutation-append_right (map spot_row (reverse changes.spots)) _ _ same.spots);
+      lines = IsPermutation-trans _ _ _
+          (subst (IsPermutation (map line_row new_ls)) (put_mapped has_same_key is_same_line line_row keyed_rows changes.lines ls) (map-IsPermutation line_row _ _ lined))
+          (put_each_same is_same_line (map line_row changes.lines) (map line_row ls) d.lines same.lines);
       terms = IsPermutation-trans _ _ _ dated (with_term_same (term_of e) ts d.terms same.terms);
     }
 
 -- growths alone leave what is held
-pub left_as_was : {T E : Type 0} (r : Result T E) (Q : Content → Content → Type 0) (o : Option (Vec (String Global) Global)) (ps ps' : List PostingRow) (ss ss' : List NewSpot) (ks ks' : List (LineKey × LineStage)) (ts ts' : List (List ℕ × ℤ)) (K L : Content)
-    → K ≡ content_of o (reverse ps) (reverse ss) (line_rows ks) (term_rows ts) → L ≡ content_of o (reverse ps') (reverse ss') (line_rows ks') (term_rows ts') → ps' ≡ ps → ss' ≡ ss → ks' ≡ ks → ts' ≡ ts
+pub left_as_was : {T E : Type 0} (r : Result T E) (Q : Content → Content → Type 0) (o : Option (Vec (String Global) Global)) (ps ps' : List KeptPosting) (ss ss' : List NewSpot) (ks ks' : List (LineKey × LineStage)) (ts ts' : List (List ℕ × ℤ)) (K L : Content)
+    → K ≡ content_of o (reverse ps) (reverse ss) (held_lines ks) (term_rows ts) → L ≡ content_of o (reverse ps') (reverse ss') (held_lines ks') (term_rows ts') → ps' ≡ ps → ss' ≡ ss → ks' ≡ ks → ts' ≡ ts
     → OnErr r (Comes (rows_in_memory K) (rows_in_memory L) (λ c d. AreSame c d ⊎ Q c d))
 left_as_was (Ok x) Q o ps ps' ss ss' ks ks' ts ts' K L is now p s k t = tt
 left_as_was (Err e) Q o ps ps' ss ss' ks ks' ts ts' K L is now p s k t =
@@ -160,14 +175,14 @@ left_as_was (Err e) Q o ps ps' ss ss' ks ks' ts ts' K L is now p s k t =
     comes_from K L (λ c d. AreSame c d ⊎ Q c d) (λ d h. inl (subst (λ (c : Content). AreSame c d) same h))
 
 -- the same rows in another order are held as before
-pub reordered : (o : Option (Vec (String Global) Global)) (ps ps' : List PostingRow) (ss ss' : List NewSpot) (lines : List NewLine) (terms : List TermRow) (K d : Content) → IsPermutation ps ps' → IsPermutation ss ss'
+pub reordered : (o : Option (Vec (String Global) Global)) (ps ps' : List KeptPosting) (ss ss' : List NewSpot) (lines : List NewLine) (terms : List TermRow) (K d : Content) → IsPermutation ps ps' → IsPermutation ss ss'
     → K ≡ content_of o (reverse ps) (reverse ss) lines terms → AreSame K d ↔ AreSame (content_of o (reverse ps') (reverse ss') lines terms) d
 reordered o ps ps' ss ss' lines terms K d p s is =
     let now : AreSame (content_of o (reverse ps) (reverse ss) lines terms) (content_of o (reverse ps') (reverse ss') lines terms) = record {
       setup = IsPermutation-refl _;
       meta = IsPermutation-refl _;
-      postings = turned_same ps ps' p;
-      spots = turned_same ss ss' s;
+      postings = map-IsPermutation posting_row _ _ (turned_same ps ps' p);
+      spots = map-IsPermutation spot_row _ _ (turned_same ss ss' s);
       lines = IsPermutation-refl _;
       terms = IsPermutation-refl _;
     } in (
@@ -176,8 +191,8 @@ reordered o ps ps' ss ss' lines terms K d p s is =
     )
 
 -- why its rows are no list
-pub listed_fault : (r : Result (Vec Entry Global) StoreFault) (stations stations' : ℕ) (rows items : List PostingRow) (o : Option (Vec (String Global) Global)) (spots : List NewSpot) (lines : List NewLine) (terms : List TermRow) → stations' ≡ stations → items ≡ rows
-    → IsNonDecreasingBy (λ row. row.id) rows → IfErr r (λ fault. fault ≢ NoMemory → (at : ℕ) × (fault ≡ Damaged at) × IsWrongAt stations at items)
+pub listed_fault : (r : Result (Vec Entry Global) StoreFault) (stations stations' : ℕ) (rows items : List KeptPosting) (o : Option (Vec (String Global) Global)) (spots : List NewSpot) (lines : List NewLine) (terms : List TermRow) → stations' ≡ stations → items ≡ rows
+    → IsNonDecreasingBy (λ row. row.id) rows → IfErr r (λ fault. fault ≢ NoMemory → (at : ℕ) × (fault ≡ Damaged at) × IsWrongAt stations at (map posting_row items))
     → IfErr r (λ fault. Each (rows_in_memory (content_of o (reverse rows) spots lines terms)) (λ d. IsListFault stations' d fault))
 listed_fault (Ok entries) stations stations' rows items o spots lines terms st at order wrong = tt
 listed_fault (Err NoMemory) stations stations' rows items o spots lines terms st at order wrong = λ quiet d h. tt
@@ -188,20 +203,10 @@ listed_fault (Err (Damaged i)) stations stations' rows items o spots lines terms
     let w = wrong (λ e. cc) in
     let e = w.1 in
     let same : w.0 ≡ i = cc in
-    let first : IsWrongAt stations' i rows = subst (λ l. IsWrongAt stations' i l) at (subst (λ n. IsWrongAt n i items) (sym st) (subst (λ n. IsWrongAt stations n items) same w.2)) in
-    record { rows = rows; all = IsPermutation-trans _ _ _ (IsPermutation-reverse rows) h.postings; order = order; first = first }
+    let first : IsWrongAt stations' i (map posting_row rows) = subst (λ l. IsWrongAt stations' i (map posting_row l)) at (subst (λ n. IsWrongAt n i (map posting_row items)) (sym st) (subst (λ n. IsWrongAt stations n (map posting_row items)) same w.2)) in
+    record { rows = map posting_row rows; all = IsPermutation-trans _ _ _ (map-IsPermutation posting_row _ _ (IsPermutation-reverse rows)) h.postings; order = in_order rows order; first = first }
 
--- whether the wanted rows of spots are there
-spots_told : (r : Bool) (S : Museum) (P : List Entry) (wanted sorted spots : List NewSpot) → wanted ≡ rows_by_thing S P → Decides r (IsPermutation wanted sorted) → IsPermutation (reverse sorted) spots
-    → Decides r (IsPermutation (rows_of_spots S P) spots)
-spots_told r S P wanted sorted spots is told held =
-    let written : IsPermutation wanted (rows_of_spots S P) = subst (λ l. IsPermutation l (rows_of_spots S P)) (sym is) (looking_back S P) in
-    let kept : IsPermutation sorted spots = IsPermutation-trans _ _ _ (IsPermutation-reverse sorted) held in (
-      λ yes. IsPermutation-trans _ _ _ (IsPermutation-sym _ _ written) (IsPermutation-trans _ _ _ (told.0 yes) kept),
-      λ alike. told.1 (IsPermutation-trans _ _ _ written (IsPermutation-trans _ _ _ alike (IsPermutation-sym _ _ kept))),
-    )
-
--- the same of pairs and the rows that they stand for
+-- whether what is wanted is kept, by the rows that stand for it
 pairs_told : {A R : Type 0} (row : A → R) (pair : R → A) → ((a : A) → pair (row a) ≡ a) → (r : Bool) (wanted kept : List A) (rows held : List R) → map row wanted ≡ rows → Decides r (IsPermutation wanted kept)
     → IsPermutation (map row kept) held → Decides r (IsPermutation rows held)
 pairs_told row pair back r wanted kept rows held is told same = (
@@ -211,16 +216,38 @@ pairs_told row pair back r wanted kept rows held is told same = (
       told.1 (subst (λ l. IsPermutation l kept) (map_back row pair back wanted) (subst (IsPermutation (map pair (map row wanted))) (map_back row pair back kept) (map-IsPermutation pair _ _ rowed))),
 )
 
+-- what a row of a spot, and one of a line, stands for
+abbrev spot_in : SpotRow → NewSpot
+spot_in r = record { thing = nat_abs r.thing; k = nat_abs r.k; spot = record { entry = nat_abs r.entry; place = nat_abs r.place; day = r.day } }
+
+abbrev stage_in : ℕ → LineStage
+stage_in n = get_or (Awaiting ∷ Away ∷ Back ∷ Here ∷ GivenBack ∷ []) n Awaiting
+
+numbered_back : (s : LineStage) → stage_in (stage_number s) ≡ s
+numbered_back Awaiting = refl
+numbered_back Away = refl
+numbered_back Back = refl
+numbered_back Here = refl
+numbered_back GivenBack = refl
+
+abbrev line_in : LineRow → LineKey × LineStage
+line_in r = let key : LineKey = record { loan = r.loan; object = nat_abs r.object } in (key, stage_in (nat_abs r.stage))
+
 pub told_by : (a b c : Bool) (S : Museum) (P : List Entry) (wanted sorted : List NewSpot) (lines kept_lines : List (LineKey × LineStage)) (terms kept_terms : List (List ℕ × ℤ)) (o : Option (Vec (String Global) Global))
-    (postings : List PostingRow) (d : Content) → wanted ≡ rows_by_thing S P → line_rows lines ≡ rows_of_lines S P → term_rows terms ≡ rows_of_terms P
+    (postings : List KeptPosting) (d : Content) → wanted ≡ spots_by_thing S P → held_lines lines ≡ lines_by_loan S P → term_rows terms ≡ rows_of_terms P
     → Decides a (IsPermutation wanted sorted) → Decides b (IsPermutation lines kept_lines) → Decides c (IsPermutation terms kept_terms)
-    → AreSame (content_of o postings (reverse sorted) (line_rows kept_lines) (term_rows kept_terms)) d → Decides (a && (b && c)) (HasRows S P d)
+    → AreSame (content_of o postings (reverse sorted) (held_lines kept_lines) (term_rows kept_terms)) d → Decides (a && (b && c)) (HasRows S P d)
 told_by a b c S P wanted sorted lines kept_lines terms kept_terms o postings d is lined dated has_spots has_lines has_terms h =
-    let spots = spots_told a S P wanted sorted d.spots is has_spots h.spots in
+    let key_row : LineKey × LineStage → LineRow = λ e. line_row (record { loan = e.0.loan; object = e.0.object; stage = e.1 }) in
+    let written : IsPermutation (map spot_row wanted) (rows_of_spots S P) = subst (λ l. IsPermutation (map spot_row l) (rows_of_spots S P)) (sym is) (map-IsPermutation spot_row _ _ (looking_back S P)) in
+    let kept : IsPermutation (map spot_row sorted) d.spots = IsPermutation-trans _ _ _ (map-IsPermutation spot_row _ _ (IsPermutation-reverse sorted)) h.spots in
+    let by_thing : Decides a (IsPermutation (map spot_row wanted) d.spots) = pairs_told spot_row spot_in (λ s. refl) a wanted sorted (map spot_row wanted) d.spots refl has_spots kept in
+    let of_spots : Decides a (IsPermutation (rows_of_spots S P) d.spots) = (λ yes. IsPermutation-trans _ _ _ (IsPermutation-sym _ _ written) (by_thing.0 yes), λ has. by_thing.1 (IsPermutation-trans _ _ _ written has)) in
     let of_lines : Decides b (IsPermutation (rows_of_lines S P) d.lines) =
-    pairs_told (λ e. let l : NewLine = record { loan = e.0.loan; object = e.0.object; stage = e.1 } in l) (λ l. let k : LineKey = record { loan = l.loan; object = l.object } in (k, l.stage)) (λ e. refl) b lines kept_lines (rows_of_lines S P) d.lines lined has_lines h.lines in
+    pairs_told key_row line_in (λ e. ap (λ s. (e.0, s)) (numbered_back e.1)) b lines kept_lines (rows_of_lines S P) d.lines (sym (map-map line_row _ lines) ∙ ap (map line_row) lined) has_lines
+    (subst (λ l. IsPermutation l d.lines) (map-map line_row _ kept_lines) h.lines) in
     let of_terms : Decides c (IsPermutation (rows_of_terms P) d.terms) =
     pairs_told (λ e. let t : TermRow = record { loan = e.0; day = e.1 } in t) (λ t. (t.loan, t.day)) (λ e. refl) c terms kept_terms (rows_of_terms P) d.terms dated has_terms h.terms in (
-      λ yes. let first = and_parts a (b && c) yes in let rest = and_parts b c first.1 in record { spots = spots.0 first.0; lines = of_lines.0 rest.0; terms = of_terms.0 rest.1 },
-      λ has. rw (spots.1 has.spots, of_lines.1 has.lines, of_terms.1 has.terms) refl,
+      λ yes. let first = and_parts a (b && c) yes in let rest = and_parts b c first.1 in record { spots = of_spots.0 first.0; lines = of_lines.0 rest.0; terms = of_terms.0 rest.1 },
+      λ has. rw (of_spots.1 has.spots, of_lines.1 has.lines, of_terms.1 has.terms) refl,
     )

@@ -20,11 +20,11 @@ use Rattle.posting_core.specs.Loans.{line, objects_of, stage}
 use Rattle.posting_core.proofs.Agreed.{AreApart, agreements_apart, apart_sym}
 use Rattle.register_store.specs.declared.loan_rows.LineKey.{LineKey}
 use Rattle.register_store.specs.contracts.loan_rows.LineKeyPartialEq.TheImpl.{ghosts}
-use Rattle.register_store.specs.Plain.{line_rows, term_rows, lines_of_loan, day_of_loan}
-use Rattle.register_store.specs.StoredRows.{is_same_line, rows_of_agreement, rows_of_lines, rows_of_terms}
+use Rattle.register_store.specs.Plain.{has_same_key, held_lines, term_rows, lines_of_loan, day_of_loan}
+use Rattle.register_store.specs.StoredRows.{is_same_loan, lines_under, lines_by_loan, rows_of_terms}
 use Rattle.register_store.proofs.PutRows.{AreOnce, IsFree}
 use Rattle.register_store.proofs.LineRows.{lines_once}
-use Rattle.register_store.proofs.TermRows.{is_same_loan, terms_once}
+use Rattle.register_store.proofs.TermRows.{terms_once}
 
 at : {X : Type 0} (xs : List X) (i : ℕ) (x : X) → slice_get xs i ≡ Some x → drop i xs ≡ x ∷ drop (suc i) xs
 at [] i x h = absurd (none-some _ h)
@@ -93,12 +93,12 @@ module _ (B : Book) where
       ap (λ (a : Option LineStage). option_to_list (option_map (λ s. record { loan = t.loan; object = o; stage = s }) a) ++ lines_of_loan B t.loan os) has
       ∙ ap (λ l. record { loan = t.loan; object = o; stage = stage S P t.loan o } ∷ l) (told_lines t own os there)
 
-  all_lines : (ts : List Agreement) → AllByRecursion (λ t. agreement P t.loan ≡ Some t) ts → flat_map (λ loan. lines_of_loan B loan (objects_of_loan B loan)) (map (λ t. t.loan) ts) ≡ flat_map (rows_of_agreement S P) ts
+  all_lines : (ts : List Agreement) → AllByRecursion (λ t. agreement P t.loan ≡ Some t) ts → flat_map (λ loan. lines_of_loan B loan (objects_of_loan B loan)) (map (λ t. t.loan) ts) ≡ flat_map (lines_under S P) ts
   all_lines [] own = refl
   all_lines (t ∷ ts) (one, own) =
       ap (λ a. lines_of_loan B t.loan (option_map_or (objects_of S) a []) ++ flat_map (λ loan. lines_of_loan B loan (objects_of_loan B loan)) (map (λ t. t.loan) ts)) one
       ∙ ap (λ l. l ++ flat_map (λ loan. lines_of_loan B loan (objects_of_loan B loan)) (map (λ t. t.loan) ts)) (told_lines t one (objects_of S t) (among_own (objects_of S t)))
-      ∙ ap (λ l. rows_of_agreement S P t ++ l) (all_lines ts own)
+      ∙ ap (λ l. lines_under S P t ++ l) (all_lines ts own)
 
   all_days : (ts : List Agreement) → AllByRecursion (λ t. agreement P t.loan ≡ Some t) ts → flat_map (day_of_loan B) (map (λ t. t.loan) ts) ≡ map (λ t. record { loan = t.loan; day = last_from P t.loan t.last }) ts
   all_days [] own = refl
@@ -106,19 +106,19 @@ module _ (B : Book) where
       ap (λ (a : Option Agreement). option_to_list (option_map (λ day. record { loan = t.loan; day = day }) (option_map (λ u. last_from P t.loan u.last) a)) ++ flat_map (day_of_loan B) (map (λ t. t.loan) ts)) one
       ∙ ap (λ l. record { loan = t.loan; day = last_from P t.loan t.last } ∷ l) (all_days ts own)
 
-  pub lines_told : IsLawful S B.depth P → flat_map (λ loan. lines_of_loan B loan (objects_of_loan B loan)) (loans_in B) ≡ rows_of_lines S P
+  pub lines_told : IsLawful S B.depth P → flat_map (λ loan. lines_of_loan B loan (objects_of_loan B loan)) (loans_in B) ≡ lines_by_loan S P
   lines_told lawful = all_lines (agreements P) (own_agreement (agreements P) (agreements_apart S B.depth P lawful))
 
   pub days_told : IsLawful S B.depth P → flat_map (day_of_loan B) (loans_in B) ≡ rows_of_terms P
   days_told lawful = all_days (agreements P) (own_agreement (agreements P) (agreements_apart S B.depth P lawful))
 
 -- keys of rows that stand once are distinct
-line_keys : (kept : List (LineKey × LineStage)) → AreOnce is_same_line (line_rows kept) → IsDistinct (ghosts).eq (keys_of kept)
+line_keys : (kept : List (LineKey × LineStage)) → AreOnce has_same_key (held_lines kept) → IsDistinct (ghosts).eq (keys_of kept)
 unfolding IsDistinct
 line_keys [] once = tt
 line_keys (e ∷ kept) once = (free kept once.0, line_keys kept once.1)
   where
-    free : (more : List (LineKey × LineStage)) → IsFree is_same_line (record { loan = e.0.loan; object = e.0.object; stage = e.1 }) (line_rows more) → AllByRecursion (λ k. (ghosts).eq e.0 k ≡ false) (keys_of more)
+    free : (more : List (LineKey × LineStage)) → IsFree has_same_key (record { loan = e.0.loan; object = e.0.object; stage = e.1 }) (held_lines more) → AllByRecursion (λ k. (ghosts).eq e.0 k ≡ false) (keys_of more)
     free [] apart = tt
     free (f ∷ more) (apart, rest) = (apart, free more rest)
 
@@ -131,8 +131,8 @@ term_keys (e ∷ kept) once = (free kept once.0, term_keys kept once.1)
     free [] apart = tt
     free (f ∷ more) (apart, rest) = (apart, free more rest)
 
-pub line_keys_differ : (S : Museum) (depth : ℕ) (P : List Entry) (kept : List (LineKey × LineStage)) → IsLawful S depth P → line_rows kept ≡ rows_of_lines S P → IsDistinct (ghosts).eq (keys_of kept)
-line_keys_differ S depth P kept lawful is = line_keys kept (subst (AreOnce is_same_line) (sym is) (lines_once S depth P lawful))
+pub line_keys_differ : (S : Museum) (depth : ℕ) (P : List Entry) (kept : List (LineKey × LineStage)) → IsLawful S depth P → held_lines kept ≡ lines_by_loan S P → IsDistinct (ghosts).eq (keys_of kept)
+line_keys_differ S depth P kept lawful is = line_keys kept (subst (AreOnce has_same_key) (sym is) (lines_once S depth P lawful))
 
 pub term_keys_differ : (S : Museum) (depth : ℕ) (P : List Entry) (kept : List (List ℕ × ℤ)) → IsLawful S depth P → term_rows kept ≡ rows_of_terms P → IsDistinct bytes_eq (keys_of kept)
 term_keys_differ S depth P kept lawful is = term_keys kept (subst (AreOnce is_same_loan) (sym is) (terms_once S depth P lawful))

@@ -1,5 +1,5 @@
 -- A store has one list: its rows are numbered, and each tells its entry.
-use Rattle.std.proofs.Common.{◌≡◌, ◌⊎◌, inl, inr, ℕ, suc, ◌+◌, ◌≤◌, List, [], ◌∷◌, length, get_or, reverse, refl, sym, subst, ap, ◌∙◌, arith}
+use Rattle.std.proofs.Common.{◌≡◌, ◌⊎◌, inl, inr, ℕ, suc, ◌+◌, ◌≤◌, pos, nat_abs, List, [], ◌∷◌, length, get_or, reverse, refl, sym, subst, ap, ◌∙◌, arith}
 use Rattle.std.specs.List.{AllByRecursion}
 use Rattle.std.specs.List.Sorted.{IsPermutation}
 use Rattle.std.proofs.lemmas.List.Elements.{recursion_from_All, All-from_recursion}
@@ -60,7 +60,7 @@ module _ {X : Type 0} (number : X → ℕ) where
       once xs ys h k (sym (length_permutation xs ys same))
       (recursion_from_All (IsIn ys) xs (All-permutation (IsIn ys) ys xs (IsPermutation-sym xs ys same) (All-from_recursion (IsIn ys) ys (in_itself ys))))
 
-texts_numbered : (texts : List (List ℕ)) → IsNumbered (λ (r : SetupRow). r.id) (numbered texts)
+texts_numbered : (texts : List (List ℕ)) → IsNumbered (λ (r : SetupRow). nat_abs r.id) (numbered texts)
 texts_numbered [] = tt
 texts_numbered (text ∷ texts) = (ap (λ n. n + 1) (sym (as_long texts)), texts_numbered texts)
   where
@@ -82,7 +82,7 @@ texts_of a b same = sym (back a) ∙ ap texts same ∙ back b
 -- texts by their numbers
 pub one_setup : (a b : List (List ℕ)) → IsPermutation (numbered (reverse a)) (numbered (reverse b)) → a ≡ b
 one_setup a b same =
-    let turned = texts_of (reverse a) (reverse b) (one_order (λ (r : SetupRow). r.id) _ _ (texts_numbered (reverse a)) (texts_numbered (reverse b)) same) in
+    let turned = texts_of (reverse a) (reverse b) (one_order (λ (r : SetupRow). nat_abs r.id) _ _ (texts_numbered (reverse a)) (texts_numbered (reverse b)) same) in
     sym (reverse-reverse a) ∙ ap reverse turned ∙ reverse-reverse b
 
 pub as_many : (P : List Entry) (rows : List PostingRow) → ArePostings P rows → length P ≡ length rows
@@ -91,11 +91,11 @@ as_many [] (row ∷ rows) h = absurd h
 as_many (e ∷ P) [] h = absurd h
 as_many (e ∷ P) (row ∷ rows) h = ap suc (as_many P rows h.1)
 
-rows_numbered : (P : List Entry) (rows : List PostingRow) → ArePostings P rows → IsNumbered (λ (r : PostingRow). r.id) rows
+rows_numbered : (P : List Entry) (rows : List PostingRow) → ArePostings P rows → IsNumbered (λ (r : PostingRow). nat_abs r.id) rows
 rows_numbered [] [] h = tt
 rows_numbered [] (row ∷ rows) h = absurd h
 rows_numbered (e ∷ P) [] h = absurd h
-rows_numbered (e ∷ P) (row ∷ rows) h = (h.0.id ∙ ap (λ n. n + 1) (as_many P rows h.1), rows_numbered P rows h.1)
+rows_numbered (e ∷ P) (row ∷ rows) h = (ap nat_abs h.0.id ∙ ap (λ n. n + 1) (as_many P rows h.1), rows_numbered P rows h.1)
 
 abbrev pub all_verdicts : List Verdict
 all_verdicts = Applied ∷ UnknownThing ∷ UnknownPlace ∷ ElsewherePlace ∷ UnknownContainer ∷ UnknownLoan ∷ LoanKnown ∷ InsidePartner ∷ NoObjects ∷ NotObject ∷ Repeated ∷ WrongOwner ∷ BadTerm
@@ -136,10 +136,10 @@ one_verdict v w same = sym (of_number v) ∙ ap (λ n. get_or all_verdicts n App
 
 one_entry : (number : ℕ) (e f : Entry) (row : PostingRow) → IsPostingRow number e row → IsPostingRow number f row → e ≡ f
 one_entry number e f row h k =
-    let station : e.station ≡ f.station = sym h.station ∙ k.station in
-    let n : e.n ≡ f.n = sym h.n ∙ k.n in
+    let station : e.station ≡ f.station = ap nat_abs (sym h.station ∙ k.station) in
+    let n : e.n ≡ f.n = ap nat_abs (sym h.n ∙ k.n) in
     let message : e.message ≡ f.message = one_message e.message f.message row.body h.reads_back k.reads_back in
-    let verdict : e.verdict ≡ f.verdict = one_verdict e.verdict f.verdict (sym h.verdict ∙ k.verdict) in
+    let verdict : e.verdict ≡ f.verdict = one_verdict e.verdict f.verdict (ap nat_abs (sym h.verdict ∙ k.verdict)) in
     ap (λ s. let x : Entry = record { station = s; n = e.n; message = e.message; verdict = e.verdict } in x) station
     ∙ ap (λ j. let x : Entry = record { station = f.station; n = j; message = e.message; verdict = e.verdict } in x) n
     ∙ ap (λ m. let x : Entry = record { station = f.station; n = f.n; message = m; verdict = e.verdict } in x) message
@@ -159,5 +159,5 @@ same_entries (e ∷ P) (f ∷ Q) (row ∷ rows) h k =
 pub one_list : (P Q : List Entry) (c : Content) → HasList P c → HasList Q c → P ≡ Q
 one_list P Q c h k =
     let same : IsPermutation h.rows k.rows = IsPermutation-trans _ _ _ h.all (IsPermutation-sym _ _ k.all) in
-    let rows : h.rows ≡ k.rows = one_order (λ (r : PostingRow). r.id) h.rows k.rows (rows_numbered P h.rows h.each) (rows_numbered Q k.rows k.each) same in
+    let rows : h.rows ≡ k.rows = one_order (λ (r : PostingRow). nat_abs r.id) h.rows k.rows (rows_numbered P h.rows h.each) (rows_numbered Q k.rows k.each) same in
     same_entries P Q k.rows (subst (ArePostings P) rows h.each) k.each

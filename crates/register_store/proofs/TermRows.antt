@@ -22,11 +22,8 @@ use Rattle.posting_core.specs.VerdictNames.{is_applied}
 use Rattle.posting_core.specs.Verdicts.{verdict, extend_rows}
 use Rattle.posting_core.proofs.AppliedRows.{none_holds, applied_is}
 use Rattle.posting_core.proofs.Agreed.{AreApart, agreements_apart, agree_applied, untouched}
-use Rattle.register_store.specs.StoredRows.{TermRow, rows_of_terms, put_term, term_in, term_of}
+use Rattle.register_store.specs.StoredRows.{TermRow, is_same_loan, rows_of_terms, put, term_in, term_of}
 use Rattle.register_store.proofs.PutRows.{IsFree, AreOnce, replaced, put_same, put_new, put_replaces}
-
-abbrev pub is_same_loan : TermRow → TermRow → Bool
-is_same_loan t u = bytes_eq t.loan u.loan
 
 abbrev row : List ℕ → ℤ → TermRow
 row loan day = record { loan = loan; day = day }
@@ -72,17 +69,17 @@ last_after P b m t = unwrap_or (if b then extension_in m t.loan else None) (last
 abbrev terms_after : List Entry → Bool → Message → List TermRow
 terms_after P b m = terms_at (last_after P b m) (agreements P ++ option_to_list (if b then agreement_in m else None))
 
-extended : (S : Museum) (depth : ℕ) (P : List Entry) (loan : List ℕ) (day : ℤ) → IsLawful S depth P → not (is_agreed P loan) ≡ false → IsPermutation (terms_after P true (Extend loan day)) (put_term (row loan day) (rows_of_terms P))
+extended : (S : Museum) (depth : ℕ) (P : List Entry) (loan : List ℕ) (day : ℤ) → IsLawful S depth P → not (is_agreed P loan) ≡ false → IsPermutation (terms_after P true (Extend loan day)) (put is_same_loan (row loan day) (rows_of_terms P))
 extended S depth P loan day lawful known =
     let f : Agreement → ℤ = λ t. last_from P t.loan t.last in
     let each : map (replaced is_same_loan (row loan day)) (rows_of_terms P) ≡ terms_at (last_after P true (Extend loan day)) (agreements P) =
     map-map (replaced is_same_loan (row loan day)) (λ t. row t.loan (f t)) (agreements P) ∙ map_same _ _ (one_set f loan day) (agreements P) in
-    subst (λ ts. IsPermutation (terms_at (last_after P true (Extend loan day)) ts) (put_term (row loan day) (rows_of_terms P))) (sym (append-nil (agreements P)))
-    (subst (λ rows. IsPermutation rows (put_term (row loan day) (rows_of_terms P))) each
+    subst (λ ts. IsPermutation (terms_at (last_after P true (Extend loan day)) ts) (put is_same_loan (row loan day) (rows_of_terms P))) (sym (append-nil (agreements P)))
+    (subst (λ rows. IsPermutation rows (put is_same_loan (row loan day) (rows_of_terms P))) each
     (put_replaces is_same_loan same_apart (row loan day) (rows_of_terms P) (terms_once S depth P lawful) (has_at f loan day (agreements P) (not-false (is_agreed P loan) known))))
 
 agreed : (S : Museum) (depth : ℕ) (P : List Entry) (m : Message) (t : Agreement) → IsLawful S depth P → verdict S depth P m ≡ Applied → agreement_in m ≡ Some t → ((u : Agreement) → extension_in m u.loan ≡ None)
-    → IsPermutation (terms_after P true m) (put_term (row t.loan t.last) (rows_of_terms P))
+    → IsPermutation (terms_after P true m) (put is_same_loan (row t.loan t.last) (rows_of_terms P))
 agreed S depth P m t lawful applied is stays =
     let f : Agreement → ℤ = λ u. last_from P u.loan u.last in
     let new = agree_applied S depth P m t applied is in
@@ -91,13 +88,13 @@ agreed S depth P m t lawful applied is stays =
     ap (λ o. terms_at (last_after P true m) (agreements P ++ option_to_list o)) is ∙ map_same _ _ (λ u. ap (λ (o : Option ℤ). row u.loan (unwrap_or o (f u))) (stays u)) (agreements P ++ t ∷ []) in
     let whole : terms_after P true m ≡ rows_of_terms P ++ row t.loan t.last ∷ [] =
     old ∙ map-append (λ u. row u.loan (f u)) (agreements P) (t ∷ []) ∙ ap (λ day. rows_of_terms P ++ row t.loan day ∷ []) (before.ends t.last) in
-    subst (λ rows. IsPermutation rows (put_term (row t.loan t.last) (rows_of_terms P))) (sym whole)
+    subst (λ rows. IsPermutation rows (put is_same_loan (row t.loan t.last) (rows_of_terms P))) (sym whole)
     (subst (λ rows. IsPermutation (rows_of_terms P ++ row t.loan t.last ∷ []) rows) (sym (put_new is_same_loan (row t.loan t.last) (rows_of_terms P) (free_of f t.loan t.last (agreements P) new.0)))
     (IsPermutation-to_front (rows_of_terms P) (row t.loan t.last)))
 
 -- the rows after a last day is put, if there is one
 abbrev pub with_term : Option TermRow → List TermRow → List TermRow
-with_term o rows = option_map_or (λ t. put_term t rows) o rows
+with_term o rows = option_map_or (λ t. put is_same_loan t rows) o rows
 
 pub with_term_same : (o : Option TermRow) (a b : List TermRow) → IsPermutation a b → IsPermutation (with_term o a) (with_term o b)
 with_term_same None a b same = same

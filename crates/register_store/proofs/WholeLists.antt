@@ -1,16 +1,17 @@
 -- A store that has a list of entries has no wrong row.
-use Rattle.std.proofs.Common.{◌≡◌, ℕ, ◌+◌, ◌<◌, ◌≤◌, List, [], ◌∷◌, ◌++◌, length, reverse, refl, sym, subst, ap, ◌∙◌, arith, Ordering, Less, Equal, Greater, is_lt, All, IsSorted, false}
+use Rattle.std.proofs.Common.{◌≡◌, ℕ, ◌+◌, ◌<◌, ◌<ℤ◌, pos, List, [], ◌∷◌, ◌++◌, length, reverse, refl, sym, subst, ap, ◌∙◌, arith, Ordering, Less, All}
 use Rattle.std.specs.List.{AllByRecursion}
-use Rattle.std.specs.List.Sorted.{IsNonDecreasingBy}
-use Rattle.std.specs.Ordering.{nat_cmp, MatchOrdering}
-use Rattle.std.specs.Cmp.{IsTotalOrder, nat_cmp_is}
-use Rattle.std.proofs.lemmas.Cmp.{ranked, nat_cmp_total}
+use Rattle.std.specs.Ordering.{int_cmp}
+use Rattle.std.specs.Cmp.{IsTotalOrder}
+use Rattle.std.proofs.lemmas.Cmp.{int_cmp_total}
+use Rattle.std.proofs.lemmas.Int.{ints}
 use Rattle.std.proofs.lemmas.List.{reverse-append, reverse-reverse, length-reverse, append_assoc}
 use Rattle.std.proofs.lemmas.List.Elements.{recursion_from_All}
 use Rattle.std.proofs.lemmas.List.Sorted.{IsPermutation-reverse, IsPermutation-sym, IsPermutation-trans}
 use Rattle.sqlite_trees.specs.Tree.{IsAscending}
 use Rattle.sqlite_trees.proofs.ListLemmas.{all-permutation}
 use Rattle.sqlite_keyed.proofs.ListLemmas.{all_weaker, ascending-append}
+use Rattle.sqlite_keyed.proofs.KeyedLemmas.{Less-from_lt}
 use Rattle.sqlite_keyed.proofs.SortLemmas.{sorted_unique}
 use Rattle.posting_core.specs.declared.entry.Entry.{Entry}
 use Rattle.register_store.specs.StoredRows.{Content, PostingRow, IsPostingRow, ArePostings, HasList}
@@ -18,21 +19,21 @@ use Rattle.register_store.specs.Registers.{IsOfStation, IsWrongRow, IsFirstWrong
 use Rattle.register_store.proofs.OneList.{as_many}
 
 abbrev by_id : PostingRow → PostingRow → Ordering
-by_id a b = nat_cmp a.id b.id
+by_id a b = int_cmp a.id b.id
 
 by_id-total : IsTotalOrder by_id
 by_id-total = record {
-  antisymm = λ a b. nat_cmp_total.antisymm a.id b.id;
-  trans = λ a b c. nat_cmp_total.trans a.id b.id c.id;
-  congr = λ a b c. nat_cmp_total.congr a.id b.id c.id;
+  antisymm = λ a b. int_cmp_total.antisymm a.id b.id;
+  trans = λ a b c. int_cmp_total.trans a.id b.id c.id;
+  congr = λ a b c. int_cmp_total.congr a.id b.id c.id;
 }
 
 -- the rows of entries have lower numbers than those of later ones
-below : (P : List Entry) (rows : List PostingRow) (n : ℕ) → ArePostings P rows → length P < n → AllByRecursion (λ (r : PostingRow). r.id < n) rows
+below : (P : List Entry) (rows : List PostingRow) (n : ℕ) → ArePostings P rows → length P < n → AllByRecursion (λ (r : PostingRow). r.id <ℤ pos n) rows
 below [] [] n h less = tt
 below [] (row ∷ rows) n h less = absurd h
 below (e ∷ P) [] n h less = absurd h
-below (e ∷ P) (row ∷ rows) n h less = let number = h.0.id in (omega arith, below P rows n h.1 (omega arith))
+below (e ∷ P) (row ∷ rows) n h less = let number = h.0.id in (omega (arith, ints, number), below P rows n h.1 (omega arith))
 
 -- so they ascend, oldest first
 ascending : (P : List Entry) (rows : List PostingRow) → ArePostings P rows → IsAscending (λ a b. by_id a b ≡ Less) (reverse rows)
@@ -44,18 +45,7 @@ ascending (e ∷ P) (row ∷ rows) h =
     subst (IsAscending (λ a b. by_id a b ≡ Less)) (sym (reverse-append (row ∷ []) rows))
     (ascending-append (λ a b. by_id a b ≡ Less) (reverse rows) (row ∷ []) (ascending P rows h.1) (tt, tt)
     (all-permutation (λ a. AllByRecursion (λ b. by_id a b ≡ Less) (row ∷ [])) rows (reverse rows) (IsPermutation-reverse rows)
-    (all_weaker (λ (r : PostingRow). r.id < row.id) (λ a. AllByRecursion (λ b. by_id a b ≡ Less) (row ∷ [])) (λ a less. (sym (nat_cmp_is a.id row.id Less less), tt)) rows (below P rows row.id h.1 (omega arith)))))
-
-sorted : (rows : List PostingRow) → IsNonDecreasingBy (λ (r : PostingRow). r.id) rows → IsSorted by_id rows
-sorted rows order k d low high = not_less _ _ (order k (k + 1) d (omega arith) high)
-  where
-    not_less : (a b : ℕ) → b ≤ a → is_lt (nat_cmp a b) ≡ false
-    not_less a b most = go (nat_cmp a b) (ranked a b (nat_cmp a b) refl)
-      where
-        go : (r : Ordering) → MatchOrdering r (a < b) (a ≡ b) (b < a) → is_lt r ≡ false
-        go Less less = absurd (omega arith)
-        go Equal same = refl
-        go Greater more = refl
+    (all_weaker (λ (r : PostingRow). r.id <ℤ pos (length P + 1)) (λ a. AllByRecursion (λ b. by_id a b ≡ Less) (row ∷ [])) (λ a less. (Less-from_lt a.id row.id (subst (λ z. a.id <ℤ z) (sym number) less), tt)) rows (below P rows (length P + 1) h.1 (omega arith)))))
 
 -- each row keeps its entry, under its number
 kept : (stations at : ℕ) (later : List PostingRow) (row : PostingRow) (before : List PostingRow) (P : List Entry)
@@ -69,7 +59,7 @@ kept stations at (r ∷ later) row before (e ∷ P) h known number wrong = kept 
 pub never_wrong : (stations at : ℕ) (P : List Entry) (c : Content) → HasList P c → All (IsOfStation stations) P → IsFirstWrong stations at c → ⊥
 never_wrong stations at P c h known fault =
     let same = IsPermutation-trans _ _ _ (IsPermutation-sym _ _ (IsPermutation-reverse h.rows)) (IsPermutation-trans _ _ _ h.all (IsPermutation-sym _ _ fault.all)) in
-    let rows : fault.rows ≡ reverse h.rows = sorted_unique by_id by_id-total (reverse h.rows) fault.rows (ascending P h.rows h.each) same (sorted fault.rows fault.order) in
+    let rows : fault.rows ≡ reverse h.rows = sorted_unique by_id by_id-total (reverse h.rows) fault.rows (ascending P h.rows h.each) same fault.order in
     let split : h.rows ≡ reverse fault.first.after ++ fault.first.row ∷ reverse fault.first.before =
     sym (reverse-reverse h.rows) ∙ ap reverse (sym rows ∙ fault.first.split) ∙ turned fault.first.before fault.first.row fault.first.after in
     kept stations at (reverse fault.first.after) fault.first.row (reverse fault.first.before) P (subst (ArePostings P) split h.each) (recursion_from_All (IsOfStation stations) P known)

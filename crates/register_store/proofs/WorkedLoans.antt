@@ -6,7 +6,7 @@ use Rattle.posting_core.specs.declared.entry.Entry.{Entry}
 use Rattle.posting_core.specs.declared.entry.NewLine.{NewLine}
 use Rattle.posting_core.specs.declared.stage.LineStage.{LineStage}
 use Rattle.posting_core.specs.declared.stage.LineStage.TheVariants.{Awaiting, Away, Back}
-use Rattle.register_store.specs.StoredRows.{TermRow, rows_of_lines, rows_of_terms, put_line, put_lines, put_term, term_of}
+use Rattle.register_store.specs.StoredRows.{TermRow, LineRow, lines_by_loan, rows_of_lines, rows_of_terms, is_same_line, is_same_loan, line_row, put, put_each, term_of}
 use Rattle.register_store.proofs.WorkedTexts.{may}
 use Rattle.register_store.proofs.WorkedRows.{museum, pack, object_1, object_2, entry}
 
@@ -44,10 +44,10 @@ agreed =
 abbrev loan_out : List Entry
 loan_out = entry pack 6 (Exit (codes "C1") loan_1 may_31) Applied ∷ entry pack 5 (Authorise loan_1 (codes "Ada")) Applied ∷ agreed
 
-agreed-lines : rows_of_lines museum agreed ≡ line loan_1 object_1 Awaiting ∷ line loan_1 object_2 Awaiting ∷ []
+agreed-lines : lines_by_loan museum agreed ≡ line loan_1 object_1 Awaiting ∷ line loan_1 object_2 Awaiting ∷ []
 agreed-lines = refl
 
-loan_out-lines : rows_of_lines museum loan_out ≡ line loan_1 object_1 Away ∷ line loan_1 object_2 Away ∷ []
+loan_out-lines : lines_by_loan museum loan_out ≡ line loan_1 object_1 Away ∷ line loan_1 object_2 Away ∷ []
 loan_out-lines = refl
 
 loan_out-terms : rows_of_terms loan_out ≡ term loan_1 may_31 ∷ []
@@ -61,7 +61,7 @@ extended = entry pack 7 (Extend loan_1 june_30) Applied ∷ loan_out
 abbrev not_later : Entry
 not_later = entry pack 8 (Extend loan_1 june_2) NotLater
 
-extended-lines : rows_of_lines museum (not_later ∷ extended) ≡ line loan_1 object_1 Away ∷ line loan_1 object_2 Away ∷ []
+extended-lines : lines_by_loan museum (not_later ∷ extended) ≡ line loan_1 object_1 Away ∷ line loan_1 object_2 Away ∷ []
 extended-lines = refl
 
 extended-terms : rows_of_terms (not_later ∷ extended) ≡ term loan_1 june_30 ∷ []
@@ -75,27 +75,34 @@ again =
     ∷ entry pack 8 (Return (codes "2001.4.1") loan_1 (codes "S1") june_2) Applied
     ∷ extended
 
-again-lines : rows_of_lines museum again ≡ line loan_1 object_1 Back ∷ line loan_1 object_2 Away ∷ line loan_2 object_1 Awaiting ∷ []
+again-lines : lines_by_loan museum again ≡ line loan_1 object_1 Back ∷ line loan_1 object_2 Away ∷ line loan_2 object_1 Awaiting ∷ []
 again-lines = refl
 
 again-terms : rows_of_terms again ≡ term loan_1 june_30 ∷ term loan_2 june_2 ∷ []
 again-terms = refl
 
+abbrev row : List ℕ → ℕ → LineStage → LineRow
+row loan o stage = line_row (line loan o stage)
+
+-- as the table has it: an object that is away
+row-away : row loan_1 object_2 Away ≡ record { loan = codes "LO2024.1"; object = pos 3; stage = pos 1 }
+row-away = refl
+
 -- a line takes the place of that of its loan and object, and of no other
-put-one : put_line (line loan_1 object_1 Back) (rows_of_lines museum extended) ≡ line loan_1 object_1 Back ∷ line loan_1 object_2 Away ∷ []
+put-one : put is_same_line (row loan_1 object_1 Back) (rows_of_lines museum extended) ≡ row loan_1 object_1 Back ∷ row loan_1 object_2 Away ∷ []
 put-one = refl
 
-put-new : put_lines (line loan_2 object_1 Awaiting ∷ line loan_2 object_2 Awaiting ∷ []) (rows_of_lines museum agreed) ≡
-    line loan_2 object_2 Awaiting ∷ line loan_2 object_1 Awaiting ∷ line loan_1 object_1 Awaiting ∷ line loan_1 object_2 Awaiting ∷ []
+put-new : put_each is_same_line (row loan_2 object_1 Awaiting ∷ row loan_2 object_2 Awaiting ∷ []) (rows_of_lines museum agreed) ≡
+    row loan_2 object_2 Awaiting ∷ row loan_2 object_1 Awaiting ∷ row loan_1 object_1 Awaiting ∷ row loan_1 object_2 Awaiting ∷ []
 put-new = refl
 
-put-both : put_lines (line loan_1 object_1 Away ∷ line loan_1 object_2 Away ∷ []) (rows_of_lines museum agreed) ≡ line loan_1 object_2 Away ∷ line loan_1 object_1 Away ∷ []
+put-both : put_each is_same_line (row loan_1 object_1 Away ∷ row loan_1 object_2 Away ∷ []) (rows_of_lines museum agreed) ≡ row loan_1 object_2 Away ∷ row loan_1 object_1 Away ∷ []
 put-both = refl
 
-put-day : put_term (term loan_1 june_30) (rows_of_terms loan_out) ≡ term loan_1 june_30 ∷ []
+put-day : put is_same_loan (term loan_1 june_30) (rows_of_terms loan_out) ≡ term loan_1 june_30 ∷ []
 put-day = refl
 
-put-other_day : put_term (term loan_2 june_2) (rows_of_terms loan_out) ≡ term loan_2 june_2 ∷ term loan_1 may_31 ∷ []
+put-other_day : put is_same_loan (term loan_2 june_2) (rows_of_terms loan_out) ≡ term loan_2 june_2 ∷ term loan_1 may_31 ∷ []
 put-other_day = refl
 
 -- a refused message gives no last day, nor does one that neither agrees nor extends

@@ -1,11 +1,12 @@
 -- The rows of a store computed on worked lists, and why wrong ones are refused.
-use Rattle.std.specs.Prelude.{ℕ, ◌-◌, ◌^◌, ◌≡◌, ◌≤◌, ◌<◌, ◌||◌, not, Bool, true, false, List, [], ◌∷◌, map, reverse, get_or, Some, None, slice_index, refl, codes, Err}
+use Rattle.std.specs.Prelude.{ℕ, zero, suc, pos, negsuc, nat_abs, ◌-◌, ◌^◌, ◌≡◌, ◌≤◌, ◌<◌, ◌||◌, not, Bool, true, false, List, [], ◌∷◌, map, reverse, get_or, Some, None, slice_index, refl, codes, Err}
 use Rattle.std.proofs.Common.{arith, sym, ap, subst, ◌∙◌}
 use Rattle.std.specs.Str.{is_utf8, chars, bytes_eq}
 use Rattle.std.proofs.Math.Utf8.{encode}
 use Rattle.std.proofs.lemmas.List.Elements.{All-from_recursion}
-use Rattle.std.specs.List.Sorted.{IsPermutation, IsNonDecreasingBy}
-use Rattle.std.proofs.lemmas.List.Sorted.{IsPermutation-refl, IsPermutation-reverse, IsPermutation-append_comm, IsNonDecreasingBy-short, IsNonDecreasingBy-push, length_permutation}
+use Rattle.std.specs.List.Sorted.{IsPermutation, IsSortedByKey}
+use Rattle.std.specs.Ordering.{int_cmp, is_lt}
+use Rattle.std.proofs.lemmas.List.Sorted.{IsPermutation-refl, IsPermutation-reverse, IsPermutation-append_comm, IsPermutation-map, length_permutation}
 use Rattle.sqlite_trees.proofs.ListLemmas.{all-permutation}
 use Rattle.sqlite_keyed.proofs.ListLemmas.{IsPermutation-filter}
 use Rattle.jiff_core.specs.Calendar.{days_from_civil, day_count, days_of_years, days_of_months}
@@ -22,7 +23,7 @@ use Rattle.posting_core.specs.declared.entry.Changes.{Changes}
 use Rattle.posting_core.specs.declared.entry.Entry.{Entry}
 use Rattle.posting_core.specs.declared.entry.NewSpot.{NewSpot}
 use Rattle.register_store.specs.declared.store_fault.StoreFault.TheVariants.{NoMemory, Store, OtherSetup, Damaged, OtherVersion}
-use Rattle.register_store.specs.StoredRows.{SetupRow, MetaRow, PostingRow, Content, AreSame, rows_of_setup, rows_of_meta, is_depth, IsPostingRow, written, rows_of_spots, rows_by_thing, HasList, IsStoreOf, with_posted}
+use Rattle.register_store.specs.StoredRows.{SetupRow, MetaRow, PostingRow, Content, AreSame, rows_of_setup, rows_of_meta, is_depth, IsPostingRow, written, all_written, spots_by_thing, HasList, IsStoreOf, spot_row, with_posted}
 use Rattle.register_store.specs.Registers.{CountsRefusal, bound_to, IsBindFault, IsOfStation, IsWrongRow, IsListFault}
 use Rattle.posting_core.specs.VerdictNames.{verdict_number}
 use Rattle.register_store.proofs.OneList.{all_verdicts, of_number}
@@ -61,7 +62,7 @@ object_2 = 3
 -- setup_row_text: the setup's rows with their numbers, the last first
 
 abbrev row : ℕ → List ℕ → SetupRow
-row id text = record { id = id; text = text }
+row id text = record { id = pos id; text = text }
 
 abbrev setup_down : List SetupRow
 setup_down =
@@ -84,7 +85,7 @@ setup_row_text : rows_of_setup museum ≡ setup_down
 setup_row_text = refl
 
 abbrev meta : ℕ → ℕ → List MetaRow
-meta version depth = record { name = codes "version"; val = version } ∷ record { name = codes "depth"; val = depth } ∷ []
+meta version depth = record { name = codes "version"; val = pos version } ∷ record { name = codes "depth"; val = pos depth } ∷ []
 
 depth_twelve : rows_of_meta 12 ≡ meta 2 12
 depth_twelve = refl
@@ -115,17 +116,17 @@ held_then_posted = entry_3 ∷ entry_2 ∷ entry_1 ∷ []
 abbrev spots_down : List NewSpot
 spots_down = spot object_1 2 3 s1_a ∷ spot object_2 1 2 s2 ∷ spot object_1 1 1 s1 ∷ []
 
-abbrev spots_by_thing : List NewSpot
-spots_by_thing = spot object_1 1 1 s1 ∷ spot object_1 2 3 s1_a ∷ spot object_2 1 2 s2 ∷ []
+abbrev things_in_order : List NewSpot
+things_in_order = spot object_1 1 1 s1 ∷ spot object_1 2 3 s1_a ∷ spot object_2 1 2 s2 ∷ []
 
-held_then_posted-spots : rows_of_spots museum held_then_posted ≡ spots_down
+held_then_posted-spots : all_written museum held_then_posted ≡ spots_down
 held_then_posted-spots = refl
 
-held_then_posted-by_thing : rows_by_thing museum held_then_posted ≡ spots_by_thing
+held_then_posted-by_thing : spots_by_thing museum held_then_posted ≡ things_in_order
 held_then_posted-by_thing = refl
 
 -- a refused entry writes no spot, nor does a Move to the place where the thing is, nor a sign-off
-more-spots : rows_of_spots museum (entry gal 5 ann Applied ∷ entry gal 4 (Move (codes "2001.4.1") (codes "S1-A") may) Applied ∷ entry pack 1 (Move (codes "2001.4.1") (codes "MUSEUM-X") may) ElsewherePlace ∷ held_then_posted) ≡ spots_down
+more-spots : all_written museum (entry gal 5 ann Applied ∷ entry gal 4 (Move (codes "2001.4.1") (codes "S1-A") may) Applied ∷ entry pack 1 (Move (codes "2001.4.1") (codes "MUSEUM-X") may) ElsewherePlace ∷ held_then_posted) ≡ spots_down
 more-spots = refl
 
 -- what one more entry writes: a spot with the next number of its thing's list
@@ -135,7 +136,7 @@ next-written = refl
 -- posted to a new store, one after another
 
 abbrev posting : ℕ → ℕ → ℕ → List ℕ → ℕ → PostingRow
-posting id station n body verdict = record { id = id; station = station; n = n; body = body; verdict = verdict }
+posting id station n body verdict = record { id = pos id; station = pos station; n = pos n; body = body; verdict = pos verdict }
 
 abbrev row_1 : PostingRow
 row_1 = posting 1 gal 1 first_text 0
@@ -157,7 +158,7 @@ new-bound = refl
 
 -- the rows of the three entries, the last first
 abbrev posted : Content
-posted = record bound { postings = row_3 ∷ row_2 ∷ row_1 ∷ []; spots = spots_down }
+posted = record bound { postings = row_3 ∷ row_2 ∷ row_1 ∷ []; spots = map spot_row spots_down }
 
 -- what an applied entry changes that is of no loan
 abbrev pub moving : ℕ → List NewSpot → Changes
@@ -179,7 +180,7 @@ in_tables = record {
   setup = reverse setup_down;
   meta = reverse (meta 2 12);
   postings = row_1 ∷ row_2 ∷ row_3 ∷ [];
-  spots = spots_by_thing;
+  spots = map spot_row things_in_order;
   lines = [];
   terms = [];
 }
@@ -204,7 +205,7 @@ held_then_posted-stored = record {
   bound = record { setup = IsPermutation-reverse setup_down; meta = IsPermutation-reverse (meta 2 12); limit = refl };
   list = held_then_posted-listed;
   rows = record {
-    spots = IsPermutation-append_comm (spot object_1 2 3 s1_a ∷ spot object_2 1 2 s2 ∷ []) (spot object_1 1 1 s1 ∷ []);
+    spots = IsPermutation-map spot_row _ _ (IsPermutation-append_comm (spot object_1 2 3 s1_a ∷ spot object_2 1 2 s2 ∷ []) (spot object_1 1 1 s1 ∷ []));
     lines = IsPermutation-refl [];
     terms = IsPermutation-refl [];
   };
@@ -234,7 +235,7 @@ version_one = refl
 
 -- of each row: where it tells a depth limit, that is one that a store can have
 abbrev has_depth : MetaRow → Bool
-has_depth row = not (bytes_eq row.name (codes "depth")) || is_depth row.val
+has_depth row = not (bytes_eq row.name (codes "depth")) || is_depth (nat_abs row.val)
 
 odd_depth : IsBindFault museum (saying (meta 2 9)) (Damaged 0)
 odd_depth = (refl, refl, refl, λ whole. no_nine whole.0 whole.1 whole.2)
@@ -242,11 +243,11 @@ odd_depth = (refl, refl, refl, λ whole. no_nine whole.0 whole.1 whole.2)
     no_nine : (depth : ℕ) → is_depth depth ≡ true → IsPermutation (rows_of_meta depth) (meta 2 9) → ⊥
     no_nine depth allowed same = let all = all-permutation (λ row. has_depth row ≡ true) (rows_of_meta depth) (meta 2 9) same (refl, (allowed, tt)) in let nine : false ≡ true = all.1.0 in cc
 
-no_depth : IsBindFault museum (saying (record { name = codes "version"; val = 2 } ∷ [])) (Damaged 0)
+no_depth : IsBindFault museum (saying (record { name = codes "version"; val = pos 2 } ∷ [])) (Damaged 0)
 no_depth = (refl, refl, refl, λ whole. let one = length_permutation _ _ whole.2 in absurd (omega arith))
 
 -- a word more than the two
-one_word_more : IsBindFault museum (saying (record { name = codes "term"; val = 1 } ∷ meta 2 12)) (Damaged 0)
+one_word_more : IsBindFault museum (saying (record { name = codes "term"; val = pos 1 } ∷ meta 2 12)) (Damaged 0)
 one_word_more = (refl, refl, refl, λ whole. let one = length_permutation _ _ whole.2 in absurd (omega arith))
 
 -- a setup of as many rows, of which the third differs
@@ -283,8 +284,9 @@ abbrev holding : List PostingRow → Content
 holding rows = record in_tables { postings = rows }
 
 -- two rows in the order of their numbers
-rising : (a b : PostingRow) → a.id ≤ b.id → IsNonDecreasingBy (λ (r : PostingRow). r.id) (a ∷ b ∷ [])
-rising a b less = IsNonDecreasingBy-push (λ (r : PostingRow). r.id) (a ∷ []) b (IsNonDecreasingBy-short (λ (r : PostingRow). r.id) (a ∷ []) (omega arith)) (λ d some. less)
+rising : (a b : PostingRow) → is_lt (int_cmp b.id a.id) ≡ false → IsSortedByKey (λ (r : PostingRow). r.id) int_cmp (a ∷ b ∷ [])
+rising a b most zero d low high = most
+rising a b most (suc k) d low high = absurd (omega arith)
 
 of_gal : (n : ℕ) (m : Message) (v : Verdict) → 1 ≤ n → n ≤ 999999 → IsOfStation 2 (entry gal n m v)
 of_gal n m v some few = record { known = omega arith; first = some; few = few }
@@ -293,7 +295,7 @@ second_deleted : IsListFault 2 (holding (row_3 ∷ row_1 ∷ [])) (Damaged 2)
 second_deleted = record {
   rows = row_1 ∷ row_3 ∷ [];
   all = IsPermutation-reverse (row_1 ∷ row_3 ∷ []);
-  order = rising row_1 row_3 (omega arith);
+  order = rising row_1 row_3 refl;
   first = record {
     before = row_1 ∷ [];
     row = row_3;
@@ -303,7 +305,7 @@ second_deleted = record {
     entries = entry_1 ∷ [];
     right = (first_kept, tt);
     stationed = All-from_recursion (IsOfStation 2) (entry_1 ∷ []) (of_gal 1 first_move Applied (omega arith) (omega arith), tt);
-    wrong = λ e kept known. let id : 3 ≡ 2 = kept.id in absurd (omega arith);
+    wrong = λ e kept known. let id : 3 ≡ 2 = ap nat_abs kept.id in absurd (omega arith);
   };
 }
 
@@ -313,18 +315,23 @@ differ : (a b : ℕ) → a < b → a ≡ b → ⊥
 differ a b less same = omega arith
 
 no_such_station : IsWrongRow 2 1 (posting 1 5 1 first_text 0)
-no_such_station e kept known = let station : 5 ≡ e.station = kept.station in let below = known.known in absurd (omega arith)
+no_such_station e kept known = let station : 5 ≡ e.station = ap nat_abs kept.station in let below = known.known in absurd (omega arith)
 
 number_zero : IsWrongRow 2 1 (posting 1 gal 0 first_text 0)
-number_zero e kept known = let n : 0 ≡ e.n = kept.n in let some = known.first in absurd (omega arith)
+number_zero e kept known = let n : 0 ≡ e.n = ap nat_abs kept.n in let some = known.first in absurd (omega arith)
 
 number_too_high : IsWrongRow 2 1 (posting 1 gal 1000000 first_text 0)
-number_too_high e kept known = let n : 1000000 ≡ e.n = kept.n in let few = known.few in absurd (omega arith)
+number_too_high e kept known = let n : 1000000 ≡ e.n = ap nat_abs kept.n in let few = known.few in absurd (omega arith)
 
 no_such_verdict : IsWrongRow 2 1 (posting 1 gal 1 first_text 26)
 no_such_verdict e kept known =
-    let applied : Applied ≡ e.verdict = subst (λ n. get_or all_verdicts n Applied ≡ e.verdict) (sym kept.verdict) (of_number e.verdict) in
-    differ 0 26 (omega arith) (ap verdict_number applied ∙ sym kept.verdict)
+    let number : 26 ≡ verdict_number e.verdict = ap nat_abs kept.verdict in
+    let applied : Applied ≡ e.verdict = subst (λ n. get_or all_verdicts n Applied ≡ e.verdict) (sym number) (of_number e.verdict) in
+    differ 0 26 (omega arith) (ap verdict_number applied ∙ sym number)
+
+-- a cell below 0 is no entry's, whatever stands in the others
+negative_number : IsWrongRow 2 1 (record row_1 { n = negsuc 0 })
+negative_number e kept known = let n : negsuc 0 ≡ pos e.n = kept.n in absurd (cc)
 
 -- a body that is read as the message, and isn't its one text
 another_text : IsWrongRow 2 1 (posting 1 gal 1 spaced_text 0)

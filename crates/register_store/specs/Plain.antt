@@ -1,14 +1,16 @@
 -- What a register in memory keeps.
-use Rattle.std.specs.Prelude.{ℕ, ℤ, Bool, false, List, [], map, Option, Some, None, ⊤, Vec, String, string_bytes}
+use Rattle.std.specs.Prelude.{ℕ, ℤ, pos, ◌==◌, ◌&&◌, Bool, false, List, [], map, Option, Some, None, ⊤, Vec, String, string_bytes}
 use Rattle.std.specs.List.{flat_map}
 use Rattle.std.specs.Map.{lookup}
 use Rattle.std.specs.Option.{option_map, option_map_or, option_to_list}
+use Rattle.std.specs.Str.{bytes_eq}
 use Rattle.std.specs.declared.alloc.Global.{Global}
 use Rattle.posting_core.specs.Book.{Book, line_in, last_day_in}
 use Rattle.posting_core.specs.declared.entry.NewLine.{NewLine}
 use Rattle.posting_core.specs.declared.stage.LineStage.{LineStage}
 use Rattle.register_store.specs.declared.loan_rows.LineKey.{LineKey}
-use Rattle.register_store.specs.StoredRows.{Content, MetaRow, TermRow, AreSame, rows_of_meta}
+use Rattle.register_store.specs.declared.rows.KeptPosting.{KeptPosting}
+use Rattle.register_store.specs.StoredRows.{Content, MetaRow, PostingRow, TermRow, AreSame, rows_of_meta}
 use Rattle.register_store.specs.Holdings.{Holding}
 
 -- the rows, whether a setup is bound to it, and how many stations that has
@@ -34,9 +36,17 @@ abbrev pub meta_of : Option (Vec (String Global) Global) → List MetaRow
 meta_of None = []
 meta_of (Some texts) = rows_of_meta 12
 
+-- the row that a posting is kept as
+abbrev pub posting_row : KeptPosting → PostingRow
+posting_row r = record { id = pos r.id; station = pos r.station; n = pos r.n; body = string_bytes r.body; verdict = pos r.verdict }
+
+-- lines of the same object under the same loan
+abbrev pub has_same_key : NewLine → NewLine → Bool
+has_same_key l k = bytes_eq l.loan k.loan && (l.object == k.object)
+
 -- the lines that are kept by loan and object
-abbrev pub line_rows : List (LineKey × LineStage) → List NewLine
-line_rows kept = map (λ e. record { loan = e.0.loan; object = e.0.object; stage = e.1 }) kept
+abbrev pub held_lines : List (LineKey × LineStage) → List NewLine
+held_lines kept = map (λ e. record { loan = e.0.loan; object = e.0.object; stage = e.1 }) kept
 
 -- the last days that are kept by loan
 abbrev pub term_rows : List (List ℕ × ℤ) → List TermRow

@@ -1,7 +1,8 @@
 -- What a register promises of its faults and of what they leave.
-use Rattle.std.specs.Prelude.{ℕ, ◌≡◌, ◌+◌, ◌-◌, ◌^◌, ◌<◌, ◌≤◌, ◌==◌, ◌&&◌, min, Bool, true, false, not, List, [], ◌∷◌, ◌++◌, length, reverse, All, Result, Ok, Err, codes}
+use Rattle.std.specs.Prelude.{ℕ, pos, ◌≡◌, ◌+◌, ◌-◌, ◌^◌, ◌<◌, ◌≤◌, ◌&&◌, min, Bool, true, false, not, List, [], ◌∷◌, ◌++◌, length, reverse, All, Result, Ok, Err, codes}
 use Rattle.std.specs.List.{list_any}
-use Rattle.std.specs.List.Sorted.{IsPermutation, IsNonDecreasingBy}
+use Rattle.std.specs.List.Sorted.{IsPermutation, IsSortedByKey}
+use Rattle.std.specs.Ordering.{int_cmp, int_eq}
 use Rattle.std.specs.Str.{bytes_eq}
 use Rattle.nest_core.specs.Museum.{Museum}
 use Rattle.posting_core.specs.declared.TheConstants.{LAST_NUMBER}
@@ -57,7 +58,7 @@ abbrev pub bound_to : Museum → Content → Content
 bound_to S c = bound_by (is_new c.meta) S c
 
 abbrev pub has_other_version : List MetaRow → Bool
-has_other_version meta = list_any (λ row. bytes_eq row.name (codes "version") && not (row.val == 2)) meta
+has_other_version meta = list_any (λ row. bytes_eq row.name (codes "version") && not (int_eq row.val (pos 2))) meta
 
 -- an old store of this version, with a depth limit that it allows
 abbrev pub IsWhole : List MetaRow → Type 0
@@ -97,7 +98,7 @@ pub record IsWrongAt (stations at : ℕ) (rows : List PostingRow) : Type 0 where
 pub record IsFirstWrong (stations at : ℕ) (c : Content) : Type 0 where
   pub rows : List PostingRow
   pub all : IsPermutation rows c.postings
-  pub order : IsNonDecreasingBy (λ row. row.id) rows
+  pub order : IsSortedByKey (λ row. row.id) int_cmp rows
   pub first : IsWrongAt stations at rows
 
 -- why a store can't list its entries

@@ -1,7 +1,10 @@
 -- What a register keeps of a posted list, row by row. Rows stand newest first; a store may hold them in any order.
-use Rattle.std.specs.Prelude.{ℕ, ℤ, ◌≡◌, ◌+◌, ◌==◌, ◌&&◌, ◌||◌, Bool, true, not, Ok, List, [], ◌∷◌, ◌++◌, length, map, filter, reverse, Option, None, Some, if◌then◌else◌, codes}
+-- Cells are raw, integers and bytes as a table has them: so whatever stands in the tables of a store is a content, and
+-- only some contents are those of a posted list.
+use Rattle.std.specs.Prelude.{ℕ, ℤ, pos, ◌≡◌, ◌+◌, ◌==◌, ◌&&◌, ◌||◌, Bool, true, not, Ok, List, [], ◌∷◌, ◌++◌, length, map, filter, reverse, Option, None, Some, if◌then◌else◌, codes}
 use Rattle.std.specs.List.{flat_map, range_with_len}
 use Rattle.std.specs.List.Sorted.{IsPermutation}
+use Rattle.std.specs.Ordering.{int_eq}
 use Rattle.std.specs.Option.{option_map_or}
 use Rattle.std.specs.Str.{bytes_eq}
 use Rattle.nest_core.specs.Museum.{Museum}
@@ -17,41 +20,55 @@ use Rattle.posting_core.specs.Agreements.{Agreement, agreements, last_from}
 use Rattle.posting_core.specs.Book.{new_spots}
 use Rattle.posting_core.specs.History.{spots}
 use Rattle.posting_core.specs.Loans.{objects_of, stage}
+use Rattle.posting_core.specs.StageNumbers.{stage_number}
 use Rattle.posting_core.specs.VerdictNames.{is_applied, verdict_number}
 use Rattle.register_store.specs.Kinds.{of_bytes}
 use Rattle.register_store.specs.MessageText.{IsTextOf}
 
 -- a row of the setup, with its number from 1
 pub record SetupRow : Type 0 where
-  pub id : ℕ
+  pub id : ℤ
   pub text : List ℕ
 
 -- what the store says of itself
 pub record MetaRow : Type 0 where
   pub name : List ℕ
-  pub val : ℕ
+  pub val : ℤ
 
 -- a posted entry, with its number from 1 and its message as text
 pub record PostingRow : Type 0 where
-  pub id : ℕ
-  pub station : ℕ
-  pub n : ℕ
+  pub id : ℤ
+  pub station : ℤ
+  pub n : ℤ
   pub body : List ℕ
-  pub verdict : ℕ
+  pub verdict : ℤ
+
+-- a spot, with its thing and its number in the thing's list
+pub record SpotRow : Type 0 where
+  pub thing : ℤ
+  pub k : ℤ
+  pub entry : ℤ
+  pub place : ℤ
+  pub day : ℤ
+
+-- an object of a loan, with the stage that its line has come to
+pub record LineRow : Type 0 where
+  pub loan : List ℕ
+  pub object : ℤ
+  pub stage : ℤ
 
 -- a loan with its last day
 pub record TermRow : Type 0 where
   pub loan : List ℕ
   pub day : ℤ
 
--- all rows of a store; a spot's row is the thing, the number of the spot in the thing's list, and the spot; a line's row
--- is the loan, the object, and the stage that it has come to
+-- all rows of a store
 pub record Content : Type 0 where
   pub setup : List SetupRow
   pub meta : List MetaRow
   pub postings : List PostingRow
-  pub spots : List NewSpot
-  pub lines : List NewLine
+  pub spots : List SpotRow
+  pub lines : List LineRow
   pub terms : List TermRow
 
 -- the same rows, in some order
@@ -66,7 +83,7 @@ pub record AreSame (c d : Content) : Type 0 where
 -- each text with its number, the last first
 abbrev pub numbered : List (List ℕ) → List SetupRow
 numbered [] = []
-numbered (text ∷ texts) = record { id = length texts + 1; text = text } ∷ numbered texts
+numbered (text ∷ texts) = record { id = pos (length texts + 1); text = text } ∷ numbered texts
 
 -- the rows of a setup
 abbrev pub rows_of_setup : Museum → List SetupRow
@@ -74,19 +91,19 @@ rows_of_setup S = numbered (reverse (setup_rows S))
 
 -- the version of the store, and the depth limit that it was made with
 abbrev pub rows_of_meta : ℕ → List MetaRow
-rows_of_meta depth = record { name = codes "version"; val = 2 } ∷ record { name = codes "depth"; val = depth } ∷ []
+rows_of_meta depth = record { name = codes "version"; val = pos 2 } ∷ record { name = codes "depth"; val = pos depth } ∷ []
 
 abbrev pub is_depth : ℕ → Bool
 is_depth depth = (depth == 8) || (depth == 12)
 
 -- the row keeps the entry of this number: its body is the one text of the message, and reads back
 pub record IsPostingRow (number : ℕ) (e : Entry) (row : PostingRow) : Type 0 where
-  pub id : row.id ≡ number
-  pub station : row.station ≡ e.station
-  pub n : row.n ≡ e.n
+  pub id : row.id ≡ pos number
+  pub station : row.station ≡ pos e.station
+  pub n : row.n ≡ pos e.n
   pub body : IsTextOf e.message row.body
   pub reads_back : of_bytes row.body ≡ Ok e.message
-  pub verdict : row.verdict ≡ verdict_number e.verdict
+  pub verdict : row.verdict ≡ pos (verdict_number e.verdict)
 
 -- the rows keep the entries
 abbrev pub ArePostings : List Entry → List PostingRow → Type 0
@@ -95,31 +112,46 @@ ArePostings [] (row ∷ rows) = ⊥
 ArePostings (e ∷ P) [] = ⊥
 ArePostings (e ∷ P) (row ∷ rows) = IsPostingRow (length P + 1) e row × ArePostings P rows
 
+-- the row of a spot
+abbrev pub spot_row : NewSpot → SpotRow
+spot_row s = record { thing = pos s.thing; k = pos s.k; entry = pos s.spot.entry; place = pos s.spot.place; day = s.spot.day }
+
+-- the row of a line
+abbrev pub line_row : NewLine → LineRow
+line_row l = record { loan = l.loan; object = pos l.object; stage = pos (stage_number l.stage) }
+
 -- the spots that an entry wrote, posted after P
 abbrev pub written : Museum → List Entry → Entry → List NewSpot
 written S P e = if is_applied e.verdict then new_spots S P e.message else []
 
 -- all that the entries wrote
-abbrev pub rows_of_spots : Museum → List Entry → List NewSpot
-rows_of_spots S [] = []
-rows_of_spots S (e ∷ P) = reverse (written S P e) ++ rows_of_spots S P
+abbrev pub all_written : Museum → List Entry → List NewSpot
+all_written S [] = []
+all_written S (e ∷ P) = reverse (written S P e) ++ all_written S P
 
--- a thing's spots as rows, each with its number in the thing's list
-abbrev pub rows_of_thing : ℕ → ℕ → List Spot → List NewSpot
-rows_of_thing x k [] = []
-rows_of_thing x k (spot ∷ spots) = record { thing = x; k = k; spot = spot } ∷ rows_of_thing x (k + 1) spots
+-- a thing's spots, each with its number in the thing's list
+abbrev pub spots_of_thing : ℕ → ℕ → List Spot → List NewSpot
+spots_of_thing x k [] = []
+spots_of_thing x k (spot ∷ spots) = record { thing = x; k = k; spot = spot } ∷ spots_of_thing x (k + 1) spots
 
 -- the spots of all things, by looking back
-abbrev pub rows_by_thing : Museum → List Entry → List NewSpot
-rows_by_thing S P = flat_map (λ x. rows_of_thing x 1 (spots S P x)) (range_with_len 0 (length S.things))
+abbrev pub spots_by_thing : Museum → List Entry → List NewSpot
+spots_by_thing S P = flat_map (λ x. spots_of_thing x 1 (spots S P x)) (range_with_len 0 (length S.things))
 
--- the lines of an agreement, each at its stage
-abbrev pub rows_of_agreement : Museum → List Entry → Agreement → List NewLine
-rows_of_agreement S P t = map (λ o. record { loan = t.loan; object = o; stage = stage S P t.loan o }) (objects_of S t)
+-- the lines under an agreement, each at its stage
+abbrev pub lines_under : Museum → List Entry → Agreement → List NewLine
+lines_under S P t = map (λ o. record { loan = t.loan; object = o; stage = stage S P t.loan o }) (objects_of S t)
 
 -- the lines of all loans, by looking back
-abbrev pub rows_of_lines : Museum → List Entry → List NewLine
-rows_of_lines S P = flat_map (rows_of_agreement S P) (agreements P)
+abbrev pub lines_by_loan : Museum → List Entry → List NewLine
+lines_by_loan S P = flat_map (lines_under S P) (agreements P)
+
+-- the rows of all spots, and of all lines
+abbrev pub rows_of_spots : Museum → List Entry → List SpotRow
+rows_of_spots S P = map spot_row (all_written S P)
+
+abbrev pub rows_of_lines : Museum → List Entry → List LineRow
+rows_of_lines S P = map line_row (lines_by_loan S P)
 
 -- the last days of all loans, by looking back
 abbrev pub rows_of_terms : List Entry → List TermRow
@@ -149,22 +181,22 @@ pub record IsStoreOf (S : Museum) (depth : ℕ) (P : List Entry) (c : Content) :
   pub list : HasList P c
   pub rows : HasRows S P c
 
+-- a row in the place of those that are the same
+abbrev pub put : {R : Type 0} → (R → R → Bool) → R → List R → List R
+put same row rows = row ∷ filter (λ r. not (same row r)) rows
+
+-- each of these rows in turn
+abbrev pub put_each : {R : Type 0} → (R → R → Bool) → List R → List R → List R
+put_each same [] rows = rows
+put_each same (new ∷ more) rows = put_each same more (put same new rows)
+
 -- rows of the same object under the same loan
-abbrev pub is_same_line : NewLine → NewLine → Bool
-is_same_line l k = bytes_eq l.loan k.loan && (l.object == k.object)
+abbrev pub is_same_line : LineRow → LineRow → Bool
+is_same_line l k = bytes_eq l.loan k.loan && int_eq l.object k.object
 
--- a line in place of the row of its loan and object, if there is one
-abbrev pub put_line : NewLine → List NewLine → List NewLine
-put_line l rows = l ∷ filter (λ k. not (is_same_line l k)) rows
-
--- each of the lines in turn
-abbrev pub put_lines : List NewLine → List NewLine → List NewLine
-put_lines [] rows = rows
-put_lines (l ∷ ls) rows = put_lines ls (put_line l rows)
-
--- a last day in place of the loan's row, if there is one
-abbrev pub put_term : TermRow → List TermRow → List TermRow
-put_term t rows = t ∷ filter (λ u. not (bytes_eq t.loan u.loan)) rows
+-- rows of the same loan
+abbrev pub is_same_loan : TermRow → TermRow → Bool
+is_same_loan t u = bytes_eq t.loan u.loan
 
 -- the last day that a message says
 abbrev pub term_in : Message → Option TermRow
@@ -186,7 +218,7 @@ term_of e = if is_applied e.verdict then term_in e.message else None
 abbrev pub with_posted : PostingRow → Entry → Changes → Content → Content
 with_posted row e changes c = record c {
   postings = row ∷ c.postings;
-  spots = reverse changes.spots ++ c.spots;
-  lines = put_lines changes.lines c.lines;
-  terms = option_map_or (λ t. put_term t c.terms) (term_of e) c.terms;
+  spots = map spot_row (reverse changes.spots) ++ c.spots;
+  lines = put_each is_same_line (map line_row changes.lines) c.lines;
+  terms = option_map_or (λ t. put is_same_loan t c.terms) (term_of e) c.terms;
 }

@@ -4,7 +4,7 @@ ghost use Rattle.std.specs.List.Sorted.{IsPermutation};
 ghost use Rattle.posting_core.specs.declared.entry.Changes.{Changes};
 ghost use Rattle.posting_core.specs.declared.entry.Entry.{Entry};
 ghost use Rattle.register_store.specs.declared.store_fault.StoreFault.{StoreFault};
-ghost use Rattle.register_store.specs.StoredRows.{Content, HasList, rows_by_thing, rows_of_spots};
+ghost use Rattle.register_store.specs.StoredRows.{Content, HasList, spots_by_thing, all_written};
 ghost use Rattle.register_store.specs.Registers.{IsOfStation, IsListFault};
 ghost use Rattle.register_store.specs.Holdings.{Comes, IsEmpty, IsPosted};
 ghost use Rattle.register_store.specs.Plain.{in_memory};
@@ -14,7 +14,7 @@ use posting_core::Ledger;
 
 /// The rows of spots that the entries wrote, one entry after another, are the spots of all things by looking back.
 pub fn spots_are_of_looking_back(ledger: &Ledger)
-    ensures { IsPermutation (rows_by_thing ledger.now.museum ledger.now.posted) (rows_of_spots ledger.now.museum ledger.now.posted) }
+    ensures { IsPermutation (spots_by_thing ledger.now.museum ledger.now.posted) (all_written ledger.now.museum ledger.now.posted) }
 {
     let _ = ledger;
 }

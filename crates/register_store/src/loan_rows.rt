@@ -7,8 +7,8 @@ ghost use Rattle.std.specs.Map.{keys_of};
 ghost use Rattle.std.specs.Option.{option_map, option_map_or};
 ghost use Rattle.indexmap.specs.IndexMap.{spare};
 ghost use Rattle.posting_core.specs.Book.{loans_in};
-ghost use Rattle.register_store.specs.StoredRows.{TermRow, put_lines, put_term, term_of, rows_of_lines, rows_of_terms};
-ghost use Rattle.register_store.specs.Plain.{line_rows, term_rows, lines_of_loan, day_of_loan, is_kept};
+ghost use Rattle.register_store.specs.StoredRows.{TermRow, is_same_loan, put, put_each, term_of, lines_by_loan, rows_of_terms};
+ghost use Rattle.register_store.specs.Plain.{has_same_key, held_lines, term_rows, lines_of_loan, day_of_loan, is_kept};
 
 use codes_core::{Day, LoanCode, NoMemory};
 use indexmap::IndexMap;
@@ -27,7 +27,7 @@ pub(crate) struct LineKey {
 /// Puts lines in the place of those of the same loan and object; there is room for all.
 pub(crate) fn put_lines(kept: &mut IndexMap<LineKey, LineStage>, lines: &[NewLine])
     requires { length lines.now ≤ spare kept.old }
-    ensures { IsPermutation (line_rows kept.new.entries) (put_lines lines.now (line_rows kept.old.entries)) }
+    ensures { IsPermutation (held_lines kept.new.entries) (put_each has_same_key lines.now (held_lines kept.old.entries)) }
 {
     for i in 0..lines.len() {
         let line = lines[i];
@@ -43,7 +43,7 @@ pub(crate) fn put_lines(kept: &mut IndexMap<LineKey, LineStage>, lines: &[NewLin
 pub(crate) fn put_term(kept: &mut IndexMap<LoanCode, Day>, entry: &Entry)
     requires { 1 ≤ spare kept.old }
     ensures { IsPermutation (term_rows kept.new.entries)
-        (option_map_or (λ t. put_term t (term_rows kept.old.entries)) (term_of entry.now) (term_rows kept.old.entries)) }
+        (option_map_or (λ t. put is_same_loan t (term_rows kept.old.entries)) (term_of entry.now) (term_rows kept.old.entries)) }
 {
     if let Some((loan, day)) = term_of(entry) {
         kept.insert(loan, day).unwrap();
@@ -69,7 +69,7 @@ pub(crate) fn lines_of(
     alloc: Global,
     ledger: &Ledger,
 ) -> Result<Vec<(LineKey, LineStage)>, NoMemory>
-    ensures { IfOk result (λ rows. line_rows rows.items ≡ rows_of_lines ledger.now.museum ledger.now.posted) }
+    ensures { IfOk result (λ rows. held_lines rows.items ≡ lines_by_loan ledger.now.museum ledger.now.posted) }
 {
     ledger.is_lawful();
     let mut rows = Vec::new(alloc);
@@ -86,7 +86,7 @@ fn push_lines(
     loan: LoanCode,
     objects: &[ThingNo],
 ) -> Result<(), NoMemory>
-    ensures { OnOk result (line_rows rows.new.items ≡ line_rows rows.old.items ++ lines_of_loan ledger.now loan objects.now) }
+    ensures { OnOk result (held_lines rows.new.items ≡ held_lines rows.old.items ++ lines_of_loan ledger.now loan objects.now) }
 {
     for i in 0..objects.len() {
         let object = objects[i];

@@ -6,11 +6,12 @@ ghost use Rattle.std.specs.declared.cmp.Ordering.TheVariants.{Less};
 ghost use Rattle.sqlite_trees.specs.Tree.{IsAscending};
 ghost use Rattle.posting_core.specs.declared.entry.Entry.{Entry};
 ghost use Rattle.nest_core.specs.SetupTexts.{setup_rows};
-ghost use Rattle.register_store.specs.StoredRows.{Content, IsBoundTo, HasList, HasRows, IsPostingRow, ArePostings, rows_of_thing, rows_by_thing, with_posted};
+ghost use Rattle.register_store.specs.StoredRows.{Content, IsBoundTo, HasList, HasRows, IsPostingRow, ArePostings, spots_of_thing, spots_by_thing, with_posted};
+ghost use Rattle.register_store.specs.Plain.{posting_row};
 ghost use Rattle.register_store.specs.Registers.{CountsRefusal, is_failure, bound_to, IsBindFault, IsOfStation, IsListFault, IsWrongAt};
 
 use crate::loan_rows::{LineKey, has_all, lines_of, put_lines, put_term, terms_of};
-use crate::rows::{PostingRow, entry_of, is_same, row_of};
+use crate::rows::{KeptPosting, entry_of, is_same, row_of};
 use crate::{Register, StoreFault};
 use codes_core::{Day, LoanCode, NoMemory};
 use indexmap::IndexMap;
@@ -27,7 +28,7 @@ pub const NEW_DEPTH: u32 = 12;
 pub struct PlainRegister {
     /// The setup's rows, once it is bound.
     setup: Option<Vec<String>>,
-    postings: Vec<PostingRow>,
+    postings: Vec<KeptPosting>,
     spots: Vec<NewSpot>,
     lines: IndexMap<LineKey, LineStage>,
     terms: IndexMap<LoanCode, Day>,
@@ -36,9 +37,9 @@ pub struct PlainRegister {
 }
 
 impl Model for PlainRegister {
-    ghost use Rattle.std.specs.Prelude.{reverse};
-    ghost use Rattle.register_store.specs.Plain.{Kept, texts_of, meta_of, line_rows, term_rows};
-    ghost use Rattle.register_store.specs.StoredRows.{numbered};
+    ghost use Rattle.std.specs.Prelude.{map, reverse};
+    ghost use Rattle.register_store.specs.Plain.{Kept, texts_of, meta_of, posting_row, held_lines, term_rows};
+    ghost use Rattle.register_store.specs.StoredRows.{numbered, spot_row, line_row};
 
     ghost Value = { Kept };
 
@@ -46,9 +47,9 @@ impl Model for PlainRegister {
       content = record {
         setup = numbered (reverse (texts_of r.setup));
         meta = meta_of r.setup;
-        postings = reverse r.postings.items;
-        spots = reverse r.spots.items;
-        lines = line_rows r.lines.entries;
+        postings = map posting_row (reverse r.postings.items);
+        spots = map spot_row (reverse r.spots.items);
+        lines = map line_row (held_lines r.lines.entries);
         terms = term_rows r.terms.entries;
       };
       bound = r.bound;
@@ -174,7 +175,7 @@ fn are_same(a: &[String], b: &[String]) -> bool
 }
 
 /// The rows in the order of their numbers.
-fn sort_rows(rows: &mut Vec<PostingRow>)
+fn sort_rows(rows: &mut Vec<KeptPosting>)
     ensures same { IsPermutation rows.old.items rows.new.items }
     ensures order { IsNonDecreasingBy (λ row. row.id) rows.new.items }
 {
@@ -182,10 +183,10 @@ fn sort_rows(rows: &mut Vec<PostingRow>)
 }
 
 /// The entries of rows, oldest first; Damaged at the first that is no row of an entry of these stations.
-fn entries_of(alloc: Global, rows: &[PostingRow], stations: u32) -> Result<Vec<Entry>, StoreFault>
-    ensures kept { IfOk result (λ entries. ArePostings (reverse entries.items) (reverse rows.now)) }
+fn entries_of(alloc: Global, rows: &[KeptPosting], stations: u32) -> Result<Vec<Entry>, StoreFault>
+    ensures kept { IfOk result (λ entries. ArePostings (reverse entries.items) (map posting_row (reverse rows.now))) }
     ensures stationed { IfOk result (λ entries. All (IsOfStation stations) entries.items) }
-    ensures faults { IfErr result (λ fault. fault ≢ StoreFault.NoMemory → (at : ℕ) × (fault ≡ StoreFault.Damaged at) × IsWrongAt stations at rows.now) }
+    ensures faults { IfErr result (λ fault. fault ≢ StoreFault.NoMemory → (at : ℕ) × (fault ≡ StoreFault.Damaged at) × IsWrongAt stations at (map posting_row rows.now)) }
 {
     let mut entries = Vec::new(alloc);
     for i in 0..rows.len() {
@@ -199,7 +200,7 @@ fn entries_of(alloc: Global, rows: &[PostingRow], stations: u32) -> Result<Vec<E
 
 /// The spots of all things as rows, ascending.
 fn spot_rows(alloc: Global, ledger: &Ledger) -> Result<Vec<NewSpot>, NoMemory>
-    ensures { IfOk result (λ rows. rows.items ≡ rows_by_thing ledger.now.museum ledger.now.posted) }
+    ensures { IfOk result (λ rows. rows.items ≡ spots_by_thing ledger.now.museum ledger.now.posted) }
 {
     let mut rows = Vec::new(alloc);
     for thing in 0..ledger.setup().things() {
@@ -210,7 +211,7 @@ fn spot_rows(alloc: Global, ledger: &Ledger) -> Result<Vec<NewSpot>, NoMemory>
 
 /// Adds the spots of a thing as rows.
 fn push_spots(rows: &mut Vec<NewSpot>, thing: ThingNo, spots: &[Spot]) -> Result<(), NoMemory>
-    ensures { OnOk result (rows.new.items ≡ rows.old.items ++ rows_of_thing thing 1 spots.now) }
+    ensures { OnOk result (rows.new.items ≡ rows.old.items ++ spots_of_thing thing 1 spots.now) }
 {
     for i in 0..spots.len() {
         rows.push(NewSpot {

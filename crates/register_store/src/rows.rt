@@ -5,18 +5,18 @@ ghost use Rattle.posting_core.specs.declared.message.Message.{Message};
 ghost use Rattle.register_store.specs.Kinds.{of_bytes};
 ghost use Rattle.register_store.specs.MessageText.{IsTextOf};
 ghost use Rattle.register_store.specs.StoredRows.{IsPostingRow};
+ghost use Rattle.register_store.specs.Plain.{posting_row};
 ghost use Rattle.register_store.specs.Registers.{IsOfStation, IsWrongRow};
 
 use crate::{ReadFault, StoreFault, message_text, read_message};
 use codes_core::NoMemory;
 use posting_core::{Entry, LAST_NUMBER, Message, Verdict};
 use std::alloc::Global;
-use std::marker::Model;
 
-/// A row of the table of postings: the entry's number, from 1, and the entry with its message as text and its verdict
-/// by number.
+/// A row of the table of postings whose numbers can be an entry's: its number, from 1, and the entry with its message as
+/// text and its verdict by number.
 #[derive(Drop)]
-pub(crate) struct PostingRow {
+pub(crate) struct KeptPosting {
     pub(crate) id: u64,
     pub(crate) station: u32,
     pub(crate) n: u32,
@@ -24,20 +24,11 @@ pub(crate) struct PostingRow {
     pub(crate) verdict: u32,
 }
 
-impl Model for PostingRow {
-    ghost use Rattle.std.specs.Prelude.{string_bytes};
-    ghost use Rattle.register_store.specs.StoredRows as rows;
-
-    ghost Value = { rows.PostingRow };
-
-    ghost view = { λ r. record { id = r.id; station = r.station; n = r.n; body = string_bytes r.body; verdict = r.verdict } };
-}
-
 /// The row of an entry.
-pub(crate) fn row_of(alloc: Global, number: u64, entry: &Entry) -> Result<PostingRow, NoMemory>
-    ensures { IfOk result (IsPostingRow number entry.now) }
+pub(crate) fn row_of(alloc: Global, number: u64, entry: &Entry) -> Result<KeptPosting, NoMemory>
+    ensures { IfOk result (λ row. IsPostingRow number entry.now (posting_row row)) }
 {
-    Ok(PostingRow {
+    Ok(KeptPosting {
         id: number,
         station: entry.station,
         n: entry.n,
@@ -49,14 +40,14 @@ pub(crate) fn row_of(alloc: Global, number: u64, entry: &Entry) -> Result<Postin
 /// The entry of a row that is to have this number; Damaged where it is no row of an entry of these stations.
 pub(crate) fn entry_of(
     alloc: Global,
-    row: &PostingRow,
+    row: &KeptPosting,
     number: u64,
     stations: u32,
 ) -> Result<Entry, StoreFault>
-    ensures kept { IfOk result (λ entry. IsPostingRow number entry row.now) }
+    ensures kept { IfOk result (λ entry. IsPostingRow number entry (posting_row row.now)) }
     ensures stationed { IfOk result (IsOfStation stations) }
     ensures damaged { IfErr result (λ fault. fault ≢ StoreFault.NoMemory → fault ≡ StoreFault.Damaged number) }
-    ensures wrong { IfErr result (λ fault. fault ≢ StoreFault.NoMemory → IsWrongRow stations number row.now) }
+    ensures wrong { IfErr result (λ fault. fault ≢ StoreFault.NoMemory → IsWrongRow stations number (posting_row row.now)) }
 {
     if row.id != number || row.station >= stations || row.n == 0 || row.n > LAST_NUMBER {
         return Err(StoreFault::Damaged(number));

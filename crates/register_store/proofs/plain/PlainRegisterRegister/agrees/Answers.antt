@@ -4,7 +4,7 @@ use Rattle.std.proofs.lemmas.List.Sorted.{IsPermutation-refl}
 use Rattle.sqlite_trees.specs.Tree.{IsAscending}
 use Rattle.posting_core.specs.declared.entry.NewSpot.{NewSpot}
 use Rattle.posting_core.specs.contracts.entry.NewSpotOrd.TheImpl.{ghosts}
-use Rattle.register_store.specs.Plain.{Kept, line_rows, term_rows}
+use Rattle.register_store.specs.Plain.{Kept, held_lines, term_rows}
 use Rattle.std.specs.Bool.{Decides}
 use Rattle.register_store.specs.StoredRows.{HasRows}
 use Rattle.register_store.proofs.LedgerRows.{line_keys_differ, term_keys_differ}
@@ -28,12 +28,12 @@ returns-clause-told c quiet d h =
     subst (λ b. Decides b (HasRows c.args.ledger.now.museum c.args.ledger.now.posted d)) (sym c.are_all.ensures)
     (told_by c.has_rows-same_spots.result c.has_all-same_lines.result c.has_all-same_terms.result c.args.ledger.now.museum c.args.ledger.now.posted c.deref.result.now c.has_rows-same_spots.new.rows.items
     c.deref-2.result.now c.self.inside.lines.entries c.deref-3.result.now c.self.inside.terms.entries c.self.inside.setup (reverse c.self.inside.postings.items) d
-    (c.deref.ensures.value ∙ c.in_ok-spots.ensures) (ap line_rows c.deref-2.ensures.value ∙ c.in_ok-lines.ensures) (ap term_rows c.deref-3.ensures.value ∙ c.in_ok-terms.ensures)
+    (c.deref.ensures.value ∙ c.in_ok-spots.ensures) (ap held_lines c.deref-2.ensures.value ∙ c.in_ok-lines.ensures) (ap term_rows c.deref-3.ensures.value ∙ c.in_ok-terms.ensures)
     c.has_rows-same_spots.ensures.told c.has_all-same_lines.ensures c.has_all-same_terms.ensures h)
 
 pub has_all-same_lines-requires-clause-distinct : goal.has_all-same_lines-requires-clause-distinct
 has_all-same_lines-requires-clause-distinct c =
-    line_keys_differ c.args.ledger.now.museum c.args.ledger.now.depth c.args.ledger.now.posted c.deref-2.result.now c.is_lawful.ensures (ap line_rows c.deref-2.ensures.value ∙ c.in_ok-lines.ensures)
+    line_keys_differ c.args.ledger.now.museum c.args.ledger.now.depth c.args.ledger.now.posted c.deref-2.result.now c.is_lawful.ensures (ap held_lines c.deref-2.ensures.value ∙ c.in_ok-lines.ensures)
 
 pub has_all-same_terms-requires-clause-distinct : goal.has_all-same_terms-requires-clause-distinct
 has_all-same_terms-requires-clause-distinct c =
@@ -43,5 +43,5 @@ pub returns-clause-unchanged : goal.returns-clause-unchanged
 returns-clause-unchanged c =
     let K = c.args.self.now.content in
     comes_by K _ (λ k. k)
-    ((reordered c.self.inside.setup c.self.inside.postings.items c.self.inside.postings.items c.self.inside.spots.items c.has_rows-same_spots.new.rows.items (line_rows c.self.inside.lines.entries) (term_rows c.self.inside.terms.entries) K K
+    ((reordered c.self.inside.setup c.self.inside.postings.items c.self.inside.postings.items c.self.inside.spots.items c.has_rows-same_spots.new.rows.items (held_lines c.self.inside.lines.entries) (term_rows c.self.inside.terms.entries) K K
     (IsPermutation-refl _) c.has_rows-same_spots.ensures.same (sym (ap (λ (k : Kept). k.content) c.self.view_is))).0 (same_itself K))

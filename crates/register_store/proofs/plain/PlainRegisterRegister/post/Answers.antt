@@ -1,7 +1,7 @@
 use Rattle.std.proofs.Common.{rules, refl, sym, subst, ap}
 use Rattle.std.specs.List.Sorted.{IsPermutation}
-use Rattle.register_store.specs.Plain.{Kept, line_rows, term_rows}
-use Rattle.register_store.specs.StoredRows.{put_lines, term_of}
+use Rattle.register_store.specs.Plain.{Kept, posting_row, has_same_key, held_lines, term_rows}
+use Rattle.register_store.specs.StoredRows.{put_each, term_of}
 use Rattle.register_store.specs.Holdings.{IsPosted}
 use Rattle.register_store.proofs.Kept.{same_itself, same_back, same_then, comes_from, posted_same, left_as_was}
 use Rattle.register_store.proofs.TermRows.{with_term}
@@ -10,16 +10,16 @@ use Rattle.register_store.proofs.plain.PlainRegisterRegister.post.Goals as goal
 pub returns-clause-posted : goal.returns-clause-posted
 returns-clause-posted c =
     let K = c.args.self.now.content in
-    let put : IsPermutation (line_rows c.put_lines.new.kept.entries) (put_lines c.as_slice-lines.result.now (line_rows c.reserve-2.new.self.entries)) = c.put_lines.ensures in
-    let lined : IsPermutation (line_rows c.put_lines.new.kept.entries) (put_lines c.args.changes.now.lines (line_rows c.self.inside.lines.entries)) =
-    subst (λ ls. IsPermutation (line_rows c.put_lines.new.kept.entries) (put_lines ls (line_rows c.self.inside.lines.entries))) c.as_slice-lines.ensures
-    (subst (λ es. IsPermutation (line_rows c.put_lines.new.kept.entries) (put_lines c.as_slice-lines.result.now (line_rows es))) c.reserve-2.ensures.entries put) in
+    let put : IsPermutation (held_lines c.put_lines.new.kept.entries) (put_each has_same_key c.as_slice-lines.result.now (held_lines c.reserve-2.new.self.entries)) = c.put_lines.ensures in
+    let lined : IsPermutation (held_lines c.put_lines.new.kept.entries) (put_each has_same_key c.args.changes.now.lines (held_lines c.self.inside.lines.entries)) =
+    subst (λ ls. IsPermutation (held_lines c.put_lines.new.kept.entries) (put_each has_same_key ls (held_lines c.self.inside.lines.entries))) c.as_slice-lines.ensures
+    (subst (λ es. IsPermutation (held_lines c.put_lines.new.kept.entries) (put_each has_same_key c.as_slice-lines.result.now (held_lines es))) c.reserve-2.ensures.entries put) in
     let dated : IsPermutation (term_rows c.put_term.new.kept.entries) (with_term (term_of c.args.entry.now) (term_rows c.self.inside.terms.entries)) =
     subst (λ es. IsPermutation (term_rows c.put_term.new.kept.entries) (with_term (term_of c.args.entry.now) (term_rows es))) c.reserve-3.ensures.entries c.put_term.ensures in
-    let now = posted_same c.self.inside.setup c.self.inside.postings.items c.push.new.self.items c.self.inside.spots.items c.extend_from_slice.new.self.items (line_rows c.self.inside.lines.entries) (line_rows c.put_lines.new.kept.entries)
+    let now = posted_same c.self.inside.setup c.self.inside.postings.items c.push.new.self.items c.self.inside.spots.items c.extend_from_slice.new.self.items (held_lines c.self.inside.lines.entries) (held_lines c.put_lines.new.kept.entries)
     (term_rows c.self.inside.terms.entries) (term_rows c.put_term.new.kept.entries) c.in_ok-row.row c.args.entry.now c.args.changes.now K K
     (search rules) (search rules) lined dated (sym (ap (λ (k : Kept). k.content) c.self.view_is)) (same_itself K) in
-    comes_from K _ (IsPosted c.args.entry.now c.args.changes.now) (λ d h. (c.in_ok-row.row, c.in_ok-row.ensures, same_then _ _ d (same_back _ _ now) h))
+    comes_from K _ (IsPosted c.args.entry.now c.args.changes.now) (λ d h. (posting_row c.in_ok-row.row, c.in_ok-row.ensures, same_then _ _ d (same_back _ _ now) h))
 
 pub returns-in_err-reserve-clause-failed : goal.returns-in_err-reserve-clause-failed
 returns-in_err-reserve-clause-failed c =
