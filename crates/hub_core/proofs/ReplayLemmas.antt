@@ -26,6 +26,7 @@ use Rattle.hub_core.proofs.LineLemmas.{IsWhole, whole_none, whole_more, ended_wh
 use Rattle.hub_core.proofs.ReplyLemmas.{text_more, arrivals_more, count_more, one_start, one_line, one_arrivals}
 use Rattle.hub_core.proofs.KeptLemmas.{kept_reply, kept_arrivals}
 use Rattle.hub_core.proofs.FeedLemmas.{end_after}
+use Rattle.hub_core.proofs.StandLemmas.{takes_none}
 use Rattle.hub_core.proofs.Written.{appends_kept}
 use Rattle.std.proofs.Math.Seq.{take-append_seam, take-append-add}
 
@@ -115,7 +116,7 @@ module _ {Q : Type 0} {S : Museum} {depth : ℕ} {O : List Entry} {A : List Arri
       whole = whole_ended;
       one = one_start t.0 t.2;
       written = all_written o2 k;
-      stands = λ up. (0, subst (StandsFor holding hub O) (sym (append-nil (A ++ arrivals S u.bytes))) u.stands);
+      stands = takes_none holding hub O (A ++ arrivals S u.bytes) (arrivals S t.0) u.stands;
     }
 
     -- a fault before the line has ended

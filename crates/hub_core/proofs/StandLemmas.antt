@@ -1,5 +1,5 @@
 -- What a hub stands for, after one more arrival.
-use Rattle.std.proofs.Common.{◌≡◌, ℕ, ◌+◌, ◌-◌, ◌<◌, ◌==◌, true, false, List, [], ◌∷◌, ◌++◌, length, Option, Some, None, refl, ap, ◌∙◌, sym, subst, arith}
+use Rattle.std.proofs.Common.{◌≡◌, ℕ, ◌+◌, ◌-◌, ◌<◌, ◌==◌, true, false, List, [], ◌∷◌, ◌++◌, length, Option, Some, None, inl, inr, append-nil, refl, ap, ◌∙◌, sym, subst, arith}
 use Rattle.std.proofs.lemmas.Bool.Decides.{nat_tests}
 use Rattle.std.specs.Prelude.{slice_set, map, reverse}
 use Rattle.std.proofs.lemmas.List.Sums.{fold_push}
@@ -19,7 +19,7 @@ use Rattle.register_store.specs.Holdings.{Holding}
 use Rattle.hub_core.specs.declared.answer.Arrival.{Arrival}
 use Rattle.hub_core.specs.declared.answer.Answer.TheVariants.{Refused, Held, Posted}
 use Rattle.hub_core.specs.Points.{seen, post, Point, point_with, point_after, point, reply, reply_from, due_with, arrival_of}
-use Rattle.hub_core.specs.StandsFor.{State, StandsFor, InStep, Done, HasStore, Stopped}
+use Rattle.hub_core.specs.StandsFor.{State, StandsFor, InStep, Done, HasStore, Stopped, TakesSome}
 
 abbrev pub refused_at : Museum → Point → Arrival → Option Refusal
 refused_at S p r = refusal is_sign_off (length S.stations) p.taken r.station r.n
@@ -141,3 +141,19 @@ refused_by hub O A r o X step told is =
 
 pub length_back : (es P : List Entry) → reverse es ≡ P → length es ≡ length P
 length_back es P back = sym (length-reverse es) ∙ ap length back
+
+module _ {R : Type 0} (holding : R → Holding) where
+  -- nothing that was sent is taken
+  pub takes_none : (hub : State R) (O : List Entry) (A sent : List Arrival) → StandsFor holding hub O A → TakesSome holding hub O A sent
+  takes_none hub O A sent st = inl (0, subst (StandsFor holding hub O) (sym (append-nil A)) st)
+
+  -- the hub was stopped in the one arrival that was sent
+  pub stops_in : (old new : State R) (O : List Entry) (A : List Arrival) (r : Arrival) → StandsFor holding old O A → new.down ≡ true → new.book.museum ≡ old.book.museum → new.book.depth ≡ old.book.depth
+      → Stopped (holding new.register) old.book.museum old.book.depth old.book.posted (due_with old.book.museum old.book.depth O A r) new.book.posted → TakesSome holding new O A (r ∷ [])
+  stops_in old new O A r st down museum depth stopped =
+      let Stops : Museum → ℕ → List Entry → List Arrival → Type 0 = λ S d P B. Stopped (holding new.register) S d P (due_with S d O B r) new.book.posted in
+      let from_point = subst (λ P. Stops old.book.museum old.book.depth P A) st.list stopped in
+      let from_all = subst (λ (B : List Arrival). Stops old.book.museum old.book.depth (point old.book.museum old.book.depth O B).posted B) (sym (append-nil A)) from_point in
+      let of_museum = subst (λ S. Stops S old.book.depth (point S old.book.depth O (A ++ [])).posted (A ++ [])) (sym museum) from_all in
+      let of_depth = subst (λ d. Stops new.book.museum d (point new.book.museum d O (A ++ [])).posted (A ++ [])) (sym depth) of_museum in
+      inr (record { down = down; before = []; arrival = r; after = []; all = refl; stopped = of_depth })

@@ -35,7 +35,8 @@ pub record CutShort {Q : Type 0} (S : Museum) (depth : ℕ) (O : List Entry) (A 
   pub written : Appends o o' (take k (text S depth O A (lines_read at_end bytes)))
   pub stands : StandsFor holding hub O (A ++ arrivals S (lines_read at_end bytes))
 
--- all lines before the one that met the fault are answered; the hub is down, or it has taken that line's arrival or not
+-- all lines before the one that met the fault are answered; the hub has taken that line's arrival or not, or was stopped
+-- in it
 pub record BrokenOff {Q : Type 0} (S : Museum) (depth : ℕ) (O : List Entry) (A : List Arrival) (i i' o o' : Option (List ℕ)) (holding : Q → Holding) (hub : State Q) : Type 0 where
   pub before : List ℕ
   pub line : List ℕ

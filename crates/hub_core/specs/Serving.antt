@@ -9,7 +9,7 @@ use Rattle.hub_core.specs.Faults.{CountsStore}
 use Rattle.hub_core.specs.StandsFor.{State, StandsFor, TakesSome}
 
 -- a hub serves what is sent: for every list of arrivals that it stood for, the text is what is to be said, and it stands
--- for the list with what was sent; after a fault it is down, or it has taken some of that
+-- for the list with what was sent; after a fault it has taken some of that, or was stopped in it
 pub record Serves {R : Type 0} (holding : R → Holding) (refusals : R → ℕ) (old new : State R) (said : List Entry → List Arrival → List ℕ) (sent : List Arrival) (result : Result (String Global) HubFault) : Type 0 where
   pub reply : IfOk result (λ text. (O : List Entry) (A : List Arrival) → StandsFor holding old O A → (string_bytes text ≡ said O A) × StandsFor holding new O (A ++ sent))
   pub fault : OnErr result ((O : List Entry) (A : List Arrival) → StandsFor holding old O A → TakesSome holding new O A sent)

@@ -1,5 +1,5 @@
 -- What a hub stands for.
-use Rattle.std.specs.Prelude.{ℕ, ◌≡◌, ◌-◌, ◌<◌, ◌⊎◌, ◌++◌, ◌∷◌, Bool, false, List, length, fold, take}
+use Rattle.std.specs.Prelude.{ℕ, ◌≡◌, ◌-◌, ◌<◌, ◌⊎◌, ◌++◌, ◌∷◌, Bool, true, false, List, length, fold, take}
 use Rattle.nest_core.specs.Museum.{Museum}
 use Rattle.posting_core.specs.declared.message.Message.{Message}
 use Rattle.posting_core.specs.declared.entry.Entry.{Entry}
@@ -12,7 +12,7 @@ use Rattle.station_core.specs.Progress.{AllMatch}
 use Rattle.register_store.specs.StoredRows.{IsStoreOf}
 use Rattle.register_store.specs.Holdings.{Holding, Has}
 use Rattle.hub_core.specs.declared.answer.Arrival.{Arrival}
-use Rattle.hub_core.specs.Points.{point, post}
+use Rattle.hub_core.specs.Points.{point, post, due_with}
 
 -- what a hub is: its stations' series, its ledger's book, its register, and whether it is down
 pub record State (R : Type 0) : Type 0 where
@@ -62,6 +62,17 @@ pub record Done (S : Museum) (depth : ℕ) (taken : List (Arrived Message)) (s k
   pub matches : AllMatch is_sign_off taken sequences
   pub list : now ≡ fold (post S depth) before (due taken s k (ready is_sign_off taken s - k))
 
--- the hub is down, or it has taken the first k of these arrivals
+-- a fault stopped the hub in one of these arrivals: those before it are taken, some of what came due with it is posted,
+-- and the store has that list, or that with the next message
+pub record StopsIn {R : Type 0} (holding : R → Holding) (hub : State R) (O : List Entry) (A sent : List Arrival) : Type 0 where
+  pub down : hub.down ≡ true
+  pub before : List Arrival
+  pub arrival : Arrival
+  pub after : List Arrival
+  pub all : sent ≡ before ++ arrival ∷ after
+  pub stopped : Stopped (holding hub.register) hub.book.museum hub.book.depth (point hub.book.museum hub.book.depth O (A ++ before)).posted
+      (due_with hub.book.museum hub.book.depth O (A ++ before) arrival) hub.book.posted
+
+-- the hub has taken the first k of these arrivals, or was stopped in one of them
 abbrev pub TakesSome : {R : Type 0} → (R → Holding) → State R → List Entry → List Arrival → List Arrival → Type 0
-TakesSome holding hub O A sent = hub.down ≡ false → (k : ℕ) × StandsFor holding hub O (A ++ take k sent)
+TakesSome holding hub O A sent = ((k : ℕ) × StandsFor holding hub O (A ++ take k sent)) ⊎ StopsIn holding hub O A sent

@@ -26,7 +26,7 @@ pub(crate) fn without_return(line: &[u8]) -> &[u8]
 }
 
 /// Does what a line asks, and answers the reply to it, which is empty for an empty line. The line is the `number`-th, from 1.
-/// After a fault the hub is down, or it has taken the line's arrival or not.
+/// After a fault the hub has taken the line's arrival or not, or it is down, stopped in that.
 pub(crate) fn reply_to<S: Register>(
     alloc: Global,
     number: u64,

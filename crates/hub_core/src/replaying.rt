@@ -52,7 +52,7 @@ impl From<HubFault> for ReplayFault {
 ///
 /// After ReadFailed the lines that have ended are answered. After WriteFailed the lines that were read are taken, and a
 /// front of their replies is written. After NoMemory or Store all lines before the one that met it are answered; the hub
-/// is down, or it has taken that line's arrival or not.
+/// has taken that line's arrival or not, or it is down, and its store has what is posted, or that with the next message.
 pub fn replay<R: BufRead, W: Write, S: Register>(
     alloc: Global,
     input: &mut R,
@@ -66,6 +66,9 @@ pub fn replay<R: BufRead, W: Write, S: Register>(
         IsAtEnd (R.remaining input.new)
         × Appends (W.contents output.old) (W.contents output.new) (text hub.old.book.museum hub.old.book.depth O A bytes)
         × StandsFor S.holding hub.new O (A ++ arrivals hub.old.book.museum bytes))) }
+    // Whether or not the reader's bytes are known, those that were read are answered, and the reader is at its end.
+    ensures answered { OnOk result ((O : List Entry) (A : List Arrival) → StandsFor S.holding hub.old O A →
+        Answered hub.old.book.museum hub.old.book.depth O A (R.remaining input.old) (R.remaining input.new) (W.contents output.old) (W.contents output.new) S.holding hub.new true) }
     ensures ends { EndsReplay S.holding S.refusals (R.remaining input.old) (R.remaining input.new) (W.contents output.old) (W.contents output.new) hub.old hub.new result }
 {
     replay_from(alloc, input, output, hub, Reads::new())
