@@ -1,27 +1,23 @@
 //! The rows of loans in memory: lines by loan and object, and last days by loan.
-ghost use Rattle.std.specs.Prelude.{◌≡◌, ◌<◌, ◌≤◌, ◌+◌, ◌++◌, length, map, Option, IfOk, OnOk, Some, slice_get};
-ghost use Rattle.std.specs.Bool.{Decides};
-ghost use Rattle.std.specs.List.{IsDistinct, list_all};
+ghost use Rattle.std.specs.Prelude.{◌≡◌, ◌≤◌, length};
 ghost use Rattle.std.specs.List.Sorted.{IsPermutation};
-ghost use Rattle.std.specs.Map.{keys_of};
 ghost use Rattle.std.specs.Option.{option_map, option_map_or};
 ghost use Rattle.indexmap.specs.IndexMap.{spare};
-ghost use Rattle.posting_core.specs.Book.{loans_in};
-ghost use Rattle.register_store.specs.StoredRows.{TermRow, is_same_loan, put, put_each, term_of, lines_by_loan, rows_of_terms};
-ghost use Rattle.register_store.specs.Plain.{has_same_key, held_lines, term_rows, lines_of_loan, day_of_loan, is_kept};
+ghost use Rattle.register_store.specs.StoredRows.{is_same_loan, put, put_each, term_of};
+ghost use Rattle.register_store.specs.Plain.{has_same_key, held_lines, term_rows};
 
-use codes_core::{Day, LoanCode, NoMemory};
+use codes_core::{Day, LoanCode};
 use indexmap::IndexMap;
 use nest_core::ThingNo;
-use posting_core::{Entry, Ledger, LineStage, Message, NewLine, Verdict};
-use std::alloc::Global;
-use std::hash::Hash;
+use posting_core::{Entry, LineStage, Message, NewLine, Verdict};
 
-/// An object of a loan, whose line is kept.
+/// An object of a loan, by which a line is kept.
 #[derive(Clone, Copy, PartialEq, Eq, Hash)]
-pub(crate) struct LineKey {
-    pub(crate) loan: LoanCode,
-    pub(crate) object: ThingNo,
+pub struct LineKey {
+    /// The loan.
+    pub loan: LoanCode,
+    /// The object's number, from 0.
+    pub object: ThingNo,
 }
 
 /// Puts lines in the place of those of the same loan and object; there is room for all.
@@ -50,8 +46,8 @@ pub(crate) fn put_term(kept: &mut IndexMap<LoanCode, Day>, entry: &Entry)
     }
 }
 
-/// The loan that an entry agrees or extends, with its last day.
-fn term_of(entry: &Entry) -> Option<(LoanCode, Day)>
+/// The loan that an applied entry agrees or extends, with the last day that it gives it.
+pub fn term_of(entry: &Entry) -> Option<(LoanCode, Day)>
     ensures { option_map (λ t. record { loan = t.0; day = t.1 }) result ≡ term_of entry.now }
 {
     if !matches!(entry.verdict, Verdict::Applied) {
@@ -61,94 +57,5 @@ fn term_of(entry: &Entry) -> Option<(LoanCode, Day)>
         Message::Agree { loan, last, .. } => Some((*loan, *last)),
         Message::Extend { loan, last } => Some((*loan, *last)),
         _ => None,
-    }
-}
-
-/// The lines of all loans, each at its stage.
-pub(crate) fn lines_of(
-    alloc: Global,
-    ledger: &Ledger,
-) -> Result<Vec<(LineKey, LineStage)>, NoMemory>
-    ensures { IfOk result (λ rows. held_lines rows.items ≡ lines_by_loan ledger.now.museum ledger.now.posted) }
-{
-    ledger.is_lawful();
-    let mut rows = Vec::new(alloc);
-    for i in 0..ledger.loan_count() {
-        push_lines(&mut rows, ledger, ledger.loan_at(i), ledger.objects(i))?;
-    }
-    Ok(rows)
-}
-
-/// Adds the lines of a loan with these objects.
-fn push_lines(
-    rows: &mut Vec<(LineKey, LineStage)>,
-    ledger: &Ledger,
-    loan: LoanCode,
-    objects: &[ThingNo],
-) -> Result<(), NoMemory>
-    ensures { OnOk result (held_lines rows.new.items ≡ held_lines rows.old.items ++ lines_of_loan ledger.now loan objects.now) }
-{
-    for i in 0..objects.len() {
-        let object = objects[i];
-        if let Some(stage) = ledger.line(&loan, object) {
-            rows.push((LineKey { loan, object }, stage))?;
-        }
-    }
-    Ok(())
-}
-
-/// The last days of all loans.
-pub(crate) fn terms_of(alloc: Global, ledger: &Ledger) -> Result<Vec<(LoanCode, Day)>, NoMemory>
-    ensures { IfOk result (λ rows. term_rows rows.items ≡ rows_of_terms ledger.now.posted) }
-{
-    ledger.is_lawful();
-    let mut rows = Vec::new(alloc);
-    for i in 0..ledger.loan_count() {
-        push_day(&mut rows, ledger, ledger.loan_at(i))?;
-    }
-    Ok(rows)
-}
-
-/// Adds the last day of a loan.
-fn push_day(
-    rows: &mut Vec<(LoanCode, Day)>,
-    ledger: &Ledger,
-    loan: LoanCode,
-) -> Result<(), NoMemory>
-    ensures { OnOk result (term_rows rows.new.items ≡ term_rows rows.old.items ++ day_of_loan ledger.now loan) }
-{
-    if let Some(day) = ledger.last_day(&loan) {
-        rows.push((loan, day))?;
-    }
-    Ok(())
-}
-
-/// Whether the kept pairs are the wanted ones in some order.
-pub(crate) fn has_all<K: Eq + Hash + Copy, V: Eq + Copy>(
-    kept: &IndexMap<K, V>,
-    wanted: &[(K, V)],
-) -> bool
-    requires distinct { IsDistinct K.eq (keys_of wanted.now) }
-    requires keys { (a b : _) → Decides (K.eq a b) (a ≡ b) }
-    requires values { (a b : _) → Decides (V.eq a b) (a ≡ b) }
-    ensures { Decides result (IsPermutation wanted.now kept.now.entries) }
-{
-    kept.len() == wanted.len() && has_each(kept, wanted)
-}
-
-/// Whether each of the wanted pairs is kept.
-fn has_each<K: Eq + Hash + Copy, V: Eq + Copy>(kept: &IndexMap<K, V>, wanted: &[(K, V)]) -> bool
-    ensures { result ≡ list_all (is_kept K.eq V.eq kept.now.entries) wanted.now }
-{
-    wanted.iter().all(|pair| has_pair(kept, pair.0, pair.1))
-}
-
-/// Whether the key is kept with the value.
-fn has_pair<K: Eq + Hash + Copy, V: Eq + Copy>(kept: &IndexMap<K, V>, key: K, value: V) -> bool
-    ensures { result ≡ is_kept K.eq V.eq kept.now.entries (key, value) }
-{
-    match kept.get(&key) {
-        Some(found) => *found == value,
-        None => false,
     }
 }

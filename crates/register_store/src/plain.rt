@@ -1,22 +1,20 @@
 //! A register in memory.
-ghost use Rattle.std.specs.Prelude.{◌≡◌, ◌≢◌, ◌↔◌, ◌⊎◌, ◌&&◌, ◌+◌, ◌∷◌, ◌++◌, [], ℕ, true, false, length, map, reverse, take, All, MatchOption, IfOk, IfErr, OnOk, OnErr, string_bytes};
+ghost use Rattle.std.specs.Prelude.{◌≡◌, ◌≢◌, ◌&&◌, [], ℕ, true, false, map, reverse, All, MatchOption, IfOk, IfErr, string_bytes};
 ghost use Rattle.std.specs.Bool.{Decides};
 ghost use Rattle.std.specs.List.Sorted.{IsPermutation, IsNonDecreasingBy};
-ghost use Rattle.std.specs.declared.cmp.Ordering.TheVariants.{Less};
-ghost use Rattle.sqlite_trees.specs.Tree.{IsAscending};
-ghost use Rattle.posting_core.specs.declared.entry.Entry.{Entry};
-ghost use Rattle.nest_core.specs.SetupTexts.{setup_rows};
-ghost use Rattle.register_store.specs.StoredRows.{Content, IsBoundTo, HasList, HasRows, IsPostingRow, ArePostings, spots_of_thing, spots_by_thing, with_posted};
+ghost use Rattle.register_store.specs.StoredRows.{ArePostings};
 ghost use Rattle.register_store.specs.Plain.{posting_row};
-ghost use Rattle.register_store.specs.Registers.{CountsRefusal, is_failure, bound_to, IsBindFault, IsOfStation, IsListFault, IsWrongAt};
+ghost use Rattle.register_store.specs.Registers.{IsOfStation, IsWrongAt};
 
-use crate::loan_rows::{LineKey, has_all, lines_of, put_lines, put_term, terms_of};
+use crate::ledger_rows::{lines_of, row_texts, spot_rows, terms_of};
+use crate::loan_rows::{LineKey, put_lines, put_term};
 use crate::rows::{KeptPosting, entry_of, is_same, row_of};
+use crate::same_rows::{has_all, has_rows};
 use crate::{Register, StoreFault};
-use codes_core::{Day, LoanCode, NoMemory};
+use codes_core::{Day, LoanCode};
 use indexmap::IndexMap;
-use nest_core::{Setup, ThingNo};
-use posting_core::{Changes, Entry, Ledger, LineStage, NewSpot, Spot};
+use nest_core::Setup;
+use posting_core::{Changes, Entry, Ledger, LineStage, NewSpot};
 use std::alloc::Global;
 use std::marker::Model;
 
@@ -138,17 +136,6 @@ fn are_all(spots: bool, lines: bool, terms: bool) -> bool
     spots && lines && terms
 }
 
-/// The texts of a setup's rows.
-fn row_texts(alloc: Global, setup: &Setup) -> Result<Vec<String>, NoMemory>
-    ensures { IfOk result (λ texts. map string_bytes texts.items ≡ setup_rows setup.now) }
-{
-    let mut texts = Vec::new(alloc);
-    for i in 0..setup.rows() {
-        texts.push(setup.row_text(alloc, i + 1)?)?;
-    }
-    Ok(texts)
-}
-
 /// Whether the kept texts, if there are some, are these.
 fn fits(kept: &Option<Vec<String>>, texts: &[String]) -> bool
     ensures { MatchOption kept.now (result ≡ true) (λ old. Decides result (map string_bytes old.items ≡ map string_bytes texts.now)) }
@@ -196,40 +183,4 @@ fn entries_of(alloc: Global, rows: &[KeptPosting], stations: u32) -> Result<Vec<
         }
     }
     Ok(entries)
-}
-
-/// The spots of all things as rows, ascending.
-fn spot_rows(alloc: Global, ledger: &Ledger) -> Result<Vec<NewSpot>, NoMemory>
-    ensures { IfOk result (λ rows. rows.items ≡ spots_by_thing ledger.now.museum ledger.now.posted) }
-{
-    let mut rows = Vec::new(alloc);
-    for thing in 0..ledger.setup().things() {
-        push_spots(&mut rows, thing, ledger.spots(thing))?;
-    }
-    Ok(rows)
-}
-
-/// Adds the spots of a thing as rows.
-fn push_spots(rows: &mut Vec<NewSpot>, thing: ThingNo, spots: &[Spot]) -> Result<(), NoMemory>
-    ensures { OnOk result (rows.new.items ≡ rows.old.items ++ spots_of_thing thing 1 spots.now) }
-{
-    for i in 0..spots.len() {
-        rows.push(NewSpot {
-            thing,
-            k: i as u64 + 1,
-            spot: spots[i],
-        })?;
-    }
-    Ok(())
-}
-
-/// Whether these rows, which are put in order, are the wanted ones in some order.
-fn has_rows<T: Ord + Drop>(rows: &mut Vec<T>, wanted: &[T]) -> bool
-    requires ascending { IsAscending (λ a b. T.cmp a b ≡ Less) wanted.now }
-    requires exact { (a b : _) → Decides (T.eq a b) (a ≡ b) }
-    ensures same { IsPermutation rows.old.items rows.new.items }
-    ensures told { Decides result (IsPermutation wanted.now rows.new.items) }
-{
-    rows.sort_unstable();
-    rows.as_slice() == wanted
 }

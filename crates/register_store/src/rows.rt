@@ -16,16 +16,21 @@ use std::alloc::Global;
 /// A row of the table of postings whose numbers can be an entry's: its number, from 1, and the entry with its message as
 /// text and its verdict by number.
 #[derive(Drop)]
-pub(crate) struct KeptPosting {
-    pub(crate) id: u64,
-    pub(crate) station: u32,
-    pub(crate) n: u32,
-    pub(crate) body: String,
-    pub(crate) verdict: u32,
+pub struct KeptPosting {
+    /// The entry's number, from 1.
+    pub id: u64,
+    /// Its station's number, from 0.
+    pub station: u32,
+    /// The number that the station gave its message.
+    pub n: u32,
+    /// The message as text.
+    pub body: String,
+    /// The number of its verdict.
+    pub verdict: u32,
 }
 
-/// The row of an entry.
-pub(crate) fn row_of(alloc: Global, number: u64, entry: &Entry) -> Result<KeptPosting, NoMemory>
+/// The row of an entry under this number, from 1. The fault: NoMemory.
+pub fn row_of(alloc: Global, number: u64, entry: &Entry) -> Result<KeptPosting, NoMemory>
     ensures { IfOk result (λ row. IsPostingRow number entry.now (posting_row row)) }
 {
     Ok(KeptPosting {
@@ -37,8 +42,9 @@ pub(crate) fn row_of(alloc: Global, number: u64, entry: &Entry) -> Result<KeptPo
     })
 }
 
-/// The entry of a row that is to have this number; Damaged where it is no row of an entry of these stations.
-pub(crate) fn entry_of(
+/// The entry of a row that is to have this number, from 1, where so many stations are known. The faults: Damaged under that
+/// number, where it is no row of an entry of theirs; NoMemory.
+pub fn entry_of(
     alloc: Global,
     row: &KeptPosting,
     number: u64,

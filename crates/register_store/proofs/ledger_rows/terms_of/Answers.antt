@@ -4,7 +4,7 @@ use Rattle.posting_core.specs.Book.{loans_in}
 use Rattle.register_store.specs.Plain.{term_rows, day_of_loan}
 use Rattle.register_store.specs.StoredRows.{rows_of_terms}
 use Rattle.register_store.proofs.LedgerRows.{next_loan, days_told}
-use Rattle.register_store.proofs.loan_rows.terms_of.Goals as goal
+use Rattle.register_store.proofs.ledger_rows.terms_of.Goals as goal
 
 pub loop-i-init : goal.loop-i-init
 loop-i-init c =

@@ -3,7 +3,7 @@ use Rattle.std.specs.List.Sorted.{IsPermutation}
 use Rattle.std.proofs.lemmas.List.Sorted.{IsPermutation-refl}
 use Rattle.std.proofs.lemmas.Slice.Eq.{slice_eq-Decides}
 use Rattle.sqlite_keyed.proofs.SortLemmas.{sorted_unique}
-use Rattle.register_store.proofs.plain.has_rows.Goals as goal
+use Rattle.register_store.proofs.same_rows.has_rows.Goals as goal
 
 pub returns-clause-told : goal.returns-clause-told
 returns-clause-told g c =

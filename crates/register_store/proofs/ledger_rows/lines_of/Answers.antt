@@ -4,7 +4,7 @@ use Rattle.posting_core.specs.Book.{loans_in, objects_of_loan}
 use Rattle.register_store.specs.Plain.{held_lines, lines_of_loan}
 use Rattle.register_store.specs.StoredRows.{lines_by_loan}
 use Rattle.register_store.proofs.LedgerRows.{next_loan, told_objects, lines_told}
-use Rattle.register_store.proofs.loan_rows.lines_of.Goals as goal
+use Rattle.register_store.proofs.ledger_rows.lines_of.Goals as goal
 
 pub loop-i-init : goal.loop-i-init
 loop-i-init c =

@@ -2,7 +2,7 @@ use Rattle.std.proofs.Common.{◌≡◌, Bool, ◌∙◌, sym, arith}
 use Rattle.std.proofs.lemmas.List.Sorted.{length_permutation}
 use Rattle.std.proofs.lemmas.Bool.Decides.{nat_tests}
 use Rattle.register_store.proofs.KeptPairs.{wanted_kept, kept_wanted}
-use Rattle.register_store.proofs.loan_rows.has_all.Goals as goal
+use Rattle.register_store.proofs.same_rows.has_all.Goals as goal
 
 by : {a b t : Bool} → a ≡ b → a ≡ t → b ≡ t
 by h k = sym h ∙ k

@@ -4,7 +4,7 @@ use Rattle.std.specs.List.{flat_map, range_with_len}
 use Rattle.posting_core.specs.Book.{spots_in}
 use Rattle.register_store.specs.StoredRows.{spots_of_thing}
 use Rattle.register_store.proofs.Lists.{flat_next}
-use Rattle.register_store.proofs.plain.spot_rows.Goals as goal
+use Rattle.register_store.proofs.ledger_rows.spot_rows.Goals as goal
 
 pub loop-thing-preserved : goal.loop-thing-preserved
 loop-thing-preserved c =

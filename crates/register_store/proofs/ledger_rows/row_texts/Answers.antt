@@ -2,7 +2,7 @@ use Rattle.std.proofs.Common.{rules, ◌++◌, ◌∷◌, [], sym, ap, ◌∙◌
 use Rattle.std.proofs.lemmas.List.{map-append}
 use Rattle.nest_core.specs.SetupTexts.{setup_rows}
 use Rattle.register_store.proofs.Lists.{got_further}
-use Rattle.register_store.proofs.plain.row_texts.Goals as goal
+use Rattle.register_store.proofs.ledger_rows.row_texts.Goals as goal
 
 pub loop-i-preserved : goal.loop-i-preserved
 loop-i-preserved c =

@@ -1,0 +1,107 @@
+//! What a setup and a ledger give a store as rows, for any register.
+ghost use Rattle.std.specs.Prelude.{◌≡◌, ◌++◌, map, IfOk, OnOk, string_bytes};
+ghost use Rattle.nest_core.specs.SetupTexts.{setup_rows};
+ghost use Rattle.register_store.specs.StoredRows.{spots_of_thing, spots_by_thing, lines_by_loan, rows_of_terms};
+ghost use Rattle.register_store.specs.Plain.{held_lines, term_rows, lines_of_loan, day_of_loan};
+
+use crate::LineKey;
+use codes_core::{Day, LoanCode, NoMemory};
+use nest_core::{Setup, ThingNo};
+use posting_core::{Ledger, LineStage, NewSpot, Spot};
+use std::alloc::Global;
+
+/// The texts of a setup's rows, in their order: row 1 first. The fault: NoMemory.
+pub fn row_texts(alloc: Global, setup: &Setup) -> Result<Vec<String>, NoMemory>
+    ensures { IfOk result (λ texts. map string_bytes texts.items ≡ setup_rows setup.now) }
+{
+    let mut texts = Vec::new(alloc);
+    for i in 0..setup.rows() {
+        texts.push(setup.row_text(alloc, i + 1)?)?;
+    }
+    Ok(texts)
+}
+
+/// The spots of all things, by looking back: thing by thing, and each thing's from 1 on, so that they ascend. The fault:
+/// NoMemory.
+pub fn spot_rows(alloc: Global, ledger: &Ledger) -> Result<Vec<NewSpot>, NoMemory>
+    ensures { IfOk result (λ rows. rows.items ≡ spots_by_thing ledger.now.museum ledger.now.posted) }
+{
+    let mut rows = Vec::new(alloc);
+    for thing in 0..ledger.setup().things() {
+        push_spots(&mut rows, thing, ledger.spots(thing))?;
+    }
+    Ok(rows)
+}
+
+/// Adds the spots of a thing as rows.
+fn push_spots(rows: &mut Vec<NewSpot>, thing: ThingNo, spots: &[Spot]) -> Result<(), NoMemory>
+    ensures { OnOk result (rows.new.items ≡ rows.old.items ++ spots_of_thing thing 1 spots.now) }
+{
+    for i in 0..spots.len() {
+        rows.push(NewSpot {
+            thing,
+            k: i as u64 + 1,
+            spot: spots[i],
+        })?;
+    }
+    Ok(())
+}
+
+/// The lines of all loans, each at its stage by looking back, in the order of the agreements. The fault: NoMemory.
+pub fn lines_of(
+    alloc: Global,
+    ledger: &Ledger,
+) -> Result<Vec<(LineKey, LineStage)>, NoMemory>
+    ensures { IfOk result (λ rows. held_lines rows.items ≡ lines_by_loan ledger.now.museum ledger.now.posted) }
+{
+    ledger.is_lawful();
+    let mut rows = Vec::new(alloc);
+    for i in 0..ledger.loan_count() {
+        push_lines(&mut rows, ledger, ledger.loan_at(i), ledger.objects(i))?;
+    }
+    Ok(rows)
+}
+
+/// Adds the lines of a loan with these objects.
+fn push_lines(
+    rows: &mut Vec<(LineKey, LineStage)>,
+    ledger: &Ledger,
+    loan: LoanCode,
+    objects: &[ThingNo],
+) -> Result<(), NoMemory>
+    ensures { OnOk result (held_lines rows.new.items ≡ held_lines rows.old.items ++ lines_of_loan ledger.now loan objects.now) }
+{
+    for i in 0..objects.len() {
+        let object = objects[i];
+        if let Some(stage) = ledger.line(&loan, object) {
+            rows.push((LineKey { loan, object }, stage))?;
+        }
+    }
+    Ok(())
+}
+
+/// The last days of all loans by looking back, in the order of the agreements. The fault: NoMemory.
+pub fn terms_of(alloc: Global, ledger: &Ledger) -> Result<Vec<(LoanCode, Day)>, NoMemory>
+    ensures { IfOk result (λ rows. term_rows rows.items ≡ rows_of_terms ledger.now.posted) }
+{
+    ledger.is_lawful();
+    let mut rows = Vec::new(alloc);
+    for i in 0..ledger.loan_count() {
+        push_day(&mut rows, ledger, ledger.loan_at(i))?;
+    }
+    Ok(rows)
+}
+
+/// Adds the last day of a loan.
+fn push_day(
+    rows: &mut Vec<(LoanCode, Day)>,
+    ledger: &Ledger,
+    loan: LoanCode,
+) -> Result<(), NoMemory>
+    ensures { OnOk result (term_rows rows.new.items ≡ term_rows rows.old.items ++ day_of_loan ledger.now loan) }
+{
+    if let Some(day) = ledger.last_day(&loan) {
+        rows.push((loan, day))?;
+    }
+    Ok(())
+}
