@@ -24,7 +24,6 @@ pub type PlaceNo = u32;
 pub type StationNo = u32;
 
 /// The museum's stations, places and things, which stay as they are; seen as what it lists, in number order.
-#[derive(Drop)]
 pub struct Setup {
     stations: IndexSet<StationName>,
     places: IndexMap<PlaceCode, bool>,
@@ -40,6 +39,20 @@ impl Model for Setup {
     ghost view = { λ s. record { stations = s.stations.keys; places = s.places.entries; things = s.things.entries } };
 
     ghost invariant = { λ s. IsMuseum (record { stations = s.stations.keys; places = s.places.entries; things = s.things.entries }) };
+}
+
+/// Written out, so that whoever drops a setup calls it: a derived drop would stand whole at each of their ways out.
+impl Drop for Setup {
+    fn drop(self) {
+        let Setup {
+            stations,
+            places,
+            things,
+        } = self;
+        drop(stations);
+        drop(places);
+        drop(things);
+    }
 }
 
 impl Setup {
