@@ -27,7 +27,6 @@ use std::marker::Model;
 
 /// What was posted, over a setup and under a depth limit; seen as its book. Every answer is what looking back
 /// through the posted entries gives.
-#[derive(Drop)]
 pub struct Ledger {
     setup: Setup,
     posted: Vec<Entry>,
@@ -46,6 +45,24 @@ impl Model for Ledger {
     ghost view = { λ a. record { museum = a.setup; depth = a.nest.depth; posted = reverse a.posted.items } };
 
     ghost invariant = { λ a. IsKept a.setup (reverse a.posted.items) a.nest (lists a.spots.items) a.loans };
+}
+
+/// Written out, so that whoever drops a ledger calls it: a derived drop would stand whole at each of their ways out.
+impl Drop for Ledger {
+    fn drop(self) {
+        let Ledger {
+            setup,
+            posted,
+            nest,
+            spots,
+            loans,
+        } = self;
+        drop(setup);
+        drop(posted);
+        drop(nest);
+        drop(spots);
+        drop(loans);
+    }
 }
 
 impl Ledger {

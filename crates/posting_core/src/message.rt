@@ -6,7 +6,6 @@ use codes_core::{Day, LoanCode, Name, NoMemory, PlaceCode, ThingCode};
 use std::alloc::Global;
 
 /// A message of a station.
-#[derive(Drop)]
 pub enum Message {
     /// The thing is put straight at the place, on this day.
     Move {
@@ -62,6 +61,51 @@ pub enum Message {
         loan: LoanCode,
         last: Day,
     },
+}
+
+/// Written out, so that whoever drops a message calls it: a derived drop would stand whole at each of their ways out.
+impl Drop for Message {
+    fn drop(self) {
+        match self {
+            Message::Agree {
+                loan: _,
+                partner: _,
+                objects,
+                first: _,
+                last: _,
+            } => drop(objects),
+            Message::Authorise { loan: _, name } => drop(name),
+            Message::SignOff { name } => drop(name),
+            Message::Move {
+                thing: _,
+                place: _,
+                day: _,
+            } => {}
+            Message::Pack {
+                thing: _,
+                container: _,
+                day: _,
+            } => {}
+            Message::Exit {
+                thing: _,
+                loan: _,
+                day: _,
+            } => {}
+            Message::Return {
+                thing: _,
+                loan: _,
+                place: _,
+                day: _,
+            } => {}
+            Message::Receive {
+                thing: _,
+                loan: _,
+                place: _,
+                day: _,
+            } => {}
+            Message::Extend { loan: _, last: _ } => {}
+        }
+    }
 }
 
 impl Message {
