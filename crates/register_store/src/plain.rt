@@ -1,5 +1,5 @@
 //! A register in memory.
-ghost use Rattle.std.specs.Prelude.{◌≡◌, ◌≢◌, ◌&&◌, [], ℕ, true, false, map, reverse, All, MatchOption, IfOk, IfErr, string_bytes};
+ghost use Rattle.std.specs.Prelude.{◌≡◌, ◌≢◌, ◌&&◌, ◌∷◌, ◌++◌, [], ℕ, true, false, map, reverse, All, MatchOption, IfOk, IfErr, OnOk, OnErr, string_bytes};
 ghost use Rattle.std.specs.Bool.{Decides};
 ghost use Rattle.std.specs.List.Sorted.{IsPermutation, IsNonDecreasingBy};
 ghost use Rattle.register_store.specs.StoredRows.{ArePostings};
@@ -11,7 +11,7 @@ use crate::loan_rows::{LineKey, put_lines, put_term};
 use crate::rows::{KeptPosting, entry_of, is_same, row_of};
 use crate::same_rows::{has_all, has_rows};
 use crate::{Register, StoreFault};
-use codes_core::{Day, LoanCode};
+use codes_core::{Day, LoanCode, NoMemory};
 use indexmap::IndexMap;
 use nest_core::Setup;
 use posting_core::{Changes, Entry, Ledger, LineStage, NewSpot};
@@ -107,13 +107,12 @@ impl Register for PlainRegister {
     fn post(&mut self, alloc: Global, entry: &Entry, changes: &Changes) -> Result<(), StoreFault> {
         let row = row_of(alloc, changes.entry, entry)?;
         let lines = changes.lines.as_slice();
-        self.postings.reserve(1)?;
         self.lines.reserve(lines.len())?;
         self.terms.reserve(1)?;
-        self.spots.extend_from_slice(changes.spots.as_slice())?;
+        let spots = changes.spots.as_slice();
+        add_posting(&mut self.postings, &mut self.spots, row, spots)?;
         put_lines(&mut self.lines, lines);
         put_term(&mut self.terms, entry);
-        self.postings.push(row).unwrap();
         Ok(())
     }
 
@@ -127,6 +126,23 @@ impl Register for PlainRegister {
         let same_terms = has_all(&self.terms, &terms);
         Ok(are_all(same_spots, same_lines, same_terms))
     }
+}
+
+/// Adds the row of an entry and its spots, or, where memory is refused, neither.
+fn add_posting(
+    postings: &mut Vec<KeptPosting>,
+    spots: &mut Vec<NewSpot>,
+    row: KeptPosting,
+    more: &[NewSpot],
+) -> Result<(), NoMemory>
+    ensures row { OnOk result (postings.new.items ≡ postings.old.items ++ row ∷ []) }
+    ensures spots { OnOk result (spots.new.items ≡ spots.old.items ++ more.now) }
+    ensures failed { OnErr result ((postings.new.items ≡ postings.old.items) × (spots.new.items ≡ spots.old.items)) }
+{
+    postings.reserve(1)?;
+    spots.extend_from_slice(more)?;
+    postings.push(row).unwrap();
+    Ok(())
 }
 
 /// Whether all three are the same.
