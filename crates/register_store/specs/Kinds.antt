@@ -127,8 +127,12 @@ extend_row = record {
   message = λ d. Extend (text_at d Loan) (day_at d Last);
 }
 
+-- the kinds that name a loan
+abbrev pub loan_kinds : List Row
+loan_kinds = agree_row ∷ authorise_row ∷ exit_row ∷ return_row ∷ receive_row ∷ extend_row ∷ []
+
 abbrev pub kinds : List Row
-kinds = move_row ∷ pack_row ∷ agree_row ∷ authorise_row ∷ exit_row ∷ return_row ∷ receive_row ∷ sign_off_row ∷ extend_row ∷ []
+kinds = move_row ∷ pack_row ∷ sign_off_row ∷ loan_kinds
 
 abbrev pub kind_named : List Row → List ℕ → Option Row
 kind_named [] name = None

@@ -1,7 +1,7 @@
 //! Messages of loans read from JSON.
 ghost use Rattle.std.specs.Prelude.{◌≡◌, ◌≢◌, Ok, Err, MatchResult};
 ghost use Rattle.serde_json.specs.View.{view};
-ghost use Rattle.register_store.specs.Kinds.{of_row, agree_row, authorise_row, exit_row, return_row, receive_row, extend_row};
+ghost use Rattle.register_store.specs.Kinds.{kind_named, loan_kinds, of_named, of_row, agree_row, authorise_row, exit_row, return_row, receive_row, extend_row};
 
 use crate::field::{day_at, loan_at, name_at, place_at, thing_at};
 use crate::object_list::objects_at;
@@ -10,7 +10,29 @@ use posting_core::Message;
 use serde_json::Value;
 use std::alloc::Global;
 
-pub(crate) fn agree_of(alloc: Global, object: &Value) -> Result<Message, ReadFault>
+/// The message of a loan that an object of this kind spells, else its first fault; BadKind where no loan has messages of
+/// this kind. NoMemory may stand in place of any answer.
+pub(crate) fn loan_message_of(
+    alloc: Global,
+    kind: &str,
+    object: &Value,
+) -> Result<Message, ReadFault>
+    ensures exact { MatchResult result
+        (λ message. of_named (view object.now) (kind_named loan_kinds kind.now) ≡ Ok message)
+        (λ fault. fault ≢ ReadFault.NoMemory → of_named (view object.now) (kind_named loan_kinds kind.now) ≡ Err fault) }
+{
+    match kind {
+        "agree" => agree_of(alloc, object),
+        "authorise" => authorise_of(alloc, object),
+        "exit" => exit_of(object),
+        "return" => return_of(object),
+        "receive" => receive_of(object),
+        "extend" => extend_of(object),
+        _ => Err(ReadFault::BadKind),
+    }
+}
+
+fn agree_of(alloc: Global, object: &Value) -> Result<Message, ReadFault>
     ensures exact { MatchResult result
         (λ message. of_row (view object.now) agree_row ≡ Ok message)
         (λ fault. fault ≢ ReadFault.NoMemory → of_row (view object.now) agree_row ≡ Err fault) }
@@ -29,7 +51,7 @@ pub(crate) fn agree_of(alloc: Global, object: &Value) -> Result<Message, ReadFau
     })
 }
 
-pub(crate) fn authorise_of(alloc: Global, object: &Value) -> Result<Message, ReadFault>
+fn authorise_of(alloc: Global, object: &Value) -> Result<Message, ReadFault>
     ensures exact { MatchResult result
         (λ message. of_row (view object.now) authorise_row ≡ Ok message)
         (λ fault. fault ≢ ReadFault.NoMemory → of_row (view object.now) authorise_row ≡ Err fault) }
@@ -39,7 +61,7 @@ pub(crate) fn authorise_of(alloc: Global, object: &Value) -> Result<Message, Rea
     Ok(Message::Authorise { loan, name })
 }
 
-pub(crate) fn exit_of(object: &Value) -> Result<Message, ReadFault>
+fn exit_of(object: &Value) -> Result<Message, ReadFault>
     ensures exact { MatchResult result
         (λ message. of_row (view object.now) exit_row ≡ Ok message)
         (λ fault. of_row (view object.now) exit_row ≡ Err fault) }
@@ -50,7 +72,7 @@ pub(crate) fn exit_of(object: &Value) -> Result<Message, ReadFault>
     Ok(Message::Exit { thing, loan, day })
 }
 
-pub(crate) fn return_of(object: &Value) -> Result<Message, ReadFault>
+fn return_of(object: &Value) -> Result<Message, ReadFault>
     ensures exact { MatchResult result
         (λ message. of_row (view object.now) return_row ≡ Ok message)
         (λ fault. of_row (view object.now) return_row ≡ Err fault) }
@@ -67,7 +89,7 @@ pub(crate) fn return_of(object: &Value) -> Result<Message, ReadFault>
     })
 }
 
-pub(crate) fn receive_of(object: &Value) -> Result<Message, ReadFault>
+fn receive_of(object: &Value) -> Result<Message, ReadFault>
     ensures exact { MatchResult result
         (λ message. of_row (view object.now) receive_row ≡ Ok message)
         (λ fault. of_row (view object.now) receive_row ≡ Err fault) }
@@ -84,7 +106,7 @@ pub(crate) fn receive_of(object: &Value) -> Result<Message, ReadFault>
     })
 }
 
-pub(crate) fn extend_of(object: &Value) -> Result<Message, ReadFault>
+fn extend_of(object: &Value) -> Result<Message, ReadFault>
     ensures exact { MatchResult result
         (λ message. of_row (view object.now) extend_row ≡ Ok message)
         (λ fault. of_row (view object.now) extend_row ≡ Err fault) }

@@ -4,7 +4,7 @@ ghost use Rattle.serde_json.specs.View.{view};
 ghost use Rattle.register_store.specs.Kinds.{of_row, move_row, pack_row, sign_off_row, of_json, of_bytes};
 
 use crate::field::{day_at, name_at, place_at, thing_at, value_at};
-use crate::loan_reader::{agree_of, authorise_of, exit_of, extend_of, receive_of, return_of};
+use crate::loan_reader::loan_message_of;
 use crate::{Key, ReadFault};
 use posting_core::Message;
 use serde_json::Value;
@@ -30,17 +30,14 @@ pub fn message_of(alloc: Global, value: &Value) -> Result<Message, ReadFault>
     if !value.is_object() {
         return Err(ReadFault::NotJson);
     }
-    match value_at(value, Key::Kind)?.as_str() {
-        Some("move") => move_of(value),
-        Some("pack") => pack_of(value),
-        Some("agree") => agree_of(alloc, value),
-        Some("authorise") => authorise_of(alloc, value),
-        Some("exit") => exit_of(value),
-        Some("return") => return_of(value),
-        Some("receive") => receive_of(value),
-        Some("signoff") => sign_off_of(alloc, value),
-        Some("extend") => extend_of(value),
-        _ => Err(ReadFault::BadKind),
+    let Some(kind) = value_at(value, Key::Kind)?.as_str() else {
+        return Err(ReadFault::BadKind);
+    };
+    match kind {
+        "move" => move_of(value),
+        "pack" => pack_of(value),
+        "signoff" => sign_off_of(alloc, value),
+        _ => loan_message_of(alloc, kind, value),
     }
 }
 
