@@ -22,7 +22,6 @@ use std::marker::Model;
 pub const NEW_DEPTH: u32 = 12;
 
 /// A register that keeps its rows in memory, and loses them when it is dropped. It never answers Store or OtherVersion.
-#[derive(Drop)]
 pub struct PlainRegister {
     /// The setup's rows, once it is bound.
     setup: Option<Vec<String>>,
@@ -53,6 +52,26 @@ impl Model for PlainRegister {
       bound = r.bound;
       stations = r.stations;
     } };
+}
+
+/// Written out, so that whoever drops a register calls it: a derived drop would stand whole at each of their ways out.
+impl Drop for PlainRegister {
+    fn drop(self) {
+        let PlainRegister {
+            setup,
+            postings,
+            spots,
+            lines,
+            terms,
+            bound: _,
+            stations: _,
+        } = self;
+        drop(setup);
+        drop(postings);
+        drop(spots);
+        drop(lines);
+        drop(terms);
+    }
 }
 
 impl PlainRegister {
