@@ -5,10 +5,10 @@ ghost use Rattle.register_store.specs.Kinds.{of_json};
 ghost use Rattle.register_store.specs.MessageText.{IsJson};
 
 use crate::Key;
-use crate::member::{day_text, put_text, put_things};
+use crate::member::{object_of_kind, put_day, put_text, put_things};
 use codes_core::{Day, LoanCode, Name, NoMemory, PlaceCode, ThingCode};
 use posting_core::{Message, Objects};
-use serde_json::{Map, Value};
+use serde_json::Value;
 use std::alloc::Global;
 
 pub(crate) fn agree_object(
@@ -22,23 +22,12 @@ pub(crate) fn agree_object(
     ensures object { IfOk result (λ value. IsJson (Message.Agree loan.now partner.now objects.now first last) (view value)) }
     ensures reads_back { IfOk result (λ value. of_json (view value) ≡ Ok (Message.Agree loan.now partner.now objects.now first last)) }
 {
-    let mut object = Map::new(alloc);
-    put_text(alloc, &mut object, Key::Kind, "agree")?;
+    let mut object = object_of_kind(alloc, "agree")?;
     put_text(alloc, &mut object, Key::Loan, loan.as_str())?;
     put_text(alloc, &mut object, Key::Partner, partner.as_str())?;
     put_things(alloc, &mut object, Key::Objects, objects)?;
-    put_text(
-        alloc,
-        &mut object,
-        Key::First,
-        day_text(alloc, first)?.as_str(),
-    )?;
-    put_text(
-        alloc,
-        &mut object,
-        Key::Last,
-        day_text(alloc, last)?.as_str(),
-    )?;
+    put_day(alloc, &mut object, Key::First, first)?;
+    put_day(alloc, &mut object, Key::Last, last)?;
     Ok(Value::Object(object))
 }
 
@@ -50,8 +39,7 @@ pub(crate) fn authorise_object(
     ensures object { IfOk result (λ value. IsJson (Message.Authorise loan.now name.now) (view value)) }
     ensures reads_back { IfOk result (λ value. of_json (view value) ≡ Ok (Message.Authorise loan.now name.now)) }
 {
-    let mut object = Map::new(alloc);
-    put_text(alloc, &mut object, Key::Kind, "authorise")?;
+    let mut object = object_of_kind(alloc, "authorise")?;
     put_text(alloc, &mut object, Key::Loan, loan.as_str())?;
     put_text(alloc, &mut object, Key::By, name.as_str())?;
     Ok(Value::Object(object))
@@ -66,11 +54,10 @@ pub(crate) fn exit_object(
     ensures object { IfOk result (λ value. IsJson (Message.Exit thing.now loan.now day) (view value)) }
     ensures reads_back { IfOk result (λ value. of_json (view value) ≡ Ok (Message.Exit thing.now loan.now day)) }
 {
-    let mut object = Map::new(alloc);
-    put_text(alloc, &mut object, Key::Kind, "exit")?;
+    let mut object = object_of_kind(alloc, "exit")?;
     put_text(alloc, &mut object, Key::Thing, thing.as_str())?;
     put_text(alloc, &mut object, Key::Loan, loan.as_str())?;
-    put_text(alloc, &mut object, Key::Day, day_text(alloc, day)?.as_str())?;
+    put_day(alloc, &mut object, Key::Day, day)?;
     Ok(Value::Object(object))
 }
 
@@ -84,12 +71,11 @@ pub(crate) fn return_object(
     ensures object { IfOk result (λ value. IsJson (Message.Return thing.now loan.now place.now day) (view value)) }
     ensures reads_back { IfOk result (λ value. of_json (view value) ≡ Ok (Message.Return thing.now loan.now place.now day)) }
 {
-    let mut object = Map::new(alloc);
-    put_text(alloc, &mut object, Key::Kind, "return")?;
+    let mut object = object_of_kind(alloc, "return")?;
     put_text(alloc, &mut object, Key::Thing, thing.as_str())?;
     put_text(alloc, &mut object, Key::Loan, loan.as_str())?;
     put_text(alloc, &mut object, Key::Place, place.as_str())?;
-    put_text(alloc, &mut object, Key::Day, day_text(alloc, day)?.as_str())?;
+    put_day(alloc, &mut object, Key::Day, day)?;
     Ok(Value::Object(object))
 }
 
@@ -103,12 +89,11 @@ pub(crate) fn receive_object(
     ensures object { IfOk result (λ value. IsJson (Message.Receive thing.now loan.now place.now day) (view value)) }
     ensures reads_back { IfOk result (λ value. of_json (view value) ≡ Ok (Message.Receive thing.now loan.now place.now day)) }
 {
-    let mut object = Map::new(alloc);
-    put_text(alloc, &mut object, Key::Kind, "receive")?;
+    let mut object = object_of_kind(alloc, "receive")?;
     put_text(alloc, &mut object, Key::Thing, thing.as_str())?;
     put_text(alloc, &mut object, Key::Loan, loan.as_str())?;
     put_text(alloc, &mut object, Key::Place, place.as_str())?;
-    put_text(alloc, &mut object, Key::Day, day_text(alloc, day)?.as_str())?;
+    put_day(alloc, &mut object, Key::Day, day)?;
     Ok(Value::Object(object))
 }
 
@@ -116,14 +101,8 @@ pub(crate) fn extend_object(alloc: Global, loan: &LoanCode, last: Day) -> Result
     ensures object { IfOk result (λ value. IsJson (Message.Extend loan.now last) (view value)) }
     ensures reads_back { IfOk result (λ value. of_json (view value) ≡ Ok (Message.Extend loan.now last)) }
 {
-    let mut object = Map::new(alloc);
-    put_text(alloc, &mut object, Key::Kind, "extend")?;
+    let mut object = object_of_kind(alloc, "extend")?;
     put_text(alloc, &mut object, Key::Loan, loan.as_str())?;
-    put_text(
-        alloc,
-        &mut object,
-        Key::Last,
-        day_text(alloc, last)?.as_str(),
-    )?;
+    put_day(alloc, &mut object, Key::Last, last)?;
     Ok(Value::Object(object))
 }

@@ -1,10 +1,11 @@
 //! The members of an object, and their values.
-ghost use Rattle.std.specs.Prelude.{◌≡◌, IfOk, OnOk, map, string_bytes, true};
+ghost use Rattle.std.specs.Prelude.{◌≡◌, List, ℕ, IfOk, OnOk, map, true};
 ghost use Rattle.std.specs.List.{list_all};
-ghost use Rattle.serde_json.specs.Data.{string, array, put};
+ghost use Rattle.serde_json.specs.Data.{string, array, put, no_members};
 ghost use Rattle.serde_json.specs.View.{items_of, items_view, members_view};
 ghost use Rattle.codes_core.specs.Day.{IsOnlySpelling};
 ghost use Rattle.register_store.specs.Spelling.{key_name, is_thing};
+ghost use Rattle.register_store.specs.declared.key.Key.{Key};
 ghost use Rattle.register_store.specs.Kinds.{are_strings};
 
 use crate::Key;
@@ -12,6 +13,15 @@ use codes_core::{Day, NoMemory, ThingCode};
 use posting_core::Objects;
 use serde_json::{Map, Value};
 use std::alloc::Global;
+
+/// An object that has its kind.
+pub(crate) fn object_of_kind(alloc: Global, kind: &str) -> Result<Map<String, Value>, NoMemory>
+    ensures { IfOk result (λ object. members_view object.entries ≡ put (key_name Key.Kind) (string kind.now) no_members) }
+{
+    let mut object = Map::new(alloc);
+    put_text(alloc, &mut object, Key::Kind, kind)?;
+    Ok(object)
+}
 
 /// Puts a string into an object.
 pub(crate) fn put_text(
@@ -56,11 +66,17 @@ fn things_array(alloc: Global, things: &[ThingCode]) -> Result<Vec<Value>, NoMem
     Ok(items)
 }
 
-/// The one text that spells a day.
-pub(crate) fn day_text(alloc: Global, day: Day) -> Result<String, NoMemory>
-    ensures { IfOk result (λ text. IsOnlySpelling (string_bytes text) day) }
+/// Puts a day into an object, as the one text that spells it.
+pub(crate) fn put_day(
+    alloc: Global,
+    object: &mut Map<String, Value>,
+    key: Key,
+    day: Day,
+) -> Result<(), NoMemory>
+    ensures { OnOk result ((text : List ℕ) × IsOnlySpelling text day
+        × (members_view object.new.entries ≡ put (key_name key) (string text) (members_view object.old.entries))) }
 {
     let mut text = String::new(alloc);
     day.write(alloc, &mut text)?;
-    Ok(text)
+    put_text(alloc, object, key, text.as_str())
 }

@@ -8,10 +8,10 @@ use crate::Key;
 use crate::loan_writer::{
     agree_object, authorise_object, exit_object, extend_object, receive_object, return_object,
 };
-use crate::member::{day_text, put_text};
+use crate::member::{object_of_kind, put_day, put_text};
 use codes_core::{Day, Name, NoMemory, PlaceCode, ThingCode};
 use posting_core::Message;
-use serde_json::{Map, Value};
+use serde_json::Value;
 use std::alloc::Global;
 
 /// The text of a message: compact JSON, its keys in ascending order.
@@ -70,11 +70,10 @@ fn move_object(
     ensures object { IfOk result (λ value. IsJson (Message.Move thing.now place.now day) (view value)) }
     ensures reads_back { IfOk result (λ value. of_json (view value) ≡ Ok (Message.Move thing.now place.now day)) }
 {
-    let mut object = Map::new(alloc);
-    put_text(alloc, &mut object, Key::Kind, "move")?;
+    let mut object = object_of_kind(alloc, "move")?;
     put_text(alloc, &mut object, Key::Thing, thing.as_str())?;
     put_text(alloc, &mut object, Key::Place, place.as_str())?;
-    put_text(alloc, &mut object, Key::Day, day_text(alloc, day)?.as_str())?;
+    put_day(alloc, &mut object, Key::Day, day)?;
     Ok(Value::Object(object))
 }
 
@@ -87,11 +86,10 @@ fn pack_object(
     ensures object { IfOk result (λ value. IsJson (Message.Pack thing.now container.now day) (view value)) }
     ensures reads_back { IfOk result (λ value. of_json (view value) ≡ Ok (Message.Pack thing.now container.now day)) }
 {
-    let mut object = Map::new(alloc);
-    put_text(alloc, &mut object, Key::Kind, "pack")?;
+    let mut object = object_of_kind(alloc, "pack")?;
     put_text(alloc, &mut object, Key::Thing, thing.as_str())?;
     put_text(alloc, &mut object, Key::Container, container.as_str())?;
-    put_text(alloc, &mut object, Key::Day, day_text(alloc, day)?.as_str())?;
+    put_day(alloc, &mut object, Key::Day, day)?;
     Ok(Value::Object(object))
 }
 
@@ -99,8 +97,7 @@ fn sign_off_object(alloc: Global, name: &Name) -> Result<Value, NoMemory>
     ensures object { IfOk result (λ value. IsJson (Message.SignOff name.now) (view value)) }
     ensures reads_back { IfOk result (λ value. of_json (view value) ≡ Ok (Message.SignOff name.now)) }
 {
-    let mut object = Map::new(alloc);
-    put_text(alloc, &mut object, Key::Kind, "signoff")?;
+    let mut object = object_of_kind(alloc, "signoff")?;
     put_text(alloc, &mut object, Key::By, name.as_str())?;
     Ok(Value::Object(object))
 }
