@@ -48,10 +48,7 @@ fn push_spots(rows: &mut Vec<NewSpot>, thing: ThingNo, spots: &[Spot]) -> Result
 }
 
 /// The lines of all loans, each at its stage by looking back, in the order of the agreements. The fault: NoMemory.
-pub fn lines_of(
-    alloc: Global,
-    ledger: &Ledger,
-) -> Result<Vec<(LineKey, LineStage)>, NoMemory>
+pub fn lines_of(alloc: Global, ledger: &Ledger) -> Result<Vec<(LineKey, LineStage)>, NoMemory>
     ensures { IfOk result (λ rows. held_lines rows.items ≡ lines_by_loan ledger.now.museum ledger.now.posted) }
 {
     ledger.is_lawful();

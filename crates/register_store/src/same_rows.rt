@@ -25,10 +25,7 @@ pub fn has_rows<T: Ord + Drop>(rows: &mut Vec<T>, wanted: &[T]) -> bool
 
 /// Whether the kept pairs are the wanted ones in some order. No key is wanted twice, and keys and values that are equal are
 /// the same.
-pub fn has_all<K: Eq + Hash + Copy, V: Eq + Copy>(
-    kept: &IndexMap<K, V>,
-    wanted: &[(K, V)],
-) -> bool
+pub fn has_all<K: Eq + Hash + Copy, V: Eq + Copy>(kept: &IndexMap<K, V>, wanted: &[(K, V)]) -> bool
     requires distinct { IsDistinct K.eq (keys_of wanted.now) }
     requires keys { (a b : _) → Decides (K.eq a b) (a ≡ b) }
     requires values { (a b : _) → Decides (V.eq a b) (a ≡ b) }
