@@ -1,6 +1,5 @@
 -- A store that has a lawful list can be opened.
-use Rattle.std.proofs.Common.{◌≡◌, inl, inr, Bool, ℕ, ◌+◌, ◌≤◌, true, false, List, [], ◌∷◌, ◌++◌, length, refl, sym, subst, ap, ◌∙◌, arith}
-use Rattle.std.specs.Prelude.{All}
+use Rattle.std.proofs.Common.{◌≡◌, inl, inr, Bool, ℕ, ◌+◌, true, false, List, [], ◌∷◌, ◌++◌, length, refl, sym, subst, ap, ◌∙◌, arith}
 use Rattle.std.proofs.lemmas.Bool.{false≢true}
 use Rattle.std.specs.List.{AllByRecursion}
 use Rattle.std.specs.List.Sorted.{IsPermutation}
@@ -14,7 +13,7 @@ use Rattle.posting_core.specs.Lawful.{Follows, IsLawful}
 use Rattle.register_store.specs.declared.store_fault.StoreFault.{StoreFault}
 use Rattle.register_store.specs.declared.store_fault.StoreFault.TheVariants.{NoMemory, Store, OtherSetup, Damaged, OtherVersion}
 use Rattle.register_store.specs.StoredRows.{Content, MetaRow, HasRows, IsStoreOf, rows_of_meta}
-use Rattle.register_store.specs.Registers.{is_failure, is_new, bound_by, bound_to, has_other_version, IsOfStation, IsFirstWrong}
+use Rattle.register_store.specs.Registers.{is_failure, is_new, bound_by, bound_to, has_other_version, IsOfStation}
 use Rattle.register_store.specs.Holdings.{Holding, Comes}
 use Rattle.register_store.proofs.HoldingLemmas.{has_more}
 use Rattle.register_store.proofs.OneList.{one_list}

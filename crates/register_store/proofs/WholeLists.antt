@@ -1,5 +1,5 @@
 -- A store that has a list of entries has no wrong row.
-use Rattle.std.proofs.Common.{◌≡◌, ℕ, ◌+◌, ◌<◌, ◌<ℤ◌, pos, List, [], ◌∷◌, ◌++◌, length, reverse, refl, sym, subst, ap, ◌∙◌, arith, Ordering, Less, All}
+use Rattle.std.proofs.Common.{◌≡◌, ℕ, ◌+◌, ◌<◌, ◌<ℤ◌, pos, List, [], ◌∷◌, ◌++◌, length, reverse, sym, subst, ap, ◌∙◌, arith, Ordering, Less, All}
 use Rattle.std.specs.List.{AllByRecursion}
 use Rattle.std.specs.Ordering.{int_cmp}
 use Rattle.std.specs.Cmp.{IsTotalOrder}
