@@ -27,13 +27,16 @@ class Impl:
 
 
 class Function:
-    """Lines first to last of a file, and the path by which the prover names it."""
+    """Lines first to last of a file, of which those after `body` are its body, and the path by which the prover names it."""
 
     def __init__(self, crate, file, lines, at, inside, module):
         indent, self.name = HEAD.match(lines[at]).groups()
         self.file, self.impl = file, inside
         ends = (indent + "}", indent + "{}")
         self.last = next((it for it in range(at, len(lines)) if lines[it] in ends), at)
+        # the brace that opens its body ends a line that stands as far in
+        opens = re.compile(indent + r"(\S.*)?{$")
+        self.body = next((it for it in range(at, self.last) if opens.match(lines[it])), self.last)
         while lines[at - 1].strip().startswith("#["):
             at -= 1
         self.first = at
