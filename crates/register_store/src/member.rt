@@ -16,7 +16,8 @@ use std::alloc::Global;
 
 /// An object that has its kind.
 pub(crate) fn object_of_kind(alloc: Global, kind: &str) -> Result<Map<String, Value>, NoMemory>
-    ensures { IfOk result (λ object. members_view object.entries ≡ put (key_name Key.Kind) (string kind.now) no_members) }
+    ensures { IfOk result (λ object. members_view object.entries
+        ≡ put (key_name Key.Kind) (string kind.now) no_members) }
 {
     let mut object = Map::new(alloc);
     put_text(alloc, &mut object, Key::Kind, kind)?;
