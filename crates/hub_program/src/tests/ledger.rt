@@ -51,10 +51,10 @@ pub(crate) fn tell_all(
 
 /// An object of a loan, and the stage that its line has come to. Things 2 and 3 are 2001.4.1 and 2001.4.2, thing 5 is
 /// L1999.7.
-type Line = (ThingNo, LineStage);
+pub(crate) type Line = (ThingNo, LineStage);
 
 /// A loan's code, how far it has come, its last day, and its lines.
-type Loan = (&'static str, LoanState, &'static str, &'static [Line]);
+pub(crate) type Loan = (&'static str, LoanState, &'static str, &'static [Line]);
 
 /// Whether these are the objects of a loan, at these stages.
 fn has_lines(ledger: &Ledger, loan: &LoanCode, objects: &[ThingNo], want: &[Line]) -> bool {
@@ -86,7 +86,7 @@ fn has_loan(ledger: &Ledger, i: usize, want: &Loan) -> Result<bool, Fail>
 }
 
 /// Whether these are the loans of the ledger.
-fn has_loans(ledger: &Ledger, want: &[Loan]) -> Result<bool, Fail> {
+pub(crate) fn has_loans(ledger: &Ledger, want: &[Loan]) -> Result<bool, Fail> {
     if ledger.loan_count() != want.len() {
         return Ok(false);
     }
