@@ -22,7 +22,8 @@ class Impl:
         trait, _, of = said.rpartition(" for ")
         bare = lambda text: re.sub(r"<.*", "", text).split("::")[-1].strip()
         given = re.sub(r"<.*", "", trait.partition("<")[2].strip().rstrip(">")).split("::")
-        self.name = bare(of) + bare(trait) + "".join(it[:1].upper() + it[1:] for it in given)
+        # a drop is the type's own
+        self.name = bare(of) + bare(trait).removesuffix("Drop") + "".join(it[:1].upper() + it[1:] for it in given)
         self.is_of_trait = bool(trait)
 
 
