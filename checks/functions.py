@@ -1,6 +1,7 @@
 """Where the functions of a crate stand in its text, which `rt fmt` has laid out: a function ends at the first brace that
 stands as far in as its head."""
 import glob
+import itertools
 import os
 import re
 
@@ -16,8 +17,10 @@ def text_of(path):
 class Impl:
     """The block of a type's or a trait's methods; its name is the prover's: Type, TypeTrait or TypeFromOther."""
 
-    def __init__(self, head):
-        self.head = head.split("\n")[0]
+    def __init__(self, lines):
+        head = "\n".join(lines[:3])
+        # with what it brings into its clauses
+        self.head = "\n".join([lines[0], *itertools.takewhile(lambda it: it.startswith("    ghost use "), lines[1:])])
         said = re.sub(r"^impl\s*(<(?:[^<>]|<[^<>]*>)*>)?\s*", "", head.split("{")[0]).split(" where ")[0]
         trait, _, of = said.rpartition(" for ")
         bare = lambda text: re.sub(r"<.*", "", text).split("::")[-1].strip()
@@ -64,7 +67,7 @@ def functions(crate):
         inside, lines = None, texts[file].split("\n")
         for at, line in enumerate(lines):
             if re.match(r"impl\b", line):
-                inside = Impl("\n".join(lines[at : at + 3]))
+                inside = Impl(lines[at:])
             elif line.startswith("}"):
                 inside = None
             head = HEAD.match(line)
