@@ -14,6 +14,7 @@ pub mod ObjectNumbers
 pub mod Owners
 pub mod Placed
 pub mod Posted
+pub mod Refused
 pub mod Rooms
 pub mod Spotted
 pub mod Turns

@@ -11,7 +11,7 @@ use Rattle.posting_core.specs.declared.stage.LineStage.TheVariants.{Away, Back, 
 use Rattle.posting_core.specs.Messages.{place_no}
 use Rattle.posting_core.specs.VerdictNames.{is_applied}
 use Rattle.posting_core.specs.Agreements.{agreement, is_authorised, last_day}
-use Rattle.posting_core.specs.Book.{Book, place_in, line_in}
+use Rattle.posting_core.specs.Book.{Book, place_in, chain_in, spots_in, loans_in, objects_of_loan, line_in, state_in, last_day_in}
 
 -- under no loan is the object's line at the stage
 abbrev pub IsUnderNone : Book → LineStage → ℕ → Type 0
@@ -90,3 +90,14 @@ IsInTerm P (Return x loan p day) = Unit {0}
 IsInTerm P (Receive x loan p day) = IsWithin P loan day
 IsInTerm P (SignOff name) = Unit {0}
 IsInTerm P (Extend loan last) = Unit {0}
+
+-- two ledgers answer alike: of every thing and of every loan they tell the same
+pub record AnswerAlike (A B : Book) : Type 0 where
+  pub places : (x : ℕ) → place_in A x ≡ place_in B x
+  pub chains : (x : ℕ) → chain_in A x ≡ chain_in B x
+  pub spots : (x : ℕ) → spots_in A x ≡ spots_in B x
+  pub loans : loans_in A ≡ loans_in B
+  pub objects : (loan : List ℕ) → objects_of_loan A loan ≡ objects_of_loan B loan
+  pub lines : (loan : List ℕ) (o : ℕ) → line_in A loan o ≡ line_in B loan o
+  pub states : (loan : List ℕ) → state_in A loan ≡ state_in B loan
+  pub days : (loan : List ℕ) → last_day_in A loan ≡ last_day_in B loan

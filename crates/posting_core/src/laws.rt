@@ -1,11 +1,13 @@
 //! Laws of what a ledger has posted, each on a function that does nothing.
-ghost use Rattle.std.specs.Prelude.{◌≡◌, ◌≢◌, ◌⊎◌, ℕ, List, [], length, None, Some, true, IfSome};
+ghost use Rattle.std.specs.Prelude.{◌≡◌, ◌≢◌, ◌⊎◌, ◌∷◌, ℕ, List, [], length, None, Some, true, false, IfSome};
 ghost use Rattle.std.specs.List.{last_or, AllAdjacentBelow};
 ghost use Rattle.std.specs.Option.{option_map};
 ghost use Rattle.nest_core.specs.Museum.{is_own, is_borrowed};
 ghost use Rattle.posting_core.specs.declared.stage.LoanState.TheVariants.{Closed};
-ghost use Rattle.posting_core.specs.Book.{place_in, spots_in, line_in, state_in};
-ghost use Rattle.posting_core.specs.Accountability.{IsHome, IsLent, IsWithLender, IsGuest, IsOver, AtEachApplied, IsAuthorised, IsInTerm};
+ghost use Rattle.posting_core.specs.declared.entry.Entry.{Entry};
+ghost use Rattle.posting_core.specs.VerdictNames.{is_applied};
+ghost use Rattle.posting_core.specs.Book.{Book, place_in, spots_in, line_in, state_in};
+ghost use Rattle.posting_core.specs.Accountability.{IsHome, IsLent, IsWithLender, IsGuest, IsOver, AtEachApplied, IsAuthorised, IsInTerm, AnswerAlike};
 
 use crate::Ledger;
 
@@ -55,3 +57,9 @@ pub fn crossings_are_authorised(ledger: &Ledger)
 {
     ledger.is_lawful();
 }
+
+/// A message that the rules refuse changes no answer: a ledger that posts it tells the same of every thing and of every
+/// loan as before: places, containers above, spots, loans, their objects, lines, states and last days.
+pub fn refused_changes_no_answer()
+    ensures { (B : Book) (e : Entry) → is_applied e.verdict ≡ false → AnswerAlike (record B { posted = e ∷ B.posted }) B }
+{}
