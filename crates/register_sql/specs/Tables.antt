@@ -1,0 +1,108 @@
+-- The six tables of a store, as the database knows them once they are made one after another.
+use Rattle.std.specs.Prelude.{true, false, [], ◌∷◌, Some, None, codes, map, List, ℕ, zero, suc, Bool, Option}
+use Rattle.sqlite.specs.Collation.TheVariants.{Binary}
+use Rattle.sqlite.specs.Kind.{Kind}
+use Rattle.sqlite.specs.Kind.TheVariants.{Integer, Text}
+use Rattle.sqlite.specs.Schema.{Schema}
+use Rattle.sqlite.specs.Table.{Table}
+use Rattle.sqlite.specs.declared.types.Value.TheVariants.{Null}
+use Rattle.sqlite_schema.specs.declared.schema.Column.{Column}
+use Rattle.sqlite_schema.specs.declared.schema.Index.{Index}
+use Rattle.sqlite_value.specs.Keys.{plain}
+
+-- a column of a STRICT table
+abbrev pub typed : List ℕ → Kind → Bool → Column
+typed name kind not_null =
+    record { name = name; kind = kind; is_strict = true; not_null = not_null; default = Null; collation = Binary }
+
+-- a table with no rule beside its columns and keys; places count from 1, 0 is the rowid
+abbrev pub table : List ℕ → ℕ → List Column → Option ℕ → List ℕ → List (List ℕ) → Table
+table name tree columns key primary uniques = record {
+  name = name;
+  tree = tree;
+  columns = columns;
+  key = key;
+  primary = primary;
+  uniques = uniques;
+  orders = map (λ _. plain) uniques;
+  checks = [];
+  references = [];
+  computed = [];
+  stamps = record { places = []; terms = []; formats = [] };
+  is_counted = false;
+}
+
+-- what the store says of itself
+abbrev pub meta : Table
+meta = table (codes "meta") 0 (typed (codes "name") Text true ∷ typed (codes "val") Integer true ∷ []) None (1 ∷ []) ((1 ∷ []) ∷ [])
+
+-- the rows of the setup
+abbrev pub setup : Table
+setup = table (codes "setup") 2 (typed (codes "id") Integer false ∷ typed (codes "txt") Text true ∷ []) (Some 0) (0 ∷ []) []
+
+abbrev pub posting_columns : List Column
+posting_columns =
+    typed (codes "id") Integer false ∷ typed (codes "station") Integer true ∷ typed (codes "n") Integer true
+    ∷ typed (codes "body") Text true ∷ typed (codes "verdict") Integer true ∷ []
+
+-- the entries
+abbrev pub posting : Table
+posting = table (codes "posting") 3 posting_columns (Some 0) (0 ∷ []) ((2 ∷ 3 ∷ []) ∷ [])
+
+abbrev pub spot_columns : List Column
+spot_columns =
+    typed (codes "thing") Integer true ∷ typed (codes "k") Integer true ∷ typed (codes "entry") Integer true
+    ∷ typed (codes "place") Integer true ∷ typed (codes "day") Integer true ∷ []
+
+-- the spots of things
+abbrev pub spot : Table
+spot = table (codes "spot") 5 spot_columns None (1 ∷ 2 ∷ []) ((1 ∷ 2 ∷ []) ∷ [])
+
+abbrev pub line_columns : List Column
+line_columns = typed (codes "loan") Text true ∷ typed (codes "object") Integer true ∷ typed (codes "stage") Integer true ∷ []
+
+-- the objects of loans
+abbrev pub line : Table
+line = table (codes "line") 7 line_columns None (1 ∷ 2 ∷ []) ((1 ∷ 2 ∷ []) ∷ [])
+
+-- the last days of loans
+abbrev pub term : Table
+term = table (codes "term") 9 (typed (codes "loan") Text true ∷ typed (codes "day") Integer true ∷ []) None (1 ∷ []) ((1 ∷ []) ∷ [])
+
+-- the index that a UNIQUE or a PRIMARY KEY has by itself
+abbrev pub automatic : List ℕ → ℕ → ℕ → List ℕ → Index
+automatic name tree over key = record { name = name; tree = tree; table = over; columns = key; order = plain; is_unique = true }
+
+abbrev pub meta_index : Index
+meta_index = automatic (codes "sqlite_autoindex_meta_1") 1 0 (1 ∷ [])
+
+abbrev pub posting_index : Index
+posting_index = automatic (codes "sqlite_autoindex_posting_1") 4 3 (2 ∷ 3 ∷ [])
+
+abbrev pub spot_index : Index
+spot_index = automatic (codes "sqlite_autoindex_spot_1") 6 5 (1 ∷ 2 ∷ [])
+
+abbrev pub line_index : Index
+line_index = automatic (codes "sqlite_autoindex_line_1") 8 7 (1 ∷ 2 ∷ [])
+
+abbrev pub term_index : Index
+term_index = automatic (codes "sqlite_autoindex_term_1") 10 9 (1 ∷ [])
+
+abbrev pub of_tables : List Table → List Index → Schema
+of_tables tables indexes = record { tables = tables; indexes = indexes; views = [] }
+
+-- the first so many of the tables, as they are made in turn; five are version 1, all six version 2
+abbrev pub prefix : ℕ → Schema
+prefix zero = of_tables [] []
+prefix (suc zero) = of_tables (meta ∷ []) (meta_index ∷ [])
+prefix (suc (suc zero)) = of_tables (meta ∷ setup ∷ []) (meta_index ∷ [])
+prefix (suc (suc (suc zero))) = of_tables (meta ∷ setup ∷ posting ∷ []) (meta_index ∷ posting_index ∷ [])
+prefix (suc (suc (suc (suc zero)))) = of_tables (meta ∷ setup ∷ posting ∷ spot ∷ []) (meta_index ∷ posting_index ∷ spot_index ∷ [])
+prefix (suc (suc (suc (suc (suc zero))))) =
+    of_tables (meta ∷ setup ∷ posting ∷ spot ∷ line ∷ []) (meta_index ∷ posting_index ∷ spot_index ∷ line_index ∷ [])
+prefix _ =
+    of_tables (meta ∷ setup ∷ posting ∷ spot ∷ line ∷ term ∷ []) (meta_index ∷ posting_index ∷ spot_index ∷ line_index ∷ term_index ∷ [])
+
+-- the schema of a whole store
+abbrev pub hub_schema : Schema
+hub_schema = prefix 6

@@ -1,0 +1,2 @@
+//! The register over SQLite.
+#![tactic(auto)]
