@@ -1,7 +1,7 @@
 //! Civil days.
-ghost use Rattle.std.specs.Prelude.{◌≡◌, true, false, ◌++◌, ◌-ℤ◌, ◌≤◌, pos, List, ℕ, None, Some, OnOk, OnErr, MatchResult, MatchOption, string_bytes};
+ghost use Rattle.std.specs.Prelude.{◌≡◌, true, false, ◌++◌, ◌-ℤ◌, ◌≤◌, ◌≤ℤ◌, pos, List, ℕ, None, Some, IfSome, IfNone, OnOk, OnErr, MatchResult, MatchOption, string_bytes};
 ghost use Rattle.jiff_core.specs.Calendar.{days_from_civil};
-ghost use Rattle.codes_core.specs.Day.{is_day_shape, is_civil, day_fault, day_number, IsOnlySpelling, date_text, two_digits};
+ghost use Rattle.codes_core.specs.Day.{is_day_shape, is_civil, day_fault, day_number, first_number, last_number, IsOnlySpelling, date_text, two_digits};
 
 use crate::digits::{are_digits, number_of};
 use crate::spelling::Spelling;
@@ -9,6 +9,12 @@ use crate::{CodeFault, NoMemory};
 use jiff_core::civil::Date;
 use std::alloc::Global;
 use std::marker::Model;
+
+/// The number of 0001-01-01.
+const FIRST: i64 = -719_162;
+
+/// The number of 9999-12-31.
+const LAST: i64 = 2_932_896;
 
 /// A civil day of the years 1 to 9999, seen as its number: 0 is 1970-01-01, and each later day is one more.
 /// Its spelling is the year in four digits, the month and the date in two, with dashes between (`2024-05-01`).
@@ -65,6 +71,26 @@ impl Day {
     {
         let date = Date::from_unix_epoch_day(self.number as i64).unwrap();
         Spelling::new(&text_of(date.year.unsigned_abs(), date.month, date.day))
+    }
+
+    /// Its number: 0 is 1970-01-01.
+    pub fn number(self) -> i32
+        ensures { result ≡ self }
+    {
+        self.number
+    }
+
+    /// The day of this number; none outside the years 1 to 9999.
+    pub fn numbered(number: i64) -> Option<Day>
+        ensures some { IfSome result (λ day. day ≡ number) }
+        ensures none { IfNone result ((first_number ≤ℤ number) × (number ≤ℤ last_number) → ⊥) }
+    {
+        if number < FIRST || number > LAST {
+            return None;
+        }
+        Some(Day {
+            number: number as i32,
+        })
     }
 
     /// How many days this day is after the other, negative where it is before it.

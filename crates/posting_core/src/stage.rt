@@ -1,4 +1,6 @@
 //! How far an object has come under a loan, and how far the loan has.
+ghost use Rattle.std.specs.Prelude.{◌≡◌, ◌≢◌, IfSome, IfNone};
+ghost use Rattle.posting_core.specs.StageNumbers.{stage_number};
 
 /// How far an object has come under a loan that lists it.
 #[derive(Clone, Copy, Debug, PartialEq, Eq, PartialOrd, Ord)]
@@ -13,6 +15,38 @@ pub enum LineStage {
     Here,
     /// It was given back, under a loan in.
     GivenBack,
+}
+
+impl LineStage {
+    ghost use Rattle.posting_core.specs.declared.stage.LineStage.{LineStage};
+
+    /// The number by which a store keeps it, from 0, which is Awaiting.
+    pub fn number(self) -> u32
+        ensures { result ≡ stage_number self }
+    {
+        match self {
+            LineStage::Awaiting => 0,
+            LineStage::Away => 1,
+            LineStage::Back => 2,
+            LineStage::Here => 3,
+            LineStage::GivenBack => 4,
+        }
+    }
+
+    /// The stage that a store keeps by this number; none above 4.
+    pub fn numbered(number: u32) -> Option<LineStage>
+        ensures some { IfSome result (λ stage. stage_number stage ≡ number) }
+        ensures none { IfNone result ((stage : LineStage) → stage_number stage ≢ number) }
+    {
+        match number {
+            0 => Some(LineStage::Awaiting),
+            1 => Some(LineStage::Away),
+            2 => Some(LineStage::Back),
+            3 => Some(LineStage::Here),
+            4 => Some(LineStage::GivenBack),
+            _ => None,
+        }
+    }
 }
 
 /// How far a loan has come.
