@@ -19,7 +19,7 @@ use Rattle.sqlite_trees.proofs.ListLemmas.{filter-map, IsPermutation-filter}
 use Rattle.sqlite_value.proofs.OrderLemmas.{value_cmp-Int, value_cmp-Text}
 use Rattle.sqlite_value.specs.Order.{value_cmp}
 use Rattle.register_sql.specs.Changes.{Removes}
-use Rattle.register_sql.specs.RawRows.{LineRow, TermRow, is_same_line, is_same_loan}
+use Rattle.register_store.specs.StoredRows.{LineRow, TermRow, is_same_line, is_same_loan}
 use Rattle.register_sql.specs.Rows.{line_cells, term_cells, Apart}
 use Rattle.register_sql.specs.Tables.{setup, line, term, hub_schema}
 use Rattle.register_sql.proofs.Apart.{filter_same}

@@ -6,7 +6,7 @@ use Rattle.sqlite.specs.State.{State, Executes}
 use Rattle.sqlite.specs.Tree.{Trees}
 use Rattle.sqlite.specs.declared.types.Value.TheVariants.{Int, Text}
 use Rattle.register_sql.specs.Changes.{Adds}
-use Rattle.register_sql.specs.RawRows.{SetupRow, MetaRow, PostingRow, SpotRow, LineRow, TermRow}
+use Rattle.register_store.specs.StoredRows.{SetupRow, MetaRow, PostingRow, SpotRow, LineRow, TermRow}
 use Rattle.register_sql.specs.Rows.{setup_cells, meta_cells, posting_cells, spot_cells, line_cells, term_cells}
 use Rattle.register_sql.specs.Tables.{meta, setup, posting, spot, line, term, hub_schema}
 use Rattle.register_sql.proofs.Added.{added, cast_int, cast_null}

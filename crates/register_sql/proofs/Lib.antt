@@ -5,3 +5,6 @@ pub mod Removed
 pub mod Inserts
 pub mod Deletes
 pub mod Posted
+pub mod Listings
+pub mod Cells
+pub mod Contents

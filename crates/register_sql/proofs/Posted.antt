@@ -11,7 +11,7 @@ use Rattle.sqlite.specs.declared.error.Error.{Error}
 use Rattle.sqlite.specs.declared.types.Value.{Value}
 use Rattle.register_sql.specs.Changes.{Adds, Spares}
 use Rattle.register_sql.specs.Posting.{IsWhole, Within, Turns, Makes, with_posting, with_spot, more_line, without_line, more_term, without_term}
-use Rattle.register_sql.specs.RawRows.{Content, PostingRow, SpotRow, LineRow, TermRow}
+use Rattle.register_store.specs.StoredRows.{Content, PostingRow, SpotRow, LineRow, TermRow}
 use Rattle.register_sql.specs.Rows.{AreRows, Apart, posting_cells, spot_cells, line_cells, term_cells, HasNumber}
 use Rattle.register_sql.proofs.Apart.{apart_moved, apart_more, apart_kept}
 use Rattle.register_sql.proofs.Deletes.{removes_line, removes_term, fewer_lines, fewer_terms, line_key_params, term_key_params}
@@ -101,7 +101,7 @@ module _ (text : List ℕ) (given params : Row) (change : Content → Content) (
   makes (Err e) h = tt
   makes (Ok count) h =
       let done = step count (within.whole h.1.was_open) (rw is at h.0) in
-      record { within = record { whole = λ _. done.0; inside = h.1.mode }; rows = done.1 }
+      record { within = record { whole = λ _. done.0; inside = h.1.mode }; stays = λ _. h.1.is_open; rows = done.1 }
 
 pub inserts_posting : (old new : State) (r : PostingRow) (given : Row) (q : Result ℕ Error) → Within old → ExecutesInside 0 insert_posting given old new q → given ≡ posting_params r → OnOk q (Makes old new (with_posting r))
 inserts_posting old new r given q within h is =

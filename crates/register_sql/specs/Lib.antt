@@ -1,5 +1,5 @@
-pub mod RawRows
 pub mod Tables
 pub mod Rows
 pub mod Changes
 pub mod Posting
+pub mod Shown

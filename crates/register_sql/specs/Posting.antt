@@ -1,10 +1,11 @@
 -- What the steps of a posting do to a whole store.
-use Rattle.std.specs.Prelude.{◌≡◌, true, not, List, [], ◌∷◌, filter, Option, Some, None, IsTrue}
+use Rattle.std.specs.Prelude.{◌≡◌, true, not, List, [], ◌∷◌, filter, Option, Some, None, Result, OnOk, IsTrue}
 use Rattle.sqlite.specs.Effect.{Database, IsDatabase}
-use Rattle.sqlite.specs.State.{State, KeepsCommit}
+use Rattle.sqlite.specs.State.{State, HasCleanDisk, KeepsCommit, Survives}
 use Rattle.sqlite.specs.Tree.{Trees}
+use Rattle.sqlite.specs.declared.error.Error.{Error}
 use Rattle.sqlite_catalog.specs.Listing.{IsSound}
-use Rattle.register_sql.specs.RawRows.{Content, PostingRow, SpotRow, LineRow, TermRow, put, is_same_line, is_same_loan}
+use Rattle.register_store.specs.StoredRows.{Content, PostingRow, SpotRow, LineRow, TermRow, put, is_same_line, is_same_loan}
 use Rattle.register_sql.specs.Rows.{AreRows, Apart}
 use Rattle.register_sql.specs.Tables.{hub_schema}
 
@@ -27,7 +28,21 @@ Turns change db next = (c : Content) → AreRows db c → AreRows next (change c
 -- the transaction goes on, and its rows are changed so
 pub record Makes (old new : State) (change : Content → Content) : Type 0 where
   pub within : Within new
+  pub stays : IsTrue old.is_open → IsTrue new.is_open
   pub rows : Turns change old.now.trees new.now.trees
+
+-- what each step of the transaction wants, and leaves
+abbrev pub IsWithin : State → Type 0
+IsWithin s = HasCleanDisk s → Within s
+
+abbrev pub Wrote : {T : Type 0} → State → State → Result T Error → (Content → Content) → Type 0
+Wrote old new r change = HasCleanDisk new → OnOk r (Makes old new change)
+
+abbrev pub Kept : State → State → Type 0
+Kept old new = HasCleanDisk new → KeepsCommit old new
+
+abbrev pub Survived : State → State → Type 0
+Survived old new = Survives old new (λ _. ⊥)
 
 abbrev pub with_posting : PostingRow → Content → Content
 with_posting r c = record c { postings = r ∷ c.postings }
@@ -64,6 +79,11 @@ abbrev pub with_some_term : Option TermRow → Content → Content
 with_some_term None c = c
 with_some_term (Some r) c = with_term r c
 
+-- an open connection to a whole store
+pub record IsReady (s : State) : Type 0 where
+  pub is_open : IsTrue s.is_open
+  pub whole : IsWhole s.now
+
 -- the change is made and committed
 pub record IsDone (old new : State) (change : Content → Content) : Type 0 where
   pub was_open : IsTrue old.is_open
@@ -86,5 +106,6 @@ pub record IsBack (old new : State) : Type 0 where
 -- within a loop that is to make one change, and has another left to make
 pub record SoFar (old now : State) (all left : Content → Content) : Type 0 where
   pub within : Within now
+  pub stays : IsTrue old.is_open → IsTrue now.is_open
   pub kept : KeepsCommit old now
   pub rows : (c : Content) → AreRows old.now.trees c → (d : Content) × AreRows now.now.trees d × (left d ≡ all c)

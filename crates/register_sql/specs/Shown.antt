@@ -1,0 +1,41 @@
+-- What the queries show of the tables' rows.
+use Rattle.std.specs.Prelude.{◌∷◌, []}
+use Rattle.std.specs.declared.cmp.Ordering.{Ordering}
+use Rattle.sqlite.specs.Order.{Row, column}
+use Rattle.sqlite.specs.declared.types.Value.TheVariants.{Int, Text}
+use Rattle.sqlite_value.specs.Order.{value_cmp}
+use Rattle.register_store.specs.StoredRows.{SetupRow, PostingRow}
+
+-- of a row of the table
+abbrev pub shown_meta : Row → Row
+shown_meta r = column r 1 ∷ column r 2 ∷ []
+
+abbrev pub shown_setup : Row → Row
+shown_setup r = column r 0 ∷ column r 2 ∷ []
+
+abbrev pub shown_posting : Row → Row
+shown_posting r = column r 0 ∷ column r 2 ∷ column r 3 ∷ column r 4 ∷ column r 5 ∷ []
+
+abbrev pub shown_spot : Row → Row
+shown_spot r = column r 1 ∷ column r 2 ∷ column r 3 ∷ column r 4 ∷ column r 5 ∷ []
+
+abbrev pub shown_line : Row → Row
+shown_line r = column r 1 ∷ column r 2 ∷ column r 3 ∷ []
+
+abbrev pub shown_term : Row → Row
+shown_term r = column r 1 ∷ column r 2 ∷ []
+
+-- the rowid alone
+abbrev pub shown_id : Row → Row
+shown_id r = column r 0 ∷ []
+
+-- a row of the setup, and a posting, as they are shown; the others are shown as their cells
+abbrev pub setup_shown : SetupRow → Row
+setup_shown r = Int r.id ∷ Text r.text ∷ []
+
+abbrev pub posting_shown : PostingRow → Row
+posting_shown r = Int r.id ∷ Int r.station ∷ Int r.n ∷ Text r.body ∷ Int r.verdict ∷ []
+
+-- by their first column
+abbrev pub id_cmp : Row → Row → Ordering
+id_cmp a b = value_cmp (column a 0) (column b 0)
