@@ -130,7 +130,7 @@ content_in made few db sound ids numbers = read_content made db (are_read made f
 
 -- ---- no others
 
-unmapped : {X : Type 0} (cells : X → Row) (back : Row → X) → ((x : X) → back (cells x) ≡ x) → (xs ys : List X) (rows : List Row) → IsPermutation (map cells xs) rows → IsPermutation (map cells ys) rows → IsPermutation xs ys
+pub unmapped : {X : Type 0} (cells : X → Row) (back : Row → X) → ((x : X) → back (cells x) ≡ x) → (xs ys : List X) (rows : List Row) → IsPermutation (map cells xs) rows → IsPermutation (map cells ys) rows → IsPermutation xs ys
 unmapped {X} cells back undoes xs ys rows p q =
     let both : IsPermutation (map back (map cells xs)) (map back (map cells ys)) = IsPermutation-map back _ _ (IsPermutation-trans _ rows _ p (IsPermutation-sym _ _ q)) in
     subst (λ l. IsPermutation l ys) (all xs) (subst (IsPermutation (map back (map cells xs))) (all ys) both)

@@ -8,3 +8,16 @@ pub mod Posted
 pub mod Listings
 pub mod Cells
 pub mod Contents
+pub mod Ends
+pub mod Wholes
+pub mod Creates
+pub mod Created
+pub mod Filled
+pub mod Prefixes
+pub mod Asked
+pub mod Rising
+pub mod Pairs
+pub mod Setups
+pub mod Postings
+pub mod Binds
+pub mod Holds

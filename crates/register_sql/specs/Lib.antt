@@ -3,3 +3,9 @@ pub mod Rows
 pub mod Changes
 pub mod Posting
 pub mod Shown
+pub mod Making
+pub mod Queries
+pub mod Rowids
+pub mod Says
+pub mod Binding
+pub mod Stores

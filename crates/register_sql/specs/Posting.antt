@@ -79,9 +79,10 @@ abbrev pub with_some_term : Option TermRow → Content → Content
 with_some_term None c = c
 with_some_term (Some r) c = with_term r c
 
--- an open connection to a whole store
+-- an open connection, between two transactions, to a whole store
 pub record IsReady (s : State) : Type 0 where
   pub is_open : IsTrue s.is_open
+  pub settled : s.now ≡ s.committed
   pub whole : IsWhole s.now
 
 -- the change is made and committed

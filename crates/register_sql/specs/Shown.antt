@@ -1,5 +1,6 @@
 -- What the queries show of the tables' rows.
-use Rattle.std.specs.Prelude.{◌∷◌, []}
+use Rattle.std.specs.Prelude.{◌≡◌, ◌<◌, ◌^◌, ℕ, pos, ◌∷◌, []}
+use Rattle.std.specs.Str.{IsUtf8}
 use Rattle.std.specs.declared.cmp.Ordering.{Ordering}
 use Rattle.sqlite.specs.Order.{Row, column}
 use Rattle.sqlite.specs.declared.types.Value.TheVariants.{Int, Text}
@@ -39,3 +40,11 @@ posting_shown r = Int r.id ∷ Int r.station ∷ Int r.n ∷ Text r.body ∷ Int
 -- by their first column
 abbrev pub id_cmp : Row → Row → Ordering
 id_cmp a b = value_cmp (column a 0) (column b 0)
+
+-- a posting whose numbers can be an entry's, with a body of text
+pub record FitsPosting (p : PostingRow) : Type 0 where
+  pub id : (n : ℕ) × (p.id ≡ pos n)
+  pub station : (n : ℕ) × (p.station ≡ pos n) × (n < 2 ^ 32)
+  pub n : (n : ℕ) × (p.n ≡ pos n) × (n < 2 ^ 32)
+  pub verdict : (n : ℕ) × (p.verdict ≡ pos n) × (n < 2 ^ 32)
+  pub body : IsUtf8 p.body

@@ -1,0 +1,28 @@
+-- A schema of so many tables can be that prefix alone.
+use Rattle.std.proofs.Common.{◌≡◌, ◌≤◌, ℕ, zero, suc, length, refl, sym, ap, ◌∙◌, arith}
+use Rattle.sqlite.specs.Schema.{Schema}
+use Rattle.register_sql.specs.Tables.{prefix}
+
+same_prefix : (k : ℕ) → prefix (length (prefix k).tables) ≡ prefix k
+same_prefix zero = refl
+same_prefix (suc zero) = refl
+same_prefix (suc (suc zero)) = refl
+same_prefix (suc (suc (suc zero))) = refl
+same_prefix (suc (suc (suc (suc zero)))) = refl
+same_prefix (suc (suc (suc (suc (suc zero))))) = refl
+same_prefix (suc (suc (suc (suc (suc (suc k)))))) = refl
+
+few : (k : ℕ) → length (prefix k).tables ≤ 6
+few zero = omega arith
+few (suc zero) = omega arith
+few (suc (suc zero)) = omega arith
+few (suc (suc (suc zero))) = omega arith
+few (suc (suc (suc (suc zero)))) = omega arith
+few (suc (suc (suc (suc (suc zero))))) = omega arith
+few (suc (suc (suc (suc (suc (suc k)))))) = omega arith
+
+pub by_count : (s : Schema) (k : ℕ) → s ≡ prefix k → s ≡ prefix (length s.tables)
+by_count s k is = is ∙ sym (same_prefix k) ∙ ap (λ (t : Schema). prefix (length t.tables)) (sym is)
+
+pub few_tables : (s : Schema) (k : ℕ) → s ≡ prefix k → length s.tables ≤ 6
+few_tables s k is = rw is (few k)

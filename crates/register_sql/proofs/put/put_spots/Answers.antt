@@ -1,0 +1,33 @@
+use Rattle.std.proofs.Common.{◌≡◌, ◌∷◌, get_or, subst, arith, rules, drop, ◌+◌}
+use Rattle.std.proofs.lemmas.List.{drop_all}
+use Rattle.sqlite.specs.Held.{state}
+use Rattle.sqlite.specs.State.{HasCleanDisk}
+use Rattle.register_store.specs.StoredRows.{spot_row}
+use Rattle.register_sql.specs.Posting.{with_each, with_spot}
+use Rattle.register_sql.proofs.Ends.{survives_on, so_far_on, so_far_last, drop_next}
+use Rattle.register_sql.proofs.put.put_spots.Goals as goal
+
+pub spots-preserved : goal.spots-preserved
+spots-preserved g c =
+    let old = state g.S.Store c.args.tx.now.conn.now in
+    let mid = state g.S.Store c.spots.tx.conn.now in
+    let new = state g.S.Store c.put_spot.new.tx.conn.now in
+    let rows = c.args.spots.now in
+    let at = c.spots.spot-index in (
+      search rules,
+      survives_on old mid new c.spots.invariant.1 c.put_spot.ensures.survives,
+      λ clean.
+          let early : HasCleanDisk mid = omega (arith, c.put_spot.ensures.survives.clean) in
+          let row = c.spot-item.result in
+          let is : get_or rows at row ≡ row = search rules in
+          let next = drop_next rows at row (omega (arith, c.spots-test.true)) in
+          so_far_on old mid new (with_each (λ s. with_spot (spot_row s)) rows) (λ s. with_spot (spot_row s)) (drop at rows) (drop (at + 1) rows) row (subst (λ r. drop at rows ≡ r ∷ drop (at + 1) rows) is next)
+          (c.spots.invariant.2 early) (c.put_spot.ensures.kept clean) (c.in_ok-put_spot.ensures.wrote clean),
+    )
+
+pub returns-clause-wrote : goal.returns-clause-wrote
+returns-clause-wrote g c clean =
+    let rows = c.args.spots.now in
+    let at = c.spots.spot-index in
+    so_far_last (state g.S.Store c.args.tx.now.conn.now) (state g.S.Store c.spots.tx.conn.now) (with_each (λ s. with_spot (spot_row s)) rows) (λ s. with_spot (spot_row s)) (drop at rows) (drop_all at rows (omega (arith, c.spots-test.false)))
+    (c.spots.invariant.2 clean)

@@ -1,0 +1,11 @@
+use Rattle.std.proofs.Common.{arith, rules}
+use Rattle.sqlite.specs.Held.{state}
+use Rattle.sqlite.specs.State.{HasCleanDisk}
+use Rattle.register_sql.proofs.Ends.{survives_still}
+use Rattle.register_sql.proofs.Rising.{apart_read, apart_unmade, same_still}
+use Rattle.register_sql.proofs.rowids.is_apart.Goals as goal
+
+pub returns-clause-told : goal.returns-clause-told
+returns-clause-told g c clean apart =
+    let old = state g.S.Store c.args.conn.now in
+    apart_read c.args.query c.args.made old.now.trees c.in_ok-rows.rows.items c.requires.ids (search rules) (c.in_ok-rows.ensures.rows clean) (search rules)

@@ -1,0 +1,33 @@
+-- What a store says of itself, as the rows of `meta` and `setup` are read.
+use Rattle.std.specs.Prelude.{◌≡◌, ◌≢◌, ◌<◌, ℕ, ℤ, pos, true, List, [], ◌∷◌, length, slice_index_or, map, codes}
+use Rattle.std.specs.List.Sorted.{IsPermutation}
+use Rattle.sqlite.specs.Order.{Row}
+use Rattle.sqlite.specs.declared.types.Value.TheVariants.{Int, Text}
+use Rattle.register_store.specs.StoredRows.{rows_of_meta, is_depth}
+use Rattle.register_sql.specs.Making.{setup_from}
+use Rattle.register_sql.specs.Rows.{meta_cells}
+use Rattle.register_sql.specs.Shown.{setup_shown}
+use Rattle.register_sql.specs.declared.told.Told.{Told}
+use Rattle.register_sql.specs.declared.told.Told.TheVariants.{New, OtherVersion, Damaged, Bound}
+
+-- a row of the version, which is not 2
+abbrev pub IsOther : Row → Type 0
+IsOther row = (n : ℤ) × (row ≡ Text (codes "version") ∷ Int n ∷ []) × (n ≢ pos 2)
+
+abbrev pub HasOther : List Row → Type 0
+HasOther rows = (k : ℕ) × (row : Row) × (k < length rows) × (row ≡ slice_index_or rows k row) × IsOther row
+
+-- they are the two rows of a store with this depth limit
+abbrev pub IsWhole : ℕ → List Row → Type 0
+IsWhole depth rows = IsPermutation (map meta_cells (rows_of_meta depth)) rows
+
+-- what the rows of `meta` say, in the order of refusals
+abbrev pub IsTold : List Row → Told → Type 0
+IsTold rows New = rows ≡ []
+IsTold rows OtherVersion = HasOther rows
+IsTold rows Damaged = (rows ≢ []) × ¬ HasOther rows × ((depth : ℕ) → is_depth depth ≡ true → ¬ IsWhole depth rows)
+IsTold rows (Bound depth) = (is_depth depth ≡ true) × IsWhole depth rows
+
+-- the setup with these texts, as it is shown
+abbrev pub setup_rows_shown : List (List ℕ) → List Row
+setup_rows_shown texts = map setup_shown (setup_from 1 texts)

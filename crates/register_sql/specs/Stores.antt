@@ -1,0 +1,46 @@
+-- What a register over a connection keeps, and which rows its store may hold.
+use Rattle.std.specs.Prelude.{◌≡◌, ℕ, ◌+◌, ◌-◌, ◌^◌, min, Bool, true, false, Option, None, refl}
+use Rattle.std.specs.Coded.{Coded, code_by, coded×, coded_ℕ, coded_bool}
+use Rattle.sqlite.specs.Held.{Held, held_code}
+use Rattle.sqlite.specs.State.{State, HasCleanDisk}
+use Rattle.sqlite.specs.Tree.{Trees}
+use Rattle.register_store.specs.Holdings.{Holding}
+use Rattle.register_store.specs.StoredRows.{Content}
+use Rattle.register_store.specs.declared.store_fault.StoreFault.{StoreFault}
+use Rattle.register_store.specs.declared.store_fault.StoreFault.TheVariants.{NoMemory, Store, OtherSetup, Damaged, OtherVersion}
+use Rattle.register_sql.specs.Binding.{IsSettled}
+use Rattle.register_sql.specs.Posting.{IsReady}
+use Rattle.register_sql.specs.Rows.{AreRows, IsStored}
+
+-- a register: its connection, whether a setup is bound to it and how many stations that has, and how often it refused
+pub record Kept (S : Type 0) : Type 0 where
+  pub conn : Held S
+  pub bound : Bool
+  pub stations : ℕ
+  pub refusals : ℕ
+
+abbrev pub kept_code : {S : Type 0} → Coded S → Coded (Kept S)
+kept_code {S} store =
+    code_by (Held S × (Bool × (ℕ × ℕ))) (coded× (held_code store) (coded× coded_bool (coded× coded_ℕ coded_ℕ)))
+    (λ r. (r.conn, (r.bound, (r.stations, r.refusals)))) (λ p. record { conn = p.0; bound = p.1.0; stations = p.1.1.0; refusals = p.1.1.1 }) (λ _. refl)
+
+-- the store is quiet where the disk has returned what was written, and it may hold the rows of each database that a later
+-- opening may find
+abbrev pub in_store : State → Holding
+in_store s = record { is_quiet = HasCleanDisk s; holds = λ c. (db : Trees) × s.may_leave db × IsStored db c }
+
+-- what is true of a register's connection: it is between two transactions; and until a statement has failed it is open,
+-- over a whole store with some rows once a setup is bound
+pub record IsKept (s : State) (bound : Bool) (stopped : Option StoreFault) : Type 0 where
+  pub between : s.in_transaction ≡ false
+  pub settled : stopped ≡ None → HasCleanDisk s → IsSettled s
+  pub ready : stopped ≡ None → bound ≡ true → HasCleanDisk s → IsReady s
+  pub content : stopped ≡ None → bound ≡ true → HasCleanDisk s → (c : Content) × AreRows s.now.trees c
+
+-- how often a register has answered Store after this fault
+abbrev pub counted : ℕ → StoreFault → ℕ
+counted refusals NoMemory = refusals
+counted refusals Store = min (refusals + 1) (2 ^ 64 - 1)
+counted refusals OtherSetup = refusals
+counted refusals (Damaged at) = refusals
+counted refusals OtherVersion = refusals

@@ -1,0 +1,157 @@
+//! A store is bound to a setup: a new one is made whole, an old one is compared and never written.
+ghost use Rattle.std.specs.Prelude.{◌≡◌, ◌≢◌, ◌≤◌, [], false, IfOk, IfErr};
+ghost use Rattle.std.specs.List.Sorted.{IsPermutation};
+ghost use Rattle.sqlite.specs.Held.{state};
+ghost use Rattle.sqlite.specs.State.{HasCleanDisk, Survives};
+ghost use Rattle.register_sql.specs.Binding.{IsSettled, IsRefused, IsBoundAs, LeavesBound};
+ghost use Rattle.register_sql.specs.Queries.{shown_in, IsPart};
+ghost use Rattle.register_sql.specs.Rows.{had};
+ghost use Rattle.register_sql.specs.Says.{IsTold};
+ghost use Rattle.register_sql.specs.declared.told.Told.TheVariants as told;
+
+use crate::make::make_whole;
+use crate::queries::Query;
+use crate::rowids::are_all_apart;
+use crate::schema::tables_made;
+use crate::told::{Told, has_setup, told_of};
+use nest_core::Setup;
+use register_store::{NEW_DEPTH, StoreFault, row_texts};
+use sqlite::{Alter, Connection, Error};
+use std::alloc::Global;
+
+/// The depth limit of a store that is bound, or why it isn't.
+type Answer = Result<u32, StoreFault>;
+
+/// Makes a store of the first so many tables whole, which says nothing of itself.
+fn make_new<S: Alter>(
+    alloc: Global,
+    conn: &mut Connection<S>,
+    setup: &Setup,
+    made: usize,
+) -> Result<Answer, Error>
+    requires few { made ≤ 6 }
+    requires part { HasCleanDisk (state S.Store conn.old) → IsPart made (state S.Store conn.old) }
+    requires new { HasCleanDisk (state S.Store conn.old) → had 1 made ((state S.Store conn.old).now.trees 0) ≡ [] }
+    requires between { conn.old.in_transaction ≡ false }
+    ensures between { conn.new.in_transaction ≡ false }
+    ensures bound { HasCleanDisk (state S.Store conn.new) → IfOk result (λ answer. IfOk answer (λ depth.
+        IsBoundAs setup.now depth (state S.Store conn.old) (state S.Store conn.new))) }
+    ensures refused { HasCleanDisk (state S.Store conn.new) → IfOk result (λ answer. IfErr answer
+        (IsRefused setup.now (state S.Store conn.old) (state S.Store conn.new))) }
+    ensures crash { Survives (state S.Store conn.old) (state S.Store conn.new) (LeavesBound setup.now (state S.Store conn.old)) }
+{
+    let texts = match row_texts(alloc, setup) {
+        Ok(texts) => texts,
+        Err(_) => return Ok(Err(StoreFault::NoMemory)),
+    };
+    let apart = are_all_apart(conn, made)?;
+    if !apart {
+        return Ok(Err(StoreFault::Store));
+    }
+    make_whole(conn, made, &texts, NEW_DEPTH)?;
+    Ok(Ok(NEW_DEPTH))
+}
+
+/// Compares a store of the first so many tables that says that it has this depth limit.
+fn compare<S: Alter>(
+    alloc: Global,
+    conn: &mut Connection<S>,
+    setup: &Setup,
+    made: usize,
+    depth: u32,
+) -> Result<Answer, Error>
+    requires some { 1 ≤ made }
+    requires few { made ≤ 6 }
+    requires part { HasCleanDisk (state S.Store conn.old) → IsPart made (state S.Store conn.old) }
+    requires told { HasCleanDisk (state S.Store conn.old) → (rows : _)
+        × IsPermutation (shown_in Query.Metas (state S.Store conn.old).now.trees) rows × IsTold rows (told.Bound depth) }
+    requires between { conn.old.in_transaction ≡ false }
+    ensures between { conn.new.in_transaction ≡ false }
+    ensures bound { HasCleanDisk (state S.Store conn.new) → IfOk result (λ answer. IfOk answer (λ depth.
+        IsBoundAs setup.now depth (state S.Store conn.old) (state S.Store conn.new))) }
+    ensures refused { HasCleanDisk (state S.Store conn.new) → IfOk result (λ answer. IfErr answer
+        (IsRefused setup.now (state S.Store conn.old) (state S.Store conn.new))) }
+    ensures crash { Survives (state S.Store conn.old) (state S.Store conn.new) (LeavesBound setup.now (state S.Store conn.old)) }
+{
+    let texts = match row_texts(alloc, setup) {
+        Ok(texts) => texts,
+        Err(_) => return Ok(Err(StoreFault::NoMemory)),
+    };
+    if made < 6 {
+        return Ok(Err(StoreFault::Store));
+    }
+    let same = has_setup(conn, &texts)?;
+    if !same {
+        return Ok(Err(StoreFault::OtherSetup));
+    }
+    let apart = are_all_apart(conn, 6)?;
+    if !apart {
+        return Ok(Err(StoreFault::Store));
+    }
+    Ok(Ok(depth))
+}
+
+/// Binds a store of the first so many tables, of which the one that says what the store is is among them.
+fn bind_told<S: Alter>(
+    alloc: Global,
+    conn: &mut Connection<S>,
+    setup: &Setup,
+    made: usize,
+) -> Result<Answer, Error>
+    requires some { 1 ≤ made }
+    requires few { made ≤ 6 }
+    requires part { HasCleanDisk (state S.Store conn.old) → IsPart made (state S.Store conn.old) }
+    requires between { conn.old.in_transaction ≡ false }
+    ensures between { conn.new.in_transaction ≡ false }
+    ensures bound { HasCleanDisk (state S.Store conn.new) → IfOk result (λ answer. IfOk answer (λ depth.
+        IsBoundAs setup.now depth (state S.Store conn.old) (state S.Store conn.new))) }
+    ensures refused { HasCleanDisk (state S.Store conn.new) → IfOk result (λ answer. IfErr answer
+        (IsRefused setup.now (state S.Store conn.old) (state S.Store conn.new))) }
+    ensures crash { Survives (state S.Store conn.old) (state S.Store conn.new) (LeavesBound setup.now (state S.Store conn.old)) }
+{
+    let told = told_of(conn, made)?;
+    match told {
+        Told::New => {
+            let answer = make_new(alloc, conn, setup, made);
+            answer
+        }
+        Told::OtherVersion => Ok(Err(StoreFault::OtherVersion)),
+        Told::Damaged => Ok(Err(StoreFault::Damaged(0))),
+        Told::Bound(depth) => {
+            let answer = compare(alloc, conn, setup, made, depth);
+            answer
+        }
+    }
+}
+
+/// Binds the store to the setup. The outer fault is that of a statement, after which the connection may be shut.
+pub(crate) fn bind<S: Alter>(
+    alloc: Global,
+    conn: &mut Connection<S>,
+    setup: &Setup,
+) -> Result<Answer, Error>
+    requires settled { HasCleanDisk (state S.Store conn.old) → IsSettled (state S.Store conn.old) }
+    requires between { conn.old.in_transaction ≡ false }
+    ensures between { conn.new.in_transaction ≡ false }
+    ensures bound { HasCleanDisk (state S.Store conn.new) → IfOk result (λ answer. IfOk answer (λ depth.
+        IsBoundAs setup.now depth (state S.Store conn.old) (state S.Store conn.new))) }
+    ensures refused { HasCleanDisk (state S.Store conn.new) → IfOk result (λ answer. IfErr answer
+        (IsRefused setup.now (state S.Store conn.old) (state S.Store conn.new))) }
+    ensures crash { Survives (state S.Store conn.old) (state S.Store conn.new) (LeavesBound setup.now (state S.Store conn.old)) }
+{
+    let found = match tables_made(alloc, conn.schema()) {
+        Ok(found) => found,
+        Err(_) => return Ok(Err(StoreFault::NoMemory)),
+    };
+    match found {
+        None => Ok(Err(StoreFault::Store)),
+        Some(0) => {
+            let answer = make_new(alloc, conn, setup, 0);
+            answer
+        }
+        Some(made) => {
+            let answer = bind_told(alloc, conn, setup, made);
+            answer
+        }
+    }
+}

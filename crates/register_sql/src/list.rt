@@ -1,0 +1,108 @@
+//! The entries of a whole store, in the order of their numbers.
+ghost use Rattle.std.specs.Prelude.{◌≡◌, ◌≢◌, true, false, map, reverse, All, ℕ, List, IfOk, IfErr, OnOk};
+ghost use Rattle.sqlite.specs.Held.{state};
+ghost use Rattle.sqlite.specs.State.{HasCleanDisk};
+ghost use Rattle.register_store.specs.Plain.{posting_row};
+ghost use Rattle.register_store.specs.Registers.{is_of_listing, IsOfStation, IsWrongRow, IsWrongAt, IsListFault};
+ghost use Rattle.register_store.specs.StoredRows as rows;
+ghost use Rattle.register_store.specs.StoredRows.{IsPostingRow, ArePostings, HasList};
+ghost use Rattle.register_sql.specs.Posting.{Survived};
+ghost use Rattle.register_sql.specs.Queries.{IsPart, IsSame};
+ghost use Rattle.register_sql.specs.Rows.{AreRows};
+ghost use Rattle.register_sql.specs.Shown.{posting_shown, FitsPosting};
+
+use crate::queries::{Query, read};
+use posting_core::Entry;
+use register_store::{KeptPosting, StoreFault, entry_of};
+use sqlite::{Alter, Connection, Error, ErrorCode, Row};
+use std::alloc::Global;
+
+/// The row, where its numbers can be an entry's and its body is text.
+fn typed(row: &Row) -> Result<KeptPosting, Error>
+    ensures read { IfOk result (λ kept. posting_shown (posting_row kept) ≡ row.now) }
+    ensures unreadable { IfErr result (λ e. e ≢ Error.SqliteFailure ErrorCode.OutOfMemory
+        → (p : rows.PostingRow) → posting_shown p ≡ row.now → ¬ FitsPosting p) }
+{
+    if row.column_count() != 5 {
+        return Err(Error::InvalidQuery);
+    }
+    Ok(KeptPosting {
+        id: row.get(0)?,
+        station: row.get(1)?,
+        n: row.get(2)?,
+        body: row.get(3)?,
+        verdict: row.get(4)?,
+    })
+}
+
+/// The fault of a row that wasn't read.
+fn unread(error: Error, number: u64) -> StoreFault
+    ensures memory { error ≡ Error.SqliteFailure ErrorCode.OutOfMemory → result ≡ StoreFault.NoMemory }
+    ensures damaged { error ≢ Error.SqliteFailure ErrorCode.OutOfMemory → result ≡ StoreFault.Damaged number }
+{
+    match error {
+        Error::SqliteFailure(ErrorCode::OutOfMemory) => StoreFault::NoMemory,
+        _ => StoreFault::Damaged(number),
+    }
+}
+
+/// The entry that the row keeps under this number.
+fn entry_in(
+    alloc: Global,
+    row: &Row,
+    number: u64,
+    stations: u32,
+) -> Result<Entry, StoreFault>
+    ensures kept { IfOk result (λ entry. (p : rows.PostingRow) → posting_shown p ≡ row.now → IsPostingRow number entry p) }
+    ensures stationed { IfOk result (IsOfStation stations) }
+    ensures damaged { IfErr result (λ fault. fault ≢ StoreFault.NoMemory → fault ≡ StoreFault.Damaged number) }
+    ensures wrong { IfErr result (λ fault. fault ≢ StoreFault.NoMemory
+        → (p : rows.PostingRow) → posting_shown p ≡ row.now → IsWrongRow stations number p) }
+{
+    let kept = match typed(row) {
+        Ok(kept) => kept,
+        Err(e) => return Err(unread(e, number)),
+    };
+    entry_of(alloc, &kept, number, stations)
+}
+
+/// The entries that the rows keep, oldest first; Damaged at the first row that keeps none of these stations under its number.
+fn entries_of(alloc: Global, rows: &[Row], stations: u32) -> Result<Vec<Entry>, StoreFault>
+    ensures kept { IfOk result (λ entries. (ps : List rows.PostingRow) → map posting_shown ps ≡ rows.now
+        → ArePostings (reverse entries.items) (reverse ps)) }
+    ensures stationed { IfOk result (λ entries. All (IsOfStation stations) entries.items) }
+    ensures faults { IfErr result (λ fault. fault ≢ StoreFault.NoMemory → (at : ℕ) × (fault ≡ StoreFault.Damaged at)
+        × ((ps : List rows.PostingRow) → map posting_shown ps ≡ rows.now → IsWrongAt stations at ps)) }
+{
+    let mut entries = Vec::new(alloc);
+    'rows: for i in 0..rows.len() {
+        match entry_in(alloc, &rows[i], i as u64 + 1, stations) {
+            Ok(entry) => entries.push(entry)?,
+            Err(fault) => return Err(fault),
+        }
+    }
+    Ok(entries)
+}
+
+/// The entries of a whole store, oldest first, or why it can't list them.
+pub(crate) fn list<S: Alter>(
+    alloc: Global,
+    conn: &mut Connection<S>,
+    stations: u32,
+) -> Result<Result<Vec<Entry>, StoreFault>, Error>
+    requires part { HasCleanDisk (state S.Store conn.old) → IsPart 6 (state S.Store conn.old) }
+    ensures between { conn.old.in_transaction ≡ false → conn.new.in_transaction ≡ false }
+    ensures listed { HasCleanDisk (state S.Store conn.new) → IfOk result (λ answer. IfOk answer (λ entries.
+        (c : rows.Content) → AreRows (state S.Store conn.old).now.trees c → HasList (reverse entries.items) c)) }
+    ensures stationed { IfOk result (λ answer. IfOk answer (λ entries. All (IsOfStation stations) entries.items)) }
+    ensures faults { IfOk result (λ answer. IfErr answer (λ fault. is_of_listing fault ≡ true)) }
+    ensures cause { HasCleanDisk (state S.Store conn.new) → IfOk result (λ answer. IfErr answer (λ fault.
+        (c : rows.Content) → AreRows (state S.Store conn.old).now.trees c → IsListFault stations c fault)) }
+    ensures same { HasCleanDisk (state S.Store conn.new)
+        → OnOk result (IsSame (state S.Store conn.old) (state S.Store conn.new)) }
+    ensures survives { Survived (state S.Store conn.old) (state S.Store conn.new) }
+{
+    let rows = read(conn, Query::Postings, 6)?;
+    let answer = entries_of(alloc, &rows, stations);
+    Ok(answer)
+}

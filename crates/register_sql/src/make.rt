@@ -1,0 +1,214 @@
+//! A new store is made whole in one transaction.
+ghost use Rattle.std.specs.Prelude.{◌≡◌, ◌<◌, ◌≤◌, ◌+◌, ◌∷◌, [], OnOk, OnErr, IsTrue, false, pos, map, string_bytes};
+ghost use Rattle.sqlite.specs.Held.{state};
+ghost use Rattle.sqlite.specs.State.{HasCleanDisk, Survives};
+ghost use Rattle.register_store.specs.StoredRows.{rows_of_meta};
+ghost use Rattle.register_sql.specs.Making.{create_of, setup_from, IsMaking, Went, Grown, ClearsSetup, AddsSetup, ReplacesSetup, AddsMeta, Fills, MakesWhole, IsMadeWhole, LeavesMade};
+ghost use Rattle.register_sql.specs.Posting.{Kept, Survived, IsBack};
+ghost use Rattle.register_sql.specs.Queries.{IsPart};
+ghost use Rattle.register_sql.specs.Rows.{had, Apart};
+
+use crate::put::wide;
+use sqlite::{Alter, Connection, Error, Transaction, params};
+
+/// The text that makes the table after the first so many.
+fn create_text(at: usize) -> &'static str
+    ensures { result.now ≡ create_of at }
+{
+    match at {
+        0 => "CREATE TABLE meta (name TEXT PRIMARY KEY, val INTEGER NOT NULL) STRICT",
+        1 => "CREATE TABLE setup (id INTEGER PRIMARY KEY, txt TEXT NOT NULL) STRICT",
+        2 => {
+            "CREATE TABLE posting (id INTEGER PRIMARY KEY, station INTEGER NOT NULL, n INTEGER NOT NULL, body TEXT NOT NULL, verdict INTEGER NOT NULL, UNIQUE (station, n)) STRICT"
+        }
+        3 => {
+            "CREATE TABLE spot (thing INTEGER, k INTEGER, entry INTEGER NOT NULL, place INTEGER NOT NULL, day INTEGER NOT NULL, PRIMARY KEY (thing, k)) STRICT"
+        }
+        4 => {
+            "CREATE TABLE line (loan TEXT, object INTEGER, stage INTEGER NOT NULL, PRIMARY KEY (loan, object)) STRICT"
+        }
+        _ => "CREATE TABLE term (loan TEXT PRIMARY KEY, day INTEGER NOT NULL) STRICT",
+    }
+}
+
+/// Makes the table after the first so many.
+fn make_at<S: Alter>(tx: &mut Transaction<'_, S>, at: usize) -> Result<usize, Error>
+    requires few { at < 6 }
+    requires made { IsMaking at (state S.Store tx.old.conn.now) }
+    ensures same_reference { tx.new.conn.ghost_name ≡ tx.old.conn.ghost_name }
+    ensures wrote { Went (state S.Store tx.old.conn.now) (state S.Store tx.new.conn.now) result
+        (at + 1) (Grown at (at + 1)) }
+    ensures kept { Kept (state S.Store tx.old.conn.now) (state S.Store tx.new.conn.now) }
+    ensures survives { Survived (state S.Store tx.old.conn.now) (state S.Store tx.new.conn.now) }
+{
+    let text = create_text(at);
+    tx.execute(text, &[])
+}
+
+/// Makes the tables that come after the first so many.
+fn make_rest<S: Alter>(tx: &mut Transaction<'_, S>, made: usize) -> Result<(), Error>
+    requires few { made ≤ 6 }
+    requires made { IsMaking made (state S.Store tx.old.conn.now) }
+    ensures same_reference { tx.new.conn.ghost_name ≡ tx.old.conn.ghost_name }
+    ensures wrote { Went (state S.Store tx.old.conn.now) (state S.Store tx.new.conn.now) result
+        6 (Grown made 6) }
+    ensures kept { Kept (state S.Store tx.old.conn.now) (state S.Store tx.new.conn.now) }
+    ensures survives { Survived (state S.Store tx.old.conn.now) (state S.Store tx.new.conn.now) }
+{
+    'tables: for at in made..6 {
+        make_at(tx, at)?;
+    }
+    Ok(())
+}
+
+/// Empties the setup.
+fn clear_setup<S: Alter>(tx: &mut Transaction<'_, S>) -> Result<usize, Error>
+    requires made { IsMaking 6 (state S.Store tx.old.conn.now) }
+    requires apart { HasCleanDisk (state S.Store tx.old.conn.now) → IsTrue (state S.Store tx.old.conn.now).is_open
+        → Apart ((state S.Store tx.old.conn.now).now.trees 2) }
+    ensures same_reference { tx.new.conn.ghost_name ≡ tx.old.conn.ghost_name }
+    ensures wrote { Went (state S.Store tx.old.conn.now) (state S.Store tx.new.conn.now) result
+        6 ClearsSetup }
+    ensures kept { Kept (state S.Store tx.old.conn.now) (state S.Store tx.new.conn.now) }
+    ensures survives { Survived (state S.Store tx.old.conn.now) (state S.Store tx.new.conn.now) }
+{
+    tx.execute("DELETE FROM setup", &[])
+}
+
+/// Adds a row of the setup.
+fn add_setup<S: Alter>(tx: &mut Transaction<'_, S>, number: u64, text: &str) -> Result<usize, Error>
+    requires { IsMaking 6 (state S.Store tx.old.conn.now) }
+    ensures same_reference { tx.new.conn.ghost_name ≡ tx.old.conn.ghost_name }
+    ensures wrote { Went (state S.Store tx.old.conn.now) (state S.Store tx.new.conn.now) result
+        6 (AddsSetup (record { id = pos number; text = text.now } ∷ [])) }
+    ensures kept { Kept (state S.Store tx.old.conn.now) (state S.Store tx.new.conn.now) }
+    ensures survives { Survived (state S.Store tx.old.conn.now) (state S.Store tx.new.conn.now) }
+{
+    let id = wide(number)?;
+    tx.execute(
+        "INSERT INTO setup (id, txt) VALUES (?1, ?2)",
+        params![id, text],
+    )
+}
+
+/// Adds the rows of the setup, numbered from 1.
+fn add_setups<S: Alter>(tx: &mut Transaction<'_, S>, texts: &[String]) -> Result<(), Error>
+    requires { IsMaking 6 (state S.Store tx.old.conn.now) }
+    ensures same_reference { tx.new.conn.ghost_name ≡ tx.old.conn.ghost_name }
+    ensures wrote { Went (state S.Store tx.old.conn.now) (state S.Store tx.new.conn.now) result
+        6 (AddsSetup (setup_from 1 (map string_bytes texts.now))) }
+    ensures kept { Kept (state S.Store tx.old.conn.now) (state S.Store tx.new.conn.now) }
+    ensures survives { Survived (state S.Store tx.old.conn.now) (state S.Store tx.new.conn.now) }
+{
+    'texts: for at in 0..texts.len() {
+        add_setup(tx, at as u64 + 1, texts[at].as_str())?;
+    }
+    Ok(())
+}
+
+/// Adds a row of what the store says of itself.
+fn add_meta<S: Alter>(tx: &mut Transaction<'_, S>, name: &str, val: u32) -> Result<usize, Error>
+    requires { IsMaking 6 (state S.Store tx.old.conn.now) }
+    ensures same_reference { tx.new.conn.ghost_name ≡ tx.old.conn.ghost_name }
+    ensures wrote { Went (state S.Store tx.old.conn.now) (state S.Store tx.new.conn.now) result
+        6 (AddsMeta (record { name = name.now; val = pos val } ∷ [])) }
+    ensures kept { Kept (state S.Store tx.old.conn.now) (state S.Store tx.new.conn.now) }
+    ensures survives { Survived (state S.Store tx.old.conn.now) (state S.Store tx.new.conn.now) }
+{
+    tx.execute(
+        "INSERT INTO meta (name, val) VALUES (?1, ?2)",
+        params![name, i64::from(val)],
+    )
+}
+
+/// Adds the version of the store, and the depth limit that it is made with.
+fn add_metas<S: Alter>(tx: &mut Transaction<'_, S>, depth: u32) -> Result<usize, Error>
+    requires { IsMaking 6 (state S.Store tx.old.conn.now) }
+    ensures same_reference { tx.new.conn.ghost_name ≡ tx.old.conn.ghost_name }
+    ensures wrote { Went (state S.Store tx.old.conn.now) (state S.Store tx.new.conn.now) result
+        6 (AddsMeta (rows_of_meta depth)) }
+    ensures kept { Kept (state S.Store tx.old.conn.now) (state S.Store tx.new.conn.now) }
+    ensures survives { Survived (state S.Store tx.old.conn.now) (state S.Store tx.new.conn.now) }
+{
+    add_meta(tx, "depth", depth)?;
+    let version = add_meta(tx, "version", 2);
+    version
+}
+
+/// Puts these rows in the place of the setup.
+fn replace_setup<S: Alter>(tx: &mut Transaction<'_, S>, texts: &[String]) -> Result<(), Error>
+    requires made { IsMaking 6 (state S.Store tx.old.conn.now) }
+    requires apart { HasCleanDisk (state S.Store tx.old.conn.now) → IsTrue (state S.Store tx.old.conn.now).is_open
+        → Apart ((state S.Store tx.old.conn.now).now.trees 2) }
+    ensures same_reference { tx.new.conn.ghost_name ≡ tx.old.conn.ghost_name }
+    ensures wrote { Went (state S.Store tx.old.conn.now) (state S.Store tx.new.conn.now) result
+        6 (ReplacesSetup (setup_from 1 (map string_bytes texts.now))) }
+    ensures kept { Kept (state S.Store tx.old.conn.now) (state S.Store tx.new.conn.now) }
+    ensures survives { Survived (state S.Store tx.old.conn.now) (state S.Store tx.new.conn.now) }
+{
+    clear_setup(tx)?;
+    add_setups(tx, texts)
+}
+
+/// Says the setup, and what the store says of itself.
+fn fill<S: Alter>(tx: &mut Transaction<'_, S>, texts: &[String], depth: u32) -> Result<usize, Error>
+    requires made { IsMaking 6 (state S.Store tx.old.conn.now) }
+    requires apart { HasCleanDisk (state S.Store tx.old.conn.now) → IsTrue (state S.Store tx.old.conn.now).is_open
+        → Apart ((state S.Store tx.old.conn.now).now.trees 2) }
+    ensures same_reference { tx.new.conn.ghost_name ≡ tx.old.conn.ghost_name }
+    ensures wrote { Went (state S.Store tx.old.conn.now) (state S.Store tx.new.conn.now) result
+        6 (Fills (setup_from 1 (map string_bytes texts.now)) (rows_of_meta depth)) }
+    ensures kept { Kept (state S.Store tx.old.conn.now) (state S.Store tx.new.conn.now) }
+    ensures survives { Survived (state S.Store tx.old.conn.now) (state S.Store tx.new.conn.now) }
+{
+    replace_setup(tx, texts)?;
+    add_metas(tx, depth)
+}
+
+/// Makes the tables that come after the first so many, and fills them.
+fn make_all<S: Alter>(
+    tx: &mut Transaction<'_, S>,
+    made: usize,
+    texts: &[String],
+    depth: u32,
+) -> Result<usize, Error>
+    requires few { made ≤ 6 }
+    requires made { IsMaking made (state S.Store tx.old.conn.now) }
+    requires apart { HasCleanDisk (state S.Store tx.old.conn.now) → IsTrue (state S.Store tx.old.conn.now).is_open
+        → Apart (had 2 made ((state S.Store tx.old.conn.now).now.trees 2)) }
+    ensures same_reference { tx.new.conn.ghost_name ≡ tx.old.conn.ghost_name }
+    ensures wrote { Went (state S.Store tx.old.conn.now) (state S.Store tx.new.conn.now) result
+        6 (MakesWhole made (setup_from 1 (map string_bytes texts.now)) (rows_of_meta depth)) }
+    ensures kept { Kept (state S.Store tx.old.conn.now) (state S.Store tx.new.conn.now) }
+    ensures survives { Survived (state S.Store tx.old.conn.now) (state S.Store tx.new.conn.now) }
+{
+    make_rest(tx, made)?;
+    fill(tx, texts, depth)
+}
+
+/// Makes a store whole, of one that has the first so many tables, with these rows of the setup and this depth limit, in one
+/// transaction.
+pub(crate) fn make_whole<S: Alter>(
+    conn: &mut Connection<S>,
+    made: usize,
+    texts: &[String],
+    depth: u32,
+) -> Result<(), Error>
+    requires few { made ≤ 6 }
+    requires part { HasCleanDisk (state S.Store conn.old) → IsPart made (state S.Store conn.old) }
+    requires apart { HasCleanDisk (state S.Store conn.old) → Apart (had 2 made ((state S.Store conn.old).now.trees 2)) }
+    requires between { (state S.Store conn.old).in_transaction ≡ false }
+    ensures between { (state S.Store conn.new).in_transaction ≡ false }
+    ensures made { HasCleanDisk (state S.Store conn.new) → OnOk result (IsMadeWhole made
+        (setup_from 1 (map string_bytes texts.now)) (rows_of_meta depth) (state S.Store conn.old) (state S.Store conn.new)) }
+    ensures failed { HasCleanDisk (state S.Store conn.new) → IsTrue (state S.Store conn.new).is_open
+        → OnErr result (IsBack (state S.Store conn.old) (state S.Store conn.new)) }
+    ensures crash { Survives (state S.Store conn.old) (state S.Store conn.new)
+        (LeavesMade made (setup_from 1 (map string_bytes texts.now)) (rows_of_meta depth) (state S.Store conn.old)) }
+{
+    let _live = conn.schema();
+    let _between = conn.is_autocommit();
+    let mut tx = conn.transaction();
+    make_all(&mut tx, made, texts, depth)?;
+    tx.commit()
+}

@@ -1,0 +1,276 @@
+//! A posting with its spots, its lines and its last day, put into a whole store in one transaction.
+ghost use Rattle.std.specs.Prelude.{◌≡◌, OnOk, OnErr, IfOk, IsTrue, false, pos};
+ghost use Rattle.sqlite.specs.Held.{state};
+ghost use Rattle.sqlite.specs.State.{HasCleanDisk, Survives};
+ghost use Rattle.register_store.specs.Plain.{posting_row};
+ghost use Rattle.register_store.specs.StoredRows.{spot_row, line_row, term_of, with_posted};
+ghost use Rattle.register_sql.specs.Posting as step;
+ghost use Rattle.register_sql.specs.Posting.{IsWithin, Wrote, Kept, Survived, IsReady, IsDone, IsBack, LeavesWhole};
+
+use codes_core::{Day, LoanCode};
+use posting_core::{Changes, Entry, NewLine, NewSpot};
+use register_store::{KeptPosting, term_of};
+use sqlite::{Alter, Connection, Error, Transaction, params};
+
+/// A number as the store takes it.
+pub(crate) fn wide(number: u64) -> Result<i64, Error>
+    ensures { IfOk result (λ n. n ≡ pos number) }
+{
+    match i64::try_from(number) {
+        Ok(n) => Ok(n),
+        Err(_) => Err(Error::IntegralValueOutOfRange(0)),
+    }
+}
+
+/// Adds the row of an entry.
+fn put_posting<S: Alter>(tx: &mut Transaction<'_, S>, row: &KeptPosting) -> Result<usize, Error>
+    requires { IsWithin (state S.Store tx.old.conn.now) }
+    ensures same_reference { tx.new.conn.ghost_name ≡ tx.old.conn.ghost_name }
+    ensures wrote { Wrote (state S.Store tx.old.conn.now) (state S.Store tx.new.conn.now) result
+        (step.with_posting (posting_row row.now)) }
+    ensures kept { Kept (state S.Store tx.old.conn.now) (state S.Store tx.new.conn.now) }
+    ensures survives { Survived (state S.Store tx.old.conn.now) (state S.Store tx.new.conn.now) }
+{
+    let id = wide(row.id)?;
+    tx.execute(
+        "INSERT INTO posting (id, station, n, body, verdict) VALUES (?1, ?2, ?3, ?4, ?5)",
+        params![
+            id,
+            i64::from(row.station),
+            i64::from(row.n),
+            row.body.as_str(),
+            i64::from(row.verdict)
+        ],
+    )
+}
+
+/// Adds the row of a spot.
+fn put_spot<S: Alter>(tx: &mut Transaction<'_, S>, spot: &NewSpot) -> Result<usize, Error>
+    requires { IsWithin (state S.Store tx.old.conn.now) }
+    ensures same_reference { tx.new.conn.ghost_name ≡ tx.old.conn.ghost_name }
+    ensures wrote { Wrote (state S.Store tx.old.conn.now) (state S.Store tx.new.conn.now) result
+        (step.with_spot (spot_row spot.now)) }
+    ensures kept { Kept (state S.Store tx.old.conn.now) (state S.Store tx.new.conn.now) }
+    ensures survives { Survived (state S.Store tx.old.conn.now) (state S.Store tx.new.conn.now) }
+{
+    let k = wide(spot.k)?;
+    let entry = wide(spot.spot.entry)?;
+    tx.execute(
+        "INSERT INTO spot (thing, k, entry, place, day) VALUES (?1, ?2, ?3, ?4, ?5)",
+        params![
+            i64::from(spot.thing),
+            k,
+            entry,
+            i64::from(spot.spot.place),
+            i64::from(spot.spot.day.number())
+        ],
+    )
+}
+
+/// Adds the rows of the spots.
+fn put_spots<S: Alter>(tx: &mut Transaction<'_, S>, spots: &[NewSpot]) -> Result<(), Error>
+    requires { IsWithin (state S.Store tx.old.conn.now) }
+    ensures same_reference { tx.new.conn.ghost_name ≡ tx.old.conn.ghost_name }
+    ensures wrote { Wrote (state S.Store tx.old.conn.now) (state S.Store tx.new.conn.now) result
+        (step.with_each (λ s. step.with_spot (spot_row s)) spots.now) }
+    ensures kept { Kept (state S.Store tx.old.conn.now) (state S.Store tx.new.conn.now) }
+    ensures survives { Survived (state S.Store tx.old.conn.now) (state S.Store tx.new.conn.now) }
+{
+    'spots: for spot in spots {
+        put_spot(tx, spot)?;
+    }
+    Ok(())
+}
+
+/// Takes out the row of the line's loan and object, if there is one.
+fn clear_line<S: Alter>(tx: &mut Transaction<'_, S>, line: &NewLine) -> Result<usize, Error>
+    requires { IsWithin (state S.Store tx.old.conn.now) }
+    ensures same_reference { tx.new.conn.ghost_name ≡ tx.old.conn.ghost_name }
+    ensures wrote { Wrote (state S.Store tx.old.conn.now) (state S.Store tx.new.conn.now) result
+        (step.without_line (line_row line.now)) }
+    ensures kept { Kept (state S.Store tx.old.conn.now) (state S.Store tx.new.conn.now) }
+    ensures survives { Survived (state S.Store tx.old.conn.now) (state S.Store tx.new.conn.now) }
+{
+    tx.execute(
+        "DELETE FROM line WHERE loan = ?1 AND object = ?2",
+        params![line.loan.as_str(), i64::from(line.object)],
+    )
+}
+
+/// Adds the row of a line.
+fn add_line<S: Alter>(tx: &mut Transaction<'_, S>, line: &NewLine) -> Result<usize, Error>
+    requires { IsWithin (state S.Store tx.old.conn.now) }
+    ensures same_reference { tx.new.conn.ghost_name ≡ tx.old.conn.ghost_name }
+    ensures wrote { Wrote (state S.Store tx.old.conn.now) (state S.Store tx.new.conn.now) result
+        (step.more_line (line_row line.now)) }
+    ensures kept { Kept (state S.Store tx.old.conn.now) (state S.Store tx.new.conn.now) }
+    ensures survives { Survived (state S.Store tx.old.conn.now) (state S.Store tx.new.conn.now) }
+{
+    tx.execute(
+        "INSERT INTO line (loan, object, stage) VALUES (?1, ?2, ?3)",
+        params![
+            line.loan.as_str(),
+            i64::from(line.object),
+            i64::from(line.stage.number())
+        ],
+    )
+}
+
+/// Puts the row of a line in the place of the one before.
+fn put_line<S: Alter>(tx: &mut Transaction<'_, S>, line: &NewLine) -> Result<usize, Error>
+    requires { IsWithin (state S.Store tx.old.conn.now) }
+    ensures same_reference { tx.new.conn.ghost_name ≡ tx.old.conn.ghost_name }
+    ensures wrote { Wrote (state S.Store tx.old.conn.now) (state S.Store tx.new.conn.now) result
+        (step.with_line (line_row line.now)) }
+    ensures kept { Kept (state S.Store tx.old.conn.now) (state S.Store tx.new.conn.now) }
+    ensures survives { Survived (state S.Store tx.old.conn.now) (state S.Store tx.new.conn.now) }
+{
+    clear_line(tx, line)?;
+    add_line(tx, line)
+}
+
+/// Puts the rows of the lines, each in the place of the one before.
+fn put_lines<S: Alter>(tx: &mut Transaction<'_, S>, lines: &[NewLine]) -> Result<(), Error>
+    requires { IsWithin (state S.Store tx.old.conn.now) }
+    ensures same_reference { tx.new.conn.ghost_name ≡ tx.old.conn.ghost_name }
+    ensures wrote { Wrote (state S.Store tx.old.conn.now) (state S.Store tx.new.conn.now) result
+        (step.with_each (λ l. step.with_line (line_row l)) lines.now) }
+    ensures kept { Kept (state S.Store tx.old.conn.now) (state S.Store tx.new.conn.now) }
+    ensures survives { Survived (state S.Store tx.old.conn.now) (state S.Store tx.new.conn.now) }
+{
+    'lines: for line in lines {
+        put_line(tx, line)?;
+    }
+    Ok(())
+}
+
+/// Takes out the last day of the loan, if there is one.
+fn clear_term<S: Alter>(tx: &mut Transaction<'_, S>, term: &(LoanCode, Day)) -> Result<usize, Error>
+    requires { IsWithin (state S.Store tx.old.conn.now) }
+    ensures same_reference { tx.new.conn.ghost_name ≡ tx.old.conn.ghost_name }
+    ensures wrote { Wrote (state S.Store tx.old.conn.now) (state S.Store tx.new.conn.now) result
+        (step.without_term (record { loan = term.now.0; day = term.now.1 })) }
+    ensures kept { Kept (state S.Store tx.old.conn.now) (state S.Store tx.new.conn.now) }
+    ensures survives { Survived (state S.Store tx.old.conn.now) (state S.Store tx.new.conn.now) }
+{
+    tx.execute("DELETE FROM term WHERE loan = ?1", params![term.0.as_str()])
+}
+
+/// Adds the last day of a loan.
+fn add_term<S: Alter>(tx: &mut Transaction<'_, S>, term: &(LoanCode, Day)) -> Result<usize, Error>
+    requires { IsWithin (state S.Store tx.old.conn.now) }
+    ensures same_reference { tx.new.conn.ghost_name ≡ tx.old.conn.ghost_name }
+    ensures wrote { Wrote (state S.Store tx.old.conn.now) (state S.Store tx.new.conn.now) result
+        (step.more_term (record { loan = term.now.0; day = term.now.1 })) }
+    ensures kept { Kept (state S.Store tx.old.conn.now) (state S.Store tx.new.conn.now) }
+    ensures survives { Survived (state S.Store tx.old.conn.now) (state S.Store tx.new.conn.now) }
+{
+    tx.execute(
+        "INSERT INTO term (loan, day) VALUES (?1, ?2)",
+        params![term.0.as_str(), i64::from(term.1.number())],
+    )
+}
+
+/// Puts the last day of a loan in the place of the one before.
+fn put_term<S: Alter>(tx: &mut Transaction<'_, S>, term: &(LoanCode, Day)) -> Result<usize, Error>
+    requires { IsWithin (state S.Store tx.old.conn.now) }
+    ensures same_reference { tx.new.conn.ghost_name ≡ tx.old.conn.ghost_name }
+    ensures wrote { Wrote (state S.Store tx.old.conn.now) (state S.Store tx.new.conn.now) result
+        (step.with_term (record { loan = term.now.0; day = term.now.1 })) }
+    ensures kept { Kept (state S.Store tx.old.conn.now) (state S.Store tx.new.conn.now) }
+    ensures survives { Survived (state S.Store tx.old.conn.now) (state S.Store tx.new.conn.now) }
+{
+    clear_term(tx, term)?;
+    add_term(tx, term)
+}
+
+/// Puts the last day that an entry gives a loan, if it gives one.
+fn put_some_term<S: Alter>(tx: &mut Transaction<'_, S>, entry: &Entry) -> Result<(), Error>
+    requires { IsWithin (state S.Store tx.old.conn.now) }
+    ensures same_reference { tx.new.conn.ghost_name ≡ tx.old.conn.ghost_name }
+    ensures wrote { Wrote (state S.Store tx.old.conn.now) (state S.Store tx.new.conn.now) result
+        (step.with_some_term (term_of entry.now)) }
+    ensures kept { Kept (state S.Store tx.old.conn.now) (state S.Store tx.new.conn.now) }
+    ensures survives { Survived (state S.Store tx.old.conn.now) (state S.Store tx.new.conn.now) }
+{
+    if let Some(term) = term_of(entry) {
+        put_term(tx, &term)?;
+    }
+    Ok(())
+}
+
+/// Adds an entry and its spots.
+fn put_first<S: Alter>(
+    tx: &mut Transaction<'_, S>,
+    row: &KeptPosting,
+    changes: &Changes,
+) -> Result<(), Error>
+    requires { IsWithin (state S.Store tx.old.conn.now) }
+    ensures same_reference { tx.new.conn.ghost_name ≡ tx.old.conn.ghost_name }
+    ensures wrote { Wrote (state S.Store tx.old.conn.now) (state S.Store tx.new.conn.now) result
+        (λ c. step.with_each (λ s. step.with_spot (spot_row s)) changes.now.spots (step.with_posting (posting_row row.now) c)) }
+    ensures kept { Kept (state S.Store tx.old.conn.now) (state S.Store tx.new.conn.now) }
+    ensures survives { Survived (state S.Store tx.old.conn.now) (state S.Store tx.new.conn.now) }
+{
+    put_posting(tx, row)?;
+    put_spots(tx, changes.spots.as_slice())
+}
+
+/// Puts the lines and the last day of an entry.
+fn put_last<S: Alter>(
+    tx: &mut Transaction<'_, S>,
+    entry: &Entry,
+    changes: &Changes,
+) -> Result<(), Error>
+    requires { IsWithin (state S.Store tx.old.conn.now) }
+    ensures same_reference { tx.new.conn.ghost_name ≡ tx.old.conn.ghost_name }
+    ensures wrote { Wrote (state S.Store tx.old.conn.now) (state S.Store tx.new.conn.now) result
+        (λ c. step.with_some_term (term_of entry.now) (step.with_each (λ l. step.with_line (line_row l)) changes.now.lines c)) }
+    ensures kept { Kept (state S.Store tx.old.conn.now) (state S.Store tx.new.conn.now) }
+    ensures survives { Survived (state S.Store tx.old.conn.now) (state S.Store tx.new.conn.now) }
+{
+    put_lines(tx, changes.lines.as_slice())?;
+    put_some_term(tx, entry)
+}
+
+/// Puts all that a posting writes.
+fn put_rows<S: Alter>(
+    tx: &mut Transaction<'_, S>,
+    row: &KeptPosting,
+    entry: &Entry,
+    changes: &Changes,
+) -> Result<(), Error>
+    requires { IsWithin (state S.Store tx.old.conn.now) }
+    ensures same_reference { tx.new.conn.ghost_name ≡ tx.old.conn.ghost_name }
+    ensures wrote { Wrote (state S.Store tx.old.conn.now) (state S.Store tx.new.conn.now) result
+        (with_posted (posting_row row.now) entry.now changes.now) }
+    ensures kept { Kept (state S.Store tx.old.conn.now) (state S.Store tx.new.conn.now) }
+    ensures survives { Survived (state S.Store tx.old.conn.now) (state S.Store tx.new.conn.now) }
+{
+    put_first(tx, row, changes)?;
+    put_last(tx, entry, changes)
+}
+
+/// Puts a posting with all that it changes into the store, in one transaction: a crash leaves the rows from before the call
+/// or those with the whole posting, and after an Ok the latter.
+pub(crate) fn put_whole<S: Alter>(
+    conn: &mut Connection<S>,
+    row: &KeptPosting,
+    entry: &Entry,
+    changes: &Changes,
+) -> Result<(), Error>
+    requires ready { HasCleanDisk (state S.Store conn.old) → IsReady (state S.Store conn.old) }
+    requires between { (state S.Store conn.old).in_transaction ≡ false }
+    ensures between { (state S.Store conn.new).in_transaction ≡ false }
+    ensures posted { HasCleanDisk (state S.Store conn.new) → OnOk result (IsDone (state S.Store conn.old) (state S.Store conn.new)
+        (with_posted (posting_row row.now) entry.now changes.now)) }
+    ensures failed { HasCleanDisk (state S.Store conn.new) → IsTrue (state S.Store conn.new).is_open
+        → OnErr result (IsBack (state S.Store conn.old) (state S.Store conn.new)) }
+    ensures crash { Survives (state S.Store conn.old) (state S.Store conn.new)
+        (LeavesWhole (state S.Store conn.old) (with_posted (posting_row row.now) entry.now changes.now)) }
+{
+    let _between = conn.is_autocommit();
+    let mut tx = conn.transaction();
+    put_rows(&mut tx, row, entry, changes)?;
+    tx.commit()
+}

@@ -1,0 +1,154 @@
+//! Whether rowids are numbers that differ. A database from outside could have others, and taking out a row by its key would
+//! then take out more.
+ghost use Rattle.std.specs.Prelude.{◌≡◌, ◌≤◌, true, false, ℤ, IfOk, IfSome, OnOk, IsTrue};
+ghost use Rattle.sqlite.specs.Held.{state};
+ghost use Rattle.sqlite.specs.State.{HasCleanDisk};
+ghost use Rattle.sqlite.specs.Tree.{rowid};
+ghost use Rattle.sqlite.specs.declared.types.Value.TheVariants.{Int};
+ghost use Rattle.register_sql.specs.Posting.{Survived};
+ghost use Rattle.register_sql.specs.Queries.{shows_id, IsPart, IsSame, IsApartIn, AreApart};
+ghost use Rattle.register_sql.specs.Rowids.{IsBelow, IsRising};
+ghost use Rattle.register_sql.specs.Rows.{Apart};
+
+use crate::queries::{Query, least_of, read};
+use sqlite::{Alter, Connection, Error, Row};
+use sqlite_value::value::ValueRef;
+
+/// The row's first number.
+fn id_of(row: &Row) -> Option<i64>
+    ensures { IfSome result (λ n. rowid row.now ≡ Int n) }
+{
+    match row.get_ref(0) {
+        Ok(ValueRef::Int(id)) => Some(id),
+        _ => None,
+    }
+}
+
+/// Whether the row begins with a number.
+fn has_id(row: &Row) -> bool
+    ensures { IsTrue result → (n : ℤ) × (rowid row.now ≡ Int n) }
+{
+    id_of(row).is_some()
+}
+
+/// Whether both rows begin with a number, and the first one's is below the other's.
+fn is_below(a: &Row, b: &Row) -> bool
+    ensures { IsTrue result → IsBelow a.now b.now }
+{
+    let Some(m) = id_of(a) else {
+        return false;
+    };
+    let Some(n) = id_of(b) else {
+        return false;
+    };
+    m < n
+}
+
+/// Whether each row's first number is above that of the row before.
+fn are_rising(rows: &[Row]) -> bool
+    ensures { IsTrue result → IsRising rows.now }
+{
+    'rows: for at in 1..rows.len() {
+        if !is_below(&rows[at - 1], &rows[at]) {
+            return false;
+        }
+    }
+    true
+}
+
+/// Whether the rows' first numbers rise.
+#[tactic(auto, using(crate::proofs::Rising::rises))]
+fn are_apart(rows: &[Row]) -> bool
+    ensures { IsTrue result → Apart rows.now }
+{
+    match rows {
+        [] => true,
+        [first, ..] => has_id(first) && are_rising(rows),
+    }
+}
+
+/// Whether the rowids that the query asks for, if its table is among the first so many, are numbers that differ.
+fn is_apart<S: Alter>(
+    conn: &mut Connection<S>,
+    query: Query,
+    made: usize,
+) -> Result<bool, Error>
+    requires ids { shows_id query ≡ true }
+    requires few { made ≤ 6 }
+    requires part { HasCleanDisk (state S.Store conn.old) → IsPart made (state S.Store conn.old) }
+    ensures between { conn.old.in_transaction ≡ false → conn.new.in_transaction ≡ false }
+    ensures told { HasCleanDisk (state S.Store conn.new) → IfOk result (λ apart.
+        IsTrue apart → IsApartIn query made (state S.Store conn.old).now.trees) }
+    ensures same { HasCleanDisk (state S.Store conn.new)
+        → OnOk result (IsSame (state S.Store conn.old) (state S.Store conn.new)) }
+    ensures survives { Survived (state S.Store conn.old) (state S.Store conn.new) }
+{
+    if least_of(query) > made {
+        return Ok(true);
+    }
+    let rows = read(conn, query, made)?;
+    Ok(are_apart(&rows))
+}
+
+/// The same of the setup and the entries.
+fn are_first_apart<S: Alter>(conn: &mut Connection<S>, made: usize) -> Result<bool, Error>
+    requires few { made ≤ 6 }
+    requires part { HasCleanDisk (state S.Store conn.old) → IsPart made (state S.Store conn.old) }
+    ensures between { conn.old.in_transaction ≡ false → conn.new.in_transaction ≡ false }
+    ensures told { HasCleanDisk (state S.Store conn.new) → IfOk result (λ apart.
+        IsTrue apart → IsApartIn Query.SetupIds made (state S.Store conn.old).now.trees
+        × IsApartIn Query.PostingIds made (state S.Store conn.old).now.trees) }
+    ensures same { HasCleanDisk (state S.Store conn.new)
+        → OnOk result (IsSame (state S.Store conn.old) (state S.Store conn.new)) }
+    ensures survives { Survived (state S.Store conn.old) (state S.Store conn.new) }
+{
+    let setup = is_apart(conn, Query::SetupIds, made)?;
+    if !setup {
+        return Ok(false);
+    }
+    let postings = is_apart(conn, Query::PostingIds, made);
+    postings
+}
+
+/// The same of the lines and the last days.
+fn are_last_apart<S: Alter>(conn: &mut Connection<S>, made: usize) -> Result<bool, Error>
+    requires few { made ≤ 6 }
+    requires part { HasCleanDisk (state S.Store conn.old) → IsPart made (state S.Store conn.old) }
+    ensures between { conn.old.in_transaction ≡ false → conn.new.in_transaction ≡ false }
+    ensures told { HasCleanDisk (state S.Store conn.new) → IfOk result (λ apart.
+        IsTrue apart → IsApartIn Query.LineIds made (state S.Store conn.old).now.trees
+        × IsApartIn Query.TermIds made (state S.Store conn.old).now.trees) }
+    ensures same { HasCleanDisk (state S.Store conn.new)
+        → OnOk result (IsSame (state S.Store conn.old) (state S.Store conn.new)) }
+    ensures survives { Survived (state S.Store conn.old) (state S.Store conn.new) }
+{
+    let lines = is_apart(conn, Query::LineIds, made)?;
+    if !lines {
+        return Ok(false);
+    }
+    let terms = is_apart(conn, Query::TermIds, made);
+    terms
+}
+
+/// Whether the rowids of the setup, the entries, the lines and the last days are numbers that differ, so far as their
+/// tables are among the first so many.
+pub(crate) fn are_all_apart<S: Alter>(
+    conn: &mut Connection<S>,
+    made: usize,
+) -> Result<bool, Error>
+    requires few { made ≤ 6 }
+    requires part { HasCleanDisk (state S.Store conn.old) → IsPart made (state S.Store conn.old) }
+    ensures between { conn.old.in_transaction ≡ false → conn.new.in_transaction ≡ false }
+    ensures told { HasCleanDisk (state S.Store conn.new) → IfOk result (λ apart.
+        IsTrue apart → AreApart made (state S.Store conn.old).now.trees) }
+    ensures same { HasCleanDisk (state S.Store conn.new)
+        → OnOk result (IsSame (state S.Store conn.old) (state S.Store conn.new)) }
+    ensures survives { Survived (state S.Store conn.old) (state S.Store conn.new) }
+{
+    let first = are_first_apart(conn, made)?;
+    if !first {
+        return Ok(false);
+    }
+    let last = are_last_apart(conn, made);
+    last
+}
