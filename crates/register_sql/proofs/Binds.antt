@@ -110,9 +110,9 @@ is_other row is =
     differ false d = refl
 
 any_at : (rows : List Row) (k : ℕ) (row : Row) → suc k ≤ length rows → row ≡ slice_index_or rows k row → other row ≡ true → list_any other rows ≡ true
-any_at [] k row low is yes = absurd (omega (arith, low))
-any_at (r ∷ rows) zero row low is yes = rw (ap other (sym is) ∙ yes) refl
-any_at (r ∷ rows) (suc k) row low is yes = last (other r) (any_at rows k row (omega (arith, low)) is yes)
+any_at [] k row low is fit = absurd (omega (arith, low))
+any_at (r ∷ rows) zero row low is fit = rw (ap other (sym is) ∙ fit) refl
+any_at (r ∷ rows) (suc k) row low is fit = last (other r) (any_at rows k row (omega (arith, low)) is fit)
   where
     last : (b : Bool) → list_any other rows ≡ true → (b || list_any other rows) ≡ true
     last true h = refl
@@ -121,27 +121,27 @@ any_at (r ∷ rows) (suc k) row low is yes = last (other r) (any_at rows k row (
 -- and back, of rows that have the cells of `meta`
 other_at : (m : MetaRow) → other (meta_cells m) ≡ true → IsOther (meta_cells m)
 unfolding other
-other_at m yes =
-    let parts = and_parts (bytes_eq m.name (codes "version")) _ yes in
-    (m.val, ap (λ n. Text n ∷ Int m.val ∷ []) ((bytes_eq-Decides m.name (codes "version")).0 parts.0), λ two. absurd (let no : not (int_eq m.val (pos 2)) ≡ false = ap not ((Decides-int_eq m.val (pos 2)).1 two) in let e : true ≡ false = sym parts.1 ∙ no in cc))
+other_at m fit =
+    let parts = and_parts (bytes_eq m.name (codes "version")) _ fit in
+    (m.val, ap (λ n. Text n ∷ Int m.val ∷ []) ((bytes_eq-Decides m.name (codes "version")).0 parts.0), λ two. absurd (let bad : not (int_eq m.val (pos 2)) ≡ false = ap not ((Decides-int_eq m.val (pos 2)).1 two) in let e : true ≡ false = sym parts.1 ∙ bad in cc))
+
+found_in : (rs : List Row) → AllByRecursion (λ r. (m : MetaRow) × (r ≡ meta_cells m)) rs → list_any other rs ≡ true → HasOther rs
+found_in [] all fit = absurd (let e : false ≡ true = fit in cc)
+found_in (r ∷ rs) all fit = pick_one (other r) refl fit (found_in rs all.1)
+  where
+    pick_one : (b : Bool) → other r ≡ b → (b || list_any other rs) ≡ true → (list_any other rs ≡ true → HasOther rs) → HasOther (r ∷ rs)
+    pick_one true is h next = (0, r, omega arith, refl, subst IsOther (sym all.0.1) (other_at all.0.0 (ap other (sym all.0.1) ∙ is)))
+    pick_one false is h next = let it = next h in (suc it.0, it.1, omega (arith, it.2), it.3, it.4)
 
 none_other : (rows : List Row) (ms : List MetaRow) → IsPermutation (map meta_cells ms) rows → ¬ HasOther rows → has_other_version ms ≡ false
 none_other rows ms held none = go (list_any other rows) refl
   where
-    find : (rs : List Row) → AllByRecursion (λ r. (m : MetaRow) × (r ≡ meta_cells m)) rs → list_any other rs ≡ true → HasOther rs
-    find [] all yes = absurd (let e : false ≡ true = yes in cc)
-    find (r ∷ rs) all yes = pickone (other r) refl yes
-      where
-        pickone : (b : Bool) → other r ≡ b → (b || list_any other rs) ≡ true → HasOther (r ∷ rs)
-        pickone true is h = (0, r, omega arith, refl, subst IsOther (sym all.0.1) (other_at all.0.0 (ap other (sym all.0.1) ∙ is)))
-        pickone false is h = let it = find rs all.1 h in (suc it.0, it.1, omega (arith, it.2), it.3, it.4)
-
     each : (xs : List MetaRow) → AllByRecursion (λ r. (m : MetaRow) × (r ≡ meta_cells m)) (map meta_cells xs)
     each [] = tt
     each (x ∷ xs) = ((x, refl), each xs)
 
     go : (b : Bool) → list_any other rows ≡ b → has_other_version ms ≡ false
-    go true is = absurd (none (find rows (all-permutation _ _ _ held (each ms)) is))
+    go true is = absurd (none (found_in rows (all-permutation _ _ _ held (each ms)) is))
     go false is = sym (others_are ms) ∙ list_any-IsPermutation other _ rows held ∙ is
 
 -- the store is refused for what it says
@@ -183,9 +183,9 @@ has_the_setup S db c held is =
 
 pub other_setup : (S : Museum) (db : Trees) (rows : List Row) (depth : ℕ) → IsPermutation (shown_in Metas db) rows → IsTold rows (told.Bound depth)
     → Decides false (IsPermutation (setup_rows_shown (setup_rows S)) (shown_in Setups db)) → (c : Content) → HasPart 6 db c → IsBindFault S c OtherSetup
-other_setup S db rows depth read is no c held = (
+other_setup S db rows depth read is differs c held = (
   (depth, is.0, whole_meta 6 (omega arith) db rows depth read is c held),
-  λ same. absurd (let e : false ≡ true = no.1 (IsPermutation-trans _ _ _ (IsPermutation-map setup_shown _ _ (IsPermutation-trans _ _ _ (IsPermutation-sym _ _ (setup_rows_are S)) same)) (setups_shown db c held)) in cc),
+  λ same. absurd (let e : false ≡ true = differs.1 (IsPermutation-trans _ _ _ (IsPermutation-map setup_shown _ _ (IsPermutation-trans _ _ _ (IsPermutation-sym _ _ (setup_rows_are S)) same)) (setups_shown db c held)) in cc),
 )
 
 -- ---- bound
@@ -198,7 +198,7 @@ pub refused_as : (S : Museum) (made : ℕ) → made ≤ 6 → (old new : State) 
 refused_as S made few old new fault part same cause =
     record { same = same; cause = λ c held. cause c (part_of made few old.now.trees (subst (λ k. IsSound k old.now.trees) part.schema part.sound) c held) }
 
-same_all : (c : Content) → AreSame c c
+pub same_all : (c : Content) → AreSame c c
 same_all c = record { setup = IsPermutation-refl c.setup; meta = IsPermutation-refl c.meta; postings = IsPermutation-refl c.postings; spots = IsPermutation-refl c.spots; lines = IsPermutation-refl c.lines; terms = IsPermutation-refl c.terms }
 
 old_stays : (S : Museum) (c : Content) → is_new c.meta ≡ false → AreSame (bound_to S c) c
@@ -258,6 +258,7 @@ module _ (S : Museum) (made : ℕ) (few : made ≤ 6) (old : State) (part : IsPa
   empty_meta = none_new first.0.meta (subst (λ l. IsPermutation (map meta_cells first.0.meta) (map (drop 1) l)) none first.1.meta)
 
   made_comes : (d : Content) → AreRows next d → ComesBound S old.now.trees d
+  unfolding made_content
   made_comes d h = (
     first.0,
     record { made = made; few = few; sound = sound_in made old part; rows = first.1 },
@@ -265,6 +266,7 @@ module _ (S : Museum) (made : ℕ) (few : made ≤ 6) (old : State) (part : IsPa
   )
 
   made_bound : (d : Content) → AreRows next d → IsBoundTo S 12 d
+  unfolding made_content
   made_bound d h =
       let same = same_part 6 next made_content.0 d made_content.1 h in
       record { setup = same.setup; meta = same.meta; limit = refl }
@@ -348,3 +350,19 @@ module _ (S : Museum) (made : ℕ) (few : made ≤ 6) (old mid new : State) (tex
 
 pub is_six : (made : ℕ) (s : State) → made ≤ 6 → 6 ≤ made → IsPart made s → IsPart 6 s
 is_six made s few many part = let six : made ≡ 6 = omega arith in subst (λ k. IsPart k s) six part
+
+-- ---- what was told of the store decides
+
+pub new_there : (made : ℕ) → 1 ≤ made → (old mid : State) → IsSame old mid → (rows : List Row) → IsPermutation (shown_in Metas old.now.trees) rows → IsTold rows told.New → had 1 made (mid.now.trees 0) ≡ []
+new_there made some old mid same rows read is =
+    here 1 made (mid.now.trees 0) some ∙ ap (λ (k : Database). k.trees 0) same.now ∙ told_new old.now.trees rows read is
+
+-- an answer's clauses, weakened
+pub weaker : {X E : Type 0} (P Q : X → Type 0) → ((x : X) → P x → Q x) → (r : Result (Result X StoreFault) E) → IfOk r (λ a. IfOk a P) → IfOk r (λ a. IfOk a Q)
+weaker P Q h (Ok (Ok x)) is = h x is
+weaker P Q h (Ok (Err fault)) is = tt
+weaker P Q h (Err e) is = tt
+
+pub crash_on : (S : Museum) (old mid new : State) → Survives old mid (λ _. ⊥) → (HasCleanDisk mid → IsSame old mid) → Survives mid new (LeavesBound S mid) → Survives old new (LeavesBound S old)
+crash_on S old mid new first same second =
+    survives_then old mid new _ _ (LeavesBound S old) (λ _ db none. absurd none) (λ clean db is. leaves_on S old mid (same (omega (arith, second.clean, clean))) db is) first second

@@ -33,11 +33,11 @@ Holds s c = (db : Trees) × s.may_leave db × IsStored db c
 
 -- an open store may hold what it shows, and nothing else
 shown_held : (s : State) → Laws s → IsSettled s → (c : Content) → IsStored s.now.trees c → Holds s c
-shown_held s laws open c stored = (s.committed.trees, laws.stays open.is_open, subst (λ (d : Database). IsStored d.trees c) open.settled stored)
+shown_held s laws up c stored = (s.committed.trees, laws.stays up.is_open, subst (λ (d : Database). IsStored d.trees c) up.settled stored)
 
 held_shown : (s : State) → Laws s → IsSettled s → (c : Content) → Holds s c → IsStored s.now.trees c
-held_shown s laws open c held =
-    subst (λ db. IsStored db c) (laws.settled held.0 open.is_open held.1 ∙ sym (ap (λ (d : Database). d.trees) open.settled)) held.2
+held_shown s laws up c held =
+    subst (λ db. IsStored db c) (laws.settled held.0 up.is_open held.1 ∙ sym (ap (λ (d : Database). d.trees) up.settled)) held.2
 
 whole_sound : (s : State) → IsReady s → IsSound hub_schema s.now.trees
 whole_sound s ready = subst (λ k. IsSound k s.now.trees) ready.whole.schema ready.whole.sound
@@ -57,11 +57,11 @@ no_two a b = absurd a
 -- ---- nothing is changed
 
 pub same_comes : (old new : State) → Laws old → Laws new → (HasCleanDisk old → IsSettled old) → Survives old new (λ _. ⊥) → Comes (in_store old) (in_store new) AreSame
-same_comes old new before after open survives = record {
+same_comes old new before after up survives = record {
   quiet = λ clean. omega (arith, survives.clean, clean);
   some = λ clean none c held.
       let early : HasCleanDisk old = omega (arith, survives.clean, clean) in
-      let was = open early in
+      let was = up early in
       ∥∥₁_elim (after.survives clean) no_two (λ left. elim (survives.crash clean left.0 left.1) [
         | inl had ↦ none c (left.0, left.1, subst (λ db. IsStored db c) (before.settled held.0 was.is_open held.1 ∙ sym (before.settled left.0 was.is_open had)) held.2)
         | inr not ↦ not
@@ -81,8 +81,8 @@ pub each_read : (old new : State) (Q : Content → Type 0) → Laws new → (Has
 each_read old new Q laws early ready same read clean c held =
     let it = same clean in
     let was = ready (early clean) in
-    let open : IsReady new = record { is_open = it.is_open; settled = it.now ∙ was.settled ∙ sym it.committed; whole = subst IsWhole (sym it.now) was.whole } in
-    read clean c (subst (λ (d : Database). AreRows d.trees c) it.now (held_rows new laws open c held))
+    let up : IsReady new = record { is_open = it.is_open; settled = it.now ∙ was.settled ∙ sym it.committed; whole = subst IsWhole (sym it.now) was.whole } in
+    read clean c (subst (λ (d : Database). AreRows d.trees c) it.now (held_rows new laws up c held))
 
 -- ---- bound
 
@@ -93,25 +93,25 @@ bound_has S depth old new laws is = record {
 }
 
 pub bound_comes : (S : Museum) (depth : ℕ) (old new : State) (P : Trees → Type 0) → Laws old → Laws new → (HasCleanDisk old → IsSettled old) → Survives old new P → (HasCleanDisk new → IsBoundAs S depth old new) → Comes (in_store old) (in_store new) (IsBound S)
-bound_comes S depth old new P before after open survives is = record {
+bound_comes S depth old new P before after up survives is = record {
   quiet = λ clean. omega (arith, survives.clean, clean);
   some = λ clean none. absurd (let it = is clean in none it.content.0 (rows_held new after it.ready it.content.0 it.content.1));
   from = λ clean d held.
       let it = is clean in
       let came = it.comes d (held_rows new after it.ready d held) in
-      (came.0, shown_held old before (open (omega (arith, survives.clean, clean))) came.0 came.1, came.2);
+      (came.0, shown_held old before (up (omega (arith, survives.clean, clean))) came.0 came.1, came.2);
 }
 
 pub refused_comes : (S : Museum) (fault : StoreFault) (old new : State) (P : Trees → Type 0) → Laws old → Laws new → (HasCleanDisk old → IsSettled old) → Survives old new P → (HasCleanDisk new → IsRefused S old new fault) → Comes (in_store old) (in_store new) (IsNotBound S fault)
-refused_comes S fault old new P before after open survives is = record {
+refused_comes S fault old new P before after up survives is = record {
   quiet = λ clean. omega (arith, survives.clean, clean);
   some = λ clean none c held.
       let it = is clean in
-      let was = open (omega (arith, survives.clean, clean)) in
+      let was = up (omega (arith, survives.clean, clean)) in
       none c (shown_held new after (still it.same was) c (subst (λ (d : Database). IsStored d.trees c) (sym it.same.now) (held_shown old before was c held)));
   from = λ clean d held.
       let it = is clean in
-      let was = open (omega (arith, survives.clean, clean)) in
+      let was = up (omega (arith, survives.clean, clean)) in
       let stored = subst (λ (k : Database). IsStored k.trees d) it.same.now (held_shown new after (still it.same was) d held) in
       (d, shown_held old before was d stored, (it.cause d stored, inl (same_all d)));
 }
@@ -128,16 +128,16 @@ failure_cause S c OtherVersion is = absurd (let e : false ≡ true = is in cc)
 
 -- a statement failed
 pub failed_comes : (S : Museum) (fault : StoreFault) (old new : State) → is_failure fault ≡ true → Laws old → Laws new → (HasCleanDisk old → IsSettled old) → Survives old new (LeavesBound S old) → Comes (in_store old) (in_store new) (IsNotBound S fault)
-failed_comes S fault old new fails before after open survives = record {
+failed_comes S fault old new fails before after up survives = record {
   quiet = λ clean. omega (arith, survives.clean, clean);
   some = λ clean none c held.
-      let was = open (omega (arith, survives.clean, clean)) in
+      let was = up (omega (arith, survives.clean, clean)) in
       ∥∥₁_elim (after.survives clean) no_two (λ left. elim (survives.crash clean left.0 left.1) [
         | inl had ↦ none c (left.0, left.1, subst (λ db. IsStored db c) (before.settled held.0 was.is_open held.1 ∙ sym (before.settled left.0 was.is_open had)) held.2)
         | inr bound ↦ none bound.content.0 (left.0, left.1, record { made = 6; few = omega arith; sound = bound.sound; rows = bound.content.1 })
       ]);
   from = λ clean d held.
-      let was = open (omega (arith, survives.clean, clean)) in
+      let was = up (omega (arith, survives.clean, clean)) in
       elim (survives.crash clean held.0 held.1) [
         | inl had ↦ (d, (held.0, had, held.2), (failure_cause S d fault fails, inl (same_all d)))
         | inr bound ↦
@@ -200,9 +200,9 @@ still_unbound S fault s fails = record { quiet = λ clean. clean; some = λ clea
 
 -- ---- the count of refusals
 
-pub counts : {T : Type 0} (refusals : ℕ) (fault : StoreFault) → CountsRefusal {T = T} refusals (counted refusals fault) (Err fault)
-counts refusals NoMemory = refl
-counts refusals Store = refl
-counts refusals OtherSetup = refl
-counts refusals (Damaged at) = refl
-counts refusals OtherVersion = refl
+pub counts : (T : Type 0) (refusals : ℕ) (fault : StoreFault) → CountsRefusal {T = T} refusals (counted refusals fault) (Err fault)
+counts T refusals NoMemory = refl
+counts T refusals Store = refl
+counts T refusals OtherSetup = refl
+counts T refusals (Damaged at) = refl
+counts T refusals OtherVersion = refl

@@ -64,13 +64,13 @@ not_as_many rows texts other = ((λ no. absurd (let e : false ≡ true = no in c
 
 pub not_there : (rows : List Row) (texts : List (List ℕ)) (i : ℕ) (row : Row) (text : List ℕ) (same : Bool) → i < length texts → row ≡ get_or rows i row → text ≡ get_or texts i text
     → Decides same (row ≡ setup_shown (record { id = pos (i + 1); text = text })) → same ≡ false → Decides false (rows ≡ setup_rows_shown texts)
-not_there rows texts i row text same low is text_is told no = (
+not_there rows texts i row text same low is text_is told unfit = (
   (λ f. absurd (let e : false ≡ true = f in cc)),
   λ all.
       let one : 1 + i ≡ i + 1 = omega arith in
       let here : row ≡ setup_shown (record { id = pos (i + 1); text = text }) =
       is ∙ ap (λ l. get_or l i row) all ∙ got_from 1 texts i row text low ∙ ap (λ n. setup_shown (record { id = pos n; text = get_or texts i text })) one ∙ ap (λ t. setup_shown (record { id = pos (i + 1); text = t })) (sym text_is) in
-      sym no ∙ told.1 here,
+      sym unfit ∙ told.1 here,
 )
 
 pub one_further : (rows : List Row) (texts : List (List ℕ)) (i : ℕ) (row : Row) (text : List ℕ) → i < length rows → i < length texts → row ≡ get_or rows i row → text ≡ get_or texts i text

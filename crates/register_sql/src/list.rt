@@ -4,7 +4,7 @@ ghost use Rattle.sqlite.specs.Held.{state};
 ghost use Rattle.sqlite.specs.State.{HasCleanDisk};
 ghost use Rattle.register_store.specs.Plain.{posting_row};
 ghost use Rattle.register_store.specs.Registers.{is_of_listing, IsOfStation, IsWrongRow, IsWrongAt, IsListFault};
-ghost use Rattle.register_store.specs.StoredRows as rows;
+ghost use Rattle.register_store.specs.StoredRows as stored;
 ghost use Rattle.register_store.specs.StoredRows.{IsPostingRow, ArePostings, HasList};
 ghost use Rattle.register_sql.specs.Posting.{Survived};
 ghost use Rattle.register_sql.specs.Queries.{IsPart, IsSame};
@@ -21,7 +21,7 @@ use std::alloc::Global;
 fn typed(row: &Row) -> Result<KeptPosting, Error>
     ensures read { IfOk result (λ kept. posting_shown (posting_row kept) ≡ row.now) }
     ensures unreadable { IfErr result (λ e. e ≢ Error.SqliteFailure ErrorCode.OutOfMemory
-        → (p : rows.PostingRow) → posting_shown p ≡ row.now → ¬ FitsPosting p) }
+        → (p : stored.PostingRow) → posting_shown p ≡ row.now → ¬ FitsPosting p) }
 {
     if row.column_count() != 5 {
         return Err(Error::InvalidQuery);
@@ -53,11 +53,11 @@ fn entry_in(
     number: u64,
     stations: u32,
 ) -> Result<Entry, StoreFault>
-    ensures kept { IfOk result (λ entry. (p : rows.PostingRow) → posting_shown p ≡ row.now → IsPostingRow number entry p) }
+    ensures kept { IfOk result (λ entry. (p : stored.PostingRow) → posting_shown p ≡ row.now → IsPostingRow number entry p) }
     ensures stationed { IfOk result (IsOfStation stations) }
     ensures damaged { IfErr result (λ fault. fault ≢ StoreFault.NoMemory → fault ≡ StoreFault.Damaged number) }
     ensures wrong { IfErr result (λ fault. fault ≢ StoreFault.NoMemory
-        → (p : rows.PostingRow) → posting_shown p ≡ row.now → IsWrongRow stations number p) }
+        → (p : stored.PostingRow) → posting_shown p ≡ row.now → IsWrongRow stations number p) }
 {
     let kept = match typed(row) {
         Ok(kept) => kept,
@@ -68,11 +68,11 @@ fn entry_in(
 
 /// The entries that the rows keep, oldest first; Damaged at the first row that keeps none of these stations under its number.
 fn entries_of(alloc: Global, rows: &[Row], stations: u32) -> Result<Vec<Entry>, StoreFault>
-    ensures kept { IfOk result (λ entries. (ps : List rows.PostingRow) → map posting_shown ps ≡ rows.now
+    ensures kept { IfOk result (λ entries. (ps : List stored.PostingRow) → map posting_shown ps ≡ rows.now
         → ArePostings (reverse entries.items) (reverse ps)) }
     ensures stationed { IfOk result (λ entries. All (IsOfStation stations) entries.items) }
     ensures faults { IfErr result (λ fault. fault ≢ StoreFault.NoMemory → (at : ℕ) × (fault ≡ StoreFault.Damaged at)
-        × ((ps : List rows.PostingRow) → map posting_shown ps ≡ rows.now → IsWrongAt stations at ps)) }
+        × ((ps : List stored.PostingRow) → map posting_shown ps ≡ rows.now → IsWrongAt stations at ps)) }
 {
     let mut entries = Vec::new(alloc);
     'rows: for i in 0..rows.len() {
@@ -93,11 +93,11 @@ pub(crate) fn list<S: Alter>(
     requires part { HasCleanDisk (state S.Store conn.old) → IsPart 6 (state S.Store conn.old) }
     ensures between { conn.old.in_transaction ≡ false → conn.new.in_transaction ≡ false }
     ensures listed { HasCleanDisk (state S.Store conn.new) → IfOk result (λ answer. IfOk answer (λ entries.
-        (c : rows.Content) → AreRows (state S.Store conn.old).now.trees c → HasList (reverse entries.items) c)) }
+        (c : stored.Content) → AreRows (state S.Store conn.old).now.trees c → HasList (reverse entries.items) c)) }
     ensures stationed { IfOk result (λ answer. IfOk answer (λ entries. All (IsOfStation stations) entries.items)) }
     ensures faults { IfOk result (λ answer. IfErr answer (λ fault. is_of_listing fault ≡ true)) }
     ensures cause { HasCleanDisk (state S.Store conn.new) → IfOk result (λ answer. IfErr answer (λ fault.
-        (c : rows.Content) → AreRows (state S.Store conn.old).now.trees c → IsListFault stations c fault)) }
+        (c : stored.Content) → AreRows (state S.Store conn.old).now.trees c → IsListFault stations c fault)) }
     ensures same { HasCleanDisk (state S.Store conn.new)
         → OnOk result (IsSame (state S.Store conn.old) (state S.Store conn.new)) }
     ensures survives { Survived (state S.Store conn.old) (state S.Store conn.new) }
