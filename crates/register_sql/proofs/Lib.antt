@@ -1,3 +1,4 @@
+pub mod Agrees
 pub mod Apart
 pub mod Texts
 pub mod Added
@@ -21,3 +22,4 @@ pub mod Setups
 pub mod Postings
 pub mod Binds
 pub mod Holds
+pub mod Links

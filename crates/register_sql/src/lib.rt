@@ -1,7 +1,9 @@
 //! The register over SQLite.
 #![tactic(auto)]
 
+mod agree;
 mod bind;
+mod link;
 mod list;
 mod make;
 mod put;
@@ -10,3 +12,4 @@ mod rowids;
 mod schema;
 mod table;
 mod told;
+mod typed;

@@ -1,0 +1,6 @@
+use Rattle.std.proofs.Common.{◌≡◌, take}
+use Rattle.register_sql.specs.Found.{lines_shown}
+use Rattle.register_sql.proofs.agree.lines_in.Given as goal
+
+abbrev pub invariant-rows : goal.invariant-rows
+invariant-rows l = lines_shown l.kept.entries ≡ take l.row-index l.rows

@@ -1,0 +1,148 @@
+//! A connection that is asked nothing more once a statement has failed.
+ghost use Rattle.std.specs.Prelude.{◌≡◌, ◌⊎◌, true, Some, reverse, All, IfOk, IfErr, OnOk, OnErr};
+ghost use Rattle.std.specs.Bool.{Decides};
+ghost use Rattle.sqlite.specs.Held.{state};
+ghost use Rattle.register_store.specs.Holdings.{Each, Has, Comes, IsPosted, IsBound, IsNotBound};
+ghost use Rattle.register_store.specs.Registers.{is_failure, is_of_listing, IsOfStation, IsListFault};
+ghost use Rattle.register_store.specs.StoredRows.{AreSame, HasList, HasRows, IsBoundTo};
+ghost use Rattle.register_sql.specs.Stores.{in_store, IsKept};
+
+use crate::agree::agrees;
+use crate::bind::bind;
+use crate::list::list;
+use crate::put::put_whole;
+use nest_core::Setup;
+use posting_core::{Changes, Entry, Ledger};
+use register_store::{StoreFault, row_of};
+use sqlite::{Alter, Connection, Error, ErrorCode};
+use std::alloc::Global;
+
+/// A connection, whether a setup is bound to its store, and the fault of the statement that failed. A connection may be shut
+/// by a failure, and shows nothing then: it is asked nothing more, and the same fault is answered again.
+pub(crate) struct Link<S: Alter> {
+    pub(crate) conn: Connection<S>,
+    pub(crate) bound: bool,
+    pub(crate) stopped: Option<StoreFault>,
+}
+
+/// The fault of a statement that failed.
+fn fault_of(error: Error) -> StoreFault
+    ensures { is_failure result ≡ true }
+{
+    match error {
+        Error::SqliteFailure(ErrorCode::OutOfMemory) => StoreFault::NoMemory,
+        _ => StoreFault::Store,
+    }
+}
+
+/// Stops the connection after an error, and answers its fault.
+pub(crate) fn stop<S: Alter>(link: &mut Link<S>, error: Error) -> StoreFault
+    ensures conn { link.new.conn ≡ link.old.conn }
+    ensures bound { link.new.bound ≡ link.old.bound }
+    ensures stopped { link.new.stopped ≡ Some result }
+    ensures failure { is_failure result ≡ true }
+{
+    let fault = fault_of(error);
+    link.stopped = Some(fault);
+    fault
+}
+
+/// Binds the store to the setup, and answers its depth limit.
+pub(crate) fn bind_store<S: Alter>(
+    alloc: Global,
+    link: &mut Link<S>,
+    setup: &Setup,
+) -> Result<u32, StoreFault>
+    requires { IsKept (state S.Store link.old.conn) link.old.bound link.old.stopped }
+    ensures invariant { IsKept (state S.Store link.new.conn) link.new.bound link.new.stopped }
+    ensures bound { IfOk result (λ depth. Has (in_store (state S.Store link.new.conn)) (IsBoundTo setup.now depth)) }
+    ensures kept { OnOk result (Comes (in_store (state S.Store link.old.conn)) (in_store (state S.Store link.new.conn)) (IsBound setup.now)) }
+    ensures refused { IfErr result (λ fault. Comes (in_store (state S.Store link.old.conn)) (in_store (state S.Store link.new.conn)) (IsNotBound setup.now fault)) }
+    ensures ready { OnOk result (link.new.bound ≡ true) }
+    ensures not_ready { OnErr result (link.new.bound ≡ link.old.bound) }
+{
+    if let Some(fault) = link.stopped {
+        return Err(fault);
+    }
+    match bind(alloc, &mut link.conn, setup) {
+        Ok(Ok(depth)) => {
+            link.bound = true;
+            Ok(depth)
+        }
+        Ok(Err(fault)) => Err(fault),
+        Err(error) => Err(stop(link, error)),
+    }
+}
+
+/// The entries of a bound store, oldest first.
+pub(crate) fn list_store<S: Alter>(
+    alloc: Global,
+    link: &mut Link<S>,
+    stations: u32,
+) -> Result<Vec<Entry>, StoreFault>
+    requires { IsKept (state S.Store link.old.conn) true link.old.stopped }
+    ensures invariant { IsKept (state S.Store link.new.conn) true link.new.stopped }
+    ensures listed { IfOk result (λ entries. Each (in_store (state S.Store link.new.conn)) (HasList (reverse entries.items))) }
+    ensures stationed { IfOk result (λ entries. All (IsOfStation stations) entries.items) }
+    ensures cause { IfErr result (λ fault. Each (in_store (state S.Store link.new.conn)) (λ c. IsListFault stations c fault)) }
+    ensures faults { IfErr result (λ fault. is_of_listing fault ≡ true) }
+    ensures unchanged { Comes (in_store (state S.Store link.old.conn)) (in_store (state S.Store link.new.conn)) AreSame }
+    ensures still { link.new.bound ≡ link.old.bound }
+{
+    if let Some(fault) = link.stopped {
+        return Err(fault);
+    }
+    match list(alloc, &mut link.conn, stations) {
+        Ok(answer) => answer,
+        Err(error) => Err(stop(link, error)),
+    }
+}
+
+/// Puts an entry with its changes into a bound store.
+pub(crate) fn post_to_store<S: Alter>(
+    alloc: Global,
+    link: &mut Link<S>,
+    entry: &Entry,
+    changes: &Changes,
+) -> Result<(), StoreFault>
+    requires { IsKept (state S.Store link.old.conn) true link.old.stopped }
+    ensures invariant { IsKept (state S.Store link.new.conn) true link.new.stopped }
+    ensures posted { OnOk result (Comes (in_store (state S.Store link.old.conn)) (in_store (state S.Store link.new.conn)) (IsPosted entry.now changes.now)) }
+    ensures failed { OnErr result (Comes (in_store (state S.Store link.old.conn)) (in_store (state S.Store link.new.conn)) (λ c d. AreSame c d ⊎ IsPosted entry.now changes.now c d)) }
+    ensures faults { IfErr result (λ fault. is_failure fault ≡ true) }
+    ensures still { link.new.bound ≡ link.old.bound }
+{
+    if let Some(fault) = link.stopped {
+        return Err(fault);
+    }
+    let row = match row_of(alloc, changes.entry, entry) {
+        Ok(row) => row,
+        Err(_) => return Err(StoreFault::NoMemory),
+    };
+    match put_whole(&mut link.conn, &row, entry, changes) {
+        Ok(()) => Ok(()),
+        Err(error) => Err(stop(link, error)),
+    }
+}
+
+/// Whether a bound store's rows of spots, of lines and of last days are exactly those of the ledger.
+pub(crate) fn store_agrees<S: Alter>(
+    alloc: Global,
+    link: &mut Link<S>,
+    ledger: &Ledger,
+) -> Result<bool, StoreFault>
+    requires { IsKept (state S.Store link.old.conn) true link.old.stopped }
+    ensures invariant { IsKept (state S.Store link.new.conn) true link.new.stopped }
+    ensures told { IfOk result (λ same. Each (in_store (state S.Store link.new.conn)) (λ c. Decides same (HasRows ledger.now.museum ledger.now.posted c))) }
+    ensures faults { IfErr result (λ fault. is_failure fault ≡ true) }
+    ensures unchanged { Comes (in_store (state S.Store link.old.conn)) (in_store (state S.Store link.new.conn)) AreSame }
+    ensures still { link.new.bound ≡ link.old.bound }
+{
+    if let Some(fault) = link.stopped {
+        return Err(fault);
+    }
+    match agrees(alloc, &mut link.conn, ledger) {
+        Ok(answer) => answer,
+        Err(error) => Err(stop(link, error)),
+    }
+}

@@ -1,0 +1,103 @@
+//! Spots, lines and last days out of their rows.
+ghost use Rattle.std.specs.Prelude.{◌≡◌, ◌<◌, pos, length, IfSome};
+ghost use Rattle.sqlite.specs.Order.{column};
+ghost use Rattle.sqlite.specs.declared.types.Value.TheVariants.{Int, Text};
+ghost use Rattle.posting_core.specs.StageNumbers.{stage_number};
+ghost use Rattle.register_store.specs.StoredRows.{spot_row, line_row};
+ghost use Rattle.register_sql.specs.Rows.{spot_cells, line_cells, term_cells};
+
+use codes_core::{Day, LoanCode};
+use posting_core::{LineStage, NewSpot, Spot};
+use register_store::LineKey;
+use sqlite::Row;
+use sqlite_value::value::ValueRef;
+
+fn int_at(row: &Row, at: usize) -> Option<i64>
+    requires { at < length row.now }
+    ensures { IfSome result (λ n. column row.now at ≡ Int n) }
+{
+    match row.get_ref(at) {
+        Ok(ValueRef::Int(found)) => Some(found),
+        _ => None,
+    }
+}
+
+fn u32_at(row: &Row, at: usize) -> Option<u32>
+    requires { at < length row.now }
+    ensures { IfSome result (λ n. column row.now at ≡ Int (pos n)) }
+{
+    u32::try_from(int_at(row, at)?).ok()
+}
+
+fn u64_at(row: &Row, at: usize) -> Option<u64>
+    requires { at < length row.now }
+    ensures { IfSome result (λ n. column row.now at ≡ Int (pos n)) }
+{
+    u64::try_from(int_at(row, at)?).ok()
+}
+
+fn day_at(row: &Row, at: usize) -> Option<Day>
+    requires { at < length row.now }
+    ensures { IfSome result (λ day. column row.now at ≡ Int day) }
+{
+    Day::numbered(int_at(row, at)?)
+}
+
+fn stage_at(row: &Row, at: usize) -> Option<LineStage>
+    requires { at < length row.now }
+    ensures { IfSome result (λ stage. column row.now at ≡ Int (pos (stage_number stage))) }
+{
+    LineStage::numbered(u32_at(row, at)?)
+}
+
+fn loan_at(row: &Row, at: usize) -> Option<LoanCode>
+    requires { at < length row.now }
+    ensures { IfSome result (λ loan. column row.now at ≡ Text loan) }
+{
+    match row.get_ref(at) {
+        Ok(ValueRef::Text(text)) => LoanCode::parse(text).ok(),
+        _ => None,
+    }
+}
+
+/// The spot of a row.
+pub(crate) fn spot_of(row: &Row) -> Option<NewSpot>
+    ensures { IfSome result (λ spot. spot_cells (spot_row spot) ≡ row.now) }
+{
+    if row.column_count() != 5 {
+        return None;
+    }
+    let entry = u64_at(row, 2)?;
+    let place = u32_at(row, 3)?;
+    let day = day_at(row, 4)?;
+    Some(NewSpot {
+        thing: u32_at(row, 0)?,
+        k: u64_at(row, 1)?,
+        spot: Spot { entry, place, day },
+    })
+}
+
+/// The line of a row.
+pub(crate) fn line_of(row: &Row) -> Option<(LineKey, LineStage)>
+    ensures { IfSome result (λ e. line_cells (line_row (record { loan = e.0.loan; object = e.0.object; stage = e.1 })) ≡ row.now) }
+{
+    if row.column_count() != 3 {
+        return None;
+    }
+    let loan = loan_at(row, 0)?;
+    let object = u32_at(row, 1)?;
+    let stage = stage_at(row, 2)?;
+    Some((LineKey { loan, object }, stage))
+}
+
+/// The last day of a row, with its loan.
+pub(crate) fn term_of(row: &Row) -> Option<(LoanCode, Day)>
+    ensures { IfSome result (λ e. term_cells (record { loan = e.0; day = e.1 }) ≡ row.now) }
+{
+    if row.column_count() != 2 {
+        return None;
+    }
+    let loan = loan_at(row, 0)?;
+    let day = day_at(row, 1)?;
+    Some((loan, day))
+}
