@@ -10,6 +10,9 @@ mod put;
 mod queries;
 mod rowids;
 mod schema;
+mod sql;
 mod table;
 mod told;
 mod typed;
+
+pub use sql::SqlRegister;

@@ -1,28 +1,57 @@
-use Rattle.std.proofs.Common.{rules, ◌≡◌, ◌⊎◌, true, Some, reverse, All, IfOk, IfErr, OnOk, OnErr, ℕ, ◌+◌, ◌-◌, ◌*◌, ◌<◌, ◌≤◌, length, ◌/◌, ◌%◌, Bool, false, nat_eq, nat_lt, List, [], ◌∷◌, ◌++◌, slice_index_or, slice_set, bit_and, bit_or, Fits, w8, w32, w64, Bor, MutBor}
-use Rattle.std.specs.Bool.{Decides}
+use Rattle.std.proofs.Common.{◌≡◌, true, sym, subst, IfOk, IfErr, IfSome}
 use Rattle.sqlite.specs.Held.{state}
-use Rattle.register_store.specs.Holdings.{Each, Has, Comes, IsPosted, IsBound, IsNotBound}
-use Rattle.register_store.specs.Registers.{is_failure, is_of_listing, IsOfStation, IsListFault}
-use Rattle.register_store.specs.StoredRows.{AreSame, HasList, HasRows, IsBoundTo}
-use Rattle.register_sql.specs.Stores.{in_store, IsKept}
+use Rattle.register_store.specs.Holdings.{Comes, IsNotBound}
+use Rattle.register_store.specs.Registers.{is_failure}
+use Rattle.register_sql.specs.Binding.{IsRefused, IsBoundAs, LeavesBound}
+use Rattle.register_sql.specs.Stores.{in_store}
+use Rattle.register_sql.proofs.Holds.{Laws, bound_has, bound_comes, refused_comes, failed_comes, still_unbound}
 use Rattle.register_sql.proofs.link.bind_store.Goals as goal
 
--- src/link.rt:65:9
 pub returns-in-Some-clause-refused : goal.returns-in-Some-clause-refused
-returns-in-Some-clause-refused g c = ?
+returns-in-Some-clause-refused g c =
+    still_unbound c.args.setup.now c.in-Some.fault (state g.S.Store c.args.link.now.conn) (subst (λ o. IfSome o (λ f. is_failure f ≡ true)) c.in-Some.is c.requires.failed)
 
--- src/link.rt:51:1
 pub returns-in-Ok-Ok-clause-bound : goal.returns-in-Ok-Ok-clause-bound
-returns-in-Ok-Ok-clause-bound g c = ?
+returns-in-Ok-Ok-clause-bound g c =
+    let S = c.args.setup.now in
+    let old = state g.S.Store c.args.link.now.conn in
+    let new = state g.S.Store c.bind.new.conn in
+    let store = c.bind.new.conn.store in
+    let after : Laws new = record { settled = g.met.S.Store.settled store; stays = g.met.S.Store.stays store; survives = g.met.S.Store.survives store } in
+    bound_has S c.in-Ok-Ok.depth old new after (λ clean. subst (λ a. IfOk a (λ depth. IsBoundAs S depth old new)) c.in-Ok-Ok.field-0-is (c.in-Ok-Ok.ensures.bound clean))
 
--- src/link.rt:51:1
 pub returns-in-Ok-Ok-clause-kept : goal.returns-in-Ok-Ok-clause-kept
-returns-in-Ok-Ok-clause-kept g c = ?
+returns-in-Ok-Ok-clause-kept g c =
+    let S = c.args.setup.now in
+    let old = state g.S.Store c.args.link.now.conn in
+    let new = state g.S.Store c.bind.new.conn in
+    let first = c.args.link.now.conn.store in
+    let store = c.bind.new.conn.store in
+    let before : Laws old = record { settled = g.met.S.Store.settled first; stays = g.met.S.Store.stays first; survives = g.met.S.Store.survives first } in
+    let after : Laws new = record { settled = g.met.S.Store.settled store; stays = g.met.S.Store.stays store; survives = g.met.S.Store.survives store } in
+    bound_comes S c.in-Ok-Ok.depth old new (LeavesBound S old) before after (c.requires.settled c.in_default.is) c.bind.ensures.crash
+    (λ clean. subst (λ a. IfOk a (λ depth. IsBoundAs S depth old new)) c.in-Ok-Ok.field-0-is (c.in-Ok-Ok.ensures.bound clean))
 
--- src/link.rt:51:1
 pub returns-in-Ok-Err-clause-refused : goal.returns-in-Ok-Err-clause-refused
-returns-in-Ok-Err-clause-refused g c = ?
+returns-in-Ok-Err-clause-refused g c =
+    let S = c.args.setup.now in
+    let old = state g.S.Store c.args.link.now.conn in
+    let new = state g.S.Store c.bind.new.conn in
+    let first = c.args.link.now.conn.store in
+    let store = c.bind.new.conn.store in
+    let before : Laws old = record { settled = g.met.S.Store.settled first; stays = g.met.S.Store.stays first; survives = g.met.S.Store.survives first } in
+    let after : Laws new = record { settled = g.met.S.Store.settled store; stays = g.met.S.Store.stays store; survives = g.met.S.Store.survives store } in
+    refused_comes S c.in-Ok-Err.fault old new (LeavesBound S old) before after (c.requires.settled c.in_default.is) c.bind.ensures.crash
+    (λ clean. subst (λ a. IfErr a (IsRefused S old new)) c.in-Ok-Err.field-0-is (c.in-Ok-Err.ensures.refused clean))
 
--- src/link.rt:51:1
 pub returns-in-Err-clause-refused : goal.returns-in-Err-clause-refused
-returns-in-Err-clause-refused g c = ?
+returns-in-Err-clause-refused g c =
+    let S = c.args.setup.now in
+    let old = state g.S.Store c.args.link.now.conn in
+    let new = state g.S.Store c.bind.new.conn in
+    let first = c.args.link.now.conn.store in
+    let store = c.bind.new.conn.store in
+    let before : Laws old = record { settled = g.met.S.Store.settled first; stays = g.met.S.Store.stays first; survives = g.met.S.Store.survives first } in
+    let after : Laws new = record { settled = g.met.S.Store.settled store; stays = g.met.S.Store.stays store; survives = g.met.S.Store.survives store } in
+    subst (λ conn. Comes (in_store old) (in_store (state g.S.Store conn)) (IsNotBound S c.stop.result)) (sym c.stop.ensures.conn)
+    (failed_comes S c.stop.result old new c.stop.ensures.failure before after (c.requires.settled c.in_default.is) c.bind.ensures.crash)

@@ -1,0 +1,148 @@
+//! The register over a connection to a database.
+ghost use Rattle.std.specs.Prelude.{◌≡◌, true, false, IfOk, IfErr};
+ghost use Rattle.sqlite.specs.Held.{state};
+ghost use Rattle.sqlite.specs.State.{Survives};
+ghost use Rattle.register_store.specs.Registers.{is_failure, CountsRefusal};
+
+use crate::link::{Link, bind_store, fault_of, list_store, post_to_store, store_agrees, tried};
+use nest_core::Setup;
+use posting_core::{Changes, Entry, Ledger};
+use register_store::{Register, StoreFault};
+use sqlite::{Alter, Connection, File, FileStore, MemStore};
+use std::alloc::Global;
+use std::marker::Model;
+
+/// A register whose rows are in a database, behind a connection. Once a statement has failed it asks nothing more of the
+/// connection, and answers the same fault again.
+pub struct SqlRegister<S: Alter> {
+    link: Link<S>,
+    stations: u32,
+    refusals: u64,
+}
+
+impl<S: Alter> Model for SqlRegister<S> {
+    ghost use Rattle.sqlite.specs.Held.{state};
+    ghost use Rattle.register_sql.specs.Stores.{Kept, kept_code, IsKept};
+
+    ghost Value = { Kept S };
+
+    ghost coded = { kept_code S.code };
+
+    ghost view = { λ r. record { conn = r.link.conn; bound = r.link.bound; stations = r.stations; refusals = r.refusals } };
+
+    ghost invariant = { λ r. IsKept (state S.Store r.link.conn) r.link.bound r.link.stopped };
+}
+
+impl SqlRegister<MemStore> {
+    /// A register over a new database in memory. The fault: NoMemory.
+    pub fn in_memory(alloc: Global) -> Result<SqlRegister<MemStore>, StoreFault>
+        ensures new { IfOk result (λ r. (r.bound ≡ false) × (r.stations ≡ 0) × (r.refusals ≡ 0)) }
+        ensures memory { IfErr result (λ fault. fault ≡ StoreFault.NoMemory) }
+    {
+        match Connection::open_in_memory(alloc) {
+            Ok(conn) => Ok(SqlRegister::adopt(conn)),
+            Err(_) => Err(StoreFault::NoMemory),
+        }
+    }
+}
+
+impl SqlRegister<FileStore<File>> {
+    /// A register over the database in the file, which is made where there is none.
+    pub fn on_file(rt: &HostRuntime, path: &str) -> Result<SqlRegister<FileStore<File>>, StoreFault>
+        ensures new { IfOk result (λ r. (r.bound ≡ false) × (r.stations ≡ 0) × (r.refusals ≡ 0)) }
+        ensures faults { IfErr result (λ fault. is_failure fault ≡ true) }
+    {
+        match Connection::open(rt, path) {
+            Ok(conn) => Ok(SqlRegister::adopt(conn)),
+            Err(error) => Err(fault_of(error)),
+        }
+    }
+}
+
+impl<S: Alter> SqlRegister<S> {
+    ghost use Rattle.register_sql.specs.Stores.{Kept};
+
+    /// A register over a connection between two transactions. Where the connection can't take a statement any more, the
+    /// register answers that fault to each call.
+    pub fn adopt(conn: Connection<S>) -> SqlRegister<S>
+        requires { conn.in_transaction ≡ false }
+        ensures new { (result.bound ≡ false) × (result.stations ≡ 0) × (result.refusals ≡ 0) }
+        ensures survives { Survives (state S.Store conn) (state S.Store result.conn) (λ _. ⊥) }
+    {
+        SqlRegister {
+            link: tried(conn),
+            stations: 0,
+            refusals: 0,
+        }
+    }
+
+    /// The connection.
+    pub fn into_connection(self) -> Connection<S>
+        ensures { result ≡ self.conn }
+    {
+        let SqlRegister {
+            link,
+            stations: _,
+            refusals: _,
+        } = self;
+        let Link {
+            conn,
+            bound: _,
+            stopped: _,
+        } = link;
+        conn
+    }
+}
+
+impl<S: Alter> Register for SqlRegister<S> {
+    ghost use Rattle.std.specs.Prelude.{true};
+    ghost use Rattle.sqlite.specs.Held.{state};
+    ghost use Rattle.register_sql.specs.Stores.{in_store};
+
+    ghost holding = { λ r. in_store (state S.Store r.conn) };
+
+    ghost is_bound = { λ r. r.bound };
+
+    ghost stations = { λ r. r.stations };
+
+    ghost refusals = { λ r. r.refusals };
+
+    ghost can_refuse = { true };
+
+    fn bind(&mut self, alloc: Global, setup: &Setup) -> Result<u32, StoreFault> {
+        let answer = bind_store(alloc, &mut self.link, setup);
+        self.refusals = recount(self.refusals, &answer);
+        if answer.is_ok() {
+            self.stations = setup.stations();
+        }
+        answer
+    }
+
+    fn all(&mut self, alloc: Global) -> Result<Vec<Entry>, StoreFault> {
+        let answer = list_store(alloc, &mut self.link, self.stations);
+        self.refusals = recount(self.refusals, &answer);
+        answer
+    }
+
+    fn post(&mut self, alloc: Global, entry: &Entry, changes: &Changes) -> Result<(), StoreFault> {
+        let answer = post_to_store(alloc, &mut self.link, entry, changes);
+        self.refusals = recount(self.refusals, &answer);
+        answer
+    }
+
+    fn agrees(&mut self, alloc: Global, ledger: &Ledger) -> Result<bool, StoreFault> {
+        let answer = store_agrees(alloc, &mut self.link, ledger);
+        self.refusals = recount(self.refusals, &answer);
+        answer
+    }
+}
+
+/// How often a register has answered Store, once it gives this answer.
+fn recount<T>(refusals: u64, answer: &Result<T, StoreFault>) -> u64
+    ensures { CountsRefusal refusals result answer.now }
+{
+    match answer {
+        Err(StoreFault::Store) => refusals.saturating_add(1),
+        _ => refusals,
+    }
+}
