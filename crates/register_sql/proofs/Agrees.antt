@@ -1,5 +1,5 @@
 -- The rows that were read, and those of a ledger.
-use Rattle.std.proofs.Common.{◌≡◌, ◌&&◌, ℕ, ℤ, Bool, List, [], ◌∷◌, ◌++◌, map, drop, reverse, Option, None, refl, sym, ap, subst, ◌∙◌, arith}
+use Rattle.std.proofs.Common.{◌≡◌, ◌&&◌, ℕ, ℤ, Bool, List, [], ◌∷◌, ◌++◌, map, drop, reverse, None, refl, ap, subst, ◌∙◌}
 use Rattle.std.specs.Bool.{Decides}
 use Rattle.std.specs.List.Sorted.{IsPermutation}
 use Rattle.std.proofs.lemmas.List.{map-append}
@@ -63,8 +63,7 @@ told_of a b c S P wanted kept sorted lines kept_lines terms kept_terms is lined 
     let moved : IsPermutation (map spot_row (reverse sorted)) d.spots = IsPermutation-trans _ _ _ (IsPermutation-map spot_row _ _ turned) spots in
     let told : Decides (a && (b && c)) (HasRows S P e) =
     told_by a b c S P wanted sorted lines kept_lines terms kept_terms None [] e is lined dated has_spots has_lines has_terms
-    (record { setup = IsPermutation-refl plain.setup; meta = IsPermutation-refl plain.meta; postings = IsPermutation-refl plain.postings; spots = moved; lines = ls; terms = ts }) in
-    (
+    (record { setup = IsPermutation-refl plain.setup; meta = IsPermutation-refl plain.meta; postings = IsPermutation-refl plain.postings; spots = moved; lines = ls; terms = ts }) in (
       λ t. let h = told.0 t in record { spots = h.spots; lines = h.lines; terms = h.terms },
       λ h. told.1 (record { spots = h.spots; lines = h.lines; terms = h.terms }),
     )

@@ -1,16 +1,14 @@
 -- What each query of the store means, and shows.
-use Rattle.std.proofs.Common.{◌≡◌, ◌≤◌, ℕ, zero, suc, List, [], ◌∷◌, codes, map, Bool, true, false, Ok, Err, Result, IfOk, OnOk, Vec, refl, sym, subst, ◌∙◌, arith}
-use Rattle.std.specs.List.Sorted.{IsPermutation, IsSorted}
+use Rattle.std.proofs.Common.{◌≡◌, ◌≤◌, ℕ, zero, suc, List, [], ◌∷◌, codes, map, true, false, Ok, Err, Result, IfOk, OnOk, Vec, refl, sym, subst, ◌∙◌, arith}
+use Rattle.std.specs.List.Sorted.{IsPermutation}
 use Rattle.std.specs.declared.alloc.Global.{Global}
 use Rattle.sqlite.specs.Listing.{understood}
 use Rattle.sqlite.specs.Order.{Row}
 use Rattle.sqlite.specs.State.{State, Shown, IsUnchanged}
 use Rattle.sqlite.specs.Term.{Term, col}
-use Rattle.sqlite.specs.Tree.{Trees}
 use Rattle.sqlite.specs.declared.error.Error.{Error}
 use Rattle.sqlite_tied.specs.Compute.{everything}
 use Rattle.register_sql.specs.Queries.{text_of, tree_of, least_of, shown_by, shows_id, shown_in, IsInOrder, IsSame}
-use Rattle.register_sql.specs.Shown.{id_cmp}
 use Rattle.register_sql.specs.Tables.{prefix}
 use Rattle.register_sql.specs.declared.queries.Query.{Query}
 use Rattle.register_sql.specs.declared.queries.Query.TheVariants.{Metas, Setups, Postings, Spots, Lines, Terms, SetupIds, PostingIds, LineIds, TermIds}

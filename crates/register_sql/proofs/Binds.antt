@@ -1,5 +1,5 @@
 -- What a store says of itself is what its rows say, and being bound changes these as a register promises.
-use Rattle.std.proofs.Common.{◌≡◌, ◌≢◌, ◌≤◌, ℕ, zero, suc, ℤ, pos, List, [], ◌∷◌, ◌++◌, length, map, drop, reverse, slice_index_or, codes, Bool, true, false, not, ◌&&◌, ◌||◌, cond, Ok, Err, Result, IfOk, IsTrue, refl, sym, ap, subst, ◌∙◌, arith, append-nil}
+use Rattle.std.proofs.Common.{◌≡◌, ◌≢◌, ◌≤◌, ℕ, zero, suc, pos, List, [], ◌∷◌, ◌++◌, length, map, drop, reverse, slice_index_or, codes, Bool, true, false, not, ◌&&◌, ◌||◌, Ok, Err, Result, IfOk, refl, sym, ap, subst, ◌∙◌, arith, append-nil}
 use Rattle.std.specs.Bool.{Decides}
 use Rattle.std.specs.List.{AllByRecursion, list_any}
 use Rattle.std.specs.List.Sorted.{IsPermutation}
@@ -23,21 +23,18 @@ use Rattle.sqlite_catalog.specs.Listing.{IsSound}
 use Rattle.sqlite_trees.proofs.ListLemmas.{all-permutation}
 use Rattle.sqlite_value.specs.Order.{bytes}
 use Rattle.register_store.specs.Registers.{is_new, has_other_version, bound_by, bound_to, IsBindFault}
-use Rattle.register_store.specs.Registers as registers
-use Rattle.register_store.specs.StoredRows.{Content, SetupRow, MetaRow, AreSame, IsBoundTo, rows_of_setup, rows_of_meta, is_depth}
+use Rattle.register_store.specs.StoredRows.{Content, SetupRow, MetaRow, AreSame, IsBoundTo, rows_of_setup, rows_of_meta}
 use Rattle.register_store.specs.declared.store_fault.StoreFault.{StoreFault}
-use Rattle.register_store.specs.declared.store_fault.StoreFault.TheVariants.{NoMemory, Store, OtherSetup, Damaged, OtherVersion}
+use Rattle.register_store.specs.declared.store_fault.StoreFault.TheVariants.{OtherSetup, Damaged, OtherVersion}
 use Rattle.register_sql.specs.Binding.{IsRefused, IsBoundAs, LeavesBound, ComesBound}
 use Rattle.register_sql.specs.Making.{MakesWhole, IsMadeWhole, LeavesMade, setup_from}
-use Rattle.register_sql.specs.Posting.{IsWhole, IsReady}
+use Rattle.register_sql.specs.Posting.{IsWhole}
 use Rattle.register_sql.specs.Queries.{shown_in, IsPart, IsSame, AreApart}
 use Rattle.register_sql.specs.Rows.{HasPart, AreRows, IsStored, had, meta_cells, setup_cells}
-use Rattle.register_sql.specs.Says as says
 use Rattle.register_sql.specs.Says.{IsOther, HasOther, IsTold, setup_rows_shown}
 use Rattle.register_sql.specs.Shown.{shown_meta, shown_setup, setup_shown}
-use Rattle.register_sql.specs.Tables.{prefix, hub_schema}
+use Rattle.register_sql.specs.Tables.{prefix}
 use Rattle.register_sql.specs.declared.queries.Query.TheVariants.{Metas, Setups}
-use Rattle.register_sql.specs.declared.told.Told.{Told}
 use Rattle.register_sql.specs.declared.told.Told.TheVariants as told
 use Rattle.register_sql.proofs.Contents.{content_in, same_part, one_prefix, unmapped}
 use Rattle.register_sql.proofs.Removed.{map_twice}
@@ -77,7 +74,7 @@ same_metas : (xs ys : List MetaRow) (rows : List Row) → IsPermutation (map met
 unfolding meta_back
 same_metas xs ys rows = unmapped meta_cells meta_back (λ m. refl) xs ys rows
 
-none_new : (ms : List MetaRow) → IsPermutation (map meta_cells ms) [] → ms ≡ []
+pub none_new : (ms : List MetaRow) → IsPermutation (map meta_cells ms) [] → ms ≡ []
 none_new [] h = refl
 none_new (m ∷ ms) h = absurd (omega (arith, length_permutation _ _ h))
 

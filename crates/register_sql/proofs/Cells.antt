@@ -1,13 +1,12 @@
 -- Each row of a sound table has the cells of a row that a content can have.
-use Rattle.std.proofs.Common.{zero, suc, ◌≡◌, ◌<◌, ◌≤◌, ◌+◌, ℕ, ℤ, pos, List, [], ◌∷◌, length, map, drop, Bool, true, false, not, ◌&&◌, Option, None, Some, refl, sym, ap, subst, ◌∙◌, arith}
+use Rattle.std.proofs.Common.{zero, suc, ◌≡◌, ◌<◌, ◌≤◌, ◌+◌, ℕ, ℤ, List, [], ◌∷◌, length, map, drop, true, false, not, Option, None, Some, refl, sym, ap, subst, ◌∙◌, arith}
 use Rattle.std.specs.List.{range_with_len}
 use Rattle.std.proofs.lemmas.Bool.{and_parts}
 use Rattle.sqlite.specs.Order.{Row, column}
-use Rattle.sqlite.specs.Tree.{rowid}
 use Rattle.sqlite.specs.declared.types.Value.{Value}
 use Rattle.sqlite.specs.declared.types.Value.TheVariants.{Null, Int, Real, Text, Blob}
 use Rattle.sqlite.specs.Kind.TheVariants as kind
-use Rattle.sqlite_schema.specs.Rules.{are_typed, are_present, suits, is_of}
+use Rattle.sqlite_schema.specs.Rules.{are_typed, are_present, is_of}
 use Rattle.sqlite_schema.specs.declared.schema.Column.{Column}
 use Rattle.sqlite_sql.specs.Ops.{is_null}
 use Rattle.sqlite_trees.specs.View.{is_int}

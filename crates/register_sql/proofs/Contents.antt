@@ -1,5 +1,5 @@
 -- A sound store holds some rows, and no others but for their order.
-use Rattle.std.proofs.Common.{zero, suc, ◌≡◌, ◌≤◌, ℕ, ℤ, List, [], ◌∷◌, length, map, drop, true, refl, sym, ap, subst, ◌∙◌, arith}
+use Rattle.std.proofs.Common.{zero, suc, ◌≡◌, ◌≤◌, ℕ, List, [], ◌∷◌, length, map, drop, true, refl, sym, ap, subst, ◌∙◌, arith}
 use Rattle.std.specs.List.{AllByRecursion}
 use Rattle.std.specs.List.Sorted.{IsPermutation}
 use Rattle.std.proofs.lemmas.Bool.{and_parts}
@@ -18,7 +18,6 @@ use Rattle.register_store.specs.StoredRows.{Content, SetupRow, MetaRow, PostingR
 use Rattle.register_sql.specs.Rows.{setup_cells, meta_cells, posting_cells, spot_cells, line_cells, term_cells, had, HasPart, IsStored, HasNumber, AreNumbered}
 use Rattle.register_sql.specs.Tables.{meta, setup, posting, spot, line, term, prefix}
 use Rattle.register_sql.proofs.Cells.{IsRight, meta_read, setup_read, posting_read, spot_read, line_read, term_read}
-use Rattle.register_sql.proofs.Removed.{map_twice}
 
 -- each row of a table is read, if the rules of a database hold of it
 module _ (schema : Schema) (db : Trees) (table : Table) {X : Type 0} (part : Row → Row) (cells : X → Row) (Known : Row → Type 0)
@@ -101,26 +100,42 @@ are_read (suc (suc zero)) few db sound ids numbers =
 are_read (suc (suc (suc zero))) few db sound ids numbers =
     let d = sound.obeys.rules Datatype in let n = sound.obeys.rules NotNull in
     record {
-      meta = metas (prefix 3) db (d.0, n.0); setup = setups (prefix 3) db ids (d.1.0, n.1.0); postings = postings (prefix 3) db numbers (d.1.1.0, n.1.1.0);
-      spots = ([], refl); lines = ([], refl); terms = ([], refl)
+      meta = metas (prefix 3) db (d.0, n.0);
+      setup = setups (prefix 3) db ids (d.1.0, n.1.0);
+      postings = postings (prefix 3) db numbers (d.1.1.0, n.1.1.0);
+      spots = ([], refl);
+      lines = ([], refl);
+      terms = ([], refl);
     }
 are_read (suc (suc (suc (suc zero)))) few db sound ids numbers =
     let d = sound.obeys.rules Datatype in let n = sound.obeys.rules NotNull in
     record {
-      meta = metas (prefix 4) db (d.0, n.0); setup = setups (prefix 4) db ids (d.1.0, n.1.0); postings = postings (prefix 4) db numbers (d.1.1.0, n.1.1.0);
-      spots = spots (prefix 4) db (d.1.1.1.0, n.1.1.1.0); lines = ([], refl); terms = ([], refl)
+      meta = metas (prefix 4) db (d.0, n.0);
+      setup = setups (prefix 4) db ids (d.1.0, n.1.0);
+      postings = postings (prefix 4) db numbers (d.1.1.0, n.1.1.0);
+      spots = spots (prefix 4) db (d.1.1.1.0, n.1.1.1.0);
+      lines = ([], refl);
+      terms = ([], refl);
     }
 are_read (suc (suc (suc (suc (suc zero))))) few db sound ids numbers =
     let d = sound.obeys.rules Datatype in let n = sound.obeys.rules NotNull in
     record {
-      meta = metas (prefix 5) db (d.0, n.0); setup = setups (prefix 5) db ids (d.1.0, n.1.0); postings = postings (prefix 5) db numbers (d.1.1.0, n.1.1.0);
-      spots = spots (prefix 5) db (d.1.1.1.0, n.1.1.1.0); lines = lines (prefix 5) db (d.1.1.1.1.0, n.1.1.1.1.0); terms = ([], refl)
+      meta = metas (prefix 5) db (d.0, n.0);
+      setup = setups (prefix 5) db ids (d.1.0, n.1.0);
+      postings = postings (prefix 5) db numbers (d.1.1.0, n.1.1.0);
+      spots = spots (prefix 5) db (d.1.1.1.0, n.1.1.1.0);
+      lines = lines (prefix 5) db (d.1.1.1.1.0, n.1.1.1.1.0);
+      terms = ([], refl);
     }
 are_read (suc (suc (suc (suc (suc (suc zero)))))) few db sound ids numbers =
     let d = sound.obeys.rules Datatype in let n = sound.obeys.rules NotNull in
     record {
-      meta = metas (prefix 6) db (d.0, n.0); setup = setups (prefix 6) db ids (d.1.0, n.1.0); postings = postings (prefix 6) db numbers (d.1.1.0, n.1.1.0);
-      spots = spots (prefix 6) db (d.1.1.1.0, n.1.1.1.0); lines = lines (prefix 6) db (d.1.1.1.1.0, n.1.1.1.1.0); terms = terms (prefix 6) db (d.1.1.1.1.1.0, n.1.1.1.1.1.0)
+      meta = metas (prefix 6) db (d.0, n.0);
+      setup = setups (prefix 6) db ids (d.1.0, n.1.0);
+      postings = postings (prefix 6) db numbers (d.1.1.0, n.1.1.0);
+      spots = spots (prefix 6) db (d.1.1.1.0, n.1.1.1.0);
+      lines = lines (prefix 6) db (d.1.1.1.1.0, n.1.1.1.1.0);
+      terms = terms (prefix 6) db (d.1.1.1.1.1.0, n.1.1.1.1.1.0);
     }
 are_read (suc (suc (suc (suc (suc (suc (suc made))))))) few db sound ids numbers = absurd (omega (arith, few))
 

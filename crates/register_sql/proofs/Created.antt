@@ -1,5 +1,5 @@
 -- The tables are made in turn, each empty, and those before are left alone.
-use Rattle.std.proofs.Common.{◌≡◌, ◌<◌, ◌≤◌, ℕ, zero, suc, List, [], Ok, Err, Result, None, OnOk, IsTrue, refl, sym, ap, subst, ◌∙◌, arith}
+use Rattle.std.proofs.Common.{◌≡◌, ◌<◌, ℕ, zero, suc, List, [], Ok, Err, Result, None, OnOk, refl, sym, ap, subst, ◌∙◌, arith}
 use Rattle.sqlite.proofs.Callers.{statement_of, runs_as}
 use Rattle.sqlite.specs.Change.{next_tree, created, KeepsRows}
 use Rattle.sqlite.specs.Command.TheVariants.{CreateTable}

@@ -1,16 +1,18 @@
 -- What a register over a connection may hold comes from what it may have held.
-use Rattle.std.proofs.Common.{◌≡◌, ◌⊎◌, inl, inr, ℕ, true, false, IsTrue, refl, sym, ap, subst, ◌∙◌, arith, Ok, Err, Result}
+use Rattle.std.proofs.Common.{◌≡◌, ◌⊎◌, inl, inr, ℕ, true, false, IsTrue, refl, sym, ap, subst, ◌∙◌, arith, Err, List, [], ◌∷◌, length}
 use Rattle.std.proofs.Math.Logic.{∥∥₁_elim}
+use Rattle.std.specs.List.Sorted.{IsPermutation}
+use Rattle.std.proofs.lemmas.List.Sorted.{length_permutation}
 use Rattle.nest_core.specs.Museum.{Museum}
 use Rattle.posting_core.specs.declared.entry.Changes.{Changes}
 use Rattle.posting_core.specs.declared.entry.Entry.{Entry}
-use Rattle.sqlite.specs.Effect.{Database}
+use Rattle.sqlite.specs.Effect.{Database, IsDatabase}
 use Rattle.sqlite.specs.State.{State, HasCleanDisk, Survives}
 use Rattle.sqlite.specs.Tree.{Trees}
 use Rattle.sqlite_catalog.specs.Listing.{IsSound}
-use Rattle.register_store.specs.Holdings.{Holding, Each, IsEmpty, Has, Comes, IsPosted, IsBound, IsNotBound}
-use Rattle.register_store.specs.Registers.{is_failure, IsBindFault, CountsRefusal}
-use Rattle.register_store.specs.StoredRows.{Content, PostingRow, AreSame, IsBoundTo, IsPostingRow, with_posted}
+use Rattle.register_store.specs.Holdings.{Each, Has, Comes, IsPosted, IsBound, IsNotBound}
+use Rattle.register_store.specs.Registers.{is_failure, IsBindFault, CountsRefusal, is_new}
+use Rattle.register_store.specs.StoredRows.{Content, PostingRow, AreSame, IsBoundTo, IsPostingRow, with_posted, MetaRow}
 use Rattle.register_store.specs.declared.store_fault.StoreFault.{StoreFault}
 use Rattle.register_store.specs.declared.store_fault.StoreFault.TheVariants.{NoMemory, Store, OtherSetup, Damaged, OtherVersion}
 use Rattle.register_sql.specs.Binding.{IsSettled, IsRefused, IsBoundAs, LeavesBound}
@@ -18,8 +20,8 @@ use Rattle.register_sql.specs.Posting.{IsWhole, IsReady, IsDone, LeavesWhole}
 use Rattle.register_sql.specs.Queries.{IsSame}
 use Rattle.register_sql.specs.Rows.{AreRows, IsStored}
 use Rattle.register_sql.specs.Stores.{in_store, counted}
-use Rattle.register_sql.specs.Tables.{hub_schema}
-use Rattle.register_sql.proofs.Binds.{part_of, same_all}
+use Rattle.register_sql.specs.Tables.{hub_schema, prefix}
+use Rattle.register_sql.proofs.Binds.{part_of, same_all, none_new}
 use Rattle.register_sql.proofs.Contents.{same_part}
 
 -- what a store promises of what a crash leaves
@@ -154,10 +156,10 @@ pub posted_comes : (e : Entry) (changes : Changes) (row : PostingRow) (old new :
 posted_comes e changes row old new P keeps before after ready content survives done = record {
   quiet = λ clean. omega (arith, survives.clean, clean);
   some = λ clean none. absurd (
-    let early : HasCleanDisk old = omega (arith, survives.clean, clean) in
-    let it = done clean in
-    let had = content early in
-    none (with_posted row e changes had.0) (rows_held new after (now_ready it) (with_posted row e changes had.0) (it.rows had.0 had.1)));
+      let early : HasCleanDisk old = omega (arith, survives.clean, clean) in
+      let it = done clean in
+      let had = content early in
+      none (with_posted row e changes had.0) (rows_held new after (now_ready it) (with_posted row e changes had.0) (it.rows had.0 had.1)));
   from = λ clean d held.
       let early : HasCleanDisk old = omega (arith, survives.clean, clean) in
       let it = done clean in
@@ -187,8 +189,15 @@ unposted_comes e changes row old new keeps before after ready content survives =
       let had = content early in
       elim (survives.crash clean held.0 held.1) [
         | inl same ↦ (d, (held.0, same, held.2), inl (same_all d))
-        | inr whole ↦ (had.0, rows_held old before (ready early) had.0 had.1, inr (row, keeps,
-            same_part 6 held.0 (with_posted row e changes had.0) d (whole.rows had.0 had.1) (part_of 6 (omega arith) held.0 whole.sound d held.2)))
+        | inr whole ↦ (
+          had.0,
+          rows_held old before (ready early) had.0 had.1,
+          inr (
+            row,
+            keeps,
+            same_part 6 held.0 (with_posted row e changes had.0) d (whole.rows had.0 had.1) (part_of 6 (omega arith) held.0 whole.sound d held.2),
+          ),
+        )
       ];
 }
 
@@ -206,3 +215,17 @@ counts T refusals Store = refl
 counts T refusals OtherSetup = refl
 counts T refusals (Damaged at) = refl
 counts T refusals OtherVersion = refl
+
+-- ---- a database without a table
+
+new_by : (ms ns : List MetaRow) → ms ≡ [] → IsPermutation ms ns → is_new ns ≡ true
+new_by ms [] none same = refl
+new_by ms (n ∷ ns) none same = absurd (omega (arith, ap length none, length_permutation _ _ same))
+
+pub new_store : (old new : State) → ((db : Trees) → old.may_leave db → db ≡ old.committed.trees) → old.now ≡ old.committed → IsDatabase old.now → old.now.schema ≡ prefix 0
+    → Comes (in_store old) (in_store new) AreSame → Each (in_store new) (λ c. is_new c.meta ≡ true)
+new_store old new left settled sound schema comes clean d held =
+    let came = comes.from clean d held in
+    let stored : IsStored old.now.trees came.0 = subst (λ db. IsStored db came.0) (left came.1.0 came.1.1 ∙ sym (ap (λ (k : Database). k.trees) settled)) came.1.2 in
+    let part = part_of 0 (omega arith) old.now.trees (subst (λ k. IsSound k old.now.trees) schema sound) came.0 stored in
+    new_by came.0.meta d.meta (none_new came.0.meta part.meta) came.2.meta

@@ -23,3 +23,4 @@ pub mod Postings
 pub mod Binds
 pub mod Holds
 pub mod Links
+pub mod Stranger

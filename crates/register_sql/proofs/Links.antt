@@ -1,5 +1,5 @@
 -- What is true of a register's connection after a call.
-use Rattle.std.proofs.Common.{◌≡◌, ◌⊎◌, ℕ, Bool, true, false, Option, None, Some, IfSome, refl, sym, ap, subst, ◌∙◌, arith, Ok, Err, Result, IfOk, IfErr}
+use Rattle.std.proofs.Common.{◌≡◌, ℕ, Bool, true, false, Option, None, Some, IfSome, refl, sym, subst, ◌∙◌, arith, Ok, Err, Result, IfOk, IfErr}
 use Rattle.std.proofs.lemmas.Option.{none-some}
 use Rattle.nest_core.specs.Museum.{Museum}
 use Rattle.sqlite.specs.Effect.{Database}

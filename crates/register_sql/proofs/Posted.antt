@@ -1,23 +1,21 @@
 -- What the statements of a posting do to the rows that a store holds.
-use Rattle.std.proofs.Common.{◌≡◌, ℕ, List, [], ◌∷◌, map, drop, not, false, Ok, Err, Result, OnOk, IsTrue, refl, sym, subst, ◌∙◌, arith}
+use Rattle.std.proofs.Common.{◌≡◌, ℕ, List, ◌∷◌, map, drop, false, Ok, Err, Result, OnOk, refl, sym, subst, ◌∙◌, arith}
 use Rattle.std.specs.List.Sorted.{IsPermutation}
 use Rattle.std.proofs.lemmas.List.Sorted.{IsPermutation-trans, IsPermutation-cons, IsPermutation-map}
 use Rattle.sqlite.specs.Edit.{is_taken}
 use Rattle.sqlite.specs.Effect.{Database, IsDatabase}
 use Rattle.sqlite.specs.Order.{Row}
 use Rattle.sqlite.specs.State.{State, Executes, ExecutesInside}
-use Rattle.sqlite.specs.Tree.{Trees}
 use Rattle.sqlite.specs.declared.error.Error.{Error}
 use Rattle.sqlite.specs.declared.types.Value.{Value}
 use Rattle.register_sql.specs.Changes.{Adds, Spares}
 use Rattle.register_sql.specs.Posting.{IsWhole, Within, Turns, Makes, with_posting, with_spot, more_line, without_line, more_term, without_term}
 use Rattle.register_store.specs.StoredRows.{Content, PostingRow, SpotRow, LineRow, TermRow}
-use Rattle.register_sql.specs.Rows.{AreRows, Apart, posting_cells, spot_cells, line_cells, term_cells, HasNumber}
+use Rattle.register_sql.specs.Rows.{Apart, posting_cells, spot_cells, line_cells, term_cells, HasNumber}
 use Rattle.register_sql.proofs.Apart.{apart_moved, apart_more, apart_kept}
 use Rattle.register_sql.proofs.Deletes.{removes_line, removes_term, fewer_lines, fewer_terms, line_key_params, term_key_params}
-use Rattle.register_sql.proofs.Inserts.{adds_posting, adds_spot, adds_line, adds_term, posting_params, spot_params, line_params, term_params, under_next}
-use Rattle.register_sql.proofs.Removed.{has_key}
-use Rattle.register_sql.proofs.Texts.{insert_posting, insert_spot, insert_line, insert_term, delete_line, delete_term, line_key, term_key}
+use Rattle.register_sql.proofs.Inserts.{adds_posting, adds_spot, adds_line, adds_term, posting_params, spot_params, line_params, term_params}
+use Rattle.register_sql.proofs.Texts.{insert_posting, insert_spot, insert_line, insert_term, delete_line, delete_term}
 
 -- a row more in one table, of which the others see nothing
 more : {X : Type 0} (cells : X → Row) (x : X) (xs : List X) (id : Value) (rows next : List Row) → IsPermutation ((id ∷ cells x) ∷ rows) next

@@ -25,9 +25,10 @@ above : (k n : ℕ) (texts : List (List ℕ)) (first : Row) (text : List ℕ) �
     → AllByRecursion (λ r. id_cmp first r ≡ Less) (map setup_shown (setup_from n texts))
 above k n [] first text low is = tt
 above k n (t ∷ texts) first text low is =
-    let less : pos k <ℤ pos n = record { lt = lt→ltb k n low } in
-    (ap (λ f. id_cmp f (setup_shown (record { id = pos n; text = t }))) is ∙ value_cmp-Int (pos k) (pos n) ∙ sym (int_cmp_is (pos k) (pos n) Less less),
-    above k (n + 1) texts first text (omega (arith, low)) is)
+    let less : pos k <ℤ pos n = record { lt = lt→ltb k n low } in (
+      ap (λ f. id_cmp f (setup_shown (record { id = pos n; text = t }))) is ∙ value_cmp-Int (pos k) (pos n) ∙ sym (int_cmp_is (pos k) (pos n) Less less),
+      above k (n + 1) texts first text (omega (arith, low)) is,
+    )
 
 -- their numbers rise
 rising : (n : ℕ) (texts : List (List ℕ)) → IsAscending (λ a b. id_cmp a b ≡ Less) (map setup_shown (setup_from n texts))

@@ -10,3 +10,4 @@ pub mod Rowids
 pub mod Says
 pub mod Binding
 pub mod Stores
+pub mod Strange

@@ -1,5 +1,5 @@
 -- What the store asks of its tables, each in the order of its rowids.
-use Rattle.std.specs.Prelude.{◌≡◌, ◌≤◌, ℕ, Bool, true, false, List, map, codes, IsTrue}
+use Rattle.std.specs.Prelude.{◌≡◌, ℕ, Bool, true, false, List, map, codes, IsTrue}
 use Rattle.std.specs.List.Sorted.{IsSorted}
 use Rattle.sqlite.specs.Effect.{IsDatabase}
 use Rattle.sqlite.specs.Order.{Row}

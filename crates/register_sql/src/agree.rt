@@ -13,8 +13,9 @@ ghost use Rattle.register_sql.specs.Posting.{Survived};
 ghost use Rattle.register_sql.specs.Queries.{shown_in, IsPart, IsSame};
 ghost use Rattle.register_sql.specs.Rows.{AreRows};
 
-use crate::typed::{line_of, spot_of, term_of};
 use crate::queries::{Query, read};
+use crate::strange::are_strange;
+use crate::typed::{line_of, spot_of, term_of};
 use codes_core::{Day, LoanCode};
 use indexmap::IndexMap;
 use posting_core::{Ledger, LineStage, NewSpot};
@@ -65,6 +66,7 @@ fn keep_term(kept: &mut IndexMap<LoanCode, Day>, row: &Row) -> Result<(), StoreF
     }
 }
 
+/// The spots of the rows.
 fn spots_in(alloc: Global, rows: &[Row]) -> Result<Vec<NewSpot>, StoreFault>
     ensures read { IfOk result (λ spots. spots_shown spots.items ≡ rows.now) }
     ensures faults { IfErr result (λ fault. is_failure fault ≡ true) }
@@ -76,6 +78,7 @@ fn spots_in(alloc: Global, rows: &[Row]) -> Result<Vec<NewSpot>, StoreFault>
     Ok(spots)
 }
 
+/// The lines of the rows, by loan and object.
 fn lines_in(alloc: Global, rows: &[Row]) -> Result<IndexMap<LineKey, LineStage>, StoreFault>
     ensures read { IfOk result (λ kept. lines_shown kept.entries ≡ rows.now) }
     ensures faults { IfErr result (λ fault. is_failure fault ≡ true) }
@@ -87,6 +90,7 @@ fn lines_in(alloc: Global, rows: &[Row]) -> Result<IndexMap<LineKey, LineStage>,
     Ok(kept)
 }
 
+/// The last days of the rows, by loan.
 fn terms_in(alloc: Global, rows: &[Row]) -> Result<IndexMap<LoanCode, Day>, StoreFault>
     ensures read { IfOk result (λ kept. terms_shown kept.entries ≡ rows.now) }
     ensures faults { IfErr result (λ fault. is_failure fault ≡ true) }
@@ -128,8 +132,8 @@ fn are_rows(
     Ok(are_all(same_spots, same_lines, same_terms))
 }
 
-/// Whether the rows that were read are those of the ledger.
-fn compare(
+/// The same, where each row can be read and no key repeats; else Store.
+fn compare_read(
     alloc: Global,
     spots: &[Row],
     lines: &[Row],
@@ -145,6 +149,43 @@ fn compare(
     let kept_terms = terms_in(alloc, terms)?;
     let answer = are_rows(alloc, &mut kept, &kept_lines, &kept_terms, ledger);
     answer
+}
+
+/// The same, of rows that can't all be read: one that is no row of the ledger makes them differ.
+fn compare_unread(
+    alloc: Global,
+    spots: &[Row],
+    lines: &[Row],
+    terms: &[Row],
+    ledger: &Ledger,
+) -> Result<bool, StoreFault>
+    ensures told { IfOk result (λ same. (c : stored.Content) → AreFound spots.now lines.now terms.now c
+        → Decides same (HasRows ledger.now.museum ledger.now.posted c)) }
+    ensures faults { IfErr result (λ fault. is_failure fault ≡ true) }
+{
+    let strange = are_strange(alloc, spots, lines, terms, ledger)?;
+    if strange {
+        return Ok(false);
+    }
+    Err(StoreFault::Store)
+}
+
+/// Whether the rows that were read are those of the ledger. Store, where a key repeats.
+fn compare(
+    alloc: Global,
+    spots: &[Row],
+    lines: &[Row],
+    terms: &[Row],
+    ledger: &Ledger,
+) -> Result<bool, StoreFault>
+    ensures told { IfOk result (λ same. (c : stored.Content) → AreFound spots.now lines.now terms.now c
+        → Decides same (HasRows ledger.now.museum ledger.now.posted c)) }
+    ensures faults { IfErr result (λ fault. is_failure fault ≡ true) }
+{
+    match compare_read(alloc, spots, lines, terms, ledger) {
+        Err(StoreFault::Store) => compare_unread(alloc, spots, lines, terms, ledger),
+        answer => answer,
+    }
 }
 
 /// The rows of the lines, and of the last days.
@@ -163,8 +204,7 @@ fn loan_rows<S: Alter>(conn: &mut Connection<S>) -> Result<(Vec<Row>, Vec<Row>),
     Ok((lines, terms))
 }
 
-/// Whether the store's rows of spots, lines and last days are exactly those of the ledger. Store, where one of them can't be
-/// a row that an entry wrote, or a key repeats.
+/// Whether the store's rows of spots, lines and last days are exactly those of the ledger.
 pub(crate) fn agrees<S: Alter>(
     alloc: Global,
     conn: &mut Connection<S>,

@@ -11,6 +11,7 @@ mod queries;
 mod rowids;
 mod schema;
 mod sql;
+mod strange;
 mod table;
 mod told;
 mod typed;

@@ -1,5 +1,5 @@
 //! A connection that is asked nothing more once a statement has failed.
-ghost use Rattle.std.specs.Prelude.{◌≡◌, ◌⊎◌, true, false, None, Some, reverse, All, IfOk, IfErr, IfSome, OnOk, OnErr};
+ghost use Rattle.std.specs.Prelude.{◌≡◌, ◌⊎◌, true, false, None, Some, reverse, All, IfOk, IfErr, IfSome, IsTrue, OnOk, OnErr};
 ghost use Rattle.std.specs.Bool.{Decides};
 ghost use Rattle.sqlite.specs.Held.{state};
 ghost use Rattle.sqlite.specs.State.{HasCleanDisk, Survives};
@@ -155,6 +155,8 @@ pub(crate) fn tried<S: Alter>(mut conn: Connection<S>) -> Link<S>
     ensures invariant { IsKept (state S.Store result.conn) false result.stopped }
     ensures bound { result.bound ≡ false }
     ensures survives { Survives (state S.Store conn) (state S.Store result.conn) (λ _. ⊥) }
+    ensures content { (HasCleanDisk (state S.Store conn) → IsTrue (state S.Store conn).is_open)
+        → Comes (in_store (state S.Store conn)) (in_store (state S.Store result.conn)) AreSame }
 {
     let stopped = tried_fault(&mut conn);
     Link {
@@ -171,7 +173,10 @@ fn tried_fault<S: Alter>(conn: &mut Connection<S>) -> Option<StoreFault>
     ensures failed { IfSome result (λ fault. is_failure fault ≡ true) }
     ensures settled { result ≡ None → HasCleanDisk (state S.Store conn.new) → IsSettled (state S.Store conn.new) }
     ensures survives { Survives (state S.Store conn.old) (state S.Store conn.new) (λ _. ⊥) }
+    ensures content { (HasCleanDisk (state S.Store conn.old) → IsTrue (state S.Store conn.old).is_open)
+        → Comes (in_store (state S.Store conn.old)) (in_store (state S.Store conn.new)) AreSame }
 {
+    let _settled = conn.is_autocommit();
     match conn.prepare("SELECT 1") {
         Ok(_) => {
             conn.is_autocommit();

@@ -68,11 +68,7 @@ fn are_apart(rows: &[Row]) -> bool
 }
 
 /// Whether the rowids that the query asks for, if its table is among the first so many, are numbers that differ.
-fn is_apart<S: Alter>(
-    conn: &mut Connection<S>,
-    query: Query,
-    made: usize,
-) -> Result<bool, Error>
+fn is_apart<S: Alter>(conn: &mut Connection<S>, query: Query, made: usize) -> Result<bool, Error>
     requires ids { shows_id query ≡ true }
     requires few { made ≤ 6 }
     requires part { HasCleanDisk (state S.Store conn.old) → IsPart made (state S.Store conn.old) }
@@ -132,10 +128,7 @@ fn are_last_apart<S: Alter>(conn: &mut Connection<S>, made: usize) -> Result<boo
 
 /// Whether the rowids of the setup, the entries, the lines and the last days are numbers that differ, so far as their
 /// tables are among the first so many.
-pub(crate) fn are_all_apart<S: Alter>(
-    conn: &mut Connection<S>,
-    made: usize,
-) -> Result<bool, Error>
+pub(crate) fn are_all_apart<S: Alter>(conn: &mut Connection<S>, made: usize) -> Result<bool, Error>
     requires few { made ≤ 6 }
     requires part { HasCleanDisk (state S.Store conn.old) → IsPart made (state S.Store conn.old) }
     ensures between { conn.old.in_transaction ≡ false → conn.new.in_transaction ≡ false }

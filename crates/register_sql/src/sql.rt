@@ -1,8 +1,12 @@
 //! The register over a connection to a database.
-ghost use Rattle.std.specs.Prelude.{◌≡◌, true, false, IfOk, IfErr};
+ghost use Rattle.std.specs.Prelude.{◌≡◌, true, false, IsTrue, IfOk, IfErr};
 ghost use Rattle.sqlite.specs.Held.{state};
-ghost use Rattle.sqlite.specs.State.{Survives};
-ghost use Rattle.register_store.specs.Registers.{is_failure, CountsRefusal};
+ghost use Rattle.sqlite.specs.State.{HasCleanDisk, Survives};
+ghost use Rattle.sqlite.specs.Steps.{over_memory};
+ghost use Rattle.register_store.specs.Holdings.{Each, Comes};
+ghost use Rattle.register_store.specs.Registers.{is_failure, is_new, CountsRefusal};
+ghost use Rattle.register_store.specs.StoredRows.{AreSame};
+ghost use Rattle.register_sql.specs.Stores.{in_store};
 
 use crate::link::{Link, bind_store, fault_of, list_store, post_to_store, store_agrees, tried};
 use nest_core::Setup;
@@ -37,6 +41,7 @@ impl SqlRegister<MemStore> {
     /// A register over a new database in memory. The fault: NoMemory.
     pub fn in_memory(alloc: Global) -> Result<SqlRegister<MemStore>, StoreFault>
         ensures new { IfOk result (λ r. (r.bound ≡ false) × (r.stations ≡ 0) × (r.refusals ≡ 0)) }
+        ensures empty { IfOk result (λ r. Each (in_store (state over_memory r.conn)) (λ c. is_new c.meta ≡ true)) }
         ensures memory { IfErr result (λ fault. fault ≡ StoreFault.NoMemory) }
     {
         match Connection::open_in_memory(alloc) {
@@ -48,7 +53,11 @@ impl SqlRegister<MemStore> {
 
 impl SqlRegister<FileStore<File>> {
     /// A register over the database in the file, which is made where there is none.
-    pub fn on_file(rt: &HostRuntime, path: &str) -> Result<SqlRegister<FileStore<File>>, StoreFault>
+    pub fn on_file(
+        rt: &HostRuntime,
+        _alloc: Global,
+        path: &str,
+    ) -> Result<SqlRegister<FileStore<File>>, StoreFault>
         ensures new { IfOk result (λ r. (r.bound ≡ false) × (r.stations ≡ 0) × (r.refusals ≡ 0)) }
         ensures faults { IfErr result (λ fault. is_failure fault ≡ true) }
     {
@@ -68,6 +77,8 @@ impl<S: Alter> SqlRegister<S> {
         requires { conn.in_transaction ≡ false }
         ensures new { (result.bound ≡ false) × (result.stations ≡ 0) × (result.refusals ≡ 0) }
         ensures survives { Survives (state S.Store conn) (state S.Store result.conn) (λ _. ⊥) }
+        ensures content { (HasCleanDisk (state S.Store conn) → IsTrue (state S.Store conn).is_open)
+            → Comes (in_store (state S.Store conn)) (in_store (state S.Store result.conn)) AreSame }
     {
         SqlRegister {
             link: tried(conn),

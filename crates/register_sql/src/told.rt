@@ -30,7 +30,7 @@ pub(crate) enum Told {
 }
 
 /// Whether the row's cell is this text.
-fn is_text(row: &Row, at: usize, text: &str) -> bool
+pub(crate) fn is_text(row: &Row, at: usize, text: &str) -> bool
     requires { at < length row.now }
     ensures { Decides result (column row.now at ≡ Text text.now) }
 {
@@ -41,7 +41,7 @@ fn is_text(row: &Row, at: usize, text: &str) -> bool
 }
 
 /// Whether the row's cell is this number.
-fn is_number(row: &Row, at: usize, number: u64) -> bool
+pub(crate) fn is_number(row: &Row, at: usize, number: u64) -> bool
     requires { at < length row.now }
     ensures { Decides result (column row.now at ≡ Int (pos number)) }
 {

@@ -12,6 +12,7 @@ use register_store::LineKey;
 use sqlite::Row;
 use sqlite_value::value::ValueRef;
 
+/// The number in a cell.
 fn int_at(row: &Row, at: usize) -> Option<i64>
     requires { at < length row.now }
     ensures { IfSome result (λ n. column row.now at ≡ Int n) }
@@ -22,6 +23,7 @@ fn int_at(row: &Row, at: usize) -> Option<i64>
     }
 }
 
+/// The number of 32 bits in a cell.
 fn u32_at(row: &Row, at: usize) -> Option<u32>
     requires { at < length row.now }
     ensures { IfSome result (λ n. column row.now at ≡ Int (pos n)) }
@@ -29,6 +31,7 @@ fn u32_at(row: &Row, at: usize) -> Option<u32>
     u32::try_from(int_at(row, at)?).ok()
 }
 
+/// The number of 64 bits, not below 0, in a cell.
 fn u64_at(row: &Row, at: usize) -> Option<u64>
     requires { at < length row.now }
     ensures { IfSome result (λ n. column row.now at ≡ Int (pos n)) }
@@ -36,6 +39,7 @@ fn u64_at(row: &Row, at: usize) -> Option<u64>
     u64::try_from(int_at(row, at)?).ok()
 }
 
+/// The day in a cell.
 fn day_at(row: &Row, at: usize) -> Option<Day>
     requires { at < length row.now }
     ensures { IfSome result (λ day. column row.now at ≡ Int day) }
@@ -43,6 +47,7 @@ fn day_at(row: &Row, at: usize) -> Option<Day>
     Day::numbered(int_at(row, at)?)
 }
 
+/// The stage in a cell.
 fn stage_at(row: &Row, at: usize) -> Option<LineStage>
     requires { at < length row.now }
     ensures { IfSome result (λ stage. column row.now at ≡ Int (pos (stage_number stage))) }
@@ -50,6 +55,7 @@ fn stage_at(row: &Row, at: usize) -> Option<LineStage>
     LineStage::numbered(u32_at(row, at)?)
 }
 
+/// The loan's code in a cell.
 fn loan_at(row: &Row, at: usize) -> Option<LoanCode>
     requires { at < length row.now }
     ensures { IfSome result (λ loan. column row.now at ≡ Text loan) }

@@ -1,4 +1,4 @@
-use Rattle.std.proofs.Common.{◌≡◌, sym, ◌∙◌}
+use Rattle.std.proofs.Common.{sym, ◌∙◌}
 use Rattle.register_sql.proofs.Agrees.{keeps_line}
 use Rattle.register_sql.proofs.agree.keep_line.Goals as goal
 

@@ -1,4 +1,4 @@
-use Rattle.std.proofs.Common.{◌≡◌, arith, rules, map, subst, ap, true, false}
+use Rattle.std.proofs.Common.{◌≡◌, arith, rules, map, subst, true, false}
 use Rattle.std.specs.Bool.{Decides}
 use Rattle.std.specs.List.Sorted.{IsPermutation}
 use Rattle.std.specs.Prelude.{string_bytes}

@@ -1,4 +1,4 @@
-use Rattle.std.proofs.Common.{◌≡◌, sym, subst, reverse}
+use Rattle.std.proofs.Common.{sym, subst, reverse}
 use Rattle.sqlite.specs.Held.{state}
 use Rattle.register_store.specs.Holdings.{Comes}
 use Rattle.register_store.specs.Registers.{IsListFault}

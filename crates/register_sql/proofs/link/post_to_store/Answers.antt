@@ -1,4 +1,4 @@
-use Rattle.std.proofs.Common.{◌≡◌, ◌⊎◌, true, refl, sym, subst}
+use Rattle.std.proofs.Common.{◌⊎◌, refl, sym, subst}
 use Rattle.sqlite.specs.Held.{state}
 use Rattle.register_store.specs.Holdings.{Comes, IsPosted}
 use Rattle.register_store.specs.Plain.{posting_row}

@@ -1,4 +1,4 @@
-use Rattle.std.proofs.Common.{◌≡◌, sym, subst}
+use Rattle.std.proofs.Common.{sym, subst}
 use Rattle.std.specs.Bool.{Decides}
 use Rattle.sqlite.specs.Held.{state}
 use Rattle.register_store.specs.Holdings.{Comes}

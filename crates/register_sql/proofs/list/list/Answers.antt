@@ -1,4 +1,4 @@
-use Rattle.std.proofs.Common.{◌≡◌, true, refl, sym, subst}
+use Rattle.std.proofs.Common.{refl, sym, subst}
 use Rattle.std.specs.List.Sorted.{IsPermutation, IsSorted}
 use Rattle.sqlite.specs.Held.{state}
 use Rattle.register_sql.specs.Queries.{shown_in}

@@ -1,4 +1,4 @@
-use Rattle.std.proofs.Common.{◌≡◌, ◌+◌, ◌≤◌, arith, rules, refl}
+use Rattle.std.proofs.Common.{◌+◌, arith, rules, refl}
 use Rattle.sqlite.specs.Held.{state}
 use Rattle.sqlite.specs.State.{HasCleanDisk}
 use Rattle.register_sql.proofs.Created.{grown_still, grows_then}

@@ -4,7 +4,6 @@ use Rattle.sqlite.specs.Held.{state}
 use Rattle.sqlite.specs.State.{HasCleanDisk, Survives}
 use Rattle.register_store.specs.StoredRows.{rows_of_meta}
 use Rattle.register_sql.specs.Making.{setup_from, IsMadeWhole, LeavesMade}
-use Rattle.register_sql.proofs.Ends.{kept_begin}
 use Rattle.register_sql.proofs.Filled.{survives_made, made_by_commit, goes_begin}
 use Rattle.register_sql.proofs.make.make_whole.Goals as goal
 

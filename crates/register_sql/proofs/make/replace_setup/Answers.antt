@@ -1,8 +1,7 @@
-use Rattle.std.proofs.Common.{arith, ◌∷◌, [], map, codes, pos}
+use Rattle.std.proofs.Common.{arith, map}
 use Rattle.std.specs.Prelude.{string_bytes}
 use Rattle.sqlite.specs.Held.{state}
 use Rattle.sqlite.specs.State.{HasCleanDisk}
-use Rattle.register_store.specs.StoredRows.{rows_of_meta}
 use Rattle.register_sql.specs.Making.{setup_from, ClearsSetup, AddsSetup, ReplacesSetup}
 use Rattle.register_sql.proofs.Filled.{goes_then, replaces}
 use Rattle.register_sql.proofs.make.replace_setup.Goals as goal

@@ -1,7 +1,7 @@
 use Rattle.std.proofs.Common.{arith, rules}
 use Rattle.sqlite.specs.Held.{state}
 use Rattle.sqlite.specs.State.{HasCleanDisk}
-use Rattle.register_sql.specs.declared.queries.Query.TheVariants.{SetupIds, PostingIds, LineIds, TermIds}
+use Rattle.register_sql.specs.declared.queries.Query.TheVariants.{LineIds, TermIds}
 use Rattle.register_sql.proofs.Ends.{survives_on}
 use Rattle.register_sql.proofs.Rising.{part_same, on_same, both_apart}
 use Rattle.register_sql.proofs.rowids.are_last_apart.Goals as goal

@@ -1,8 +1,6 @@
-use Rattle.std.proofs.Common.{arith, rules, ◌≤◌, ◌<◌}
+use Rattle.std.proofs.Common.{rules}
 use Rattle.sqlite.specs.Held.{state}
-use Rattle.sqlite.specs.State.{HasCleanDisk}
-use Rattle.register_sql.proofs.Ends.{survives_still}
-use Rattle.register_sql.proofs.Rising.{apart_read, apart_unmade, same_still}
+use Rattle.register_sql.proofs.Rising.{apart_read, apart_unmade}
 use Rattle.register_sql.proofs.rowids.is_apart.Goals as goal
 
 pub returns-clause-told : goal.returns-clause-told

@@ -1,7 +1,6 @@
-use Rattle.std.proofs.Common.{◌≡◌, map, arith, rules, refl}
+use Rattle.std.proofs.Common.{map, rules, refl}
 use Rattle.std.specs.Prelude.{string_bytes}
 use Rattle.sqlite.specs.Held.{state}
-use Rattle.sqlite.specs.State.{HasCleanDisk}
 use Rattle.register_sql.proofs.Setups.{setup_told}
 use Rattle.register_sql.proofs.told.has_setup.Goals as goal
 

@@ -1,7 +1,6 @@
-use Rattle.std.proofs.Common.{◌≡◌}
 use Rattle.register_sql.proofs.Agrees.{found_spots, found_lines, found_terms}
 use Rattle.register_sql.proofs.Postings.{if_ok}
-use Rattle.register_sql.proofs.agree.compare.Goals as goal
+use Rattle.register_sql.proofs.agree.compare_read.Goals as goal
 
 pub returns-clause-told : goal.returns-clause-told
 returns-clause-told c =
