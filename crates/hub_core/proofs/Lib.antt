@@ -18,5 +18,6 @@ pub mod ReopenLemmas
 pub mod StandLemmas
 pub mod CutLemmas
 pub mod LawLemmas
+pub mod RefusedLemmas
 pub mod RequestLemmas
 pub mod WorkedRows

@@ -13,6 +13,8 @@ use Rattle.hub_core.specs.declared.answer.Arrival.{Arrival}
 use Rattle.hub_core.specs.declared.answer.Answer.TheVariants.{Refused, Held, Posted}
 use Rattle.hub_core.specs.declared.answer.Where.TheVariants.{UnknownThing, Unplaced, At}
 use Rattle.hub_core.specs.declared.reader.Request.TheVariants.{Scan, Ask}
+use Rattle.hub_core.specs.declared.line_reply.TheConstants.{LONGEST_LINE}
+use Rattle.hub_core.specs.declared.running.TheConstants.{LONGEST_HEAD}
 use Rattle.hub_core.specs.Lines.{without_return, lines, ended, head, after_head}
 use Rattle.hub_core.specs.LineText.{station_reply}
 use Rattle.hub_core.specs.Requests.{line_of}
@@ -25,6 +27,12 @@ museum = record {
   places = (codes "S1", true) ∷ [];
   things = (codes "2001.4.1", Some 0) ∷ [];
 }
+
+longest_line : LONGEST_LINE ≡ 16384
+longest_line = refl
+
+longest_head : LONGEST_HEAD ≡ 8388608
+longest_head = refl
 
 -- number n of GAL moves the object to S1
 abbrev moved : ℕ → Arrival

@@ -5,6 +5,8 @@ use Rattle.std.specs.List.{list_any}
 use Rattle.std.specs.Io.KnownBytes.{Consumes, Keeps}
 use Rattle.nest_core.specs.Museum.{Museum}
 use Rattle.nest_core.specs.SetupRows.{rows_of, museum_of, setup_fault}
+use Rattle.nest_core.specs.declared.setup_fault.SetupFault.{SetupFault}
+use Rattle.nest_core.specs.declared.setup_fault.SetupFault.TheVariants as setup
 use Rattle.register_store.specs.declared.plain.TheConstants.{NEW_DEPTH}
 use Rattle.register_store.specs.Plain.{Kept, in_memory}
 use Rattle.hub_core.specs.declared.replaying.ReplayFault.{ReplayFault}
@@ -69,6 +71,18 @@ BeforeLines i i' ReadFailed = InHead i i'
 BeforeLines i i' WriteFailed = ⊥
 BeforeLines i i' (Setup fault) = IfSome i (λ bytes. (head_fault (head bytes) ≡ Some (Setup fault)) × (i' ≡ Some (after_head bytes)))
 BeforeLines i i' HeadTooLong = IfSome i (λ bytes. head_fault (head bytes) ≡ Some HeadTooLong)
+
+-- a setup's fault, as a run tells it
+abbrev pub told_fault : SetupFault → RunFault
+told_fault setup.NotCsv = Setup setup.NotCsv
+told_fault (setup.BadKind row) = Setup (setup.BadKind row)
+told_fault (setup.BadFields row) = Setup (setup.BadFields row)
+told_fault (setup.BadCode row) = Setup (setup.BadCode row)
+told_fault (setup.Repeated row) = Setup (setup.Repeated row)
+told_fault (setup.UnknownNormal row) = Setup (setup.UnknownNormal row)
+told_fault (setup.TooMany row) = Setup (setup.TooMany row)
+told_fault setup.NoStation = Setup setup.NoStation
+told_fault setup.NoMemory = NoMemory
 
 -- a fault of a replay, as a run tells it
 abbrev pub run_fault : ReplayFault → RunFault

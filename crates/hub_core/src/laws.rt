@@ -7,6 +7,8 @@ ghost use Rattle.posting_core.specs.declared.entry.Entry.{Entry};
 ghost use Rattle.posting_core.specs.Book.{Book, changes_of};
 ghost use Rattle.posting_core.specs.Messages.{is_sign_off};
 ghost use Rattle.posting_core.specs.Lawful.{Follows, IsLawful};
+ghost use Rattle.posting_core.specs.Accountability.{AnswerAlike};
+ghost use Rattle.posting_core.specs.Onward.{are_refused};
 ghost use Rattle.station_core.specs.declared.TheConstants.{LAST};
 ghost use Rattle.station_core.specs.declared.Refusal.{Refusal};
 ghost use Rattle.station_core.specs.Runs.{Arrived, message_at, ready, refusal};
@@ -16,7 +18,7 @@ ghost use Rattle.register_store.specs.Registers.{is_failure};
 ghost use Rattle.register_store.specs.Holdings.{Comes, IsPosted};
 ghost use Rattle.hub_core.specs.declared.answer.Arrival.{Arrival};
 ghost use Rattle.hub_core.specs.declared.answer.Answer.TheVariants.{Refused};
-ghost use Rattle.hub_core.specs.Points.{point, entry_of, post, reply, cut};
+ghost use Rattle.hub_core.specs.Points.{point, posted, entry_of, post, reply, whereabouts, cut};
 ghost use Rattle.hub_core.specs.Openings.{IsOpenFault, Opened};
 ghost use Rattle.hub_core.specs.StandsFor.{State, HasStore};
 
@@ -31,6 +33,18 @@ pub fn numbers_without_gap()
 pub fn refused_changes_nothing()
     ensures { (S : Museum) (depth : ℕ) (O : List Entry) (A : List Arrival) (r : Arrival) (why : Refusal) →
         refusal is_sign_off (length S.stations) (point S depth O A).taken r.station r.n ≡ Some why → point S depth O (A ++ r ∷ []) ≡ point S depth O A }
+{}
+
+/// What an arrival posts with refused verdicts alone changes no answer: the ledger tells the same of every thing and of
+/// every loan as before, and where a thing is is answered the same.
+pub fn refused_verdicts_change_no_answer()
+    ensures ledger { (S : Museum) (depth : ℕ) (O : List Entry) (A : List Arrival) (r : Arrival) (L : List Entry) →
+        posted S depth O (A ++ r ∷ []) ≡ L ++ posted S depth O A → are_refused L ≡ true →
+        AnswerAlike (record { museum = S; depth = depth; posted = posted S depth O (A ++ r ∷ []) })
+        (record { museum = S; depth = depth; posted = posted S depth O A }) }
+    ensures asked { (S : Museum) (depth : ℕ) (O : List Entry) (A : List Arrival) (r : Arrival) (L : List Entry) (code : List ℕ) →
+        posted S depth O (A ++ r ∷ []) ≡ L ++ posted S depth O A → are_refused L ≡ true →
+        whereabouts S (posted S depth O (A ++ r ∷ [])) code ≡ whereabouts S (posted S depth O A) code }
 {}
 
 /// Whatever is sent again under a number that is posted is Double, and changes nothing.

@@ -49,6 +49,7 @@ pub(crate) fn next_line<R: BufRead, W: Write>(
     ensures fault { OnErr result (TakesStart (R.remaining input.old) (R.remaining input.new)) }
     ensures output { Keeps (W.contents output.old) (W.contents output.new) }
     ensures cause { IfErr result (λ fault. fault ≢ ReplayFault.Store) }
+    ensures reads { OnOk result (reads.new.left < reads.old.left) }
 {
     line.clear();
     while reads.left > 0 {

@@ -1,5 +1,5 @@
 //! Lines in, replies out.
-ghost use Rattle.std.specs.Prelude.{◌≡◌, ◌++◌, false, true, List, ℕ, take, OnOk, OnErr, IfErr, IfSome};
+ghost use Rattle.std.specs.Prelude.{◌≡◌, ◌<◌, ◌++◌, false, true, List, ℕ, take, OnOk, OnErr, IfErr, IfSome};
 ghost use Rattle.std.specs.Io.KnownBytes.{Appends, IsAtEnd};
 ghost use Rattle.posting_core.specs.declared.entry.Entry.{Entry};
 ghost use Rattle.hub_core.specs.declared.answer.Arrival.{Arrival};
@@ -71,26 +71,26 @@ pub fn replay<R: BufRead, W: Write, S: Register>(
         Answered hub.old.book.museum hub.old.book.depth O A (R.remaining input.old) (R.remaining input.new) (W.contents output.old) (W.contents output.new) S.holding hub.new true) }
     ensures ends { EndsReplay S.holding S.refusals (R.remaining input.old) (R.remaining input.new) (W.contents output.old) (W.contents output.new) hub.old hub.new result }
 {
-    replay_from(alloc, input, output, hub, Reads::new())
+    replay_from(alloc, input, output, hub, &mut Reads::new())
 }
 
-/// The same where there were reads before.
+/// The same, with the reads that are left; it takes one at least.
 pub(crate) fn replay_from<R: BufRead, W: Write, S: Register>(
     alloc: Global,
     input: &mut R,
     output: &mut W,
     hub: &mut Hub<S>,
-    reads_left: Reads,
+    reads: &mut Reads,
 ) -> Result<(), ReplayFault>
     requires { hub.old.down ≡ false }
     ensures answered { OnOk result ((O : List Entry) (A : List Arrival) → StandsFor S.holding hub.old O A →
         Answered hub.old.book.museum hub.old.book.depth O A (R.remaining input.old) (R.remaining input.new) (W.contents output.old) (W.contents output.new) S.holding hub.new true) }
     ensures ends { EndsReplay S.holding S.refusals (R.remaining input.old) (R.remaining input.new) (W.contents output.old) (W.contents output.new) hub.old hub.new result }
+    ensures reads { OnOk result (reads.new.left < reads.old.left) }
 {
-    let mut reads = reads_left;
     let mut line = Vec::new(alloc);
     for number in 1..u64::MAX {
-        let fed = next_line(input, output, &mut reads, &mut line)?;
+        let fed = next_line(input, output, reads, &mut line)?;
         let text = reply_to(alloc, number, without_return(line.as_slice()), hub)?;
         write_text(output, text.as_bytes())?;
         if !fed {

@@ -54,6 +54,20 @@ impl From<AllocError> for RunFault {
     }
 }
 
+impl From<SetupFault> for RunFault {
+    ghost use Rattle.std.specs.Prelude.{◌≡◌};
+    ghost use Rattle.hub_core.specs.WholeRun.{told_fault};
+
+    ghost from_gives = { λ fault e. e ≡ told_fault fault };
+
+    fn from(fault: SetupFault) -> RunFault {
+        match fault {
+            SetupFault::NoMemory => RunFault::NoMemory,
+            _ => RunFault::Setup(fault),
+        }
+    }
+}
+
 impl From<ReplayFault> for RunFault {
     ghost use Rattle.std.specs.Prelude.{◌≡◌};
     ghost use Rattle.hub_core.specs.WholeRun.{run_fault};
@@ -86,8 +100,23 @@ pub fn run<R: BufRead, W: Write>(
     // Its register is in memory.
     ensures never_store { IfErr result (λ fault. fault ≢ RunFault.Store) }
 {
-    let mut reads = Reads::new();
-    let mut hub = opened(alloc, input, &mut reads)?;
+    run_counted(alloc, input, output, &mut Reads::new())
+}
+
+/// The same, with the reads that are left: the head takes one at least, and so do the lines.
+fn run_counted<R: BufRead, W: Write>(
+    alloc: Global,
+    input: &mut R,
+    output: &mut W,
+    reads: &mut Reads,
+) -> Result<(), RunFault>
+    ensures bytes_to_bytes { OnOk result (IfSome (R.remaining input.old) (λ bytes. (head_fault (head bytes) ≡ None)
+        × IsAtEnd (R.remaining input.new) × Appends (W.contents output.old) (W.contents output.new) (run_text bytes))) }
+    ensures faults { IfErr result (AfterRun (R.remaining input.old) (R.remaining input.new) (W.contents output.old) (W.contents output.new)) }
+    ensures never_store { IfErr result (λ fault. fault ≢ RunFault.Store) }
+    ensures reads { OnOk result (reads.new.left + 2 ≤ reads.old.left) }
+{
+    let mut hub = opened(alloc, input, reads)?;
     replay_from(alloc, input, output, &mut hub, reads)?;
     Ok(())
 }
@@ -101,9 +130,10 @@ fn opened<R: BufRead>(
     ensures hub { IfOk result (OpensHub (R.remaining input.old) (R.remaining input.new)) }
     ensures up { IfOk result (λ hub. hub.down ≡ false) }
     ensures fault { IfErr result (BeforeLines (R.remaining input.old) (R.remaining input.new)) }
+    ensures reads { OnOk result (reads.new.left < reads.old.left) }
 {
     let head = read_head(alloc, input, reads)?;
-    let setup = read_setup(alloc, head.as_slice())?;
+    let setup = Setup::read(alloc, head.as_slice())?;
     match new_hub(alloc, setup) {
         Ok(hub) => Ok(hub),
         Err(_) => Err(RunFault::NoMemory),
@@ -121,19 +151,6 @@ fn new_hub(alloc: Global, setup: Setup) -> Result<Hub<PlainRegister>, StoreFault
     }
 }
 
-/// The setup that the head lists.
-fn read_setup(alloc: Global, head: &[u8]) -> Result<Setup, RunFault>
-    ensures { MatchResult result
-        (λ setup. (setup_fault head.now ≡ None) × (setup ≡ museum_of (rows_of head.now)))
-        (λ fault. fault ≢ RunFault.NoMemory → (cause : SetupFault) × (fault ≡ RunFault.Setup cause) × (setup_fault head.now ≡ Some cause)) }
-{
-    match Setup::read(alloc, head) {
-        Ok(setup) => Ok(setup),
-        Err(SetupFault::NoMemory) => Err(RunFault::NoMemory),
-        Err(fault) => Err(RunFault::Setup(fault)),
-    }
-}
-
 /// Reads the head, and the empty line after it.
 fn read_head<R: BufRead>(
     alloc: Global,
@@ -142,6 +159,7 @@ fn read_head<R: BufRead>(
 ) -> Result<Vec<u8>, RunFault>
     ensures head { IfOk result (λ head. TakesHead (R.remaining input.old) (R.remaining input.new) head.items) }
     ensures fault { IfErr result (BeforeLines (R.remaining input.old) (R.remaining input.new)) }
+    ensures reads { OnOk result (reads.new.left < reads.old.left) }
 {
     let mut head = Vec::new(alloc);
     let mut line = Vec::new(alloc);

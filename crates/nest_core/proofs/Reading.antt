@@ -1,10 +1,10 @@
 -- How far a reader has come in the rows of a setup.
-use Rattle.std.specs.Prelude.{◌≡◌, ℕ, ◌+◌, false, List, [], ◌∷◌, ◌++◌, length, Option, Some, None, refl}
+use Rattle.std.specs.Prelude.{◌≡◌, ◌≤◌, ℕ, ◌+◌, Bool, true, false, cond, List, [], ◌∷◌, ◌++◌, length, Option, Some, None, refl}
 use Rattle.std.proofs.Common.{arith, ap, sym, ◌∙◌, append_assoc}
 use Rattle.std.proofs.lemmas.List.{append-nil, length-append}
 use Rattle.std.proofs.lemmas.List.Sums.{fold_push}
 use Rattle.csv.specs.Machine.{ends_at_end, next_record}
-use Rattle.csv.specs.Reading.{default_config, records}
+use Rattle.csv.specs.Reading.{default_config, is_bom, records, strip_bom}
 use Rattle.csv.specs.declared.parser.State.{State}
 use Rattle.csv.specs.declared.parser.State.TheVariants as st
 use Rattle.nest_core.specs.Museum.{Museum, no_museum}
@@ -76,3 +76,21 @@ at_end text S n s xs up next =
       up.fault ∙ ap (first_fault up.before) left,
       up.museum ∙ ap museum_of (sym (up.rows ∙ ap (λ rows. up.before ++ rows) left ∙ append-nil up.before)),
     )
+
+-- without a mark a text is no longer
+strip_most : (b : Bool) (a c d : ℕ) (rest : List ℕ) → length (cond b rest (a ∷ c ∷ d ∷ rest)) ≤ length (a ∷ c ∷ d ∷ rest)
+strip_most true a c d rest = omega arith
+strip_most false a c d rest = omega arith
+
+pub strip_few : (xs : List ℕ) → length (strip_bom xs) ≤ length xs
+unfolding strip_bom
+strip_few [] = omega arith
+strip_few (a ∷ []) = omega arith
+strip_few (a ∷ b ∷ []) = omega arith
+strip_few (a ∷ b ∷ c ∷ rest) = strip_most (is_bom a b c) a b c rest
+
+-- after the last byte there is no more row
+pub spent : (s : State) (xs : List ℕ) → ends_at_end s ≡ false → length xs ≡ 0 → next_record default_config s [] [] xs ≡ None
+unfolding next_record
+spent s [] rests none = rw rests refl
+spent s (x ∷ xs) rests none = absurd (omega arith)

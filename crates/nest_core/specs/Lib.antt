@@ -1,6 +1,7 @@
 pub mod Museum
 pub mod StationName
 pub mod SetupRows
+pub mod RowReading
 pub mod SetupFaults
 pub mod SetupTexts
 pub mod Puts

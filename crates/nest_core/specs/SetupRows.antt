@@ -1,5 +1,5 @@
 -- How the rows of a setup file are read.
-use Rattle.std.specs.Prelude.{ℕ, ◌+◌, ◌==◌, ◌&&◌, ◌||◌, Bool, true, false, not, nat_le, List, [], ◌∷◌, ◌++◌, length, fold, Option, Some, None, is_some, is_none, unwrap_or, slice_get, codes, if◌then◌else◌}
+use Rattle.std.specs.Prelude.{ℕ, ◌+◌, ◌≡◌, ◌≢◌, ◌==◌, ◌&&◌, ◌||◌, Bool, true, false, not, nat_le, List, [], ◌∷◌, ◌++◌, length, fold, Option, Some, None, is_some, is_none, unwrap_or, slice_get, codes, if◌then◌else◌}
 use Rattle.std.specs.Option.{option_map_or, option_and_then}
 use Rattle.std.specs.Str.{bytes_eq, is_utf8}
 use Rattle.csv.specs.Reading.{records, default_config, strip_bom}
@@ -159,6 +159,10 @@ with_kind S row (Some k) = with_listed S (listed k row)
 
 abbrev pub with_row : Museum → Fields → Museum
 with_row S row = if field_count row == 0 then S else with_kind S row (row_kind (field row 0))
+
+-- the row isn't skipped, and nothing is wrong with it over what is listed
+abbrev pub CanBeListed : Museum → Fields → Type 0
+CanBeListed S row = (field_count row ≢ 0) × (n : ℕ) × (row_fault S n row ≡ None)
 
 -- what the rows list, one after another
 abbrev pub museum_of : List Fields → Museum

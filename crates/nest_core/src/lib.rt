@@ -17,6 +17,7 @@ pub use nest::{Nest, PackBar, laws};
 pub use put::{Put, Target};
 pub use setup::{PlaceNo, Setup, StationNo, ThingNo};
 pub use setup_fault::SetupFault;
+pub use setup_row::{field, field_count};
 pub use steps::Steps;
 pub use thing_nos::{Moved, ThingNos};
 

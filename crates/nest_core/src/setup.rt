@@ -1,5 +1,5 @@
 //! The setup: what the museum lists, and the look-ups in it.
-ghost use Rattle.std.specs.Prelude.{◌≡◌, ◌≢◌, ◌<◌, ◌≤◌, ◌+◌, true, length, None, Some, IfSome, OnOk, IfErr};
+ghost use Rattle.std.specs.Prelude.{◌≡◌, ◌≢◌, ◌<◌, ◌≤◌, ◌+◌, true, length, None, Some, IfSome, OnOk, OnErr, IfErr};
 ghost use Rattle.std.specs.Option.{option_and_then};
 ghost use Rattle.nest_core.specs.Museum.{IsMuseum, find_station, find_place, find_thing, station_name_of, place_code_of, thing_code_of, is_inside, kind_of, normal_of, row_count, no_museum};
 ghost use Rattle.nest_core.specs.SetupRows.{is_place_code, is_right, listing_fault, with_listed};
@@ -186,11 +186,13 @@ impl Setup {
     }
 
     /// Adds what row `number` lists behind the rest; else the first fault: Repeated, UnknownNormal, TooMany
-    /// or NoMemory.
+    /// or NoMemory, and nothing is added.
     pub(crate) fn add(&mut self, number: u64, row: SetupRow) -> Result<(), SetupFault>
         requires { is_right row ≡ true }
         ensures ok { OnOk result ((listing_fault self.old number row ≡ None) × (self.new ≡ with_listed self.old row)) }
         ensures fault { IfErr result (λ fault. fault ≢ SetupFault.NoMemory → listing_fault self.old number row ≡ Some fault) }
+        ensures gives_up { result ≡ Err SetupFault.NoMemory → listing_fault self.old number row ≡ None }
+        ensures unchanged { OnErr result (self.new ≡ self.old) }
     {
         match row {
             SetupRow::Station(name) => self.add_station(number, name),
@@ -203,6 +205,8 @@ impl Setup {
         requires { is_station_name name ≡ true }
         ensures ok { OnOk result ((listing_fault self.old number (SetupRow.Station name) ≡ None) × (self.new ≡ with_listed self.old (SetupRow.Station name))) }
         ensures fault { IfErr result (λ fault. fault ≢ SetupFault.NoMemory → listing_fault self.old number (SetupRow.Station name) ≡ Some fault) }
+        ensures gives_up { result ≡ Err SetupFault.NoMemory → listing_fault self.old number (SetupRow.Station name) ≡ None }
+        ensures unchanged { OnErr result (self.new ≡ self.old) }
     {
         if self.stations.get_index_of(&name).is_some() {
             return Err(SetupFault::Repeated(number));
@@ -218,6 +222,8 @@ impl Setup {
         requires { is_place_code code ≡ true }
         ensures ok { OnOk result ((listing_fault self.old number (SetupRow.Place code inside) ≡ None) × (self.new ≡ with_listed self.old (SetupRow.Place code inside))) }
         ensures fault { IfErr result (λ fault. fault ≢ SetupFault.NoMemory → listing_fault self.old number (SetupRow.Place code inside) ≡ Some fault) }
+        ensures gives_up { result ≡ Err SetupFault.NoMemory → listing_fault self.old number (SetupRow.Place code inside) ≡ None }
+        ensures unchanged { OnErr result (self.new ≡ self.old) }
     {
         if self.places.get_index_of(&code).is_some() {
             return Err(SetupFault::Repeated(number));
@@ -248,6 +254,8 @@ impl Setup {
         requires { is_right (SetupRow.Thing code normal) ≡ true }
         ensures ok { OnOk result ((listing_fault self.old number (SetupRow.Thing code normal) ≡ None) × (self.new ≡ with_listed self.old (SetupRow.Thing code normal))) }
         ensures fault { IfErr result (λ fault. fault ≢ SetupFault.NoMemory → listing_fault self.old number (SetupRow.Thing code normal) ≡ Some fault) }
+        ensures gives_up { result ≡ Err SetupFault.NoMemory → listing_fault self.old number (SetupRow.Thing code normal) ≡ None }
+        ensures unchanged { OnErr result (self.new ≡ self.old) }
     {
         if self.things.get_index_of(&code).is_some() {
             return Err(SetupFault::Repeated(number));

@@ -1,14 +1,16 @@
 //! Reading a setup file.
-ghost use Rattle.std.specs.Prelude.{◌≡◌, ◌≢◌, [], false, None, Some, OnOk, IfErr, MatchResult};
+ghost use Rattle.std.specs.Prelude.{◌≡◌, ◌≢◌, ◌⊎◌, [], true, false, None, Some, OnOk, IfErr, MatchResult};
 ghost use Rattle.std.specs.Str.{is_utf8};
+ghost use Rattle.csv.specs.Reading.{has_failed};
 ghost use Rattle.csv.specs.Records.{fields_of};
 ghost use Rattle.nest_core.specs.Museum.{no_museum};
-ghost use Rattle.nest_core.specs.SetupRows.{first_fault, museum_of, row_fault, rows_of, setup_fault, with_row};
+ghost use Rattle.nest_core.specs.SetupRows.{CanBeListed, first_fault, museum_of, row_fault, rows_of, setup_fault, with_row};
+ghost use Rattle.nest_core.specs.RowReading.{ReadsRows};
 
 use crate::setup::Setup;
 use crate::setup_fault::SetupFault;
 use crate::setup_row::SetupRow;
-use csv::{ByteRecord, ReaderBuilder};
+use csv::{ByteRecord, Reader, ReaderBuilder};
 use std::alloc::Global;
 
 impl Setup {
@@ -42,40 +44,48 @@ fn read_rows(alloc: Global, bytes: &[u8]) -> Result<Setup, SetupFault>
         (λ fault. fault ≢ SetupFault.NoMemory → first_fault [] (rows_of bytes.now) ≡ Some fault) }
 {
     let mut setup = Setup::new(alloc);
-    add_rows(alloc, &mut setup, bytes)?;
-    Ok(setup)
-}
-
-/// Adds what the rows list to a setup that lists nothing; else the fault of the first that has one, or NoMemory.
-fn add_rows(alloc: Global, setup: &mut Setup, bytes: &[u8]) -> Result<(), SetupFault>
-    requires { setup.old ≡ no_museum }
-    ensures { MatchResult result
-        (λ _. (first_fault [] (rows_of bytes.now) ≡ None) × (setup.new ≡ museum_of (rows_of bytes.now)))
-        (λ fault. fault ≢ SetupFault.NoMemory → first_fault [] (rows_of bytes.now) ≡ Some fault) }
-{
     let mut reader = ReaderBuilder::new()
         .has_headers(false)
         .flexible(true)
         .from_reader(alloc, bytes);
     let mut row = ByteRecord::new(alloc);
-    for number in 1..u64::MAX {
-        // Bytes in memory are read without a fault but for memory.
-        let Ok(found) = reader.read_byte_record(&mut row) else {
-            return Err(SetupFault::NoMemory);
-        };
-        if !found {
-            return Ok(());
-        }
-        add_row(setup, number, &row)?;
-    }
-    // No memory holds so many rows.
-    Err(SetupFault::NoMemory)
+    add_rows(&mut setup, &mut reader, &mut row, bytes)?;
+    Ok(setup)
 }
 
-/// Adds what row `number` lists, if it isn't skipped; else its first fault, or NoMemory.
+/// Adds what the rows list to a setup that lists nothing; else the fault of the first that has one, or NoMemory:
+/// where the reader stopped for want of memory, or a row with nothing wrong couldn't be listed. Each row is read
+/// into `row`.
+fn add_rows(
+    setup: &mut Setup,
+    reader: &mut Reader<&[u8]>,
+    row: &mut ByteRecord,
+    bytes: &[u8],
+) -> Result<(), SetupFault>
+    requires empty { setup.old ≡ no_museum }
+    requires reads { ReadsRows reader.old bytes.now }
+    ensures exact { MatchResult result
+        (λ _. (first_fault [] (rows_of bytes.now) ≡ None) × (setup.new ≡ museum_of (rows_of bytes.now)))
+        (λ fault. fault ≢ SetupFault.NoMemory → first_fault [] (rows_of bytes.now) ≡ Some fault) }
+    ensures gives_up { result ≡ Err SetupFault.NoMemory
+        → (has_failed reader.new ≡ true) ⊎ CanBeListed setup.new (fields_of row.new) }
+{
+    // Each row takes a byte at least.
+    for before in 0..bytes.len() as u64 {
+        match reader.read_byte_record(row) {
+            Ok(true) => add_row(setup, before + 1, row)?,
+            Ok(false) => return Ok(()),
+            Err(_) => return Err(SetupFault::NoMemory),
+        }
+    }
+    Ok(())
+}
+
+/// Adds what row `number` lists, if it isn't skipped; else its first fault, or NoMemory where it has none.
 fn add_row(setup: &mut Setup, number: u64, row: &ByteRecord) -> Result<(), SetupFault>
     ensures ok { OnOk result ((row_fault setup.old number (fields_of row.now) ≡ None) × (setup.new ≡ with_row setup.old (fields_of row.now))) }
     ensures fault { IfErr result (λ fault. fault ≢ SetupFault.NoMemory → row_fault setup.old number (fields_of row.now) ≡ Some fault) }
+    ensures gives_up { result ≡ Err SetupFault.NoMemory → CanBeListed setup.new (fields_of row.now) }
 {
     match SetupRow::read(number, row)? {
         Some(item) => setup.add(number, item),

@@ -1,5 +1,5 @@
 //! What one row of a setup file lists.
-ghost use Rattle.std.specs.Prelude.{◌≡◌, true, None, Some, IfOk, IfErr, MatchOption, if◌then◌else◌};
+ghost use Rattle.std.specs.Prelude.{◌≡◌, ◌≢◌, ◌==◌, is_none, true, None, Some, IfOk, IfErr, MatchOption, if◌then◌else◌};
 ghost use Rattle.csv.specs.Records.{fields_of};
 ghost use Rattle.nest_core.specs.Museum.{Museum};
 ghost use Rattle.nest_core.specs.SetupRows.{field, field_count, fields_of_kind, has_word, has_codes, is_thing_code, is_place_code, is_right, listed, listing_fault, row_fault, row_kind, with_listed, with_row};
@@ -28,15 +28,15 @@ pub(crate) enum SetupRow {
     Thing(ThingCode, Option<PlaceCode>),
 }
 
-/// A field of the row, empty where there is none.
-fn field(row: &ByteRecord, i: usize) -> &[u8]
+/// A field of a row of a file, by its number from 0; empty where there is none.
+pub fn field(row: &ByteRecord, i: usize) -> &[u8]
     ensures { result.now ≡ field (fields_of row.now) i }
 {
     row.get(i).unwrap_or(&[])
 }
 
-/// How many fields the row has, without the empty ones at its end.
-fn field_count(row: &ByteRecord) -> usize
+/// How many fields a row of a file has, without the empty ones at its end.
+pub fn field_count(row: &ByteRecord) -> usize
     ensures { result ≡ field_count (fields_of row.now) }
 {
     let mut count = 0;
@@ -143,6 +143,8 @@ impl SetupRow {
         ensures ok { IfOk result (λ read. MatchOption read
             ((S : Museum) → (row_fault S number (fields_of row.now) ≡ None) × (with_row S (fields_of row.now) ≡ S))
             (λ item. (is_right item ≡ true) × ((S : Museum) → (row_fault S number (fields_of row.now) ≡ listing_fault S number item) × (with_row S (fields_of row.now) ≡ with_listed S item)))) }
+        ensures skips { IfOk result (λ read. (field_count (fields_of row.now) == 0) ≡ is_none read) }
+        ensures told { IfErr result (λ fault. fault ≢ SetupFault.NoMemory) }
         ensures fault { IfErr result (λ fault. (S : Museum) → row_fault S number (fields_of row.now) ≡ Some fault) }
     {
         let count = field_count(row);

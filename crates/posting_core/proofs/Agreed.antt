@@ -135,15 +135,12 @@ agreements_apart S depth (e ∷ P) (follows, lawful) =
 
 -- the message is about the loan, which must be agreed before
 abbrev pub names : Message → List ℕ → Bool
-names (Move x p day) loan = false
-names (Pack x c day) loan = false
-names (Agree l partner objects first last) loan = false
 names (Authorise l name) loan = bytes_eq l loan
 names (Exit x l day) loan = bytes_eq l loan
 names (Return x l p day) loan = bytes_eq l loan
 names (Receive x l p day) loan = bytes_eq l loan
-names (SignOff name) loan = false
 names (Extend l last) loan = bytes_eq l loan
+names _ loan = false
 
 apart_from : (P : List Entry) (l loan : List ℕ) → not (is_agreed P l) ≡ false → agreement P loan ≡ None → bytes_eq l loan ≡ false
 apart_from P l loan agreed none = elim (bytes_eq l loan) as (λ b. bytes_eq l loan ≡ b → b ≡ false) [

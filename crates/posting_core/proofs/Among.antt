@@ -35,6 +35,17 @@ not_among_passing p (x ∷ xs) o fails = by_eq _ x o
       | false ↦ not_among_passing p xs o fails
     ])
 
+-- the first of a list stands in it, and what stands in the rest
+pub first_among : (o : ℕ) (os : List ℕ) → is_among o (o ∷ os) ≡ true
+first_among o os = let same : (o == o) ≡ true = grind (arith, nat_tests) in ap (λ b. b || is_among o os) same
+
+pub later_among : (o x : ℕ) (os : List ℕ) → is_among o os ≡ true → is_among o (x ∷ os) ≡ true
+later_among o x os among = ap (λ b. (x == o) || b) among ∙ always (x == o)
+  where
+    always : (b : Bool) → (b || true) ≡ true
+    always true = refl
+    always false = refl
+
 -- each number from a on, below the end
 pub among_range : (a n o : ℕ) → a ≤ o → o < a + n → is_among o (range_with_len a n) ≡ true
 among_range a zero o low less = absurd (omega arith)

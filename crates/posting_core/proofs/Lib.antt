@@ -2,7 +2,10 @@ pub mod Accounted
 pub mod Agreed
 pub mod Among
 pub mod AppliedRows
+pub mod Asked
+pub mod Bounds
 pub mod Carried
+pub mod Differences
 pub mod Guests
 pub mod Homes
 pub mod KeptLoans
@@ -11,13 +14,17 @@ pub mod Lined
 pub mod LoanAnswers
 pub mod LoanLaws
 pub mod ObjectNumbers
+pub mod Onwards
 pub mod Owners
 pub mod Placed
+pub mod Placements
 pub mod Posted
 pub mod Refused
 pub mod Rooms
+pub mod SpotsAfter
 pub mod Spotted
 pub mod Turns
+mod WorkedAccounts
 mod WorkedLoanOrder
 mod WorkedLoansIn
 mod WorkedLoansOut

@@ -1,6 +1,6 @@
 -- What is kept of a loan answers by looking back.
-use Rattle.std.specs.Prelude.{ℕ, ◌≡◌, ◌==◌, ◌||◌, Bool, true, false, cond, not, zero, suc, List, [], ◌∷◌, Option, None, Some, map, refl, is_some, if◌then◌else◌, slice_get, nat_eq, IfSome, IfOk, Result}
-use Rattle.std.specs.List.{find, list_any, position}
+use Rattle.std.specs.Prelude.{ℕ, ◌≡◌, ◌==◌, ◌||◌, Bool, true, false, cond, zero, suc, List, [], ◌∷◌, Option, None, Some, map, refl, is_some, if◌then◌else◌, slice_get, nat_eq, IfSome, IfOk, Result}
+use Rattle.std.specs.List.{find, position}
 use Rattle.std.specs.Option.{option_map, option_map_or, option_and_then}
 use Rattle.std.specs.Str.{bytes_eq}
 use Rattle.std.proofs.Common.{ap, ◌∙◌, sym, subst, arith}

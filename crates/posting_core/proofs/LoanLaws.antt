@@ -27,7 +27,7 @@ done_over Back h = inl refl
 done_over GivenBack h = inr refl
 done_over _ h = absurd (false≢true h)
 
-closed_done : (authorised : Bool) (stages : List LineStage) → state_by authorised stages ≡ Closed → list_all is_done stages ≡ true
+pub closed_done : (authorised : Bool) (stages : List LineStage) → state_by authorised stages ≡ Closed → list_all is_done stages ≡ true
 closed_done false stages h = absurd (let e : Draft ≡ Closed = h in cc)
 closed_done true stages h = elim (list_all is_done stages) as (λ b. (if b then Closed else (if list_any (λ s. not (is_awaiting s)) stages then Running else Authorised)) ≡ Closed → b ≡ true) [
   | true ↦ λ e. refl
@@ -84,7 +84,7 @@ in_term S depth P (Receive x loan p day) h =
     within P loan day (not-false (is_agreed P loan) none.1.1.1.0) none.1.1.1.1.1.1.1.1.1.1.0
 in_term S depth P _ h = tt
 
-at_each : (S : Museum) (depth : ℕ) (P : List Entry) (R : List Entry → Message → Type 0) → ((Q : List Entry) (m : Message) → verdict S depth Q m ≡ Applied → R Q m) → IsLawful S depth P → AtEachApplied R P
+pub at_each : (S : Museum) (depth : ℕ) (P : List Entry) (R : List Entry → Message → Type 0) → ((Q : List Entry) (m : Message) → verdict S depth Q m ≡ Applied → R Q m) → IsLawful S depth P → AtEachApplied R P
 at_each S depth [] R each lawful = tt
 at_each S depth (e ∷ P) R each (follows, lawful) =
     (λ h. each P e.message (sym follows.judged ∙ applied_is e.verdict h), at_each S depth P R each lawful)

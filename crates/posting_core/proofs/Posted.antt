@@ -1,13 +1,14 @@
 -- What a ledger's fields keep, before and after an entry.
-use Rattle.std.specs.Prelude.{ℕ, ◌≡◌, ◌+◌, ◌<◌, Bool, true, false, if◌then◌else◌, List, [], ◌∷◌, ◌++◌, Option, None, Some, length, All, Result, Ok, Err, IfOk, replicate, zero, suc, refl, IfSome, slice_set, slice_get, is_some, option_copied}
+use Rattle.std.specs.Prelude.{ℕ, ◌≡◌, ◌+◌, ◌<◌, ◌≤◌, Bool, true, false, if◌then◌else◌, List, [], ◌∷◌, ◌++◌, Option, None, Some, length, All, Result, Ok, Err, IfOk, OnErr, replicate, zero, suc, refl, IfSome, slice_get, is_some, option_copied, Vec}
 use Rattle.std.specs.Borrow.{Bor}
 use Rattle.std.specs.List.{find}
 use Rattle.std.specs.Str.{bytes_eq}
-use Rattle.std.specs.Option.{option_map, option_to_list}
-use Rattle.std.proofs.Common.{ap, ◌∙◌, sym, subst, arith}
+use Rattle.std.specs.Option.{option_map, option_map_or, option_to_list}
+use Rattle.std.specs.declared.alloc.Global.{Global}
+use Rattle.std.proofs.Common.{ap, ◌∙◌, sym, subst, arith, get_or}
 use Rattle.std.proofs.lemmas.Bool.{false≢true}
 use Rattle.std.proofs.lemmas.List.{append-nil, length-replicate, length-map}
-use Rattle.std.proofs.lemmas.Option.{IfSome_then}
+use Rattle.std.proofs.lemmas.Option.{IfSome_then, slice_get_read, slice_get-map}
 use Rattle.nest_core.specs.declared.put.Put.{Put}
 use Rattle.codes_core.specs.declared.fault.NoMemory.{NoMemory}
 use Rattle.nest_core.specs.Museum.{Museum}
@@ -25,12 +26,13 @@ use Rattle.posting_core.specs.Messages.{day_of}
 use Rattle.posting_core.specs.History.{puts, put_in, put_by, spots, spot_from, place_at, carried_at}
 use Rattle.posting_core.specs.VerdictNames.{is_applied}
 use Rattle.posting_core.specs.Lawful.{Follows, IsLawful}
-use Rattle.posting_core.specs.Book.{Book, chain_in, loans_in, objects_of_loan, place_after, new_spot, new_spots, new_lines, changes_of}
+use Rattle.posting_core.specs.Book.{Book, chain_in, spots_in, loans_in, objects_of_loan, place_after, new_spot, new_spots, new_lines, changes_of}
 use Rattle.posting_core.specs.Agreements.{Agreement, agreement_in, agreement_by, agreements, agreement, is_agreed}
 use Rattle.posting_core.specs.LoanRows.{LoanRow, loan_row, loan_rows, rows_with, MayAgree}
-use Rattle.posting_core.specs.Rows.{row_of, rows_after, AreAscending, IsKept}
+use Rattle.posting_core.specs.Rows.{row_of, rows_after, lists, AreAscending, IsKept}
 use Rattle.posting_core.proofs.AppliedRows.{applied_is}
 use Rattle.posting_core.proofs.Agreed.{IsSound, agree_applied}
+use Rattle.posting_core.proofs.Bounds.{short}
 use Rattle.posting_core.proofs.Lined.{rows_after_entry}
 use Rattle.posting_core.proofs.LoanAnswers.{IsRowOf, row_is, row_missing, code_at, objects_at}
 use Rattle.posting_core.proofs.Placed.{put_allowed, may_go, chain_below}
@@ -49,13 +51,32 @@ module _ {S : Museum} {P : List Entry} {N : Nested} {R : List (List Spot)} {L : 
   pub carried_kept : (x : ℕ) (ys : List ℕ) → ((Q : List Put) → StandsFor N Q → ys ≡ carried N.things Q x) → ys ≡ carried_at B.museum B.posted x
   carried_kept x ys from = subst (λ (C : Book). ys ≡ carried_at C.museum C.posted x) same (from (puts S P) kept.nest ∙ ap (λ n. carried n (puts S P) x) kept.things)
 
-  -- a chain is of the setup's things
+  -- a chain is that of looking back
+  chain_kept : (x : ℕ) (cs : List ℕ) → ((Q : List Put) → StandsFor N Q → cs ≡ chain N.things Q x) → cs ≡ chain_in B x
+  chain_kept x cs from = subst (λ (C : Book). cs ≡ chain_in C x) same (from (puts S P) kept.nest ∙ ap (λ n. chain n (puts S P) x) kept.things)
+
+  -- it is of the setup's things
   pub chain_within : (x : ℕ) (r : Result (List ℕ) NoMemory) → IfOk r (λ cs. (Q : List Put) → StandsFor N Q → cs ≡ chain N.things Q x) → IfOk r (All (λ c. c < length B.museum.things))
-  chain_within x (Ok cs) from = subst (All (λ c. c < length B.museum.things)) (sym is) (chain_below B.museum B.depth B.posted x lawful_kept)
-    where
-      is : cs ≡ chain_in B x
-      is = subst (λ (C : Book). cs ≡ chain_in C x) same (from (puts S P) kept.nest ∙ ap (λ n. chain n (puts S P) x) kept.things)
+  chain_within x (Ok cs) from = subst (All (λ c. c < length B.museum.things)) (sym (chain_kept x cs from)) (chain_below B.museum B.depth B.posted x lawful_kept)
   chain_within x (Err fault) from = tt
+
+  -- and no longer than the depth limit
+  pub chain_short : (x : ℕ) (r : Result (List ℕ) NoMemory) → IfOk r (λ cs. (Q : List Put) → StandsFor N Q → cs ≡ chain N.things Q x) → IfOk r (λ cs. length cs ≤ B.depth)
+  chain_short x (Ok cs) from = subst (λ (ys : List ℕ). length ys ≤ B.depth) (sym (chain_kept x cs from)) (short B.museum B.depth B.posted x lawful_kept)
+  chain_short x (Err fault) from = tt
+
+  -- where it isn't told, something stands above
+  pub chain_some : (x : ℕ) (r : Result (List ℕ) NoMemory) → OnErr r ((Q : List Put) → StandsFor N Q → 0 < length (chain N.things Q x)) → OnErr r (0 < length (chain_in B x))
+  chain_some x (Ok cs) from = tt
+  chain_some x (Err fault) from = subst (λ (C : Book). 0 < length (chain_in C x)) same (subst (λ n. 0 < length (chain n (puts S P) x)) kept.things (from (puts S P) kept.nest))
+
+  -- a thing's row has its spots
+  pub spots_kept : (rows : List (Vec Spot Global)) (x : ℕ) (row : Vec Spot Global) → R ≡ lists rows → x < length B.museum.things → row ≡ get_or rows x row → row.items ≡ spots_in B x
+  spots_kept rows x row R_is within got =
+      let less : x < length S.things = subst (λ (C : Book). x < length C.museum.things) (sym same) within in
+      let at : slice_get rows x ≡ Some row = slice_get_read rows (length R) x row (ap length R_is ∙ length-map rows (λ r. r.items)) (subst (λ n. x < n) (sym kept.rowed) less) got in
+      let there : row_of R x ≡ row.items = ap (λ rs. row_of rs x) R_is ∙ ap (λ o. option_map_or (λ spots. spots) o []) (slice_get-map (λ (r : Vec Spot Global). r.items) rows x ∙ ap (option_map (λ r. r.items)) at) in
+      subst (λ (C : Book). row.items ≡ spots_in C x) same (sym there ∙ kept.row x less)
 
   -- what is kept of a loan is its row by looking back
   pub loan_kept : (loan : List ℕ) (r : Option (Bor LoanRow)) → option_copied r ≡ find (λ row. bytes_eq loan row.loan) L →

@@ -1,21 +1,21 @@
 -- What is refused changes no answer.
-use Rattle.std.specs.Prelude.{ℕ, ℤ, ◌≡◌, ◌+◌, Bool, true, false, List, [], ◌∷◌, ◌++◌, Option, None, Some, length, map, refl, if◌then◌else◌}
+use Rattle.std.specs.Prelude.{ℕ, ℤ, ◌≡◌, ◌+◌, false, List, [], ◌∷◌, ◌++◌, Option, None, Some, length, map, refl, if◌then◌else◌, Bool, true, not}
 use Rattle.std.specs.List.{find}
 use Rattle.std.specs.Option.{option_map, option_map_or, option_to_list}
 use Rattle.std.specs.Str.{bytes_eq}
-use Rattle.std.proofs.Common.{ap, ◌∙◌, sym}
+use Rattle.std.proofs.Common.{ap, ◌∙◌}
+use Rattle.std.proofs.lemmas.Bool.{and_parts, false≢true}
 use Rattle.nest_core.specs.Museum.{Museum}
 use Rattle.nest_core.specs.Puts.{is_among}
 use Rattle.posting_core.specs.declared.entry.Entry.{Entry}
-use Rattle.posting_core.specs.declared.stage.LineStage.{LineStage}
-use Rattle.posting_core.specs.declared.stage.LoanState.{LoanState}
 use Rattle.posting_core.specs.Messages.{day_of}
 use Rattle.posting_core.specs.VerdictNames.{is_applied}
 use Rattle.posting_core.specs.Agreements.{Agreement, agreements, agreement, loans, is_authorised, last_from, last_day}
-use Rattle.posting_core.specs.History.{puts, spots, spot_from, place_at}
+use Rattle.posting_core.specs.History.{spots, place_at}
 use Rattle.posting_core.specs.Loans.{stage, objects_of, objects, line, state_by, loan_state}
 use Rattle.posting_core.specs.Book.{Book}
 use Rattle.posting_core.specs.Accountability.{AnswerAlike}
+use Rattle.posting_core.specs.Onward.{later, are_refused}
 use Rattle.posting_core.proofs.Written.{same_place}
 
 to_nil : {A : Type 0} (xs : List A) → xs ++ [] ≡ xs
@@ -82,3 +82,29 @@ unchanged B e refused = record {
   states = λ loan. same_state B.museum B.posted e loan refused;
   days = λ loan. same_day B.posted e loan refused;
 }
+
+-- nor do several
+alike_on : {A B C : Book} → AnswerAlike A B → AnswerAlike B C → AnswerAlike A C
+alike_on first next = record {
+  places = λ x. first.places x ∙ next.places x;
+  chains = λ x. first.chains x ∙ next.chains x;
+  spots = λ x. first.spots x ∙ next.spots x;
+  loans = first.loans ∙ next.loans;
+  objects = λ loan. first.objects loan ∙ next.objects loan;
+  lines = λ loan o. first.lines loan o ∙ next.lines loan o;
+  states = λ loan. first.states loan ∙ next.states loan;
+  days = λ loan. first.days loan ∙ next.days loan;
+}
+
+alike_itself : (B : Book) → AnswerAlike B B
+alike_itself B = record { places = λ x. refl; chains = λ x. refl; spots = λ x. refl; loans = refl; objects = λ loan. refl; lines = λ loan o. refl; states = λ loan. refl; days = λ loan. refl }
+
+refused_is : (b : Bool) → not b ≡ true → b ≡ false
+refused_is true h = absurd (false≢true h)
+refused_is false h = refl
+
+pub all_unchanged : (B : Book) (L : List Entry) → are_refused L ≡ true → AnswerAlike (later B L) B
+all_unchanged B [] refused = alike_itself B
+all_unchanged B (e ∷ L) refused =
+    let parts = and_parts (not (is_applied e.verdict)) (are_refused L) refused in
+    alike_on (unchanged (later B L) e (refused_is (is_applied e.verdict) parts.0)) (all_unchanged B L parts.1)

@@ -15,7 +15,7 @@ abbrev pub april_30 : ℤ
 april_30 = pos 19843
 
 -- a day after it
-abbrev june_5 : ℤ
+abbrev pub june_5 : ℤ
 june_5 = pos 19879
 
 -- a loan in, of the borrowed object, in May
@@ -25,26 +25,26 @@ loan_in_1 = codes "LI2024.1"
 abbrev pub borrowing : Message
 borrowing = Agree loan_in_1 (codes "LENDER-Y") (codes "L1999.7" ∷ []) may may_31
 
-abbrev received : ℤ → Message
+abbrev pub received : ℤ → Message
 received day = Receive (codes "L1999.7") loan_in_1 (codes "S1") day
 
 -- loan_in: an object comes on the last day, is moved as any other, and is given back after the term
 
-abbrev awaited : List Entry
+abbrev pub awaited : List Entry
 awaited = run [] (
     (gal, borrowing)
     ∷ (gal, authorised loan_in_1)
     ∷ (gal, moved (codes "L1999.7") (codes "S1"))
     ∷ [])
 
-abbrev here : List Entry
+abbrev pub here : List Entry
 here = run awaited (
     (gal, received may_31)
     ∷ (gal, received may_31)
     ∷ (gal, moved (codes "L1999.7") (codes "S2"))
     ∷ [])
 
-abbrev loan_in : List Entry
+abbrev pub loan_in : List Entry
 loan_in = run here (
     (gal, leaves (codes "L1999.7") loan_in_1 june_5)
     ∷ (gal, leaves (codes "L1999.7") loan_in_1 june_5)

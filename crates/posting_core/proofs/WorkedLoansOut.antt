@@ -26,7 +26,7 @@ june_2 = pos 19876
 abbrev june_10 : ℤ
 june_10 = pos 19884
 
-abbrev june_30 : ℤ
+abbrev pub june_30 : ℤ
 june_30 = pos 19904
 
 -- two loans out
@@ -53,7 +53,7 @@ abbrev extended : List ℕ → ℤ → Message
 extended loan last = Extend loan last
 
 -- a spot of another day
-abbrev spot_on : ℕ → ℕ → ℤ → Spot
+abbrev pub spot_on : ℕ → ℕ → ℤ → Spot
 spot_on number p day = record { entry = number; place = p; day = day }
 
 -- a thing's next spot
@@ -66,7 +66,7 @@ new_line o stage = record { loan = loan_1; object = o; stage = stage }
 
 -- loan_out: two of three objects in a crate are agreed; the third is taken out, and the crate leaves on the last day
 
-abbrev three_packed : List Entry
+abbrev pub three_packed : List Entry
 three_packed = run [] (
     (pack, moved (codes "C1") (codes "S1"))
     ∷ (pack, Pack (codes "2001.4.1") (codes "C1") may)
@@ -74,23 +74,23 @@ three_packed = run [] (
     ∷ (pack, Pack (codes "2001.4.3") (codes "C1") may)
     ∷ [])
 
-abbrev two_agreed : Message
+abbrev pub two_agreed : Message
 two_agreed = agreed loan_1 (codes "2001.4.1" ∷ codes "2001.4.2" ∷ [])
 
-abbrev refused_unauthorised : List Entry
+abbrev pub refused_unauthorised : List Entry
 refused_unauthorised = run three_packed ((pack, two_agreed) ∷ (pack, leaves (codes "C1") loan_1 may) ∷ [])
 
-abbrev now_authorised : List Entry
+abbrev pub now_authorised : List Entry
 now_authorised = run refused_unauthorised ((pack, authorised loan_1) ∷ [])
 
-abbrev ready : List Entry
+abbrev pub ready : List Entry
 ready = run now_authorised (
     (pack, leaves (codes "C1") loan_1 may_31)
     ∷ (pack, moved (codes "2001.4.3") (codes "S2"))
     ∷ (pack, leaves (codes "C1") loan_1 june_1)
     ∷ [])
 
-abbrev loan_out : List Entry
+abbrev pub loan_out : List Entry
 loan_out = run ready ((pack, leaves (codes "C1") loan_1 may_31) ∷ [])
 
 loan_out-verdicts : verdicts loan_out ≡
@@ -152,16 +152,16 @@ loan_out-authorising = refl
 
 -- returned_piece_by_piece: each object comes back alone, and then the crate, empty
 
-abbrev first_back : List Entry
+abbrev pub first_back : List Entry
 first_back = run loan_out (
     (pack, Move (codes "2001.4.1") (codes "S1") june_2)
     ∷ (pack, returned (codes "2001.4.1") loan_1 (codes "S1") june_2)
     ∷ [])
 
-abbrev both_back : List Entry
+abbrev pub both_back : List Entry
 both_back = run first_back ((pack, returned (codes "2001.4.2") loan_1 (codes "S1") june_2) ∷ [])
 
-abbrev returned_piece_by_piece : List Entry
+abbrev pub returned_piece_by_piece : List Entry
 returned_piece_by_piece = run both_back (
     (pack, returned (codes "C1") loan_1 (codes "S2") june_2)
     ∷ (pack, returned (codes "C1") loan_1 (codes "S2") june_2)
@@ -223,7 +223,7 @@ crate_returns-chain = refl
 
 -- extend_tour: a loan's last day only ever moves on
 
-abbrev extend_tour : List Entry
+abbrev pub extend_tour : List Entry
 extend_tour = run loan_out (
     (pack, extended loan_1 may_31)
     ∷ (pack, extended (codes "LO2024.9") june_30)

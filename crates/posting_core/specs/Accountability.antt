@@ -4,7 +4,7 @@ use Rattle.std.specs.Option.{option_map}
 use Rattle.codes_core.specs.Loan.{is_out}
 use Rattle.nest_core.specs.Museum.{is_inside, is_elsewhere}
 use Rattle.posting_core.specs.declared.message.Message.{Message}
-use Rattle.posting_core.specs.declared.message.Message.TheVariants.{Move, Pack, Agree, Authorise, Exit, Return, Receive, SignOff, Extend}
+use Rattle.posting_core.specs.declared.message.Message.TheVariants.{Exit, Return, Receive}
 use Rattle.posting_core.specs.declared.entry.Entry.{Entry}
 use Rattle.posting_core.specs.declared.stage.LineStage.{LineStage}
 use Rattle.posting_core.specs.declared.stage.LineStage.TheVariants.{Away, Back, Here, GivenBack}
@@ -65,15 +65,10 @@ AtEachApplied R (e ∷ P) = (is_applied e.verdict ≡ true → R P e.message) ×
 
 -- a thing crosses only under an authorised loan
 abbrev pub IsAuthorised : List Entry → Message → Type 0
-IsAuthorised P (Move x p day) = Unit {0}
-IsAuthorised P (Pack x c day) = Unit {0}
-IsAuthorised P (Agree loan partner objects first last) = Unit {0}
-IsAuthorised P (Authorise loan name) = Unit {0}
 IsAuthorised P (Exit x loan day) = is_authorised P loan ≡ true
 IsAuthorised P (Return x loan p day) = is_authorised P loan ≡ true
 IsAuthorised P (Receive x loan p day) = is_authorised P loan ≡ true
-IsAuthorised P (SignOff name) = Unit {0}
-IsAuthorised P (Extend loan last) = Unit {0}
+IsAuthorised P _ = Unit {0}
 
 -- the day is not after the loan's last day
 abbrev pub IsWithin : List Entry → List ℕ → ℤ → Type 0
@@ -81,15 +76,9 @@ IsWithin P loan day = (last : ℤ) × (last_day P loan ≡ Some last) × (day �
 
 -- a thing goes out under a loan out, and comes under a loan in, no later than the loan's last day
 abbrev pub IsInTerm : List Entry → Message → Type 0
-IsInTerm P (Move x p day) = Unit {0}
-IsInTerm P (Pack x c day) = Unit {0}
-IsInTerm P (Agree loan partner objects first last) = Unit {0}
-IsInTerm P (Authorise loan name) = Unit {0}
 IsInTerm P (Exit x loan day) = is_out loan ≡ true → IsWithin P loan day
-IsInTerm P (Return x loan p day) = Unit {0}
 IsInTerm P (Receive x loan p day) = IsWithin P loan day
-IsInTerm P (SignOff name) = Unit {0}
-IsInTerm P (Extend loan last) = Unit {0}
+IsInTerm P _ = Unit {0}
 
 -- two ledgers answer alike: of every thing and of every loan they tell the same
 pub record AnswerAlike (A B : Book) : Type 0 where

@@ -5,7 +5,7 @@ use Rattle.std.specs.List.{find, list_any}
 use Rattle.std.specs.Option.{option_map, option_to_list}
 use Rattle.std.specs.Str.{bytes_eq}
 use Rattle.posting_core.specs.declared.message.Message.{Message}
-use Rattle.posting_core.specs.declared.message.Message.TheVariants.{Move, Pack, Agree, Authorise, Exit, Return, Receive, SignOff, Extend}
+use Rattle.posting_core.specs.declared.message.Message.TheVariants.{Agree, Authorise, Extend}
 use Rattle.posting_core.specs.declared.verdict.Verdict.{Verdict}
 use Rattle.posting_core.specs.declared.entry.Entry.{Entry}
 use Rattle.posting_core.specs.VerdictNames.{is_applied}
@@ -19,15 +19,8 @@ pub record Agreement : Type 0 where
   pub last : ℤ
 
 abbrev pub agreement_in : Message → Option Agreement
-agreement_in (Move x p day) = None
-agreement_in (Pack x c day) = None
 agreement_in (Agree loan partner objects first last) = Some (record { loan = loan; partner = partner; objects = objects; first = first; last = last })
-agreement_in (Authorise loan name) = None
-agreement_in (Exit x loan day) = None
-agreement_in (Return x loan p day) = None
-agreement_in (Receive x loan p day) = None
-agreement_in (SignOff name) = None
-agreement_in (Extend loan last) = None
+agreement_in _ = None
 
 -- the agreement that a message makes under this verdict
 abbrev pub agreement_by : Verdict → Message → Option Agreement
@@ -50,15 +43,8 @@ abbrev pub is_agreed : List Entry → List ℕ → Bool
 is_agreed P loan = is_some (agreement P loan)
 
 abbrev pub authorises : Message → List ℕ → Bool
-authorises (Move x p day) loan = false
-authorises (Pack x c day) loan = false
-authorises (Agree l partner objects first last) loan = false
 authorises (Authorise l name) loan = bytes_eq l loan
-authorises (Exit x l day) loan = false
-authorises (Return x l p day) loan = false
-authorises (Receive x l p day) loan = false
-authorises (SignOff name) loan = false
-authorises (Extend l last) loan = false
+authorises _ loan = false
 
 -- an applied entry authorises the loan
 abbrev pub is_authorised : List Entry → List ℕ → Bool
@@ -66,15 +52,8 @@ is_authorised P loan = list_any (λ e. is_applied e.verdict && authorises e.mess
 
 -- the last day to which a message extends the loan
 abbrev pub extension_in : Message → List ℕ → Option ℤ
-extension_in (Move x p day) loan = None
-extension_in (Pack x c day) loan = None
-extension_in (Agree l partner objects first last) loan = None
-extension_in (Authorise l name) loan = None
-extension_in (Exit x l day) loan = None
-extension_in (Return x l p day) loan = None
-extension_in (Receive x l p day) loan = None
-extension_in (SignOff name) loan = None
 extension_in (Extend l last) loan = if bytes_eq l loan then Some last else None
+extension_in _ loan = None
 
 -- the last day of a loan that was agreed until this one: that of its last applied extension, where there is one
 abbrev pub last_from : List Entry → List ℕ → ℤ → ℤ

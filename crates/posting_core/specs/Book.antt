@@ -1,5 +1,5 @@
 -- What a ledger is, what posting a message changes in it, and what it answers.
-use Rattle.std.specs.Prelude.{ℕ, ℤ, ◌+◌, List, [], length, map, Option, if◌then◌else◌}
+use Rattle.std.specs.Prelude.{ℕ, ℤ, ◌+◌, ◌&&◌, ◌||◌, Bool, List, [], length, map, Option, is_some, if◌then◌else◌}
 use Rattle.std.specs.List.{range_with_len, filter_map}
 use Rattle.std.specs.Option.{option_map, option_map_or}
 use Rattle.nest_core.specs.Museum.{Museum}
@@ -19,7 +19,7 @@ use Rattle.posting_core.specs.History.{puts, put_in, chain_at, place_at, spots, 
 use Rattle.posting_core.specs.VerdictNames.{is_applied}
 use Rattle.posting_core.specs.Agreements.{Agreement, agreement_in, loans, last_day}
 use Rattle.posting_core.specs.Loans.{Crossing, crossing_in, objects_in, objects_of, objects, line, loan_state}
-use Rattle.posting_core.specs.Verdicts.{verdict}
+use Rattle.posting_core.specs.Verdicts.{verdict, hangs_on_lines}
 
 -- what a ledger is: the setup, the depth limit, and the posted entries, the newest first
 pub record Book : Type 0 where
@@ -92,3 +92,16 @@ changes_of B m =
       spots = if is_applied v then new_spots B.museum B.posted m else [];
       lines = if is_applied v then new_lines B.museum B.posted m else [];
     }
+
+-- it makes or changes lines: it agrees a loan, or something crosses by it
+abbrev pub has_lines : Message → Bool
+has_lines m = is_some (agreement_in m) || is_some (crossing_in m)
+
+-- to judge it takes memory: its verdict hangs on the lines of what crosses
+abbrev pub asks_lines : Book → Message → Bool
+asks_lines B m = is_some (crossing_in m) && hangs_on_lines (verdict_in B m)
+
+-- to plan it takes memory: to judge it, or where it is applied and puts a thing or agrees a loan
+abbrev pub asks_memory : Book → Message → Bool
+asks_memory B m =
+    asks_lines B m || (is_applied (verdict_in B m) && (is_some (put_in B.museum B.posted m) || is_some (agreement_in m)))

@@ -7,7 +7,7 @@ use Rattle.nest_core.specs.Museum.{Museum}
 use Rattle.nest_core.specs.Puts.{with_put, chain, place, carried}
 use Rattle.nest_core.specs.Nest.{is_same_place}
 use Rattle.posting_core.specs.declared.message.Message.{Message}
-use Rattle.posting_core.specs.declared.message.Message.TheVariants.{Move, Pack, Agree, Authorise, Exit, Return, Receive, SignOff, Extend}
+use Rattle.posting_core.specs.declared.message.Message.TheVariants.{Move, Pack, Exit, Return, Receive}
 use Rattle.posting_core.specs.declared.verdict.Verdict.{Verdict}
 use Rattle.posting_core.specs.declared.entry.Entry.{Entry}
 use Rattle.posting_core.specs.declared.entry.Spot.{Spot}
@@ -19,13 +19,10 @@ use Rattle.posting_core.specs.VerdictNames.{is_applied}
 abbrev pub put_in : Museum → List Entry → Message → Option Put
 put_in S P (Move x p day) = Some (record { thing = thing_no S x; to = At (place_no S p) })
 put_in S P (Pack x c day) = Some (record { thing = thing_no S x; to = Within (thing_no S c) })
-put_in S P (Agree loan partner objects first last) = None
-put_in S P (Authorise loan name) = None
 put_in S P (Exit x loan day) = option_map (λ t. record { thing = thing_no S x; to = At (place_no S t.partner) }) (agreement P loan)
 put_in S P (Return x loan p day) = Some (record { thing = thing_no S x; to = At (place_no S p) })
 put_in S P (Receive x loan p day) = Some (record { thing = thing_no S x; to = At (place_no S p) })
-put_in S P (SignOff name) = None
-put_in S P (Extend loan last) = None
+put_in S P _ = None
 
 -- where it puts its thing under this verdict: a refused message places nothing
 abbrev pub put_by : Museum → List Entry → Verdict → Message → Option Put

@@ -9,4 +9,5 @@ pub mod Lawful
 pub mod Book
 pub mod Accountability
 pub mod LoanRows
+pub mod Onward
 pub mod Rows

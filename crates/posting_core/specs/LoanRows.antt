@@ -5,7 +5,7 @@ use Rattle.std.specs.Option.{option_map_or, option_and_then}
 use Rattle.std.specs.Str.{bytes_eq}
 use Rattle.nest_core.specs.Museum.{Museum}
 use Rattle.posting_core.specs.declared.message.Message.{Message}
-use Rattle.posting_core.specs.declared.message.Message.TheVariants.{Move, Pack, Agree, Authorise, Exit, Return, Receive, SignOff, Extend}
+use Rattle.posting_core.specs.declared.message.Message.TheVariants.{Agree, Authorise, Exit, Return, Receive, Extend}
 use Rattle.posting_core.specs.declared.entry.Entry.{Entry}
 use Rattle.posting_core.specs.declared.entry.NewLine.{NewLine}
 use Rattle.posting_core.specs.declared.stage.LineStage.{LineStage}
@@ -81,16 +81,14 @@ changed change loan (row ∷ rows) = if bytes_eq loan row.loan then change row �
 
 -- the rows after an applied message that makes or changes these lines
 abbrev pub rows_with : Museum → List LoanRow → Message → List NewLine → List LoanRow
-rows_with S rows (Move x p day) lines = rows
-rows_with S rows (Pack x c day) lines = rows
 rows_with S rows (Agree loan partner objects first last) lines =
     rows ++ agreed_row S (record { loan = loan; partner = partner; objects = objects; first = first; last = last }) ∷ []
 rows_with S rows (Authorise loan name) lines = changed authorised_row loan rows
 rows_with S rows (Exit x loan day) lines = changed (with_lines lines) loan rows
 rows_with S rows (Return x loan p day) lines = changed (with_lines lines) loan rows
 rows_with S rows (Receive x loan p day) lines = changed (with_lines lines) loan rows
-rows_with S rows (SignOff name) lines = rows
 rows_with S rows (Extend loan last) lines = changed (extended_row last) loan rows
+rows_with S rows _ lines = rows
 
 -- an agreement can be kept: its objects are of the setup, none stands twice, and the loan is new
 pub record MayAgree (S : Museum) (rows : List LoanRow) (t : Agreement) : Type 0 where

@@ -7,7 +7,7 @@ use Rattle.codes_core.specs.Loan.{is_out}
 use Rattle.nest_core.specs.Museum.{Museum, is_container}
 use Rattle.nest_core.specs.Puts.{is_among}
 use Rattle.posting_core.specs.declared.message.Message.{Message}
-use Rattle.posting_core.specs.declared.message.Message.TheVariants.{Move, Pack, Agree, Authorise, Exit, Return, Receive, SignOff, Extend}
+use Rattle.posting_core.specs.declared.message.Message.TheVariants.{Exit, Return, Receive}
 use Rattle.posting_core.specs.declared.entry.Entry.{Entry}
 use Rattle.posting_core.specs.declared.stage.LineStage.{LineStage}
 use Rattle.posting_core.specs.declared.stage.LineStage.TheVariants.{Awaiting, Away, Back, Here, GivenBack}
@@ -44,15 +44,10 @@ abbrev pub receive_of : List ℕ → List ℕ → Crossing
 receive_of x loan = record { thing = x; loan = loan; wanted = Awaiting; stage = Here }
 
 abbrev pub crossing_in : Message → Option Crossing
-crossing_in (Move x p day) = None
-crossing_in (Pack x c day) = None
-crossing_in (Agree loan partner objects first last) = None
-crossing_in (Authorise loan name) = None
 crossing_in (Exit x loan day) = Some (exit_of x loan)
 crossing_in (Return x loan p day) = Some (return_of x loan)
 crossing_in (Receive x loan p day) = Some (receive_of x loan)
-crossing_in (SignOff name) = None
-crossing_in (Extend loan last) = None
+crossing_in _ = None
 
 -- the objects among what thing x carries, itself too where it is one
 abbrev pub objects_with : Museum → List Entry → ℕ → List ℕ

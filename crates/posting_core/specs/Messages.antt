@@ -2,7 +2,7 @@
 use Rattle.std.specs.Prelude.{ℕ, ℤ, Bool, true, false, List, length, Option, Some, None, unwrap_or}
 use Rattle.nest_core.specs.Museum.{Museum, find_thing, find_place}
 use Rattle.posting_core.specs.declared.message.Message.{Message}
-use Rattle.posting_core.specs.declared.message.Message.TheVariants.{Move, Pack, Agree, Authorise, Exit, Return, Receive, SignOff, Extend}
+use Rattle.posting_core.specs.declared.message.Message.TheVariants.{Move, Pack, Exit, Return, Receive, SignOff}
 
 -- a thing's number; where it isn't in the setup, the count of things, which is no thing's number
 abbrev pub thing_no : Museum → List ℕ → ℕ
@@ -16,21 +16,11 @@ place_no S code = unwrap_or (find_place S code) (length S.places)
 abbrev pub day_of : Message → Option ℤ
 day_of (Move x p day) = Some day
 day_of (Pack x c day) = Some day
-day_of (Agree loan partner objects first last) = None
-day_of (Authorise loan name) = None
 day_of (Exit x loan day) = Some day
 day_of (Return x loan p day) = Some day
 day_of (Receive x loan p day) = Some day
-day_of (SignOff name) = None
-day_of (Extend loan last) = None
+day_of _ = None
 
 abbrev pub is_sign_off : Message → Bool
-is_sign_off (Move x p day) = false
-is_sign_off (Pack x c day) = false
-is_sign_off (Agree loan partner objects first last) = false
-is_sign_off (Authorise loan name) = false
-is_sign_off (Exit x loan day) = false
-is_sign_off (Return x loan p day) = false
-is_sign_off (Receive x loan p day) = false
 is_sign_off (SignOff name) = true
-is_sign_off (Extend loan last) = false
+is_sign_off _ = false

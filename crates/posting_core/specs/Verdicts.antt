@@ -154,6 +154,14 @@ line_rows lines wanted objects late =
     ∷ (TermOver if late)
     ∷ []
 
+-- a verdict that hangs on these rows: one of theirs, or that no row holds
+abbrev pub hangs_on_lines : Verdict → Bool
+hangs_on_lines Applied = true
+hangs_on_lines NotListed = true
+hangs_on_lines WrongStage = true
+hangs_on_lines TermOver = true
+hangs_on_lines _ = false
+
 -- some object among what crosses isn't on the loan's list
 abbrev pub carries_unlisted : Museum → List Entry → Crossing → Bool
 carries_unlisted S P c = any_unlisted (line S P c.loan) (objects_in S P c.thing)

@@ -1,12 +1,13 @@
 //! The ledger: what was posted, and what looking back through it gives.
-ghost use Rattle.std.specs.Prelude.{◌≡◌, ◌<◌, ◌∷◌, [], length, reverse, replicate, All, IfOk, OnOk, OnErr, IfSome, ℕ, Some, slice_get, is_some};
+ghost use Rattle.std.specs.Prelude.{◌≡◌, ◌<◌, ◌≤◌, ◌∷◌, [], length, reverse, replicate, All, IfOk, OnOk, OnErr, IfSome, ℕ, Some, slice_get, is_some, true};
 ghost use Rattle.std.specs.Option.{option_map};
+ghost use Rattle.nest_core.specs.Puts.{is_among};
 ghost use Rattle.posting_core.specs.Lawful.{Follows, IsLawful};
 ghost use Rattle.posting_core.specs.Messages.{place_no};
 ghost use Rattle.posting_core.specs.Agreements.{agreement, is_agreed, is_authorised, last_day};
 ghost use Rattle.posting_core.specs.Loans.{line, loan_state};
 ghost use Rattle.posting_core.specs.LoanRows.{line_of, state_of};
-ghost use Rattle.posting_core.specs.Book.{place_in, chain_in, spots_in, verdict_in, changes_of, loans_in, objects_of_loan, line_in, state_in, last_day_in};
+ghost use Rattle.posting_core.specs.Book.{place_in, chain_in, spots_in, verdict_in, changes_of, asks_lines, asks_memory, loans_in, objects_of_loan, line_in, state_in, last_day_in};
 ghost use Rattle.posting_core.specs.Rows.{lists};
 
 mod crossings;
@@ -113,20 +114,24 @@ impl Ledger {
         self.nest.place_of(thing)
     }
 
-    /// The containers above a thing, innermost first; else NoMemory. The thing's number is below the setup's count.
+    /// The containers above a thing, innermost first, no more than the depth limit; else NoMemory, which comes only
+    /// where something stands above it. The thing's number is below the setup's count.
     pub fn chain(&self, alloc: Global, thing: ThingNo) -> Result<ThingNos, NoMemory>
         requires { thing < length self.now.museum.things }
         ensures chain { IfOk result (λ chain. chain ≡ chain_in self.now thing) }
         ensures within { IfOk result (All (λ c. c < length self.now.museum.things)) }
+        ensures short { IfOk result (λ chain. length chain ≤ self.now.depth) }
+        ensures err { OnErr result (0 < length (chain_in self.now thing)) }
     {
         self.nest.chain(alloc, thing)
     }
 
-    /// A thing's spots, oldest first: the last is its current place, the others are its former ones. The thing's
-    /// number is below the setup's count.
+    /// A thing's spots, oldest first: the last is its current place, the others are its former ones; each is at a
+    /// place of the setup. The thing's number is below the setup's count.
     pub fn spots(&self, thing: ThingNo) -> &[Spot]
         requires { thing < length self.now.museum.things }
-        ensures { result.now ≡ spots_in self.now thing }
+        ensures spots { result.now ≡ spots_in self.now thing }
+        ensures within { All (λ s. s.place < length self.now.museum.places) result.now }
     {
         &self.spots[thing as usize]
     }
@@ -141,43 +146,51 @@ impl Ledger {
     /// A loan's code. Loans are numbered from 0 in the order of their agreements; the number is below `loan_count`.
     pub fn loan_at(&self, i: usize) -> LoanCode
         requires { i < length (loans_in self.now) }
-        ensures { slice_get (loans_in self.now) i ≡ Some result }
+        ensures loan { slice_get (loans_in self.now) i ≡ Some result }
+        ensures agreed { is_agreed self.now.posted result ≡ true }
     {
         self.loans.at(i).loan()
     }
 
-    /// The objects of a loan by number, in the order of its agreement. The loan's number is below `loan_count`.
+    /// The objects of a loan by number, in the order of its agreement: things of the setup. The loan's number is below
+    /// `loan_count`.
     pub fn objects(&self, i: usize) -> &[ThingNo]
         requires { i < length (loans_in self.now) }
-        ensures { option_map (objects_of_loan self.now) (slice_get (loans_in self.now) i) ≡ Some result.now }
+        ensures objects { option_map (objects_of_loan self.now) (slice_get (loans_in self.now) i) ≡ Some result.now }
+        ensures within { All (λ o. o < length self.now.museum.things) result.now }
     {
         self.loans.at(i).objects()
     }
 
     /// The stage of an object's line, where the loan is agreed and lists the object.
     pub fn line(&self, loan: &LoanCode, object: ThingNo) -> Option<LineStage>
-        ensures { result ≡ line_in self.now loan.now object }
+        ensures line { result ≡ line_in self.now loan.now object }
+        ensures listed { is_some result ≡ is_among object (objects_of_loan self.now loan.now) }
     {
         self.loan(loan)?.stage_of(object)
     }
 
     /// How far a loan has come, where it is agreed.
     pub fn loan_state(&self, loan: &LoanCode) -> Option<LoanState>
-        ensures { result ≡ state_in self.now loan.now }
+        ensures state { result ≡ state_in self.now loan.now }
+        ensures agreed { is_some result ≡ is_agreed self.now.posted loan.now }
     {
         Some(self.loan(loan)?.state())
     }
 
     /// A loan's last day, where it is agreed.
     pub fn last_day(&self, loan: &LoanCode) -> Option<Day>
-        ensures { result ≡ last_day_in self.now loan.now }
+        ensures day { result ≡ last_day_in self.now loan.now }
+        ensures agreed { is_some result ≡ is_agreed self.now.posted loan.now }
     {
         Some(self.loan(loan)?.last())
     }
 
-    /// The verdict that the message would get if it were posted now; else NoMemory.
+    /// The verdict that the message would get if it were posted now; else NoMemory, which comes only where something
+    /// crosses by it, and the verdict hangs on the lines of what crosses.
     pub fn judge(&self, alloc: Global, message: &Message) -> Result<Verdict, NoMemory>
-        ensures { IfOk result (λ verdict. verdict ≡ verdict_in self.now message.now) }
+        ensures ok { IfOk result (λ verdict. verdict ≡ verdict_in self.now message.now) }
+        ensures err { OnErr result (asks_lines self.now message.now ≡ true) }
     {
         match message {
             Message::Move { thing, place, .. } => Ok(self.judge_move(thing, place)),
@@ -213,9 +226,11 @@ impl Ledger {
     }
 
     /// What posting the message now would change: the number of its entry, from 1, its verdict and, where it is
-    /// applied, the new spots and the lines that it makes or changes; else NoMemory.
+    /// applied, the new spots and the lines that it makes or changes; else NoMemory, which comes only where `judge` can
+    /// give up, or where the message is applied and puts a thing or agrees a loan.
     pub fn plan(&self, alloc: Global, message: &Message) -> Result<Changes, NoMemory>
-        ensures { IfOk result (λ changes. changes ≡ changes_of self.now message.now) }
+        ensures ok { IfOk result (λ changes. changes ≡ changes_of self.now message.now) }
+        ensures err { OnErr result (asks_memory self.now message.now ≡ true) }
     {
         let verdict = self.judge(alloc, message)?;
         let entry = self.posted.len() as u64 + 1;

@@ -1,5 +1,5 @@
 //! The values at the keys of an object.
-ghost use Rattle.std.specs.Prelude.{◌≡◌, ◌≢◌, None, Some, MatchResult, option_and_then, List, ℕ, Bool};
+ghost use Rattle.std.specs.Prelude.{◌≡◌, ◌≢◌, None, Some, IfErr, MatchResult, option_and_then, List, ℕ, Bool};
 ghost use Rattle.serde_json.specs.View.{view};
 ghost use Rattle.serde_json.specs.Find.{get, as_str};
 ghost use Rattle.register_store.specs.Spelling.{key_name, is_thing, is_place, is_loan, is_day, is_name};
@@ -25,6 +25,7 @@ pub fn string_at<'a>(object: &'a Value, key: Key) -> Result<&'a str, ReadFault>
     ensures exact { MatchResult result
         (λ text. option_and_then as_str (get (key_name key) (view object.now)) ≡ Some text.now)
         (λ fault. (test : List ℕ → Bool) → fault_at (view object.now) (key spells test) ≡ Some fault) }
+    ensures told { IfErr result (λ fault. fault ≢ ReadFault.NoMemory) }
 {
     value_at(object, key)?
         .as_str()
@@ -60,6 +61,7 @@ pub(crate) fn loan_at(object: &Value, key: Key) -> Result<LoanCode, ReadFault>
     ensures exact { MatchResult result
         (λ code. (fault_at (view object.now) (key spells is_loan) ≡ None) × (code ≡ text_at (view object.now) key))
         (λ fault. fault_at (view object.now) (key spells is_loan) ≡ Some fault) }
+    ensures told { IfErr result (λ fault. fault ≢ ReadFault.NoMemory) }
 {
     let text = string_at(object, key)?;
     LoanCode::parse(text.as_bytes())
@@ -79,11 +81,12 @@ pub(crate) fn day_at(object: &Value, key: Key) -> Result<Day, ReadFault>
         .ok_or(ReadFault::BadField(key))
 }
 
-/// The name at a key, else Missing, BadField or NoMemory.
+/// The name at a key, else Missing, BadField or, where a name stands there, NoMemory.
 pub(crate) fn name_at(alloc: Global, object: &Value, key: Key) -> Result<Name, ReadFault>
     ensures exact { MatchResult result
         (λ name. (fault_at (view object.now) (key spells is_name) ≡ None) × (name ≡ text_at (view object.now) key))
         (λ fault. fault ≢ ReadFault.NoMemory → fault_at (view object.now) (key spells is_name) ≡ Some fault) }
+    ensures gives_up { result ≡ Err ReadFault.NoMemory → fault_at (view object.now) (key spells is_name) ≡ None }
 {
     let text = string_at(object, key)?;
     match Name::new(alloc, text.as_bytes()) {

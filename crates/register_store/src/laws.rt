@@ -1,9 +1,11 @@
-//! Laws of the stored rows, each the contract of a function that does nothing.
+//! Laws of the messages' texts and of the stored rows, each the contract of a function that does nothing.
 ghost use Rattle.std.specs.Prelude.{◌≡◌, ℕ, List, All};
 ghost use Rattle.std.specs.List.Sorted.{IsPermutation};
 ghost use Rattle.posting_core.specs.declared.entry.Changes.{Changes};
 ghost use Rattle.posting_core.specs.declared.entry.Entry.{Entry};
+ghost use Rattle.posting_core.specs.declared.message.Message.{Message};
 ghost use Rattle.register_store.specs.declared.store_fault.StoreFault.{StoreFault};
+ghost use Rattle.register_store.specs.MessageText.{IsTextOf};
 ghost use Rattle.register_store.specs.StoredRows.{Content, HasList, spots_by_thing, all_written};
 ghost use Rattle.register_store.specs.Registers.{IsOfStation, IsListFault};
 ghost use Rattle.register_store.specs.Holdings.{Comes, IsEmpty, IsPosted};
@@ -18,6 +20,11 @@ pub fn spots_are_of_looking_back(ledger: &Ledger)
 {
     let _ = ledger;
 }
+
+/// A message has one text.
+pub fn one_text()
+    ensures { (message : Message) (text other : List ℕ) → IsTextOf message text → IsTextOf message other → text ≡ other }
+{}
 
 /// A store has one list of entries.
 pub fn one_list()

@@ -1,5 +1,5 @@
 //! Messages of loans read from JSON.
-ghost use Rattle.std.specs.Prelude.{◌≡◌, ◌≢◌, Ok, Err, MatchResult};
+ghost use Rattle.std.specs.Prelude.{◌≡◌, ◌≢◌, Ok, Err, IsOk, MatchResult};
 ghost use Rattle.serde_json.specs.View.{view};
 ghost use Rattle.register_store.specs.Kinds.{kind_named, loan_kinds, of_named, of_row, agree_row, authorise_row, exit_row, return_row, receive_row, extend_row};
 
@@ -55,6 +55,7 @@ fn authorise_of(alloc: Global, object: &Value) -> Result<Message, ReadFault>
     ensures exact { MatchResult result
         (λ message. of_row (view object.now) authorise_row ≡ Ok message)
         (λ fault. fault ≢ ReadFault.NoMemory → of_row (view object.now) authorise_row ≡ Err fault) }
+    ensures gives_up { result ≡ Err ReadFault.NoMemory → IsOk (of_row (view object.now) authorise_row) }
 {
     let loan = loan_at(object, Key::Loan)?;
     let name = name_at(alloc, object, Key::By)?;

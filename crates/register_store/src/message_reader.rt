@@ -1,5 +1,5 @@
 //! Messages read from JSON.
-ghost use Rattle.std.specs.Prelude.{◌≡◌, ◌≢◌, Ok, Err, MatchResult};
+ghost use Rattle.std.specs.Prelude.{◌≡◌, ◌≢◌, Ok, Err, IsOk, MatchResult};
 ghost use Rattle.serde_json.specs.View.{view};
 ghost use Rattle.register_store.specs.Kinds.{of_row, move_row, pack_row, sign_off_row, of_json, of_bytes};
 
@@ -71,6 +71,7 @@ fn sign_off_of(alloc: Global, object: &Value) -> Result<Message, ReadFault>
     ensures exact { MatchResult result
         (λ message. of_row (view object.now) sign_off_row ≡ Ok message)
         (λ fault. fault ≢ ReadFault.NoMemory → of_row (view object.now) sign_off_row ≡ Err fault) }
+    ensures gives_up { result ≡ Err ReadFault.NoMemory → IsOk (of_row (view object.now) sign_off_row) }
 {
     let name = name_at(alloc, object, Key::By)?;
     Ok(Message::SignOff { name })

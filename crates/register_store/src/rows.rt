@@ -1,5 +1,6 @@
 //! Rows of posted entries.
-ghost use Rattle.std.specs.Prelude.{◌≡◌, ◌≢◌, IfOk, IfErr, IfSome, IfNone, Ok};
+ghost use Rattle.std.specs.Prelude.{◌≡◌, ◌≢◌, IfOk, IfErr, IfSome, IfNone, MatchOption, OnErr, Ok, Err};
+ghost use Rattle.std.specs.Result.{IsErrAnd};
 ghost use Rattle.std.specs.Bool.{Decides};
 ghost use Rattle.posting_core.specs.declared.message.Message.{Message};
 ghost use Rattle.register_store.specs.Kinds.{of_bytes};
@@ -78,16 +79,27 @@ fn message_in(alloc: Global, body: &str) -> Result<Option<Message>, NoMemory>
     ensures text { IfOk result (λ found. IfSome found (λ message. IsTextOf message body.now)) }
     ensures none { IfOk result (λ found. IfNone found ((message : Message) → IsTextOf message body.now → of_bytes body.now ≡ Ok message → ⊥)) }
 {
-    let message = match read_message(alloc, body.as_bytes()) {
-        Ok(message) => message,
-        Err(ReadFault::NoMemory) => return Err(NoMemory),
-        Err(_) => return Ok(None),
+    let Some(message) = if_read(read_message(alloc, body.as_bytes()))? else {
+        return Ok(None);
     };
     let text = message_text(alloc, &message)?;
     if is_same(&text, body) {
         Ok(Some(message))
     } else {
         Ok(None)
+    }
+}
+
+/// The message that was read, or none where the text is none; NoMemory only where the reading gave up.
+fn if_read(read: Result<Message, ReadFault>) -> Result<Option<Message>, NoMemory>
+    ensures found { IfOk result (λ found. MatchOption found
+        (IsErrAnd read (λ fault. fault ≢ ReadFault.NoMemory)) (λ message. read ≡ Ok message)) }
+    ensures gives_up { OnErr result (read ≡ Err ReadFault.NoMemory) }
+{
+    match read {
+        Ok(message) => Ok(Some(message)),
+        Err(ReadFault::NoMemory) => Err(NoMemory),
+        Err(_) => Ok(None),
     }
 }
 

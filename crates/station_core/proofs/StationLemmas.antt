@@ -1,5 +1,5 @@
 -- What the series of all stations hold of what was taken, call by call.
-use Rattle.std.proofs.Common.{◌≡◌, ◌≢◌, ℕ, zero, suc, ◌+◌, ◌<◌, ◌≤◌, ◌&&◌, ◌||◌, ◌==◌, not, nat_lt, nat_le, Bool, true, false, if◌then◌else◌, List, [], ◌∷◌, ◌++◌, length, map, Option, Some, None, is_some, refl, ap, ◌∙◌, sym, arith, rules, ⊎_elim, add-one, length-set}
+use Rattle.std.proofs.Common.{◌≡◌, ◌≢◌, ℕ, zero, suc, ◌+◌, ◌-◌, ◌<◌, ◌≤◌, ◌&&◌, ◌||◌, ◌==◌, not, nat_lt, nat_le, Bool, true, false, if◌then◌else◌, List, [], ◌∷◌, ◌++◌, length, map, Option, Some, None, is_some, refl, ap, ◌∙◌, sym, arith, rules, ⊎_elim, add-one, length-set}
 use Rattle.std.proofs.lemmas.Bool.{cases_lt, cases_eq, or_parts}
 use Rattle.std.proofs.lemmas.Bool.Decides.{nat_tests}
 use Rattle.std.proofs.lemmas.List.{length-map}
@@ -11,10 +11,10 @@ use Rattle.station_core.specs.declared.TheConstants.{LAST}
 use Rattle.station_core.specs.declared.Start.{Start}
 use Rattle.station_core.specs.declared.Refusal.{Refusal}
 use Rattle.station_core.specs.declared.Refusal.TheVariants.{UnknownStation, BadNumber, Double, SignedOff, TooEarly}
-use Rattle.station_core.specs.Series.{Series, series, window, slot_at, series_at, refusal_of, opened, with_held, counted, closed}
+use Rattle.station_core.specs.Series.{Series, series, window, slot_at, series_at, held_at, refusal_of, opened, with_held, counted, closed}
 use Rattle.station_core.specs.Runs.{Arrived, arrived, message_at, ends, ready, is_signed, is_double, refusal, taken_after}
 use Rattle.station_core.specs.Progress.{Matches, AllMatch, IsPosting, IsEnding, ComesDue, StartsFrom, AllStart}
-use Rattle.station_core.proofs.SlotLemmas.{series_at_there}
+use Rattle.station_core.proofs.SlotLemmas.{series_at_there, slot_shift}
 use Rattle.station_core.proofs.SeriesLemmas.{matches_opened, matches_other, pending_taken, pending_counted, ending_counted, matches_pending, matches_closed, next_of, held_is_taken}
 
 -- a test that refuses nothing
@@ -166,6 +166,21 @@ module _ {M : Type 0} where
   pub counted_among : (o : Option (ℕ × M)) (all items : List (Series M)) (s : ℕ) (q new : Series M) → items ≡ all → series_at all s ≡ q → OnSome o (new ≡ counted q) → OnSome o (slice_set items s new ≡ slice_set all s (counted (series_at all s)))
   counted_among None all items s q new same here e = tt
   counted_among (Some d) all items s q new same here e = rw (same, here, e) refl
+
+  -- one place on, the window has under each later number what it had
+  held_later : (q : Series M) (n : ℕ) → q.posted + 1 < n → held_at (counted q) n ≡ held_at q n
+  held_later q n later =
+      let above : nat_lt (q.posted + 1) n ≡ true = grind (arith, nat_tests) in
+      let there : nat_lt q.posted n ≡ true = grind (arith, nat_tests) in
+      let place : suc (n - (q.posted + 1) - 1) ≡ n - q.posted - 1 = omega arith in
+      rw (above, there) (slot_shift q.slots (n - (q.posted + 1) - 1) ∙ ap (slot_at q.slots) place)
+
+  pub stays_among : (o : Option (ℕ × M)) (all new : List (Series M)) (s : ℕ) → s < length all → OnSome o (new ≡ slice_set all s (counted (series_at all s)))
+      → OnSome o ((n : ℕ) → (series_at all s).posted + 1 < n → held_at (series_at new s) n ≡ held_at (series_at all s) n)
+  stays_among None all new s within e = tt
+  stays_among (Some d) all new s within e = λ n later.
+      let here : series_at new s ≡ counted (series_at all s) = ap (λ (l : List (Series M)). series_at l s) e ∙ series_at_there _ s _ (slice_get-set_same all s (counted (series_at all s)) within) in
+      ap (λ (q : Series M). held_at q n) here ∙ held_later (series_at all s) n later
 
   pub unchanged_among : (o : Option (ℕ × M)) (all items : List (Series M)) (s : ℕ) (q new : Series M) → items ≡ all → series_at all s ≡ q → q ≡ get_or items s q → IfNone o ((slot_at q.slots 0 ≡ None) × (new ≡ q)) → IfNone o ((slot_at (series_at all s).slots 0 ≡ None) × (slice_set items s new ≡ all))
   unchanged_among None all items s q new same here read e = (rw here e.0, rw (e.1, read, set-get_or) same)

@@ -1,7 +1,7 @@
 //! The series of all stations.
-ghost use Rattle.std.specs.Prelude.{◌≡◌, ◌+◌, ◌<◌, ◌≤◌, ◌↔◌, Bool, List, [], ◌∷◌, ◌++◌, IfOk, IfNone, IfSome, OnSome, All, map, length, slice_set, None, Some};
+ghost use Rattle.std.specs.Prelude.{◌≡◌, ◌+◌, ◌<◌, ◌≤◌, ◌↔◌, Bool, ℕ, List, [], ◌∷◌, ◌++◌, IfOk, IfNone, IfSome, OnSome, All, map, length, slice_set, None, Some};
 ghost use Rattle.station_core.specs.declared.TheConstants.{LAST};
-ghost use Rattle.station_core.specs.Series.{opened, refusal_of, series_at, next_held, with_held, counted, closed};
+ghost use Rattle.station_core.specs.Series.{opened, refusal_of, series_at, held_at, next_held, with_held, counted, closed};
 ghost use Rattle.station_core.specs.Runs.{Arrived, arrived, refusal};
 ghost use Rattle.station_core.specs.Progress.{AllStart, AllMatch, IsPosting, IsEnding, ComesDue};
 
@@ -86,7 +86,8 @@ impl<M: Drop> Sequences<M> {
     }
 
     /// The next message of station `s` with its number, where it is held; it counts as posted from
-    /// then on. `None` changes nothing. There is a station `s`.
+    /// then on, and what is held under later numbers stays. `None` changes nothing. There is a
+    /// station `s`.
     pub fn next_due(&mut self, s: u32) -> Option<(u32, M)>
         requires { s < length self.old }
         ensures none { IfNone result (
@@ -96,6 +97,8 @@ impl<M: Drop> Sequences<M> {
             (d.0 ≡ (series_at self.old s).posted + 1) × (d.0 ≤ LAST)) }
         ensures counted { OnSome result (
             self.new ≡ slice_set self.old s (counted (series_at self.old s))) }
+        ensures stays { OnSome result ((n : ℕ) → (series_at self.old s).posted + 1 < n →
+            held_at (series_at self.new s) n ≡ held_at (series_at self.old s) n) }
 
         // It is the message that was taken under that number; after the last, all is posted that
         // is ready.

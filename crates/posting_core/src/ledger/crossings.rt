@@ -1,8 +1,8 @@
 //! The rules of what crosses under a loan: exit, return and receipt.
-ghost use Rattle.std.specs.Prelude.{◌≡◌, ◌<◌, ◌&&◌, false, length, IfOk, Some, ℕ};
+ghost use Rattle.std.specs.Prelude.{◌≡◌, ◌<◌, ◌&&◌, true, false, length, IfOk, OnErr, Some, ℕ};
 ghost use Rattle.std.specs.Option.{option_map_or};
 ghost use Rattle.posting_core.specs.Loans.{line, objects_with, wanted_by_exit};
-ghost use Rattle.posting_core.specs.Verdicts.{first_of, exit_rows, return_rows, receive_rows, stage_eq, is_over, any_unlisted, any_not_at, line_rows};
+ghost use Rattle.posting_core.specs.Verdicts.{first_of, exit_rows, return_rows, receive_rows, stage_eq, is_over, any_unlisted, any_not_at, line_rows, hangs_on_lines};
 ghost use Rattle.codes_core.specs.Loan.{is_out};
 ghost use Rattle.posting_core.specs.Agreements.{last_day};
 ghost use Rattle.posting_core.specs.LoanRows.{line_of};
@@ -23,7 +23,8 @@ impl Ledger {
         loan: &LoanCode,
         day: Day,
     ) -> Result<Verdict, NoMemory>
-        ensures { IfOk result (λ verdict. verdict ≡ first_of (exit_rows self.now.museum self.now.posted thing.now loan.now day)) }
+        ensures ok { IfOk result (λ verdict. verdict ≡ first_of (exit_rows self.now.museum self.now.posted thing.now loan.now day)) }
+        ensures err { OnErr result (hangs_on_lines (first_of (exit_rows self.now.museum self.now.posted thing.now loan.now day)) ≡ true) }
     {
         let Some(x) = self.setup.thing(thing) else {
             return Ok(Verdict::UnknownThing);
@@ -50,7 +51,8 @@ impl Ledger {
         loan: &LoanCode,
         place: &PlaceCode,
     ) -> Result<Verdict, NoMemory>
-        ensures { IfOk result (λ verdict. verdict ≡ first_of (return_rows self.now.museum self.now.posted thing.now loan.now place.now)) }
+        ensures ok { IfOk result (λ verdict. verdict ≡ first_of (return_rows self.now.museum self.now.posted thing.now loan.now place.now)) }
+        ensures err { OnErr result (hangs_on_lines (first_of (return_rows self.now.museum self.now.posted thing.now loan.now place.now)) ≡ true) }
     {
         let Some(x) = self.setup.thing(thing) else {
             return Ok(Verdict::UnknownThing);
@@ -84,7 +86,8 @@ impl Ledger {
         place: &PlaceCode,
         day: Day,
     ) -> Result<Verdict, NoMemory>
-        ensures { IfOk result (λ verdict. verdict ≡ first_of (receive_rows self.now.museum self.now.posted thing.now loan.now place.now day)) }
+        ensures ok { IfOk result (λ verdict. verdict ≡ first_of (receive_rows self.now.museum self.now.posted thing.now loan.now place.now day)) }
+        ensures err { OnErr result (hangs_on_lines (first_of (receive_rows self.now.museum self.now.posted thing.now loan.now place.now day)) ≡ true) }
     {
         let Some(x) = self.setup.thing(thing) else {
             return Ok(Verdict::UnknownThing);

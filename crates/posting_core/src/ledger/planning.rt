@@ -1,5 +1,5 @@
 //! What an applied message puts where, and the spots and the lines that it writes.
-ghost use Rattle.std.specs.Prelude.{◌≡◌, ◌<◌, ◌+◌, [], if◌then◌else◌, length, All, IfOk, IfSome, Some, true, not, map, filter};
+ghost use Rattle.std.specs.Prelude.{◌≡◌, ◌<◌, ◌+◌, ◌&&◌, [], if◌then◌else◌, length, All, IfOk, OnErr, IfSome, Some, true, not, map, filter, is_some};
 ghost use Rattle.std.specs.List.{filter_map};
 ghost use Rattle.nest_core.specs.Puts.{container_of};
 ghost use Rattle.posting_core.specs.declared.verdict.Verdict.TheVariants.{Applied};
@@ -9,7 +9,7 @@ ghost use Rattle.posting_core.specs.History.{put_in, put_by};
 ghost use Rattle.posting_core.specs.Loans.{exit_stage, objects_in, objects_with};
 ghost use Rattle.posting_core.specs.Verdicts.{is_known};
 ghost use Rattle.posting_core.specs.VerdictNames.{is_applied};
-ghost use Rattle.posting_core.specs.Book.{place_in, spots_in, verdict_in, new_spot, new_spots, new_lines};
+ghost use Rattle.posting_core.specs.Book.{place_in, spots_in, verdict_in, new_spot, new_spots, new_lines, has_lines};
 ghost use Rattle.posting_core.specs.Rows.{place_to};
 
 use super::Ledger;
@@ -30,7 +30,8 @@ impl Ledger {
     ) -> Result<NewSpots, NoMemory>
         requires judged { verdict ≡ verdict_in self.now message.now }
         requires number { entry ≡ length self.now.posted + 1 }
-        ensures { IfOk result (λ spots. spots ≡ (if is_applied verdict then new_spots self.now.museum self.now.posted message.now else [])) }
+        ensures ok { IfOk result (λ spots. spots ≡ (if is_applied verdict then new_spots self.now.museum self.now.posted message.now else [])) }
+        ensures err { OnErr result ((is_applied verdict && is_some (put_in self.now.museum self.now.posted message.now)) ≡ true) }
     {
         match verdict {
             Verdict::Applied => self.new_spots(alloc, message, entry),
@@ -42,7 +43,8 @@ impl Ledger {
     fn new_spots(&self, alloc: Global, message: &Message, entry: u64) -> Result<NewSpots, NoMemory>
         requires applied { verdict_in self.now message.now ≡ Applied }
         requires number { entry ≡ length self.now.posted + 1 }
-        ensures { IfOk result (λ spots. spots ≡ new_spots self.now.museum self.now.posted message.now) }
+        ensures ok { IfOk result (λ spots. spots ≡ new_spots self.now.museum self.now.posted message.now) }
+        ensures err { OnErr result (is_some (put_in self.now.museum self.now.posted message.now) ≡ true) }
     {
         let Some(put) = self.put_of(message) else {
             return Ok(NewSpots::new(alloc));
@@ -154,7 +156,8 @@ impl Ledger {
         verdict: Verdict,
     ) -> Result<NewLines, NoMemory>
         requires judged { verdict ≡ verdict_in self.now message.now }
-        ensures { IfOk result (λ lines. lines ≡ (if is_applied verdict then new_lines self.now.museum self.now.posted message.now else [])) }
+        ensures ok { IfOk result (λ lines. lines ≡ (if is_applied verdict then new_lines self.now.museum self.now.posted message.now else [])) }
+        ensures err { OnErr result ((is_applied verdict && has_lines message.now) ≡ true) }
     {
         match verdict {
             Verdict::Applied => self.new_lines(alloc, message),
@@ -165,7 +168,8 @@ impl Ledger {
     /// The lines of an applied message: an agreement's are all awaited, those of a crossing get its stage.
     fn new_lines(&self, alloc: Global, message: &Message) -> Result<NewLines, NoMemory>
         requires applied { verdict_in self.now message.now ≡ Applied }
-        ensures { IfOk result (λ lines. lines ≡ new_lines self.now.museum self.now.posted message.now) }
+        ensures ok { IfOk result (λ lines. lines ≡ new_lines self.now.museum self.now.posted message.now) }
+        ensures err { OnErr result (has_lines message.now ≡ true) }
     {
         match message {
             Message::Agree { loan, objects, .. } => {

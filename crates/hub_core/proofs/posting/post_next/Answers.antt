@@ -19,7 +19,7 @@ returns-in-Err-clause-left g c =
     let L = c.args.ledger.now in
     let old = g.R.Register.holding c.args.register.now in
     let new = g.R.Register.holding c.post.new.self in
-    unposted old new L L r c.is_lawful.ensures c.requires.follows refl (λ had. left_in old new L r c.in_ok-changes.changes c.is_lawful.ensures c.requires.follows c.in_ok-changes.ensures had c.in-Err.ensures.failed)
+    unposted old new L L r c.is_lawful.ensures c.requires.follows refl (λ had. left_in old new L r c.in_ok-changes.changes c.is_lawful.ensures c.requires.follows c.in_ok-changes.ensures.ok had c.in-Err.ensures.failed)
 
 pub returns-in_err-apply-clause-left : goal.returns-in_err-apply-clause-left
 returns-in_err-apply-clause-left g c =
@@ -28,7 +28,7 @@ returns-in_err-apply-clause-left g c =
     let old = g.R.Register.holding c.args.register.now in
     let new = g.R.Register.holding c.post.new.self in
     on_err _ (unposted old new L c.apply.new.self r c.is_lawful.ensures c.requires.follows c.in_err-apply.ensures.err
-    (λ had. either_in old new L r c.in_ok-changes.changes c.is_lawful.ensures c.requires.follows c.in_ok-changes.ensures had c.in_default.ensures.posted))
+    (λ had. either_in old new L r c.in_ok-changes.changes c.is_lawful.ensures c.requires.follows c.in_ok-changes.ensures.ok had c.in_default.ensures.posted))
 
 pub returns-clause-posted : goal.returns-clause-posted
 returns-clause-posted g c =
@@ -36,6 +36,6 @@ returns-clause-posted g c =
     let L = c.args.ledger.now in
     let L' = c.apply.new.self in
     record {
-      ledger = posted_book L r c.in_ok-changes.changes c.in_ok-changes.ensures L' c.in_ok-apply.ensures.ok;
-      stored = λ had. stored_book (g.R.Register.holding c.args.register.now) (g.R.Register.holding c.post.new.self) L r c.in_ok-changes.changes c.is_lawful.ensures c.requires.follows c.in_ok-changes.ensures had L' c.in_ok-apply.ensures.ok c.in_default.ensures.posted;
+      ledger = posted_book L r c.in_ok-changes.changes c.in_ok-changes.ensures.ok L' c.in_ok-apply.ensures.ok;
+      stored = λ had. stored_book (g.R.Register.holding c.args.register.now) (g.R.Register.holding c.post.new.self) L r c.in_ok-changes.changes c.is_lawful.ensures c.requires.follows c.in_ok-changes.ensures.ok had L' c.in_ok-apply.ensures.ok c.in_default.ensures.posted;
     }

@@ -1,4 +1,4 @@
-use Rattle.std.proofs.Common.{◌≡◌, ◌∙◌, ◌++◌, ap, subst, false, true, rules}
+use Rattle.std.proofs.Common.{◌≡◌, ◌∙◌, ◌++◌, ap, arith, subst, false, true, rules}
 use Rattle.std.specs.Result.{IsErrAnd}
 use Rattle.hub_core.specs.declared.replaying.ReplayFault.TheVariants.{WriteFailed}
 use Rattle.hub_core.specs.Lines.{without_return}
@@ -80,6 +80,7 @@ loop-number-preserved g c =
       museum = said.museum ∙ inv.museum;
       depth = said.depth ∙ inv.depth;
       count = said.count ∙ inv.count;
+      reads = omega (arith, inv.reads, c.in_ok-fed.ensures.reads);
       underway = λ O A st.
           let u = inv.underway O A st in
           let t = told_at inv.museum inv.depth line c.as_bytes.ensures.value g.S.Register.holding c.reply_to.new.hub O (A ++ arrivals c.args.hub.now.book.museum u.bytes) c.loop-number.number (c.in_ok-text.ensures.reply O (A ++ arrivals c.args.hub.now.book.museum u.bytes) u.stands) in

@@ -66,7 +66,8 @@ loop-reads-preserved g c =
     let some = told c.as_slice.result.now held c.is_blank.result false c.as_slice.ensures.value c.is_blank.ensures c.if-is_blank.false in
     let size = counted c.in_ok-fed.fed in
     let is = longer c.add_line.new.head.items c.loop-reads.head.items c.as_slice-in-loop-reads.result.now held (feed_if c.in_ok-fed.fed) c.in_ok-add_line.ensures c.as_slice-in-loop-reads.ensures.value in
-    more_there _ _ _ c.loop-reads.head.items inv.0 inv.1 c.saturating_sub-room.result (omega arith) held c.in_ok-fed.fed c.add_line.new.head.items (search rules) is c.in_ok-fed.ensures.line some (omega arith)
+    let more = more_there _ _ _ c.loop-reads.head.items inv.0 inv.1 c.saturating_sub-room.result (omega arith) held c.in_ok-fed.fed c.add_line.new.head.items (search rules) is c.in_ok-fed.ensures.line some (omega arith) in
+    (more.0, more.1, more.2, omega (arith, inv.3, c.in_ok-fed.ensures.reads))
 
 pub returns-clause-fault : goal.returns-clause-fault
 returns-clause-fault g c =

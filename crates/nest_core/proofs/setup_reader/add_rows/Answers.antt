@@ -1,54 +1,55 @@
-use Rattle.std.proofs.Common.{Bor, List, ℕ, Some, ◌≡◌, ◌∙◌, sym, ap, inl, inr, true, false}
-use Rattle.csv.specs.Reading.{strip_bom}
+use Rattle.std.proofs.Common.{Bor, List, ℕ, Some, ◌≡◌, ◌+◌, ◌<◌, ◌∙◌, arith, length, sym, ap, inl}
+use Rattle.csv.specs.Reading.{default_config, strip_bom}
 use Rattle.csv.specs.Records.{fields_of}
 use Rattle.csv.proofs.ReadFacts.{rows-end}
-use Rattle.csv.specs.Reading.{default_config}
-use Rattle.nest_core.proofs.CsvRows.{read_some}
+use Rattle.nest_core.proofs.CsvRows.{next_shorter, read_some}
 use Rattle.nest_core.proofs.Outcomes.{match_err}
-use Rattle.nest_core.proofs.Reading.{at_end, at_start, fault_here, one_more}
+use Rattle.nest_core.proofs.Reading.{at_end, at_start, fault_here, one_more, spent, strip_few}
 use Rattle.nest_core.proofs.setup_reader.add_rows.Goals as goal
 
-pub loop-number-init : goal.loop-number-init
-loop-number-init c =
-    let made = c.from_reader-reader.ensures in
-    let built = c.flexible.ensures in
-    let named = c.has_headers.ensures in (
-      rw (built, named) at made.trim ∙ c.new.ensures.trim,
-      inr (inr (rw (built, named) at made.has_headers, made.headers)),
-      rw (built, named) at made.config ∙ c.new.ensures.config,
-      strip_bom c.args.bytes.now,
-      made.source,
-      rw (c.requires, made.state) (at_start (strip_bom c.args.bytes.now)),
-    )
+pub loop-before-init : goal.loop-before-init
+loop-before-init c = (
+  c.requires.reads.0,
+  strip_bom c.args.bytes.now,
+  c.requires.reads.2,
+  rw (c.requires.empty, c.requires.reads.1) (at_start (strip_bom c.args.bytes.now)),
+  omega (arith, strip_few c.args.bytes.now),
+)
 
-pub loop-number-preserved : goal.loop-number-preserved
-loop-number-preserved c =
-    let kept = c.loop-number.invariant in
-    let found : c.in-Ok.found ≡ true = c.if-not-found.false in
-    let read = rw found at (c.in-Ok.ensures.reads kept.0 kept.1) in
-    let next = read_some (λ (s : Bor (List ℕ)). Some s.now) c.loop-number.reader c.read_byte_record.new.self (fields_of c.read_byte_record.new.row) kept.3 kept.2 kept.4 read in (
-      read.3 ∙ kept.0,
-      inl (c.in-Ok.ensures.ready kept.0),
-      read.2 ∙ kept.2,
+pub loop-before-preserved : goal.loop-before-preserved
+loop-before-preserved c =
+    let kept = c.loop-before.invariant in
+    let takes = kept.0 in
+    let read = rw c.in-Ok-true.field-0-test at (c.in-Ok-true.ensures.reads takes.0 takes.1) in
+    let next = read_some (λ (s : Bor (List ℕ)). Some s.now) c.loop-before.reader c.read_byte_record.new.self (fields_of c.read_byte_record.new.row) kept.1 takes.2 kept.2 read in
+    let less : length next.0 < length kept.1 = next_shorter default_config _ kept.1 _ kept.3.rests next.2 in (
+      (read.3 ∙ takes.0, inl (c.in-Ok-true.ensures.ready takes.0), read.2 ∙ takes.2, c.in-Ok-true.ensures.flexible ∙ takes.3),
       next.0,
       next.1,
-      one_more (strip_bom c.args.bytes.now) c.loop-number.setup c.add_row.new.setup c.loop-number.number _ kept.3 _ _ next.0 kept.5 next.2 c.in_ok-add_row.ensures.ok.0 c.in_ok-add_row.ensures.ok.1,
+      one_more (strip_bom c.args.bytes.now) c.loop-before.setup c.add_row.new.setup (c.loop-before.before + 1) _ kept.1 _ _ next.0 kept.3 next.2 c.in_ok-add_row-in-Ok-true.ensures.ok.0 c.in_ok-add_row-in-Ok-true.ensures.ok.1,
+      omega (arith, less, kept.4),
     )
 
-pub returns-then-not-found : goal.returns-then-not-found
-returns-then-not-found c =
-    let kept = c.loop-number.invariant in
-    let none : c.in-Ok.found ≡ false = c.if-not-found.true in
-    let read = rw none at (c.in-Ok.ensures.reads kept.0 kept.1) in
-    at_end (strip_bom c.args.bytes.now) c.loop-number.setup c.loop-number.number _ kept.3 kept.5
-    (rows-end (λ (s : Bor (List ℕ)). Some s.now) c.loop-number.reader c.read_byte_record.new.self _ default_config kept.3 kept.2 kept.4 read)
+pub returns-in-Ok-false-clause-exact : goal.returns-in-Ok-false-clause-exact
+returns-in-Ok-false-clause-exact c =
+    let kept = c.loop-before.invariant in
+    let takes = kept.0 in
+    let read = rw c.in-Ok-false.field-0-test at (c.in-Ok-false.ensures.reads takes.0 takes.1) in
+    at_end (strip_bom c.args.bytes.now) c.loop-before.setup (c.loop-before.before + 1) _ kept.1 kept.3
+    (rows-end (λ (s : Bor (List ℕ)). Some s.now) c.loop-before.reader c.read_byte_record.new.self _ default_config kept.1 takes.2 kept.2 read)
 
-pub returns-in_err-add_row : goal.returns-in_err-add_row
-returns-in_err-add_row c =
-    let kept = c.loop-number.invariant in
-    let found : c.in-Ok.found ≡ true = c.if-not-found.false in
-    let read = rw found at (c.in-Ok.ensures.reads kept.0 kept.1) in
-    let next = read_some (λ (s : Bor (List ℕ)). Some s.now) c.loop-number.reader c.read_byte_record.new.self (fields_of c.read_byte_record.new.row) kept.3 kept.2 kept.4 read in
+pub returns-clause-exact : goal.returns-clause-exact
+returns-clause-exact c =
+    let kept = c.loop-before.invariant in
+    let none : length kept.1 ≡ 0 = omega (arith, kept.4) in
+    at_end (strip_bom c.args.bytes.now) c.loop-before.setup (c.loop-before.before + 1) _ kept.1 kept.3 (spent _ kept.1 kept.3.rests none)
+
+pub returns-in_err-add_row-in-Ok-true-clause-exact : goal.returns-in_err-add_row-in-Ok-true-clause-exact
+returns-in_err-add_row-in-Ok-true-clause-exact c =
+    let kept = c.loop-before.invariant in
+    let takes = kept.0 in
+    let read = rw c.in-Ok-true.field-0-test at (c.in-Ok-true.ensures.reads takes.0 takes.1) in
+    let next = read_some (λ (s : Bor (List ℕ)). Some s.now) c.loop-before.reader c.read_byte_record.new.self (fields_of c.read_byte_record.new.row) kept.1 takes.2 kept.2 read in
     match_err c.from_residual.result _ _ _ c.from_residual.ensures.1 (λ fault gives. λ other.
-    fault_here (strip_bom c.args.bytes.now) c.loop-number.setup c.loop-number.number _ kept.3 _ _ next.0 fault kept.5 next.2
-    (c.in_err-add_row.ensures.fault (λ e. other (gives ∙ e)) ∙ ap Some (sym gives)))
+    fault_here (strip_bom c.args.bytes.now) c.loop-before.setup (c.loop-before.before + 1) _ kept.1 _ _ next.0 fault kept.3 next.2
+    (c.in_err-add_row-in-Ok-true.ensures.fault (λ e. other (gives ∙ e)) ∙ ap Some (sym gives)))

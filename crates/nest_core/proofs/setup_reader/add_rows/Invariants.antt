@@ -1,10 +1,11 @@
-use Rattle.std.proofs.Common.{◌≡◌, ℕ, List, Some}
-use Rattle.csv.specs.Reading.{Ready, default_config, reader_config, reader_state, reader_trim, source_of, strip_bom}
-use Rattle.csv.specs.declared.reader.Trim.TheVariants as trim
+use Rattle.std.proofs.Common.{◌≡◌, ◌+◌, ◌≤◌, ℕ, List, Some, length}
+use Rattle.csv.specs.Reading.{reader_state, source_of, strip_bom}
+use Rattle.nest_core.specs.RowReading.{TakesRows}
 use Rattle.nest_core.proofs.Reading.{IsUpTo}
 use Rattle.nest_core.proofs.setup_reader.add_rows.Given as goal
 
--- the rows before this one are listed, and the reader stands behind them
-abbrev pub invariant-loop-number : goal.invariant-loop-number
-invariant-loop-number l = (reader_trim l.reader ≡ trim.None) × Ready l.reader × (reader_config l.reader ≡ default_config)
-    × (xs : List ℕ) × (source_of (λ s. Some s.now) l.reader ≡ Some xs) × IsUpTo (strip_bom l.fn.bytes) l.setup l.number (reader_state l.reader) xs
+-- the rows before this one are listed, each of a byte at least, and the reader stands behind them
+abbrev pub invariant-loop-before : goal.invariant-loop-before
+invariant-loop-before l = TakesRows l.reader
+    × (xs : List ℕ) × (source_of (λ s. Some s.now) l.reader ≡ Some xs) × IsUpTo (strip_bom l.fn.bytes) l.setup (l.before + 1) (reader_state l.reader) xs
+    × (l.before + length xs ≤ length l.fn.bytes)

@@ -5,7 +5,7 @@ use Rattle.std.proofs.lemmas.List.Elements.{All-more, All-weaker}
 use Rattle.std.specs.Prelude.{Vec}
 use Rattle.std.specs.declared.alloc.Global.{Global}
 use Rattle.posting_core.specs.declared.entry.Spot.{Spot}
-use Rattle.posting_core.specs.Rows.{AreAscending, HasRoom, lists}
+use Rattle.posting_core.specs.Rows.{AreAscending, HasRoom}
 use Rattle.posting_core.proofs.Rooms.{all_ready, room_set, room_here, row_there, same_count}
 use Rattle.posting_core.proofs.spot_rows.make_room.Goals as goal
 

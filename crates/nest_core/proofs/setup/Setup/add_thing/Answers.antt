@@ -41,6 +41,21 @@ returns-clause-ok c =
     rw (c.in_ok-insert.ensures.entries, insert_new S.things c.args.code c.normal_no-normal_no.result none, number)
     (thing_added S c.args.self.now c.args.number c.args.code c.args.normal c.self.view_is none found few)
 
+pub returns-in_err-insert-clause-gives_up : goal.returns-in_err-insert-clause-gives_up
+returns-in_err-insert-clause-gives_up c =
+    let fields = c.self.inside in
+    let S : Museum = record { stations = fields.stations.keys; places = fields.places.entries; things = fields.things.entries } in
+    let none : find_thing S c.args.code ≡ None = sym c.get_index_of.ensures.index ∙ not_found _ _ c.is_some.ensures c.if-is_some.false in
+    let few : length S.things < MOST_THINGS = omega arith in
+    let number : c.normal_no-normal_no.result ≡ option_and_then (find_place S) c.args.normal =
+    subst (λ (m : Museum). c.normal_no-normal_no.result ≡ option_and_then (find_place m) c.args.normal) (sym c.self.view_is) c.normal_no-normal_no.ensures in
+    let found : lacks_normal S (lists.Thing c.args.code c.args.normal) ≡ false = elim c.else-is_some-2.branch [
+      | else-is_some-2-via-then-is_some-2+else-is_none w ↦
+          normal_there S c.args.code c.args.normal c.normal_no-normal_no.result number (let some = w.is_none.ensures in let there = w.if-is_none.false in search rules)
+      | else-is_some-2-via-else-is_some-2 w ↦ normal_unasked S c.args.code c.args.normal (sym c.is_some-2.ensures ∙ w.if-is_some-2.false)
+    ] in
+    λ none_left. (thing_added S c.args.self.now c.args.number c.args.code c.args.normal c.self.view_is none found few).0
+
 pub returns-then-is_none-clause-fault : goal.returns-then-is_none-clause-fault
 returns-then-is_none-clause-fault c =
     let fields = c.self.inside in

@@ -5,16 +5,16 @@ use Rattle.posting_core.proofs.Posted.{lawful_kept, carried_kept}
 use Rattle.posting_core.proofs.Spotted.{unplaced_spots, carried_below, found_spots}
 use Rattle.posting_core.proofs.ledger.Ledger.new_spots.Goals as goal
 
-pub returns-in_default : goal.returns-in_default
-returns-in_default c = c.new.ensures ∙ unplaced_spots c.args.self.now.museum c.args.self.now.posted c.args.message.now (sym c.put_of.ensures ∙ c.in_default.is)
+pub returns-in_default-clause-ok : goal.returns-in_default-clause-ok
+returns-in_default-clause-ok c = c.new.ensures ∙ unplaced_spots c.args.self.now.museum c.args.self.now.posted c.args.message.now (sym c.put_of.ensures ∙ c.in_default.is)
 
 pub spots_of-requires : goal.spots_of-requires
 spots_of-requires c =
     let carried = c.as_slice.ensures ∙ carried_kept c.self.invariant c.self.view_is c.in-Some.put.thing _ c.in_ok-carried.ensures in
     subst (All (λ y. y < length c.args.self.now.museum.things)) (sym carried) (carried_below (length c.args.self.now.museum.things) _ c.in-Some.put.thing)
 
-pub returns-in-Some-place_to : goal.returns-in-Some-place_to
-returns-in-Some-place_to c =
+pub returns-in-Some-place_to-clause-ok : goal.returns-in-Some-place_to-clause-ok
+returns-in-Some-place_to-clause-ok c =
     let B = c.args.self.now in
     let carried = c.as_slice.ensures ∙ carried_kept c.self.invariant c.self.view_is c.in-Some.put.thing _ c.in_ok-carried.ensures in
     let lawful = lawful_kept c.self.invariant c.self.view_is in

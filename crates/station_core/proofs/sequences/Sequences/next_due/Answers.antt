@@ -1,5 +1,5 @@
 use Rattle.station_core.proofs.SlotLemmas.{series_at_read}
-use Rattle.station_core.proofs.StationLemmas.{counted_among, unchanged_among, due_among, posted_among}
+use Rattle.station_core.proofs.StationLemmas.{counted_among, unchanged_among, due_among, posted_among, stays_among}
 use Rattle.station_core.proofs.sequences.Sequences.next_due.Goals as goal
 
 pub returns-clause-none : goal.returns-clause-none
@@ -21,6 +21,9 @@ pub returns-clause-counted : goal.returns-clause-counted
 returns-clause-counted g c =
     let here = series_at_read c.args.self.now _ _ _ c.self.view_is c.index_mut.ensures.value c.requires in
     counted_among _ _ _ _ _ _ c.self.view_is here c.next_due.ensures.counted
+
+pub returns-clause-stays : goal.returns-clause-stays
+returns-clause-stays g c = stays_among _ _ _ _ c.requires (returns-clause-counted g c)
 
 pub returns-clause-due : goal.returns-clause-due
 returns-clause-due g c = due_among _ _ _ _ (returns-clause-message g c) (returns-clause-number g c) (returns-clause-counted g c)

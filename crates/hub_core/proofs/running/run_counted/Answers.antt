@@ -2,7 +2,7 @@ use Rattle.std.proofs.Common.{inr, refl, List, ℕ, Option}
 use Rattle.hub_core.specs.WholeRun.{run_fault, AfterRun}
 use Rattle.hub_core.proofs.Written.{if_err}
 use Rattle.hub_core.proofs.RunLemmas.{lines_answered, lines_fault, no_store}
-use Rattle.hub_core.proofs.running.run.Goals as goal
+use Rattle.hub_core.proofs.running.run_counted.Goals as goal
 
 pub returns-clause-bytes_to_bytes : goal.returns-clause-bytes_to_bytes
 returns-clause-bytes_to_bytes g c =

@@ -1,0 +1,62 @@
+-- How a ledger goes on: what an entry changes in it, and what stays of it whatever is posted later.
+use Rattle.std.specs.Prelude.{ℕ, ℤ, ◌≡◌, ◌≤ℤ◌, ◌&&◌, ◌==◌, ◌++◌, Bool, true, false, not, List, Option, Some, None, IfSome, filter, map}
+use Rattle.std.specs.List.{list_all, list_any}
+use Rattle.std.specs.Option.{option_map_or}
+use Rattle.std.specs.Str.{bytes_eq}
+use Rattle.codes_core.specs.Loan.{is_out}
+use Rattle.posting_core.specs.declared.message.Message.{Message}
+use Rattle.posting_core.specs.declared.message.Message.TheVariants.{Exit}
+use Rattle.posting_core.specs.declared.entry.Entry.{Entry}
+use Rattle.posting_core.specs.declared.entry.Spot.{Spot}
+use Rattle.posting_core.specs.declared.entry.Changes.{Changes}
+use Rattle.posting_core.specs.declared.stage.LineStage.{LineStage}
+use Rattle.posting_core.specs.declared.stage.LineStage.TheVariants.{Awaiting, Away, Back, Here, GivenBack}
+use Rattle.posting_core.specs.VerdictNames.{is_applied}
+use Rattle.posting_core.specs.Lawful.{IsLawful}
+use Rattle.posting_core.specs.Verdicts.{is_container_code}
+use Rattle.posting_core.specs.Book.{Book}
+
+-- the ledger once these entries are posted after its own, the newest first
+abbrev pub later : Book → List Entry → Book
+later B L = record B { posted = L ++ B.posted }
+
+-- the rules let it go on so
+abbrev pub GoesOn : Book → List Entry → Type 0
+GoesOn B L = IsLawful B.museum B.depth (L ++ B.posted)
+
+-- the rules refused them all
+abbrev pub are_refused : List Entry → Bool
+are_refused L = list_all (λ e. not (is_applied e.verdict)) L
+
+-- the spots that changes write for a thing
+abbrev pub spots_for : Changes → ℕ → List Spot
+spots_for changes x = map (λ s. s.spot) (filter (λ s. s.thing == x) changes.spots)
+
+-- they name the object's line under the loan
+abbrev pub names_line : Changes → List ℕ → ℕ → Bool
+names_line changes loan o = list_any (λ l. bytes_eq l.loan loan && (l.object == o)) changes.lines
+
+-- an object is awaited, then away, then back; or it is awaited, then here, then given back
+abbrev pub is_onward : LineStage → LineStage → Bool
+is_onward Awaiting next = true
+is_onward Away Away = true
+is_onward Away Back = true
+is_onward Back Back = true
+is_onward Here Here = true
+is_onward Here GivenBack = true
+is_onward GivenBack GivenBack = true
+is_onward _ _ = false
+
+-- a line goes on so, and isn't lost
+abbrev pub goes_forward : Option LineStage → Option LineStage → Bool
+goes_forward None next = true
+goes_forward (Some s) next = option_map_or (is_onward s) next false
+
+-- the day stays or moves on
+abbrev pub MovesOn : Option ℤ → Option ℤ → Type 0
+MovesOn day next = IfSome day (λ d. (n : ℤ) × (next ≡ Some n) × (d ≤ℤ n))
+
+-- what leaves under a loan in is no container
+abbrev pub LeavesUncrated : List Entry → Message → Type 0
+LeavesUncrated P (Exit x loan day) = is_out loan ≡ false → is_container_code x ≡ false
+LeavesUncrated P _ = Unit {0}
