@@ -15,7 +15,7 @@ def text_of(path):
 
 
 class Impl:
-    """The block of a type's or a trait's methods; its name is the prover's: Type, TypeTrait or TypeFromOther."""
+    """The block of a type's or a trait's methods; its name is the prover's: Type, TypeTrait, TypeFromOther or Type+Argument."""
 
     def __init__(self, lines):
         head = "\n".join(lines[:3])
@@ -27,6 +27,8 @@ class Impl:
         given = re.sub(r"<.*", "", trait.partition("<")[2].strip().rstrip(">")).split("::")
         # a drop is the type's own
         self.name = bare(of) + bare(trait).removesuffix("Drop") + "".join(it[:1].upper() + it[1:] for it in given)
+        if not trait and lines[0].startswith("impl "):
+            self.name = "+".join(re.findall(r"\w+", of))
         self.is_of_trait = bool(trait)
 
 

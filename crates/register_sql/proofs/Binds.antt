@@ -31,10 +31,10 @@ use Rattle.register_sql.specs.Making.{MakesWhole, IsMadeWhole, LeavesMade, setup
 use Rattle.register_sql.specs.Posting.{IsWhole}
 use Rattle.register_sql.specs.Queries.{shown_in, IsPart, IsSame, AreApart}
 use Rattle.register_sql.specs.Rows.{HasPart, AreRows, IsStored, had, meta_cells, setup_cells}
-use Rattle.register_sql.specs.Says.{IsOther, HasOther, IsTold, setup_rows_shown}
+use Rattle.register_sql.specs.Says.{IsOther, HasOther, IsTold, setup_rows_shown, setup_in}
 use Rattle.register_sql.specs.Shown.{shown_meta, shown_setup, setup_shown}
 use Rattle.register_sql.specs.Tables.{prefix}
-use Rattle.register_sql.specs.declared.queries.Query.TheVariants.{Metas, Setups}
+use Rattle.register_sql.specs.declared.queries.Query.TheVariants.{Metas}
 use Rattle.register_sql.specs.declared.told.Told.TheVariants as told
 use Rattle.register_sql.proofs.Contents.{content_in, same_part, one_prefix, unmapped}
 use Rattle.register_sql.proofs.Removed.{map_twice}
@@ -167,22 +167,22 @@ whole_meta made some db rows depth read is c held = same_metas _ _ rows is.1 (me
 setup_back : Row → SetupRow
 setup_back r = record { id = id_in (column r 0); text = bytes (column r 1) }
 
-setups_shown : (db : Trees) (c : Content) → AreRows db c → IsPermutation (map setup_shown c.setup) (shown_in Setups db)
-setups_shown db c held = subst (λ l. IsPermutation l (map shown_setup (db 2))) (map_twice shown_setup setup_cells c.setup) (IsPermutation-map shown_setup _ _ held.setup)
+setups_shown : (made : ℕ) (db : Trees) (c : Content) → HasPart made db c → IsPermutation (map setup_shown c.setup) (setup_in made db)
+setups_shown made db c held = subst (λ l. IsPermutation l (setup_in made db)) (map_twice shown_setup setup_cells c.setup) (IsPermutation-map shown_setup _ _ held.setup)
 
 setup_rows_are : (S : Museum) → IsPermutation (rows_of_setup S) (setup_from 1 (setup_rows S))
 setup_rows_are S = subst (λ l. IsPermutation (rows_of_setup S) (setup_from 1 l)) (reverse-reverse (setup_rows S)) (numbered_are (reverse (setup_rows S)))
 
-has_the_setup : (S : Museum) (db : Trees) (c : Content) → AreRows db c → Decides true (IsPermutation (setup_rows_shown (setup_rows S)) (shown_in Setups db)) → IsPermutation (rows_of_setup S) c.setup
+has_the_setup : (S : Museum) (db : Trees) (c : Content) → AreRows db c → Decides true (IsPermutation (setup_rows_shown (setup_rows S)) (setup_in 6 db)) → IsPermutation (rows_of_setup S) c.setup
 unfolding setup_back
 has_the_setup S db c held is =
-    IsPermutation-trans _ _ _ (setup_rows_are S) (unmapped setup_shown setup_back (λ r. refl) (setup_from 1 (setup_rows S)) c.setup (shown_in Setups db) (is.0 refl) (setups_shown db c held))
+    IsPermutation-trans _ _ _ (setup_rows_are S) (unmapped setup_shown setup_back (λ r. refl) (setup_from 1 (setup_rows S)) c.setup (setup_in 6 db) (is.0 refl) (setups_shown 6 db c held))
 
-pub other_setup : (S : Museum) (db : Trees) (rows : List Row) (depth : ℕ) → IsPermutation (shown_in Metas db) rows → IsTold rows (told.Bound depth)
-    → Decides false (IsPermutation (setup_rows_shown (setup_rows S)) (shown_in Setups db)) → (c : Content) → HasPart 6 db c → IsBindFault S c OtherSetup
-other_setup S db rows depth read is differs c held = (
-  (depth, is.0, whole_meta 6 (omega arith) db rows depth read is c held),
-  λ same. absurd (let e : false ≡ true = differs.1 (IsPermutation-trans _ _ _ (IsPermutation-map setup_shown _ _ (IsPermutation-trans _ _ _ (IsPermutation-sym _ _ (setup_rows_are S)) same)) (setups_shown db c held)) in cc),
+pub other_setup : (S : Museum) (made : ℕ) → 1 ≤ made → (db : Trees) (rows : List Row) (depth : ℕ) → IsPermutation (shown_in Metas db) rows → IsTold rows (told.Bound depth)
+    → Decides false (IsPermutation (setup_rows_shown (setup_rows S)) (setup_in made db)) → (c : Content) → HasPart made db c → IsBindFault S c OtherSetup
+other_setup S made some db rows depth read is differs c held = (
+  (depth, is.0, whole_meta made some db rows depth read is c held),
+  λ same. absurd (let e : false ≡ true = differs.1 (IsPermutation-trans _ _ _ (IsPermutation-map setup_shown _ _ (IsPermutation-trans _ _ _ (IsPermutation-sym _ _ (setup_rows_are S)) same)) (setups_shown made db c held)) in cc),
 )
 
 -- ---- bound
@@ -210,7 +210,7 @@ sound_in made s part = subst (λ k. IsSound k s.now.trees) part.schema part.soun
 
 -- an old store of this version, with this setup
 pub bound_old : (S : Museum) (depth : ℕ) (old new : State) (rows : List Row) → IsPart 6 old → IsPermutation (shown_in Metas old.now.trees) rows → IsTold rows (told.Bound depth)
-    → Decides true (IsPermutation (setup_rows_shown (setup_rows S)) (shown_in Setups old.now.trees)) → AreApart 6 old.now.trees → IsSame old new → IsBoundAs S depth old new
+    → Decides true (IsPermutation (setup_rows_shown (setup_rows S)) (setup_in 6 old.now.trees)) → AreApart 6 old.now.trees → IsSame old new → IsBoundAs S depth old new
 bound_old S depth old new rows part read is has apart same =
     let db = old.now.trees in
     let sound = sound_in 6 old part in

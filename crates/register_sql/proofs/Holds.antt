@@ -1,8 +1,8 @@
 -- What a register over a connection may hold comes from what it may have held.
-use Rattle.std.proofs.Common.{◌≡◌, ◌⊎◌, inl, inr, ℕ, true, false, IsTrue, refl, sym, ap, subst, ◌∙◌, arith, Err, List, [], ◌∷◌, length}
+use Rattle.std.proofs.Common.{◌≡◌, ◌⊎◌, inl, inr, ℕ, true, false, IsTrue, refl, sym, ap, subst, ◌∙◌, arith, Err, List, [], ◌∷◌, map}
 use Rattle.std.proofs.Math.Logic.{∥∥₁_elim}
 use Rattle.std.specs.List.Sorted.{IsPermutation}
-use Rattle.std.proofs.lemmas.List.Sorted.{length_permutation}
+use Rattle.std.proofs.lemmas.List.Sorted.{IsPermutation-refl, length_permutation}
 use Rattle.nest_core.specs.Museum.{Museum}
 use Rattle.posting_core.specs.declared.entry.Changes.{Changes}
 use Rattle.posting_core.specs.declared.entry.Entry.{Entry}
@@ -11,17 +11,17 @@ use Rattle.sqlite.specs.State.{State, HasCleanDisk, Survives}
 use Rattle.sqlite.specs.Tree.{Trees}
 use Rattle.sqlite_catalog.specs.Listing.{IsSound}
 use Rattle.register_store.specs.Holdings.{Each, Has, Comes, IsPosted, IsBound, IsNotBound}
-use Rattle.register_store.specs.Registers.{is_failure, IsBindFault, CountsRefusal, is_new}
-use Rattle.register_store.specs.StoredRows.{Content, PostingRow, AreSame, IsBoundTo, IsPostingRow, with_posted, MetaRow}
+use Rattle.register_store.specs.Registers.{is_failure, IsBindFault, CountsRefusal}
+use Rattle.register_store.specs.StoredRows.{Content, PostingRow, AreSame, IsBoundTo, IsPostingRow, with_posted}
 use Rattle.register_store.specs.declared.store_fault.StoreFault.{StoreFault}
 use Rattle.register_store.specs.declared.store_fault.StoreFault.TheVariants.{NoMemory, Store, OtherSetup, Damaged, OtherVersion}
 use Rattle.register_sql.specs.Binding.{IsSettled, IsRefused, IsBoundAs, LeavesBound}
 use Rattle.register_sql.specs.Posting.{IsWhole, IsReady, IsDone, LeavesWhole}
 use Rattle.register_sql.specs.Queries.{IsSame}
-use Rattle.register_sql.specs.Rows.{AreRows, IsStored}
-use Rattle.register_sql.specs.Stores.{in_store, counted}
+use Rattle.register_sql.specs.Rows.{HasPart, AreRows, IsStored}
+use Rattle.register_sql.specs.Stores.{in_store, counted, no_rows}
 use Rattle.register_sql.specs.Tables.{hub_schema, prefix}
-use Rattle.register_sql.proofs.Binds.{part_of, same_all, none_new}
+use Rattle.register_sql.proofs.Binds.{part_of, same_all}
 use Rattle.register_sql.proofs.Contents.{same_part}
 
 -- what a store promises of what a crash leaves
@@ -218,14 +218,26 @@ counts T refusals OtherVersion = refl
 
 -- ---- a database without a table
 
-new_by : (ms ns : List MetaRow) → ms ≡ [] → IsPermutation ms ns → is_new ns ≡ true
-new_by ms [] none same = refl
-new_by ms (n ∷ ns) none same = absurd (omega (arith, ap length none, length_permutation _ _ same))
+no_row : {A B : Type 0} (f : A → B) (rows : List A) → IsPermutation (map f rows) [] → rows ≡ []
+no_row f [] h = refl
+no_row f (r ∷ rows) h = absurd (omega (arith, length_permutation _ _ h))
 
-pub new_store : (old new : State) → ((db : Trees) → old.may_leave db → db ≡ old.committed.trees) → old.now ≡ old.committed → IsDatabase old.now → old.now.schema ≡ prefix 0
-    → Comes (in_store old) (in_store new) AreSame → Each (in_store new) (λ c. is_new c.meta ≡ true)
-new_store old new left settled sound schema comes clean d held =
-    let came = comes.from clean d held in
-    let stored : IsStored old.now.trees came.0 = subst (λ db. IsStored db came.0) (left came.1.0 came.1.1 ∙ sym (ap (λ (k : Database). k.trees) settled)) came.1.2 in
-    let part = part_of 0 (omega arith) old.now.trees (subst (λ k. IsSound k old.now.trees) schema sound) came.0 stored in
-    new_by came.0.meta d.meta (none_new came.0.meta part.meta) came.2.meta
+without_rows : (c : Content) → c.setup ≡ [] → c.meta ≡ [] → c.postings ≡ [] → c.spots ≡ [] → c.lines ≡ [] → c.terms ≡ [] → c ≡ no_rows
+without_rows c p q r s t u =
+    let all : Content = record { setup = c.setup; meta = c.meta; postings = c.postings; spots = c.spots; lines = c.lines; terms = c.terms } in
+    let e : all ≡ no_rows = rw (p, q, r, s, t, u) refl in e
+
+none_held : (db : Trees) → HasPart 0 db no_rows
+none_held db = record { meta = IsPermutation-refl []; setup = IsPermutation-refl []; postings = IsPermutation-refl []; spots = IsPermutation-refl []; lines = IsPermutation-refl []; terms = IsPermutation-refl [] }
+
+pub empty_has : (s : State) → ((db : Trees) → s.may_leave db → db ≡ s.committed.trees) → s.may_leave s.committed.trees → s.now ≡ s.committed → IsDatabase s.now → s.now.schema ≡ prefix 0
+    → Has (in_store s) (λ c. c ≡ no_rows)
+empty_has s left stays settled sound schema =
+    let there : IsSound (prefix 0) s.committed.trees = subst (λ (d : Database). IsSound (prefix 0) d.trees) settled (subst (λ k. IsSound k s.now.trees) schema sound) in
+    record {
+      some = λ clean none. none no_rows (s.committed.trees, stays, record { made = 0; few = omega arith; sound = there; rows = none_held s.committed.trees });
+      each = λ clean c held.
+          let stored : IsStored s.committed.trees c = subst (λ db. IsStored db c) (left held.0 held.1) held.2 in
+          let part = part_of 0 (omega arith) s.committed.trees there c stored in
+          without_rows c (no_row _ _ part.setup) (no_row _ _ part.meta) (no_row _ _ part.postings) (no_row _ _ part.spots) (no_row _ _ part.lines) (no_row _ _ part.terms);
+    }

@@ -24,3 +24,4 @@ pub mod Binds
 pub mod Holds
 pub mod Links
 pub mod Stranger
+mod WorkedRows

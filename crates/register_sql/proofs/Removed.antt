@@ -4,20 +4,23 @@ use Rattle.std.specs.List.{flat_map, list_all}
 use Rattle.std.specs.List.Sorted.{IsPermutation}
 use Rattle.std.proofs.lemmas.List.Sorted.{IsPermutation-map}
 use Rattle.sqlite.proofs.Callers.{IsPlain, command_of, runs_as, one_step}
+use Rattle.sqlite.specs.Command.{Command}
 use Rattle.sqlite.specs.Command.TheVariants.{Delete}
 use Rattle.sqlite.specs.Does.{Tally, AtPlace, OnRows}
 use Rattle.sqlite.specs.Edit.{edit_of, without_all}
-use Rattle.sqlite.specs.Effect.{Database}
+use Rattle.sqlite.specs.Effect.{Database, Answers}
 use Rattle.sqlite.specs.Listing.{understood}
 use Rattle.sqlite.specs.Order.{Row, column}
 use Rattle.sqlite.specs.Program.{overlay}
 use Rattle.sqlite.specs.Query.{IsAnswer, Output, output}
 use Rattle.sqlite.specs.Rowids.TheVariants.{Given}
-use Rattle.sqlite.specs.Rows.{Written, Part}
+use Rattle.sqlite.specs.Rows.{Written, Part, Edited}
+use Rattle.sqlite.specs.Schema.{Schema}
 use Rattle.sqlite.specs.State.{State, mode_of, Executes}
 use Rattle.sqlite.specs.Table.{Table}
 use Rattle.sqlite.specs.Term.{Term, holds}
 use Rattle.sqlite.specs.Tree.{Trees}
+use Rattle.sqlite.specs.declared.run.Mode.{Mode}
 use Rattle.sqlite.specs.declared.types.Value.TheVariants.{Null}
 use Rattle.sqlite_rules.specs.Calls.{ids_of}
 use Rattle.sqlite_schema.specs.declared.schema.Column.{Column}
@@ -71,29 +74,42 @@ module _ (text : List ℕ) (params : Row) (at : ℕ) (wanted : List Term)
     (is : command_of (understood hub_schema text) ≡ Delete at (record { lets = []; body = deletes tree wanted })) (plain : IsPlain (understood hub_schema text))
     (there : slice_get hub_schema.tables at ≡ Some (table name tree columns key primary uniques))
     (bare : (db : Trees) → overlay db [] tree ≡ db tree) where
-  pub removed : (old new : State) (count : ℕ) → old.now.schema ≡ hub_schema → Apart (old.now.trees tree) → Executes text params old new (Ok count)
-      → Removes tree (has_key wanted params) old.now new.now
-  removed old new count has apart h =
-      let from = table name tree columns key primary uniques in
-      let db = old.now.trees in
-      let mode = mode_of old in
-      let command = Delete at (record { lets = []; body = deletes tree wanted }) in
-      let w = runs_as text params old new hub_schema has command is plain count h in
-      let on : Table → Part (Tally × Database) = λ k. OnRows (record { limit = old.step_limit; keys = mode.keys; schema = hub_schema; table = k; params = params }) mode None command db in
-      let does : AtPlace on (slice_get hub_schema.tables at) (Ok (w.tally, new.now)) =
-      subst (λ it. AtPlace (λ k. OnRows (record { limit = old.step_limit; keys = mode.keys; schema = it; table = k; params = params }) mode None command db) (slice_get it.tables at) (Ok (w.tally, new.now))) has w.changed in
-      let done = went (subst (λ o. AtPlace on o (Ok (w.tally, new.now))) there does) in
+  abbrev from : Table
+  from = table name tree columns key primary uniques
+
+  abbrev command : Command
+  command = Delete at (record { lets = []; body = deletes tree wanted })
+
+  -- what it goes through, in any schema
+  goes_through : (limit : Option ℕ) (mode : Mode) (schema : Schema) (db : Trees) (tally : Tally) (after : Database)
+      → OnRows (record { limit = limit; keys = mode.keys; schema = schema; table = from; params = params }) mode None command db (Ok (tally, after))
+      → (found : List Row) × Answers (record { schema = schema; trees = db }) (record { lets = []; body = deletes tree wanted }) params found × (mid : Trees)
+      × Edited schema mode.keys db (edit_of db from (ids_of found) Given 0 []) (Ok mid) × (after ≡ record { schema = schema; trees = mid })
+  goes_through limit mode schema db tally after does =
+      let done = went does in
       let now = ap (λ (p : Tally × Database). p.1) (same_value (went (went done.2).2).2) in
       let found = went done.1 in
       let written = went found.2 in
       let trees : done.0.trees ≡ written.0 = ap (λ (it : Written). it.trees) (same_value written.2) in
-      let last : new.now.trees ≡ written.0 = ap (λ (d : Database). d.trees) now ∙ trees in
-      let finds = subst (λ l. IsPermutation (map (λ r. column r 0 ∷ []) (filter (has_key wanted params) l)) found.0) (bare db) (finds_key tree wanted (overlay db []) params found.0 (found.1.answer Null)) in
-      let step = one_step hub_schema _ db written.0 (edit_of db from (ids_of found.0) Given 0 []) refl written.1 in
-      let left : written.0 tree ≡ filter (λ r. not (has_key wanted params r)) (db tree) = leaves tree wanted params db written.0 found.0 apart finds step.rows in
+      (found.0, found.1, written.0, written.1, now ∙ ap (λ (t : Trees). let d : Database = record { schema = schema; trees = t } in d) trees)
+
+  pub removed : (old new : State) (count : ℕ) → old.now.schema ≡ hub_schema → Apart (old.now.trees tree) → Executes text params old new (Ok count)
+      → Removes tree (has_key wanted params) old.now new.now
+  removed old new count has apart h =
+      let db = old.now.trees in
+      let mode = mode_of old in
+      let w = runs_as text params old new hub_schema has command is plain count h in
+      let on : Table → Part (Tally × Database) = λ k. OnRows (record { limit = old.step_limit; keys = mode.keys; schema = hub_schema; table = k; params = params }) mode None command db in
+      let does : AtPlace on (slice_get hub_schema.tables at) (Ok (w.tally, new.now)) =
+      subst (λ it. AtPlace (λ k. OnRows (record { limit = old.step_limit; keys = mode.keys; schema = it; table = k; params = params }) mode None command db) (slice_get it.tables at) (Ok (w.tally, new.now))) has w.changed in
+      let it = goes_through old.step_limit mode hub_schema db w.tally new.now (subst (λ o. AtPlace on o (Ok (w.tally, new.now))) there does) in
+      let last : new.now.trees ≡ it.2 = ap (λ (d : Database). d.trees) it.4 in
+      let finds = subst (λ l. IsPermutation (map (λ r. column r 0 ∷ []) (filter (has_key wanted params) l)) it.0) (bare db) (finds_key tree wanted (overlay db []) params it.0 (it.1.answer Null)) in
+      let step = one_step hub_schema _ db it.2 (edit_of db from (ids_of it.0) Given 0 []) refl it.3 in
+      let left : it.2 tree ≡ filter (λ r. not (has_key wanted params r)) (db tree) = leaves tree wanted params db it.2 it.0 apart finds step.rows in
       record {
-        schema = ap (λ (d : Database). d.schema) now;
+        schema = ap (λ (d : Database). d.schema) it.4;
         sound = w.sound;
         rows = ap (λ (k : Trees). k tree) last ∙ left;
-        others = subst (Spares tree db) (sym last) (spares tree db written.0 step.tables);
+        others = subst (Spares tree db) (sym last) (spares tree db it.2 step.tables);
       }

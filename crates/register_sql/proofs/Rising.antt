@@ -127,7 +127,7 @@ here place made rows low = go (nat_lt made place) refl
     go true is = absurd (omega (arith, ltb-true made place is, low))
     go false is = refl
 
-gone : (place made : ℕ) (rows : List Row) → made < place → had place made rows ≡ []
+pub gone : (place made : ℕ) (rows : List Row) → made < place → had place made rows ≡ []
 gone place made rows high = go (nat_lt made place) refl
   where
     go : (b : Bool) → nat_lt made place ≡ b → cond b [] rows ≡ []

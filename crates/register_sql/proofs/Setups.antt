@@ -1,5 +1,5 @@
 -- The rows of a setup, in the order of their numbers.
-use Rattle.std.proofs.Common.{◌≡◌, ◌≢◌, ◌<◌, ◌+◌, ◌<ℤ◌, ℕ, zero, suc, pos, List, [], ◌∷◌, ◌++◌, length, map, reverse, take, get_or, Bool, true, false, refl, sym, ap, subst, ◌∙◌, arith, lt→ltb, append-nil}
+use Rattle.std.proofs.Common.{◌≡◌, ◌≢◌, ◌<◌, ◌≤◌, ◌+◌, ◌<ℤ◌, ℕ, zero, suc, pos, List, [], ◌∷◌, ◌++◌, length, map, reverse, take, get_or, Bool, true, false, refl, sym, ap, subst, ◌∙◌, arith, lt→ltb, append-nil}
 use Rattle.std.specs.Bool.{Decides}
 use Rattle.std.specs.Cmp.{int_cmp_is}
 use Rattle.std.specs.List.{AllByRecursion}
@@ -8,7 +8,7 @@ use Rattle.std.specs.declared.cmp.Ordering.TheVariants.{Less}
 use Rattle.std.proofs.lemmas.Cmp.{on_total}
 use Rattle.std.proofs.lemmas.Grind.{reverse_onto}
 use Rattle.std.proofs.lemmas.List.{length-reverse, length-take-le, map-append}
-use Rattle.std.proofs.lemmas.List.Sorted.{IsPermutation-refl, IsPermutation-sym, IsPermutation-trans, IsPermutation-middle, IsPermutation-cons}
+use Rattle.std.proofs.lemmas.List.Sorted.{IsPermutation-refl, length_permutation, IsPermutation-sym, IsPermutation-trans, IsPermutation-middle, IsPermutation-cons}
 use Rattle.sqlite.specs.Order.{Row, column}
 use Rattle.sqlite.specs.Tree.{Trees, IsAscending}
 use Rattle.sqlite_keyed.proofs.SortLemmas.{sorted_unique}
@@ -17,9 +17,10 @@ use Rattle.register_store.proofs.Lists.{taken_next}
 use Rattle.register_store.specs.StoredRows.{SetupRow, numbered}
 use Rattle.register_sql.specs.Making.{setup_from}
 use Rattle.register_sql.specs.Queries.{shown_in}
-use Rattle.register_sql.specs.Says.{setup_rows_shown}
-use Rattle.register_sql.specs.Shown.{setup_shown, id_cmp}
+use Rattle.register_sql.specs.Says.{setup_rows_shown, setup_in}
+use Rattle.register_sql.specs.Shown.{shown_setup, setup_shown, id_cmp}
 use Rattle.register_sql.specs.declared.queries.Query.TheVariants.{Setups}
+use Rattle.register_sql.proofs.Rising.{here, gone}
 
 above : (k n : ℕ) (texts : List (List ℕ)) (first : Row) (text : List ℕ) → k < n → first ≡ setup_shown (record { id = pos k; text = text })
     → AllByRecursion (λ r. id_cmp first r ≡ Less) (map setup_shown (setup_from n texts))
@@ -42,6 +43,19 @@ setup_told same texts db rows told read sorted = (
   λ yes. subst (λ l. IsPermutation l (shown_in Setups db)) (told.0 yes) (IsPermutation-sym _ _ read),
   λ alike. told.1 (sorted_unique id_cmp (on_total (λ (r : Row). column r 0) value_cmp_total) (setup_rows_shown texts) rows (rising 1 texts) (IsPermutation-trans _ _ _ alike read) sorted),
 )
+
+-- ... in a store of the first so many tables
+pub setup_part : (same : Bool) (texts : List (List ℕ)) (made : ℕ) (db : Trees) → 2 ≤ made → Decides same (IsPermutation (setup_rows_shown texts) (shown_in Setups db)) → Decides same (IsPermutation (setup_rows_shown texts) (setup_in made db))
+setup_part same texts made db low told = subst (λ l. Decides same (IsPermutation (setup_rows_shown texts) (map shown_setup l))) (sym (here 2 made (db 2) low)) told
+
+pub setup_gone : (same : Bool) (texts : List (List ℕ)) (made : ℕ) (db : Trees) → made < 2 → Decides same ([] ≡ setup_rows_shown texts) → Decides same (IsPermutation (setup_rows_shown texts) (setup_in made db))
+setup_gone same texts made db high told =
+    subst (λ l. Decides same (IsPermutation (setup_rows_shown texts) (map shown_setup l))) (sym (gone 2 made (db 2) high))
+    ((λ yes. subst (λ l. IsPermutation l []) (told.0 yes) (IsPermutation-refl []), λ alike. told.1 (empty (setup_rows_shown texts) alike)))
+  where
+    empty : (rows : List Row) → IsPermutation rows [] → [] ≡ rows
+    empty [] h = refl
+    empty (r ∷ rows) h = absurd (omega (arith, length_permutation _ _ h))
 
 -- ---- row by row
 

@@ -1,3 +1,4 @@
+pub mod Fits
 pub mod Found
 pub mod Tables
 pub mod Rows

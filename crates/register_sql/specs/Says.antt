@@ -2,11 +2,12 @@
 use Rattle.std.specs.Prelude.{◌≡◌, ◌≢◌, ◌<◌, ℕ, ℤ, pos, true, List, [], ◌∷◌, length, slice_index_or, map, codes}
 use Rattle.std.specs.List.Sorted.{IsPermutation}
 use Rattle.sqlite.specs.Order.{Row}
+use Rattle.sqlite.specs.Tree.{Trees}
 use Rattle.sqlite.specs.declared.types.Value.TheVariants.{Int, Text}
 use Rattle.register_store.specs.StoredRows.{rows_of_meta, is_depth}
 use Rattle.register_sql.specs.Making.{setup_from}
-use Rattle.register_sql.specs.Rows.{meta_cells}
-use Rattle.register_sql.specs.Shown.{setup_shown}
+use Rattle.register_sql.specs.Rows.{had, meta_cells}
+use Rattle.register_sql.specs.Shown.{shown_setup, setup_shown}
 use Rattle.register_sql.specs.declared.told.Told.{Told}
 use Rattle.register_sql.specs.declared.told.Told.TheVariants.{New, OtherVersion, Damaged, Bound}
 
@@ -31,3 +32,7 @@ IsTold rows (Bound depth) = (is_depth depth ≡ true) × IsWhole depth rows
 -- the setup with these texts, as it is shown
 abbrev pub setup_rows_shown : List (List ℕ) → List Row
 setup_rows_shown texts = map setup_shown (setup_from 1 texts)
+
+-- the setup that a store of the first so many tables shows
+abbrev pub setup_in : ℕ → Trees → List Row
+setup_in made db = map shown_setup (had 2 made (db 2))

@@ -1,5 +1,5 @@
 -- What a register over a connection keeps, and which rows its store may hold.
-use Rattle.std.specs.Prelude.{◌≡◌, ℕ, ◌+◌, ◌-◌, ◌^◌, min, Bool, true, false, Option, None, IfSome, refl}
+use Rattle.std.specs.Prelude.{◌≡◌, ℕ, ◌+◌, ◌-◌, ◌^◌, min, Bool, true, false, [], Option, None, IfSome, refl}
 use Rattle.std.specs.Coded.{Coded, code_by, coded×, coded_ℕ, coded_bool}
 use Rattle.sqlite.specs.Held.{Held, held_code}
 use Rattle.sqlite.specs.State.{State, HasCleanDisk}
@@ -29,6 +29,10 @@ kept_code {S} store =
 -- opening may find
 abbrev pub in_store : State → Holding
 in_store s = record { is_quiet = HasCleanDisk s; holds = λ c. (db : Trees) × s.may_leave db × IsStored db c }
+
+-- no row at all
+abbrev pub no_rows : Content
+no_rows = record { setup = []; meta = []; postings = []; spots = []; lines = []; terms = [] }
 
 -- what is true of a register's connection: it is between two transactions; and until a statement has failed it is open,
 -- over a whole store with some rows once a setup is bound

@@ -8,6 +8,7 @@ ghost use Rattle.register_store.specs.Plain.{held_lines, term_rows};
 ghost use Rattle.register_store.specs.Registers.{is_failure};
 ghost use Rattle.register_store.specs.StoredRows as stored;
 ghost use Rattle.register_store.specs.StoredRows.{HasRows, spot_row, line_row};
+ghost use Rattle.register_sql.specs.Fits.{IsNoSpot};
 ghost use Rattle.register_sql.specs.Found.{spots_shown, lines_shown, terms_shown, AreFound};
 ghost use Rattle.register_sql.specs.Posting.{Survived};
 ghost use Rattle.register_sql.specs.Queries.{shown_in, IsPart, IsSame};
@@ -27,6 +28,7 @@ use std::alloc::Global;
 #[tactic(auto, using(crate::proofs::Agrees::more_spots))]
 fn keep_spot(spots: &mut Vec<NewSpot>, row: &Row) -> Result<(), StoreFault>
     ensures kept { OnOk result (spots_shown spots.new.items ≡ spots_shown spots.old.items ++ row.now ∷ []) }
+    ensures store { result ≡ Err StoreFault.Store → IsNoSpot row.now }
     ensures faults { IfErr result (λ fault. is_failure fault ≡ true) }
 {
     let Some(spot) = spot_of(row) else {

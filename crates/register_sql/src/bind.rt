@@ -77,14 +77,14 @@ fn compare<S: Alter>(
         Ok(texts) => texts,
         Err(_) => return Ok(Err(StoreFault::NoMemory)),
     };
-    if made < 6 {
-        return Ok(Err(StoreFault::Store));
-    }
-    let same = has_setup(conn, &texts)?;
+    let same = has_setup(conn, &texts, made)?;
     if !same {
         return Ok(Err(StoreFault::OtherSetup));
     }
-    let apart = are_all_apart(conn, 6)?;
+    if made < 6 {
+        return Ok(Err(StoreFault::Store));
+    }
+    let apart = are_all_apart(conn, made)?;
     if !apart {
         return Ok(Err(StoreFault::Store));
     }

@@ -1,12 +1,10 @@
 //! A connection that is asked nothing more once a statement has failed.
-ghost use Rattle.std.specs.Prelude.{◌≡◌, ◌⊎◌, true, false, None, Some, reverse, All, IfOk, IfErr, IfSome, IsTrue, OnOk, OnErr};
+ghost use Rattle.std.specs.Prelude.{◌≡◌, ◌≢◌, ◌⊎◌, true, Some, reverse, All, IfOk, IfErr, OnOk, OnErr};
 ghost use Rattle.std.specs.Bool.{Decides};
 ghost use Rattle.sqlite.specs.Held.{state};
-ghost use Rattle.sqlite.specs.State.{HasCleanDisk, Survives};
 ghost use Rattle.register_store.specs.Holdings.{Each, Has, Comes, IsPosted, IsBound, IsNotBound};
 ghost use Rattle.register_store.specs.Registers.{is_failure, is_of_listing, IsOfStation, IsListFault};
 ghost use Rattle.register_store.specs.StoredRows.{AreSame, HasList, HasRows, IsBoundTo};
-ghost use Rattle.register_sql.specs.Binding.{IsSettled};
 ghost use Rattle.register_sql.specs.Stores.{in_store, IsKept};
 
 use crate::agree::agrees;
@@ -27,9 +25,11 @@ pub(crate) struct Link<S: Alter> {
     pub(crate) stopped: Option<StoreFault>,
 }
 
-/// The fault of a statement that failed.
+/// The fault of a statement that failed: NoMemory where that was for want of memory, else Store.
 pub(crate) fn fault_of(error: Error) -> StoreFault
-    ensures { is_failure result ≡ true }
+    ensures memory { error ≡ Error.SqliteFailure ErrorCode.OutOfMemory → result ≡ StoreFault.NoMemory }
+    ensures store { error ≢ Error.SqliteFailure ErrorCode.OutOfMemory → result ≡ StoreFault.Store }
+    ensures failure { is_failure result ≡ true }
 {
     match error {
         Error::SqliteFailure(ErrorCode::OutOfMemory) => StoreFault::NoMemory,
@@ -42,6 +42,8 @@ pub(crate) fn stop<S: Alter>(link: &mut Link<S>, error: Error) -> StoreFault
     ensures conn { link.new.conn ≡ link.old.conn }
     ensures bound { link.new.bound ≡ link.old.bound }
     ensures stopped { link.new.stopped ≡ Some result }
+    ensures memory { error ≡ Error.SqliteFailure ErrorCode.OutOfMemory → result ≡ StoreFault.NoMemory }
+    ensures store { error ≢ Error.SqliteFailure ErrorCode.OutOfMemory → result ≡ StoreFault.Store }
     ensures failure { is_failure result ≡ true }
 {
     let fault = fault_of(error);
@@ -146,42 +148,5 @@ pub(crate) fn store_agrees<S: Alter>(
     match agrees(alloc, &mut link.conn, ledger) {
         Ok(answer) => answer,
         Err(error) => Err(stop(link, error)),
-    }
-}
-
-/// A new connection, tried with a statement that does nothing.
-pub(crate) fn tried<S: Alter>(mut conn: Connection<S>) -> Link<S>
-    requires { conn.in_transaction ≡ false }
-    ensures invariant { IsKept (state S.Store result.conn) false result.stopped }
-    ensures bound { result.bound ≡ false }
-    ensures survives { Survives (state S.Store conn) (state S.Store result.conn) (λ _. ⊥) }
-    ensures content { (HasCleanDisk (state S.Store conn) → IsTrue (state S.Store conn).is_open)
-        → Comes (in_store (state S.Store conn)) (in_store (state S.Store result.conn)) AreSame }
-{
-    let stopped = tried_fault(&mut conn);
-    Link {
-        conn,
-        bound: false,
-        stopped,
-    }
-}
-
-/// The fault of a connection that can't take a statement.
-fn tried_fault<S: Alter>(conn: &mut Connection<S>) -> Option<StoreFault>
-    requires { conn.old.in_transaction ≡ false }
-    ensures between { conn.new.in_transaction ≡ false }
-    ensures failed { IfSome result (λ fault. is_failure fault ≡ true) }
-    ensures settled { result ≡ None → HasCleanDisk (state S.Store conn.new) → IsSettled (state S.Store conn.new) }
-    ensures survives { Survives (state S.Store conn.old) (state S.Store conn.new) (λ _. ⊥) }
-    ensures content { (HasCleanDisk (state S.Store conn.old) → IsTrue (state S.Store conn.old).is_open)
-        → Comes (in_store (state S.Store conn.old)) (in_store (state S.Store conn.new)) AreSame }
-{
-    let _settled = conn.is_autocommit();
-    match conn.prepare("SELECT 1") {
-        Ok(_) => {
-            conn.is_autocommit();
-            None
-        }
-        Err(error) => Some(fault_of(error)),
     }
 }

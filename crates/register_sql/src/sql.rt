@@ -1,14 +1,15 @@
 //! The register over a connection to a database.
 ghost use Rattle.std.specs.Prelude.{◌≡◌, true, false, IsTrue, IfOk, IfErr};
 ghost use Rattle.sqlite.specs.Held.{state};
-ghost use Rattle.sqlite.specs.State.{HasCleanDisk, Survives};
+ghost use Rattle.sqlite.specs.Files.{file_state};
+ghost use Rattle.sqlite.specs.State.{HasCleanDisk};
 ghost use Rattle.sqlite.specs.Steps.{over_memory};
-ghost use Rattle.register_store.specs.Holdings.{Each, Comes};
-ghost use Rattle.register_store.specs.Registers.{is_failure, is_new, CountsRefusal};
-ghost use Rattle.register_store.specs.StoredRows.{AreSame};
-ghost use Rattle.register_sql.specs.Stores.{in_store};
+ghost use Rattle.register_store.specs.Holdings.{Has};
+ghost use Rattle.register_store.specs.Registers.{is_failure, CountsRefusal};
+ghost use Rattle.register_sql.specs.Binding.{IsSettled};
+ghost use Rattle.register_sql.specs.Stores.{in_store, no_rows};
 
-use crate::link::{Link, bind_store, fault_of, list_store, post_to_store, store_agrees, tried};
+use crate::link::{Link, bind_store, fault_of, list_store, post_to_store, store_agrees};
 use nest_core::Setup;
 use posting_core::{Changes, Entry, Ledger};
 use register_store::{Register, StoreFault};
@@ -38,10 +39,11 @@ impl<S: Alter> Model for SqlRegister<S> {
 }
 
 impl SqlRegister<MemStore> {
-    /// A register over a new database in memory. The fault: NoMemory.
+    /// A register over a new database in memory, which has no row. The fault: NoMemory.
     pub fn in_memory(alloc: Global) -> Result<SqlRegister<MemStore>, StoreFault>
         ensures new { IfOk result (λ r. (r.bound ≡ false) × (r.stations ≡ 0) × (r.refusals ≡ 0)) }
-        ensures empty { IfOk result (λ r. Each (in_store (state over_memory r.conn)) (λ c. is_new c.meta ≡ true)) }
+        ensures quiet { IfOk result (λ r. HasCleanDisk (state over_memory r.conn)) }
+        ensures empty { IfOk result (λ r. Has (in_store (state over_memory r.conn)) (λ c. c ≡ no_rows)) }
         ensures memory { IfErr result (λ fault. fault ≡ StoreFault.NoMemory) }
     {
         match Connection::open_in_memory(alloc) {
@@ -52,13 +54,15 @@ impl SqlRegister<MemStore> {
 }
 
 impl SqlRegister<FileStore<File>> {
-    /// A register over the database in the file, which is made where there is none.
+    /// A register over the database in the file, which is made where there is none. The faults: NoMemory, where there is
+    /// none to open it; else Store.
     pub fn on_file(
         rt: &HostRuntime,
         _alloc: Global,
         path: &str,
     ) -> Result<SqlRegister<FileStore<File>>, StoreFault>
         ensures new { IfOk result (λ r. (r.bound ≡ false) × (r.stations ≡ 0) × (r.refusals ≡ 0)) }
+        ensures open { IfOk result (λ r. HasCleanDisk (file_state r.conn) → IsSettled (file_state r.conn)) }
         ensures faults { IfErr result (λ fault. is_failure fault ≡ true) }
     {
         match Connection::open(rt, path) {
@@ -71,17 +75,21 @@ impl SqlRegister<FileStore<File>> {
 impl<S: Alter> SqlRegister<S> {
     ghost use Rattle.register_sql.specs.Stores.{Kept};
 
-    /// A register over a connection between two transactions. Where the connection can't take a statement any more, the
-    /// register answers that fault to each call.
+    /// A register over an open connection between two transactions, of which it asks nothing: so its store is quiet where
+    /// that of the connection is, and may hold what it may hold.
     pub fn adopt(conn: Connection<S>) -> SqlRegister<S>
-        requires { conn.in_transaction ≡ false }
+        requires between { conn.in_transaction ≡ false }
+        requires open { HasCleanDisk (state S.Store conn) → IsTrue (state S.Store conn).is_open }
         ensures new { (result.bound ≡ false) × (result.stations ≡ 0) × (result.refusals ≡ 0) }
-        ensures survives { Survives (state S.Store conn) (state S.Store result.conn) (λ _. ⊥) }
-        ensures content { (HasCleanDisk (state S.Store conn) → IsTrue (state S.Store conn).is_open)
-            → Comes (in_store (state S.Store conn)) (in_store (state S.Store result.conn)) AreSame }
+        ensures same { result.conn ≡ conn }
     {
+        let _settled = conn.is_autocommit();
         SqlRegister {
-            link: tried(conn),
+            link: Link {
+                conn,
+                bound: false,
+                stopped: None,
+            },
             stations: 0,
             refusals: 0,
         }

@@ -1,9 +1,10 @@
 //! Spots, lines and last days out of their rows.
-ghost use Rattle.std.specs.Prelude.{◌≡◌, ◌<◌, pos, length, IfSome};
+ghost use Rattle.std.specs.Prelude.{◌≡◌, ◌≢◌, ◌<◌, ◌^◌, ℕ, ℤ, pos, List, length, IfSome, IfNone};
 ghost use Rattle.sqlite.specs.Order.{column};
 ghost use Rattle.sqlite.specs.declared.types.Value.TheVariants.{Int, Text};
 ghost use Rattle.posting_core.specs.StageNumbers.{stage_number};
 ghost use Rattle.register_store.specs.StoredRows.{spot_row, line_row};
+ghost use Rattle.register_sql.specs.Fits.{IsDay, IsLoan, IsNoSpot, IsNoLine, IsNoTerm};
 ghost use Rattle.register_sql.specs.Rows.{spot_cells, line_cells, term_cells};
 
 use codes_core::{Day, LoanCode};
@@ -12,10 +13,11 @@ use register_store::LineKey;
 use sqlite::Row;
 use sqlite_value::value::ValueRef;
 
-/// The number in a cell.
+/// The number in a cell; none where it has no number.
 fn int_at(row: &Row, at: usize) -> Option<i64>
     requires { at < length row.now }
-    ensures { IfSome result (λ n. column row.now at ≡ Int n) }
+    ensures read { IfSome result (λ n. column row.now at ≡ Int n) }
+    ensures none { IfNone result ((n : ℤ) → column row.now at ≢ Int n) }
 {
     match row.get_ref(at) {
         Ok(ValueRef::Int(found)) => Some(found),
@@ -26,7 +28,8 @@ fn int_at(row: &Row, at: usize) -> Option<i64>
 /// The number of 32 bits in a cell.
 fn u32_at(row: &Row, at: usize) -> Option<u32>
     requires { at < length row.now }
-    ensures { IfSome result (λ n. column row.now at ≡ Int (pos n)) }
+    ensures read { IfSome result (λ n. column row.now at ≡ Int (pos n)) }
+    ensures none { IfNone result ((n : ℕ) → n < 2 ^ 32 → column row.now at ≢ Int (pos n)) }
 {
     u32::try_from(int_at(row, at)?).ok()
 }
@@ -34,7 +37,8 @@ fn u32_at(row: &Row, at: usize) -> Option<u32>
 /// The number of 64 bits, not below 0, in a cell.
 fn u64_at(row: &Row, at: usize) -> Option<u64>
     requires { at < length row.now }
-    ensures { IfSome result (λ n. column row.now at ≡ Int (pos n)) }
+    ensures read { IfSome result (λ n. column row.now at ≡ Int (pos n)) }
+    ensures none { IfNone result ((n : ℕ) → n < 2 ^ 64 → column row.now at ≢ Int (pos n)) }
 {
     u64::try_from(int_at(row, at)?).ok()
 }
@@ -42,7 +46,8 @@ fn u64_at(row: &Row, at: usize) -> Option<u64>
 /// The day in a cell.
 fn day_at(row: &Row, at: usize) -> Option<Day>
     requires { at < length row.now }
-    ensures { IfSome result (λ day. column row.now at ≡ Int day) }
+    ensures read { IfSome result (λ day. column row.now at ≡ Int day) }
+    ensures none { IfNone result ((day : ℤ) → IsDay day → column row.now at ≢ Int day) }
 {
     Day::numbered(int_at(row, at)?)
 }
@@ -50,7 +55,8 @@ fn day_at(row: &Row, at: usize) -> Option<Day>
 /// The stage in a cell.
 fn stage_at(row: &Row, at: usize) -> Option<LineStage>
     requires { at < length row.now }
-    ensures { IfSome result (λ stage. column row.now at ≡ Int (pos (stage_number stage))) }
+    ensures read { IfSome result (λ stage. column row.now at ≡ Int (pos (stage_number stage))) }
+    ensures none { IfNone result ((stage : LineStage) → column row.now at ≢ Int (pos (stage_number stage))) }
 {
     LineStage::numbered(u32_at(row, at)?)
 }
@@ -58,7 +64,8 @@ fn stage_at(row: &Row, at: usize) -> Option<LineStage>
 /// The loan's code in a cell.
 fn loan_at(row: &Row, at: usize) -> Option<LoanCode>
     requires { at < length row.now }
-    ensures { IfSome result (λ loan. column row.now at ≡ Text loan) }
+    ensures read { IfSome result (λ loan. column row.now at ≡ Text loan) }
+    ensures none { IfNone result ((loan : List ℕ) → IsLoan loan → column row.now at ≢ Text loan) }
 {
     match row.get_ref(at) {
         Ok(ValueRef::Text(text)) => LoanCode::parse(text).ok(),
@@ -66,9 +73,10 @@ fn loan_at(row: &Row, at: usize) -> Option<LoanCode>
     }
 }
 
-/// The spot of a row.
+/// The spot of a row; none where it is that of no spot.
 pub(crate) fn spot_of(row: &Row) -> Option<NewSpot>
-    ensures { IfSome result (λ spot. spot_cells (spot_row spot) ≡ row.now) }
+    ensures read { IfSome result (λ spot. spot_cells (spot_row spot) ≡ row.now) }
+    ensures none { IfNone result (IsNoSpot row.now) }
 {
     if row.column_count() != 5 {
         return None;
@@ -83,9 +91,10 @@ pub(crate) fn spot_of(row: &Row) -> Option<NewSpot>
     })
 }
 
-/// The line of a row.
+/// The line of a row; none where it is that of no line.
 pub(crate) fn line_of(row: &Row) -> Option<(LineKey, LineStage)>
-    ensures { IfSome result (λ e. line_cells (line_row (record { loan = e.0.loan; object = e.0.object; stage = e.1 })) ≡ row.now) }
+    ensures read { IfSome result (λ e. line_cells (line_row (record { loan = e.0.loan; object = e.0.object; stage = e.1 })) ≡ row.now) }
+    ensures none { IfNone result (IsNoLine row.now) }
 {
     if row.column_count() != 3 {
         return None;
@@ -96,9 +105,10 @@ pub(crate) fn line_of(row: &Row) -> Option<(LineKey, LineStage)>
     Some((LineKey { loan, object }, stage))
 }
 
-/// The last day of a row, with its loan.
+/// The last day of a row, with its loan; none where it is that of no loan's last day.
 pub(crate) fn term_of(row: &Row) -> Option<(LoanCode, Day)>
-    ensures { IfSome result (λ e. term_cells (record { loan = e.0; day = e.1 }) ≡ row.now) }
+    ensures read { IfSome result (λ e. term_cells (record { loan = e.0; day = e.1 }) ≡ row.now) }
+    ensures none { IfNone result (IsNoTerm row.now) }
 {
     if row.column_count() != 2 {
         return None;

@@ -1,0 +1,44 @@
+-- What can be a spot, a line or a last day.
+use Rattle.std.specs.Prelude.{◌≡◌, ◌≢◌, ◌<◌, ◌≤ℤ◌, ◌^◌, ℕ, ℤ, List, None}
+use Rattle.codes_core.specs.Day.{first_number, last_number}
+use Rattle.codes_core.specs.Loan.{loan_fault}
+use Rattle.posting_core.specs.declared.entry.NewLine.{NewLine}
+use Rattle.posting_core.specs.declared.entry.NewSpot.{NewSpot}
+use Rattle.sqlite.specs.Order.{Row}
+use Rattle.register_store.specs.StoredRows.{TermRow, spot_row, line_row}
+use Rattle.register_sql.specs.Rows.{spot_cells, line_cells, term_cells}
+
+-- the number of a day of the calendar
+pub record IsDay (n : ℤ) : Type 0 where
+  pub from : first_number ≤ℤ n
+  pub to : n ≤ℤ last_number
+
+-- the code of a loan
+abbrev pub IsLoan : List ℕ → Type 0
+IsLoan text = loan_fault text ≡ None
+
+-- its numbers have 32 bits, or 64, and its day is one
+pub record FitsSpot (s : NewSpot) : Type 0 where
+  pub thing : s.thing < 2 ^ 32
+  pub k : s.k < 2 ^ 64
+  pub entry : s.spot.entry < 2 ^ 64
+  pub place : s.spot.place < 2 ^ 32
+  pub day : IsDay s.spot.day
+
+pub record FitsLine (l : NewLine) : Type 0 where
+  pub loan : IsLoan l.loan
+  pub object : l.object < 2 ^ 32
+
+pub record FitsTerm (t : TermRow) : Type 0 where
+  pub loan : IsLoan t.loan
+  pub day : IsDay t.day
+
+-- the row is that of no spot, no line, no last day
+abbrev pub IsNoSpot : Row → Type 0
+IsNoSpot row = (spot : NewSpot) → FitsSpot spot → spot_cells (spot_row spot) ≢ row
+
+abbrev pub IsNoLine : Row → Type 0
+IsNoLine row = (line : NewLine) → FitsLine line → line_cells (line_row line) ≢ row
+
+abbrev pub IsNoTerm : Row → Type 0
+IsNoTerm row = (term : TermRow) → FitsTerm term → term_cells term ≢ row
