@@ -1,0 +1,12 @@
+pub mod CountLaws
+pub mod CountReading
+pub mod Crossing
+pub mod Flags
+pub mod Membership
+pub mod Mentions
+pub mod Misses
+pub mod PlaceNesting
+pub mod Ranges
+pub mod ReportLaws
+pub mod RowMarks
+mod Worked

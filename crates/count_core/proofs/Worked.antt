@@ -1,0 +1,170 @@
+-- The definitions computed on worked rows.
+use Rattle.std.specs.Prelude.{ℕ, ℤ, pos, ◌≡◌, List, [], ◌∷◌, Some, None, refl, codes}
+use Rattle.posting_core.specs.declared.message.Message.TheVariants.{Pack, Agree, Authorise, Exit, Return, Receive, Extend}
+use Rattle.posting_core.specs.declared.entry.Entry.{Entry}
+use Rattle.posting_core.proofs.WorkedRows.{pack, gal, s1, s2, museum_x, crate_1, object_1, object_2, object_3, may, moved, run, book}
+use Rattle.count_core.specs.declared.count_row.CountRow.{CountRow}
+use Rattle.count_core.specs.declared.count_fault.CountFault.TheVariants.{BadFields, BadCode}
+use Rattle.count_core.specs.declared.answer.CountAnswer.TheVariants.{UnknownPlace, Counted, UnknownObject, Again, Unplaced, Found, Elsewhere}
+use Rattle.nest_core.specs.SetupRows.{Fields}
+use Rattle.count_core.specs.CountRows.{counts_of, first_fault}
+use Rattle.count_core.specs.Counts.{answers, missing}
+use Rattle.count_core.specs.Reports.{overdue, away, in_place}
+
+-- count_list: two objects on the shelf S1-A, one at S2
+
+abbrev placed : List Entry
+placed = run [] (
+    (gal, moved (codes "2001.4.1") (codes "S1-A"))
+    ∷ (gal, moved (codes "2001.4.3") (codes "S1-A"))
+    ∷ (gal, moved (codes "2001.4.2") (codes "S2"))
+    ∷ [])
+
+abbrev row : List ℕ → List ℕ → CountRow
+row place object = record { place = place; object = Some object }
+
+abbrev counted_alone : List ℕ → CountRow
+counted_alone place = record { place = place; object = None }
+
+abbrev rows : List CountRow
+rows =
+    row (codes "S1") (codes "2001.4.1")
+    ∷ row (codes "S1") (codes "2001.4.2")
+    ∷ row (codes "S1") (codes "2001.4.1")
+    ∷ row (codes "S1") (codes "2009.1")
+    ∷ row (codes "S9") (codes "2001.4.2")
+    ∷ row (codes "S1") (codes "L1999.7")
+    ∷ counted_alone (codes "S2")
+    ∷ []
+
+count_list : answers (book placed) rows ≡ Found ∷ Elsewhere s2 ∷ Again ∷ UnknownObject ∷ UnknownPlace ∷ Unplaced ∷ Counted ∷ []
+count_list = refl
+
+count_list-missing : missing (book placed) rows ≡ record { place = s1; object = object_3 } ∷ []
+count_list-missing = refl
+
+-- a place that is mentioned twice is told once, and a row of an unknown place names its thing too
+count_list-once : missing (book placed) (counted_alone (codes "S1") ∷ row (codes "S9") (codes "2001.4.1") ∷ counted_alone (codes "S1") ∷ [])
+    ≡ record { place = s1; object = object_3 } ∷ []
+count_list-once = refl
+
+count_list-in_place : in_place (book placed) (codes "S1") ≡ object_1 ∷ object_3 ∷ []
+count_list-in_place = refl
+
+-- all three are where they belong, or not
+count_list-away : away (book placed) ≡ record { object = object_2; place = Some s2 } ∷ []
+count_list-away = refl
+
+-- own objects that were never placed are away
+nothing_posted-away : away (book []) ≡ record { object = object_1; place = None } ∷ record { object = object_2; place = None } ∷ record { object = object_3; place = None } ∷ []
+nothing_posted-away = refl
+
+-- taken_out_of_a_crate: a crate in a crate, with an object in it that is then taken out
+abbrev taken_out : List Entry
+taken_out = run [] (
+    (pack, moved (codes "C1") (codes "S1"))
+    ∷ (pack, moved (codes "C2") (codes "S1"))
+    ∷ (pack, Pack (codes "C2") (codes "C1") may)
+    ∷ (pack, Pack (codes "2001.4.1") (codes "C2") may)
+    ∷ (pack, moved (codes "C1") (codes "S2"))
+    ∷ (pack, moved (codes "2001.4.1") (codes "S1-A"))
+    ∷ (pack, moved (codes "C1") (codes "S1"))
+    ∷ [])
+
+taken_out_of_a_crate-in_place : in_place (book taken_out) (codes "S1") ≡ crate_1 ∷ 1 ∷ object_1 ∷ []
+taken_out_of_a_crate-in_place = refl
+
+-- containers are never missing
+taken_out_of_a_crate-missing : missing (book taken_out) (counted_alone (codes "S1") ∷ []) ≡ record { place = s1; object = object_1 } ∷ []
+taken_out_of_a_crate-missing = refl
+
+-- loan_out: an object left on the last day of its loan, the day after which the loan is overdue
+
+abbrev may_31 : ℤ
+may_31 = pos 19874
+
+abbrev june_1 : ℤ
+june_1 = pos 19875
+
+abbrev june_30 : ℤ
+june_30 = pos 19904
+
+abbrev july_1 : ℤ
+july_1 = pos 19905
+
+abbrev loan : List ℕ
+loan = codes "LO2024.1"
+
+abbrev lent : List Entry
+lent = run placed (
+    (gal, Agree loan (codes "MUSEUM-X") (codes "2001.4.1" ∷ []) may may_31)
+    ∷ (gal, Authorise loan (codes "Ada"))
+    ∷ (gal, Exit (codes "2001.4.1") loan may_31)
+    ∷ [])
+
+loan_out-in_time : overdue (book lent) may_31 ≡ []
+loan_out-in_time = refl
+
+loan_out-overdue : overdue (book lent) june_1 ≡ loan ∷ []
+loan_out-overdue = refl
+
+loan_out-away : away (book lent) ≡ record { object = object_1; place = Some museum_x } ∷ record { object = object_2; place = Some s2 } ∷ []
+loan_out-away = refl
+
+-- a loan that is back is not overdue
+loan_out-returned : overdue (book (run lent ((gal, Return (codes "2001.4.1") loan (codes "S1") june_1) ∷ []))) june_1 ≡ []
+loan_out-returned = refl
+
+-- extend_tour: the last day is the extended one
+
+abbrev extended : List Entry
+extended = run lent ((gal, Extend loan june_30) ∷ [])
+
+extend_tour-in_time : overdue (book extended) june_30 ≡ []
+extend_tour-in_time = refl
+
+extend_tour-overdue : overdue (book extended) july_1 ≡ loan ∷ []
+extend_tour-overdue = refl
+
+-- loan_in: a borrowed object is here after the last day, until it is given back
+
+abbrev loan_in : List ℕ
+loan_in = codes "LI2024.1"
+
+abbrev here : List Entry
+here = run [] (
+    (gal, Agree loan_in (codes "LENDER-Y") (codes "L1999.7" ∷ []) may may_31)
+    ∷ (gal, Authorise loan_in (codes "Ada"))
+    ∷ (gal, Receive (codes "L1999.7") loan_in (codes "S1") may_31)
+    ∷ [])
+
+loan_in-overdue : overdue (book here) june_1 ≡ loan_in ∷ []
+loan_in-overdue = refl
+
+loan_in-given_back : overdue (book (run here ((gal, Exit (codes "L1999.7") loan_in june_1) ∷ []))) june_1 ≡ []
+loan_in-given_back = refl
+
+-- count_faults: of rows that are read, empty fields at the end don't count, and a row without a field is skipped
+
+abbrev read : List Fields
+read =
+    (codes "S1" ∷ codes "2001.4.1" ∷ [] ∷ [])
+    ∷ ([] ∷ [] ∷ [])
+    ∷ (codes "S2" ∷ [] ∷ [])
+    ∷ []
+
+count_faults-none : first_fault [] read ≡ None
+count_faults-none = refl
+
+count_faults-rows : counts_of read ≡ row (codes "S1") (codes "2001.4.1") ∷ counted_alone (codes "S2") ∷ []
+count_faults-rows = refl
+
+count_faults-fields : first_fault [] (([] ∷ []) ∷ (codes "S1" ∷ codes "C1" ∷ codes "x" ∷ []) ∷ []) ≡ Some (BadFields 2)
+count_faults-fields = refl
+
+count_faults-code : first_fault [] ((codes "S1" ∷ codes "2001.4.1" ∷ []) ∷ (codes "S1" ∷ codes "C01" ∷ []) ∷ []) ≡ Some (BadCode 2)
+count_faults-code = refl
+
+-- a thing without a place
+count_faults-place : first_fault [] (([] ∷ codes "2001.4.1" ∷ []) ∷ []) ≡ Some (BadCode 1)
+count_faults-place = refl

@@ -1,0 +1,21 @@
+use Rattle.std.proofs.Common.{ℕ, List, Vec, Global, [], ◌∷◌, ◌++◌, ap, sym, ◌∙◌, arith, ◌<◌, length}
+use Rattle.posting_core.specs.Book.{loans_in}
+use Rattle.count_core.specs.Reports.{is_overdue}
+use Rattle.count_core.proofs.Ranges.{filter_take_with, filter_take_without}
+use Rattle.count_core.proofs.reports.overdue.Goals as goal
+use Rattle.count_core.proofs.reports.overdue.Goals.{then-is_overdue+in_ok-push, else-is_overdue}
+
+pub loop-i-preserved : goal.loop-i-preserved
+loop-i-preserved c =
+    let B = c.args.ledger.now in
+    let test = is_overdue B c.args.day in
+    let below : c.loop-i.i < length (loans_in B) = omega (arith, c.loop-i-test.true) in
+    elim c.if-is_overdue.branch [
+      | then-is_overdue+in_ok-push w ↦
+          ap (λ (v : Vec (List ℕ) Global). v.items) w.loans-is
+          ∙ (w.in_ok-push.ensures.items ∙ (ap (λ xs. xs ++ c.loan_at-loan.result ∷ []) c.loop-i.invariant
+          ∙ sym (filter_take_with test (loans_in B) c.loop-i.i c.loan_at-loan.result below c.loan_at-loan.ensures.loan (sym c.is_overdue.ensures ∙ w.if-is_overdue.true))))
+      | else-is_overdue w ↦
+          ap (λ (v : Vec (List ℕ) Global). v.items) w.loans-is
+          ∙ (c.loop-i.invariant ∙ sym (filter_take_without test (loans_in B) c.loop-i.i c.loan_at-loan.result below c.loan_at-loan.ensures.loan (sym c.is_overdue.ensures ∙ w.if-is_overdue.false)))
+    ]

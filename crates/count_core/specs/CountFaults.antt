@@ -1,0 +1,20 @@
+-- The faults of a count list as they are printed.
+use Rattle.std.specs.Prelude.{ℕ, List, Option, Some, None, codes}
+use Rattle.count_core.specs.declared.count_fault.CountFault.{CountFault}
+use Rattle.count_core.specs.declared.count_fault.CountFault.TheVariants.{NotCsv, BadFields, BadCode, TooMany, NoMemory}
+
+-- the row with the fault, if it is a row's
+abbrev pub row_of : CountFault → Option ℕ
+row_of NotCsv = None
+row_of (BadFields n) = Some n
+row_of (BadCode n) = Some n
+row_of (TooMany n) = Some n
+row_of NoMemory = None
+
+-- the fault's name
+abbrev pub name_of : CountFault → List ℕ
+name_of NotCsv = codes "NotCsv"
+name_of (BadFields n) = codes "BadFields"
+name_of (BadCode n) = codes "BadCode"
+name_of (TooMany n) = codes "TooMany"
+name_of NoMemory = codes "NoMemory"

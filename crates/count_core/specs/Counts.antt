@@ -1,0 +1,93 @@
+-- What is said to the rows of a count list, and which objects it misses.
+use Rattle.std.specs.Prelude.{ℕ, ◌<◌, ◌==◌, ◌&&◌, Bool, false, not, List, [], ◌∷◌, length, take, map, filter, Option, Some, None, is_none, if◌then◌else◌, slice_get}
+use Rattle.std.specs.Option.{option_map_or, option_and_then}
+use Rattle.std.specs.List.{list_any, filter_map, flat_map, range_with_len}
+use Rattle.nest_core.specs.Museum.{Museum, find_place, find_thing, place_code_of, is_container}
+use Rattle.posting_core.specs.Book.{Book, place_in}
+use Rattle.count_core.specs.declared.count_row.CountRow.{CountRow}
+use Rattle.count_core.specs.declared.looking.Looked.{Looked}
+use Rattle.count_core.specs.declared.answer.MissingObject.{MissingObject}
+use Rattle.count_core.specs.declared.answer.CountAnswer.{CountAnswer}
+use Rattle.count_core.specs.declared.answer.CountAnswer.TheVariants.{UnknownPlace, Counted, UnknownObject, Again, Unplaced, Found, Elsewhere}
+use Rattle.count_core.specs.Reports.{lies_at, is_in}
+
+-- a thing at this place, sought at that
+abbrev pub found_from : Museum → List ℕ → Option ℕ → CountAnswer
+found_from S sought None = Unplaced
+found_from S sought (Some p) = if lies_at S p sought then Found else Elsewhere p
+
+abbrev pub look_object : Book → List ℕ → List ℕ → CountAnswer
+look_object B sought code = option_map_or (λ x. found_from B.museum sought (place_in B x)) (find_thing B.museum code) UnknownObject
+
+-- what is said to a row that names its thing first
+abbrev pub look : Book → CountRow → CountAnswer
+look B row = if is_none (find_place B.museum row.place) then UnknownPlace else option_map_or (look_object B row.place) row.object Counted
+
+-- the number of the thing that the row names
+abbrev pub named : Museum → CountRow → Option ℕ
+named S row = option_and_then (find_thing S) row.object
+
+abbrev pub looked_of : Book → CountRow → Looked
+looked_of B row = record { answer = look B row; thing = named B.museum row }
+
+-- row i, from 0
+abbrev pub look_at : Book → List CountRow → ℕ → Looked
+look_at B rows i = option_map_or (looked_of B) (slice_get rows i) (record { answer = UnknownPlace; thing = None })
+
+-- one of these rows names thing x
+abbrev pub names : Museum → List CountRow → ℕ → Bool
+names S rows x = list_any (λ r. option_map_or (λ y. y == x) (named S r) false) rows
+
+-- the row names a thing that one before it names
+abbrev pub is_again : Museum → List CountRow → CountRow → Bool
+is_again S before row = option_map_or (names S before) (named S row) false
+
+-- what is said to a row after those before it
+abbrev pub answer : Book → List CountRow → CountRow → CountAnswer
+answer B before row =
+    if is_none (find_place B.museum row.place) then UnknownPlace
+    else (if is_again B.museum before row then Again
+    else look B row)
+
+-- what is said to row i, from 0: it looks at the rows before it
+abbrev pub answer_at : Book → List CountRow → ℕ → CountAnswer
+answer_at B rows i = option_map_or (answer B (take i rows)) (slice_get rows i) UnknownPlace
+
+abbrev pub answers : Book → List CountRow → List CountAnswer
+answers B rows = map (answer_at B rows) (range_with_len 0 (length rows))
+
+-- each number once, where it stands first
+abbrev pub first_mentions : List ℕ → List ℕ
+first_mentions [] = []
+first_mentions (q ∷ qs) = q ∷ filter (λ k. not (k == q)) (first_mentions qs)
+
+-- the known places of the list, in the order of their first mention
+abbrev pub mentioned : Museum → List CountRow → List ℕ
+mentioned S rows = first_mentions (filter_map (λ r. find_place S r.place) rows)
+
+-- no row names it, and it is an object, not a container
+abbrev pub is_unnamed : Museum → List CountRow → ℕ → Bool
+is_unnamed S rows x = not (names S rows x) && not (is_container S x)
+
+-- thing x is in place q
+abbrev pub is_within : Book → ℕ → ℕ → Bool
+is_within B q x = option_map_or (λ code. is_in B code x) (place_code_of B.museum q) false
+
+-- an object in place q that no row names
+abbrev pub is_missing : Book → List CountRow → ℕ → ℕ → Bool
+is_missing B rows q x = is_unnamed B.museum rows x && is_within B q x
+
+-- an object of the setup, at a place of it
+abbrev pub IsMissingIn : Museum → MissingObject → Type 0
+IsMissingIn S missed = (missed.object < length S.things) × (missed.place < length S.places)
+
+abbrev pub missing_at : ℕ → ℕ → MissingObject
+missing_at q x = record { place = q; object = x }
+
+-- the objects that the list misses in place q, ascending
+abbrev pub missing_in : Book → List CountRow → ℕ → List MissingObject
+missing_in B rows q = map (missing_at q) (filter (is_missing B rows q) (range_with_len 0 (length B.museum.things)))
+
+-- the objects that the list misses, place by place
+abbrev pub missing : Book → List CountRow → List MissingObject
+missing B rows = flat_map (missing_in B rows) (mentioned B.museum rows)

@@ -1,0 +1,44 @@
+-- How rows that were looked up are marked Again, by a flag for each thing.
+use Rattle.std.specs.Prelude.{ℕ, ◌≡◌, ◌<◌, ◌==◌, ◌&&◌, not, Bool, true, false, List, length, Option, Some, None, if◌then◌else◌, slice_get, slice_set, unwrap_or}
+use Rattle.std.specs.List.{list_any}
+use Rattle.std.specs.Option.{option_map_or}
+use Rattle.nest_core.specs.Museum.{Museum, is_container}
+use Rattle.count_core.specs.declared.answer.CountAnswer.{CountAnswer}
+use Rattle.count_core.specs.declared.answer.CountAnswer.TheVariants.{UnknownPlace, Counted, UnknownObject, Again, Unplaced, Found, Elsewhere}
+
+-- the flag of this number; none is not set
+abbrev pub flagged : List Bool → Option ℕ → Bool
+flagged flags None = false
+flagged flags (Some x) = unwrap_or (slice_get flags x) false
+
+abbrev pub with_flag : List Bool → Option ℕ → List Bool
+with_flag flags None = flags
+with_flag flags (Some x) = slice_set flags x true
+
+-- Again goes before what was found, and an unknown place before Again
+abbrev pub again_for : CountAnswer → CountAnswer
+again_for UnknownPlace = UnknownPlace
+again_for Counted = Again
+again_for UnknownObject = Again
+again_for Again = Again
+again_for Unplaced = Again
+again_for Found = Again
+again_for (Elsewhere p) = Again
+
+abbrev pub mark : Bool → CountAnswer → CountAnswer
+mark before a = if before then again_for a else a
+
+-- it has no flag, and is an object, not a container
+abbrev pub is_unflagged : Museum → List Bool → ℕ → Bool
+is_unflagged S flags x = not (flagged flags (Some x)) && not (is_container S x)
+
+-- of rows of any kind, each naming a number or none
+module _ {X : Type 0} (number : X → Option ℕ) where
+  -- one of the rows names x
+  abbrev pub names_by : List X → ℕ → Bool
+  names_by rows x = list_any (λ r. option_map_or (λ y. y == x) (number r) false) rows
+
+  -- so many flags, each telling whether one of the rows names its number
+  pub record AreNames (count : ℕ) (rows : List X) (flags : List Bool) : Type 0 where
+    pub many : length flags ≡ count
+    pub each : (x : ℕ) → x < count → flagged flags (Some x) ≡ names_by rows x

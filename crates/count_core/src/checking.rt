@@ -1,0 +1,88 @@
+//! A count list checked against the ledger, by workers.
+ghost use Rattle.std.specs.Prelude.{◌≡◌, ◌<◌, All, IfOk, length, map};
+ghost use Rattle.std.specs.List.{range_with_len};
+ghost use Rattle.count_core.specs.Counts.{look_at, answers, missing, IsMissingIn};
+
+use crate::looking::{Looked, look};
+use crate::marking::marked;
+use crate::missing::missing;
+use crate::{CountReport, CountRow};
+use codes_core::NoMemory;
+use posting_core::Ledger;
+use rayon::prelude::*;
+use std::alloc::{AllocError, Global};
+use std::thread::Threads;
+
+/// Is told of each row of a count list, numbered from 1, by the worker that looks it up.
+pub trait Probe {
+    fn seen(&self, row: usize);
+}
+
+/// Nobody is told.
+struct NoProbe;
+
+impl Probe for NoProbe {
+    fn seen(&self, _row: usize) {}
+}
+
+/// The report on a count list, else NoMemory. Each row has the first answer that holds, in the order of
+/// [`CountAnswer`](crate::CountAnswer): of its place, of its thing, of the rows before it, and of where the thing is.
+/// Containers are never missing. It is the same whatever the number of workers.
+pub fn check(
+    rt: &(impl Threads + Sync),
+    alloc: Global,
+    ledger: &Ledger,
+    rows: &[CountRow],
+) -> Result<CountReport, NoMemory>
+    ensures answers { IfOk result (λ report. report.answers.items ≡ answers ledger.now rows.now) }
+    ensures missing { IfOk result (λ report. report.missing.items ≡ missing ledger.now rows.now) }
+    ensures within { IfOk result (λ report. All (IsMissingIn ledger.now.museum) report.missing.items) }
+{
+    check_by(rt, alloc, ledger, rows, &NoProbe)
+}
+
+/// The report as `check` gives it. Workers look the rows up, each by itself, and tell the probe.
+pub fn check_by<P: Probe + Sync>(
+    rt: &(impl Threads + Sync),
+    alloc: Global,
+    ledger: &Ledger,
+    rows: &[CountRow],
+    probe: &P,
+) -> Result<CountReport, NoMemory>
+    ensures answers { IfOk result (λ report. report.answers.items ≡ answers ledger.now rows.now) }
+    ensures missing { IfOk result (λ report. report.missing.items ≡ missing ledger.now rows.now) }
+    ensures within { IfOk result (λ report. All (IsMissingIn ledger.now.museum) report.missing.items) }
+{
+    let looked = looked(rt, alloc, ledger, rows, probe)?;
+    let marked = marked(alloc, ledger, rows, looked.as_slice())?;
+    let missing = missing(alloc, ledger, rows, marked.named.as_slice())?;
+    Ok(CountReport {
+        answers: marked.answers,
+        missing,
+    })
+}
+
+/// Each row looked up by itself, by workers who tell the probe.
+fn looked<P: Probe + Sync>(
+    rt: &(impl Threads + Sync),
+    alloc: Global,
+    ledger: &Ledger,
+    rows: &[CountRow],
+    probe: &P,
+) -> Result<Vec<Looked>, AllocError>
+    ensures { IfOk result (λ v. v.items
+        ≡ map (look_at ledger.now rows.now) (range_with_len 0 (length rows.now))) }
+{
+    (0..rows.len())
+        .into_par_iter()
+        .map(
+            |i: usize| -> Looked
+                requires { i < length rows.now }
+                ensures { result ≡ look_at ledger.entry.now rows.entry.now i }
+            {
+                probe.seen(i + 1);
+                look(ledger, &rows[i])
+            },
+        )
+        .collect(rt, alloc)
+}
