@@ -1,0 +1,10 @@
+use Rattle.std.proofs.Common.{rules, Some}
+use Rattle.command_words.specs.Commands.{contents}
+use Rattle.command_words.specs.Words.{IsFaultBy, texts_of}
+use Rattle.command_words.proofs.questions.contents.Goals as goal
+
+pub returns-in_err-record : goal.returns-in_err-record
+returns-in_err-record c =
+    let fault : IsFaultBy (Some contents) (texts_of c.args.words.now) c.in_err-record.field-0.0 =
+    rw c.in_ok-contents_command.ensures at c.in_err-record.ensures in
+    search rules

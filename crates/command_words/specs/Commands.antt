@@ -1,0 +1,96 @@
+-- The commands: what clap reads of each, and which values each needs.
+use Rattle.std.specs.Prelude.{◌∷◌, [], List, Some, codes, map, true, false}
+use Rattle.clap.specs.Words.{App, Rule, Text, new_app, new_rule, with_rule}
+use Rattle.clap.specs.declared.builder.action.ArgAction.TheVariants.{Set, Append}
+
+-- an option with a value, as --setup PATH
+abbrev pub option_rule : Text → Rule
+option_rule id = record (new_rule id) { long = Some id; value_names = 1; action = Some Set }
+
+-- a value by its place, as LIST
+abbrev pub word_rule : Text → Rule
+word_rule id = record (new_rule id) { value_names = 1; action = Some Set }
+
+-- values by their place, as FEEDS
+abbrev pub words_rule : Text → Rule
+words_rule id = record (new_rule id) { value_names = 1; action = Some Append }
+
+-- a command over a register, with a setup and a store
+abbrev pub register_app : Text → App
+register_app name =
+    with_rule (with_rule (new_app name) (option_rule (codes "setup"))) (option_rule (codes "store"))
+
+-- a command as clap reads it, and the values that have to be there
+pub record Form : Type 0 where
+  pub app : App
+  pub needed : List Text
+
+abbrev pub one_needed : App → Text → Form
+one_needed app id = record { app = app; needed = id ∷ [] }
+
+abbrev pub setup_needed : App → Form
+setup_needed app = one_needed app (codes "setup")
+
+abbrev pub both_needed : App → Form
+both_needed app = record { app = app; needed = codes "setup" ∷ codes "store" ∷ [] }
+
+abbrev pub all_needed : App → Text → Form
+all_needed app id = record { app = app; needed = codes "setup" ∷ codes "store" ∷ id ∷ [] }
+
+abbrev pub replay : Form
+replay = setup_needed (register_app (codes "replay"))
+
+abbrev pub serve : Form
+serve = setup_needed (with_rule (register_app (codes "serve")) (words_rule (codes "feeds")))
+
+abbrev pub count : Form
+count = all_needed (with_rule (register_app (codes "count")) (word_rule (codes "list"))) (codes "list")
+
+abbrev pub overdue : Form
+overdue = all_needed (with_rule (register_app (codes "overdue")) (option_rule (codes "on"))) (codes "on")
+
+abbrev pub away : Form
+away = both_needed (register_app (codes "away"))
+
+abbrev pub history : Form
+history = all_needed (with_rule (register_app (codes "history")) (word_rule (codes "code"))) (codes "code")
+
+abbrev pub migrate : Form
+migrate = both_needed (register_app (codes "migrate"))
+
+abbrev pub explain : Form
+explain = one_needed (with_rule (new_app (codes "explain")) (word_rule (codes "name"))) (codes "name")
+
+abbrev pub stations : Form
+stations = both_needed (register_app (codes "stations"))
+
+abbrev pub where_is : Form
+where_is = all_needed (with_rule (register_app (codes "where")) (word_rule (codes "code"))) (codes "code")
+
+abbrev pub contents : Form
+contents = all_needed (with_rule (register_app (codes "contents")) (word_rule (codes "code"))) (codes "code")
+
+abbrev pub loan : Form
+loan = all_needed (with_rule (register_app (codes "loan")) (word_rule (codes "code"))) (codes "code")
+
+abbrev pub at : Form
+at = all_needed (with_rule (register_app (codes "at")) (word_rule (codes "place"))) (codes "place")
+
+abbrev pub posted : Form
+posted = both_needed (with_rule (register_app (codes "posted")) (option_rule (codes "from")))
+
+abbrev pub commands : List Form
+commands = replay ∷ serve ∷ count ∷ overdue ∷ away ∷ history ∷ migrate
+    ∷ explain ∷ stations ∷ where_is ∷ contents ∷ loan ∷ at ∷ posted ∷ []
+
+-- the program with none of its commands yet
+abbrev pub program_alone : App
+program_alone =
+    record (new_app (codes "pairsalder")) { top = record (new_app (codes "pairsalder")).top { has_version = true } }
+
+-- all commands at once, for words that name none of them
+abbrev pub overview : App
+overview = record program_alone {
+  top = record program_alone.top { is_leaf = false };
+  subs = map (λ form. form.app.top) commands;
+}

@@ -1,0 +1,172 @@
+-- What the words of a command line choose, and why they choose nothing.
+use Rattle.std.specs.Prelude.{◌≡◌, ◌≢◌, ◌∷◌, [], ℕ, Bool, List, Option, Result, Some, None, MatchResult, codes, find, is_some}
+use Rattle.std.specs.Prelude.{map, not, option_map, slice_get, true, unwrap_or}
+use Rattle.std.specs.Borrow.{Bor}
+use Rattle.std.specs.List.{list_any}
+use Rattle.std.specs.Option.{option_and_then}
+use Rattle.std.specs.Str.{bytes_eq}
+use Rattle.clap.specs.Words.{App, Row, Text, all_of, first_of, matches_of}
+use Rattle.clap.specs.Faults.{fault_of}
+use Rattle.clap.specs.Kinds.{IsAmong, Kinds}
+use Rattle.clap.specs.Values.{kind_of}
+use Rattle.clap.specs.declared.error.Error.{Error}
+use Rattle.clap.specs.declared.error.kind.ErrorKind.{ErrorKind}
+use Rattle.clap.specs.declared.error.kind.ErrorKind.TheVariants.{DisplayHelp, DisplayVersion, OutOfMemory}
+use Rattle.command_words.specs.Commands.{Form, at, away, commands, contents, count, explain}
+use Rattle.command_words.specs.Commands.{history, loan, migrate, overdue, overview, posted, replay, serve}
+use Rattle.command_words.specs.Commands.{stations, where_is}
+use Rattle.command_words.specs.declared.reading.Files.{Files}
+use Rattle.command_words.specs.declared.reading.Record.{Record}
+use Rattle.command_words.specs.declared.command.Chosen.{Chosen}
+use Rattle.command_words.specs.declared.command.Chosen.TheVariants as command
+use Rattle.command_words.specs.declared.command.WordsFault.{WordsFault}
+use Rattle.command_words.specs.declared.command.WordsFault.TheVariants.{Missing, NoMemory, Refused}
+
+abbrev pub texts_of : List (Bor Text) → List Text
+texts_of words = map (λ w. w.now) words
+
+abbrev pub text_of : Option (Bor Text) → Option Text
+text_of word = option_map (λ w. w.now) word
+
+-- the first word is this name
+abbrev pub IsNamed : List Text → Text → Type 0
+IsNamed words name = slice_get words 0 ≡ Some name
+
+-- the command whose name is the first word
+abbrev pub form_named : List Text → Option Form
+form_named words = option_and_then (λ word. find (λ form. bytes_eq word form.app.top.name) commands) (slice_get words 0)
+
+-- all values of an argument, in clap's matches
+abbrev pub all_in : Text → List Row → List Text
+all_in id rows = unwrap_or (all_of id rows) []
+
+-- the value that the words give an argument, the first where there are several
+abbrev pub value : App → List Text → Text → Option Text
+value app words id = first_of id (matches_of app words)
+
+-- all values that the words give an argument
+abbrev pub values : App → List Text → Text → List Text
+values app words id = all_in id (matches_of app words)
+
+-- the words name this command, and give it these values
+abbrev pub IsChosen : List Text → Chosen → Type 0
+IsChosen words (command.Replay setup store) = IsNamed words (codes "replay")
+    × (value replay.app words (codes "setup") ≡ Some setup.now)
+    × (value replay.app words (codes "store") ≡ text_of store)
+IsChosen words (command.Serve setup store feeds) = IsNamed words (codes "serve")
+    × (value serve.app words (codes "setup") ≡ Some setup.now)
+    × (value serve.app words (codes "store") ≡ text_of store)
+    × (values serve.app words (codes "feeds") ≡ texts_of feeds.items)
+IsChosen words (command.Count setup store list) = IsNamed words (codes "count")
+    × (value count.app words (codes "setup") ≡ Some setup.now)
+    × (value count.app words (codes "store") ≡ Some store.now)
+    × (value count.app words (codes "list") ≡ Some list.now)
+IsChosen words (command.Overdue setup store on) = IsNamed words (codes "overdue")
+    × (value overdue.app words (codes "setup") ≡ Some setup.now)
+    × (value overdue.app words (codes "store") ≡ Some store.now)
+    × (value overdue.app words (codes "on") ≡ Some on.now)
+IsChosen words (command.Away setup store) = IsNamed words (codes "away")
+    × (value away.app words (codes "setup") ≡ Some setup.now)
+    × (value away.app words (codes "store") ≡ Some store.now)
+IsChosen words (command.History setup store code) = IsNamed words (codes "history")
+    × (value history.app words (codes "setup") ≡ Some setup.now)
+    × (value history.app words (codes "store") ≡ Some store.now)
+    × (value history.app words (codes "code") ≡ Some code.now)
+IsChosen words (command.Migrate setup store) = IsNamed words (codes "migrate")
+    × (value migrate.app words (codes "setup") ≡ Some setup.now)
+    × (value migrate.app words (codes "store") ≡ Some store.now)
+IsChosen words (command.Explain name) = IsNamed words (codes "explain")
+    × (value explain.app words (codes "name") ≡ Some name.now)
+IsChosen words (command.Stations setup store) = IsNamed words (codes "stations")
+    × (value stations.app words (codes "setup") ≡ Some setup.now)
+    × (value stations.app words (codes "store") ≡ Some store.now)
+IsChosen words (command.Where setup store code) = IsNamed words (codes "where")
+    × (value where_is.app words (codes "setup") ≡ Some setup.now)
+    × (value where_is.app words (codes "store") ≡ Some store.now)
+    × (value where_is.app words (codes "code") ≡ Some code.now)
+IsChosen words (command.Contents setup store code) = IsNamed words (codes "contents")
+    × (value contents.app words (codes "setup") ≡ Some setup.now)
+    × (value contents.app words (codes "store") ≡ Some store.now)
+    × (value contents.app words (codes "code") ≡ Some code.now)
+IsChosen words (command.Loan setup store code) = IsNamed words (codes "loan")
+    × (value loan.app words (codes "setup") ≡ Some setup.now)
+    × (value loan.app words (codes "store") ≡ Some store.now)
+    × (value loan.app words (codes "code") ≡ Some code.now)
+IsChosen words (command.At setup store place) = IsNamed words (codes "at")
+    × (value at.app words (codes "setup") ≡ Some setup.now)
+    × (value at.app words (codes "store") ≡ Some store.now)
+    × (value at.app words (codes "place") ≡ Some place.now)
+IsChosen words (command.Posted setup store from) = IsNamed words (codes "posted")
+    × (value posted.app words (codes "setup") ≡ Some setup.now)
+    × (value posted.app words (codes "store") ≡ Some store.now)
+    × (value posted.app words (codes "from") ≡ text_of from)
+
+-- what clap refuses in words that name a command, or none; where it refuses nothing the list is empty
+abbrev pub kinds_by : Option Form → List Text → Kinds
+kinds_by (Some form) words = fault_of form.app words
+kinds_by None words = fault_of overview (codes "pairsalder" ∷ words)
+
+-- a value that the command needs isn't there, or there is no command
+abbrev pub lacks : Option Form → List Text → Bool
+lacks (Some form) words = list_any (λ id. not (is_some (value form.app words id))) form.needed
+lacks None words = true
+
+-- 0 for help and the version, which were asked for, and else 2
+abbrev pub status_of_kind : ErrorKind → ℕ
+status_of_kind DisplayHelp = 0
+status_of_kind DisplayVersion = 0
+status_of_kind _ = 2
+
+-- the exit status
+abbrev pub status_of : WordsFault → ℕ
+status_of (Refused error) = status_of_kind (kind_of error)
+status_of Missing = 2
+status_of NoMemory = 1
+
+-- clap's error is told as it is, but for want of memory
+abbrev pub FromRefusal : Error → WordsFault → Type 0
+FromRefusal error (Refused told) = (told ≡ error) × (kind_of error ≢ OutOfMemory)
+FromRefusal error Missing = ⊥
+FromRefusal error NoMemory = kind_of error ≡ OutOfMemory
+
+-- clap takes the words of a command, and makes these rows of them
+abbrev pub IsRead : App → List Text → List Row → Type 0
+IsRead app words rows = (fault_of app words ≡ []) × (rows ≡ matches_of app words)
+
+-- clap takes the words of a command, which name these files
+abbrev pub GivesFiles : App → List Text → Files → Type 0
+GivesFiles app words files = (fault_of app words ≡ [])
+    × (value app words (codes "setup") ≡ text_of files.setup)
+    × (value app words (codes "store") ≡ text_of files.store)
+
+-- clap takes the words of a command, which name both files
+abbrev pub GivesRecord : App → List Text → Record → Type 0
+GivesRecord app words files = (fault_of app words ≡ [])
+    × (value app words (codes "setup") ≡ Some files.setup.now)
+    × (value app words (codes "store") ≡ Some files.store.now)
+
+-- clap refuses the words of a command, or memory ran out
+abbrev pub IsRefused : App → List Text → WordsFault → Type 0
+IsRefused app words (Refused error) = IsAmong (kind_of error) (fault_of app words)
+IsRefused app words Missing = ⊥
+IsRefused app words NoMemory = Unit {0}
+
+-- why a command, or none, isn't chosen
+abbrev pub IsFaultBy : Option Form → List Text → WordsFault → Type 0
+IsFaultBy form words (Refused error) = IsAmong (kind_of error) (kinds_by form words)
+IsFaultBy form words Missing = (kinds_by form words ≡ []) × (lacks form words ≡ true)
+IsFaultBy form words NoMemory = Unit {0}
+
+-- what clap refuses in the words
+abbrev pub refusals : List Text → Kinds
+refusals words = kinds_by (form_named words) words
+
+-- why the words choose no command
+abbrev pub IsFault : List Text → WordsFault → Type 0
+IsFault words fault = IsFaultBy (form_named words) words fault
+
+-- what the words of a command come to
+abbrev pub Chooses : Option Form → List Text → Result Chosen WordsFault → Type 0
+Chooses form words result = MatchResult result
+    (λ chosen. (kinds_by form words ≡ []) × IsChosen words chosen)
+    (IsFaultBy form words)

@@ -1,0 +1,16 @@
+//! The words of a command line, and the command that they choose.
+//!
+//! `clap` reads the words; what it makes of them is proved to be what it promises of the command that the first word
+//! names, value by value, and what it refuses.
+#![tactic(auto)]
+
+mod command;
+mod options;
+mod question_shapes;
+mod questions;
+mod reading;
+mod shapes;
+mod texts;
+pub mod words;
+
+pub use command::{Chosen, WordsFault};

@@ -1,0 +1,91 @@
+//! The commands that ask a record one question.
+ghost use Rattle.std.specs.Prelude.{Some, codes};
+ghost use Rattle.command_words.specs.Commands as commands;
+ghost use Rattle.command_words.specs.Words.{Chooses, IsNamed, texts_of};
+
+use crate::reading::{read_record, read_record_and, read_record_and_perhaps, read_word};
+use crate::{Chosen, WordsFault, question_shapes};
+use std::alloc::Global;
+
+pub(crate) fn explain<'a>(alloc: Global, words: &'a [&'a str]) -> Result<Chosen<'a>, WordsFault>
+    requires { IsNamed (texts_of words.now) (codes "explain") }
+    ensures { Chooses (Some commands.explain) (texts_of words.now) result }
+{
+    let name = read_word(question_shapes::explain_command(alloc)?, words, "name")?;
+    Ok(Chosen::Explain { name })
+}
+
+pub(crate) fn stations<'a>(alloc: Global, words: &'a [&'a str]) -> Result<Chosen<'a>, WordsFault>
+    requires { IsNamed (texts_of words.now) (codes "stations") }
+    ensures { Chooses (Some commands.stations) (texts_of words.now) result }
+{
+    let record = read_record(question_shapes::stations_command(alloc)?, words)?;
+    Ok(Chosen::Stations {
+        setup: record.setup,
+        store: record.store,
+    })
+}
+
+pub(crate) fn where_is<'a>(alloc: Global, words: &'a [&'a str]) -> Result<Chosen<'a>, WordsFault>
+    requires { IsNamed (texts_of words.now) (codes "where") }
+    ensures { Chooses (Some commands.where_is) (texts_of words.now) result }
+{
+    let (record, code) = read_record_and(question_shapes::where_command(alloc)?, words, "code")?;
+    Ok(Chosen::Where {
+        setup: record.setup,
+        store: record.store,
+        code,
+    })
+}
+
+pub(crate) fn contents<'a>(alloc: Global, words: &'a [&'a str]) -> Result<Chosen<'a>, WordsFault>
+    requires { IsNamed (texts_of words.now) (codes "contents") }
+    ensures { Chooses (Some commands.contents) (texts_of words.now) result }
+{
+    let (record, code) = read_record_and(question_shapes::contents_command(alloc)?, words, "code")?;
+    Ok(Chosen::Contents {
+        setup: record.setup,
+        store: record.store,
+        code,
+    })
+}
+
+pub(crate) fn loan<'a>(alloc: Global, words: &'a [&'a str]) -> Result<Chosen<'a>, WordsFault>
+    requires { IsNamed (texts_of words.now) (codes "loan") }
+    ensures { Chooses (Some commands.loan) (texts_of words.now) result }
+{
+    let (record, code) = read_record_and(question_shapes::loan_command(alloc)?, words, "code")?;
+    Ok(Chosen::Loan {
+        setup: record.setup,
+        store: record.store,
+        code,
+    })
+}
+
+pub(crate) fn at<'a>(alloc: Global, words: &'a [&'a str]) -> Result<Chosen<'a>, WordsFault>
+    requires { IsNamed (texts_of words.now) (codes "at") }
+    ensures { Chooses (Some commands.at) (texts_of words.now) result }
+{
+    let (record, place) = read_record_and(question_shapes::at_command(alloc)?, words, "place")?;
+    Ok(Chosen::At {
+        setup: record.setup,
+        store: record.store,
+        place,
+    })
+}
+
+pub(crate) fn posted<'a>(alloc: Global, words: &'a [&'a str]) -> Result<Chosen<'a>, WordsFault>
+    requires { IsNamed (texts_of words.now) (codes "posted") }
+    ensures { Chooses (Some commands.posted) (texts_of words.now) result }
+{
+    let (record, from) = read_record_and_perhaps(
+        question_shapes::posted_command(alloc)?,
+        words,
+        "from",
+    )?;
+    Ok(Chosen::Posted {
+        setup: record.setup,
+        store: record.store,
+        from,
+    })
+}

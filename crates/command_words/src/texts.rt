@@ -1,0 +1,268 @@
+//! What the help says.
+
+/// What the help of a command says: what it is for, how it is called, and all else that there is to know of it.
+#[derive(Clone, Copy)]
+pub(crate) struct Help {
+    pub about: &'static str,
+    pub usage: &'static str,
+    pub more: &'static str,
+}
+
+/// The version of the program, and by what it is proved.
+pub(crate) const VERSION: &str = "0.1.0\n\
+    Proved: written in Rattle, Rust with contracts, and checked with\n\
+    rattle-kit-13b logic dac8208d650f15bf.";
+
+pub(crate) const PROGRAM: Help = Help {
+    about: "Keeps the record of where a museum's objects are, where they were before,\n\
+        and under which loans they left or came.",
+    usage: "pairsalder COMMAND [OPTIONS]\n       pairsalder < SESSION",
+    more: "\
+'pairsalder help COMMAND' tells what a command is for, what it reads and prints,
+and shows it at work. With no words the program reads a session from standard
+input: a setup, an empty line, and then lines. It answers them, and keeps nothing.
+
+Examples:
+  pairsalder replay --setup museum.csv --store museum.db < monday.jsonl
+  pairsalder away --setup museum.csv --store museum.db
+  pairsalder help count
+
+Exit status: 0 done; 1 a fault, told by one line on standard error; 2 the words
+aren't right.",
+};
+
+pub(crate) const REPLAY: Help = Help {
+    about: "Takes messages and questions from standard input, and answers each",
+    usage: "pairsalder replay --setup PATH [--store PATH] < LINES",
+    more: "\
+For the day's work: what the stations sent goes on the record, each station's
+messages in its own order, and each once.
+
+Reads one JSON object a line, a message or a question. Prints the reply to each
+line before it reads on: posted with a verdict, held, refused, or where the thing
+is. A line that can't be read is told as bad, and the next one is taken. With
+--store the record is kept in that file, which is made where there is none;
+without it nothing is kept.
+
+Example:
+  pairsalder replay --setup museum.csv --store museum.db < monday.jsonl
+
+Exit status: 0 every line is answered, bad ones too; 1 a fault; 2 the words aren't
+right.",
+};
+
+pub(crate) const SERVE: Help = Help {
+    about: "Takes a file of lines from each station, all at once, and prints the log",
+    usage: "pairsalder serve --setup PATH [--store PATH] FEEDS..",
+    more: "\
+For an evening's import: the files of all stations are read side by side, and go on
+one record.
+
+FEEDS are as many files as the setup has stations, in the setup's order; each has
+the lines of its station. Prints the replies in the order in which the messages
+were taken. With --store the record is kept in that file; without it nothing is
+kept.
+
+Example:
+  pairsalder serve --setup museum.csv --store museum.db packing.jsonl gallery.jsonl
+
+Exit status: 0 all files are read; 1 a fault, after the log so far; 2 the words
+aren't right, or there are more or fewer files than stations.",
+};
+
+pub(crate) const COUNT: Help = Help {
+    about: "Compares a count list with the record, and tells what is missing",
+    usage: "pairsalder count --setup PATH --store PATH LIST",
+    more: "\
+For a stocktaking: someone went to the shelves, and wrote down what lay there.
+
+LIST is a file with a row 'PLACE,THING' for each thing that was seen, and a row
+'PLACE' for a place that was looked at. Prints a line for each row, as Found,
+Elsewhere with the place on record, Unplaced or Again, and then a line 'missing'
+for each object that should lie at a counted place, and that no row names.
+
+Example:
+  pairsalder count --setup museum.csv --store museum.db shelves.csv
+
+Exit status: 0 the list is compared, whatever comes of it; 1 a fault; 2 the words
+aren't right.",
+};
+
+pub(crate) const OVERDUE: Help = Help {
+    about: "Lists the loans whose last day is past while objects are out or here under them",
+    usage: "pairsalder overdue --setup PATH --store PATH --on DAY",
+    more: "\
+For loan control: which partner is to be asked for what should be back, and what
+should have gone home from here.
+
+Prints a line for each loan, its code and its last day, in the order in which the
+loans were agreed.
+
+Example:
+  pairsalder overdue --setup museum.csv --store museum.db --on 2024-06-01
+
+Exit status: 0 the loans are listed, if there are any; 1 a fault; 2 the words
+aren't right, or DAY is no day.",
+};
+
+pub(crate) const AWAY: Help = Help {
+    about: "Lists the own objects that aren't at their normal places",
+    usage: "pairsalder away --setup PATH --store PATH",
+    more: "\
+For the walk through the stores: what is at another place than its own, on loan
+too, or was never put anywhere.
+
+Prints a line for each object: its code, where it is, and its normal place; '-'
+stands for no place.
+
+Example:
+  pairsalder away --setup museum.csv --store museum.db
+
+Exit status: 0 the objects are listed, if there are any; 1 a fault; 2 the words
+aren't right.",
+};
+
+pub(crate) const HISTORY: Help = Help {
+    about: "Lists every place where a thing was, from the first on",
+    usage: "pairsalder history --setup PATH --store PATH CODE",
+    more: "\
+For an audit: how an object, or a container, came to where it is, also while it
+travelled in a crate.
+
+Prints a line for each time that its place changed: the number of the entry on
+record, the day, and the place. Of a thing that isn't in the setup it prints
+nothing.
+
+Example:
+  pairsalder history --setup museum.csv --store museum.db 2001.4.1
+
+Exit status: 0 the places are listed, if there are any; 1 a fault; 2 the words
+aren't right, or CODE is no thing's code.",
+};
+
+pub(crate) const MIGRATE: Help = Help {
+    about: "Makes a store of version 1 one of version 2",
+    usage: "pairsalder migrate --setup PATH --store PATH",
+    more: "\
+For once, after an update of the program: all that is on record stays as it is.
+Keep a copy of the file.
+
+Prints 'migrated'. A store of version 2 is left as it is.
+
+Example:
+  pairsalder migrate --setup museum.csv --store museum.db
+
+Exit status: 0 the store is of version 2; 1 a fault, and the store is as it was;
+2 the words aren't right.",
+};
+
+pub(crate) const EXPLAIN: Help = Help {
+    about: "Tells what a verdict, a refusal or a fault means, and what to do about it",
+    usage: "pairsalder explain NAME",
+    more: "\
+For whoever reads a reply: NAME is the word that it ends with.
+
+Prints what the word means, when it comes, and what to do about it.
+
+Example:
+  pairsalder explain NotListed
+
+Exit status: 0 it is told; 1 a fault; 2 the words aren't right, or no reply has
+this NAME.",
+};
+
+pub(crate) const STATIONS: Help = Help {
+    about: "Tells for each station which number it has to send next",
+    usage: "pairsalder stations --setup PATH --store PATH",
+    more: "\
+For the morning after an import: which station's messages are still missing.
+
+Prints a line for each station: its name, the number of the message that it has to
+send next, and whether it has signed off.
+
+Example:
+  pairsalder stations --setup museum.csv --store museum.db
+
+Exit status: 0 the stations are told; 1 a fault; 2 the words aren't right.",
+};
+
+pub(crate) const WHERE: Help = Help {
+    about: "Tells where a thing is",
+    usage: "pairsalder where --setup PATH --store PATH CODE",
+    more: "\
+For whoever has to fetch it: the place, and the boxes and crates that it is in.
+
+Prints the place of the object or the container, and the containers around it,
+innermost first.
+
+Example:
+  pairsalder where --setup museum.csv --store museum.db 2001.4.1
+
+Exit status: 0 it is told; 1 a fault; 2 the words aren't right, or CODE is no
+thing's code.",
+};
+
+pub(crate) const CONTENTS: Help = Help {
+    about: "Lists what is in a container",
+    usage: "pairsalder contents --setup PATH --store PATH CODE",
+    more: "\
+For a packing list: what lies straight in a box or a crate, and what is in the
+boxes in it.
+
+Prints first what is straight in the container, and then all that is in it.
+
+Example:
+  pairsalder contents --setup museum.csv --store museum.db C1
+
+Exit status: 0 the things are listed, if there are any; 1 a fault; 2 the words
+aren't right, or CODE is no thing's code.",
+};
+
+pub(crate) const LOAN: Help = Help {
+    about: "Tells how a loan stands: its partner, its days, and each object's stage",
+    usage: "pairsalder loan --setup PATH --store PATH CODE",
+    more: "\
+For a call from the partner: what was agreed, and which objects are awaited, out,
+here or back.
+
+Prints the partner's place, the first and the last day, how far the loan has come,
+and a line for each object with its stage.
+
+Example:
+  pairsalder loan --setup museum.csv --store museum.db LO2024.1
+
+Exit status: 0 it is told; 1 a fault; 2 the words aren't right, or CODE is no
+loan's code.",
+};
+
+pub(crate) const AT: Help = Help {
+    about: "Lists all that is at a place",
+    usage: "pairsalder at --setup PATH --store PATH PLACE",
+    more: "\
+For a look at a shelf, a room or a partner: what should be there.
+
+Prints a line for each thing at the place or at a place in it, also for what is in
+a container there.
+
+Example:
+  pairsalder at --setup museum.csv --store museum.db S1
+
+Exit status: 0 the things are listed, if there are any; 1 a fault; 2 the words
+aren't right, or PLACE is no place's code.",
+};
+
+pub(crate) const POSTED: Help = Help {
+    about: "Lists what is on record, entry by entry",
+    usage: "pairsalder posted --setup PATH --store PATH [--from N]",
+    more: "\
+For an audit, and for other programs: every message that was posted, refused ones
+too, with its verdict.
+
+Prints a line for each entry, from the first on, or from entry N on.
+
+Example:
+  pairsalder posted --setup museum.csv --store museum.db --from 100
+
+Exit status: 0 the entries are listed, if there are any; 1 a fault; 2 the words
+aren't right, or N is no number.",
+};

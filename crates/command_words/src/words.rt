@@ -1,0 +1,140 @@
+//! The command that the words choose.
+ghost use Rattle.std.specs.Prelude.{◌≡◌, ◌∷◌, [], IfErr, IfOk, None, OnOk, Some, codes};
+ghost use Rattle.command_words.specs.Commands as commands;
+ghost use Rattle.command_words.specs.Words.{Chooses, IsChosen, IsFault, IsNamed, refusals, texts_of};
+
+use crate::questions::{at, contents, explain, loan, posted, stations, where_is};
+use crate::reading::{needed, read, read_files, read_files_and_all, read_record, read_record_and};
+use crate::{Chosen, WordsFault, shapes};
+use std::alloc::{AllocError, Global};
+
+/// The command that the words choose, which are those after the program's name. The first word names it, and each
+/// value is the one that `clap` reads for it. Faults, in their order: Refused, where `clap` refuses the words, also
+/// where they ask for help; Missing, where there is no command, or a value that it needs isn't there. NoMemory may
+/// stand in place of any answer.
+pub fn chosen<'a>(alloc: Global, words: &'a [&'a str]) -> Result<Chosen<'a>, WordsFault>
+    ensures chosen { IfOk result (IsChosen (texts_of words.now)) }
+    ensures taken { OnOk result (refusals (texts_of words.now) ≡ []) }
+    ensures fault { IfErr result (IsFault (texts_of words.now)) }
+{
+    let Some(name) = words.first().copied() else {
+        return no_command(alloc, words);
+    };
+    match name {
+        "replay" => replay(alloc, words),
+        "serve" => serve(alloc, words),
+        "count" => count(alloc, words),
+        "overdue" => overdue(alloc, words),
+        "away" => away(alloc, words),
+        "history" => history(alloc, words),
+        "migrate" => migrate(alloc, words),
+        "explain" => explain(alloc, words),
+        "stations" => stations(alloc, words),
+        "where" => where_is(alloc, words),
+        "contents" => contents(alloc, words),
+        "loan" => loan(alloc, words),
+        "at" => at(alloc, words),
+        "posted" => posted(alloc, words),
+        _ => no_command(alloc, words),
+    }
+}
+
+fn replay<'a>(alloc: Global, words: &'a [&'a str]) -> Result<Chosen<'a>, WordsFault>
+    requires { IsNamed (texts_of words.now) (codes "replay") }
+    ensures { Chooses (Some commands.replay) (texts_of words.now) result }
+{
+    let files = read_files(shapes::replay_command(alloc)?, words)?;
+    Ok(Chosen::Replay {
+        setup: needed(files.setup)?,
+        store: files.store,
+    })
+}
+
+fn serve<'a>(alloc: Global, words: &'a [&'a str]) -> Result<Chosen<'a>, WordsFault>
+    requires { IsNamed (texts_of words.now) (codes "serve") }
+    ensures { Chooses (Some commands.serve) (texts_of words.now) result }
+{
+    let (files, feeds) = read_files_and_all(alloc, shapes::serve_command(alloc)?, words, "feeds")?;
+    Ok(Chosen::Serve {
+        setup: needed(files.setup)?,
+        store: files.store,
+        feeds,
+    })
+}
+
+fn count<'a>(alloc: Global, words: &'a [&'a str]) -> Result<Chosen<'a>, WordsFault>
+    requires { IsNamed (texts_of words.now) (codes "count") }
+    ensures { Chooses (Some commands.count) (texts_of words.now) result }
+{
+    let (record, list) = read_record_and(shapes::count_command(alloc)?, words, "list")?;
+    Ok(Chosen::Count {
+        setup: record.setup,
+        store: record.store,
+        list,
+    })
+}
+
+fn overdue<'a>(alloc: Global, words: &'a [&'a str]) -> Result<Chosen<'a>, WordsFault>
+    requires { IsNamed (texts_of words.now) (codes "overdue") }
+    ensures { Chooses (Some commands.overdue) (texts_of words.now) result }
+{
+    let (record, on) = read_record_and(shapes::overdue_command(alloc)?, words, "on")?;
+    Ok(Chosen::Overdue {
+        setup: record.setup,
+        store: record.store,
+        on,
+    })
+}
+
+fn away<'a>(alloc: Global, words: &'a [&'a str]) -> Result<Chosen<'a>, WordsFault>
+    requires { IsNamed (texts_of words.now) (codes "away") }
+    ensures { Chooses (Some commands.away) (texts_of words.now) result }
+{
+    let record = read_record(shapes::away_command(alloc)?, words)?;
+    Ok(Chosen::Away {
+        setup: record.setup,
+        store: record.store,
+    })
+}
+
+fn history<'a>(alloc: Global, words: &'a [&'a str]) -> Result<Chosen<'a>, WordsFault>
+    requires { IsNamed (texts_of words.now) (codes "history") }
+    ensures { Chooses (Some commands.history) (texts_of words.now) result }
+{
+    let (record, code) = read_record_and(shapes::history_command(alloc)?, words, "code")?;
+    Ok(Chosen::History {
+        setup: record.setup,
+        store: record.store,
+        code,
+    })
+}
+
+fn migrate<'a>(alloc: Global, words: &'a [&'a str]) -> Result<Chosen<'a>, WordsFault>
+    requires { IsNamed (texts_of words.now) (codes "migrate") }
+    ensures { Chooses (Some commands.migrate) (texts_of words.now) result }
+{
+    let record = read_record(shapes::migrate_command(alloc)?, words)?;
+    Ok(Chosen::Migrate {
+        setup: record.setup,
+        store: record.store,
+    })
+}
+
+/// What comes of words that name no command: what `clap` refuses in them, help and the version among it, or Missing.
+fn no_command<'a>(alloc: Global, words: &'a [&'a str]) -> Result<Chosen<'a>, WordsFault>
+    ensures { Chooses None (texts_of words.now) result }
+{
+    let line = whole_line(alloc, words)?;
+    drop(read(shapes::overview_command(alloc)?, line.as_slice())?);
+    Err(WordsFault::Missing)
+}
+
+/// The words after the program's name.
+fn whole_line<'a>(alloc: Global, words: &[&'a str]) -> Result<Vec<&'a str>, AllocError>
+    ensures { IfOk result (λ v. texts_of v.items ≡ codes "pairsalder" ∷ texts_of words.now) }
+{
+    let mut line = Vec::new(alloc);
+    line.push(shapes::PROGRAM)?;
+    line.extend_from_slice(words)?;
+    Ok(line)
+}
