@@ -1,36 +1,59 @@
-//! The program: a setup and lines on standard input, replies on standard output.
+//! The program: it does what its words say, and with none takes a setup and lines from standard input.
 #![tactic(auto)]
 
-mod faults;
+mod command;
+mod explain;
+mod fault;
+mod files;
+mod lines;
+mod questions;
+mod reports;
 #[cfg(test)]
 mod tests;
+mod work;
 
-use hub_core::{RunFault, run};
-use std::io;
-use std::io::{BufReader, BufWriter, Write};
+use crate::command::command;
+use crate::fault::CommandFault;
+use std::io::{BufReader, BufWriter};
 use std::process::ExitCode;
+use std::thread::Threads;
+use std::{env, io};
 
 fn main(rt: HostRuntime) -> ExitCode {
-    match session(&rt) {
-        Ok(()) => ExitCode::SUCCESS,
+    match on_standard_streams(&rt, &rt) {
+        Ok(status) => ExitCode::from(status),
         Err(fault) => {
-            let _ = faults::print(&rt, fault);
-            ExitCode::FAILURE
+            let _ = fault.write(&mut rt.stderr());
+            ExitCode::from(fault.status())
         }
     }
 }
 
-/// Reads the setup and the lines from standard input, and writes the replies to standard output.
-fn session<R: Input + Print + AllocGlobal>(rt: &R) -> Result<(), RunFault> {
-    let Ok(mut input) = BufReader::new(rt.alloc(), rt.reader()) else {
-        return Err(RunFault::NoMemory);
-    };
-    let Ok(mut output) = BufWriter::new(rt.alloc(), io::writer(rt)) else {
-        return Err(RunFault::NoMemory);
-    };
-    let ended = run(rt.alloc(), &mut input, &mut output);
-    if output.flush().is_err() && ended.is_ok() {
-        return Err(RunFault::WriteFailed);
+/// Does the command between standard input and standard output.
+fn on_standard_streams<T: Threads + Sync>(
+    rt: &HostRuntime,
+    threads: &T,
+) -> Result<u8, CommandFault> {
+    let mut input = BufReader::new(rt.alloc(), rt.reader()).map_err(|_| CommandFault::NoMemory)?;
+    let mut output = BufWriter::new(rt.alloc(), io::writer(rt)).map_err(
+        |_| CommandFault::NoMemory,
+    )?;
+    let given = env::args(rt).map_err(|_| CommandFault::Words)?;
+    let mut texts = Vec::new(rt.alloc());
+    for text in given.skip(1) {
+        texts.push(text)?;
     }
-    ended
+    let mut words = Vec::new(rt.alloc());
+    for text in texts.iter() {
+        words.push(text.as_str())?;
+    }
+    let status = command(
+        rt,
+        threads,
+        words.as_slice(),
+        &mut input,
+        &mut output,
+        &mut rt.stderr(),
+    );
+    Ok(status)
 }

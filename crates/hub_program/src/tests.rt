@@ -4,6 +4,7 @@
 //! its scope, each way out takes the prover from 2 to 17 seconds.
 
 mod codes;
+mod counts;
 mod failing;
 mod hub;
 mod ledger;
@@ -13,6 +14,7 @@ mod objects;
 mod register;
 mod setup;
 mod stations;
+mod words;
 
 use nest_core::Setup;
 use std::alloc::Global;

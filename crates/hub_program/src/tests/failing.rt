@@ -1,4 +1,4 @@
-//! A reader and a writer that fail.
+//! A reader and a writer that fail, or are interrupted.
 use super::{SMALL, small_museum};
 use hub_core::{Hub, ReplayFault, RunFault, replay, run};
 use register_store::PlainRegister;
@@ -121,4 +121,79 @@ fn write_fails(rt: HostRuntime) -> Result<(), Fail> {
     assert!(rt; fails);
     assert!(rt; posted == 1);
     Ok(())
+}
+
+/// Gives these bytes, one at a time; each read that isn't one after an interruption is interrupted.
+#[derive(Drop)]
+struct Halting<'a> {
+    left: &'a [u8],
+    rested: bool,
+}
+
+impl Read for Halting<'_> {
+    fn read(&mut self, _buf: &mut [u8]) -> io::Result<usize> {
+        Err(io::Error::from(ErrorKind::TimedOut))
+    }
+}
+
+impl BufRead for Halting<'_> {
+    fn fill_buf(&mut self) -> io::Result<&[u8]> {
+        self.rested = !self.rested;
+        if self.rested {
+            return Err(io::Error::from(ErrorKind::Interrupted));
+        }
+        let shown = self.left.len().min(1);
+        Ok(&self.left[..shown])
+    }
+
+    fn consume(&mut self, amount: usize) {
+        self.left = self.left.get(amount..).unwrap_or(&[]);
+    }
+}
+
+/// Takes one byte at a time; each write that isn't one after an interruption is interrupted.
+#[derive(Drop)]
+struct Hesitant {
+    taken: Vec<u8>,
+    rested: bool,
+}
+
+impl Write for Hesitant {
+    fn write(&mut self, buf: &[u8]) -> io::Result<usize> {
+        self.rested = !self.rested;
+        if self.rested {
+            return Err(io::Error::from(ErrorKind::Interrupted));
+        }
+        let count = buf.len().min(1);
+        if self.taken.extend_from_slice(&buf[..count]).is_err() {
+            return Err(io::Error::from(ErrorKind::OutOfMemory));
+        }
+        Ok(count)
+    }
+
+    fn flush(&mut self) -> io::Result<()> {
+        Ok(())
+    }
+}
+
+/// Whether a run whose reads and writes are interrupted, each once, ends well, and has written this.
+fn goes_on(alloc: Global, bytes: &[u8], want: &str) -> bool {
+    let mut reader = Halting {
+        left: bytes,
+        rested: false,
+    };
+    let mut writer = Hesitant {
+        taken: Vec::new(alloc),
+        rested: false,
+    };
+    let ended = run(alloc, &mut reader, &mut writer);
+    ended == Ok(()) && writer.taken.as_slice() == want.as_bytes()
+}
+
+#[test]
+fn interrupted(rt: HostRuntime) {
+    let lines = goes_on(rt.alloc(), SESSION.as_bytes(), "GAL 1 posted 1 Applied\n");
+    assert!(rt; lines);
+    let head = goes_on(rt.alloc(), SMALL.as_bytes(), "");
+    assert!(rt; head);
 }

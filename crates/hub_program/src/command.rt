@@ -1,0 +1,194 @@
+//! What the program does with its words.
+
+use crate::explain::explain;
+use crate::fault::CommandFault;
+use crate::files::{read_list, read_setup};
+use crate::work::{Work, over_store};
+use codes_core::{Day, LoanCode, PlaceCode, ThingCode};
+use command_words::words::chosen;
+use command_words::{Chosen, WordsFault};
+use hub_core::run;
+use std::io::{BufRead, Write};
+use std::thread::Threads;
+
+/// Does what the words after the program's name say, or, where there are none, takes a setup and lines from the input
+/// and writes the replies to the output. Answers the exit status: 0 where it is done, or help was asked for; 1 after a
+/// fault, whose line goes to the errors; 2 where the words aren't right.
+pub fn command<T: Threads + Sync, R: BufRead, W: Write, E: Write>(
+    rt: &HostRuntime,
+    threads: &T,
+    words: &[&str],
+    input: &mut R,
+    output: &mut W,
+    errors: &mut E,
+) -> u8 {
+    if words.is_empty() {
+        let ended = run(rt.alloc(), input, output);
+        return status(ended.map_err(CommandFault::from), output, errors);
+    }
+    match chosen(rt.alloc(), words) {
+        Ok(chosen) => status(perform(rt, threads, &chosen, input, output), output, errors),
+        Err(fault) => refuse(&fault, output, errors),
+    }
+}
+
+/// Hands on what was written, tells a fault, and answers the status.
+fn status<W: Write, E: Write>(
+    ended: Result<(), CommandFault>,
+    output: &mut W,
+    errors: &mut E,
+) -> u8 {
+    let flushed = output.flush();
+    let fault = match ended {
+        Err(fault) => fault,
+        Ok(()) if flushed.is_err() => CommandFault::WriteFailed,
+        Ok(()) => return 0,
+    };
+    let _ = fault.write(errors);
+    fault.status()
+}
+
+/// Tells why the words choose no command: help goes to the output, all else to the errors.
+fn refuse<W: Write, E: Write>(fault: &WordsFault, output: &mut W, errors: &mut E) -> u8 {
+    match fault {
+        WordsFault::Refused(error) if fault.status() == 0 => {
+            let told = write!(output, "{error}");
+            let ended = told.map_err(|_| CommandFault::WriteFailed);
+            status(ended, output, errors)
+        }
+        WordsFault::Refused(error) => {
+            let _ = write!(errors, "{error}");
+            fault.status()
+        }
+        WordsFault::Missing => status(Err(CommandFault::Words), output, errors),
+        WordsFault::NoMemory => status(Err(CommandFault::NoMemory), output, errors),
+    }
+}
+
+/// Does the command. Faults are found in this order: a day, a code or a number among the words; the setup; the count
+/// list; the store and its opening; the command's own.
+fn perform<T: Threads + Sync, R: BufRead, W: Write>(
+    rt: &HostRuntime,
+    threads: &T,
+    chosen: &Chosen<'_>,
+    input: &mut R,
+    output: &mut W,
+) -> Result<(), CommandFault> {
+    match chosen {
+        Chosen::Count { setup, store, list } => counted(
+            rt, threads, setup, store, list, input, output,
+        ),
+        Chosen::Explain { name } => explain(name, output),
+        Chosen::Serve { .. } | Chosen::Migrate { .. } => Err(CommandFault::Words),
+        _ => {
+            let asked = question(chosen)?;
+            let setup = read_setup(rt, rt.alloc(), asked.setup)?;
+            over_store(rt, threads, setup, asked.store, &asked.work, input, output)
+        }
+    }
+}
+
+/// What is asked of a record, and of which one.
+#[derive(Drop)]
+struct Asked<'a> {
+    setup: &'a str,
+    store: Option<&'a str>,
+    work: Work,
+}
+
+fn of_store<'a>(setup: &'a str, store: &'a str, work: Work) -> Asked<'a> {
+    Asked {
+        setup,
+        store: Some(store),
+        work,
+    }
+}
+
+/// What a command asks of a record. The faults of a day, a code or a number.
+fn question<'a>(chosen: &Chosen<'a>) -> Result<Asked<'a>, CommandFault> {
+    Ok(match chosen {
+        Chosen::Replay { setup, store } => Asked {
+            setup,
+            store: *store,
+            work: Work::Replay,
+        },
+        Chosen::Overdue { setup, store, on } => of_store(setup, store, Work::Overdue(day(on)?)),
+        Chosen::Away { setup, store } => of_store(setup, store, Work::Away),
+        Chosen::History { setup, store, code } => of_store(
+            setup,
+            store,
+            Work::History(thing(code)?),
+        ),
+        Chosen::Stations { setup, store } => of_store(setup, store, Work::Stations),
+        Chosen::Where { setup, store, code } => of_store(setup, store, Work::Where(thing(code)?)),
+        Chosen::Contents { setup, store, code } => of_store(
+            setup,
+            store,
+            Work::Contents(thing(code)?),
+        ),
+        Chosen::Loan { setup, store, code } => of_store(setup, store, Work::Loan(loan(code)?)),
+        Chosen::At {
+            setup,
+            store,
+            place: code,
+        } => of_store(setup, store, Work::At(place(code)?)),
+        Chosen::Posted { setup, store, from } => of_store(
+            setup,
+            store,
+            Work::Posted(number(*from)?),
+        ),
+        _ => return Err(CommandFault::Words),
+    })
+}
+
+fn day(text: &str) -> Result<Day, CommandFault> {
+    Day::parse(text.as_bytes()).map_err(CommandFault::Day)
+}
+
+fn thing(text: &str) -> Result<ThingCode, CommandFault> {
+    ThingCode::parse(text.as_bytes()).map_err(CommandFault::Code)
+}
+
+fn loan(text: &str) -> Result<LoanCode, CommandFault> {
+    LoanCode::parse(text.as_bytes()).map_err(CommandFault::Code)
+}
+
+fn place(text: &str) -> Result<PlaceCode, CommandFault> {
+    PlaceCode::parse(text.as_bytes()).map_err(CommandFault::Code)
+}
+
+/// The number of an entry, 1 where none is named.
+fn number(text: Option<&str>) -> Result<u64, CommandFault> {
+    match text {
+        None => Ok(1),
+        Some(text) => text.parse().map_err(|_| CommandFault::Number),
+    }
+}
+
+/// Reads the setup and the count list, and checks the list.
+fn counted<T: Threads + Sync, R: BufRead, W: Write>(
+    rt: &HostRuntime,
+    threads: &T,
+    setup: &str,
+    store: &str,
+    list: &str,
+    input: &mut R,
+    output: &mut W,
+) -> Result<(), CommandFault> {
+    let setup = read_setup(rt, rt.alloc(), setup)?;
+    match read_list(rt, rt.alloc(), list) {
+        Ok(rows) => over_store(
+            rt,
+            threads,
+            setup,
+            Some(store),
+            &Work::Count(rows),
+            input,
+            output,
+        ),
+        Err(fault) => {
+            drop(setup);
+            Err(fault)
+        }
+    }
+}

@@ -1,0 +1,173 @@
+//! Why a command stopped: a line on standard error, and an exit status.
+
+use codes_core::{CodeFault, NoMemory};
+use count_core::CountFault;
+use hub_core::{ReplayFault, RunFault};
+use nest_core::SetupFault;
+use register_store::StoreFault;
+use std::alloc::{AllocError, AllocFailed};
+use std::io;
+use std::io::Write;
+
+/// Why a command stopped.
+#[derive(Clone, Copy, PartialEq, Eq)]
+pub enum CommandFault {
+    /// A growth was refused.
+    NoMemory,
+    /// The input could not be read.
+    ReadFailed,
+    /// The output could not be written.
+    WriteFailed,
+    /// A file that was named can't be read.
+    File,
+    /// The setup at the head of the input is too long.
+    HeadTooLong,
+    /// The first fault of the setup.
+    Setup(SetupFault),
+    /// The first fault of the count list.
+    Counts(CountFault),
+    /// The store refused, or isn't that of this setup and its list.
+    Store(StoreFault),
+    /// The text after `--on` is no day.
+    Day(CodeFault),
+    /// A text is no thing code.
+    Code(CodeFault),
+    /// The text after `--from` is no number.
+    Number,
+    /// Nothing has this name.
+    Name,
+    /// There is no command, or not all that it needs.
+    Words,
+}
+
+impl From<NoMemory> for CommandFault {
+    fn from(_fault: NoMemory) -> CommandFault {
+        CommandFault::NoMemory
+    }
+}
+
+impl From<AllocError> for CommandFault {
+    fn from(_error: AllocError) -> CommandFault {
+        CommandFault::NoMemory
+    }
+}
+
+impl<T: Drop> From<AllocFailed<T>> for CommandFault {
+    fn from(_error: AllocFailed<T>) -> CommandFault {
+        CommandFault::NoMemory
+    }
+}
+
+impl From<StoreFault> for CommandFault {
+    fn from(fault: StoreFault) -> CommandFault {
+        match fault {
+            StoreFault::NoMemory => CommandFault::NoMemory,
+            _ => CommandFault::Store(fault),
+        }
+    }
+}
+
+impl From<SetupFault> for CommandFault {
+    fn from(fault: SetupFault) -> CommandFault {
+        match fault {
+            SetupFault::NoMemory => CommandFault::NoMemory,
+            _ => CommandFault::Setup(fault),
+        }
+    }
+}
+
+impl From<CountFault> for CommandFault {
+    fn from(fault: CountFault) -> CommandFault {
+        match fault {
+            CountFault::NoMemory => CommandFault::NoMemory,
+            _ => CommandFault::Counts(fault),
+        }
+    }
+}
+
+impl From<ReplayFault> for CommandFault {
+    fn from(fault: ReplayFault) -> CommandFault {
+        match fault {
+            ReplayFault::NoMemory => CommandFault::NoMemory,
+            ReplayFault::Store => CommandFault::Store(StoreFault::Store),
+            ReplayFault::ReadFailed => CommandFault::ReadFailed,
+            ReplayFault::WriteFailed => CommandFault::WriteFailed,
+        }
+    }
+}
+
+impl From<RunFault> for CommandFault {
+    fn from(fault: RunFault) -> CommandFault {
+        match fault {
+            RunFault::NoMemory => CommandFault::NoMemory,
+            RunFault::Store => CommandFault::Store(StoreFault::Store),
+            RunFault::ReadFailed => CommandFault::ReadFailed,
+            RunFault::WriteFailed => CommandFault::WriteFailed,
+            RunFault::Setup(fault) => CommandFault::from(fault),
+            RunFault::HeadTooLong => CommandFault::HeadTooLong,
+        }
+    }
+}
+
+impl CommandFault {
+    /// The exit status: 2 where the words aren't right, else 1.
+    pub fn status(self) -> u8 {
+        match self {
+            CommandFault::Day(_)
+            | CommandFault::Code(_)
+            | CommandFault::Number
+            | CommandFault::Name
+            | CommandFault::Words => 2,
+            _ => 1,
+        }
+    }
+
+    /// Writes the fault's line.
+    pub fn write<W: Write>(self, errors: &mut W) -> io::Result<()> {
+        match self {
+            CommandFault::NoMemory => writeln!(errors, "fault memory"),
+            CommandFault::ReadFailed => writeln!(errors, "fault read"),
+            CommandFault::WriteFailed => writeln!(errors, "fault write"),
+            CommandFault::File => writeln!(errors, "fault file"),
+            CommandFault::HeadTooLong => writeln!(errors, "fault head"),
+            CommandFault::Setup(fault) => write_row(errors, "setup", fault.name(), fault.row()),
+            CommandFault::Counts(fault) => write_row(errors, "counts", fault.name(), fault.row()),
+            CommandFault::Store(fault) => write_store(errors, fault),
+            CommandFault::Day(fault) => write_code(errors, "day", fault),
+            CommandFault::Code(fault) => write_code(errors, "code", fault),
+            CommandFault::Number => writeln!(errors, "fault number"),
+            CommandFault::Name => writeln!(errors, "fault name"),
+            CommandFault::Words => writeln!(errors, "fault words"),
+        }
+    }
+}
+
+/// Writes the line of a fault of a file's row, or of all of it.
+fn write_row<W: Write>(errors: &mut W, what: &str, name: &str, row: Option<u64>) -> io::Result<()> {
+    match row {
+        Some(row) => writeln!(errors, "fault {what} {name} row {row}"),
+        None => writeln!(errors, "fault {what} {name}"),
+    }
+}
+
+/// Writes the line of a store's fault.
+fn write_store<W: Write>(errors: &mut W, fault: StoreFault) -> io::Result<()> {
+    match fault {
+        StoreFault::NoMemory => writeln!(errors, "fault memory"),
+        StoreFault::Store => writeln!(errors, "fault store Store"),
+        StoreFault::OtherSetup => writeln!(errors, "fault store OtherSetup"),
+        StoreFault::Damaged(row) => writeln!(errors, "fault store Damaged {row}"),
+        StoreFault::OtherVersion => writeln!(errors, "fault store OtherVersion"),
+    }
+}
+
+/// Writes the line of a text that is no code.
+fn write_code<W: Write>(errors: &mut W, what: &str, fault: CodeFault) -> io::Result<()> {
+    let name = match fault {
+        CodeFault::Empty => "Empty",
+        CodeFault::BadShape => "BadShape",
+        CodeFault::BadNumber => "BadNumber",
+        CodeFault::NoSuchDay => "NoSuchDay",
+    };
+    writeln!(errors, "fault {what} {name}")
+}

@@ -1,0 +1,58 @@
+//! Codes, days and lines as text.
+ghost use Rattle.std.specs.Prelude.{◌<◌, length, IfSome};
+
+use crate::fault::CommandFault;
+use codes_core::{Day, LoanCode, NoMemory};
+use nest_core::{PlaceNo, Setup, ThingNo};
+use std::alloc::Global;
+use std::io::Write;
+
+/// A place's code, or `-` for none.
+pub fn known_place(alloc: Global, setup: &Setup, place: Option<PlaceNo>) -> Result<String, NoMemory>
+    requires { IfSome place (λ p. p < length setup.now.places) }
+{
+    match place {
+        Some(place) => place_text(alloc, setup, place),
+        None => Ok(String::from_str(alloc, "-")?),
+    }
+}
+
+/// A place's code.
+pub fn place_text(alloc: Global, setup: &Setup, place: PlaceNo) -> Result<String, NoMemory>
+    requires { place < length setup.now.places }
+{
+    let mut text = String::new(alloc);
+    setup.place_code(place).write(alloc, &mut text)?;
+    Ok(text)
+}
+
+/// A thing's code.
+pub fn thing_text(alloc: Global, setup: &Setup, thing: ThingNo) -> Result<String, NoMemory>
+    requires { thing < length setup.now.things }
+{
+    let mut text = String::new(alloc);
+    setup.thing_code(thing).write(alloc, &mut text)?;
+    Ok(text)
+}
+
+/// Writes a line.
+pub fn write_line<W: Write>(output: &mut W, line: &str) -> Result<(), CommandFault> {
+    match output.write_all(line.as_bytes()) {
+        Ok(()) => Ok(()),
+        Err(_) => Err(CommandFault::WriteFailed),
+    }
+}
+
+/// A loan's code.
+pub fn loan_text(alloc: Global, loan: &LoanCode) -> Result<String, NoMemory> {
+    let mut text = String::new(alloc);
+    loan.write(alloc, &mut text)?;
+    Ok(text)
+}
+
+/// A day.
+pub fn day_text(alloc: Global, day: &Day) -> Result<String, NoMemory> {
+    let mut text = String::new(alloc);
+    day.write(alloc, &mut text)?;
+    Ok(text)
+}
