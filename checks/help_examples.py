@@ -1,0 +1,43 @@
+#!/usr/bin/env python3
+"""Runs the examples of the program's help, over a record with the files that they name.
+
+Usage: help_examples.py PROGRAM. Each example has to end with status 0; those of commands that aren't there yet are passed
+over. It prints what fails, and how many ran."""
+import os
+import re
+import subprocess
+import sys
+import tempfile
+
+from store_room import LOAN, SETUP, scans
+
+NOT_YET = ("serve", "migrate")
+FILES = {"museum.csv": SETUP, "monday.jsonl": scans(LOAN), "shelves.csv": "S1,2001.4.3\nS2\n"}
+
+
+def told(program, *words):
+    return subprocess.run([program, *words], capture_output=True, check=True).stdout.decode()
+
+
+def main():
+    program, failed = os.path.abspath(sys.argv[1]), 0
+    overview = told(program, "--help")
+    commands = re.findall(r"^  (\w+)  +\w", overview.partition("Commands:")[2].partition("Options:")[0], re.M)
+    helps = [overview] + [told(program, "help", name) for name in commands if name not in (*NOT_YET, "help")]
+    examples = [line.strip() for text in helps for line in re.findall(r"^  pairsalder .*$", text, re.M)]
+    with tempfile.TemporaryDirectory() as folder:
+        for name, text in FILES.items():
+            with open(os.path.join(folder, name), "w", encoding="ascii") as file:
+                file.write(text)
+        os.symlink(program, os.path.join(folder, "pairsalder"))
+        for example in sorted(examples, key=lambda line: " replay " not in line):
+            ran = subprocess.run(["bash", "-c", f"./{example}"], cwd=folder, capture_output=True, check=False)
+            if ran.returncode:
+                failed += 1
+                print(f"{example}: {ran}")
+    print(f"{len(examples)} examples, {failed} failed")
+    return failed or len(examples) < len(commands) - len(NOT_YET)
+
+
+if __name__ == "__main__":
+    sys.exit(main())

@@ -1,0 +1,156 @@
+#!/usr/bin/env python3
+"""What a plain slow program over the definitions says to the commands that read a record, on mixed streams that are the same
+in every run (streams.py), each with a count list of its own.
+
+Usage: plain_reports.py PROGRAM [STREAMS] compares a program with it, and prints which streams differ."""
+import json
+import os
+import subprocess
+import sys
+import tempfile
+
+import streams
+from plain import arrival
+from plain_book import chain, is_container, last_day, place, stage, targets
+from plain_store import loans, spots, text_of
+from plain_text import museum_of, read_line
+
+NORMAL = {"2001.4.1": "S1-A", "2001.4.2": "S1-A"}
+PLACES = ["S1", "S1-A", "S2", *streams.ELSEWHERE, "S9"]
+STILL_OUT = ("Away", "Here")
+
+
+class Record:
+    """A museum and what is posted, asked by walking all of it."""
+
+    def __init__(self, seed):
+        self.museum, self.posted, taken = museum_of(streams.SETUP), [], []
+        for text in json_lines(seed).split(b"\n"):
+            line, fault = read_line(text)
+            if not fault and line["station"] in self.museum.stations and "ask" not in line:
+                arrival(self.museum, taken, self.posted, line["station"], line["n"], line["message"])
+        self.put = targets(self.posted)
+
+    def place(self, thing):
+        return place(self.put, thing)
+
+    def lies(self, thing, sought):
+        """Whether a thing's place is the one sought, or lies in it."""
+        at = self.place(thing)
+        return at is not None and (at == sought or at.startswith(sought + "-"))
+
+    def overdue(self, day):
+        late = [loan for loan in loans(self.posted) if last_day(self.posted, loan) < day]
+        return [f"{loan} {last_day(self.posted, loan)}" for loan in late if self.is_owed(loan)]
+
+    def is_owed(self, loan):
+        return any(stage(self.museum, self.posted, loan, thing) in STILL_OUT for thing in self.museum.things)
+
+    def away(self):
+        return [
+            f"{thing} {self.place(thing) or '-'} normal {normal}"
+            for thing, normal in NORMAL.items()
+            if self.place(thing) != normal
+        ]
+
+    def history(self, thing):
+        places, number = list(self.museum.inside), self.museum.things.index(thing)
+        return [
+            f"{entry} {self.posted[entry - 1].message['day']} {places[at]}"
+            for one, _, entry, at, _ in spots(self.museum, self.posted)
+            if one == number
+        ]
+
+    def at(self, sought):
+        return [f"{thing} {self.place(thing)}" for thing in self.museum.things if self.lies(thing, sought)]
+
+    def contents(self, container):
+        inside = [thing for thing in self.museum.things if container in chain(self.put, thing)]
+        return [f"{thing} in {' '.join(chain(self.put, thing))}" for thing in inside]
+
+    def entries(self):
+        return [
+            f"{number} {entry.station} {entry.n} {entry.verdict} {text_of(entry.message)}"
+            for number, entry in enumerate(self.posted, 1)
+        ]
+
+    def counted(self, rows):
+        """What is said to each row, and what the list misses."""
+        said, named = [], set()
+        for sought, thing in rows:
+            said.append(self.answer(sought, thing, named))
+            named.add(thing)
+        mentioned = dict.fromkeys(sought for sought, _ in rows if sought in self.museum.inside)
+        missing = [
+            f"missing {sought} {thing}"
+            for sought in mentioned
+            for thing in self.museum.things
+            if not is_container(thing) and thing not in named and self.lies(thing, sought)
+        ]
+        return [f"row {i} {answer}" for i, answer in enumerate(said, 1)] + missing
+
+    def answer(self, sought, thing, named):
+        if sought not in self.museum.inside:
+            return "UnknownPlace"
+        if thing is None:
+            return "Counted"
+        if thing not in self.museum.things:
+            return "UnknownObject"
+        if thing in named:
+            return "Again"
+        if self.place(thing) is None:
+            return "Unplaced"
+        return "Found" if self.lies(thing, sought) else f"Elsewhere {self.place(thing)}"
+
+
+def json_lines(seed):
+    return "".join(json.dumps(line) + "\n" for line in streams.lines(seed)).encode()
+
+
+def count_rows(seed):
+    """A count list: places and things, some of them unknown, some named twice."""
+    draws = streams.Draws(seed)
+    return [(draws.one_of(PLACES), draws.one_of([*streams.THINGS, *streams.OBJECTS * 3, "2009.1", None])) for _ in range(12)]
+
+
+def asked(record, rows):
+    """Each command's words, and what it has to print."""
+    yield ["count", "list.csv"], record.counted(rows)
+    yield ["away"], record.away()
+    yield ["posted"], record.entries()
+    for day in ("2024-05-31", "2024-06-01", "2024-07-01"):
+        yield ["overdue", "--on", day], record.overdue(day)
+    for thing in ("C1", "C2", *streams.OBJECTS):
+        yield ["history", thing], record.history(thing)
+    for sought in PLACES[:-1]:
+        yield ["at", sought], record.at(sought)
+    yield ["contents", "C1"], record.contents("C1")
+
+
+def is_same(program, seed, folder):
+    """Whether the program prints what the plain one does."""
+    record, rows = Record(seed), count_rows(seed)
+    files = {"setup.csv": streams.SETUP, "list.csv": "".join(f"{at},{thing or ''}\n" for at, thing in rows)}
+    for name, text in files.items():
+        with open(os.path.join(folder, name), "w", encoding="ascii") as file:
+            file.write(text)
+    store = ["--setup", "setup.csv", "--store", f"{seed}.db"]
+    subprocess.run([program, "replay", *store], input=json_lines(seed), cwd=folder, stdout=subprocess.DEVNULL, check=True)
+    for (command, *words), wanted in asked(record, rows):
+        ran = subprocess.run([program, command, *store, *words], cwd=folder, capture_output=True, check=False)
+        if ran.returncode != 0 or ran.stdout.decode().splitlines() != wanted:
+            print(f"stream {seed}: {command} {words} differs")
+            return False
+    return True
+
+
+def main():
+    program, count = os.path.abspath(sys.argv[1]), int(sys.argv[2]) if len(sys.argv) > 2 else 30
+    with tempfile.TemporaryDirectory(dir="/dev/shm" if os.path.isdir("/dev/shm") else None) as folder:
+        same = [is_same(program, seed, folder) for seed in range(1, count + 1)]
+    print(f"{sum(same)} of {count} streams are the same")
+    return not all(same)
+
+
+if __name__ == "__main__":
+    sys.exit(main())

@@ -1,0 +1,130 @@
+"""A folder with a setup and a store, the program that is run there, what stations send to it, and what a stock SQLite
+(Python's sqlite3) reads of it."""
+import os
+import sqlite3
+import subprocess
+
+from plain_store import text_of
+from plain_text import museum_of
+
+SETUP = (
+    "station,PACK\nstation,GAL\nplace,S1,inside\nplace,S1-A,inside\nplace,S2,inside\nplace,MUSEUM-X,elsewhere\n"
+    "place,LENDER-Y,elsewhere\nbox,C1\nbox,C2\nown,2001.4.1,S1-A\nown,2001.4.2,S1-A\nown,2001.4.3,S1-A\nlent,L1999.7\n"
+)
+MUSEUM = museum_of(SETUP)
+NORMAL = {f"2001.4.{i}": "S1-A" for i in (1, 2, 3)}
+
+
+def move(thing, place, day="2024-05-01"):
+    return {"kind": "move", "thing": thing, "place": place, "day": day}
+
+
+def pack(thing, container):
+    return {"kind": "pack", "thing": thing, "container": container, "day": "2024-05-01"}
+
+
+def agree(objects):
+    return {
+        "kind": "agree",
+        "loan": "LO2024.1",
+        "partner": "MUSEUM-X",
+        "objects": objects,
+        "first": "2024-05-01",
+        "last": "2024-05-31",
+    }
+
+
+def leave(day):
+    return {"kind": "exit", "thing": "C1", "loan": "LO2024.1", "day": day}
+
+
+AUTHORISE = {"kind": "authorise", "loan": "LO2024.1", "by": "A. Keeper"}
+# a crate in a crate, and a crate that goes out under a loan: what PACK sends
+CRATES = [move("C1", "S1"), move("C2", "S1"), pack("C2", "C1"), pack("2001.4.1", "C2"), move("C1", "S2")]
+LOAN = (
+    [move("C1", "S1")]
+    + [pack(f"2001.4.{i}", "C1") for i in (1, 2, 3)]
+    + [agree(["2001.4.1", "2001.4.2"]), leave("2024-05-31"), AUTHORISE, leave("2024-05-31")]
+    + [move("2001.4.3", "S2"), leave("2024-06-01"), leave("2024-05-31")]
+)
+ASK = '{"station":"PACK","ask":"2001.4.1"}\n'
+
+
+def scan(n, message, station="PACK"):
+    return f'{{"station":"{station}","n":{n},"message":{text_of(message)}}}\n'
+
+
+def scans(messages):
+    return "".join(scan(n, message) for n, message in enumerate(messages, 1))
+
+
+def said(ran):
+    return ran.returncode, ran.stdout.decode(), ran.stderr.decode()
+
+
+class Room:
+    """A folder with a setup and a store, and the program that is run there."""
+
+    def __init__(self, program, folder):
+        self.program, self.folder = os.path.abspath(program), folder
+        self.store = self.path("museum.db")
+        self.write("setup.csv", SETUP)
+
+    def path(self, name):
+        return os.path.join(self.folder, name)
+
+    def write(self, name, text):
+        with open(self.path(name), "wb") as file:
+            file.write(text if isinstance(text, bytes) else text.encode())
+        return self.path(name)
+
+    def words(self, command="replay", setup="setup.csv", store=None):
+        return [self.program, command, "--setup", self.path(setup), "--store", store or self.store]
+
+    def replay(self, given="", setup="setup.csv", store=None, **how):
+        """The status, the replies and the fault line of a replay onto the store."""
+        return said(subprocess.run(self.words("replay", setup, store), input=given.encode(), capture_output=True, **how))
+
+    def command(self, name, setup, *more):
+        """The same of another command over the store."""
+        return said(subprocess.run([*self.words(name, setup), *more], capture_output=True))
+
+    def clear(self):
+        for name in os.listdir(self.folder):
+            if name.startswith("museum.db"):
+                os.remove(self.path(name))
+
+    def made(self, messages):
+        """A store of these messages, as one file, and its bytes."""
+        self.clear()
+        self.replay(scans(messages))
+        settle(self.store)
+        with open(self.store, "rb") as file:
+            return file.read()
+
+
+def settle(store):
+    """Brings all that is committed into the one file."""
+    conn = sqlite3.connect(store)
+    conn.execute("PRAGMA wal_checkpoint(TRUNCATE)")
+    conn.close()
+
+
+def held(room):
+    """The bytes of the store's file, and whether its log holds a page: one that has just been begun holds none."""
+    with open(room.store, "rb") as file:
+        text = file.read()
+    log = room.store + "-wal"
+    return text, os.path.exists(log) and os.path.getsize(log) >= 4096
+
+
+def read(store):
+    """What a stock SQLite finds in a store: the rows of its tables, and their columns."""
+    conn = sqlite3.connect(store)
+    names = [name for (name,) in conn.execute("SELECT name FROM sqlite_master WHERE type = 'table'")]
+    rows = {name: [tuple(row) for row in conn.execute(f"SELECT * FROM {name}")] for name in names}
+    shapes = {name: [(row[1], row[2], row[3], row[5]) for row in conn.execute(f"PRAGMA table_info({name})")] for name in names}
+    sound = conn.execute("PRAGMA integrity_check").fetchall() == [("ok",)]
+    strict = all(row[5] for row in conn.execute("PRAGMA table_list") if row[1] in names)
+    conn.close()
+    return rows, shapes, sound and strict

@@ -1,0 +1,49 @@
+//! What the checks try of the register on a file and can't try of the program: a session over a database in memory, and
+//! postings over disks that stop at each of their calls in turn.
+#![tactic(auto)]
+
+mod disks;
+mod session;
+mod stops;
+
+use crate::session::answered;
+use crate::stops::count_stops;
+use std::io::{BufWriter, Read, Write};
+use std::process::ExitCode;
+use std::{env, io};
+
+/// With a word, a setup and lines on standard input, replies on standard output; with none, the stops.
+fn main(rt: HostRuntime) -> ExitCode {
+    let has_word = env::args(&rt).is_ok_and(|words| words.count() > 1);
+    let done = if has_word { answer(&rt) } else { stop(&rt) };
+    if done {
+        ExitCode::SUCCESS
+    } else {
+        ExitCode::FAILURE
+    }
+}
+
+/// Answers a session, and tells whether it was answered whole.
+fn answer(rt: &HostRuntime) -> bool {
+    let mut given = Vec::new(rt.alloc());
+    if rt.reader().read_to_end(&mut given).is_err() {
+        return false;
+    }
+    let Ok(mut output) = BufWriter::new(rt.alloc(), io::writer(rt)) else {
+        return false;
+    };
+    let whole = answered(rt.alloc(), given.as_slice(), &mut output);
+    output.flush().is_ok() && whole
+}
+
+/// Stops each file at each of its calls, and tells whether each stop left what it has to.
+fn stop(rt: &HostRuntime) -> bool {
+    let mut good = true;
+    for (in_log, crashes) in [(true, false), (true, true), (false, false), (false, true)] {
+        let file = if in_log { "log" } else { "database" };
+        let event = if crashes { "crash" } else { "stop" };
+        good &= count_stops(rt.alloc(), in_log, crashes).is_some_and(|count| count > 0)
+            && println!(rt; "{file}: whole after each {event}").is_ok();
+    }
+    good
+}
