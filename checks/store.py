@@ -3,6 +3,7 @@
 
 Usage: store.py PROGRAM [KILLS]. Each check prints its name and ok or FAILED; the last line is 'N passed, M failed'. KILLS is
 how often the program is killed at a random moment (100 where it isn't said)."""
+import ctypes
 import os
 import random
 import resource
@@ -16,6 +17,8 @@ import time
 
 from plain_store import TABLES, Entry, lines, refusal, setup_rows, spots, terms, text_of
 from store_room import ASK, CRATES, LOAN, MUSEUM, NORMAL, SETUP, Room, held, move, pack, read, scan, scans, settle
+
+PR_CAPBSET_DROP, CAP_DAC_OVERRIDE, CAP_DAC_READ_SEARCH = 24, 1, 2
 
 
 # The checks: each answers whether it holds
@@ -196,14 +199,14 @@ def not_to_be_written(room):
     """A file that this user may read and not write."""
     room.made(CRATES)
     os.chmod(room.store, 0o444)
-    os.chmod(room.folder, 0o755)
 
-    def nobody():
+    def bound_by_rights():
+        # the superuser may write any file, but not without these two capabilities
         if os.geteuid() == 0:
-            os.setgid(65534)
-            os.setuid(65534)
+            for capability in (CAP_DAC_OVERRIDE, CAP_DAC_READ_SEARCH):
+                ctypes.CDLL(None).prctl(PR_CAPBSET_DROP, capability, 0, 0, 0)
 
-    refused = room.replay(scan(6, move("C1", "S1")), preexec_fn=nobody)
+    refused = room.replay(scan(6, move("C1", "S1")), preexec_fn=bound_by_rights)
     os.chmod(room.store, 0o644)
     again = room.replay(scan(5, CRATES[4]) + ASK)
     return refused == (1, "", "fault store Store\n") and again[1].startswith("PACK 5 refused Double\n")
