@@ -112,7 +112,7 @@ def bound_refusal(store, setup):
         return "OtherVersion"
     if sorted(meta) != ["depth", "version"] or meta["depth"] not in (8, 12):
         return "Damaged 0"
-    return "OtherSetup" if sorted(store["setup"]) != setup else None
+    return "OtherSetup" if sorted(store.get("setup", [])) != setup else None
 
 
 def list_refusal(museum, store):
@@ -136,6 +136,5 @@ def refusal(museum, setup, store, shapes):
         return "Store"
     if not store.get("meta"):
         return list_refusal(museum, {table: store.get(table, []) for table in TABLES})
-    if len(made) < len(TABLES):
-        return "Store"
-    return bound_refusal(store, setup) or list_refusal(museum, store)
+    refused = bound_refusal(store, setup)
+    return refused or (list_refusal(museum, store) if len(made) == len(TABLES) else "Store")
