@@ -1,21 +1,22 @@
 -- What a code's shape says of its text: it is ASCII, and not long.
-use Rattle.std.specs.Prelude.{◌≡◌, ℕ, ◌+◌, ◌*◌, ◌<◌, ◌≤◌, ◌==◌, ◌&&◌, Bool, true, false, nat_lt, cond, List, [], ◌∷◌, ◌++◌, length, suc, zero, nat_eq, drop, take_while, refl, None, ◌||◌, codes}
+use Rattle.std.specs.Prelude.{◌≡◌, ℕ, ◌+◌, ◌-◌, ◌*◌, ◌<◌, ◌≤◌, ◌==◌, ◌&&◌, Bool, true, false, nat_lt, nat_le, not, cond, List, [], ◌∷◌, length, suc, nat_eq, take, drop, slice_index, refl, None, ◌||◌, codes}
 use Rattle.std.proofs.Common.{arith, inl, inr, length-drop, subst, sym, ◌∙◌}
 use Rattle.std.proofs.lemmas.Bool.{and_parts, or_cases, eqb-true, leb-true, false≢true}
 use Rattle.std.proofs.lemmas.Bool.Decides.{nat_tests}
-use Rattle.std.proofs.lemmas.List.{take-append-drop}
-use Rattle.std.proofs.lemmas.List.Folds.{length-prefix_len}
-use Rattle.std.proofs.lemmas.List.Sums.{prefix_len-le-length, take_while-cons}
+use Rattle.std.proofs.lemmas.List.{take-append-drop, length-take-le}
+use Rattle.std.proofs.Math.Seq.{drop-cons}
+use Rattle.std.proofs.lemmas.List.Sums.{take_while-cons}
 use Rattle.std.proofs.lemmas.Str.{IsAscii-append}
 use Rattle.std.proofs.lemmas.Str.Ascii.{IsAscii-nil, IsAscii-cons}
 use Rattle.std.specs.Str.{IsAscii}
-use Rattle.std.specs.List.{starts_with, list_all, prefix_len}
+use Rattle.std.specs.List.{starts_with, list_all}
 use Rattle.std.specs.Char.{is_ascii_digit, is_ascii_lowercase}
 use Rattle.codes_core.specs.declared.fault.CodeFault.{CodeFault}
 use Rattle.codes_core.specs.declared.fault.CodeFault.TheVariants.{BadNumber}
-use Rattle.codes_core.specs.Grammar.{front_digits, after_digits, is_digits, is_right_number, code_fault}
-use Rattle.codes_core.specs.Loan.{is_out, is_last_group, is_loan_shape, has_loan_number}
-use Rattle.codes_core.specs.Thing.{is_ending, is_tail, is_object_shape, has_right_groups, has_object_numbers, is_thing_shape, has_thing_numbers}
+use Rattle.codes_core.specs.Grammar.{is_digits, is_right_number, is_year, are_few, groups, are_groups, has_right_groups, code_fault}
+use Rattle.codes_core.proofs.Parts.{is_plain, front, rest, following, parts-front, ascii_parts}
+use Rattle.codes_core.specs.Loan.{is_out, is_loan_shape, has_loan_number}
+use Rattle.codes_core.specs.Thing.{without_letter, is_object_shape, has_object_numbers, is_thing_shape, has_thing_numbers}
 
 -- a text of at most n bytes of ASCII
 pub record IsShort (n : ℕ) (text : List ℕ) : Type 0 where
@@ -33,37 +34,8 @@ digit_ascii b h = grind (arith, nat_tests)
 pub letter_ascii : (b : ℕ) → is_ascii_lowercase b ≡ true → b < 128
 letter_ascii b h = grind (arith, nat_tests)
 
-all_taken : (p : ℕ → Bool) (bs : List ℕ) → list_all p (take_while p bs) ≡ true
-all_taken p [] = refl
-all_taken p (b ∷ bs) = rw (take_while-cons p b bs) (elim (p b) as (λ t. p b ≡ t → list_all p (cond t (b ∷ take_while p bs) []) ≡ true) [
-  | true ↦ λ e. rw (e, all_taken p bs) refl
-  | false ↦ λ e. refl
-] refl)
-
-taken_front : (p : ℕ → Bool) (bs : List ℕ) → take_while p bs ++ drop (length (take_while p bs)) bs ≡ bs
-taken_front p bs = rw (length-prefix_len p bs) (take-append-drop (prefix_len p bs) bs)
-
-front_ascii : (bs : List ℕ) → IsAscii (front_digits bs)
-front_ascii bs = ascii_all is_ascii_digit (front_digits bs) digit_ascii (all_taken is_ascii_digit bs)
-
--- the digits at the front and what follows are the whole
-pub digits_and_rest : (bs : List ℕ) → length (front_digits bs) + length (after_digits bs) ≡ length bs
-digits_and_rest bs =
-    omega (arith, length-prefix_len is_ascii_digit bs, length-drop (length (front_digits bs)) bs, prefix_len-le-length is_ascii_digit bs)
-
-pub digits_then : (n m k : ℕ) (bs : List ℕ) → length (front_digits bs) ≤ n → IsShort m (after_digits bs) → n + m ≤ k → IsShort k bs
-digits_then n m k bs few rest fits = record {
-  ascii = subst IsAscii (taken_front is_ascii_digit bs) (IsAscii-append (front_digits bs) (after_digits bs) (front_ascii bs) rest.ascii);
-  short = omega (arith, digits_and_rest bs);
-}
-
 pub one_more : (n k b : ℕ) (bs : List ℕ) → b < 128 → IsShort n bs → n + 1 ≤ k → IsShort k (b ∷ bs)
 one_more n k b bs h rest fits = record { ascii = IsAscii-cons b bs h rest.ascii; short = omega arith }
-
-ending_short : (bs : List ℕ) → is_ending bs ≡ true → IsShort 1 bs
-ending_short [] h = record { ascii = IsAscii-nil; short = omega arith }
-ending_short (b ∷ []) h = record { ascii = IsAscii-cons b [] (letter_ascii b h) IsAscii-nil; short = omega arith }
-ending_short (b ∷ c ∷ bs) h = absurd (cc)
 
 pub number_short : (ds : List ℕ) → is_right_number ds ≡ true → length ds ≤ 6
 number_short ds h = leb-true (length ds) 6 (and_parts _ _ h).0
@@ -74,25 +46,71 @@ digits_short bs digits right = record { ascii = ascii_all is_ascii_digit bs digi
 longer : (n k : ℕ) (bs : List ℕ) → IsShort n bs → n ≤ k → IsShort k bs
 longer n k bs h fits = record { ascii = h.ascii; short = omega arith }
 
--- groups of right numbers and an ending
-tail_short : (n : ℕ) (bs : List ℕ) → is_tail n bs ≡ true → has_right_groups n bs ≡ true → IsShort (7 * n + 1) bs
-tail_short zero bs tail right = ending_short bs tail
-tail_short (suc n) [] tail right = record { ascii = IsAscii-nil; short = omega arith }
-tail_short (suc n) (b ∷ bs) tail right =
-    elim (b == 46) as (λ t. b == 46 ≡ t → cond t (nat_lt 0 (length (front_digits bs)) && is_tail n (after_digits bs)) (is_ending (b ∷ bs)) ≡ true → cond t (is_right_number (front_digits bs) && has_right_groups n (after_digits bs)) true ≡ true → IsShort (7 * suc n + 1) (b ∷ bs)) [
-      | true ↦ λ e t r. let dot = eqb-true b 46 e in
-          let ts : (nat_lt 0 (length (front_digits bs)) ≡ true) × (is_tail n (after_digits bs) ≡ true) = and_parts _ _ t in
-          let rs : (is_right_number (front_digits bs) ≡ true) × (has_right_groups n (after_digits bs) ≡ true) = and_parts _ _ r in
-          one_more (7 * n + 7) (7 * suc n + 1) b bs (omega arith)
-          (digits_then 6 (7 * n + 1) (7 * n + 7) bs (number_short (front_digits bs) rs.0) (tail_short n (after_digits bs) ts.1 rs.1) (omega arith)) (omega arith)
-      | false ↦ λ e t r. longer 1 (7 * suc n + 1) (b ∷ bs) (ending_short (b ∷ bs) t) (omega arith)
-    ] refl tail right
+digit_groups : (gs : List (List ℕ)) → list_all is_digits gs ≡ true → list_all (list_all is_ascii_digit) gs ≡ true
+digit_groups [] h = refl
+digit_groups (g ∷ gs) h =
+    let both : (is_digits g ≡ true) × (list_all is_digits gs ≡ true) = and_parts _ _ h in
+    let digits : list_all is_ascii_digit g ≡ true = (and_parts _ _ both.0).1 in
+    rw (digits, digit_groups gs both.1) refl
+
+-- right numbers behind the first group make the text no longer than so
+groups_length : (bs : List ℕ) → list_all is_right_number (following 46 (rest 46 bs)) ≡ true → length bs ≤ length (front 46 bs) + 7 * length (following 46 (rest 46 bs))
+groups_length [] h = omega arith
+groups_length (b ∷ bs) h =
+    rw (take_while-cons (is_plain 46) b bs) (elim (b == 46) as (λ t. list_all is_right_number (following 46 (drop (length (cond (not t) (b ∷ front 46 bs) [])) (b ∷ bs))) ≡ true → suc (length bs) ≤ length (cond (not t) (b ∷ front 46 bs) []) + 7 * length (following 46 (drop (length (cond (not t) (b ∷ front 46 bs) [])) (b ∷ bs)))) [
+      | true ↦ λ r. let split : list_all is_right_number (front 46 bs ∷ following 46 (rest 46 bs)) ≡ true = rw (parts-front 46 bs) at r in
+          let both : (is_right_number (front 46 bs) ≡ true) × (list_all is_right_number (following 46 (rest 46 bs)) ≡ true) = and_parts _ _ split in
+          rw (parts-front 46 bs) (omega (arith, groups_length bs both.1, number_short (front 46 bs) both.0))
+      | false ↦ λ r. omega (arith, groups_length bs r)
+    ] (rw (take_while-cons (is_plain 46) b bs) at h))
+
+-- four digits and at most n right numbers
+groups_short : (n : ℕ) (bs : List ℕ) → are_groups n (groups bs) ≡ true → has_right_groups (groups bs) ≡ true → IsShort (4 + 7 * n) bs
+groups_short n bs shape right =
+    let told : are_groups n (front 46 bs ∷ following 46 (rest 46 bs)) ≡ true = rw (parts-front 46 bs) at shape in
+    let numbers : list_all is_right_number (following 46 (rest 46 bs)) ≡ true = rw (parts-front 46 bs) at right in
+    let split = and_parts (is_year (front 46 bs)) _ told in
+    let four = and_parts (length (front 46 bs) == 4) (is_digits (front 46 bs)) split.0 in
+    let behind = and_parts (nat_lt 0 (length (following 46 (rest 46 bs)))) (are_few is_digits n (following 46 (rest 46 bs))) split.1 in
+    let few = and_parts (nat_le (length (following 46 (rest 46 bs))) n) (list_all is_digits (following 46 (rest 46 bs))) behind.1 in
+    let length_is : length (front 46 bs) ≡ 4 = eqb-true (length (front 46 bs)) 4 four.0 in
+    let count : length (following 46 (rest 46 bs)) ≤ n = leb-true _ n few.0 in
+    let digits : list_all is_digits (groups bs) ≡ true = rw (parts-front 46 bs, four.1, few.1) refl in
+    record {
+      ascii = ascii_parts 46 is_ascii_digit (omega arith) digit_ascii bs (digit_groups (groups bs) digits);
+      short = omega (arith, groups_length bs numbers);
+    }
+
+no_bytes : (bs : List ℕ) → length bs ≡ 0 → IsAscii bs
+no_bytes [] h = IsAscii-nil
+no_bytes (b ∷ bs) h = absurd (omega arith)
+
+-- a text of k bytes and a letter
+letter_last : (n k : ℕ) (bs : List ℕ) → length bs ≡ k + 1 → is_ascii_lowercase (slice_index bs k) ≡ true → IsShort n (take k bs) → IsShort (n + 1) bs
+letter_last n k bs sized e h =
+    let last : drop k bs ≡ slice_index bs k ∷ drop (suc k) bs = drop-cons bs k 0 (omega arith) in
+    let behind : IsAscii (drop (suc k) bs) = no_bytes (drop (suc k) bs) (omega (arith, length-drop (suc k) bs)) in
+    let letter : IsAscii (drop k bs) = subst IsAscii (sym last) (IsAscii-cons (slice_index bs k) (drop (suc k) bs) (letter_ascii (slice_index bs k) e) behind) in
+    let shorter : length (take k bs) ≡ k = length-take-le k bs (omega arith) in
+    record {
+      ascii = subst IsAscii (take-append-drop k bs) (IsAscii-append (take k bs) (drop k bs) h.ascii letter);
+      short = omega (arith, shorter, h.short);
+    }
+
+letter_of : (n : ℕ) (bs : List ℕ) → is_ascii_lowercase (slice_index bs (length bs - 1)) ≡ true → IsShort n (take (length bs - 1) bs) → IsShort (n + 1) bs
+letter_of n [] e h = record { ascii = IsAscii-nil; short = omega arith }
+letter_of n (b ∷ bs) e h =
+    let less : length (b ∷ bs) - 1 ≡ length bs = omega arith in
+    letter_last n (length bs) (b ∷ bs) (omega arith) (rw less at e) (rw less at h)
+
+letter_short : (n : ℕ) (bs : List ℕ) → IsShort n (without_letter bs) → IsShort (n + 1) bs
+letter_short n bs = elim (is_ascii_lowercase (slice_index bs (length bs - 1))) as (λ t. is_ascii_lowercase (slice_index bs (length bs - 1)) ≡ t → IsShort n (cond t (take (length bs - 1) bs) bs) → IsShort (n + 1) bs) [
+  | true ↦ λ e h. letter_of n bs e h
+  | false ↦ λ e h. longer n (n + 1) bs h (omega arith)
+] refl
 
 object_short : (bs : List ℕ) → is_object_shape bs ≡ true → has_object_numbers bs ≡ true → IsShort 26 bs
-object_short bs shape right =
-    let parts = and_parts _ _ shape in
-    let four = eqb-true (length (front_digits bs)) 4 (and_parts _ _ parts.0).0 in
-    digits_then 4 22 26 bs (omega arith) (tail_short 3 (after_digits bs) parts.1 right) (omega arith)
+object_short bs shape right = letter_short 25 bs (groups_short 3 (without_letter bs) shape right)
 
 thing_short : (bs : List ℕ) → is_thing_shape bs ≡ true → has_thing_numbers bs ≡ true → IsShort 27 bs
 thing_short [] shape right = absurd (cc)
@@ -113,13 +131,6 @@ no_fault last true false (b ∷ bs) h = absurd (cc)
 no_fault last false right [] h = absurd (cc)
 no_fault last false right (b ∷ bs) h = absurd (cc)
 
-last_group_short : (bs : List ℕ) → is_last_group bs ≡ true → length bs ≤ 7 → IsShort 7 bs
-last_group_short [] h few = record { ascii = IsAscii-nil; short = omega arith }
-last_group_short (b ∷ bs) h few =
-    let both : (b == 46 ≡ true) × (is_digits bs ≡ true) = and_parts _ _ h in
-    let dot = eqb-true b 46 both.0 in
-    record { ascii = IsAscii-cons b bs (omega arith) (ascii_all is_ascii_digit bs digit_ascii (and_parts _ _ both.1).1); short = few }
-
 -- LO or LI in front
 front_two : (bs : List ℕ) (b c : ℕ) → b < 128 → c < 128 → starts_with nat_eq bs (b ∷ c ∷ []) ≡ true → IsShort 11 (drop 2 bs) → IsShort 13 bs
 front_two [] b c hb hc h rest = absurd (cc)
@@ -133,16 +144,11 @@ front_two (x ∷ y ∷ bs) b c hb hc h rest =
 
 loan_short : (bs : List ℕ) → is_loan_shape bs ≡ true → has_loan_number bs ≡ true → IsShort 13 bs
 loan_short bs shape right =
-    let parts = and_parts _ _ shape in
-    let front : (is_out bs || starts_with nat_eq bs (codes "LI") ≡ true) × (length (front_digits (drop 2 bs)) == 4 ≡ true) = and_parts _ _ parts.0 in
-    let four = eqb-true (length (front_digits (drop 2 bs))) 4 front.1 in
-    let few = number_short (drop 7 bs) right in
-    let last : IsShort 7 (after_digits (drop 2 bs)) = last_group_short (after_digits (drop 2 bs)) parts.1
-    (omega (arith, digits_and_rest (drop 2 bs), length-drop 7 bs, length-drop 2 bs)) in
-    let rest : IsShort 11 (drop 2 bs) = digits_then 4 7 11 (drop 2 bs) (omega arith) last (omega arith) in
+    let front : (is_out bs || starts_with nat_eq bs (codes "LI") ≡ true) × (are_groups 1 (groups (drop 2 bs)) ≡ true) = and_parts _ _ shape in
+    let behind : IsShort 11 (drop 2 bs) = groups_short 1 (drop 2 bs) front.1 right in
     elim (or_cases (is_out bs) (starts_with nat_eq bs (codes "LI")) front.0) [
-      | inl out ↦ front_two bs 76 79 (omega arith) (omega arith) out rest
-      | inr loan_in ↦ front_two bs 76 73 (omega arith) (omega arith) loan_in rest
+      | inl out ↦ front_two bs 76 79 (omega arith) (omega arith) out behind
+      | inr loan_in ↦ front_two bs 76 73 (omega arith) (omega arith) loan_in behind
     ]
 
 -- a thing's code has at most 27 bytes

@@ -1,12 +1,17 @@
 -- The definitions computed on worked texts: each code beside its nearest wrong neighbours.
-use Rattle.std.specs.Prelude.{◌≡◌, true, false, Some, None, [], refl, codes}
+use Rattle.std.specs.Prelude.{◌≡◌, true, false, Some, None, [], ◌∷◌, refl, codes}
 use Rattle.codes_core.specs.declared.TheConstants.{LONGEST_NAME}
 use Rattle.codes_core.specs.declared.fault.CodeFault.TheVariants.{Empty, BadShape, BadNumber, NoSuchDay}
 use Rattle.codes_core.specs.declared.thing.ThingKind.TheVariants.{Own, Borrowed, Container}
-use Rattle.codes_core.specs.Thing.{thing_kind, thing_fault}
+use Rattle.codes_core.specs.Grammar.{groups}
+use Rattle.codes_core.specs.Thing.{thing_kind, without_letter, thing_fault}
 use Rattle.codes_core.specs.Loan.{is_out, loan_fault}
 use Rattle.codes_core.specs.Place.{place_fault, lies_in}
 use Rattle.codes_core.specs.Day.{day_fault}
+
+-- the groups of a code, without the letter at its end
+own_groups : groups (without_letter (codes "2001.4.2a")) ≡ codes "2001" ∷ codes "4" ∷ codes "2" ∷ []
+own_groups = refl
 
 pub own : thing_fault (codes "2001.4.2a") ≡ None
 own = refl
@@ -16,6 +21,24 @@ own_kind = refl
 
 pub year_alone : thing_fault (codes "2001") ≡ Some BadShape
 year_alone = refl
+
+three_numbers : thing_fault (codes "2001.4.2.999999") ≡ None
+three_numbers = refl
+
+four_numbers : thing_fault (codes "2001.4.2.1.1") ≡ Some BadShape
+four_numbers = refl
+
+two_letters : thing_fault (codes "2001.4ab") ≡ Some BadShape
+two_letters = refl
+
+letter_for_a_number : thing_fault (codes "2001.a") ≡ Some BadShape
+letter_for_a_number = refl
+
+three_digits : thing_fault (codes "201.4") ≡ Some BadShape
+three_digits = refl
+
+loan_for_a_thing : thing_fault (codes "LO2024.1") ≡ Some BadShape
+loan_for_a_thing = refl
 
 pub leading_zero : thing_fault (codes "2001.04") ≡ Some BadNumber
 leading_zero = refl
@@ -58,6 +81,9 @@ loan_letter = refl
 
 pub four_segments : place_fault (codes "A-B-C-D") ≡ None
 four_segments = refl
+
+loan_of_two_groups : loan_fault (codes "LO2024.1.1") ≡ Some BadShape
+loan_of_two_groups = refl
 
 pub five_segments : place_fault (codes "A-B-C-D-E") ≡ Some BadShape
 five_segments = refl

@@ -1,21 +1,15 @@
 -- Codes of places: one to four segments, from the building down to the shelf (S1-A).
-use Rattle.std.specs.Prelude.{ℕ, ◌&&◌, ◌||◌, ◌==◌, Bool, true, nat_lt, nat_le, List, [], ◌∷◌, length, Option, if◌then◌else◌}
+use Rattle.std.specs.Prelude.{ℕ, ◌&&◌, ◌||◌, ◌==◌, Bool, true, nat_lt, nat_le, List, [], ◌∷◌, length, Option}
 use Rattle.std.specs.Char.{is_ascii_digit, is_ascii_uppercase}
 use Rattle.std.specs.List.{starts_with, list_all}
 use Rattle.std.specs.Str.{bytes_eq}
 use Rattle.codes_core.specs.declared.fault.CodeFault.{CodeFault}
 use Rattle.codes_core.specs.declared.fault.CodeFault.TheVariants.{BadNumber}
-use Rattle.codes_core.specs.Grammar.{code_fault}
-
--- one more byte in front of the first segment
-abbrev pub in_first : ℕ → List (List ℕ) → List (List ℕ)
-in_first b [] = (b ∷ []) ∷ []
-in_first b (s ∷ ss) = (b ∷ s) ∷ ss
+use Rattle.codes_core.specs.Grammar.{parts, are_few, code_fault}
 
 -- the parts between the dashes
 abbrev pub segments : List ℕ → List (List ℕ)
-segments [] = [] ∷ []
-segments (b ∷ bs) = if b == 45 then [] ∷ segments bs else in_first b (segments bs)
+segments text = parts 45 text
 
 abbrev pub is_segment_byte : ℕ → Bool
 is_segment_byte b = is_ascii_uppercase b || is_ascii_digit b
@@ -26,7 +20,7 @@ is_segment s = nat_lt 0 (length s) && nat_le (length s) 8 && list_all is_segment
 
 -- one to n segments, joined by dashes
 abbrev pub is_place_shape : ℕ → List ℕ → Bool
-is_place_shape n text = nat_le (length (segments text)) n && list_all is_segment (segments text)
+is_place_shape n text = are_few is_segment n (segments text)
 
 -- why the text is no place's code, which has no number to be wrong; without a fault it is the code
 abbrev pub place_fault : List ℕ → Option CodeFault

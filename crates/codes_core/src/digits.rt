@@ -2,15 +2,7 @@
 ghost use Rattle.std.specs.Prelude.{◌≡◌, ◌≤◌, ◌<◌, ◌^◌, length, IsTrue};
 ghost use Rattle.std.specs.Char.{is_ascii_digit};
 ghost use Rattle.std.specs.List.{list_all};
-ghost use Rattle.codes_core.specs.Grammar.{front_digits, is_digits, is_right_number, number_of};
-
-/// How many digits stand at the front.
-pub(crate) fn count_digits(text: &[u8]) -> usize
-    ensures count { result ≡ length (front_digits text.now) }
-    ensures within { result ≤ length text.now }
-{
-    text.iter().take_while(|b| b.is_ascii_digit()).count()
-}
+ghost use Rattle.codes_core.specs.Grammar.{is_digits, is_right_number, number_of};
 
 /// Whether the text is one or more digits and nothing else.
 pub(crate) fn is_digits(text: &[u8]) -> bool

@@ -7,6 +7,7 @@
 mod day;
 mod digits;
 mod fault;
+mod groups;
 mod loan;
 mod name;
 mod place;

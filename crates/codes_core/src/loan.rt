@@ -1,9 +1,9 @@
 //! Codes of loans.
 ghost use Rattle.std.specs.Prelude.{◌≡◌, ◌++◌, None, Some, OnOk, OnErr, MatchResult, string_bytes};
-ghost use Rattle.codes_core.specs.Loan.{is_out, is_last_group, is_loan_shape, has_loan_number, loan_fault};
+ghost use Rattle.codes_core.specs.Loan.{is_out, is_loan_shape, has_loan_number, loan_fault};
 
-use crate::digits::{count_digits, is_digits, is_right_number};
 use crate::fault::test;
+use crate::groups::{are_groups, has_right_groups};
 use crate::spelling::Spelling;
 use crate::{CodeFault, NoMemory};
 use std::alloc::Global;
@@ -73,28 +73,14 @@ fn is_out(text: &[u8]) -> bool
     text.starts_with(b"LO")
 }
 
-fn is_last_group(text: &[u8]) -> bool
-    ensures { result ≡ is_last_group text.now }
-{
-    match text {
-        [b'.', rest @ ..] => is_digits(rest),
-        _ => false,
-    }
-}
-
 fn is_loan_shape(text: &[u8]) -> bool
     ensures { result ≡ is_loan_shape text.now }
 {
-    if !is_out(text) && !text.starts_with(b"LI") {
-        return false;
-    }
-    let rest = &text[2..];
-    let count = count_digits(rest);
-    count == 4 && is_last_group(&rest[count..])
+    (is_out(text) || text.starts_with(b"LI")) && are_groups(&text[2..], 1)
 }
 
 fn has_loan_number(text: &[u8]) -> bool
     ensures { result ≡ has_loan_number text.now }
 {
-    is_right_number(text.get(7..).unwrap_or(&[]))
+    has_right_groups(text.get(2..).unwrap_or(&[]))
 }

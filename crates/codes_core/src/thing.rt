@@ -1,9 +1,10 @@
 //! Codes of things.
 ghost use Rattle.std.specs.Prelude.{◌≡◌, ◌++◌, None, Some, OnOk, OnErr, MatchResult, string_bytes};
-ghost use Rattle.codes_core.specs.Thing.{thing_kind, is_ending, is_tail, is_object_shape, has_right_groups, has_object_numbers, is_thing_shape, has_thing_numbers, thing_fault};
+ghost use Rattle.codes_core.specs.Thing.{thing_kind, without_letter, is_object_shape, has_object_numbers, is_thing_shape, has_thing_numbers, thing_fault};
 
-use crate::digits::{count_digits, is_digits, is_right_number};
+use crate::digits::{is_digits, is_right_number};
 use crate::fault::test;
+use crate::groups::{are_groups, has_right_groups};
 use crate::spelling::Spelling;
 use crate::{CodeFault, NoMemory};
 use std::alloc::Global;
@@ -82,53 +83,26 @@ impl ThingCode {
     }
 }
 
-fn is_ending(text: &[u8]) -> bool
-    ensures { result ≡ is_ending text.now }
+/// The text without the one letter a-z that may stand at its end.
+fn without_letter(text: &[u8]) -> &[u8]
+    ensures { result.now ≡ without_letter text.now }
 {
     match text {
-        [] => true,
-        [b] => b.is_ascii_lowercase(),
-        _ => false,
-    }
-}
-
-fn is_tail(text: &[u8], groups: u32) -> bool
-    ensures { result ≡ is_tail groups text.now }
-{
-    match text {
-        [b'.', rest @ ..] if groups > 0 => {
-            let count = count_digits(rest);
-            count > 0 && is_tail(&rest[count..], groups - 1)
-        }
-        _ => is_ending(text),
+        [front @ .., last] if last.is_ascii_lowercase() => front,
+        _ => text,
     }
 }
 
 fn is_object_shape(text: &[u8]) -> bool
     ensures { result ≡ is_object_shape text.now }
 {
-    let count = count_digits(text);
-    let rest = &text[count..];
-    count == 4 && rest.starts_with(b".") && is_tail(rest, 3)
-}
-
-fn has_right_groups(text: &[u8], groups: u32) -> bool
-    ensures { result ≡ has_right_groups groups text.now }
-{
-    match text {
-        [b'.', rest @ ..] if groups > 0 => {
-            let count = count_digits(rest);
-            is_right_number(&rest[..count]) && has_right_groups(&rest[count..], groups - 1)
-        }
-        _ => true,
-    }
+    are_groups(without_letter(text), 3)
 }
 
 fn has_object_numbers(text: &[u8]) -> bool
     ensures { result ≡ has_object_numbers text.now }
 {
-    let count = count_digits(text);
-    has_right_groups(&text[count..], 3)
+    has_right_groups(without_letter(text))
 }
 
 fn is_thing_shape(text: &[u8]) -> bool

@@ -6,7 +6,7 @@ use Rattle.std.specs.Result.{OnErr, OnOk, IfErr, IsErrAnd}
 use Rattle.std.proofs.Common.{Ok, Err}
 use Rattle.std.specs.Io.KnownBytes.{Appends, Keeps}
 use Rattle.std.proofs.KnownBytes.{Appends-trans}
-use Rattle.codes_core.proofs.Segments.{all_taken}
+use Rattle.codes_core.proofs.Parts.{all_taken}
 
 pub on_err : {T E P : Type 0} (r : Result T E) → P → OnErr r P
 on_err (Ok x) p = tt
