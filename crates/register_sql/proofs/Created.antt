@@ -1,5 +1,5 @@
 -- The tables are made in turn, each empty, and those before are left alone.
-use Rattle.std.proofs.Common.{◌≡◌, ◌<◌, ℕ, zero, suc, List, [], Ok, Err, Result, None, OnOk, refl, sym, ap, subst, ◌∙◌, arith}
+use Rattle.std.proofs.Common.{◌≡◌, ◌<◌, ◌+◌, ℕ, zero, suc, List, [], Ok, Err, Result, None, OnOk, refl, sym, ap, subst, ◌∙◌, arith}
 use Rattle.sqlite.proofs.Callers.{statement_of, runs_as}
 use Rattle.sqlite.specs.Change.{next_tree, created, KeepsRows}
 use Rattle.sqlite.specs.Command.TheVariants.{CreateTable}
@@ -62,6 +62,11 @@ made_at (suc (suc (suc zero))) low = made_on 3 _ creates_spot (λ db next none k
 made_at (suc (suc (suc (suc zero)))) low = made_on 4 _ creates_line (λ db next none kept. record { meta = kept.0; setup = kept.1.0; postings = kept.1.1.0; spots = kept.1.1.1.0; lines = none; terms = refl })
 made_at (suc (suc (suc (suc (suc zero))))) low = made_on 5 _ creates_term (λ db next none kept. record { meta = kept.0; setup = kept.1.0; postings = kept.1.1.0; spots = kept.1.1.1.0; lines = kept.1.1.1.1.0; terms = none })
 made_at (suc (suc (suc (suc (suc (suc k)))))) low = absurd (omega (arith, low))
+
+pub made_by : (k : ℕ) → k < 6 → (text : List ℕ) → text ≡ create_of k → (old new : State) (n : ℕ) → IsMade k old → ExecutesInside 0 text [] old new (Ok n) → Goes (k + 1) (Grown k (k + 1)) old new
+made_by k low text is old new n made ran =
+    let one : suc k ≡ k + 1 = omega arith in
+    subst (λ j. Goes j (Grown k j) old new) one (made_at k low old new (Ok n) made (subst (λ t. ExecutesInside 0 t [] old new (Ok n)) is ran))
 
 pub grown_still : (k : ℕ) (s : State) → IsMade k s → Goes k (Grown k k) s s
 grown_still k s is = record { is = is; stays = λ up. up; rows = record { meta = refl; setup = refl; postings = refl; spots = refl; lines = refl; terms = refl } }

@@ -17,6 +17,7 @@ pub mod Filled
 pub mod Prefixes
 pub mod Asked
 pub mod Rising
+pub mod Ascending
 pub mod Pairs
 pub mod Setups
 pub mod Postings

@@ -108,7 +108,7 @@ next_rises rows at a b inside a_is b_is last before k d low = go (ltb (k + 1) at
 
 -- ---- of the store's queries
 
-shows_first : (query : Query) → shows_id query ≡ true → (r : Row) → rowid (shown_by query r) ≡ rowid r
+pub shows_first : (query : Query) → shows_id query ≡ true → (r : Row) → rowid (shown_by query r) ≡ rowid r
 shows_first Metas is r = absurd (let e : false ≡ true = is in cc)
 shows_first Setups is r = refl
 shows_first Postings is r = refl
@@ -165,17 +165,5 @@ pub on_same : {T : Type 0} (old mid new : State) (r : Result T Error) → IsSame
 on_same old mid new (Ok x) p q = same_then old mid new p q
 on_same old mid new (Err e) p q = tt
 
-trees_same : (old mid : State) → IsSame old mid → mid.now.trees ≡ old.now.trees
+pub trees_same : (old mid : State) → IsSame old mid → mid.now.trees ≡ old.now.trees
 trees_same old mid same = ap (λ (d : Database). d.trees) same.now
-
-pub both_apart : (first second : Query) (made : ℕ) (old mid : State) (r : Result Bool Error) → IsSame old mid → IsApartIn first made old.now.trees
-    → IfOk r (λ b. IsTrue b → IsApartIn second made mid.now.trees) → IfOk r (λ b. IsTrue b → IsApartIn first made old.now.trees × IsApartIn second made old.now.trees)
-both_apart first second made old mid (Ok b) same one two = λ is. (one, subst (IsApartIn second made) (trees_same old mid same) (two is))
-both_apart first second made old mid (Err e) same one two = tt
-
-pub all_apart : (made : ℕ) (old mid : State) (r : Result Bool Error) → IsSame old mid → IsApartIn SetupIds made old.now.trees × IsApartIn PostingIds made old.now.trees
-    → IfOk r (λ b. IsTrue b → IsApartIn LineIds made mid.now.trees × IsApartIn TermIds made mid.now.trees) → IfOk r (λ b. IsTrue b → AreApart made old.now.trees)
-all_apart made old mid (Ok b) same first last = λ is.
-    let rest = subst (λ (db : Trees). IsApartIn LineIds made db × IsApartIn TermIds made db) (trees_same old mid same) (last is) in
-    record { setup = first.0; postings = first.1; lines = rest.0; terms = rest.1 }
-all_apart made old mid (Err e) same first last = tt

@@ -4,6 +4,10 @@ use Rattle.sqlite.specs.Order.{Row}
 use Rattle.sqlite.specs.Tree.{rowid}
 use Rattle.sqlite.specs.declared.types.Value.TheVariants.{Int}
 
+-- the row begins with a number
+abbrev pub HasId : Row → Type 0
+HasId row = (n : ℤ) × (rowid row ≡ Int n)
+
 abbrev pub IsBelow : Row → Row → Type 0
 IsBelow a b = (m n : ℤ) × (rowid a ≡ Int m) × (rowid b ≡ Int n) × (m <ℤ n)
 

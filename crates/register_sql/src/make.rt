@@ -32,7 +32,7 @@ fn create_text(at: usize) -> &'static str
 }
 
 /// Makes the table after the first so many.
-fn make_at<S: Alter>(tx: &mut Transaction<'_, S>, at: usize) -> Result<usize, Error>
+fn make_at<S: Alter>(tx: &mut Transaction<'_, S>, at: usize) -> Result<(), Error>
     requires few { at < 6 }
     requires made { IsMaking at (state S.Store tx.old.conn.now) }
     ensures same_reference { tx.new.conn.ghost_name ≡ tx.old.conn.ghost_name }
@@ -42,7 +42,8 @@ fn make_at<S: Alter>(tx: &mut Transaction<'_, S>, at: usize) -> Result<usize, Er
     ensures survives { Survived (state S.Store tx.old.conn.now) (state S.Store tx.new.conn.now) }
 {
     let text = create_text(at);
-    tx.execute(text, &[])
+    tx.execute(text, &[])?;
+    Ok(())
 }
 
 /// Makes the tables that come after the first so many.
@@ -62,7 +63,7 @@ fn make_rest<S: Alter>(tx: &mut Transaction<'_, S>, made: usize) -> Result<(), E
 }
 
 /// Empties the setup.
-fn clear_setup<S: Alter>(tx: &mut Transaction<'_, S>) -> Result<usize, Error>
+fn clear_setup<S: Alter>(tx: &mut Transaction<'_, S>) -> Result<(), Error>
     requires made { IsMaking 6 (state S.Store tx.old.conn.now) }
     requires apart { HasCleanDisk (state S.Store tx.old.conn.now) → IsTrue (state S.Store tx.old.conn.now).is_open
         → Apart ((state S.Store tx.old.conn.now).now.trees 2) }
@@ -72,11 +73,12 @@ fn clear_setup<S: Alter>(tx: &mut Transaction<'_, S>) -> Result<usize, Error>
     ensures kept { Kept (state S.Store tx.old.conn.now) (state S.Store tx.new.conn.now) }
     ensures survives { Survived (state S.Store tx.old.conn.now) (state S.Store tx.new.conn.now) }
 {
-    tx.execute("DELETE FROM setup", &[])
+    tx.execute("DELETE FROM setup", &[])?;
+    Ok(())
 }
 
 /// Adds a row of the setup.
-fn add_setup<S: Alter>(tx: &mut Transaction<'_, S>, number: u64, text: &str) -> Result<usize, Error>
+fn add_setup<S: Alter>(tx: &mut Transaction<'_, S>, number: u64, text: &str) -> Result<(), Error>
     requires { IsMaking 6 (state S.Store tx.old.conn.now) }
     ensures same_reference { tx.new.conn.ghost_name ≡ tx.old.conn.ghost_name }
     ensures wrote { Went (state S.Store tx.old.conn.now) (state S.Store tx.new.conn.now) result
@@ -88,7 +90,8 @@ fn add_setup<S: Alter>(tx: &mut Transaction<'_, S>, number: u64, text: &str) -> 
     tx.execute(
         "INSERT INTO setup (id, txt) VALUES (?1, ?2)",
         params![id, text],
-    )
+    )?;
+    Ok(())
 }
 
 /// Adds the rows of the setup, numbered from 1.
@@ -107,7 +110,7 @@ fn add_setups<S: Alter>(tx: &mut Transaction<'_, S>, texts: &[String]) -> Result
 }
 
 /// Adds a row of what the store says of itself.
-fn add_meta<S: Alter>(tx: &mut Transaction<'_, S>, name: &str, val: u32) -> Result<usize, Error>
+fn add_meta<S: Alter>(tx: &mut Transaction<'_, S>, name: &str, val: u32) -> Result<(), Error>
     requires { IsMaking 6 (state S.Store tx.old.conn.now) }
     ensures same_reference { tx.new.conn.ghost_name ≡ tx.old.conn.ghost_name }
     ensures wrote { Went (state S.Store tx.old.conn.now) (state S.Store tx.new.conn.now) result
@@ -118,11 +121,12 @@ fn add_meta<S: Alter>(tx: &mut Transaction<'_, S>, name: &str, val: u32) -> Resu
     tx.execute(
         "INSERT INTO meta (name, val) VALUES (?1, ?2)",
         params![name, i64::from(val)],
-    )
+    )?;
+    Ok(())
 }
 
 /// Adds the version of the store, and the depth limit that it is made with.
-fn add_metas<S: Alter>(tx: &mut Transaction<'_, S>, depth: u32) -> Result<usize, Error>
+fn add_metas<S: Alter>(tx: &mut Transaction<'_, S>, depth: u32) -> Result<(), Error>
     requires { IsMaking 6 (state S.Store tx.old.conn.now) }
     ensures same_reference { tx.new.conn.ghost_name ≡ tx.old.conn.ghost_name }
     ensures wrote { Went (state S.Store tx.old.conn.now) (state S.Store tx.new.conn.now) result
@@ -151,7 +155,7 @@ fn replace_setup<S: Alter>(tx: &mut Transaction<'_, S>, texts: &[String]) -> Res
 }
 
 /// Says the setup, and what the store says of itself.
-fn fill<S: Alter>(tx: &mut Transaction<'_, S>, texts: &[String], depth: u32) -> Result<usize, Error>
+fn fill<S: Alter>(tx: &mut Transaction<'_, S>, texts: &[String], depth: u32) -> Result<(), Error>
     requires made { IsMaking 6 (state S.Store tx.old.conn.now) }
     requires apart { HasCleanDisk (state S.Store tx.old.conn.now) → IsTrue (state S.Store tx.old.conn.now).is_open
         → Apart ((state S.Store tx.old.conn.now).now.trees 2) }
@@ -171,7 +175,7 @@ fn make_all<S: Alter>(
     made: usize,
     texts: &[String],
     depth: u32,
-) -> Result<usize, Error>
+) -> Result<(), Error>
     requires few { made ≤ 6 }
     requires made { IsMaking made (state S.Store tx.old.conn.now) }
     requires apart { HasCleanDisk (state S.Store tx.old.conn.now) → IsTrue (state S.Store tx.old.conn.now).is_open

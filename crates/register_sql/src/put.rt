@@ -23,7 +23,7 @@ pub(crate) fn wide(number: u64) -> Result<i64, Error>
 }
 
 /// Adds the row of an entry.
-fn put_posting<S: Alter>(tx: &mut Transaction<'_, S>, row: &KeptPosting) -> Result<usize, Error>
+fn put_posting<S: Alter>(tx: &mut Transaction<'_, S>, row: &KeptPosting) -> Result<(), Error>
     requires { IsWithin (state S.Store tx.old.conn.now) }
     ensures same_reference { tx.new.conn.ghost_name ≡ tx.old.conn.ghost_name }
     ensures wrote { Wrote (state S.Store tx.old.conn.now) (state S.Store tx.new.conn.now) result
@@ -41,11 +41,12 @@ fn put_posting<S: Alter>(tx: &mut Transaction<'_, S>, row: &KeptPosting) -> Resu
             row.body.as_str(),
             i64::from(row.verdict)
         ],
-    )
+    )?;
+    Ok(())
 }
 
 /// Adds the row of a spot.
-fn put_spot<S: Alter>(tx: &mut Transaction<'_, S>, spot: &NewSpot) -> Result<usize, Error>
+fn put_spot<S: Alter>(tx: &mut Transaction<'_, S>, spot: &NewSpot) -> Result<(), Error>
     requires { IsWithin (state S.Store tx.old.conn.now) }
     ensures same_reference { tx.new.conn.ghost_name ≡ tx.old.conn.ghost_name }
     ensures wrote { Wrote (state S.Store tx.old.conn.now) (state S.Store tx.new.conn.now) result
@@ -64,7 +65,8 @@ fn put_spot<S: Alter>(tx: &mut Transaction<'_, S>, spot: &NewSpot) -> Result<usi
             i64::from(spot.spot.place),
             i64::from(spot.spot.day.number())
         ],
-    )
+    )?;
+    Ok(())
 }
 
 /// Adds the rows of the spots.
@@ -83,7 +85,7 @@ fn put_spots<S: Alter>(tx: &mut Transaction<'_, S>, spots: &[NewSpot]) -> Result
 }
 
 /// Takes out the row of the line's loan and object, if there is one.
-fn clear_line<S: Alter>(tx: &mut Transaction<'_, S>, line: &NewLine) -> Result<usize, Error>
+fn clear_line<S: Alter>(tx: &mut Transaction<'_, S>, line: &NewLine) -> Result<(), Error>
     requires { IsWithin (state S.Store tx.old.conn.now) }
     ensures same_reference { tx.new.conn.ghost_name ≡ tx.old.conn.ghost_name }
     ensures wrote { Wrote (state S.Store tx.old.conn.now) (state S.Store tx.new.conn.now) result
@@ -94,11 +96,12 @@ fn clear_line<S: Alter>(tx: &mut Transaction<'_, S>, line: &NewLine) -> Result<u
     tx.execute(
         "DELETE FROM line WHERE loan = ?1 AND object = ?2",
         params![line.loan.as_str(), i64::from(line.object)],
-    )
+    )?;
+    Ok(())
 }
 
 /// Adds the row of a line.
-fn add_line<S: Alter>(tx: &mut Transaction<'_, S>, line: &NewLine) -> Result<usize, Error>
+fn add_line<S: Alter>(tx: &mut Transaction<'_, S>, line: &NewLine) -> Result<(), Error>
     requires { IsWithin (state S.Store tx.old.conn.now) }
     ensures same_reference { tx.new.conn.ghost_name ≡ tx.old.conn.ghost_name }
     ensures wrote { Wrote (state S.Store tx.old.conn.now) (state S.Store tx.new.conn.now) result
@@ -113,11 +116,12 @@ fn add_line<S: Alter>(tx: &mut Transaction<'_, S>, line: &NewLine) -> Result<usi
             i64::from(line.object),
             i64::from(line.stage.number())
         ],
-    )
+    )?;
+    Ok(())
 }
 
 /// Puts the row of a line in the place of the one before.
-fn put_line<S: Alter>(tx: &mut Transaction<'_, S>, line: &NewLine) -> Result<usize, Error>
+fn put_line<S: Alter>(tx: &mut Transaction<'_, S>, line: &NewLine) -> Result<(), Error>
     requires { IsWithin (state S.Store tx.old.conn.now) }
     ensures same_reference { tx.new.conn.ghost_name ≡ tx.old.conn.ghost_name }
     ensures wrote { Wrote (state S.Store tx.old.conn.now) (state S.Store tx.new.conn.now) result
@@ -145,7 +149,7 @@ fn put_lines<S: Alter>(tx: &mut Transaction<'_, S>, lines: &[NewLine]) -> Result
 }
 
 /// Takes out the last day of the loan, if there is one.
-fn clear_term<S: Alter>(tx: &mut Transaction<'_, S>, term: &(LoanCode, Day)) -> Result<usize, Error>
+fn clear_term<S: Alter>(tx: &mut Transaction<'_, S>, term: &(LoanCode, Day)) -> Result<(), Error>
     requires { IsWithin (state S.Store tx.old.conn.now) }
     ensures same_reference { tx.new.conn.ghost_name ≡ tx.old.conn.ghost_name }
     ensures wrote { Wrote (state S.Store tx.old.conn.now) (state S.Store tx.new.conn.now) result
@@ -153,11 +157,12 @@ fn clear_term<S: Alter>(tx: &mut Transaction<'_, S>, term: &(LoanCode, Day)) -> 
     ensures kept { Kept (state S.Store tx.old.conn.now) (state S.Store tx.new.conn.now) }
     ensures survives { Survived (state S.Store tx.old.conn.now) (state S.Store tx.new.conn.now) }
 {
-    tx.execute("DELETE FROM term WHERE loan = ?1", params![term.0.as_str()])
+    tx.execute("DELETE FROM term WHERE loan = ?1", params![term.0.as_str()])?;
+    Ok(())
 }
 
 /// Adds the last day of a loan.
-fn add_term<S: Alter>(tx: &mut Transaction<'_, S>, term: &(LoanCode, Day)) -> Result<usize, Error>
+fn add_term<S: Alter>(tx: &mut Transaction<'_, S>, term: &(LoanCode, Day)) -> Result<(), Error>
     requires { IsWithin (state S.Store tx.old.conn.now) }
     ensures same_reference { tx.new.conn.ghost_name ≡ tx.old.conn.ghost_name }
     ensures wrote { Wrote (state S.Store tx.old.conn.now) (state S.Store tx.new.conn.now) result
@@ -168,11 +173,12 @@ fn add_term<S: Alter>(tx: &mut Transaction<'_, S>, term: &(LoanCode, Day)) -> Re
     tx.execute(
         "INSERT INTO term (loan, day) VALUES (?1, ?2)",
         params![term.0.as_str(), i64::from(term.1.number())],
-    )
+    )?;
+    Ok(())
 }
 
 /// Puts the last day of a loan in the place of the one before.
-fn put_term<S: Alter>(tx: &mut Transaction<'_, S>, term: &(LoanCode, Day)) -> Result<usize, Error>
+fn put_term<S: Alter>(tx: &mut Transaction<'_, S>, term: &(LoanCode, Day)) -> Result<(), Error>
     requires { IsWithin (state S.Store tx.old.conn.now) }
     ensures same_reference { tx.new.conn.ghost_name ≡ tx.old.conn.ghost_name }
     ensures wrote { Wrote (state S.Store tx.old.conn.now) (state S.Store tx.new.conn.now) result

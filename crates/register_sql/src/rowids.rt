@@ -1,14 +1,17 @@
 //! Whether rowids are numbers that differ. A database from outside could have others, and taking out a row by its key would
 //! then take out more.
-ghost use Rattle.std.specs.Prelude.{◌≡◌, ◌≤◌, true, false, ℤ, IfOk, IfSome, OnOk, IsTrue};
+ghost use Rattle.std.specs.Prelude.{◌≡◌, ◌≤◌, true, false, IfOk, IfSome, IfNone, OnOk, IsTrue};
+ghost use Rattle.std.specs.Bool.{Decides};
+ghost use Rattle.std.specs.List.Sorted.{IsSorted};
 ghost use Rattle.sqlite.specs.Held.{state};
 ghost use Rattle.sqlite.specs.State.{HasCleanDisk};
 ghost use Rattle.sqlite.specs.Tree.{rowid};
 ghost use Rattle.sqlite.specs.declared.types.Value.TheVariants.{Int};
 ghost use Rattle.register_sql.specs.Posting.{Survived};
 ghost use Rattle.register_sql.specs.Queries.{shows_id, IsPart, IsSame, IsApartIn, AreApart};
-ghost use Rattle.register_sql.specs.Rowids.{IsBelow, IsRising};
+ghost use Rattle.register_sql.specs.Rowids.{HasId, IsBelow, IsRising};
 ghost use Rattle.register_sql.specs.Rows.{Apart};
+ghost use Rattle.register_sql.specs.Shown.{id_cmp};
 
 use crate::queries::{Query, least_of, read};
 use sqlite::{Alter, Connection, Error, Row};
@@ -16,7 +19,8 @@ use sqlite_value::value::ValueRef;
 
 /// The row's first number.
 fn id_of(row: &Row) -> Option<i64>
-    ensures { IfSome result (λ n. rowid row.now ≡ Int n) }
+    ensures some { IfSome result (λ n. rowid row.now ≡ Int n) }
+    ensures none { IfNone result (¬ HasId row.now) }
 {
     match row.get_ref(0) {
         Ok(ValueRef::Int(id)) => Some(id),
@@ -26,14 +30,14 @@ fn id_of(row: &Row) -> Option<i64>
 
 /// Whether the row begins with a number.
 fn has_id(row: &Row) -> bool
-    ensures { IsTrue result → (n : ℤ) × (rowid row.now ≡ Int n) }
+    ensures { Decides result (HasId row.now) }
 {
     id_of(row).is_some()
 }
 
 /// Whether both rows begin with a number, and the first one's is below the other's.
 fn is_below(a: &Row, b: &Row) -> bool
-    ensures { IsTrue result → IsBelow a.now b.now }
+    ensures { Decides result (IsBelow a.now b.now) }
 {
     let Some(m) = id_of(a) else {
         return false;
@@ -46,7 +50,7 @@ fn is_below(a: &Row, b: &Row) -> bool
 
 /// Whether each row's first number is above that of the row before.
 fn are_rising(rows: &[Row]) -> bool
-    ensures { IsTrue result → IsRising rows.now }
+    ensures { Decides result (IsRising rows.now) }
 {
     'rows: for at in 1..rows.len() {
         if !is_below(&rows[at - 1], &rows[at]) {
@@ -56,10 +60,11 @@ fn are_rising(rows: &[Row]) -> bool
     true
 }
 
-/// Whether the rows' first numbers rise.
+/// Whether the rows' first numbers rise: so they differ, and where the rows are sorted no others do.
 #[tactic(auto, using(crate::proofs::Rising::rises))]
 fn are_apart(rows: &[Row]) -> bool
-    ensures { IsTrue result → Apart rows.now }
+    ensures apart { IsTrue result → Apart rows.now }
+    ensures sorted { IsSorted id_cmp rows.now → Apart rows.now → IsTrue result }
 {
     match rows {
         [] => true,
@@ -74,7 +79,7 @@ fn is_apart<S: Alter>(conn: &mut Connection<S>, query: Query, made: usize) -> Re
     requires part { HasCleanDisk (state S.Store conn.old) → IsPart made (state S.Store conn.old) }
     ensures between { conn.old.in_transaction ≡ false → conn.new.in_transaction ≡ false }
     ensures told { HasCleanDisk (state S.Store conn.new) → IfOk result (λ apart.
-        IsTrue apart → IsApartIn query made (state S.Store conn.old).now.trees) }
+        Decides apart (IsApartIn query made (state S.Store conn.old).now.trees)) }
     ensures same { HasCleanDisk (state S.Store conn.new)
         → OnOk result (IsSame (state S.Store conn.old) (state S.Store conn.new)) }
     ensures survives { Survived (state S.Store conn.old) (state S.Store conn.new) }
@@ -92,8 +97,8 @@ fn are_first_apart<S: Alter>(conn: &mut Connection<S>, made: usize) -> Result<bo
     requires part { HasCleanDisk (state S.Store conn.old) → IsPart made (state S.Store conn.old) }
     ensures between { conn.old.in_transaction ≡ false → conn.new.in_transaction ≡ false }
     ensures told { HasCleanDisk (state S.Store conn.new) → IfOk result (λ apart.
-        IsTrue apart → IsApartIn Query.SetupIds made (state S.Store conn.old).now.trees
-        × IsApartIn Query.PostingIds made (state S.Store conn.old).now.trees) }
+        Decides apart (IsApartIn Query.SetupIds made (state S.Store conn.old).now.trees
+        × IsApartIn Query.PostingIds made (state S.Store conn.old).now.trees)) }
     ensures same { HasCleanDisk (state S.Store conn.new)
         → OnOk result (IsSame (state S.Store conn.old) (state S.Store conn.new)) }
     ensures survives { Survived (state S.Store conn.old) (state S.Store conn.new) }
@@ -112,8 +117,8 @@ fn are_last_apart<S: Alter>(conn: &mut Connection<S>, made: usize) -> Result<boo
     requires part { HasCleanDisk (state S.Store conn.old) → IsPart made (state S.Store conn.old) }
     ensures between { conn.old.in_transaction ≡ false → conn.new.in_transaction ≡ false }
     ensures told { HasCleanDisk (state S.Store conn.new) → IfOk result (λ apart.
-        IsTrue apart → IsApartIn Query.LineIds made (state S.Store conn.old).now.trees
-        × IsApartIn Query.TermIds made (state S.Store conn.old).now.trees) }
+        Decides apart (IsApartIn Query.LineIds made (state S.Store conn.old).now.trees
+        × IsApartIn Query.TermIds made (state S.Store conn.old).now.trees)) }
     ensures same { HasCleanDisk (state S.Store conn.new)
         → OnOk result (IsSame (state S.Store conn.old) (state S.Store conn.new)) }
     ensures survives { Survived (state S.Store conn.old) (state S.Store conn.new) }
@@ -133,7 +138,7 @@ pub(crate) fn are_all_apart<S: Alter>(conn: &mut Connection<S>, made: usize) -> 
     requires part { HasCleanDisk (state S.Store conn.old) → IsPart made (state S.Store conn.old) }
     ensures between { conn.old.in_transaction ≡ false → conn.new.in_transaction ≡ false }
     ensures told { HasCleanDisk (state S.Store conn.new) → IfOk result (λ apart.
-        IsTrue apart → AreApart made (state S.Store conn.old).now.trees) }
+        Decides apart (AreApart made (state S.Store conn.old).now.trees)) }
     ensures same { HasCleanDisk (state S.Store conn.new)
         → OnOk result (IsSame (state S.Store conn.old) (state S.Store conn.new)) }
     ensures survives { Survived (state S.Store conn.old) (state S.Store conn.new) }

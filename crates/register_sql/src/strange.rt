@@ -7,8 +7,9 @@ ghost use Rattle.sqlite.specs.declared.types.Value.TheVariants.{Int};
 ghost use Rattle.register_store.specs.Registers.{is_failure};
 ghost use Rattle.register_store.specs.StoredRows as stored;
 ghost use Rattle.register_store.specs.StoredRows.{HasRows};
+ghost use Rattle.register_sql.specs.Fits.{IsNoSpot, IsNoLine, IsNoTerm};
 ghost use Rattle.register_sql.specs.Found.{AreFound};
-ghost use Rattle.register_sql.specs.Strange.{IsNone, cells_of_spot, cells_of_line, cells_of_term};
+ghost use Rattle.register_sql.specs.Strange.{IsNone, HasStranger, AreStrange, cells_of_spot, cells_of_line, cells_of_term};
 
 use crate::told::{is_number, is_text};
 use crate::typed::{line_of, spot_of, term_of};
@@ -61,7 +62,7 @@ fn is_term(row: &Row, term: &(LoanCode, Day)) -> bool
 
 /// Whether it is the row of none of these spots.
 fn is_no_spot(row: &Row, wanted: &[NewSpot]) -> bool
-    ensures { IsTrue result → IsNone cells_of_spot (length wanted.now) wanted.now row.now }
+    ensures { Decides result (IsNone cells_of_spot (length wanted.now) wanted.now row.now) }
 {
     'wanted: for item in wanted {
         if is_spot(row, item) {
@@ -73,7 +74,7 @@ fn is_no_spot(row: &Row, wanted: &[NewSpot]) -> bool
 
 /// Whether it is the row of none of these lines.
 fn is_no_line(row: &Row, wanted: &[(LineKey, LineStage)]) -> bool
-    ensures { IsTrue result → IsNone cells_of_line (length wanted.now) wanted.now row.now }
+    ensures { Decides result (IsNone cells_of_line (length wanted.now) wanted.now row.now) }
 {
     'wanted: for item in wanted {
         if is_line(row, item) {
@@ -85,7 +86,7 @@ fn is_no_line(row: &Row, wanted: &[(LineKey, LineStage)]) -> bool
 
 /// Whether it is the row of none of these last days.
 fn is_no_term(row: &Row, wanted: &[(LoanCode, Day)]) -> bool
-    ensures { IsTrue result → IsNone cells_of_term (length wanted.now) wanted.now row.now }
+    ensures { Decides result (IsNone cells_of_term (length wanted.now) wanted.now row.now) }
 {
     'wanted: for item in wanted {
         if is_term(row, item) {
@@ -95,12 +96,22 @@ fn is_no_term(row: &Row, wanted: &[(LoanCode, Day)]) -> bool
     true
 }
 
-/// Whether one of the rows can't be read as a spot, and is none of the wanted ones.
+/// Whether the row can't be read as a spot, and is none of the wanted ones.
+fn is_strange_spot(row: &Row, wanted: &[NewSpot]) -> bool
+    ensures { Decides result (IsNoSpot row.now × IsNone cells_of_spot (length wanted.now) wanted.now row.now) }
+{
+    match spot_of(row) {
+        Some(_) => false,
+        None => is_no_spot(row, wanted),
+    }
+}
+
+/// Whether one of the rows is such a one.
 fn has_strange_spot(rows: &[Row], wanted: &[NewSpot]) -> bool
-    ensures { IsTrue result → ¬ IsPermutation (map cells_of_spot wanted.now) rows.now }
+    ensures { Decides result (HasStranger IsNoSpot (map cells_of_spot wanted.now) rows.now) }
 {
     'rows: for row in rows {
-        if spot_of(row).is_none() && is_no_spot(row, wanted) {
+        if is_strange_spot(row, wanted) {
             return true;
         }
     }
@@ -108,11 +119,21 @@ fn has_strange_spot(rows: &[Row], wanted: &[NewSpot]) -> bool
 }
 
 /// The same of lines.
+fn is_strange_line(row: &Row, wanted: &[(LineKey, LineStage)]) -> bool
+    ensures { Decides result (IsNoLine row.now × IsNone cells_of_line (length wanted.now) wanted.now row.now) }
+{
+    match line_of(row) {
+        Some(_) => false,
+        None => is_no_line(row, wanted),
+    }
+}
+
+/// The same of lines.
 fn has_strange_line(rows: &[Row], wanted: &[(LineKey, LineStage)]) -> bool
-    ensures { IsTrue result → ¬ IsPermutation (map cells_of_line wanted.now) rows.now }
+    ensures { Decides result (HasStranger IsNoLine (map cells_of_line wanted.now) rows.now) }
 {
     'rows: for row in rows {
-        if line_of(row).is_none() && is_no_line(row, wanted) {
+        if is_strange_line(row, wanted) {
             return true;
         }
     }
@@ -120,11 +141,21 @@ fn has_strange_line(rows: &[Row], wanted: &[(LineKey, LineStage)]) -> bool
 }
 
 /// The same of last days.
+fn is_strange_term(row: &Row, wanted: &[(LoanCode, Day)]) -> bool
+    ensures { Decides result (IsNoTerm row.now × IsNone cells_of_term (length wanted.now) wanted.now row.now) }
+{
+    match term_of(row) {
+        Some(_) => false,
+        None => is_no_term(row, wanted),
+    }
+}
+
+/// The same of last days.
 fn has_strange_term(rows: &[Row], wanted: &[(LoanCode, Day)]) -> bool
-    ensures { IsTrue result → ¬ IsPermutation (map cells_of_term wanted.now) rows.now }
+    ensures { Decides result (HasStranger IsNoTerm (map cells_of_term wanted.now) rows.now) }
 {
     'rows: for row in rows {
-        if term_of(row).is_none() && is_no_term(row, wanted) {
+        if is_strange_term(row, wanted) {
             return true;
         }
     }
@@ -139,6 +170,8 @@ pub(crate) fn are_strange(
     terms: &[Row],
     ledger: &Ledger,
 ) -> Result<bool, StoreFault>
+    ensures told { IfOk result (λ strange. Decides strange
+        (AreStrange ledger.now.museum ledger.now.posted spots.now lines.now terms.now)) }
     ensures strange { IfOk result (λ strange. IsTrue strange → (c : stored.Content) → AreFound spots.now lines.now terms.now c
         → ¬ HasRows ledger.now.museum ledger.now.posted c) }
     ensures faults { IfErr result (λ fault. is_failure fault ≡ true) }

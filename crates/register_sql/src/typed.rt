@@ -4,7 +4,7 @@ ghost use Rattle.sqlite.specs.Order.{column};
 ghost use Rattle.sqlite.specs.declared.types.Value.TheVariants.{Int, Text};
 ghost use Rattle.posting_core.specs.StageNumbers.{stage_number};
 ghost use Rattle.register_store.specs.StoredRows.{spot_row, line_row};
-ghost use Rattle.register_sql.specs.Fits.{IsDay, IsLoan, IsNoSpot, IsNoLine, IsNoTerm};
+ghost use Rattle.register_sql.specs.Fits.{IsDay, IsLoan, FitsSpot, FitsLine, FitsTerm, IsNoSpot, IsNoLine, IsNoTerm};
 ghost use Rattle.register_sql.specs.Rows.{spot_cells, line_cells, term_cells};
 
 use codes_core::{Day, LoanCode};
@@ -76,6 +76,7 @@ fn loan_at(row: &Row, at: usize) -> Option<LoanCode>
 /// The spot of a row; none where it is that of no spot.
 pub(crate) fn spot_of(row: &Row) -> Option<NewSpot>
     ensures read { IfSome result (λ spot. spot_cells (spot_row spot) ≡ row.now) }
+    ensures fits { IfSome result FitsSpot }
     ensures none { IfNone result (IsNoSpot row.now) }
 {
     if row.column_count() != 5 {
@@ -94,6 +95,7 @@ pub(crate) fn spot_of(row: &Row) -> Option<NewSpot>
 /// The line of a row; none where it is that of no line.
 pub(crate) fn line_of(row: &Row) -> Option<(LineKey, LineStage)>
     ensures read { IfSome result (λ e. line_cells (line_row (record { loan = e.0.loan; object = e.0.object; stage = e.1 })) ≡ row.now) }
+    ensures fits { IfSome result (λ e. FitsLine (record { loan = e.0.loan; object = e.0.object; stage = e.1 })) }
     ensures none { IfNone result (IsNoLine row.now) }
 {
     if row.column_count() != 3 {
@@ -108,6 +110,7 @@ pub(crate) fn line_of(row: &Row) -> Option<(LineKey, LineStage)>
 /// The last day of a row, with its loan; none where it is that of no loan's last day.
 pub(crate) fn term_of(row: &Row) -> Option<(LoanCode, Day)>
     ensures read { IfSome result (λ e. term_cells (record { loan = e.0; day = e.1 }) ≡ row.now) }
+    ensures fits { IfSome result (λ e. FitsTerm (record { loan = e.0; day = e.1 })) }
     ensures none { IfNone result (IsNoTerm row.now) }
 {
     if row.column_count() != 2 {

@@ -51,6 +51,6 @@ returns-clause-bound g c clean =
     let told = subst (λ ts. Decides c.in_ok-same.same (IsPermutation (setup_rows_shown ts) (setup_in c.args.made old.now.trees))) are (c.in_ok-same.ensures.told now) in
     let equal : c.in_ok-same.same ≡ true = search rules in
     let has = subst (λ b. Decides b (IsPermutation (setup_rows_shown (setup_rows S)) (setup_in c.args.made old.now.trees))) equal told in
-    let apart = c.in_ok-apart.ensures.told clean (search rules) in
+    let apart = (c.in_ok-apart.ensures.told clean).0 (search rules) in
     bound_old S c.args.depth old new it.0 part it.1 it.2 (subst (λ k. Decides true (IsPermutation (setup_rows_shown (setup_rows S)) (setup_in k old.now.trees))) six has)
     (subst (λ k. AreApart 6 k.trees) first.now (subst (λ k. AreApart k mid.now.trees) six apart)) (same_then old mid new first (c.in_ok-apart.ensures.same clean))

@@ -15,7 +15,7 @@ returns-in_err-make_whole-clause-crash g c =
     let texts = map string_bytes c.deref.result.now in
     let are : texts ≡ setup_rows S = search rules in
     new_survives S c.args.made c.requires.few old mid new texts are c.requires.part c.requires.new c.are_all_apart.ensures.survives c.in_ok-apart.ensures.same
-    (λ clean. c.in_ok-apart.ensures.told clean (search rules)) c.make_whole.ensures.crash
+    (λ clean. (c.in_ok-apart.ensures.told clean).0 (search rules)) c.make_whole.ensures.crash
 
 pub returns-clause-bound : goal.returns-clause-bound
 returns-clause-bound g c clean =
@@ -27,7 +27,7 @@ returns-clause-bound g c clean =
     let are : texts ≡ setup_rows S = search rules in
     let now : HasCleanDisk mid = omega (arith, clean, c.make_whole.ensures.crash.clean) in
     new_is_bound S c.args.made c.requires.few old mid new texts are c.requires.part c.requires.new c.are_all_apart.ensures.survives c.in_ok-apart.ensures.same
-    (λ k. c.in_ok-apart.ensures.told k (search rules)) now (c.in_ok-make_whole.ensures.made clean)
+    (λ k. (c.in_ok-apart.ensures.told k).0 (search rules)) now (c.in_ok-make_whole.ensures.made clean)
 
 pub returns-clause-crash : goal.returns-clause-crash
 returns-clause-crash g c =
@@ -38,4 +38,4 @@ returns-clause-crash g c =
     let texts = map string_bytes c.deref.result.now in
     let are : texts ≡ setup_rows S = search rules in
     new_survives S c.args.made c.requires.few old mid new texts are c.requires.part c.requires.new c.are_all_apart.ensures.survives c.in_ok-apart.ensures.same
-    (λ clean. c.in_ok-apart.ensures.told clean (search rules)) c.make_whole.ensures.crash
+    (λ clean. (c.in_ok-apart.ensures.told clean).0 (search rules)) c.make_whole.ensures.crash

@@ -1,4 +1,4 @@
-use Rattle.std.proofs.Common.{arith, rules, pos}
+use Rattle.std.proofs.Common.{Ok, arith, rules, pos}
 use Rattle.sqlite.specs.Held.{state}
 use Rattle.sqlite.specs.State.{HasCleanDisk}
 use Rattle.register_sql.proofs.Filled.{added_setup}
@@ -10,4 +10,4 @@ returns-clause-wrote g c clean =
     let new = state g.S.Store c.execute.new.self.conn.now in
     let early : HasCleanDisk old = omega (arith, c.execute.ensures.survives.clean) in
     let made = c.requires early in
-    added_setup old new (record { id = pos c.args.number; text = c.args.text.now }) _ c.execute.result made (c.execute.ensures.runs clean made.inside) (search rules)
+    added_setup old new (record { id = pos c.args.number; text = c.args.text.now }) _ (Ok _) made (c.in_ok-execute.ensures.runs clean made.inside) (search rules)

@@ -1,4 +1,4 @@
-use Rattle.std.proofs.Common.{arith, rules}
+use Rattle.std.proofs.Common.{Ok, arith, rules}
 use Rattle.sqlite.specs.Held.{state}
 use Rattle.sqlite.specs.State.{HasCleanDisk}
 use Rattle.register_sql.proofs.Filled.{cleared_setup}
@@ -10,4 +10,4 @@ returns-clause-wrote g c clean =
     let new = state g.S.Store c.execute.new.self.conn.now in
     let early : HasCleanDisk old = omega (arith, c.execute.ensures.survives.clean) in
     let made = c.requires.made early in
-    cleared_setup old new _ c.execute.result made (c.requires.apart early) (c.execute.ensures.runs clean made.inside) (search rules)
+    cleared_setup old new _ (Ok _) made (c.requires.apart early) (c.in_ok-execute.ensures.runs clean made.inside) (search rules)

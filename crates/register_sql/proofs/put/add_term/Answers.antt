@@ -1,4 +1,4 @@
-use Rattle.std.proofs.Common.{arith, rules}
+use Rattle.std.proofs.Common.{Ok, arith, rules}
 use Rattle.sqlite.specs.Held.{state}
 use Rattle.sqlite.specs.State.{HasCleanDisk}
 use Rattle.register_sql.proofs.Posted.{inserts_term}
@@ -10,4 +10,4 @@ returns-clause-wrote g c clean =
     let new = state g.S.Store c.execute.new.self.conn.now in
     let early : HasCleanDisk old = omega (arith, c.execute.ensures.survives.clean) in
     let within = c.requires early in
-    inserts_term old new (record { loan = c.args.term.now.0; day = c.args.term.now.1 }) _ c.execute.result within (c.execute.ensures.runs clean within.inside) (search rules)
+    inserts_term old new (record { loan = c.args.term.now.0; day = c.args.term.now.1 }) _ (Ok _) within (c.in_ok-execute.ensures.runs clean within.inside) (search rules)

@@ -1,4 +1,4 @@
-use Rattle.std.proofs.Common.{arith, rules}
+use Rattle.std.proofs.Common.{Ok, arith, rules}
 use Rattle.sqlite.specs.Held.{state}
 use Rattle.sqlite.specs.State.{HasCleanDisk}
 use Rattle.register_store.specs.StoredRows.{line_row}
@@ -11,4 +11,4 @@ returns-clause-wrote g c clean =
     let new = state g.S.Store c.execute.new.self.conn.now in
     let early : HasCleanDisk old = omega (arith, c.execute.ensures.survives.clean) in
     let within = c.requires early in
-    deletes_line old new (line_row c.args.line.now) _ c.execute.result within (c.execute.ensures.runs clean within.inside) (search rules)
+    deletes_line old new (line_row c.args.line.now) _ (Ok _) within (c.in_ok-execute.ensures.runs clean within.inside) (search rules)

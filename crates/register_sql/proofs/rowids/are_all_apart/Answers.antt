@@ -2,7 +2,8 @@ use Rattle.std.proofs.Common.{arith, rules}
 use Rattle.sqlite.specs.Held.{state}
 use Rattle.sqlite.specs.State.{HasCleanDisk}
 use Rattle.register_sql.proofs.Ends.{survives_on}
-use Rattle.register_sql.proofs.Rising.{part_same, on_same, all_apart}
+use Rattle.register_sql.proofs.Rising.{part_same, on_same}
+use Rattle.register_sql.proofs.Ascending.{all_apart}
 use Rattle.register_sql.proofs.rowids.are_all_apart.Goals as goal
 
 pub are_last_apart-last-requires-clause-part : goal.are_last_apart-last-requires-clause-part
@@ -17,7 +18,7 @@ returns-clause-told g c clean =
     let old = state g.S.Store c.args.conn.now in
     let mid = state g.S.Store c.are_first_apart.new.conn in
     let early : HasCleanDisk mid = omega (arith, clean, c.are_last_apart-last.ensures.survives.clean) in
-    all_apart c.args.made old mid c.are_last_apart-last.result (c.in_ok-first.ensures.same early) (c.in_ok-first.ensures.told early (search rules)) (c.are_last_apart-last.ensures.told clean)
+    all_apart c.args.made old mid c.are_last_apart-last.result (c.in_ok-first.ensures.same early) ((c.in_ok-first.ensures.told early).0 (search rules)) (c.are_last_apart-last.ensures.told clean)
 
 pub returns-clause-same : goal.returns-clause-same
 returns-clause-same g c clean =

@@ -3,7 +3,8 @@ use Rattle.sqlite.specs.Held.{state}
 use Rattle.sqlite.specs.State.{HasCleanDisk}
 use Rattle.register_sql.specs.declared.queries.Query.TheVariants.{SetupIds, PostingIds}
 use Rattle.register_sql.proofs.Ends.{survives_on}
-use Rattle.register_sql.proofs.Rising.{part_same, on_same, both_apart}
+use Rattle.register_sql.proofs.Rising.{part_same, on_same}
+use Rattle.register_sql.proofs.Ascending.{both_apart}
 use Rattle.register_sql.proofs.rowids.are_first_apart.Goals as goal
 
 pub is_apart-postings-requires-clause-part : goal.is_apart-postings-requires-clause-part
@@ -18,7 +19,7 @@ returns-clause-told g c clean =
     let old = state g.S.Store c.args.conn.now in
     let mid = state g.S.Store c.is_apart.new.conn in
     let early : HasCleanDisk mid = omega (arith, clean, c.is_apart-postings.ensures.survives.clean) in
-    both_apart SetupIds PostingIds c.args.made old mid c.is_apart-postings.result (c.in_ok-setup.ensures.same early) (c.in_ok-setup.ensures.told early (search rules)) (c.is_apart-postings.ensures.told clean)
+    both_apart SetupIds PostingIds c.args.made old mid c.is_apart-postings.result (c.in_ok-setup.ensures.same early) ((c.in_ok-setup.ensures.told early).0 (search rules)) (c.is_apart-postings.ensures.told clean)
 
 pub returns-clause-same : goal.returns-clause-same
 returns-clause-same g c clean =

@@ -3,7 +3,8 @@ use Rattle.sqlite.specs.Held.{state}
 use Rattle.sqlite.specs.State.{HasCleanDisk}
 use Rattle.register_sql.specs.declared.queries.Query.TheVariants.{LineIds, TermIds}
 use Rattle.register_sql.proofs.Ends.{survives_on}
-use Rattle.register_sql.proofs.Rising.{part_same, on_same, both_apart}
+use Rattle.register_sql.proofs.Rising.{part_same, on_same}
+use Rattle.register_sql.proofs.Ascending.{both_apart}
 use Rattle.register_sql.proofs.rowids.are_last_apart.Goals as goal
 
 pub is_apart-terms-requires-clause-part : goal.is_apart-terms-requires-clause-part
@@ -18,7 +19,7 @@ returns-clause-told g c clean =
     let old = state g.S.Store c.args.conn.now in
     let mid = state g.S.Store c.is_apart.new.conn in
     let early : HasCleanDisk mid = omega (arith, clean, c.is_apart-terms.ensures.survives.clean) in
-    both_apart LineIds TermIds c.args.made old mid c.is_apart-terms.result (c.in_ok-lines.ensures.same early) (c.in_ok-lines.ensures.told early (search rules)) (c.is_apart-terms.ensures.told clean)
+    both_apart LineIds TermIds c.args.made old mid c.is_apart-terms.result (c.in_ok-lines.ensures.same early) ((c.in_ok-lines.ensures.told early).0 (search rules)) (c.is_apart-terms.ensures.told clean)
 
 pub returns-clause-same : goal.returns-clause-same
 returns-clause-same g c clean =
