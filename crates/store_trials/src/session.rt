@@ -4,9 +4,10 @@ ghost use Rattle.std.specs.Prelude.{◌≤◌, length};
 use hub_core::{Hub, replay};
 use nest_core::Setup;
 use register_sql::SqlRegister;
-use sqlite::MemStore;
+use register_store::Register;
 use std::alloc::Global;
 use std::io::Write;
+use store_file::shut_in_memory;
 
 /// Answers a session as the program does, over a database in memory; tells whether it ended without a fault. Its setup
 /// ends at its first empty line.
@@ -16,7 +17,11 @@ pub fn answered<W: Write>(alloc: Global, given: &[u8], output: &mut W) -> bool {
         return false;
     };
     match SqlRegister::in_memory(alloc) {
-        Ok(register) => replayed(alloc, setup, register, &mut lines, output),
+        Ok(register) => {
+            let (register, whole) = replayed(alloc, setup, register, &mut lines, output);
+            shut_in_memory(register.into_connection());
+            whole
+        }
         Err(_) => {
             drop(setup);
             false
@@ -36,20 +41,19 @@ fn end_of_head(given: &[u8]) -> usize
     given.len()
 }
 
-fn replayed<W: Write>(
+/// Answers the lines over a hub of this register; gives the register back, and whether all ended without a fault.
+fn replayed<R: Register, W: Write>(
     alloc: Global,
     setup: Setup,
-    register: SqlRegister<MemStore>,
+    register: R,
     lines: &mut &[u8],
     output: &mut W,
-) -> bool {
-    let (register, done) = match Hub::open(alloc, setup, register) {
+) -> (R, bool) {
+    match Hub::open(alloc, setup, register) {
         Ok(mut hub) => {
             let ended = replay(alloc, lines, output, &mut hub);
             (hub.close(), ended.is_ok())
         }
         Err(failed) => (failed.register, false),
-    };
-    drop(register.into_connection());
-    done
+    }
 }

@@ -1,11 +1,11 @@
 //! Postings over a store whose disk stops at each of its calls in turn.
 
-use crate::disks::{Pair, Stopping, crashed, left_behind, new_files};
+use crate::disks::{Pair, crashed, left_behind, new_files};
 use hub_core::{Answer, Arrival, Hub, HubFault};
 use nest_core::Setup;
 use register_sql::SqlRegister;
 use register_store::{Register, read_message};
-use sqlite::{Connection, FileStore, Options};
+use sqlite::{Connection, Files, Options};
 use sqlite_disk::Disk;
 use station_core::Refusal;
 use std::alloc::Global;
@@ -16,22 +16,26 @@ const MOVED: &str = r#"{"kind":"move","thing":"C1","place":"S1","day":"2024-05-0
 
 const PACKED: &str = r#"{"kind":"pack","thing":"2001.4.1","container":"C1","day":"2024-05-01"}"#;
 
-/// What a run over a store did: how many of its two messages it posted, how many were posted before, and whether it
-/// was stopped.
-#[derive(Drop)]
-struct Ended {
-    files: Pair,
-    posted: u64,
-    doubles: u64,
-    stopped: bool,
-}
+/// What a run did that was stopped before its hub was opened.
+const STOPPED: Sent = Sent {
+    posted: 0,
+    doubles: 0,
+    stopped: true,
+};
 
-/// How many of the two messages were posted, and were posted before.
+/// How many of the two messages a run posted, how many were posted before, and whether it was stopped.
 #[derive(Clone, Copy)]
 struct Sent {
     posted: u64,
     doubles: u64,
     stopped: bool,
+}
+
+/// What a run over a store did, and the store's files.
+#[derive(Drop)]
+struct Ended<D: Disk> {
+    files: Files<D>,
+    sent: Sent,
 }
 
 /// Stops the log, or else the database, at its first call, at its second, and so on until a run isn't stopped; tells how
@@ -44,72 +48,75 @@ pub fn count_stops(alloc: Global, in_log: bool, crashes: bool) -> Option<u64> {
         } else {
             new_files(alloc, u64::MAX, calls)
         };
-        let first = run(alloc, files)?;
-        let answered = first.posted;
-        let stopped = first.stopped;
-        let files = if crashes {
-            crashed(first.files)
-        } else {
-            left_behind(alloc, &first.files).ok()?
-        };
-        let second = run(alloc, files)?;
-        if !goes_on(answered, &second) {
-            return None;
-        }
-        if !stopped {
+        if !is_stopped(alloc, files, crashes)? {
             return Some(calls);
         }
     }
     None
 }
 
+/// Whether a run over the files is stopped; none where a second run, over what it left, doesn't go on from there.
+fn is_stopped(alloc: Global, files: Pair, crashes: bool) -> Option<bool> {
+    let first = run(alloc, files)?;
+    let left = left_after(alloc, first.files, crashes)?;
+    let second = run(alloc, left)?;
+    if goes_on(first.sent, second.sent) {
+        Some(first.sent.stopped)
+    } else {
+        None
+    }
+}
+
+/// The files for a second run: as they were left, or as a crash leaves them.
+fn left_after(alloc: Global, files: Pair, crashes: bool) -> Option<Pair> {
+    if crashes {
+        Some(crashed(files))
+    } else {
+        left_behind(alloc, &files).ok()
+    }
+}
+
 /// Whether a second run found what the first answered, perhaps one more, and posted the rest.
-fn goes_on(answered: u64, second: &Ended) -> bool {
-    let more = second.doubles.saturating_sub(answered);
+fn goes_on(first: Sent, second: Sent) -> bool {
+    let more = second.doubles.saturating_sub(first.posted);
     !second.stopped
-        && second.doubles >= answered
+        && second.doubles >= first.posted
         && more <= 1
         && second.posted.saturating_add(second.doubles) == 2
 }
 
 /// Opens a hub over the files, and sends it two messages.
-fn run(alloc: Global, files: Pair) -> Option<Ended> {
+fn run<D: Disk + Drop>(alloc: Global, files: Files<D>) -> Option<Ended<D>> {
     if !files.log.may_be_used() || !files.db.may_be_used() {
         return None;
     }
     match Connection::open_files(alloc, files, Options::new(7)) {
-        Ok(conn) => run_over(alloc, SqlRegister::adopt(conn)),
-        Err((_, left)) => Some(stopped_early(left.into_files())),
+        Ok(conn) => {
+            let (register, sent) = over(alloc, SqlRegister::adopt(conn));
+            let files = register.into_connection().into_store().close();
+            Some(Ended { files, sent: sent? })
+        }
+        Err((_, left)) => {
+            let files = left.into_files();
+            Some(Ended {
+                files,
+                sent: STOPPED,
+            })
+        }
     }
 }
 
-fn stopped_early(files: Pair) -> Ended {
-    Ended {
-        files,
-        posted: 0,
-        doubles: 0,
-        stopped: true,
-    }
-}
-
-fn run_over(alloc: Global, register: SqlRegister<FileStore<Stopping>>) -> Option<Ended> {
+/// Opens a hub over the register, sends it the two messages, and gives the register back.
+fn over<R: Register>(alloc: Global, register: R) -> (R, Option<Sent>) {
     let Ok(setup) = Setup::read(alloc, SETUP.as_bytes()) else {
-        drop(register.into_connection());
-        return None;
+        return (register, None);
     };
     match Hub::open(alloc, setup, register) {
         Ok(mut hub) => {
             let sent = send_both(alloc, &mut hub);
-            let files = hub.close().into_connection().into_store().close();
-            let sent = sent?;
-            Some(Ended {
-                files,
-                posted: sent.posted,
-                doubles: sent.doubles,
-                stopped: sent.stopped,
-            })
+            (hub.close(), sent)
         }
-        Err(failed) => Some(stopped_early(failed.register.into_connection().into_store().close())),
+        Err(failed) => (failed.register, Some(STOPPED)),
     }
 }
 
