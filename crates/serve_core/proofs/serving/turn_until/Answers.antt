@@ -1,0 +1,35 @@
+use Rattle.std.proofs.Common.{◌≡◌, List, [], ◌++◌, refl, ◌∙◌, sym, append-nil, rules}
+use Rattle.std.proofs.lemmas.Result.{IfOk-from_err}
+use Rattle.serve_core.proofs.LogLemmas.{serves_none, serves_then}
+use Rattle.serve_core.proofs.Takings.{lines_then, takes_none, takes_after, takes_after_some}
+use Rattle.serve_core.proofs.serving.turn_until.Goals as goal
+
+pub loop-init : goal.loop-init
+loop-init g c = (tt, tt, ([], sym (append-nil _), serves_none g.R.Register.holding c.args.hub.now, takes_none _), refl, refl)
+
+pub loop-preserved : goal.loop-preserved
+loop-preserved g c =
+    let inv = c.loop.invariant in
+    let t = c.in_ok-taken.ensures.lines in (
+      tt,
+      tt,
+      (
+        inv.2.0 ++ t.0,
+        lines_then _ _ _ inv.2.0 t.0 inv.2.1 t.1,
+        serves_then g.R.Register.holding _ _ _ inv.2.0 t.0 inv.2.2 inv.3 t.2,
+        takes_after _ _ _ inv.2.0 t.0 inv.2.3 t.4.0,
+      ),
+      c.in_ok-taken.ensures.level ∙ inv.3,
+      c.in_ok-taken.ensures.count ∙ inv.4,
+    )
+
+pub returns-in_err-taken-clause-lines : goal.returns-in_err-taken-clause-lines
+returns-in_err-taken-clause-lines g c =
+    let inv = c.loop.invariant in
+    let t = c.in_err-taken.ensures.lines in (
+      inv.2.0 ++ t.0,
+      lines_then _ _ _ inv.2.0 t.0 inv.2.1 t.1,
+      serves_then g.R.Register.holding _ _ _ inv.2.0 t.0 inv.2.2 inv.3 t.2,
+      takes_after_some _ _ _ inv.2.0 t.0 inv.2.3 t.3,
+      IfOk-from_err c.from_residual.result _ c.from_residual.ensures.0,
+    )

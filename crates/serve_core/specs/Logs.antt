@@ -1,0 +1,65 @@
+-- The log: the items that were taken, each with its reply.
+use Rattle.std.specs.Prelude.{◌≡◌, ℕ, ◌+◌, ◌<◌, ◌≤◌, ◌==◌, Bool, false, List, [], ◌∷◌, ◌++◌, length, filter, map, flat_map, All}
+use Rattle.hub_core.specs.declared.answer.Arrival.{Arrival}
+use Rattle.nest_core.specs.Museum.{Museum}
+use Rattle.posting_core.specs.declared.entry.Entry.{Entry}
+use Rattle.hub_core.specs.Points.{posted, reply, whereabouts, IsPlaced}
+use Rattle.register_store.specs.Holdings.{Holding}
+use Rattle.hub_core.specs.StandsFor.{State, StandsFor}
+use Rattle.serve_core.specs.declared.item.Item.{Item}
+use Rattle.serve_core.specs.declared.item.Item.TheVariants.{Scan, Ask, Bad}
+use Rattle.serve_core.specs.declared.item.Reply.{Reply}
+use Rattle.serve_core.specs.declared.item.Reply.TheVariants.{Answered, Found, Unread}
+use Rattle.serve_core.specs.declared.item.LogLine.{LogLine}
+
+-- what an item of station s sends to the hub: one arrival, or none
+abbrev pub sent_item : ℕ → Item → List Arrival
+sent_item s (Scan n message) = record { station = s; n = n; message = message } ∷ []
+sent_item s (Ask code) = []
+sent_item s (Bad line fault) = []
+
+-- what is said to an item of station s after the arrivals A
+abbrev pub item_reply : Museum → ℕ → List Entry → List Arrival → ℕ → Item → Reply
+item_reply S depth O A s (Scan n message) = Answered (reply S depth O A (record { station = s; n = n; message = message }))
+item_reply S depth O A s (Ask code) = Found (whereabouts S (posted S depth O A) code)
+item_reply S depth O A s (Bad line fault) = Unread
+
+-- the arrivals of the log's lines
+abbrev pub log_arrivals : List LogLine → List Arrival
+log_arrivals G = flat_map (λ l. sent_item l.station l.item) G
+
+-- each line's reply is that of looking back through the lines before it
+abbrev pub IsAnswered : Museum → ℕ → List Entry → List Arrival → List LogLine → Type 0
+IsAnswered S depth O A [] = Unit {0}
+IsAnswered S depth O A (l ∷ G) = (l.reply ≡ item_reply S depth O A l.station l.item) × IsAnswered S depth O (A ++ sent_item l.station l.item) G
+
+-- the items of station s, in order
+abbrev pub items_of : ℕ → List LogLine → List Item
+items_of s G = map (λ l. l.item) (filter (λ l. l.station == s) G)
+
+-- a place that was told is one of the setup, and so are the containers
+abbrev pub IsPlacedReply : Museum → Reply → Type 0
+IsPlacedReply S (Answered answer) = Unit {0}
+IsPlacedReply S (Found place) = IsPlaced S place
+IsPlacedReply S Unread = Unit {0}
+
+-- the line of this item of station s
+abbrev pub IsLineOf : ℕ → Item → LogLine → Type 0
+IsLineOf s item l = (l.station ≡ s) × (l.item ≡ item)
+
+-- the hub took these lines: each is answered by looking back, and a hub that isn't down stands for all that they sent
+pub record Serves {R : Type 0} (holding : R → Holding) (before after : State R) (G : List LogLine) : Type 0 where
+  pub museum : after.book.museum ≡ before.book.museum
+  pub depth : after.book.depth ≡ before.book.depth
+  pub placed : All (λ l. IsPlacedReply before.book.museum l.reply) G
+  pub answered : (O : List Entry) (A : List Arrival) → StandsFor holding before O A → IsAnswered before.book.museum before.book.depth O A G
+  pub stands : (O : List Entry) (A : List Arrival) → StandsFor holding before O A → after.down ≡ false → StandsFor holding after O (A ++ log_arrivals G)
+
+-- at most one line of each station from `low` to below `high`, ascending
+abbrev pub Ascends : ℕ → ℕ → List LogLine → Type 0
+Ascends low high [] = Unit {0}
+Ascends low high (l ∷ G) = (low ≤ l.station) × (l.station < high) × Ascends (l.station + 1) high G
+
+-- each line is of one of so many stations
+abbrev pub AreOfStations : ℕ → List LogLine → Type 0
+AreOfStations count G = All (λ l. l.station < count) G

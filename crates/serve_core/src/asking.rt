@@ -1,0 +1,77 @@
+//! The hub asked about one item.
+ghost use Rattle.std.specs.Prelude.{◌≡◌, ◌++◌, ◌∷◌, [], List, false, IfOk, OnOk, OnErr};
+ghost use Rattle.hub_core.specs.declared.answer.Arrival.{Arrival};
+ghost use Rattle.posting_core.specs.declared.entry.Entry.{Entry};
+ghost use Rattle.hub_core.specs.Faults.{CountsStore};
+ghost use Rattle.hub_core.specs.StandsFor.{StandsFor};
+ghost use Rattle.serve_core.specs.declared.item.LogLine.{LogLine};
+ghost use Rattle.serve_core.specs.Logs.{item_reply, sent_item, IsPlacedReply, Serves, IsLineOf};
+
+use crate::{Item, LogLine, Reply};
+use hub_core::{Arrival, Hub, HubFault};
+use register_store::Register;
+use std::alloc::Global;
+
+/// Asks the hub an item of a station. A Bad item is not for the hub.
+fn reply_to_item<R: Register>(
+    alloc: Global,
+    hub: &mut Hub<R>,
+    station: u32,
+    item: Item,
+) -> Result<Reply, HubFault>
+    ensures reply { IfOk result (λ reply. (O : List Entry) (A : List Arrival) → StandsFor R.holding hub.old O A →
+        (reply ≡ item_reply hub.old.book.museum hub.old.book.depth O A station item) × StandsFor R.holding hub.new O (A ++ sent_item station item)) }
+    ensures level { OnOk result (hub.new.down ≡ hub.old.down) }
+    ensures fault { OnErr result (hub.new.down ≡ false → hub.new ≡ hub.old) }
+    ensures placed { IfOk result (IsPlacedReply hub.old.book.museum) }
+    ensures count { CountsStore (R.refusals hub.old.register) (R.refusals hub.new.register) result }
+    ensures museum { hub.new.book.museum ≡ hub.old.book.museum }
+    ensures depth { hub.new.book.depth ≡ hub.old.book.depth }
+{
+    match item {
+        Item::Scan { n, message } => {
+            let answer = hub.arrive(
+                alloc,
+                Arrival {
+                    station,
+                    n,
+                    message,
+                },
+            )?;
+            Ok(Reply::Answered(answer))
+        }
+        Item::Ask(code) => {
+            let place = hub.ask(alloc, &code)?;
+            Ok(Reply::Found(place))
+        }
+        Item::Bad { line: _, fault: _ } => Ok(Reply::Unread),
+    }
+}
+
+/// Asks the hub an item of a station, and adds it to the log with its reply. The copy of the item and the log's room come
+/// before the hub is asked. After a fault the log is as it was.
+pub(crate) fn log_item<R: Register>(
+    alloc: Global,
+    hub: &mut Hub<R>,
+    station: u32,
+    item: Item,
+    lines: &mut Vec<LogLine>,
+) -> Result<(), HubFault>
+    ensures line { OnOk result ((line : LogLine) × (lines.new.items ≡ lines.old.items ++ line ∷ []) × IsLineOf station item line
+        × Serves R.holding hub.old hub.new (line ∷ [])) }
+    ensures fault { OnErr result ((lines.new.items ≡ lines.old.items) × Serves R.holding hub.old hub.new []) }
+    ensures level { OnOk result (hub.new.down ≡ hub.old.down) }
+    ensures count { CountsStore (R.refusals hub.old.register) (R.refusals hub.new.register) result }
+{
+    let asked = item.copy(alloc)?;
+    lines.reserve(1)?;
+    let reply = reply_to_item(alloc, hub, station, asked)?;
+    lines
+        .push(LogLine {
+            station,
+            item,
+            reply,
+        })
+        .unwrap();
+    Ok(())
+}

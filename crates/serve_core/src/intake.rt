@@ -1,0 +1,238 @@
+//! The end that takes from all lanes.
+ghost use Rattle.std.specs.Prelude.{◌≡◌, ◌^◌, ◌<◌, ◌≤◌, ◌++◌, ℕ, [], List, IfOk, OnOk, vec_len, length};
+ghost use Rattle.std.specs.List.{AllZip};
+ghost use Rattle.rtrb.specs.Ring.{SameConsumer};
+ghost use Rattle.hub_core.specs.Faults.{CountsStore};
+ghost use Rattle.serve_core.specs.declared.item.LogLine.{LogLine};
+ghost use Rattle.serve_core.specs.Logs.{Serves, Ascends};
+ghost use Rattle.serve_core.specs.Lanes.{IsFresh, IsEndOn, Takes, TakesSome, TakesOf, TakesSomeOf, TakesFront, TakesLeft, Begins, SameEnds, end_items, ended_at, received_is, received_at};
+
+use crate::asking::log_item;
+use crate::lane::ROOM;
+use crate::{Item, Lane, LaneEnd, Log, LogLine};
+use codes_core::NoMemory;
+use hub_core::{Hub, HubFault};
+use register_store::Register;
+use rtrb::{Consumer, RingBuffer};
+use std::alloc::Global;
+use std::marker::Model;
+
+/// The other end of all lanes, in the thread that owns the hub; seen as the rings, each with what was taken from it.
+#[derive(Drop)]
+pub struct Intake {
+    pub(crate) rings: Vec<Consumer<Item>>,
+}
+
+impl Model for Intake {
+    ghost use Rattle.std.specs.Prelude.{List, ◌^◌, ◌<◌, vec_len};
+    ghost use Rattle.serve_core.specs.Lanes.{Ring};
+
+    ghost Value = { List Ring };
+
+    ghost view = { λ i. i.rings.items };
+
+    ghost invariant = { λ i. vec_len i.rings < 2 ^ 32 };
+}
+
+/// So many lanes with nothing sent, and the intake that takes from them. Lane i is that of station i. NoMemory where a
+/// ring, or the list of them, finds no memory.
+pub fn lanes(alloc: Global, n: u32) -> Result<(Vec<Lane>, Intake), NoMemory>
+    ensures count { IfOk result (λ r. vec_len r.0 ≡ n) }
+    ensures fresh { IfOk result (λ r. AllZip IsFresh r.0.items r.1) }
+{
+    let mut lanes = Vec::new(alloc);
+    let mut rings = Vec::new(alloc);
+    for _ in 0..n {
+        let (producer, consumer) = RingBuffer::new(alloc, ROOM)?;
+        lanes.push(Lane { producer })?;
+        rings.push(consumer)?;
+    }
+    Ok((lanes, Intake { rings }))
+}
+
+impl Intake {
+    /// Takes at most one item of each lane, that of lane 0 first, asks the hub, and adds a line to the log for each; answers
+    /// how many. The faults: NoMemory, also of the item's copy and of the log's room, which come before the hub is asked;
+    /// Store; Down. A fault stops the turn: the item that met it is dropped, and the lines before it stay.
+    pub fn turn<R: Register>(
+        &mut self,
+        alloc: Global,
+        hub: &mut Hub<R>,
+        log: &mut Log,
+    ) -> Result<u32, HubFault>
+        ensures lines { (G : List LogLine) × (log.new ≡ log.old ++ G) × Serves R.holding hub.old hub.new G × TakesSome self.old self.new G
+            × IfOk result (λ n. Takes self.old self.new G × (n ≡ length G) × Ascends 0 (length self.old) G) }
+        ensures level { OnOk result (hub.new.down ≡ hub.old.down) }
+        ensures count { CountsStore (R.refusals hub.old.register) (R.refusals hub.new.register) result }
+    {
+        turn_all(alloc, hub, &mut self.rings, &mut log.lines)
+    }
+
+    /// Takes items of all lanes and drops them; answers how many.
+    pub(crate) fn drop_items(&mut self) -> u32
+        ensures { TakesSome self.old self.new [] }
+    {
+        drop_all(&mut self.rings)
+    }
+
+    /// Takes all that is left in the lanes, that of lane 0 first, asks the hub, and adds a line to the log for each. The ends
+    /// are those of the lanes, in order. The faults are those of a turn; one stops it: the item that met it and those after
+    /// it are dropped, and the lines before it stay.
+    pub fn finish<R: Register>(
+        self,
+        alloc: Global,
+        hub: &mut Hub<R>,
+        log: &mut Log,
+        ends: Vec<LaneEnd>,
+    ) -> Result<(), HubFault>
+        requires { AllZip IsEndOn ends.items self }
+        ensures lines { (G : List LogLine) × (log.new ≡ log.old ++ G) × Serves R.holding hub.old hub.new G × TakesFront self ends.items G
+            × OnOk result (TakesLeft self ends.items G) }
+        ensures level { OnOk result (hub.new.down ≡ hub.old.down) }
+        ensures count { CountsStore (R.refusals hub.old.register) (R.refusals hub.new.register) result }
+    {
+        let Intake { mut rings } = self;
+        let mut ends = ends;
+        match take_left(alloc, hub, &mut rings, &mut ends, &mut log.lines) {
+            Ok(()) => Ok(()),
+            Err(fault) => {
+                settle_all(&mut rings, &mut ends);
+                Err(fault)
+            }
+        }
+    }
+}
+
+/// Takes at most one item of each ring and drops it.
+fn drop_all(rings: &mut Vec<Consumer<Item>>) -> u32
+    requires { vec_len rings.old < 2 ^ 32 }
+    ensures some { TakesSome rings.old.items rings.new.items [] }
+    ensures few { vec_len rings.new ≡ vec_len rings.old }
+{
+    let mut taken = 0;
+    for i in 0..rings.len() {
+        taken += drop_one(&mut rings[i]);
+    }
+    taken
+}
+
+/// Takes at most one item of a ring and drops it.
+fn drop_one(ring: &mut Consumer<Item>) -> u32
+    ensures ring { SameConsumer ring.old ring.new }
+    ensures some { Begins (received_is ring.old) (received_is ring.new) }
+    ensures few { result ≤ 1 }
+{
+    match ring.pop() {
+        Ok(_item) => 1,
+        Err(_) => 0,
+    }
+}
+
+/// One turn over the rings.
+fn turn_all<R: Register>(
+    alloc: Global,
+    hub: &mut Hub<R>,
+    rings: &mut Vec<Consumer<Item>>,
+    lines: &mut Vec<LogLine>,
+) -> Result<u32, HubFault>
+    requires { vec_len rings.old < 2 ^ 32 }
+    ensures lines { (G : List LogLine) × (lines.new.items ≡ lines.old.items ++ G) × Serves R.holding hub.old hub.new G × TakesSome rings.old.items rings.new.items G
+        × IfOk result (λ n. Takes rings.old.items rings.new.items G × (n ≡ length G) × Ascends 0 (vec_len rings.old) G) }
+    ensures few { vec_len rings.new ≡ vec_len rings.old }
+    ensures level { OnOk result (hub.new.down ≡ hub.old.down) }
+    ensures count { CountsStore (R.refusals hub.old.register) (R.refusals hub.new.register) result }
+{
+    let mut taken = 0;
+    for i in 0..rings.len() {
+        taken += take_one(alloc, hub, &mut rings[i], i as u32, lines)?;
+    }
+    Ok(taken)
+}
+
+/// Takes at most one item of a ring.
+fn take_one<R: Register>(
+    alloc: Global,
+    hub: &mut Hub<R>,
+    ring: &mut Consumer<Item>,
+    station: u32,
+    lines: &mut Vec<LogLine>,
+) -> Result<u32, HubFault>
+    ensures lines { (G : List LogLine) × (lines.new.items ≡ lines.old.items ++ G) × Serves R.holding hub.old hub.new G × TakesSomeOf station ring.old ring.new G
+        × IfOk result (λ n. TakesOf station ring.old ring.new G × (n ≡ length G) × (n ≤ 1)) }
+    ensures level { OnOk result (hub.new.down ≡ hub.old.down) }
+    ensures count { CountsStore (R.refusals hub.old.register) (R.refusals hub.new.register) result }
+{
+    match ring.pop() {
+        Ok(item) => {
+            log_item(alloc, hub, station, item, lines)?;
+            Ok(1)
+        }
+        Err(_) => Ok(0),
+    }
+}
+
+/// Takes all that is left in the rings of lanes that ended, up to a fault.
+fn take_left<R: Register>(
+    alloc: Global,
+    hub: &mut Hub<R>,
+    rings: &mut Vec<Consumer<Item>>,
+    ends: &mut Vec<LaneEnd>,
+    lines: &mut Vec<LogLine>,
+) -> Result<(), HubFault>
+    requires few { vec_len rings.old < 2 ^ 32 }
+    requires ends { AllZip IsEndOn ends.old.items rings.old.items }
+    ensures lines { (G : List LogLine) × (lines.new.items ≡ lines.old.items ++ G) × Serves R.holding hub.old hub.new G × TakesSome rings.old.items rings.new.items G
+        × OnOk result (TakesLeft rings.old.items ends.old.items G) }
+    ensures ends { AllZip IsEndOn ends.new.items rings.new.items × SameEnds ends.old.items ends.new.items }
+    ensures level { OnOk result (hub.new.down ≡ hub.old.down) }
+    ensures count { CountsStore (R.refusals hub.old.register) (R.refusals hub.new.register) result }
+{
+    for i in 0..rings.len() {
+        drain(alloc, hub, &mut rings[i], &mut ends[i], i as u32, lines)?;
+    }
+    Ok(())
+}
+
+/// Takes all that is left in the ring of a lane that ended, up to a fault.
+fn drain<R: Register>(
+    alloc: Global,
+    hub: &mut Hub<R>,
+    ring: &mut Consumer<Item>,
+    end: &mut LaneEnd,
+    station: u32,
+    lines: &mut Vec<LogLine>,
+) -> Result<(), HubFault>
+    requires { IsEndOn end.old ring.old }
+    ensures lines { (G : List LogLine) × (lines.new.items ≡ lines.old.items ++ G) × Serves R.holding hub.old hub.new G × TakesSomeOf station ring.old ring.new G
+        × OnOk result (TakesOf station ring.old ring.new G × (received_is ring.new ≡ end_items end.old)) }
+    ensures end { IsEndOn end.new ring.new × (end_items end.new ≡ end_items end.old) }
+    ensures level { OnOk result (hub.new.down ≡ hub.old.down) }
+    ensures count { CountsStore (R.refusals hub.old.register) (R.refusals hub.new.register) result }
+{
+    let left = ring.slots_after(&mut end.finished);
+    for _ in 0..left {
+        let item = ring.pop_known();
+        log_item(alloc, hub, station, item, lines)?;
+    }
+    Ok(())
+}
+
+/// Looks at the end of each lane: what was taken is a front of what was sent.
+fn settle_all(rings: &mut Vec<Consumer<Item>>, ends: &mut Vec<LaneEnd>)
+    requires { AllZip IsEndOn ends.old.items rings.old.items }
+    ensures { (s : ℕ) → s < vec_len rings.old → Begins (received_at rings.old.items s) (ended_at ends.old.items s) }
+{
+    for i in 0..rings.len() {
+        settle(&mut rings[i], &mut ends[i]);
+    }
+}
+
+/// Looks at the end of a lane.
+pub(crate) fn settle(ring: &mut Consumer<Item>, end: &mut LaneEnd)
+    requires { IsEndOn end.old ring.old }
+    ensures front { Begins (received_is ring.old) (end_items end.old) }
+    ensures ring { SameConsumer ring.old ring.new × (received_is ring.new ≡ received_is ring.old) }
+    ensures end { IsEndOn end.new ring.new × (end_items end.new ≡ end_items end.old) }
+{
+    ring.slots_after(&mut end.finished);
+}

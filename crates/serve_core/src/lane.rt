@@ -1,0 +1,50 @@
+//! A station's lane: a ring with room for 256 items.
+ghost use Rattle.std.specs.Prelude.{◌≡◌, [], ◌∷◌, ◌++◌, OnOk, IfErr, IfSome};
+ghost use Rattle.serve_core.specs.Lanes.{sent_items, SameLane, IsEndOf};
+
+use crate::Item;
+use rtrb::{Finished, Producer, PushError};
+
+/// How many items a lane has room for.
+pub(crate) const ROOM: usize = 256;
+
+/// The end of a lane that a station sends through, in its own thread.
+#[derive(Drop)]
+pub struct Lane {
+    pub(crate) producer: Producer<Item>,
+}
+
+/// What is left of a lane that ended. It tells what was sent through it.
+#[derive(Drop)]
+pub struct LaneEnd {
+    pub(crate) finished: Finished<Item>,
+}
+
+/// The lane is full. The item comes back.
+#[derive(Drop)]
+pub struct Full(pub Item);
+
+impl Lane {
+    /// Sends an item behind those that were sent. Full hands it back, and nothing was sent; it comes only where the lane
+    /// had no room. Takes no memory and never waits.
+    pub fn send(&mut self, item: Item) -> Result<(), Full>
+        ensures lane { SameLane self.old self.new }
+        ensures sent { OnOk result (sent_items self.new ≡ sent_items self.old ++ item ∷ []) }
+        ensures full { IfErr result (λ e. (e.0 ≡ item) × (sent_items self.new ≡ sent_items self.old)) }
+    {
+        match self.producer.push(item) {
+            Ok(()) => Ok(()),
+            Err(PushError::Full(item)) => Err(Full(item)),
+        }
+    }
+
+    /// Ends the lane. The end tells all that was sent through it; it stays out only where the intake was dropped before.
+    /// Takes no memory and never waits.
+    pub fn finish(self) -> Option<LaneEnd>
+        ensures { IfSome result (λ e. IsEndOf self e) }
+    {
+        let Lane { producer } = self;
+        let finished = producer.finish()?;
+        Some(LaneEnd { finished })
+    }
+}

@@ -1,0 +1,19 @@
+//! Threads round the hub: one feed and one lane a station.
+#![tactic(auto)]
+
+mod asking;
+mod feed;
+mod intake;
+mod item;
+mod lane;
+mod log;
+mod sending;
+mod serving;
+
+pub use feed::{Feed, ListFeed};
+pub use intake::{Intake, lanes};
+pub use item::{Item, LineFault, LogLine, Reply};
+pub use lane::{Full, Lane, LaneEnd};
+pub use log::Log;
+pub use sending::{SendsAll, Sent};
+pub use serving::ServeFault;
