@@ -16,16 +16,15 @@ pub fn is_own(text: &str) -> bool {
     let text = text
         .strip_suffix(|last: char| last.is_ascii_lowercase())
         .unwrap_or(text);
-    let mut parts = text.split('.');
-    let year = parts.next().unwrap_or("");
     let mut count = 0;
-    for part in parts {
+    for part in text.get(4..).unwrap_or("").split('.').skip(1) {
         count += 1;
         if count > 3 || !is_number(part) {
             return false;
         }
     }
-    are_digits(year.as_bytes(), 4) && count > 0
+    let bytes = text.as_bytes();
+    count > 0 && are_digits(&bytes[..4], 4) && bytes[4] == b'.'
 }
 
 pub fn is_borrowed(text: &str) -> bool {
@@ -60,25 +59,19 @@ pub fn is_loan(text: &str) -> bool {
         .is_some_and(|(year, number)| are_digits(year.as_bytes(), 4) && is_number(number))
 }
 
-/// A day of the calendar in the years 1 to 9999.
-pub fn is_day(text: &str) -> bool {
-    let bytes = text.as_bytes();
-    if bytes.len() != 10 || bytes[4] != b'-' || bytes[7] != b'-' {
-        return false;
-    }
-    if !are_digits(&bytes[..4], 4) || !are_digits(&bytes[5..7], 2) || !are_digits(&bytes[8..], 2) {
-        return false;
-    }
-    let number = |digits: &[u8]| {
-        digits
-            .iter()
-            .fold(0, |sum, byte| sum * 10 + u32::from(byte - b'0'))
+/// A day of the calendar in the years 1 to 9999, as a number whose digits are the day's.
+pub fn day(text: &str) -> Option<u32> {
+    let [y0, y1, y2, y3, b'-', m0, m1, b'-', d0, d1] = *text.as_bytes() else {
+        return None;
     };
-    let (year, month, day) = (
-        number(&bytes[..4]),
-        number(&bytes[5..7]),
-        number(&bytes[8..]),
-    );
+    let digits = [y0, y1, y2, y3, m0, m1, d0, d1];
+    if !are_digits(&digits, 8) {
+        return None;
+    }
+    let number = digits
+        .iter()
+        .fold(0, |sum, byte| sum * 10 + u32::from(byte - b'0'));
+    let (year, month, day) = (number / 10_000, number / 100 % 100, number % 100);
     let is_leap = year % 4 == 0 && (year % 100 != 0 || year % 400 == 0);
     let last = match month {
         2 => 28 + u32::from(is_leap),
@@ -86,7 +79,7 @@ pub fn is_day(text: &str) -> bool {
         1..=12 => 31,
         _ => 0,
     };
-    year > 0 && (1..=last).contains(&day)
+    (year > 0 && (1..=last).contains(&day)).then_some(number)
 }
 
 pub fn is_name(text: &str) -> bool {

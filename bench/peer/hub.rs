@@ -1,34 +1,46 @@
 //! The hub: what is said to each line.
 use crate::codes::is_thing;
-use crate::json::{self, Value};
+use crate::json::{Tape, Value};
 use crate::ledger::Ledger;
-use crate::message::{self, text, Message};
+use crate::message::{text, Fault, Message, Named};
+use crate::numbers::Numbers;
+use crate::said::Said;
 use crate::setup::Setup;
-use std::collections::BTreeMap;
-use std::fmt::Write;
 
 /// The most bytes of a line, without its line feed and a carriage return before it.
 pub const LONGEST_LINE: usize = 16_384;
-const WINDOW: u64 = 256;
+const WINDOW: usize = 256;
 const LAST: u64 = 999_999;
 
-#[derive(Default)]
 struct Station {
     posted: u64,
     is_signed: bool,
-    held: BTreeMap<u64, Message>,
+    /// What is held, each message at its number in the ring.
+    held: Vec<Option<Message>>,
 }
 
 impl Station {
+    fn new() -> Station {
+        Station {
+            posted: 0,
+            is_signed: false,
+            held: (0..WINDOW).map(|_| None).collect(),
+        }
+    }
+
     /// The first refusal of a number that holds.
     fn refusal(&self, n: u64) -> Option<&'static str> {
         if n == 0 || n > LAST {
-            Some("BadNumber")
-        } else if n <= self.posted || !self.is_signed && self.held.contains_key(&n) {
+            return Some("BadNumber");
+        }
+        let is_near = n > self.posted && n <= self.posted + WINDOW as u64;
+        if n <= self.posted
+            || !self.is_signed && is_near && self.held[n as usize % WINDOW].is_some()
+        {
             Some("Double")
         } else if self.is_signed {
             Some("SignedOff")
-        } else if n > self.posted + WINDOW {
+        } else if !is_near {
             Some("TooEarly")
         } else {
             None
@@ -39,109 +51,153 @@ impl Station {
 pub struct Hub {
     ledger: Ledger,
     stations: Vec<Station>,
+    station_names: Numbers,
+    named: Named,
+    tape: Tape,
 }
 
-enum Request {
-    Ask(String),
+enum Request<'a> {
+    Ask(&'a str),
     Scan(u64, Message),
 }
 
 /// The station's name and what it asks, else the line's first fault.
-fn read_line(line: &[u8]) -> Result<(String, Request), String> {
+fn read_line<'a>(
+    tape: &'a mut Tape,
+    named: &mut Named,
+    line: &'a [u8],
+) -> Result<(&'a str, Request<'a>), Fault> {
     if line.len() > LONGEST_LINE {
-        return Err("TooLong".to_string());
+        return Err(Fault("TooLong", ""));
     }
-    let Some(Value::Object(mut members)) = json::parse(line) else {
-        return Err("NotJson".to_string());
+    let Some(Value::Object(members)) = tape.read(line) else {
+        return Err(Fault("NotJson", ""));
     };
-    let station = text(&mut members, "station", |_| true)?;
-    if members.contains("ask") {
-        return Ok((station, Request::Ask(text(&mut members, "ask", is_thing)?)));
+    let station = text(members, "station", |_| true)?;
+    if members.get("ask").is_some() {
+        return Ok((station, Request::Ask(text(members, "ask", is_thing)?)));
     }
-    let n = match members.remove("n") {
-        None => return Err("Missing n".to_string()),
+    let n = match members.get("n") {
+        None => return Err(Fault("Missing ", "n")),
         Some(Value::Whole(n)) => n,
-        Some(_) => return Err("BadField n".to_string()),
+        Some(_) => return Err(Fault("BadField ", "n")),
     };
-    match members.remove("message") {
-        None => Err("Missing message".to_string()),
-        Some(Value::Object(members)) => Ok((station, Request::Scan(n, message::read(members)?))),
-        Some(_) => Err("BadField message".to_string()),
+    match members.get("message") {
+        None => Err(Fault("Missing ", "message")),
+        Some(Value::Object(members)) => Ok((station, Request::Scan(n, named.message(members)?))),
+        Some(_) => Err(Fault("BadField ", "message")),
     }
 }
 
 impl Hub {
-    pub fn new(setup: Setup) -> Hub {
-        let stations = setup.stations.iter().map(|_| Station::default()).collect();
+    pub fn new(setup: Setup, station_names: Numbers, named: Named) -> Hub {
         Hub {
             ledger: Ledger::new(setup),
-            stations,
+            stations: (0..station_names.len()).map(|_| Station::new()).collect(),
+            station_names,
+            named,
+            tape: Tape::default(),
         }
     }
 
     /// Does what a line asks, and appends what is said to it.
-    pub fn reply(&mut self, number: u64, line: &[u8], said: &mut String) {
-        let (name, request) = match read_line(line) {
+    pub fn reply(&mut self, number: u64, line: &[u8], said: &mut Said) {
+        let Hub {
+            ledger,
+            stations,
+            station_names,
+            named,
+            tape,
+        } = self;
+        let (name, request) = match read_line(tape, named, line) {
             Ok(read) => read,
-            Err(fault) => {
-                writeln!(said, "line {number} bad {fault}").unwrap();
+            Err(Fault(word, key)) => {
+                said.text("line ")
+                    .number(number)
+                    .text(" bad ")
+                    .text(word)
+                    .text(key)
+                    .text("\n");
                 return;
             }
         };
-        let Some(&station) = self.ledger.setup.station_numbers.get(&name) else {
-            writeln!(said, "line {number} refused UnknownStation").unwrap();
+        let Some(station) = station_names.find(name) else {
+            said.text("line ")
+                .number(number)
+                .text(" refused UnknownStation\n");
             return;
         };
         match request {
-            Request::Ask(code) => self.answer(&name, &code, said),
-            Request::Scan(n, message) => self.arrive(station, &name, n, message, said),
-        }
-    }
-
-    fn answer(&self, name: &str, code: &str, said: &mut String) {
-        write!(said, "{name} ask {code} ").unwrap();
-        let setup = &self.ledger.setup;
-        let Some(&thing) = setup.thing_numbers.get(code) else {
-            said.push_str("unknown\n");
-            return;
-        };
-        let Some(place) = self.ledger.nest.place(thing) else {
-            said.push_str("unplaced\n");
-            return;
-        };
-        write!(said, "at {}", setup.places[place].code).unwrap();
-        for (i, container) in self.ledger.nest.chain(thing).into_iter().enumerate() {
-            let word = if i == 0 { " in " } else { " " };
-            write!(said, "{word}{}", setup.things[container].code).unwrap();
-        }
-        said.push('\n');
-    }
-
-    fn arrive(&mut self, station: usize, name: &str, n: u64, message: Message, said: &mut String) {
-        let window = &mut self.stations[station];
-        if let Some(refusal) = window.refusal(n) {
-            writeln!(said, "{name} {n} refused {refusal}").unwrap();
-            return;
-        }
-        window.held.insert(n, message);
-        if n > window.posted + 1 {
-            writeln!(said, "{name} {n} held").unwrap();
-            return;
-        }
-        while let Some(message) = window.held.remove(&(window.posted + 1)) {
-            window.posted += 1;
-            window.is_signed = matches!(message, Message::SignOff { .. });
-            let verdict = self.ledger.post(station, window.posted, message);
-            writeln!(
-                said,
-                "{name} {} posted {} {verdict}",
-                window.posted,
-                self.ledger.rows.len()
-            )
-            .unwrap();
-            if window.is_signed {
-                return;
+            Request::Ask(code) => answer(ledger, named, name, code, said),
+            Request::Scan(n, message) => {
+                let window = &mut stations[station as usize];
+                arrive(ledger, named, window, station as u8, name, n, message, said);
             }
+        }
+    }
+}
+
+fn answer(ledger: &Ledger, named: &Named, name: &str, code: &str, said: &mut Said) {
+    said.text(name).text(" ask ").text(code).text(" ");
+    let Some(thing) = named
+        .things
+        .find(code)
+        .filter(|&thing| ledger.setup.has_thing(thing))
+    else {
+        said.text("unknown\n");
+        return;
+    };
+    let Some(place) = ledger.nest.place(thing) else {
+        said.text("unplaced\n");
+        return;
+    };
+    said.text("at ").text(named.places.text(place));
+    for (i, container) in ledger.nest.chain(thing).enumerate() {
+        said.text(if i == 0 { " in " } else { " " })
+            .text(named.things.text(container));
+    }
+    said.text("\n");
+}
+
+#[allow(clippy::too_many_arguments)]
+fn arrive(
+    ledger: &mut Ledger,
+    named: &Named,
+    window: &mut Station,
+    station: u8,
+    name: &str,
+    n: u64,
+    message: Message,
+    said: &mut Said,
+) {
+    if let Some(refusal) = window.refusal(n) {
+        said.text(name)
+            .text(" ")
+            .number(n)
+            .text(" refused ")
+            .text(refusal)
+            .text("\n");
+        return;
+    }
+    window.held[n as usize % WINDOW] = Some(message);
+    if n > window.posted + 1 {
+        said.text(name).text(" ").number(n).text(" held\n");
+        return;
+    }
+    while let Some(message) = window.held[(window.posted as usize + 1) % WINDOW].take() {
+        window.posted += 1;
+        window.is_signed = matches!(message, Message::SignOff { .. });
+        let verdict = ledger.post(named, station, window.posted as u32, message);
+        said.text(name)
+            .text(" ")
+            .number(window.posted)
+            .text(" posted ");
+        said.number(ledger.rows.len() as u64)
+            .text(" ")
+            .text(verdict.name())
+            .text("\n");
+        if window.is_signed {
+            return;
         }
     }
 }

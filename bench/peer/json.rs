@@ -1,48 +1,127 @@
-//! A small exact reader of JSON (RFC 8259): of a key that stands twice the last counts.
+//! A small exact reader of JSON (RFC 8259) onto a tape, which serves one line after the other.
 /// The most arrays and objects within each other.
 const DEEPEST: usize = 127;
 
-pub enum Value {
+/// A value, or the name of a member, which its value follows.
+enum Node {
     /// Null, true, false, or a number that isn't a whole number of 64 bits.
     Other,
     Whole(u64),
-    Text(String),
-    List(Vec<Value>),
-    Object(Members),
+    /// From where to where it stands in the line.
+    Text(usize, usize),
+    /// From where to where it stands in what was decoded: it had escapes.
+    Decoded(usize, usize),
+    /// Where the tape goes on after its items, or its members.
+    List(usize),
+    Object(usize),
 }
 
-/// The members of an object, as they stand.
-pub struct Members(Vec<(String, Value)>);
+#[derive(Default)]
+pub struct Tape {
+    nodes: Vec<Node>,
+    decoded: String,
+}
 
-impl Members {
-    /// Takes the last value of a key out.
-    pub fn remove(&mut self, key: &str) -> Option<Value> {
-        let at = self.0.iter().rposition(|member| member.0 == key)?;
-        Some(self.0.remove(at).1)
+#[derive(Clone, Copy)]
+pub enum Value<'a> {
+    Other,
+    Whole(u64),
+    Text(&'a str),
+    List(Part<'a>),
+    Object(Part<'a>),
+}
+
+/// The items of a list, or the members of an object.
+#[derive(Clone, Copy)]
+pub struct Part<'a> {
+    tape: &'a Tape,
+    line: &'a str,
+    first: usize,
+    end: usize,
+}
+
+impl<'a> Part<'a> {
+    /// The last value of a name.
+    pub fn get(&self, name: &str) -> Option<Value<'a>> {
+        let (mut at, mut found) = (self.first, None);
+        while at < self.end {
+            if matches!(self.value(at), Value::Text(text) if text == name) {
+                found = Some(at + 1);
+            }
+            at = self.after(at + 1);
+        }
+        found.map(|at| self.value(at))
     }
 
-    pub fn contains(&self, key: &str) -> bool {
-        self.0.iter().any(|member| member.0 == key)
+    pub fn items(self) -> impl Iterator<Item = Value<'a>> {
+        let mut at = self.first;
+        std::iter::from_fn(move || {
+            let item = (at < self.end).then(|| self.value(at));
+            at = self.after(at);
+            item
+        })
+    }
+
+    fn value(&self, at: usize) -> Value<'a> {
+        let part = |end| Part {
+            first: at + 1,
+            end,
+            ..*self
+        };
+        match self.tape.nodes[at] {
+            Node::Other => Value::Other,
+            Node::Whole(number) => Value::Whole(number),
+            Node::Text(start, end) => Value::Text(&self.line[start..end]),
+            Node::Decoded(start, end) => Value::Text(&self.tape.decoded[start..end]),
+            Node::List(end) => Value::List(part(end)),
+            Node::Object(end) => Value::Object(part(end)),
+        }
+    }
+
+    /// Where the value after this one stands.
+    fn after(&self, at: usize) -> usize {
+        match self.tape.nodes.get(at) {
+            Some(Node::List(end) | Node::Object(end)) => *end,
+            _ => at + 1,
+        }
     }
 }
 
-/// What a text spells, or None where it is no JSON.
-pub fn parse(text: &[u8]) -> Option<Value> {
-    let text = std::str::from_utf8(text).ok()?;
-    let mut reader = Reader { text, at: 0 };
-    let value = reader.value(0)?;
-    reader.space();
-    (reader.at == text.len()).then_some(value)
+impl Tape {
+    /// What a line spells, or None where it is no JSON.
+    pub fn read<'a>(&'a mut self, line: &'a [u8]) -> Option<Value<'a>> {
+        let line = std::str::from_utf8(line).ok()?;
+        self.nodes.clear();
+        self.decoded.clear();
+        let mut reader = Reader {
+            line,
+            at: 0,
+            tape: self,
+        };
+        reader.value(0)?;
+        reader.space();
+        if reader.at < line.len() {
+            return None;
+        }
+        let all = Part {
+            tape: self,
+            line,
+            first: 0,
+            end: self.nodes.len(),
+        };
+        Some(all.value(0))
+    }
 }
 
-struct Reader<'a> {
-    text: &'a str,
+struct Reader<'a, 't> {
+    line: &'a str,
     at: usize,
+    tape: &'t mut Tape,
 }
 
-impl Reader<'_> {
+impl Reader<'_, '_> {
     fn peek(&self) -> Option<u8> {
-        self.text.as_bytes().get(self.at).copied()
+        self.line.as_bytes().get(self.at).copied()
     }
 
     fn space(&mut self) {
@@ -59,93 +138,120 @@ impl Reader<'_> {
         is_next
     }
 
-    fn word(&mut self, word: &[u8]) -> Option<Value> {
-        if !self.text.as_bytes()[self.at..].starts_with(word) {
-            return None;
-        }
+    fn word(&mut self, word: &[u8]) -> Option<()> {
+        let is_next = self.line.as_bytes()[self.at..].starts_with(word);
         self.at += word.len();
-        Some(Value::Other)
+        is_next.then_some(())
     }
 
-    fn value(&mut self, depth: usize) -> Option<Value> {
+    fn value(&mut self, depth: usize) -> Option<()> {
         self.space();
-        match self.peek()? {
-            b'{' => self.object(depth + 1),
-            b'[' => self.list(depth + 1),
-            b'"' => self.string().map(Value::Text),
-            b't' => self.word(b"true"),
-            b'f' => self.word(b"false"),
-            b'n' => self.word(b"null"),
-            _ => self.number(),
-        }
+        let node = match self.peek()? {
+            b'{' => return self.object(depth + 1),
+            b'[' => return self.list(depth + 1),
+            b'"' => return self.string(),
+            b't' => self.word(b"true").map(|()| Node::Other)?,
+            b'f' => self.word(b"false").map(|()| Node::Other)?,
+            b'n' => self.word(b"null").map(|()| Node::Other)?,
+            _ => self.number()?,
+        };
+        self.tape.nodes.push(node);
+        Some(())
     }
 
-    fn object(&mut self, depth: usize) -> Option<Value> {
+    fn object(&mut self, depth: usize) -> Option<()> {
+        let start = self.begin(depth)?;
+        if !self.takes(b'}') {
+            loop {
+                self.space();
+                if self.peek()? != b'"' {
+                    return None;
+                }
+                self.string()?;
+                if !self.takes(b':') {
+                    return None;
+                }
+                self.value(depth)?;
+                if self.takes(b'}') {
+                    break;
+                }
+                if !self.takes(b',') {
+                    return None;
+                }
+            }
+        }
+        self.tape.nodes[start] = Node::Object(self.tape.nodes.len());
+        Some(())
+    }
+
+    fn list(&mut self, depth: usize) -> Option<()> {
+        let start = self.begin(depth)?;
+        if !self.takes(b']') {
+            loop {
+                self.value(depth)?;
+                if self.takes(b']') {
+                    break;
+                }
+                if !self.takes(b',') {
+                    return None;
+                }
+            }
+        }
+        self.tape.nodes[start] = Node::List(self.tape.nodes.len());
+        Some(())
+    }
+
+    /// Takes the bracket, and makes a node, which is set when its end is known.
+    fn begin(&mut self, depth: usize) -> Option<usize> {
         if depth > DEEPEST {
             return None;
         }
         self.at += 1;
-        let mut members = Vec::new();
-        if self.takes(b'}') {
-            return Some(Value::Object(Members(members)));
-        }
-        loop {
-            self.space();
-            if self.peek()? != b'"' {
-                return None;
-            }
-            let key = self.string()?;
-            if !self.takes(b':') {
-                return None;
-            }
-            members.push((key, self.value(depth)?));
-            if self.takes(b'}') {
-                return Some(Value::Object(Members(members)));
-            }
-            if !self.takes(b',') {
-                return None;
-            }
-        }
+        self.tape.nodes.push(Node::Other);
+        Some(self.tape.nodes.len() - 1)
     }
 
-    fn list(&mut self, depth: usize) -> Option<Value> {
-        if depth > DEEPEST {
-            return None;
-        }
+    fn string(&mut self) -> Option<()> {
         self.at += 1;
-        let mut items = Vec::new();
-        if self.takes(b']') {
-            return Some(Value::List(items));
+        let start = self.at;
+        let end = self.plain()?;
+        if end == b'"' {
+            self.tape.nodes.push(Node::Text(start, self.at - 1));
+            return Some(());
         }
-        loop {
-            items.push(self.value(depth)?);
-            if self.takes(b']') {
-                return Some(Value::List(items));
-            }
-            if !self.takes(b',') {
-                return None;
-            }
-        }
+        self.decoded(start, end)
     }
 
-    fn string(&mut self) -> Option<String> {
-        self.at += 1;
-        let mut found = String::new();
+    /// Goes over plain bytes, and takes the one that ends them: a quote, a backslash or a control character.
+    fn plain(&mut self) -> Option<u8> {
+        let rest = &self.line.as_bytes()[self.at..];
+        let length = rest
+            .iter()
+            .position(|byte| matches!(byte, b'"' | b'\\' | 0..=31))?;
+        self.at += length + 1;
+        Some(rest[length])
+    }
+
+    /// The rest of a text with escapes, of which the first stands behind the plain bytes from `start` on.
+    fn decoded(&mut self, start: usize, end: u8) -> Option<()> {
+        let (mut start, mut end, first) = (start, end, self.tape.decoded.len());
         loop {
-            let start = self.at;
-            let rest = &self.text.as_bytes()[start..];
-            self.at += rest
-                .iter()
-                .position(|byte| matches!(byte, b'"' | b'\\' | 0..=31))?;
-            found.push_str(&self.text[start..self.at]);
-            let ended = self.peek()?;
-            self.at += 1;
-            match ended {
-                b'"' => return Some(found),
-                b'\\' => found.push(self.escape()?),
+            self.tape.decoded.push_str(&self.line[start..self.at - 1]);
+            match end {
+                b'"' => break,
+                b'\\' => {
+                    let character = self.escape()?;
+                    self.tape.decoded.push(character);
+                }
                 _ => return None,
             }
+            start = self.at;
+            end = self.plain()?;
         }
+        self.tape
+            .nodes
+            .push(Node::Decoded(first, self.tape.decoded.len()));
+        Some(())
     }
 
     fn escape(&mut self) -> Option<char> {
@@ -194,7 +300,7 @@ impl Reader<'_> {
         (self.at > start).then_some(())
     }
 
-    fn number(&mut self) -> Option<Value> {
+    fn number(&mut self) -> Option<Node> {
         let start = self.at;
         self.at += usize::from(self.peek() == Some(b'-'));
         if self.peek() == Some(b'0') {
@@ -211,15 +317,11 @@ impl Reader<'_> {
             self.at += usize::from(matches!(self.peek(), Some(b'+' | b'-')));
             self.digits()?;
         }
-        let text = &self.text[start..self.at];
+        let text = &self.line[start..self.at];
         match text.parse() {
-            Ok(whole) => Some(Value::Whole(whole)),
+            Ok(whole) => Some(Node::Whole(whole)),
             // a number beyond those of floating point is none
-            Err(_) => text
-                .parse::<f64>()
-                .ok()?
-                .is_finite()
-                .then_some(Value::Other),
+            Err(_) => text.parse::<f64>().ok()?.is_finite().then_some(Node::Other),
         }
     }
 }

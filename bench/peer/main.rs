@@ -1,4 +1,4 @@
-//! A plain program that does the proved program's job, with no proof: to compare replies and times with.
+//! A plain program that does the proved program's job, made to be fast, with no proof: to compare replies and times with.
 //! `rustc -O --edition 2021 bench/peer/main.rs -o bin/peer`; it reads a session and writes the replies.
 mod codes;
 mod hub;
@@ -6,19 +6,48 @@ mod json;
 mod ledger;
 mod message;
 mod nest;
+mod numbers;
+mod said;
 mod setup;
 
 use hub::{Hub, LONGEST_LINE};
-use std::io::{self, BufRead, BufReader, BufWriter, Write};
+use said::Said;
+use std::io::{self, BufRead, BufReader, Write};
 use std::process::ExitCode;
 
 const LONGEST_HEAD: usize = 8_388_608;
+/// What is said is written when it is so long.
+const LONG: usize = 65_536;
+
+/// Where the first line feed stands: eight bytes are looked at together, until one of these is it.
+fn line_feed(bytes: &[u8]) -> Option<usize> {
+    let mut at = 0;
+    for eight in bytes.chunks_exact(8) {
+        let apart = u64::from_le_bytes(eight.try_into().unwrap()) ^ 0x0a0a_0a0a_0a0a_0a0a;
+        if apart.wrapping_sub(0x0101_0101_0101_0101) & !apart & 0x8080_8080_8080_8080 != 0 {
+            break;
+        }
+        at += 8;
+    }
+    let rest = bytes[at..].iter().position(|&byte| byte == b'\n')?;
+    Some(at + rest)
+}
+
+fn written(output: &mut impl Write, said: &mut Said) -> Result<(), &'static str> {
+    output
+        .write_all(&said.0)
+        .and_then(|()| output.flush())
+        .map_err(|_| "write")?;
+    said.0.clear();
+    Ok(())
+}
 
 /// Reads a line, of which so many bytes are kept, and tells whether a line feed ended it. Where more come, the rest is
-/// skipped, or the fault of a line that is full is told at once. Before a read that may wait the output is flushed.
+/// skipped, or the fault of a line that is full is told at once. Before a read that may wait what is said is written.
 fn read_line<R: io::Read>(
     input: &mut BufReader<R>,
     output: &mut impl Write,
+    said: &mut Said,
     line: &mut Vec<u8>,
     most: usize,
     when_full: Result<(), &'static str>,
@@ -26,10 +55,10 @@ fn read_line<R: io::Read>(
     line.clear();
     loop {
         if input.buffer().is_empty() {
-            output.flush().map_err(|_| "write")?;
+            written(output, said)?;
         }
         let shown = input.fill_buf().map_err(|_| "read")?;
-        let feed = shown.iter().position(|&byte| byte == b'\n');
+        let feed = line_feed(shown);
         let piece = &shown[..feed.unwrap_or(shown.len())];
         line.extend_from_slice(&piece[..piece.len().min(most - line.len())]);
         let taken = piece.len() + usize::from(feed.is_some());
@@ -49,11 +78,12 @@ fn without_return(line: &[u8]) -> &[u8] {
 
 /// The bytes before the first empty line, or all bytes.
 fn read_head<R: io::Read>(input: &mut BufReader<R>) -> Result<Vec<u8>, &'static str> {
-    let (mut head, mut line) = (Vec::new(), Vec::new());
+    let (mut head, mut line, mut said) = (Vec::new(), Vec::new(), Said::default());
     loop {
         let fed = read_line(
             input,
             &mut io::sink(),
+            &mut said,
             &mut line,
             LONGEST_HEAD + 2,
             Err("head"),
@@ -73,26 +103,32 @@ fn read_head<R: io::Read>(input: &mut BufReader<R>) -> Result<Vec<u8>, &'static 
 }
 
 fn session() -> Result<(), String> {
-    let mut input = BufReader::new(io::stdin().lock());
-    let mut output = BufWriter::new(io::stdout().lock());
-    let setup = setup::read(&read_head(&mut input)?).map_err(|fault| format!("setup {fault}"))?;
-    let mut hub = Hub::new(setup);
-    let (mut line, mut said) = (Vec::new(), String::new());
-    let mut number = 0;
-    loop {
-        let fed = read_line(&mut input, &mut output, &mut line, LONGEST_LINE + 2, Ok(()))?;
-        number += 1;
+    let mut input = BufReader::with_capacity(LONG, io::stdin().lock());
+    let mut output = io::stdout().lock();
+    let head = read_head(&mut input)?;
+    let mut hub: Hub = setup::read(&head).map_err(|fault| format!("setup {fault}"))?;
+    let (mut line, mut said) = (Vec::new(), Said::default());
+    for number in 1.. {
+        let fed = read_line(
+            &mut input,
+            &mut output,
+            &mut said,
+            &mut line,
+            LONGEST_LINE + 2,
+            Ok(()),
+        )?;
         let text = without_return(&line);
         if !text.is_empty() {
-            said.clear();
             hub.reply(number, text, &mut said);
-            output.write_all(said.as_bytes()).map_err(|_| "write")?;
+        }
+        if said.0.len() >= LONG || !fed {
+            written(&mut output, &mut said)?;
         }
         if !fed {
-            output.flush().map_err(|_| "write")?;
-            return Ok(());
+            break;
         }
     }
+    Ok(())
 }
 
 fn main() -> ExitCode {

@@ -1,204 +1,175 @@
-//! The nine kinds of message, how they are read, and their text in the record.
-use crate::codes::{is_day, is_loan, is_name, is_place, is_thing};
-use crate::json::{Members, Value};
+//! The nine kinds of message, and how they are read: what they name is kept once, under a number.
+use crate::codes::{day, is_loan, is_name, is_place, is_thing};
+use crate::json::{Part, Value};
+use crate::numbers::Numbers;
 
+/// Like a row it is kept whole, also what no reply tells.
+#[allow(dead_code)]
 pub enum Message {
     Move {
-        thing: String,
-        place: String,
-        day: String,
+        thing: u32,
+        place: u32,
+        day: u32,
     },
     Pack {
-        thing: String,
-        container: String,
-        day: String,
+        thing: u32,
+        container: u32,
+        day: u32,
     },
-    Agree {
-        loan: String,
-        partner: String,
-        objects: Vec<String>,
-        first: String,
-        last: String,
-    },
+    Agree(Box<Agreement>),
     Authorise {
-        loan: String,
-        by: String,
+        loan: u32,
+        by: u32,
     },
     Exit {
-        thing: String,
-        loan: String,
-        day: String,
+        thing: u32,
+        loan: u32,
+        day: u32,
     },
     Return {
-        thing: String,
-        loan: String,
-        place: String,
-        day: String,
+        thing: u32,
+        loan: u32,
+        place: u32,
+        day: u32,
     },
     Receive {
-        thing: String,
-        loan: String,
-        place: String,
-        day: String,
+        thing: u32,
+        loan: u32,
+        place: u32,
+        day: u32,
     },
     SignOff {
-        by: String,
+        by: u32,
     },
     Extend {
-        loan: String,
-        last: String,
+        loan: u32,
+        last: u32,
     },
 }
 
-/// The text under a key, where it has this shape; else the fault.
-pub fn text(members: &mut Members, key: &str, fits: fn(&str) -> bool) -> Result<String, String> {
-    match members.remove(key) {
-        None => Err(format!("Missing {key}")),
-        Some(Value::Text(text)) if fits(&text) => Ok(text),
-        Some(_) => Err(format!("BadField {key}")),
+pub struct Agreement {
+    pub loan: u32,
+    pub partner: u32,
+    pub objects: Vec<u32>,
+    pub first: u32,
+    pub last: u32,
+}
+
+/// All that messages name: first the places and things of the setup, then what came with the messages.
+#[derive(Default)]
+pub struct Named {
+    pub places: Numbers,
+    pub things: Numbers,
+    pub loans: Numbers,
+    pub names: Numbers,
+}
+
+/// What is wrong with a line, and its key, which is empty where it has none.
+pub struct Fault(pub &'static str, pub &'static str);
+
+/// The text under a key, where it has this shape.
+pub fn text<'a>(
+    part: Part<'a>,
+    key: &'static str,
+    fits: fn(&str) -> bool,
+) -> Result<&'a str, Fault> {
+    match part.get(key) {
+        None => Err(Fault("Missing ", key)),
+        Some(Value::Text(text)) if fits(text) => Ok(text),
+        Some(_) => Err(Fault("BadField ", key)),
     }
 }
 
-fn objects(members: &mut Members) -> Result<Vec<String>, String> {
-    let bad = || "BadField objects".to_string();
-    let items = match members.remove("objects") {
-        None => return Err("Missing objects".to_string()),
-        Some(Value::List(items)) if items.len() <= 256 => items,
-        Some(_) => return Err(bad()),
-    };
-    let object = |item| match item {
-        Value::Text(text) if is_thing(&text) => Ok(text),
-        _ => Err(bad()),
-    };
-    items.into_iter().map(object).collect()
+fn day_at(part: Part, key: &'static str) -> Result<u32, Fault> {
+    day(text(part, key, |_| true)?).ok_or(Fault("BadField ", key))
 }
 
-/// The message of these members, else their first fault.
-pub fn read(mut members: Members) -> Result<Message, String> {
-    let kind = match members.remove("kind") {
-        None => return Err("Missing kind".to_string()),
-        Some(Value::Text(kind)) => kind,
-        Some(_) => return Err("BadKind".to_string()),
-    };
-    let m = &mut members;
-    // fields are read in the order in which they stand here
-    Ok(match kind.as_str() {
-        "move" => Message::Move {
-            thing: text(m, "thing", is_thing)?,
-            place: text(m, "place", is_place)?,
-            day: text(m, "day", is_day)?,
-        },
-        "pack" => Message::Pack {
-            thing: text(m, "thing", is_thing)?,
-            container: text(m, "container", is_thing)?,
-            day: text(m, "day", is_day)?,
-        },
-        "agree" => Message::Agree {
-            loan: text(m, "loan", is_loan)?,
-            partner: text(m, "partner", is_place)?,
-            objects: objects(m)?,
-            first: text(m, "first", is_day)?,
-            last: text(m, "last", is_day)?,
-        },
-        "authorise" => Message::Authorise {
-            loan: text(m, "loan", is_loan)?,
-            by: text(m, "by", is_name)?,
-        },
-        "exit" => Message::Exit {
-            thing: text(m, "thing", is_thing)?,
-            loan: text(m, "loan", is_loan)?,
-            day: text(m, "day", is_day)?,
-        },
-        "return" => Message::Return {
-            thing: text(m, "thing", is_thing)?,
-            loan: text(m, "loan", is_loan)?,
-            place: text(m, "place", is_place)?,
-            day: text(m, "day", is_day)?,
-        },
-        "receive" => Message::Receive {
-            thing: text(m, "thing", is_thing)?,
-            loan: text(m, "loan", is_loan)?,
-            place: text(m, "place", is_place)?,
-            day: text(m, "day", is_day)?,
-        },
-        "signoff" => Message::SignOff {
-            by: text(m, "by", is_name)?,
-        },
-        "extend" => Message::Extend {
-            loan: text(m, "loan", is_loan)?,
-            last: text(m, "last", is_day)?,
-        },
-        _ => return Err("BadKind".to_string()),
-    })
-}
+impl Named {
+    fn thing(&mut self, part: Part, key: &'static str) -> Result<u32, Fault> {
+        Ok(self.things.number(text(part, key, is_thing)?))
+    }
 
-/// A name as JSON: it has no control characters.
-fn quoted(name: &str) -> String {
-    format!("\"{}\"", name.replace('\\', "\\\\").replace('"', "\\\""))
-}
+    fn place(&mut self, part: Part, key: &'static str) -> Result<u32, Fault> {
+        Ok(self.places.number(text(part, key, is_place)?))
+    }
 
-impl Message {
-    /// The message's text in the record: its keys stand in ascending order.
-    pub fn body(&self) -> String {
-        match self {
-            Message::Move { thing, place, day } => {
-                format!(r#"{{"day":"{day}","kind":"move","place":"{place}","thing":"{thing}"}}"#)
-            }
-            Message::Pack {
-                thing,
-                container,
-                day,
-            } => {
-                format!(
-                    r#"{{"container":"{container}","day":"{day}","kind":"pack","thing":"{thing}"}}"#
-                )
-            }
-            Message::Agree {
-                loan,
-                partner,
-                objects,
-                first,
-                last,
-            } => {
-                let listed: Vec<String> = objects.iter().map(|object| quoted(object)).collect();
-                format!(
-                    r#"{{"first":"{first}","kind":"agree","last":"{last}","loan":"{loan}","objects":[{}],"partner":"{partner}"}}"#,
-                    listed.join(",")
-                )
-            }
-            Message::Authorise { loan, by } => {
-                format!(
-                    r#"{{"by":{},"kind":"authorise","loan":"{loan}"}}"#,
-                    quoted(by)
-                )
-            }
-            Message::Exit { thing, loan, day } => {
-                format!(r#"{{"day":"{day}","kind":"exit","loan":"{loan}","thing":"{thing}"}}"#)
-            }
-            Message::Return {
-                thing,
-                loan,
-                place,
-                day,
-            } => {
-                format!(
-                    r#"{{"day":"{day}","kind":"return","loan":"{loan}","place":"{place}","thing":"{thing}"}}"#
-                )
-            }
-            Message::Receive {
-                thing,
-                loan,
-                place,
-                day,
-            } => {
-                format!(
-                    r#"{{"day":"{day}","kind":"receive","loan":"{loan}","place":"{place}","thing":"{thing}"}}"#
-                )
-            }
-            Message::SignOff { by } => format!(r#"{{"by":{},"kind":"signoff"}}"#, quoted(by)),
-            Message::Extend { loan, last } => {
-                format!(r#"{{"kind":"extend","last":"{last}","loan":"{loan}"}}"#)
+    fn loan(&mut self, part: Part) -> Result<u32, Fault> {
+        Ok(self.loans.number(text(part, "loan", is_loan)?))
+    }
+
+    fn by(&mut self, part: Part) -> Result<u32, Fault> {
+        Ok(self.names.number(text(part, "by", is_name)?))
+    }
+
+    fn objects(&mut self, part: Part) -> Result<Vec<u32>, Fault> {
+        let bad = Fault("BadField ", "objects");
+        let Value::List(items) = part.get("objects").ok_or(Fault("Missing ", "objects"))? else {
+            return Err(bad);
+        };
+        let mut objects = Vec::new();
+        for item in items.items() {
+            match item {
+                Value::Text(text) if is_thing(text) && objects.len() < 256 => {
+                    objects.push(self.things.number(text));
+                }
+                _ => return Err(bad),
             }
         }
+        Ok(objects)
+    }
+
+    /// The message of these members, else their first fault: fields are read in the order in which they stand here.
+    pub fn message(&mut self, part: Part) -> Result<Message, Fault> {
+        let kind = match part.get("kind") {
+            None => return Err(Fault("Missing ", "kind")),
+            Some(Value::Text(kind)) => kind,
+            Some(_) => return Err(Fault("BadKind", "")),
+        };
+        Ok(match kind {
+            "move" => Message::Move {
+                thing: self.thing(part, "thing")?,
+                place: self.place(part, "place")?,
+                day: day_at(part, "day")?,
+            },
+            "pack" => Message::Pack {
+                thing: self.thing(part, "thing")?,
+                container: self.thing(part, "container")?,
+                day: day_at(part, "day")?,
+            },
+            "agree" => Message::Agree(Box::new(Agreement {
+                loan: self.loan(part)?,
+                partner: self.place(part, "partner")?,
+                objects: self.objects(part)?,
+                first: day_at(part, "first")?,
+                last: day_at(part, "last")?,
+            })),
+            "authorise" => Message::Authorise {
+                loan: self.loan(part)?,
+                by: self.by(part)?,
+            },
+            "exit" => Message::Exit {
+                thing: self.thing(part, "thing")?,
+                loan: self.loan(part)?,
+                day: day_at(part, "day")?,
+            },
+            "return" => Message::Return {
+                thing: self.thing(part, "thing")?,
+                loan: self.loan(part)?,
+                place: self.place(part, "place")?,
+                day: day_at(part, "day")?,
+            },
+            "receive" => Message::Receive {
+                thing: self.thing(part, "thing")?,
+                loan: self.loan(part)?,
+                place: self.place(part, "place")?,
+                day: day_at(part, "day")?,
+            },
+            "signoff" => Message::SignOff { by: self.by(part)? },
+            "extend" => Message::Extend {
+                loan: self.loan(part)?,
+                last: day_at(part, "last")?,
+            },
+            _ => return Err(Fault("BadKind", "")),
+        })
     }
 }

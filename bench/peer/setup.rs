@@ -1,58 +1,79 @@
 //! The setup: stations, places and things, read from rows of comma-separated fields.
 use crate::codes;
-use std::collections::HashMap;
+use crate::hub::Hub;
+use crate::message::Named;
+use crate::numbers::Numbers;
 
 #[derive(Default)]
 pub struct Setup {
-    pub stations: Vec<String>,
-    pub station_numbers: HashMap<String, usize>,
-    pub places: Vec<Place>,
-    pub place_numbers: HashMap<String, usize>,
+    /// Of each place whether it is the museum's own; places and things go by their numbers.
+    insides: Vec<bool>,
     pub things: Vec<Thing>,
-    pub thing_numbers: HashMap<String, usize>,
 }
 
-pub struct Place {
-    pub code: String,
-    pub inside: bool,
+#[derive(Clone, Copy, PartialEq)]
+enum Kind {
+    Own,
+    Borrowed,
+    Container,
 }
 
 pub struct Thing {
-    pub code: String,
+    kind: Kind,
     #[allow(dead_code)]
-    pub normal: Option<usize>,
+    normal: Option<u32>,
 }
 
-impl Thing {
-    pub fn is_container(&self) -> bool {
-        self.code.starts_with('C')
+impl Setup {
+    pub fn has_place(&self, place: u32) -> bool {
+        (place as usize) < self.insides.len()
     }
 
-    pub fn is_borrowed(&self) -> bool {
-        self.code.starts_with('L')
+    pub fn is_inside(&self, place: u32) -> bool {
+        self.insides[place as usize]
+    }
+
+    pub fn has_thing(&self, thing: u32) -> bool {
+        (thing as usize) < self.things.len()
+    }
+
+    pub fn is_container(&self, thing: u32) -> bool {
+        self.things[thing as usize].kind == Kind::Container
+    }
+
+    pub fn is_borrowed(&self, thing: u32) -> bool {
+        self.things[thing as usize].kind == Kind::Borrowed
     }
 }
 
-/// The setup that the bytes list, or what is printed of their first fault.
-pub fn read(bytes: &[u8]) -> Result<Setup, String> {
+/// What is read of a setup, row by row.
+#[derive(Default)]
+struct Reading {
+    setup: Setup,
+    stations: Numbers,
+    named: Named,
+}
+
+/// A hub over the setup that the bytes list, or what is printed of their first fault.
+pub fn read(bytes: &[u8]) -> Result<Hub, String> {
     let text = std::str::from_utf8(bytes).map_err(|_| "NotCsv".to_string())?;
     let mut rest = text.strip_prefix('\u{feff}').unwrap_or(text);
-    let (mut setup, mut number) = (Setup::default(), 0);
+    let (mut reading, mut number) = (Reading::default(), 0);
     while let Some(mut row) = next_row(&mut rest) {
         number += 1;
         while row.last().is_some_and(|field| field.is_empty()) {
             row.pop();
         }
         if !row.is_empty() {
-            setup
+            reading
                 .add(&row)
                 .map_err(|fault| format!("{fault} row {number}"))?;
         }
     }
-    if setup.stations.is_empty() {
+    if reading.stations.len() == 0 {
         return Err("NoStation".to_string());
     }
-    Ok(setup)
+    Ok(Hub::new(reading.setup, reading.stations, reading.named))
 }
 
 /// The next row of RFC 4180. It ends at a line feed, a carriage return or both, and empty lines aren't rows.
@@ -94,7 +115,7 @@ fn take_quoted(text: &mut &str) -> String {
     }
 }
 
-impl Setup {
+impl Reading {
     fn add(&mut self, row: &[String]) -> Result<(), &'static str> {
         let (kind, fields) = (row[0].as_str(), &row[1..]);
         let wanted = match kind {
@@ -107,74 +128,60 @@ impl Setup {
         {
             return Err("BadFields");
         }
-        let code = fields[0].clone();
+        let code = fields[0].as_str();
         match kind {
-            "station" => self.add_station(code),
-            "place" => self.add_place(code, fields[1] == "inside"),
-            "box" => self.add_thing(codes::is_container(&code), code, None),
-            "lent" => self.add_thing(codes::is_borrowed(&code), code, None),
+            "station" => add_new(&mut self.stations, code, codes::is_station(code), 64),
+            "place" => {
+                add_new(&mut self.named.places, code, codes::is_place(code), 10_000)?;
+                self.setup.insides.push(fields[1] == "inside");
+                Ok(())
+            }
+            "box" => self.add_thing(codes::is_container(code), code, Kind::Container, None),
+            "lent" => self.add_thing(codes::is_borrowed(code), code, Kind::Borrowed, None),
             _ => {
-                let is_right = codes::is_own(&code) && codes::is_place(&fields[1]);
-                self.add_thing(is_right, code, Some(&fields[1]))
+                let is_right = codes::is_own(code) && codes::is_place(&fields[1]);
+                self.add_thing(is_right, code, Kind::Own, Some(&fields[1]))
             }
         }
-    }
-
-    fn add_station(&mut self, name: String) -> Result<(), &'static str> {
-        if !codes::is_station(&name) {
-            return Err("BadCode");
-        }
-        if self.station_numbers.contains_key(&name) {
-            return Err("Repeated");
-        }
-        if self.stations.len() >= 64 {
-            return Err("TooMany");
-        }
-        self.station_numbers
-            .insert(name.clone(), self.stations.len());
-        self.stations.push(name);
-        Ok(())
-    }
-
-    fn add_place(&mut self, code: String, inside: bool) -> Result<(), &'static str> {
-        if !codes::is_place(&code) {
-            return Err("BadCode");
-        }
-        if self.place_numbers.contains_key(&code) {
-            return Err("Repeated");
-        }
-        if self.places.len() >= 10_000 {
-            return Err("TooMany");
-        }
-        self.place_numbers.insert(code.clone(), self.places.len());
-        self.places.push(Place { code, inside });
-        Ok(())
     }
 
     fn add_thing(
         &mut self,
         is_right: bool,
-        code: String,
-        normal: Option<&String>,
+        code: &str,
+        kind: Kind,
+        normal: Option<&str>,
     ) -> Result<(), &'static str> {
-        if !is_right {
-            return Err("BadCode");
-        }
-        if self.thing_numbers.contains_key(&code) {
-            return Err("Repeated");
-        }
-        let place = normal.and_then(|place| self.place_numbers.get(place).copied());
-        if normal.is_some() && place.is_none() {
+        let place = normal.and_then(|place| self.named.places.find(place));
+        if is_right && self.named.things.find(code).is_none() && normal.is_some() && place.is_none()
+        {
             return Err("UnknownNormal");
         }
-        if self.things.len() >= 100_000 {
-            return Err("TooMany");
-        }
-        self.thing_numbers.insert(code.clone(), self.things.len());
-        self.things.push(Thing {
-            code,
+        add_new(&mut self.named.things, code, is_right, 100_000)?;
+        self.setup.things.push(Thing {
+            kind,
             normal: place,
         });
         Ok(())
     }
+}
+
+/// Adds a text that has the right shape, is new, and not one too many.
+fn add_new(
+    known: &mut Numbers,
+    text: &str,
+    is_right: bool,
+    most: usize,
+) -> Result<(), &'static str> {
+    if !is_right {
+        return Err("BadCode");
+    }
+    if known.find(text).is_some() {
+        return Err("Repeated");
+    }
+    if known.len() >= most {
+        return Err("TooMany");
+    }
+    known.number(text);
+    Ok(())
 }
