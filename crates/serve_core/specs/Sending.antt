@@ -1,21 +1,66 @@
--- What a station's thread hands back.
-use Rattle.std.specs.Prelude.{ℕ, ◌≡◌, ◌<◌, ◌+◌, ◌-◌, ◌^◌, min, Bool, true, false, List, [], ◌++◌, length, slice_get, unwrap_or, IfSome, Result, Ok, Err}
-use Rattle.rtrb.specs.Ends.{SameRing}
-use Rattle.serve_core.specs.declared.item.Item.{Item}
-use Rattle.serve_core.specs.declared.lane.Lane.{Lane}
-use Rattle.serve_core.specs.declared.sending.Sent.{Sent}
+-- What the threads hand back, and what a serving tells of its log.
+use Rattle.std.specs.Prelude.{ℕ, ◌≡◌, ◌<◌, ◌≤◌, ◌+◌, ◌-◌, ◌^◌, min, true, Option, Some, None, List, [], ◌++◌, length, slice_get, unwrap_or}
+use Rattle.rtrb.specs.Ring.{IsPair}
 use Rattle.hub_core.specs.declared.answer.HubFault.{HubFault}
 use Rattle.hub_core.specs.declared.answer.HubFault.TheVariants as hub
+use Rattle.serve_core.specs.declared.item.Item.{Item}
 use Rattle.serve_core.specs.declared.item.LogLine.{LogLine}
-use Rattle.serve_core.specs.declared.serving.ServeFault.{ServeFault}
-use Rattle.serve_core.specs.declared.serving.ServeFault.TheVariants as serve
+use Rattle.serve_core.specs.declared.lane.Lane.{Lane}
+use Rattle.serve_core.specs.declared.lane.LaneEnd.{LaneEnd}
+use Rattle.serve_core.specs.declared.ending.Room.{Room}
+use Rattle.serve_core.specs.declared.sending.Sent.{Sent}
+use Rattle.serve_core.specs.declared.serve_fault.ServeFault.{ServeFault}
+use Rattle.serve_core.specs.declared.serve_fault.ServeFault.TheVariants as serve
 use Rattle.serve_core.specs.Logs.{items_of, AreOfStations}
-use Rattle.serve_core.specs.Lanes.{sent_items, end_items, Begins}
+use Rattle.serve_core.specs.Lanes.{Ring, received_at, sent_items, SameLane, IsEndOf, Begins}
 
--- where the lane gave its end, a front of these items was sent through it, and all of them where the feed came to its end
-abbrev pub Sends : Lane → List Item → Sent → Type 0
-Sends l items r = IfSome r.end (λ e. SameRing l.producer.end e.finished.end
-    × ((rest : List Item) × (sent_items l ++ items ≡ end_items e ++ rest) × (r.whole ≡ true → rest ≡ [])))
+-- a front of these items went through the lane that was handed back, and all of them where it is whole
+pub record IsSent (sent : Sent) (items : List Item) : Type 0 where
+  pub front : Begins (sent_items sent.lane) items
+  pub whole : sent.whole ≡ true → sent_items sent.lane ≡ items
+
+-- so the thread of this lane and these items hands it back
+pub record Sends (lane : Lane) (items : List Item) (back : Sent) : Type 0 where
+  pub same : SameLane lane back.lane
+  pub back_is : IsSent back (sent_items lane ++ items)
+
+-- the lane was looked at, and tells the same
+pub record IsStill (before after : Sent) : Type 0 where
+  pub same : SameLane before.lane after.lane
+  pub items : sent_items after.lane ≡ sent_items before.lane
+  pub whole : after.whole ≡ before.whole
+
+-- the lane of this ring
+abbrev pub IsSentTo : Sent → Ring → Type 0
+IsSentTo sent c = IsPair sent.lane.producer c
+
+-- the end of the lane that was handed back
+abbrev pub IsEndOfSent : Sent → LaneEnd → Type 0
+IsEndOfSent sent e = IsEndOf sent.lane e
+
+-- room for what so many threads hand back, and for as many ends
+pub record HasRoom (count : ℕ) (room : Room) : Type 0 where
+  pub few : count < 2 ^ 32
+  pub none : room.found.items ≡ []
+  pub found : count ≤ room.found.cap
+  pub no_ends : room.ends.items ≡ []
+  pub ends : count ≤ room.ends.cap
+
+abbrev pub sent_of : Option Sent → List Item
+sent_of None = []
+sent_of (Some sent) = sent_items sent.lane
+
+-- what was sent through lane s
+abbrev pub sent_at : List Sent → ℕ → List Item
+sent_at found s = sent_of (slice_get found s)
+
+-- the lines have, behind what was taken before, a front of what was sent through each lane
+abbrev pub SentFront : List Ring → List Sent → List LogLine → Type 0
+SentFront cs found G = (s : ℕ) → s < length cs → Begins (received_at cs s ++ items_of s G) (sent_at found s)
+
+-- they have all of it
+abbrev pub SentWhole : List Ring → List Sent → List LogLine → Type 0
+SentWhole cs found G = (s : ℕ) → s < length cs → received_at cs s ++ items_of s G ≡ sent_at found s
 
 -- a hub's fault, as a serving tells it; a serving's hub isn't down before its first fault
 abbrev pub serve_fault : HubFault → ServeFault
@@ -23,13 +68,19 @@ serve_fault hub.NoMemory = serve.NoMemory
 serve_fault hub.Store = serve.Store
 serve_fault hub.Down = serve.NoMemory
 
--- a serving tells Store only where the register's count of refusals rose
-abbrev pub CountsServe : {T : Type 0} → ℕ → ℕ → Result T ServeFault → Type 0
-CountsServe old new (Ok x) = new ≡ old
-CountsServe old new (Err serve.NoMemory) = new ≡ old
-CountsServe old new (Err serve.Store) = new ≡ min (old + 1) (2 ^ 64 - 1)
-CountsServe old new (Err (serve.Unfinished s)) = new ≡ old
+-- a serving tells Store only where the register's count of refusals rose, or stands at the last number of 64 bits
+abbrev pub CountsServe : ℕ → ℕ → ServeFault → Type 0
+CountsServe old new serve.NoMemory = new ≡ old
+CountsServe old new serve.Store = new ≡ min (old + 1) (2 ^ 64 - 1)
+CountsServe old new (serve.Unfinished s) = new ≡ old
 
+-- a station that the fault names is one of so many
+abbrev pub IsOneOf : ℕ → ServeFault → Type 0
+IsOneOf count serve.NoMemory = Unit {0}
+IsOneOf count serve.Store = Unit {0}
+IsOneOf count (serve.Unfinished s) = s < count
+
+-- the items of feed s
 abbrev pub items_at : List (List Item) → ℕ → List Item
 items_at feeds s = unwrap_or (slice_get feeds s) []
 
@@ -38,9 +89,9 @@ pub record IsMerge (feeds : List (List Item)) (G : List LogLine) : Type 0 where
   pub stations : AreOfStations (length feeds) G
   pub whole : (s : ℕ) → s < length feeds → items_of s G ≡ items_at feeds s
 
--- of each station whose lane gave its end the log has a front of its feed. The fault Unfinished names the first that gave none
+-- every line is of a station with a feed, and the items of each are a front of its feed's; so is a station that the fault
+-- names
 pub record AreFronts (feeds : List (List Item)) (G : List LogLine) (fault : ServeFault) : Type 0 where
   pub stations : AreOfStations (length feeds) G
-  pub gave : ℕ → Bool
-  pub front : (s : ℕ) → s < length feeds → gave s ≡ true → Begins (items_of s G) (items_at feeds s)
-  pub first : (s : ℕ) → fault ≡ serve.Unfinished s → (gave s ≡ false) × ((t : ℕ) → t < s → gave t ≡ true)
+  pub front : (s : ℕ) → s < length feeds → Begins (items_of s G) (items_at feeds s)
+  pub named : IsOneOf (length feeds) fault

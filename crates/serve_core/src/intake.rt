@@ -4,7 +4,7 @@ ghost use Rattle.std.specs.List.{AllZip};
 ghost use Rattle.rtrb.specs.Ring.{SameConsumer};
 ghost use Rattle.hub_core.specs.Faults.{CountsStore};
 ghost use Rattle.serve_core.specs.declared.item.LogLine.{LogLine};
-ghost use Rattle.serve_core.specs.Logs.{Serves, Ascends};
+ghost use Rattle.serve_core.specs.Logs.{AreOfStations, Serves, Ascends};
 ghost use Rattle.serve_core.specs.Lanes.{IsFresh, IsEndOn, Takes, TakesSome, TakesOf, TakesSomeOf, TakesFront, TakesLeft, Begins, SameEnds, end_items, ended_at, received_is, received_at};
 
 use crate::asking::log_item;
@@ -86,8 +86,8 @@ impl Intake {
         ends: Vec<LaneEnd>,
     ) -> Result<(), HubFault>
         requires { AllZip IsEndOn ends.items self }
-        ensures lines { (G : List LogLine) × (log.new ≡ log.old ++ G) × Serves R.holding hub.old hub.new G × TakesFront self ends.items G
-            × OnOk result (TakesLeft self ends.items G) }
+        ensures lines { (G : List LogLine) × (log.new ≡ log.old ++ G) × Serves R.holding hub.old hub.new G × AreOfStations (length self) G
+            × TakesFront self ends.items G × OnOk result (TakesLeft self ends.items G) }
         ensures level { OnOk result (hub.new.down ≡ hub.old.down) }
         ensures count { CountsStore (R.refusals hub.old.register) (R.refusals hub.new.register) result }
     {

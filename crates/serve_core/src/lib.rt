@@ -2,13 +2,16 @@
 #![tactic(auto)]
 
 mod asking;
+mod ending;
 mod feed;
 mod intake;
 mod item;
 mod lane;
 mod log;
 mod sending;
+mod serve_fault;
 mod serving;
+mod turning;
 
 pub use feed::{Feed, ListFeed};
 pub use intake::{Intake, lanes};
@@ -16,4 +19,5 @@ pub use item::{Item, LineFault, LogLine, Reply};
 pub use lane::{Full, Lane, LaneEnd};
 pub use log::Log;
 pub use sending::{SendsAll, Sent};
-pub use serving::ServeFault;
+pub use serve_fault::ServeFault;
+pub use serving::{ServeFailed, Served, serve};

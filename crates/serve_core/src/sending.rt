@@ -4,7 +4,7 @@ ghost use Rattle.std.specs.List.{AllZip};
 ghost use Rattle.serve_core.specs.Lanes.{sent_items, SameLane};
 ghost use Rattle.serve_core.specs.Sending.{Sends};
 
-use crate::{Feed, Full, Item, Lane, LaneEnd};
+use crate::{Feed, Full, Item, Lane};
 use codes_core::NoMemory;
 use std::alloc::{AllocError, Global};
 use std::snapshot::Snapshot;
@@ -13,11 +13,11 @@ use std::sync::{Arc, Wait};
 use std::thread;
 use std::thread::{Promise, PromisedHandle, Threads};
 
-/// What a station's thread hands back: the end of its lane, and whether its feed came to its end.
+/// What a station's thread hands back: its lane, and whether its feed came to its end.
 #[derive(Drop)]
 pub struct Sent {
-    pub end: Option<LaneEnd>,
-    pub whole: bool,
+    pub(crate) lane: Lane,
+    pub(crate) whole: bool,
 }
 
 /// Waits until the item is sent.
@@ -36,7 +36,7 @@ fn send_waiting(rt: &impl Wait, lane: &mut Lane, item: Item)
     unreachable!()
 }
 
-/// Sends a feed, and ends the lane: after the feed's last item, or where the feed finds no memory.
+/// Sends a feed up to its end, or up to where it finds no memory.
 fn send_all<F: Feed + Drop>(rt: &impl Wait, alloc: Global, lane: Lane, feed: F) -> Sent
     ensures { Sends lane (F.items feed) result }
 {
@@ -45,18 +45,8 @@ fn send_all<F: Feed + Drop>(rt: &impl Wait, alloc: Global, lane: Lane, feed: F) 
     for _ in rt.forever() {
         match feed.next(alloc) {
             Ok(Some(item)) => send_waiting(rt, &mut lane, item),
-            Ok(None) => {
-                return Sent {
-                    end: lane.finish(),
-                    whole: true,
-                };
-            }
-            Err(_) => {
-                return Sent {
-                    end: lane.finish(),
-                    whole: false,
-                };
-            }
+            Ok(None) => return Sent { lane, whole: true },
+            Err(_) => return Sent { lane, whole: false },
         }
     }
     unreachable!()

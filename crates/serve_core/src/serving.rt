@@ -1,124 +1,220 @@
 //! A serving: one thread a feed, and the hub in the calling thread.
-ghost use Rattle.std.specs.Prelude.{◌≡◌, ◌<◌, ◌≤◌, ◌^◌, List, [], ◌++◌, true, false, map, length, vec_len, IfOk, IfErr, OnOk, OnErr};
+ghost use Rattle.std.specs.Prelude.{◌≡◌, ◌<◌, ◌≤◌, ◌++◌, ◌^◌, ℕ, List, [], true, false, All, map, length, vec_len, IfOk, IfErr, OnOk};
 ghost use Rattle.std.specs.List.{AllZip};
-ghost use Rattle.hub_core.specs.Faults.{CountsStore};
 ghost use Rattle.serve_core.specs.declared.item.LogLine.{LogLine};
-ghost use Rattle.serve_core.specs.Logs.{Serves};
-ghost use Rattle.serve_core.specs.Lanes.{Takes, TakesSome};
-ghost use Rattle.serve_core.specs.Sending.{CountsServe, IsMerge, AreFronts, serve_fault};
+ghost use Rattle.serve_core.specs.declared.serve_fault.ServeFault.TheVariants as faults;
+ghost use Rattle.serve_core.specs.Logs.{Serves, AreOfStations};
+ghost use Rattle.serve_core.specs.Lanes.{IsFresh};
+ghost use Rattle.serve_core.specs.Sending.{CountsServe, IsMerge, AreFronts, IsSentTo, HasRoom, SentFront, SentWhole, IsOneOf};
 
-use crate::intake::{lanes, settle};
-use crate::sending::{SendsAll, Sent, Started, join_all, start_all};
-use crate::{Feed, Intake, Lane, LaneEnd, Log};
+use crate::ending::{Room, are_whole, end_all};
+use crate::intake::lanes;
+use crate::sending::{SendsAll, Sent, join_all, start_all};
+use crate::turning::{drop_until, give_up, turn_until};
+use crate::{Feed, Intake, Log, ServeFault};
 use codes_core::NoMemory;
-use hub_core::{Hub, HubFault};
+use hub_core::Hub;
 use register_store::Register;
-use std::alloc::{AllocError, Global};
-use std::sync::atomic::{AtomicBool, Ordering};
+use std::alloc::Global;
+use std::sync::atomic::AtomicBool;
 use std::sync::{Arc, Wait};
-use std::thread;
 use std::thread::{PromisedHandle, Threads};
 
-/// Why a serving stopped.
-#[derive(Clone, Copy, Debug)]
-pub enum ServeFault {
-    /// A growth was refused, or a thread could not be made.
-    NoMemory,
-    /// The register's store refused.
-    Store,
-    /// The station's lane gave no end.
-    Unfinished(u32),
+/// What a serving leaves: the hub, and the log of all that was taken.
+#[derive(Drop)]
+pub struct Served<R: Register> {
+    pub hub: Hub<R>,
+    pub log: Log,
 }
 
-impl From<NoMemory> for ServeFault {
-    ghost use Rattle.std.specs.Prelude.{◌≡◌};
-    ghost use Rattle.serve_core.specs.declared.serving.ServeFault.TheVariants as faults;
+/// Why a serving stopped, with the hub, and the log of what was taken before.
+#[derive(Drop)]
+pub struct ServeFailed<R: Register> {
+    pub fault: ServeFault,
+    pub hub: Hub<R>,
+    pub log: Log,
+}
 
-    ghost from_gives = { λ _ e. e ≡ faults.NoMemory };
-
-    fn from(_fault: NoMemory) -> ServeFault {
-        ServeFault::NoMemory
+/// Serves all stations at once: a thread for each feed sends its items through the station's lane, feed i for station i,
+/// while the calling thread owns the hub, asks it each item that comes, and keeps item and reply in the log. Where it
+/// returns, every thread has ended and every feed was dropped. The faults, first that was met: NoMemory, where a lane, its
+/// thread or an item found no memory, or Store, of an item; NoMemory, where a feed found none, which ends that lane alone;
+/// Unfinished(s), where the lane of station s gave no end. After a fault in an item nothing more is logged.
+pub fn serve<
+    R: Register,
+    F: Feed + Drop + Send + 'static,
+    T: Threads + Wait + Copy + Send + 'static,
+>(rt: &T, alloc: Global, hub: Hub<R>, feeds: Vec<F>) -> Result<Served<R>, ServeFailed<R>>
+    requires feeds { vec_len feeds ≡ length hub.book.museum.stations }
+    requires up { hub.down ≡ false }
+    // Every item of every feed is in the log, those of each feed in their order, and each has the reply of looking back.
+    ensures merge { IfOk result (λ s. IsMerge (map F.items feeds.items) s.log) }
+    ensures served { IfOk result (λ s. Serves R.holding hub s.hub s.log) }
+    ensures up { IfOk result (λ s. s.hub.down ≡ false) }
+    ensures fronts { IfErr result (λ f. AreFronts (map F.items feeds.items) f.log f.fault) }
+    ensures answered { IfErr result (λ f. Serves R.holding hub f.hub f.log) }
+    ensures uncounted { IfOk result (λ s. R.refusals s.hub.register ≡ R.refusals hub.register) }
+    ensures counted { IfErr result (λ f. CountsServe (R.refusals hub.register) (R.refusals f.hub.register) f.fault) }
+{
+    let mut hub = hub;
+    let mut log = Log::new(alloc);
+    match serve_all(rt, alloc, &mut hub, &mut log, feeds) {
+        Ok(()) => Ok(Served { hub, log }),
+        Err(fault) => Err(ServeFailed { fault, hub, log }),
     }
 }
 
-impl From<AllocError> for ServeFault {
-    ghost use Rattle.std.specs.Prelude.{◌≡◌};
-    ghost use Rattle.serve_core.specs.declared.serving.ServeFault.TheVariants as faults;
-
-    ghost from_gives = { λ _ e. e ≡ faults.NoMemory };
-
-    fn from(_error: AllocError) -> ServeFault {
-        ServeFault::NoMemory
+/// Serves all stations with a hub and an empty log.
+fn serve_all<
+    R: Register,
+    F: Feed + Drop + Send + 'static,
+    T: Threads + Wait + Copy + Send + 'static,
+>(rt: &T, alloc: Global, hub: &mut Hub<R>, log: &mut Log, feeds: Vec<F>) -> Result<(), ServeFault>
+    requires feeds { vec_len feeds ≡ length hub.old.book.museum.stations }
+    requires log { log.old ≡ [] }
+    ensures merge { OnOk result (IsMerge (map F.items feeds.items) log.new) }
+    ensures fronts { IfErr result (AreFronts (map F.items feeds.items) log.new) }
+    ensures served { Serves R.holding hub.old hub.new log.new }
+    ensures level { OnOk result (hub.new.down ≡ hub.old.down) }
+    ensures uncounted { OnOk result (R.refusals hub.new.register ≡ R.refusals hub.old.register) }
+    ensures counted { IfErr result (CountsServe (R.refusals hub.old.register) (R.refusals hub.new.register)) }
+{
+    let stations = hub.ledger().setup().stations();
+    match prepare(rt, alloc, stations, feeds) {
+        Ok(prepared) => take_all(rt, alloc, hub, log, prepared),
+        Err(_) => Err(ServeFault::NoMemory),
     }
 }
 
-impl From<HubFault> for ServeFault {
-    ghost use Rattle.std.specs.Prelude.{◌≡◌};
-    ghost use Rattle.serve_core.specs.Sending.{serve_fault};
-
-    ghost from_gives = { λ fault e. e ≡ serve_fault fault };
-
-    fn from(fault: HubFault) -> ServeFault {
-        match fault {
-            HubFault::NoMemory => ServeFault::NoMemory,
-            HubFault::Store => ServeFault::Store,
-            // the hub of a serving isn't down before its first fault
-            HubFault::Down => ServeFault::NoMemory,
-        }
-    }
+/// The threads that were started, with their marks, the intake of their lanes, and room for what they hand back.
+#[derive(Drop)]
+struct Prepared<F: Feed> {
+    intake: Intake,
+    room: Room,
+    children: Vec<PromisedHandle<Sent, SendsAll<F>>>,
+    marks: Vec<Arc<AtomicBool>>,
 }
 
-/// Whether the first `count` of the marks are set.
-fn all_ended(marks: &[Arc<AtomicBool>]) -> bool {
-    for mark in marks {
-        if !mark.load(Ordering::SeqCst) {
-            return false;
-        }
+/// Makes the lanes and the room, and starts a thread for each feed. Where one can't be made, those before it have ended.
+fn prepare<F: Feed + Drop + Send + 'static, T: Threads + Wait + Copy + Send + 'static>(
+    rt: &T,
+    alloc: Global,
+    stations: u32,
+    feeds: Vec<F>,
+) -> Result<Prepared<F>, NoMemory>
+    requires { vec_len feeds ≡ stations }
+    ensures lanes { IfOk result (λ p. AllZip IsFresh (map (λ h. h.promise.lane.value) p.children.items) p.intake) }
+    ensures feeds { IfOk result (λ p. map (λ h. h.promise.feed.value) p.children.items ≡ feeds.items) }
+    ensures room { IfOk result (λ p. HasRoom (vec_len p.children) p.room) }
+{
+    let (lanes, mut intake) = lanes(alloc, stations)?;
+    let room = Room::new(alloc, stations)?;
+    let started = start_all(rt, alloc, lanes, feeds)?;
+    if !started.all {
+        give_up(rt, &mut intake, started);
+        return Err(NoMemory);
     }
-    true
+    Ok(Prepared {
+        intake,
+        room,
+        children: started.children,
+        marks: started.marks,
+    })
 }
 
-/// Lets other threads run where nothing was taken.
-fn rest_if_none(taken: u32) {
-    if taken == 0 {
-        thread::yield_now();
-    }
-}
-
-/// Turns until all threads have ended, or up to a fault.
-fn turn_until<R: Register>(
-    rt: &impl Wait,
+/// Takes what the threads send, and ends their lanes.
+fn take_all<R: Register, F: Feed, T: Threads + Wait>(
+    rt: &T,
     alloc: Global,
     hub: &mut Hub<R>,
-    intake: &mut Intake,
     log: &mut Log,
-    marks: &[Arc<AtomicBool>],
-) -> Result<(), HubFault>
-    ensures lines { (G : List LogLine) × (log.new ≡ log.old ++ G) × Serves R.holding hub.old hub.new G × TakesSome intake.old intake.new G
-        × OnOk result (Takes intake.old intake.new G) }
+    prepared: Prepared<F>,
+) -> Result<(), ServeFault>
+    requires lanes { AllZip IsFresh (map (λ h. h.promise.lane.value) prepared.children.items) prepared.intake }
+    requires room { HasRoom (vec_len prepared.children) prepared.room }
+    requires log { log.old ≡ [] }
+    ensures merge { OnOk result (IsMerge (map F.items (map (λ h. h.promise.feed.value) prepared.children.items)) log.new) }
+    ensures fronts { IfErr result (AreFronts (map F.items (map (λ h. h.promise.feed.value) prepared.children.items)) log.new) }
+    ensures served { Serves R.holding hub.old hub.new log.new }
     ensures level { OnOk result (hub.new.down ≡ hub.old.down) }
-    ensures count { CountsStore (R.refusals hub.old.register) (R.refusals hub.new.register) result }
+    ensures uncounted { OnOk result (R.refusals hub.new.register ≡ R.refusals hub.old.register) }
+    ensures counted { IfErr result (CountsServe (R.refusals hub.old.register) (R.refusals hub.new.register)) }
 {
-    for _ in rt.forever() {
-        if all_ended(marks) {
-            return Ok(());
+    let Prepared {
+        mut intake,
+        mut room,
+        children,
+        marks,
+    } = prepared;
+    match turn_until(rt, alloc, hub, &mut intake, log, &marks) {
+        Ok(()) => {
+            join_all(rt, children, &mut room.found);
+            finish_all(alloc, hub, log, intake, room)
         }
-        let taken = intake.turn(alloc, hub, log)?;
-        rest_if_none(taken);
+        Err(fault) => {
+            drop_until(rt, &mut intake, &marks);
+            join_all(rt, children, &mut room.found);
+            intake.settle_lanes(&mut room.found);
+            Err(ServeFault::from(fault))
+        }
     }
-    unreachable!()
 }
 
-/// Empties the lanes until all threads have ended.
-fn drop_until(rt: &impl Wait, intake: &mut Intake, marks: &[Arc<AtomicBool>])
-    ensures { TakesSome intake.old intake.new [] }
+/// Ends the lanes, whose threads have ended, and takes what is left in them.
+fn finish_all<R: Register>(
+    alloc: Global,
+    hub: &mut Hub<R>,
+    log: &mut Log,
+    intake: Intake,
+    room: Room,
+) -> Result<(), ServeFault>
+    requires lanes { AllZip IsSentTo room.found.items intake }
+    requires few { vec_len room.found < 2 ^ 32 }
+    requires ends { (room.ends.items ≡ []) × (vec_len room.found ≤ room.ends.cap) }
+    ensures lines { (G : List LogLine) × (log.new ≡ log.old ++ G) × Serves R.holding hub.old hub.new G × AreOfStations (length intake) G
+        × SentFront intake room.found.items G
+        × OnOk result (All (λ sent. sent.whole ≡ true) room.found.items × SentWhole intake room.found.items G) }
+    ensures missing { IfErr result (IsOneOf (length intake)) }
+    ensures level { OnOk result (hub.new.down ≡ hub.old.down) }
+    ensures uncounted { OnOk result (R.refusals hub.new.register ≡ R.refusals hub.old.register) }
+    ensures counted { IfErr result (CountsServe (R.refusals hub.old.register) (R.refusals hub.new.register)) }
 {
-    for _ in rt.forever() {
-        if all_ended(marks) {
-            return;
-        }
-        let taken = intake.drop_items();
-        rest_if_none(taken);
+    let mut intake = intake;
+    let Room {
+        mut found,
+        mut ends,
+    } = room;
+    let whole = are_whole(&found);
+    intake.settle_lanes(&mut found);
+    match end_all(found, &mut ends) {
+        Some(station) => Err(missing_end(whole, station)),
+        None => match intake.finish(alloc, hub, log, ends) {
+            Ok(()) => all_or_no_memory(whole),
+            Err(fault) => Err(ServeFault::from(fault)),
+        },
     }
-    unreachable!()
+}
+
+/// The fault where a station's lane gave no end: a feed's want of memory comes before it.
+fn missing_end(whole: bool, station: u32) -> ServeFault
+    ensures missing { whole ≡ true → result ≡ faults.Unfinished station }
+    ensures memory { whole ≡ false → result ≡ faults.NoMemory }
+{
+    if whole {
+        ServeFault::Unfinished(station)
+    } else {
+        ServeFault::NoMemory
+    }
+}
+
+/// Whether all feeds came to their ends, else NoMemory.
+fn all_or_no_memory(whole: bool) -> Result<(), ServeFault>
+    ensures whole { OnOk result (whole ≡ true) }
+    ensures fault { IfErr result (λ fault. fault ≡ faults.NoMemory) }
+{
+    if whole {
+        Ok(())
+    } else {
+        Err(ServeFault::NoMemory)
+    }
 }

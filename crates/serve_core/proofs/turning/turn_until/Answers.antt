@@ -2,7 +2,7 @@ use Rattle.std.proofs.Common.{◌≡◌, List, [], ◌++◌, refl, ◌∙◌, sy
 use Rattle.std.proofs.lemmas.Result.{IfOk-from_err}
 use Rattle.serve_core.proofs.LogLemmas.{serves_none, serves_then}
 use Rattle.serve_core.proofs.Takings.{lines_then, takes_none, takes_after, takes_after_some}
-use Rattle.serve_core.proofs.serving.turn_until.Goals as goal
+use Rattle.serve_core.proofs.turning.turn_until.Goals as goal
 
 pub loop-init : goal.loop-init
 loop-init g c = (tt, tt, ([], sym (append-nil _), serves_none g.R.Register.holding c.args.hub.now, takes_none _), refl, refl)

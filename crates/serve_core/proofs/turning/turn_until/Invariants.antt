@@ -2,7 +2,7 @@ use Rattle.std.proofs.Common.{◌≡◌, List, ◌++◌}
 use Rattle.serve_core.specs.declared.item.LogLine.{LogLine}
 use Rattle.serve_core.specs.Logs.{Serves}
 use Rattle.serve_core.specs.Lanes.{Takes}
-use Rattle.serve_core.proofs.serving.turn_until.Given as goal
+use Rattle.serve_core.proofs.turning.turn_until.Given as goal
 
 abbrev pub invariant-loop : goal.invariant-loop
 invariant-loop g l =

@@ -1,6 +1,6 @@
 use Rattle.std.proofs.Common.{[], rules}
 use Rattle.serve_core.proofs.Takings.{takes_none, takes_is_some, some_then_none}
-use Rattle.serve_core.proofs.serving.drop_until.Goals as goal
+use Rattle.serve_core.proofs.turning.drop_until.Goals as goal
 
 pub loop-init : goal.loop-init
 loop-init g c = (tt, tt, takes_is_some _ _ [] (takes_none _))

@@ -1,6 +1,6 @@
 use Rattle.std.proofs.Common.{◌≡◌, []}
 use Rattle.serve_core.specs.Lanes.{TakesSome}
-use Rattle.serve_core.proofs.serving.drop_until.Given as goal
+use Rattle.serve_core.proofs.turning.drop_until.Given as goal
 
 abbrev pub invariant-loop : goal.invariant-loop
 invariant-loop g l =
