@@ -228,7 +228,7 @@ fn settle_all(rings: &mut Vec<Consumer<Item>>, ends: &mut Vec<LaneEnd>)
 }
 
 /// Looks at the end of a lane.
-pub(crate) fn settle(ring: &mut Consumer<Item>, end: &mut LaneEnd)
+fn settle(ring: &mut Consumer<Item>, end: &mut LaneEnd)
     requires { IsEndOn end.old ring.old }
     ensures front { Begins (received_is ring.old) (end_items end.old) }
     ensures ring { SameConsumer ring.old ring.new × (received_is ring.new ≡ received_is ring.old) }
