@@ -1,3 +1,4 @@
+pub mod Answered
 pub mod CountLaws
 pub mod CountReading
 pub mod Crossing
@@ -5,8 +6,10 @@ pub mod Flags
 pub mod Membership
 pub mod Mentions
 pub mod Misses
+pub mod OuterPlaces
 pub mod PlaceNesting
 pub mod Ranges
 pub mod ReportLaws
 pub mod RowMarks
+pub mod Unflagged
 mod Worked

@@ -9,7 +9,7 @@ use Rattle.std.proofs.lemmas.Option.{get_or_from_slice_get}
 use Rattle.std.specs.List.{range_with_len}
 
 -- the numbers that pass a test, one number further
-filter_more : (p : ℕ → Bool) (n : ℕ) → filter p (range_with_len 0 (n + 1)) ≡ filter p (range_with_len 0 n) ++ cond (p n) (n ∷ []) []
+pub filter_more : (p : ℕ → Bool) (n : ℕ) → filter p (range_with_len 0 (n + 1)) ≡ filter p (range_with_len 0 n) ++ cond (p n) (n ∷ []) []
 filter_more p n =
     ap (filter p) (sym (map-id (range_with_len 0 (n + 1))))
     ∙ (filter_of_map_range_with_len_more p (λ x. x) 0 n n (omega arith)

@@ -56,6 +56,16 @@ answer_at B rows i = option_map_or (answer B (take i rows)) (slice_get rows i) U
 abbrev pub answers : Book → List CountRow → List CountAnswer
 answers B rows = map (answer_at B rows) (range_with_len 0 (length rows))
 
+-- where it tells a place, that is one of the setup
+abbrev pub IsAnswerIn : Museum → CountAnswer → Type 0
+IsAnswerIn S UnknownPlace = Unit {0}
+IsAnswerIn S Counted = Unit {0}
+IsAnswerIn S UnknownObject = Unit {0}
+IsAnswerIn S Again = Unit {0}
+IsAnswerIn S Unplaced = Unit {0}
+IsAnswerIn S Found = Unit {0}
+IsAnswerIn S (Elsewhere p) = p < length S.places
+
 -- each number once, where it stands first
 abbrev pub first_mentions : List ℕ → List ℕ
 first_mentions [] = []

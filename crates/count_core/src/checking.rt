@@ -1,7 +1,7 @@
 //! A count list checked against the ledger, by workers.
 ghost use Rattle.std.specs.Prelude.{◌≡◌, ◌<◌, All, IfOk, length, map};
 ghost use Rattle.std.specs.List.{range_with_len};
-ghost use Rattle.count_core.specs.Counts.{look_at, answers, missing, IsMissingIn};
+ghost use Rattle.count_core.specs.Counts.{look_at, answers, missing, IsAnswerIn, IsMissingIn};
 
 use crate::looking::{Looked, look};
 use crate::marking::marked;
@@ -36,6 +36,7 @@ pub fn check(
 ) -> Result<CountReport, NoMemory>
     ensures answers { IfOk result (λ report. report.answers.items ≡ answers ledger.now rows.now) }
     ensures missing { IfOk result (λ report. report.missing.items ≡ missing ledger.now rows.now) }
+    ensures known { IfOk result (λ report. All (IsAnswerIn ledger.now.museum) report.answers.items) }
     ensures within { IfOk result (λ report. All (IsMissingIn ledger.now.museum) report.missing.items) }
 {
     check_by(rt, alloc, ledger, rows, &NoProbe)
@@ -51,8 +52,10 @@ pub fn check_by<P: Probe + Sync>(
 ) -> Result<CountReport, NoMemory>
     ensures answers { IfOk result (λ report. report.answers.items ≡ answers ledger.now rows.now) }
     ensures missing { IfOk result (λ report. report.missing.items ≡ missing ledger.now rows.now) }
+    ensures known { IfOk result (λ report. All (IsAnswerIn ledger.now.museum) report.answers.items) }
     ensures within { IfOk result (λ report. All (IsMissingIn ledger.now.museum) report.missing.items) }
 {
+    ledger.is_lawful();
     let looked = looked(rt, alloc, ledger, rows, probe)?;
     let marked = marked(alloc, ledger, rows, looked.as_slice())?;
     let missing = missing(alloc, ledger, rows, marked.named.as_slice())?;

@@ -10,7 +10,9 @@ pub mod laws;
 mod looking;
 mod marking;
 mod missing;
+mod outer;
 mod reports;
+mod unnamed;
 
 pub use answer::{AwayObject, CountAnswer, CountReport, MissingObject};
 pub use checking::{Probe, check, check_by};

@@ -1,13 +1,12 @@
 //! The objects that a count list misses.
-ghost use Rattle.std.specs.Prelude.{◌≡◌, ◌<◌, ◌++◌, All, IfOk, OnOk, filter, length, map};
-ghost use Rattle.std.specs.List.{range_with_len};
-ghost use Rattle.count_core.specs.Counts.{is_within, mentioned, missing, missing_at, named, IsMissingIn};
-ghost use Rattle.count_core.specs.Marks.{AreNames, is_unflagged};
+ghost use Rattle.std.specs.Prelude.{◌≡◌, ◌<◌, ◌++◌, All, IfOk, OnOk, length, map};
+ghost use Rattle.count_core.specs.Counts.{mentioned, missing, missing_at, named, IsMissingIn};
+ghost use Rattle.count_core.specs.Marks.{AreNames};
 
-use crate::looking::is_in;
 use crate::marking::set_flag;
+use crate::unnamed::unnamed_in_each;
 use crate::{CountRow, MissingObject};
-use codes_core::{NoMemory, ThingKind};
+use codes_core::NoMemory;
 use nest_core::{PlaceNo, Setup, ThingNo};
 use posting_core::Ledger;
 use std::alloc::Global;
@@ -24,36 +23,14 @@ pub(crate) fn missing(
     ensures missing { IfOk result (λ v. v.items ≡ missing ledger.now rows.now) }
     ensures within { IfOk result (λ v. All (IsMissingIn ledger.now.museum) v.items) }
 {
-    let unnamed = unnamed(alloc, ledger.setup(), flags)?;
+    let unnamed = unnamed_in_each(alloc, ledger, flags)?;
     let places = mentioned(alloc, ledger.setup(), rows)?;
     let mut missing = Vec::new(alloc);
     for i in 0..places.len() {
-        add_missing(&mut missing, ledger, places[i], unnamed.as_slice())?;
+        let place = places[i];
+        add_missing(&mut missing, place, unnamed[place as usize].as_slice())?;
     }
     Ok(missing)
-}
-
-/// The objects without a flag, ascending.
-fn unnamed(alloc: Global, setup: &Setup, flags: &[bool]) -> Result<Vec<ThingNo>, NoMemory>
-    requires { length flags.now ≡ length setup.now.things }
-    ensures { IfOk result (λ v. v.items
-        ≡ filter (is_unflagged setup.now flags.now) (range_with_len 0 (length setup.now.things))) }
-{
-    let mut unnamed = Vec::new(alloc);
-    for thing in 0..setup.things() {
-        if is_unflagged(setup, flags, thing) {
-            unnamed.push(thing)?;
-        }
-    }
-    Ok(unnamed)
-}
-
-fn is_unflagged(setup: &Setup, flags: &[bool], thing: ThingNo) -> bool
-    requires within { thing < length setup.now.things }
-    requires flags { length flags.now ≡ length setup.now.things }
-    ensures { result ≡ is_unflagged setup.now flags.now thing }
-{
-    !flags[thing as usize] && !matches!(setup.kind(thing), ThingKind::Container)
 }
 
 /// The known places of the rows, by first mention and once.
@@ -73,24 +50,18 @@ fn mentioned(alloc: Global, setup: &Setup, rows: &[CountRow]) -> Result<Vec<Plac
     Ok(places)
 }
 
-/// Adds those of the objects that are in the place.
+/// Adds the objects as missing in the place.
 fn add_missing(
     missing: &mut Vec<MissingObject>,
-    ledger: &Ledger,
     place: PlaceNo,
     objects: &[ThingNo],
 ) -> Result<(), NoMemory>
-    requires place { place < length ledger.now.museum.places }
-    requires objects { All (λ x. x < length ledger.now.museum.things) objects.now }
     ensures { OnOk result (missing.new.items
-        ≡ missing.old.items ++ map (missing_at place) (filter (is_within ledger.now place) objects.now)) }
+        ≡ missing.old.items ++ map (missing_at place) objects.now) }
 {
-    let code = ledger.setup().place_code(place);
     for i in 0..objects.len() {
         let object = objects[i];
-        if is_in(ledger, object, &code) {
-            missing.push(MissingObject { place, object })?;
-        }
+        missing.push(MissingObject { place, object })?;
     }
     Ok(())
 }

@@ -1,0 +1,5 @@
+use Rattle.count_core.specs.Inside.{AreUnflaggedIn, lists}
+use Rattle.count_core.proofs.unnamed.unnamed_in_each.Given as goal
+
+abbrev pub invariant-loop-thing : goal.invariant-loop-thing
+invariant-loop-thing l = AreUnflaggedIn l.ledger l.flags l.thing (lists l.unnamed.items)

@@ -1,0 +1,43 @@
+-- Which places a place lies in, found by its code, and the objects of each place that have no flag.
+use Rattle.std.specs.Prelude.{ℕ, ◌≡◌, ◌+◌, ◌<◌, ◌&&◌, Bool, List, [], length, drop, take, map, filter, Option, None, if◌then◌else◌, slice_get, unwrap_or, Vec}
+use Rattle.std.specs.List.{filter_map, range_with_len}
+use Rattle.std.specs.Option.{option_map_or}
+use Rattle.std.specs.declared.alloc.Global.{Global}
+use Rattle.codes_core.specs.Place.{ends_segment}
+use Rattle.nest_core.specs.Museum.{Museum, find_place, place_code_of}
+use Rattle.posting_core.specs.Book.{Book}
+use Rattle.count_core.specs.Counts.{is_within}
+use Rattle.count_core.specs.Marks.{is_unflagged}
+
+-- the place whose code is the first bytes of this one, so many, if a segment ends there
+abbrev pub outer_place : Museum → List ℕ → ℕ → Option ℕ
+outer_place S code end = if ends_segment (drop end code) then find_place S (take end code) else None
+
+-- the places in which one with the code lies, outermost first
+abbrev pub outer_places : Museum → List ℕ → List ℕ
+outer_places S code = filter_map (outer_place S code) (range_with_len 0 (length code + 1))
+
+-- the places in which place p lies
+abbrev pub outer_of : Museum → ℕ → List ℕ
+outer_of S p = option_map_or (outer_places S) (place_code_of S p) []
+
+-- for each place those in which it lies
+abbrev pub outer_of_each : Museum → List (List ℕ)
+outer_of_each S = map (outer_of S) (range_with_len 0 (length S.places))
+
+-- what the lists hold
+abbrev pub lists : List (Vec ℕ Global) → List (List ℕ)
+lists vs = map (λ v. v.items) vs
+
+-- list q; none is empty
+abbrev pub list_at : List (List ℕ) → ℕ → List ℕ
+list_at xss q = unwrap_or (slice_get xss q) []
+
+-- an object in place q that has no flag
+abbrev pub is_unflagged_in : Book → List Bool → ℕ → ℕ → Bool
+is_unflagged_in B flags q x = is_unflagged B.museum flags x && is_within B q x
+
+-- a list for each place: of the first n things the objects in it that have no flag, ascending
+pub record AreUnflaggedIn (B : Book) (flags : List Bool) (n : ℕ) (xss : List (List ℕ)) : Type 0 where
+  pub many : length xss ≡ length B.museum.places
+  pub each : (q : ℕ) → q < length B.museum.places → list_at xss q ≡ filter (is_unflagged_in B flags q) (range_with_len 0 n)
