@@ -1,13 +1,13 @@
 //! The reports as lines.
-ghost use Rattle.std.specs.Prelude.{◌<◌, All, IfSome, length};
-ghost use Rattle.count_core.specs.Counts.{IsMissingIn};
+ghost use Rattle.std.specs.Prelude.{◌<◌, All, length};
+ghost use Rattle.count_core.specs.Counts.{IsAnswerIn, IsMissingIn};
 ghost use Rattle.count_core.specs.Reports.{IsAwayIn};
 
 use crate::fault::CommandFault;
 use crate::lines::{day_text, known_place, loan_text, place_text, thing_text, write_line};
 use codes_core::{Day, NoMemory, ThingCode};
 use count_core::{AwayObject, CountAnswer, CountRow, MissingObject, check};
-use nest_core::{PlaceNo, Setup};
+use nest_core::Setup;
 use posting_core::{Ledger, Spot};
 use std::alloc::Global;
 use std::io::Write;
@@ -22,12 +22,24 @@ pub fn count<T: Threads + Sync, W: Write>(
     output: &mut W,
 ) -> Result<(), CommandFault> {
     let report = check(threads, alloc, ledger, rows)?;
-    for (i, answer) in report.answers.iter().enumerate() {
-        let said = answer_text(alloc, ledger, rows.get(i), *answer)?;
+    write_answers(alloc, ledger.setup(), report.answers.as_slice(), output)?;
+    write_missing(alloc, ledger.setup(), report.missing.as_slice(), output)
+}
+
+fn write_answers<W: Write>(
+    alloc: Global,
+    setup: &Setup,
+    answers: &[CountAnswer],
+    output: &mut W,
+) -> Result<(), CommandFault>
+    requires { All (IsAnswerIn setup.now) answers.now }
+{
+    for i in 0..answers.len() {
+        let said = answer_text(alloc, setup, answers[i])?;
         let number = i.saturating_add(1);
         write_line(output, &format!(in alloc; "row {number} {said}\n")?)?;
     }
-    write_missing(alloc, ledger.setup(), report.missing.as_slice(), output)
+    Ok(())
 }
 
 fn write_missing<W: Write>(
@@ -110,12 +122,9 @@ fn spot_line(alloc: Global, setup: &Setup, spot: &Spot) -> Result<String, NoMemo
 }
 
 /// What is said to a row of a count list.
-fn answer_text(
-    alloc: Global,
-    ledger: &Ledger,
-    row: Option<&CountRow>,
-    answer: CountAnswer,
-) -> Result<String, NoMemory> {
+fn answer_text(alloc: Global, setup: &Setup, answer: CountAnswer) -> Result<String, NoMemory>
+    requires { IsAnswerIn setup.now answer }
+{
     let word = match answer {
         CountAnswer::UnknownPlace => "UnknownPlace",
         CountAnswer::Counted => "Counted",
@@ -123,19 +132,10 @@ fn answer_text(
         CountAnswer::Again => "Again",
         CountAnswer::Unplaced => "Unplaced",
         CountAnswer::Found => "Found",
-        CountAnswer::Elsewhere(_) => {
-            let place = known_place(alloc, ledger.setup(), place_of_row(ledger, row))?;
+        CountAnswer::Elsewhere(place) => {
+            let place = place_text(alloc, setup, place)?;
             return Ok(format!(in alloc; "Elsewhere {place}")?);
         }
     };
     Ok(String::from_str(alloc, word)?)
-}
-
-/// Where the object of a row is.
-fn place_of_row(ledger: &Ledger, row: Option<&CountRow>) -> Option<PlaceNo>
-    ensures { IfSome result (λ p. p < length ledger.now.museum.places) }
-{
-    let code = row?.object?;
-    let thing = ledger.setup().thing(&code)?;
-    ledger.place_of(thing)
 }
