@@ -49,10 +49,10 @@ impl Station {
 }
 
 pub struct Hub {
-    ledger: Ledger,
+    pub ledger: Ledger,
     stations: Vec<Station>,
     station_names: Numbers,
-    named: Named,
+    pub named: Named,
     tape: Tape,
 }
 

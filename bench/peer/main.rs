@@ -1,6 +1,8 @@
 //! A plain program that does the proved program's job, made to be fast, with no proof: to compare replies and times with.
-//! `rustc -O --edition 2021 bench/peer/main.rs -o bin/peer`; it reads a session and writes the replies.
+//! `rustc -O --edition 2021 bench/peer/main.rs -o bin/peer`; it reads a session and writes the replies. With the name of a
+//! count list it writes the report on it after the session, and on standard error the seconds that the check took.
 mod codes;
+mod count;
 mod hub;
 mod json;
 mod ledger;
@@ -14,6 +16,7 @@ use hub::{Hub, LONGEST_LINE};
 use said::Said;
 use std::io::{self, BufRead, BufReader, Write};
 use std::process::ExitCode;
+use std::time::Instant;
 
 const LONGEST_HEAD: usize = 8_388_608;
 /// What is said is written when it is so long.
@@ -102,16 +105,16 @@ fn read_head<R: io::Read>(input: &mut BufReader<R>) -> Result<Vec<u8>, &'static 
     }
 }
 
-fn session() -> Result<(), String> {
+/// Answers each line of the session; the hub after it.
+fn session(output: &mut impl Write) -> Result<Hub, String> {
     let mut input = BufReader::with_capacity(LONG, io::stdin().lock());
-    let mut output = io::stdout().lock();
     let head = read_head(&mut input)?;
     let mut hub: Hub = setup::read(&head).map_err(|fault| format!("setup {fault}"))?;
     let (mut line, mut said) = (Vec::new(), Said::default());
     for number in 1.. {
         let fed = read_line(
             &mut input,
-            &mut output,
+            output,
             &mut said,
             &mut line,
             LONGEST_LINE + 2,
@@ -122,17 +125,34 @@ fn session() -> Result<(), String> {
             hub.reply(number, text, &mut said);
         }
         if said.0.len() >= LONG || !fed {
-            written(&mut output, &mut said)?;
+            written(output, &mut said)?;
         }
         if !fed {
             break;
         }
     }
-    Ok(())
+    Ok(hub)
+}
+
+/// Writes the report on a count list after the session.
+fn count(list: &str) -> Result<(), String> {
+    let hub = session(&mut io::sink())?;
+    let bytes = std::fs::read(list).map_err(|_| "file")?;
+    let rows = count::read(&hub, &bytes).map_err(|fault| format!("counts {fault}"))?;
+    let began = Instant::now();
+    let report = count::check(&hub, &rows);
+    eprintln!("{:.6}", began.elapsed().as_secs_f64());
+    let mut said = Said::default();
+    count::tell(&hub.named, &report, &mut said);
+    Ok(written(&mut io::stdout().lock(), &mut said)?)
 }
 
 fn main() -> ExitCode {
-    match session() {
+    let done = match std::env::args().nth(1) {
+        Some(list) => count(&list),
+        None => session(&mut io::stdout().lock()).map(|_| ()),
+    };
+    match done {
         Ok(()) => ExitCode::SUCCESS,
         Err(fault) => {
             eprintln!("fault {fault}");

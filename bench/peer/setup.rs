@@ -25,6 +25,10 @@ pub struct Thing {
 }
 
 impl Setup {
+    pub fn places(&self) -> usize {
+        self.insides.len()
+    }
+
     pub fn has_place(&self, place: u32) -> bool {
         (place as usize) < self.insides.len()
     }
@@ -77,7 +81,7 @@ pub fn read(bytes: &[u8]) -> Result<Hub, String> {
 }
 
 /// The next row of RFC 4180. It ends at a line feed, a carriage return or both, and empty lines aren't rows.
-fn next_row(rest: &mut &str) -> Option<Vec<String>> {
+pub fn next_row(rest: &mut &str) -> Option<Vec<String>> {
     let mut text = rest.trim_start_matches(['\r', '\n']);
     if text.is_empty() {
         return None;
