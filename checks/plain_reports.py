@@ -23,9 +23,9 @@ STILL_OUT = ("Away", "Here")
 class Record:
     """A museum and what is posted, asked by walking all of it."""
 
-    def __init__(self, seed):
-        self.museum, self.posted, taken = museum_of(streams.SETUP), [], []
-        for text in json_lines(seed).split(b"\n"):
+    def __init__(self, setup, lines):
+        self.museum, self.posted, taken = museum_of(setup), [], []
+        for text in lines.split(b"\n"):
             line, fault = read_line(text)
             if not fault and line["station"] in self.museum.stations and "ask" not in line:
                 arrival(self.museum, taken, self.posted, line["station"], line["n"], line["message"])
@@ -129,7 +129,7 @@ def asked(record, rows):
 
 def is_same(program, seed, folder):
     """Whether the program prints what the plain one does."""
-    record, rows = Record(seed), count_rows(seed)
+    record, rows = Record(streams.SETUP, json_lines(seed)), count_rows(seed)
     files = {"setup.csv": streams.SETUP, "list.csv": "".join(f"{at},{thing or ''}\n" for at, thing in rows)}
     for name, text in files.items():
         with open(os.path.join(folder, name), "w", encoding="ascii") as file:
