@@ -1,4 +1,4 @@
-use Rattle.std.proofs.Common.{◌≡◌, ℕ, ◌<◌, length, refl, ◌∙◌, rules, arith}
+use Rattle.std.proofs.Common.{◌<◌, length, refl, ◌∙◌, arith}
 use Rattle.rtrb.specs.Ring.{SameConsumer}
 use Rattle.serve_core.specs.Lanes.{Begins, received_at}
 use Rattle.serve_core.specs.Sending.{IsSentTo, IsStill, sent_at}

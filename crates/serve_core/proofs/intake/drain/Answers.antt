@@ -1,4 +1,4 @@
-use Rattle.std.proofs.Common.{◌≡◌, List, [], ◌∷◌, ◌++◌, length, refl, sym, append-nil, ◌∙◌, ap, rules, arith}
+use Rattle.std.proofs.Common.{[], ◌∷◌, ◌++◌, length, refl, sym, append-nil, ◌∙◌, ap, arith}
 use Rattle.serve_core.specs.Lanes.{received_is}
 use Rattle.serve_core.proofs.LogLemmas.{serves_none, serves_then}
 use Rattle.serve_core.proofs.Takings.{lines_then, takes_push, moved, still_end}

@@ -1,4 +1,4 @@
-use Rattle.std.proofs.Common.{◌≡◌, ◌<◌, [], length, refl, rules, arith}
+use Rattle.std.proofs.Common.{◌<◌, [], length, refl, arith}
 use Rattle.serve_core.proofs.Takings.{takes_none, takes_is_some, dropped_at}
 use Rattle.serve_core.proofs.intake.drop_all.Goals as goal
 

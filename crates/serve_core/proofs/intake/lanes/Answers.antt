@@ -1,4 +1,4 @@
-use Rattle.std.proofs.Common.{◌≡◌, vec_len, sym, ap, arith, rules, ◌∙◌}
+use Rattle.std.proofs.Common.{arith}
 use Rattle.serve_core.specs.Lanes.{IsFresh}
 use Rattle.serve_core.proofs.Takings.{zip_push}
 use Rattle.serve_core.proofs.intake.lanes.Goals as goal

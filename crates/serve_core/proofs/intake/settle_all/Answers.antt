@@ -1,4 +1,4 @@
-use Rattle.std.proofs.Common.{◌≡◌, ◌<◌, length, ◌∙◌, rules, arith}
+use Rattle.std.proofs.Common.{◌<◌, length, ◌∙◌, arith}
 use Rattle.serve_core.specs.Lanes.{IsEndOn, Begins, received_at, ended_at}
 use Rattle.serve_core.proofs.Takings.{zip_length, zip_get, zip_set, ends_set, received_kept, by_step, front_at}
 use Rattle.serve_core.proofs.intake.settle_all.Goals as goal

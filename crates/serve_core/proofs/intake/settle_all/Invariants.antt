@@ -1,4 +1,4 @@
-use Rattle.std.proofs.Common.{◌≡◌, ℕ, List, length, ◌++◌, ◌<◌, vec_len}
+use Rattle.std.proofs.Common.{◌≡◌, ℕ, ◌<◌, vec_len}
 use Rattle.std.specs.List.{AllZip}
 use Rattle.serve_core.specs.Lanes.{IsEndOn, SameEnds, received_at, ended_at, Begins}
 use Rattle.serve_core.proofs.intake.settle_all.Given as goal

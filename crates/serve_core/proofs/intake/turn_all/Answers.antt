@@ -1,7 +1,7 @@
-use Rattle.std.proofs.Common.{◌≡◌, ◌<◌, List, [], ◌++◌, length, refl, ◌∙◌, sym, ap, subst, arith, rules, length-append, append-nil, append_assoc}
+use Rattle.std.proofs.Common.{◌<◌, [], ◌++◌, length, refl, ◌∙◌, sym, arith, length-append, append-nil}
 use Rattle.std.proofs.lemmas.Result.{IfOk-from_err}
 use Rattle.serve_core.proofs.LogLemmas.{serves_none, serves_then}
-use Rattle.serve_core.proofs.Takings.{takes_none, takes_then, takes_then_some, lines_then, ascends_more, ascends_wider}
+use Rattle.serve_core.proofs.Takings.{takes_none, takes_then, takes_then_some, lines_then, ascends_more}
 use Rattle.serve_core.proofs.intake.turn_all.Goals as goal
 
 pub loop-i-init : goal.loop-i-init

@@ -1,5 +1,4 @@
-use Rattle.std.proofs.Common.{◌≡◌, ℕ, List, length, ◌++◌, ◌≤◌, vec_len}
-use Rattle.hub_core.specs.StandsFor.{State}
+use Rattle.std.proofs.Common.{◌≡◌, List, length, ◌++◌, ◌≤◌, vec_len}
 use Rattle.serve_core.specs.declared.item.LogLine.{LogLine}
 use Rattle.serve_core.specs.Logs.{Ascends, Serves}
 use Rattle.serve_core.specs.Lanes.{Takes}

@@ -1,6 +1,5 @@
-use Rattle.std.proofs.Common.{◌≡◌, ◌+◌, ◌<◌, ◌++◌, ◌∷◌, [], suc, length, take, drop, ap, sym, subst, ◌∙◌, rules, arith}
+use Rattle.std.proofs.Common.{◌≡◌, ◌<◌, suc, length, drop, ap, sym, ◌∙◌, arith}
 use Rattle.std.proofs.lemmas.Bool.Decides.{nat_tests}
-use Rattle.std.specs.List.{AllZip}
 use Rattle.serve_core.specs.Sending.{Sends}
 use Rattle.serve_core.proofs.Takings.{joined_then, left_then, length_push}
 use Rattle.serve_core.proofs.sending.join_all.Goals as goal

@@ -1,4 +1,4 @@
-use Rattle.std.proofs.Common.{◌≡◌, ◌+◌, ◌≤◌, ◌++◌, length, take, drop, vec_len}
+use Rattle.std.proofs.Common.{◌≡◌, ◌+◌, ◌≤◌, length, take, drop, vec_len}
 use Rattle.std.specs.List.{AllZip}
 use Rattle.serve_core.specs.Sending.{Sends}
 use Rattle.serve_core.proofs.sending.join_all.Given as goal

@@ -1,4 +1,4 @@
-use Rattle.std.proofs.Common.{◌≡◌, length, ap, subst, vec_len, rules, arith, ◌∙◌}
+use Rattle.std.proofs.Common.{◌≡◌, length, ap, subst, vec_len, arith}
 use Rattle.std.proofs.lemmas.List.{length-map}
 use Rattle.serve_core.specs.Sending.{HasRoom}
 use Rattle.serve_core.proofs.serving.prepare.Goals as goal

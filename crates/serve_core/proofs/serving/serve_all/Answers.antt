@@ -1,4 +1,4 @@
-use Rattle.std.proofs.Common.{◌≡◌, List, map, sym, subst, rules}
+use Rattle.std.proofs.Common.{List, map, sym, subst}
 use Rattle.serve_core.specs.declared.item.LogLine.{LogLine}
 use Rattle.serve_core.specs.declared.serve_fault.ServeFault.TheVariants as faults
 use Rattle.serve_core.specs.Sending.{AreFronts}

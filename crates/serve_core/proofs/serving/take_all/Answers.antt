@@ -1,10 +1,8 @@
-use Rattle.std.proofs.Common.{◌≡◌, ◌<◌, List, [], ◌++◌, length, map, vec_len, refl, sym, ap, append-nil, subst, ◌∙◌, rules, arith}
+use Rattle.std.proofs.Common.{◌≡◌, List, ◌++◌, length, map, sym, ap, subst, ◌∙◌, arith}
 use Rattle.std.proofs.lemmas.Result.{on_ok_weaker, IfErr-weaker}
-use Rattle.std.specs.List.{AllZip}
-use Rattle.rtrb.specs.Ring.{SameConsumer}
 use Rattle.serve_core.specs.declared.item.LogLine.{LogLine}
 use Rattle.serve_core.specs.declared.serve_fault.ServeFault.{ServeFault}
-use Rattle.serve_core.specs.Logs.{AreOfStations, Serves}
+use Rattle.serve_core.specs.Logs.{Serves}
 use Rattle.serve_core.specs.Sending.{IsSentTo, IsSent, IsOneOf, IsMerge, AreFronts, Sends}
 use Rattle.serve_core.proofs.LogLemmas.{serves_then}
 use Rattle.serve_core.proofs.Sendings.{back_to, back_of, fronts_stopped, fronts_left, merged, log_whole, hub_named}

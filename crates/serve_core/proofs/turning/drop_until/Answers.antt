@@ -1,4 +1,4 @@
-use Rattle.std.proofs.Common.{[], rules}
+use Rattle.std.proofs.Common.{[]}
 use Rattle.serve_core.proofs.Takings.{takes_none, takes_is_some, some_then_none}
 use Rattle.serve_core.proofs.turning.drop_until.Goals as goal
 

@@ -1,4 +1,4 @@
-use Rattle.std.proofs.Common.{◌≡◌, []}
+use Rattle.std.proofs.Common.{[]}
 use Rattle.serve_core.specs.Lanes.{TakesSome}
 use Rattle.serve_core.proofs.turning.drop_until.Given as goal
 

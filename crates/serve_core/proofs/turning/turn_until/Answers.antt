@@ -1,4 +1,4 @@
-use Rattle.std.proofs.Common.{◌≡◌, List, [], ◌++◌, refl, ◌∙◌, sym, append-nil, rules}
+use Rattle.std.proofs.Common.{[], ◌++◌, refl, ◌∙◌, sym, append-nil}
 use Rattle.std.proofs.lemmas.Result.{IfOk-from_err}
 use Rattle.serve_core.proofs.LogLemmas.{serves_none, serves_then}
 use Rattle.serve_core.proofs.Takings.{lines_then, takes_none, takes_after, takes_after_some}

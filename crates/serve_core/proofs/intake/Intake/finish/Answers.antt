@@ -1,4 +1,4 @@
-use Rattle.std.proofs.Common.{◌≡◌, ◌++◌, List, length, ap, ◌∙◌, subst, rules}
+use Rattle.std.proofs.Common.{◌++◌, List, length, ap, ◌∙◌, subst}
 use Rattle.serve_core.specs.declared.item.LogLine.{LogLine}
 use Rattle.serve_core.specs.Lanes.{Ring}
 use Rattle.serve_core.specs.Logs.{AreOfStations}

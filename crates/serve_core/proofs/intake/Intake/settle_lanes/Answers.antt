@@ -1,4 +1,3 @@
-use Rattle.std.proofs.Common.{rules}
 use Rattle.serve_core.proofs.Sendings.{settled_view}
 use Rattle.serve_core.proofs.intake.Intake.settle_lanes.Goals as goal
 
