@@ -6,6 +6,7 @@
 mod codes;
 mod counts;
 mod failing;
+mod fresh;
 mod hub;
 mod ledger;
 mod messages;

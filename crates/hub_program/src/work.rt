@@ -9,6 +9,7 @@ use hub_core::{Hub, replay};
 use nest_core::Setup;
 use register_sql::SqlRegister;
 use register_store::{PlainRegister, Register};
+use sqlite::{Alter, Connection};
 use std::alloc::Global;
 use std::io::{BufRead, Write};
 use std::thread::Threads;
@@ -82,8 +83,16 @@ fn in_file<T: Threads + Sync, R: BufRead, W: Write>(
 ) -> Result<(), CommandFault> {
     match SqlRegister::on_file(rt, rt.alloc(), path) {
         Ok(register) => {
-            let (register, ended) = over(rt.alloc(), threads, setup, register, work, input, output);
-            shut(register.into_connection());
+            let (conn, ended) = connected(
+                rt.alloc(),
+                threads,
+                setup,
+                register,
+                work,
+                input,
+                output,
+            );
+            shut(conn);
             ended
         }
         Err(fault) => {
@@ -91,6 +100,20 @@ fn in_file<T: Threads + Sync, R: BufRead, W: Write>(
             Err(CommandFault::from(fault))
         }
     }
+}
+
+/// The same over a connection, which it gives back.
+fn connected<T: Threads + Sync, S: Alter, R: BufRead, W: Write>(
+    alloc: Global,
+    threads: &T,
+    setup: Setup,
+    register: SqlRegister<S>,
+    work: &Work,
+    input: &mut R,
+    output: &mut W,
+) -> (Connection<S>, Result<(), CommandFault>) {
+    let (register, ended) = over(alloc, threads, setup, register, work, input, output);
+    (register.into_connection(), ended)
 }
 
 /// Opens a hub over the register, does the work with it, and gives the register back.

@@ -1,5 +1,5 @@
 //! A posting with its spots, its lines and its last day, put into a whole store in one transaction.
-ghost use Rattle.std.specs.Prelude.{◌≡◌, OnOk, OnErr, IfOk, IsTrue, false, pos};
+ghost use Rattle.std.specs.Prelude.{◌≡◌, ◌≤◌, ◌^◌, OnOk, OnErr, IfOk, IfErr, IsTrue, false, pos};
 ghost use Rattle.sqlite.specs.Held.{state};
 ghost use Rattle.sqlite.specs.State.{HasCleanDisk, Survives};
 ghost use Rattle.register_store.specs.Plain.{posting_row};
@@ -15,6 +15,7 @@ use sqlite::{Alter, Connection, Error, Transaction, params};
 /// A number as the store takes it.
 pub(crate) fn wide(number: u64) -> Result<i64, Error>
     ensures { IfOk result (λ n. n ≡ pos number) }
+    ensures none { IfErr result (λ fault. 2 ^ 63 ≤ number) }
 {
     match i64::try_from(number) {
         Ok(n) => Ok(n),

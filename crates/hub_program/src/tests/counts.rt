@@ -47,7 +47,7 @@ const MISSING: &[MissingObject] = &[MissingObject {
 
 /// A hub in which PACK has told this.
 fn told(rt: &impl Abort, alloc: Global, texts: &str) -> Result<Hub<PlainRegister>, Fail> {
-    let mut hub = opened(alloc)?;
+    let mut hub: Hub<PlainRegister> = opened(alloc)?;
     let sent = tell_all(rt, alloc, &mut hub, texts);
     kept(hub, sent)
 }
@@ -207,7 +207,7 @@ fn tell_and_ask(rt: &impl Abort, alloc: Global, hub: &mut Hub<PlainRegister>) ->
 
 #[test]
 fn overdue_loans(rt: HostRuntime) -> Result<(), Fail> {
-    let mut hub = opened(rt.alloc())?;
+    let mut hub: Hub<PlainRegister> = opened(rt.alloc())?;
     let told = tell_and_ask(&rt, rt.alloc(), &mut hub);
     drop(hub);
     told

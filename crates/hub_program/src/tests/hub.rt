@@ -2,8 +2,9 @@
 ghost use Rattle.std.specs.Prelude.{◌≡◌, true, IfErr};
 ghost use Rattle.register_store.specs.Registers.{is_failure};
 
+use super::fresh::{Fresh, Stored};
 use super::ledger::{Loan, has_loans, tell_all};
-use super::{TO_S1, kept, museum, small_museum};
+use super::{TO_S1, museum, small_museum};
 use hub_core::{Answer, Arrival, Hub, OpenFault};
 use nest_core::{PlaceNo, Setup, StationNo};
 use posting_core::Ledger;
@@ -42,18 +43,34 @@ const OPENED_AGAIN: &[Row] = &[
 /// Thing 2 of the setup is 2001.4.1; places 0 and 1 are S1 and S1-A.
 const OBJECT: u32 = 2;
 
-/// A hub over the whole setup, with nothing posted.
-pub(crate) fn opened(alloc: Global) -> Result<Hub<PlainRegister>, Fail> {
+/// A hub over the whole setup and a register of either sort, with nothing posted.
+pub(crate) fn opened<R: Fresh>(alloc: Global) -> Result<Hub<R>, Fail> {
     let setup = museum(alloc)?;
-    let hub = Hub::open(alloc, setup, PlainRegister::new(alloc)).ok();
-    Ok(hub.ok_or("not opened")?)
+    match R::fresh(alloc) {
+        Ok(register) => if_opened(Hub::open(alloc, setup, register)),
+        Err(fault) => {
+            drop(setup);
+            Err(Fail::from(fault))
+        }
+    }
+}
+
+/// The hub, where it was opened.
+fn if_opened<R: Fresh>(opened: Result<Hub<R>, OpenFault<R>>) -> Result<Hub<R>, Fail> {
+    match opened {
+        Ok(hub) => Ok(hub),
+        Err(failed) => {
+            failed.register.shut();
+            Err(Fail::from("not opened"))
+        }
+    }
 }
 
 /// Sends a message, and compares the answer.
-pub(crate) fn send(
+pub(crate) fn send<R: Register>(
     rt: &impl Abort,
     alloc: Global,
-    hub: &mut Hub<PlainRegister>,
+    hub: &mut Hub<R>,
     station: StationNo,
     n: u64,
     text: &str,
@@ -70,10 +87,10 @@ pub(crate) fn send(
     Ok(())
 }
 
-fn send_all(
+fn send_all<R: Register>(
     rt: &impl Abort,
     alloc: Global,
-    hub: &mut Hub<PlainRegister>,
+    hub: &mut Hub<R>,
     rows: &[Row],
 ) -> Result<(), Fail> {
     for (n, text, want) in rows {
@@ -99,10 +116,10 @@ fn has_spots(ledger: &Ledger, want: &[(u64, PlaceNo)]) -> bool {
     true
 }
 
-fn held_then_posted(
+fn held_then_posted<R: Register>(
     rt: &impl Abort,
     alloc: Global,
-    hub: &mut Hub<PlainRegister>,
+    hub: &mut Hub<R>,
 ) -> Result<(), Fail> {
     assert!(rt; has_spots(hub.ledger(), &[]));
     send_all(rt, alloc, hub, HELD)?;
@@ -110,19 +127,36 @@ fn held_then_posted(
     Ok(())
 }
 
-#[test]
-fn a_hub(rt: HostRuntime) -> Result<(), Fail> {
-    let mut hub = opened(rt.alloc())?;
-    let told = held_then_posted(&rt, rt.alloc(), &mut hub);
-    drop(hub);
+/// Opens a hub, sends it what is held and then posted, and lets it go.
+fn holds_and_posts<R: Fresh, A: Abort>(rt: &A, alloc: Global) -> Result<(), Fail> {
+    let mut hub: Hub<R> = opened(alloc)?;
+    let told = held_then_posted(rt, alloc, &mut hub);
+    hub.close().shut();
     told
 }
 
+#[test]
+fn a_hub(rt: HostRuntime) -> Result<(), Fail> {
+    holds_and_posts::<PlainRegister, HostRuntime>(&rt, rt.alloc())?;
+    holds_and_posts::<Stored, HostRuntime>(&rt, rt.alloc())
+}
+
+/// The hub, where all went well with it.
+fn kept_hub<R: Fresh>(hub: Hub<R>, told: Result<(), Fail>) -> Result<Hub<R>, Fail> {
+    match told {
+        Ok(()) => Ok(hub),
+        Err(fail) => {
+            hub.close().shut();
+            Err(fail)
+        }
+    }
+}
+
 /// A hub with two postings.
-fn posted_twice(rt: &impl Abort, alloc: Global) -> Result<Hub<PlainRegister>, Fail> {
+fn posted_twice<R: Fresh, A: Abort>(rt: &A, alloc: Global) -> Result<Hub<R>, Fail> {
     let mut hub = opened(alloc)?;
     let sent = send_all(rt, alloc, &mut hub, LAST_HELD);
-    kept(hub, sent)
+    kept_hub(hub, sent)
 }
 
 /// Closes a hub, be it down or not, and opens another over its register. What any caller may rest on: with the same
@@ -138,38 +172,55 @@ fn opened_anew<R: Register>(
 }
 
 /// A hub over the register of another one that was closed, with the same setup.
-fn opened_after(alloc: Global, hub: Hub<PlainRegister>) -> Result<Hub<PlainRegister>, Fail> {
+fn opened_after<R: Fresh>(alloc: Global, hub: Hub<R>) -> Result<Hub<R>, Fail> {
     match museum(alloc) {
-        Ok(setup) => Ok(opened_anew(alloc, hub, setup).ok().ok_or("not opened")?),
+        Ok(setup) => if_opened(opened_anew(alloc, hub, setup)),
         Err(fail) => {
-            drop(hub);
+            hub.close().shut();
             Err(fail)
         }
     }
 }
 
-#[test]
-fn opened_again(rt: HostRuntime) -> Result<(), Fail> {
-    let first = posted_twice(&rt, rt.alloc())?;
-    let mut hub = opened_after(rt.alloc(), first)?;
-    let sent = send_all(&rt, rt.alloc(), &mut hub, OPENED_AGAIN);
-    drop(hub);
+/// Opens a hub with two postings anew, and sends it what comes after.
+fn opens_again<R: Fresh, A: Abort>(rt: &A, alloc: Global) -> Result<(), Fail> {
+    let first: Hub<R> = posted_twice(rt, alloc)?;
+    let mut hub = opened_after(alloc, first)?;
+    let sent = send_all(rt, alloc, &mut hub, OPENED_AGAIN);
+    hub.close().shut();
     sent
 }
 
-fn fault_of<R: Drop>(failed: OpenFault<R>) -> StoreFault {
-    failed.fault
+#[test]
+fn opened_again(rt: HostRuntime) -> Result<(), Fail> {
+    opens_again::<PlainRegister, HostRuntime>(&rt, rt.alloc())?;
+    opens_again::<Stored, HostRuntime>(&rt, rt.alloc())
 }
 
-/// Why the register of a hub isn't opened with the small setup.
-fn opened_with_another(alloc: Global, hub: Hub<PlainRegister>) -> Result<Option<StoreFault>, Fail> {
-    match small_museum(alloc) {
-        Ok(setup) => {
-            let opened = Hub::open(alloc, setup, hub.close());
-            Ok(opened.err().map(fault_of))
+/// Why a register isn't opened with this setup, if it isn't.
+fn refusal_of<R: Fresh>(alloc: Global, setup: Setup, register: R) -> Option<StoreFault> {
+    match Hub::open(alloc, setup, register) {
+        Ok(hub) => {
+            hub.close().shut();
+            None
         }
+        Err(failed) => {
+            failed.register.shut();
+            Some(failed.fault)
+        }
+    }
+}
+
+/// Why the register of a hub with two postings isn't opened with the small setup.
+fn refusal_with_another<R: Fresh, A: Abort>(
+    rt: &A,
+    alloc: Global,
+) -> Result<Option<StoreFault>, Fail> {
+    let hub: Hub<R> = posted_twice(rt, alloc)?;
+    match small_museum(alloc) {
+        Ok(setup) => Ok(refusal_of(alloc, setup, hub.close())),
         Err(fail) => {
-            drop(hub);
+            hub.close().shut();
             Err(fail)
         }
     }
@@ -177,9 +228,10 @@ fn opened_with_another(alloc: Global, hub: Hub<PlainRegister>) -> Result<Option<
 
 #[test]
 fn of_another_setup(rt: HostRuntime) -> Result<(), Fail> {
-    let hub = posted_twice(&rt, rt.alloc())?;
-    let fault = opened_with_another(rt.alloc(), hub)?;
-    assert_eq!(rt; fault, Some(StoreFault::OtherSetup));
+    let plain = refusal_with_another::<PlainRegister, HostRuntime>(&rt, rt.alloc())?;
+    assert_eq!(rt; plain, Some(StoreFault::OtherSetup));
+    let stored = refusal_with_another::<Stored, HostRuntime>(&rt, rt.alloc())?;
+    assert_eq!(rt; stored, Some(StoreFault::OtherSetup));
     Ok(())
 }
 
@@ -192,10 +244,10 @@ const LENT: &str = r#"{"kind":"move","thing":"C1","place":"S1","day":"2024-05-01
 {"kind":"extend","loan":"LO2024.1","last":"2024-06-30"}"#;
 
 /// A hub with a loan.
-fn lent(rt: &impl Abort, alloc: Global) -> Result<Hub<PlainRegister>, Fail> {
+fn lent<R: Fresh, A: Abort>(rt: &A, alloc: Global) -> Result<Hub<R>, Fail> {
     let mut hub = opened(alloc)?;
     let told = tell_all(rt, alloc, &mut hub, LENT);
-    kept(hub, told)
+    kept_hub(hub, told)
 }
 
 /// The loan, as a ledger tells it.
@@ -206,12 +258,18 @@ const ON_LOAN: &[Loan] = &[(
     &[(2, Away), (3, Awaiting)],
 )];
 
+/// Whether a hub with a loan that is opened anew has it as it was.
+fn keeps_the_loan<R: Fresh, A: Abort>(rt: &A, alloc: Global) -> Result<bool, Fail> {
+    let first: Hub<R> = lent(rt, alloc)?;
+    let hub = opened_after(alloc, first)?;
+    let told = has_loans(hub.ledger(), ON_LOAN);
+    hub.close().shut();
+    told
+}
+
 #[test]
 fn loan_opened_again(rt: HostRuntime) -> Result<(), Fail> {
-    let first = lent(&rt, rt.alloc())?;
-    let hub = opened_after(rt.alloc(), first)?;
-    let told = has_loans(hub.ledger(), ON_LOAN);
-    drop(hub);
-    assert!(rt; told?);
+    assert!(rt; keeps_the_loan::<PlainRegister, HostRuntime>(&rt, rt.alloc())?);
+    assert!(rt; keeps_the_loan::<Stored, HostRuntime>(&rt, rt.alloc())?);
     Ok(())
 }

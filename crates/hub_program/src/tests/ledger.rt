@@ -3,6 +3,7 @@
 ghost use Rattle.std.specs.Prelude.{◌<◌, length};
 ghost use Rattle.posting_core.specs.Book.{loans_in};
 
+use super::fresh::{Fresh, Stored};
 use super::hub::{opened, send};
 use codes_core::{Day, LoanCode};
 use hub_core::{Answer, Hub};
@@ -10,7 +11,7 @@ use nest_core::{StationNo, ThingNo};
 use posting_core::LineStage::{Awaiting, Away, Back, GivenBack, Here};
 use posting_core::LoanState::{Authorised, Closed, Draft, Running};
 use posting_core::{Ledger, LineStage, LoanState, Verdict};
-use register_store::PlainRegister;
+use register_store::{PlainRegister, Register};
 use std::alloc::Global;
 use std::process::Abort;
 use std::test::Fail;
@@ -18,10 +19,10 @@ use std::test::Fail;
 const PACK: StationNo = 0;
 
 /// PACK sends its next message, which is posted.
-fn tell(
+fn tell<R: Register>(
     rt: &impl Abort,
     alloc: Global,
-    hub: &mut Hub<PlainRegister>,
+    hub: &mut Hub<R>,
     text: &str,
 ) -> Result<(), Fail> {
     let n = hub.posted().len() as u64 + 1;
@@ -37,10 +38,10 @@ fn tell(
 }
 
 /// PACK sends these messages, a line each.
-pub(crate) fn tell_all(
+pub(crate) fn tell_all<R: Register>(
     rt: &impl Abort,
     alloc: Global,
-    hub: &mut Hub<PlainRegister>,
+    hub: &mut Hub<R>,
     texts: &str,
 ) -> Result<(), Fail> {
     for text in texts.lines() {
@@ -210,10 +211,10 @@ const STEPS: &[(&str, &[Loan])] = &[
     ),
 ];
 
-fn tell_and_compare(
+fn tell_and_compare<R: Register>(
     rt: &impl Abort,
     alloc: Global,
-    hub: &mut Hub<PlainRegister>,
+    hub: &mut Hub<R>,
 ) -> Result<(), Fail> {
     for (texts, want) in STEPS {
         tell_all(rt, alloc, hub, texts)?;
@@ -222,12 +223,18 @@ fn tell_and_compare(
     Ok(())
 }
 
+/// Opens a hub, tells it of the loans step by step, and lets it go.
+fn keeps_loans<R: Fresh, A: Abort>(rt: &A, alloc: Global) -> Result<(), Fail> {
+    let mut hub: Hub<R> = opened(alloc)?;
+    let told = tell_and_compare(rt, alloc, &mut hub);
+    hub.close().shut();
+    told
+}
+
 #[test]
 fn loans(rt: HostRuntime) -> Result<(), Fail> {
-    let mut hub = opened(rt.alloc())?;
-    let told = tell_and_compare(&rt, rt.alloc(), &mut hub);
-    drop(hub);
-    told
+    keeps_loans::<PlainRegister, HostRuntime>(&rt, rt.alloc())?;
+    keeps_loans::<Stored, HostRuntime>(&rt, rt.alloc())
 }
 
 /// The table of verdicts.

@@ -1,7 +1,8 @@
-//! Registers in memory, bound, posted to and read back.
+//! Registers, bound, posted to and read back.
 ghost use Rattle.std.specs.Prelude.{◌≡◌, ◌∷◌, [], true, reverse, IfOk};
 ghost use Rattle.register_store.specs.Holdings.{Comes};
 
+use super::fresh::{Fresh, Stored};
 use super::{TO_S1, museum};
 use codes_core::Day;
 use nest_core::{PlaceNo, Setup, StationNo, ThingNo};
@@ -106,15 +107,15 @@ fn keep_two<R: Register>(
     register.all(alloc)
 }
 
-/// The same in memory: what is read back after a posting with a spot and one without.
-fn kept_in_memory(
+/// The same of a new register: what is read back after a posting with a spot and one without.
+fn kept_by<R: Fresh>(
     alloc: Global,
     setup: &Setup,
     first: &Entry,
     second: &Entry,
 ) -> Result<Vec<Entry>, Fail> {
     let brought = brought(alloc, 1)?;
-    let mut register = PlainRegister::new(alloc);
+    let mut register = R::fresh(alloc)?;
     let kept = keep_two(
         alloc,
         &mut register,
@@ -124,15 +125,15 @@ fn kept_in_memory(
         second,
         &nothing(alloc, 2),
     );
-    drop(register);
+    register.shut();
     Ok(kept?)
 }
 
 /// A move and another station's sign-off, read back.
-fn two_read_back(alloc: Global, setup: &Setup) -> Result<Vec<Entry>, Fail> {
+fn two_read_back<R: Fresh>(alloc: Global, setup: &Setup) -> Result<Vec<Entry>, Fail> {
     let moved = applied(alloc, GAL, 1, TO_S1)?;
     let signed = applied(alloc, PACK, 1, SIGNED)?;
-    kept_in_memory(alloc, setup, &moved, &signed)
+    kept_by::<R>(alloc, setup, &moved, &signed)
 }
 
 /// Whether an entry is this one, with this text of its message.
@@ -151,15 +152,29 @@ fn is_applied(
     )
 }
 
+/// Whether both are read back as they were.
+fn are_read_back<R: Fresh>(alloc: Global, setup: &Setup) -> Result<bool, Fail> {
+    let entries = two_read_back::<R>(alloc, setup)?;
+    Ok(
+        entries.len() == 2
+            && is_applied(alloc, &entries[0], GAL, 1, MOVED)?
+            && is_applied(alloc, &entries[1], PACK, 1, SIGNED)?,
+    )
+}
+
+/// The same of either sort of register.
+fn are_read_back_by_both(alloc: Global, setup: &Setup) -> Result<(bool, bool), Fail> {
+    let plain = are_read_back::<PlainRegister>(alloc, setup)?;
+    let stored = are_read_back::<Stored>(alloc, setup)?;
+    Ok((plain, stored))
+}
+
 #[test]
 fn two_entries(rt: HostRuntime) -> Result<(), Fail> {
     let setup = museum(rt.alloc())?;
-    let read = two_read_back(rt.alloc(), &setup);
+    let told = are_read_back_by_both(rt.alloc(), &setup);
     drop(setup);
-    let entries = read?;
-    assert!(rt; entries.len() == 2);
-    assert!(rt; is_applied(rt.alloc(), &entries[0], GAL, 1, MOVED)?);
-    assert!(rt; is_applied(rt.alloc(), &entries[1], PACK, 1, SIGNED)?);
+    assert!(rt; told? == (true, true));
     Ok(())
 }
 
@@ -176,29 +191,36 @@ fn agree_after<R: Register>(
     register.agrees(alloc, ledger)
 }
 
-/// Whether a register in memory agrees with a ledger whose one posting changed this.
-fn agreed_in_memory(alloc: Global, ledger: &Ledger, changes: &Changes) -> Result<bool, Fail> {
+/// Whether a new register agrees with a ledger whose one posting changed this.
+fn agreed_by<R: Fresh>(alloc: Global, ledger: &Ledger, changes: &Changes) -> Result<bool, Fail> {
     let moved = applied(alloc, PACK, 1, TO_S1)?;
-    let mut register = PlainRegister::new(alloc);
+    let mut register = R::fresh(alloc)?;
     let agreed = agree_after(alloc, &mut register, ledger, &moved, changes);
-    drop(register);
+    register.shut();
     Ok(agreed?)
 }
 
 /// The same of a posting with a spot, and of one without.
-fn agreed_twice(alloc: Global, ledger: &Ledger) -> Result<(bool, bool), Fail> {
+fn agreed_twice<R: Fresh>(alloc: Global, ledger: &Ledger) -> Result<(bool, bool), Fail> {
     let brought = brought(alloc, 1)?;
-    let more = agreed_in_memory(alloc, ledger, &brought)?;
-    let same = agreed_in_memory(alloc, ledger, &nothing(alloc, 1))?;
+    let more = agreed_by::<R>(alloc, ledger, &brought)?;
+    let same = agreed_by::<R>(alloc, ledger, &nothing(alloc, 1))?;
     Ok((more, same))
+}
+
+/// Both answers, of either sort of register.
+fn agreed_by_both(alloc: Global, ledger: &Ledger) -> Result<[(bool, bool); 2], Fail> {
+    let plain = agreed_twice::<PlainRegister>(alloc, ledger)?;
+    let stored = agreed_twice::<Stored>(alloc, ledger)?;
+    Ok([plain, stored])
 }
 
 #[test]
 fn agrees_with_the_ledger(rt: HostRuntime) -> Result<(), Fail> {
     let ledger = Ledger::new(rt.alloc(), museum(rt.alloc())?, 12)?;
-    let agreed = agreed_twice(rt.alloc(), &ledger);
+    let told = agreed_by_both(rt.alloc(), &ledger);
     drop(ledger);
-    assert!(rt; agreed? == (false, true));
+    assert!(rt; told? == [(false, true), (false, true)]);
     Ok(())
 }
 
@@ -226,20 +248,24 @@ fn read_after<R: Register>(
     Ok(register.all(alloc).err())
 }
 
-fn read_in_memory(
+fn read_by<R: Fresh>(
     alloc: Global,
     setup: &Setup,
     rows: &[Posted],
 ) -> Result<Option<StoreFault>, Fail> {
-    let mut register = PlainRegister::new(alloc);
+    let mut register = R::fresh(alloc)?;
     let fault = read_after(alloc, &mut register, setup, rows);
-    drop(register);
+    register.shut();
     fault
 }
 
 fn assert_read(rt: &impl Abort, alloc: Global, setup: &Setup) -> Result<(), Fail> {
     for (rows, want) in READ {
-        assert!(rt; read_in_memory(alloc, setup, rows)? == *want, "{rows:?}");
+        assert!(rt;
+            read_by::<PlainRegister>(alloc, setup, rows)? == *want,
+            "{rows:?}"
+        );
+        assert!(rt; read_by::<Stored>(alloc, setup, rows)? == *want, "{rows:?}");
     }
     Ok(())
 }

@@ -1,0 +1,39 @@
+//! Registers that tests make: in memory, and over a database in memory. What is tried of one is tried of the other.
+
+use register_sql::SqlRegister;
+use register_store::{PlainRegister, Register, StoreFault};
+use sqlite::MemStore;
+use std::alloc::Global;
+use store_file::shut_in_memory;
+
+/// A register over a database in memory.
+pub(crate) type Stored = SqlRegister<MemStore>;
+
+/// A register that a test makes, and shuts.
+pub(crate) trait Fresh: Register + Sized {
+    /// A new one, which has no row.
+    fn fresh(alloc: Global) -> Result<Self, StoreFault>;
+
+    /// Lets it go.
+    fn shut(self);
+}
+
+impl Fresh for PlainRegister {
+    fn fresh(alloc: Global) -> Result<PlainRegister, StoreFault> {
+        Ok(PlainRegister::new(alloc))
+    }
+
+    fn shut(self) {
+        drop(self);
+    }
+}
+
+impl Fresh for SqlRegister<MemStore> {
+    fn fresh(alloc: Global) -> Result<SqlRegister<MemStore>, StoreFault> {
+        SqlRegister::in_memory(alloc)
+    }
+
+    fn shut(self) {
+        shut_in_memory(self.into_connection());
+    }
+}
