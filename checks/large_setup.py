@@ -4,12 +4,16 @@
     checks/large_setup.py PROGRAM
 
 The program is to take the largest setup and to answer for its last station, place and thing; and of a setup with one row
-more of a sort it is to tell TooMany with that row's number. The rows are read once by Python's own `csv`, too, which is to
-find each code once."""
+more of a sort it is to tell TooMany with that row's number. A store of the largest setup is to have each of its rows, the
+last one among them, as a stock SQLite reads it. The rows are read once by Python's own `csv`, too, which is to find each code
+once."""
 import csv
 import io
+import sqlite3
 import subprocess
 import sys
+import tempfile
+from pathlib import Path
 
 STATIONS, PLACES, THINGS = 64, 10_000, 100_000
 KINDS = ["box", "own", "lent"]
@@ -41,6 +45,17 @@ def run(program, setup, lines):
     return done.returncode, done.stdout, done.stderr
 
 
+def stored(program, setup):
+    """The rows of the setup that a new store keeps."""
+    with tempfile.TemporaryDirectory() as folder:
+        museum, store = Path(folder, "museum.csv"), Path(folder, "museum.db")
+        museum.write_text("\n".join(setup) + "\n", encoding="utf-8")
+        words = [program, "replay", "--setup", museum, "--store", store]
+        subprocess.run(words, input="", text=True, timeout=120, check=True)
+        with sqlite3.connect(store) as connection:
+            return [text for (text,) in connection.execute("SELECT txt FROM setup ORDER BY id")]
+
+
 def lines_of_the_last():
     """The last station moves the last thing to the last place inside, and asks where it and the first thing are."""
     code = thing(THINGS).split(",")[1]
@@ -62,6 +77,7 @@ def main(program):
     passed = [holds("each code stands once", len(set(codes)) == len(codes) == STATIONS + PLACES + THINGS)]
     lines, replies = lines_of_the_last()
     passed.append(holds("the largest setup", run(program, largest, lines) == (0, replies, "")))
+    passed.append(holds("the largest setup, stored", stored(program, largest) == largest))
     more = {"a station": (station, STATIONS), "a place": (place, PLACES), "a thing": (thing, THINGS)}
     for sort, (row, most) in more.items():
         setup = [*largest, row(most + 1)]

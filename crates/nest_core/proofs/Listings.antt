@@ -6,7 +6,8 @@ use Rattle.codes_core.specs.Thing.{thing_kind}
 use Rattle.codes_core.specs.declared.thing.ThingKind.{ThingKind}
 use Rattle.codes_core.specs.declared.thing.ThingKind.TheVariants.{Own, Borrowed, Container}
 use Rattle.nest_core.specs.Museum.{Museum}
-use Rattle.nest_core.specs.SetupRows.{Fields, field, field_count, fields_of_kind, has_word, has_codes, has_normal, is_of_kind, is_place_code, is_right, is_thing_code, listed, listing_fault, kind_fault, row_fault, row_kind, first_some, ◌if◌, with_kind, with_listed, with_row}
+use Rattle.nest_core.specs.SetupRows.{Fields, field, field_count, fields_of_kind, has_word, has_codes, has_normal, is_of_kind, is_place_code, is_right, is_thing_code, listed, listing_fault, kind_fault, row_fault, row_kind, with_kind, with_listed, with_row}
+use Rattle.nest_core.specs.InOrder.{◌if◌, first_or}
 use Rattle.nest_core.specs.declared.setup_fault.SetupFault.{SetupFault}
 use Rattle.nest_core.specs.declared.setup_fault.SetupFault.TheVariants.{BadFields, BadCode}
 use Rattle.nest_core.specs.declared.setup_row.RowKind.{RowKind}
@@ -52,13 +53,9 @@ pub row_of : (S : Museum) (row : Fields) (t : Bool) (k : Option RowKind) → (fi
 row_of S row t k e f =
     ap (λ b. cond b S (with_kind S row (row_kind (field row 0)))) e ∙ ap (λ q. cond t S (with_kind S row q)) f
 
-pub last_alone : (o : Option SetupFault) → first_some (o ∷ []) ≡ o
-last_alone None = refl
-last_alone (Some f) = refl
-
 faults_over : (n : ℕ) (a b : Bool) (o : Option SetupFault) → a ≡ true → b ≡ true
-    → first_some ((BadFields n if not a) ∷ (BadCode n if not b) ∷ o ∷ []) ≡ o
-faults_over n a b o e f = rw (e, f) (last_alone o)
+    → first_or o ((Some (BadFields n) if not a) ∷ (Some (BadCode n) if not b) ∷ []) ≡ o
+faults_over n a b o e f = rw (e, f) refl
 
 -- what was read of a row that lists something
 pub record IsRead (row : Fields) (k : RowKind) (item : SetupRow) : Type 0 where

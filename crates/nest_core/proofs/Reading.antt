@@ -3,15 +3,15 @@ use Rattle.std.specs.Prelude.{◌≡◌, ◌≤◌, ℕ, ◌+◌, Bool, true, fa
 use Rattle.std.proofs.Common.{arith, ap, sym, ◌∙◌, append_assoc}
 use Rattle.std.proofs.lemmas.List.{append-nil, length-append}
 use Rattle.std.proofs.lemmas.List.Sums.{fold_push}
+use Rattle.std.specs.Option.{option_or}
 use Rattle.csv.specs.Machine.{ends_at_end, next_record}
 use Rattle.csv.specs.Reading.{default_config, is_bom, records, strip_bom}
 use Rattle.csv.specs.declared.parser.State.{State}
 use Rattle.csv.specs.declared.parser.State.TheVariants as st
 use Rattle.nest_core.specs.Museum.{Museum, no_museum}
-use Rattle.nest_core.specs.SetupRows.{Fields, first_fault, first_some, museum_of, row_fault, with_row}
+use Rattle.nest_core.specs.SetupRows.{Fields, first_fault, museum_of, row_fault, with_row}
 use Rattle.nest_core.specs.declared.setup_fault.SetupFault.{SetupFault}
 use Rattle.nest_core.proofs.CsvRows.{left_at_start, left_none, left_some, next_leaves, rows_left}
-use Rattle.nest_core.proofs.Listings.{last_alone}
 
 -- the rows before row n of the text are listed in S and have no fault, and what is left is read from this state
 pub record IsUpTo (text : List ℕ) (S : Museum) (n : ℕ) (s : State) (xs : List ℕ) : Type 0 where
@@ -32,11 +32,11 @@ at_start text = record {
   rests = refl;
 }
 
-none_first : (o q : Option SetupFault) → o ≡ None → first_some (o ∷ q ∷ []) ≡ q
-none_first o q e = ap (λ f. first_some (f ∷ q ∷ [])) e ∙ last_alone q
+none_first : (o q : Option SetupFault) → o ≡ None → option_or o q ≡ q
+none_first o q e = ap (λ f. option_or f q) e
 
-some_first : (o q : Option SetupFault) (f : SetupFault) → o ≡ Some f → first_some (o ∷ q ∷ []) ≡ Some f
-some_first o q f e = ap (λ g. first_some (g ∷ q ∷ [])) e
+some_first : (o q : Option SetupFault) (f : SetupFault) → o ≡ Some f → option_or o q ≡ Some f
+some_first o q f e = ap (λ g. option_or g q) e
 
 -- the fault of the next row, as the definition has it
 here_is : (S : Museum) (n : ℕ) (before : List Fields) (row : Fields) (o : Option SetupFault) → S ≡ museum_of before → n ≡ length before + 1 → row_fault S n row ≡ o

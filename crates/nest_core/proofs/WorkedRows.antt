@@ -1,5 +1,6 @@
 -- The definitions computed on worked rows: setup files read row by row, and what is put where.
-use Rattle.std.specs.Prelude.{◌≡◌, List, ℕ, [], ◌∷◌, map, true, false, None, Some, codes, refl}
+use Rattle.std.specs.Prelude.{◌≡◌, ◌≤◌, ◌+◌, ◌*◌, List, ℕ, [], ◌∷◌, length, map, true, false, None, Some, codes, refl}
+use Rattle.std.proofs.Common.{arith}
 use Rattle.csv.specs.Machine.{next_record}
 use Rattle.csv.specs.Reading.{records_from, strip_bom}
 use Rattle.nest_core.specs.declared.TheConstants.{MOST_STATIONS, MOST_PLACES, MOST_THINGS}
@@ -10,7 +11,7 @@ use Rattle.nest_core.specs.declared.put.Put.{Put}
 use Rattle.nest_core.specs.declared.put.Target.TheVariants.{At, Within}
 use Rattle.nest_core.specs.declared.nest.PackBar.TheVariants.{Cycle, TooDeep}
 use Rattle.nest_core.specs.Puts.{last, chain, place, carried, contents}
-use Rattle.nest_core.specs.Nest.{pack_bar, moved_by}
+use Rattle.nest_core.specs.Nest.{pack_bar, moved_by, leaves}
 use Rattle.nest_core.specs.declared.setup_fault.SetupFault.TheVariants.{BadCode, BadFields, BadKind, Repeated, UnknownNormal}
 
 abbrev file : List ℕ
@@ -189,3 +190,7 @@ too_deep-inside = refl
 -- under the limit of new stores both may be packed
 too_deep-limit : (pack_bar (last nine_crates) 12 12 10 8 ≡ None) × (pack_bar (last nine_crates) 12 12 0 11 ≡ None)
 too_deep-limit = (refl, refl)
+
+-- the bound on a put alone refuses a put that writes every place anew, a step each: of seventeen things that stand nowhere
+bound-alone : (before : ℕ) → before + 17 ≤ before + 8 * (length (carried 17 [] 0) + length (leaves [] 0) + 1) → ⊥
+bound-alone before h = let low : before + 17 ≤ before + 16 = h in omega arith

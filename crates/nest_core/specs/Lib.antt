@@ -1,5 +1,6 @@
 pub mod Museum
 pub mod StationName
+pub mod InOrder
 pub mod SetupRows
 pub mod RowReading
 pub mod SetupFaults

@@ -1,6 +1,6 @@
 -- How the rows of a setup file are read.
 use Rattle.std.specs.Prelude.{ℕ, ◌+◌, ◌≡◌, ◌≢◌, ◌==◌, ◌&&◌, ◌||◌, Bool, true, false, not, nat_le, List, [], ◌∷◌, ◌++◌, length, fold, Option, Some, None, is_some, is_none, unwrap_or, slice_get, codes, if◌then◌else◌}
-use Rattle.std.specs.Option.{option_map_or, option_and_then}
+use Rattle.std.specs.Option.{option_map_or, option_and_then, option_or}
 use Rattle.std.specs.Str.{bytes_eq, is_utf8}
 use Rattle.csv.specs.Reading.{records, default_config, strip_bom}
 use Rattle.codes_core.specs.Thing.{thing_fault, thing_kind}
@@ -10,6 +10,7 @@ use Rattle.codes_core.specs.declared.thing.ThingKind.TheVariants.{Own, Borrowed,
 use Rattle.nest_core.specs.declared.TheConstants.{MOST_STATIONS, MOST_PLACES, MOST_THINGS}
 use Rattle.nest_core.specs.Museum.{Museum, no_museum, find_station, find_place, find_thing, is_own_kind, is_borrowed_kind, is_container_kind}
 use Rattle.nest_core.specs.StationName.{is_station_name}
+use Rattle.nest_core.specs.InOrder.{◌if◌, first_or}
 use Rattle.nest_core.specs.declared.setup_fault.SetupFault.{SetupFault}
 use Rattle.nest_core.specs.declared.setup_fault.SetupFault.TheVariants.{NotCsv, BadKind, BadFields, BadCode, Repeated, UnknownNormal, TooMany, NoStation}
 use Rattle.nest_core.specs.declared.setup_row.RowKind.{RowKind}
@@ -54,11 +55,8 @@ fields_of_kind kind.Lent = 2
 
 -- a place's third field says where it is
 abbrev pub has_word : RowKind → Fields → Bool
-has_word kind.Station row = true
 has_word kind.Place row = bytes_eq (field row 2) (codes "inside") || bytes_eq (field row 2) (codes "elsewhere")
-has_word kind.Box row = true
-has_word kind.Own row = true
-has_word kind.Lent row = true
+has_word _ row = true
 
 abbrev pub is_of_kind : ThingKind → ThingKind → Bool
 is_of_kind Own kind = is_own_kind kind
@@ -124,30 +122,19 @@ with_listed S (lists.Station name) = record S { stations = S.stations ++ name �
 with_listed S (lists.Place code inside) = record S { places = S.places ++ (code, inside) ∷ [] }
 with_listed S (lists.Thing code normal) = record S { things = S.things ++ (code, option_and_then (find_place S) normal) ∷ [] }
 
--- the first that there is
-abbrev pub first_some : List (Option SetupFault) → Option SetupFault
-first_some [] = None
-first_some (None ∷ faults) = first_some faults
-first_some (Some fault ∷ faults) = Some fault
-
-infixl 10 ◌if◌
-abbrev pub ◌if◌ : SetupFault → Bool → Option SetupFault
-fault if holds = if holds then Some fault else None
-
 -- the first fault of what row n lists, over what the rows before it list
 abbrev pub listing_fault : Museum → ℕ → SetupRow → Option SetupFault
-listing_fault S n item = first_some (
-    (Repeated n if is_repeated S item)
-    ∷ (UnknownNormal n if lacks_normal S item)
-    ∷ (TooMany n if is_full S item) ∷ [])
+listing_fault S n item = first_or None (
+    (Some (Repeated n) if is_repeated S item)
+    ∷ (Some (UnknownNormal n) if lacks_normal S item)
+    ∷ (Some (TooMany n) if is_full S item) ∷ [])
 
--- the first fault of row n
+-- the first fault of row n: of its fields and codes, and then of what it lists
 abbrev pub kind_fault : Museum → ℕ → Fields → Option RowKind → Option SetupFault
 kind_fault S n row None = Some (BadKind n)
-kind_fault S n row (Some k) = first_some (
-    (BadFields n if not ((field_count row == fields_of_kind k) && has_word k row))
-    ∷ (BadCode n if not (has_codes k row))
-    ∷ listing_fault S n (listed k row) ∷ [])
+kind_fault S n row (Some k) = first_or (listing_fault S n (listed k row)) (
+    (Some (BadFields n) if not ((field_count row == fields_of_kind k) && has_word k row))
+    ∷ (Some (BadCode n) if not (has_codes k row)) ∷ [])
 
 abbrev pub row_fault : Museum → ℕ → Fields → Option SetupFault
 row_fault S n row = if field_count row == 0 then None else kind_fault S n row (row_kind (field row 0))
@@ -171,13 +158,15 @@ museum_of rows = fold with_row no_museum rows
 -- the fault of the first row that has one, behind the rows before
 abbrev pub first_fault : List Fields → List Fields → Option SetupFault
 first_fault before [] = None
-first_fault before (row ∷ rows) = first_some (
-    row_fault (museum_of before) (length before + 1) row
-    ∷ first_fault (before ++ row ∷ []) rows ∷ [])
+first_fault before (row ∷ rows) =
+    option_or (row_fault (museum_of before) (length before + 1) row) (first_fault (before ++ row ∷ []) rows)
+
+-- a museum without a station is none
+abbrev pub station_fault : Museum → Option SetupFault
+station_fault S = if length S.stations == 0 then Some NoStation else None
 
 -- why the bytes are no setup: they are not UTF-8, a row has a fault, or no row lists a station
 abbrev pub setup_fault : List ℕ → Option SetupFault
-setup_fault bytes = first_some (
-    (NotCsv if not (is_utf8 bytes))
-    ∷ first_fault [] (rows_of bytes)
-    ∷ (NoStation if (length (museum_of (rows_of bytes)).stations == 0)) ∷ [])
+setup_fault bytes =
+    if is_utf8 bytes then option_or (first_fault [] (rows_of bytes)) (station_fault (museum_of (rows_of bytes)))
+    else Some NotCsv

@@ -7,6 +7,7 @@ use Rattle.codes_core.specs.Loan.{is_out}
 use Rattle.codes_core.specs.Thing.{thing_kind}
 use Rattle.nest_core.specs.declared.put.Target.TheVariants.{Within}
 use Rattle.nest_core.specs.Museum.{Museum, find_thing, find_place, is_inside, is_elsewhere, is_borrowed, is_container, is_own_kind, is_borrowed_kind, is_container_kind}
+use Rattle.nest_core.specs.InOrder.{Row, ◌if◌, first_or}
 use Rattle.nest_core.specs.Puts.{last, is_among}
 use Rattle.nest_core.specs.Nest.{put_at, is_too_deep, is_same_place}
 use Rattle.posting_core.specs.declared.message.Message.{Message}
@@ -21,19 +22,9 @@ use Rattle.posting_core.specs.Agreements.{agreement, is_agreed, is_authorised, l
 use Rattle.posting_core.specs.History.{puts, chain_at, place_at}
 use Rattle.posting_core.specs.Loans.{Crossing, exit_of, return_of, receive_of, objects_in, line}
 
--- a refusal, and whether its cause holds
-pub record Row : Type 0 where
-  pub verdict : Verdict
-  pub holds : Bool
-
-infixl 10 ◌if◌
-abbrev pub ◌if◌ : Verdict → Bool → Row
-v if b = record { verdict = v; holds = b }
-
--- the first that holds; where none does, the message is applied
-abbrev pub first_of : List Row → Verdict
-first_of [] = Applied
-first_of (row ∷ rows) = if row.holds then row.verdict else first_of rows
+-- the refusal of the first row whose cause holds; where none does, the message is applied
+abbrev pub first_of : List (Row Verdict) → Verdict
+first_of rows = first_or Applied rows
 
 abbrev pub is_known : Museum → List ℕ → Bool
 is_known S x = is_some (find_thing S x)
@@ -50,7 +41,7 @@ abbrev pub is_not_here : Museum → List Entry → List ℕ → Bool
 is_not_here S P x = is_away S (thing_no S x) (place_at S P (thing_no S x))
 
 -- the rows of a Move of thing x to place p
-abbrev pub move_rows : Museum → List Entry → List ℕ → List ℕ → List Row
+abbrev pub move_rows : Museum → List Entry → List ℕ → List ℕ → List (Row Verdict)
 move_rows S P x p =
     (UnknownThing if not (is_known S x))
     ∷ (UnknownPlace if not (is_known_place S p))
@@ -75,7 +66,7 @@ abbrev pub is_deep_with : Museum → ℕ → List Entry → List ℕ → List �
 is_deep_with S depth P x c = is_too_deep (put_at (last (puts S P)) (thing_no S x) (Within (thing_no S c))) (length S.things) depth
 
 -- the rows of a Pack of thing x into container c
-abbrev pub pack_rows : Museum → ℕ → List Entry → List ℕ → List ℕ → List Row
+abbrev pub pack_rows : Museum → ℕ → List Entry → List ℕ → List ℕ → List (Row Verdict)
 pack_rows S depth P x c =
     (UnknownThing if not (is_known S x))
     ∷ (UnknownContainer if not (is_known_container S c))
@@ -103,7 +94,7 @@ is_empty [] = true
 is_empty (x ∷ xs) = false
 
 -- the rows of an Agree of a loan with the partner at this place: its objects, first day and last day
-abbrev pub agree_rows : Museum → List Entry → List ℕ → List ℕ → List (List ℕ) → ℤ → ℤ → List Row
+abbrev pub agree_rows : Museum → List Entry → List ℕ → List ℕ → List (List ℕ) → ℤ → ℤ → List (Row Verdict)
 agree_rows S P loan partner objects first last =
     (UnknownThing if list_any (λ x. not (is_known S x)) objects)
     ∷ (UnknownPlace if not (is_known_place S partner))
@@ -117,7 +108,7 @@ agree_rows S P loan partner objects first last =
     ∷ []
 
 -- the rows of an Authorise of a loan
-abbrev pub authorise_rows : List Entry → List ℕ → List Row
+abbrev pub authorise_rows : List Entry → List ℕ → List (Row Verdict)
 authorise_rows P loan =
     (UnknownLoan if not (is_agreed P loan))
     ∷ (AlreadyAuthorised if is_authorised P loan)
@@ -147,7 +138,7 @@ abbrev pub any_not_at : (ℕ → Option LineStage) → LineStage → List ℕ �
 any_not_at lines wanted objects = list_any (λ o. not (option_map_or (stage_eq wanted) (lines o) false)) objects
 
 -- the last rows of what crosses: of its objects' lines, and of the loan's last day where that is asked
-abbrev pub line_rows : (ℕ → Option LineStage) → LineStage → List ℕ → Bool → List Row
+abbrev pub line_rows : (ℕ → Option LineStage) → LineStage → List ℕ → Bool → List (Row Verdict)
 line_rows lines wanted objects late =
     (NotListed if any_unlisted lines objects)
     ∷ (WrongStage if any_not_at lines wanted objects)
@@ -175,7 +166,7 @@ abbrev pub is_over : List Entry → List ℕ → ℤ → Bool
 is_over P loan day = option_map_or (λ last. int_lt last day) (last_day P loan) false
 
 -- the rows of an Exit of thing x under a loan
-abbrev pub exit_rows : Museum → List Entry → List ℕ → List ℕ → ℤ → List Row
+abbrev pub exit_rows : Museum → List Entry → List ℕ → List ℕ → ℤ → List (Row Verdict)
 exit_rows S P x loan day =
     (UnknownThing if not (is_known S x))
     ∷ (UnknownLoan if not (is_agreed P loan))
@@ -193,7 +184,7 @@ is_with_partner S P x loan =
     option_map_or (λ t. is_same_place (place_at S P (thing_no S x)) (Some (place_no S t.partner))) (agreement P loan) false
 
 -- the rows of a Return of thing x under a loan to place p
-abbrev pub return_rows : Museum → List Entry → List ℕ → List ℕ → List ℕ → List Row
+abbrev pub return_rows : Museum → List Entry → List ℕ → List ℕ → List ℕ → List (Row Verdict)
 return_rows S P x loan p =
     (UnknownThing if not (is_known S x))
     ∷ (UnknownPlace if not (is_known_place S p))
@@ -207,7 +198,7 @@ return_rows S P x loan p =
     ∷ []
 
 -- the rows of a Receive of thing x under a loan at place p
-abbrev pub receive_rows : Museum → List Entry → List ℕ → List ℕ → List ℕ → ℤ → List Row
+abbrev pub receive_rows : Museum → List Entry → List ℕ → List ℕ → List ℕ → ℤ → List (Row Verdict)
 receive_rows S P x loan p day =
     (UnknownThing if not (is_known S x))
     ∷ (UnknownPlace if not (is_known_place S p))
@@ -227,7 +218,7 @@ abbrev pub is_no_later : List Entry → List ℕ → ℤ → Bool
 is_no_later P loan day = option_map_or (λ last. int_le day last) (last_day P loan) false
 
 -- the rows of an Extend of a loan to a last day
-abbrev pub extend_rows : List Entry → List ℕ → ℤ → List Row
+abbrev pub extend_rows : List Entry → List ℕ → ℤ → List (Row Verdict)
 extend_rows P loan day =
     (UnknownLoan if not (is_agreed P loan))
     ∷ (NotAuthorised if not (is_authorised P loan))

@@ -2,7 +2,8 @@
 ghost use Rattle.std.specs.Prelude.{◌≡◌, ◌∷◌, [], int_lt, not};
 ghost use Rattle.std.specs.List.{list_any};
 ghost use Rattle.posting_core.specs.declared.verdict.Verdict.TheVariants.{NoObjects, NotObject, Repeated, WrongOwner, BadTerm};
-ghost use Rattle.posting_core.specs.Verdicts.{first_of, ◌if◌, agree_rows, authorise_rows, extend_rows, is_known, is_container_code, is_of_wrong_owner, is_empty, repeats};
+ghost use Rattle.nest_core.specs.InOrder.{◌if◌};
+ghost use Rattle.posting_core.specs.Verdicts.{first_of, agree_rows, authorise_rows, extend_rows, is_known, is_container_code, is_of_wrong_owner, is_empty, repeats};
 
 use super::Ledger;
 use crate::Verdict;
