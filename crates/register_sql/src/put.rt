@@ -14,7 +14,7 @@ use sqlite::{Alter, Connection, Error, Transaction, params};
 
 /// A number as the store takes it.
 pub(crate) fn wide(number: u64) -> Result<i64, Error>
-    ensures { IfOk result (λ n. n ≡ pos number) }
+    ensures number { IfOk result (λ n. n ≡ pos number) }
     ensures none { IfErr result (λ fault. 2 ^ 63 ≤ number) }
 {
     match i64::try_from(number) {
