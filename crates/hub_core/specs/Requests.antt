@@ -49,6 +49,18 @@ request_of d =
     if is_some (get (key_name Ask) d) then unless (fault_at d (Ask spells is_thing)) (Ok (asks.Ask (text_at d Ask)))
     else scan_of (number_from (get (key_name N) d)) (message_from (get (key_name Message) d))
 
+-- what a value asks, whatever its station
+abbrev pub object_of : Data → Result Request ReadFault
+object_of d = if is_some (as_object d) then request_of d else Err NotJson
+
+abbrev pub request_read : Option Data → Result Request ReadFault
+request_read None = Err NotJson
+request_read (Some d) = object_of d
+
+-- what the bytes of a line ask, whatever its station
+abbrev pub request_in : List ℕ → Result Request ReadFault
+request_in bytes = if is_utf8 bytes then request_read (read bytes) else Err NotJson
+
 abbrev pub line_with : Option ℕ → Result Request ReadFault → Result Line ReadFault
 line_with station (Ok request) = Ok (record { station = station; request = request })
 line_with station (Err fault) = Err fault

@@ -16,7 +16,8 @@ mod running;
 
 pub use answer::{Answer, Arrival, HubFault, Where};
 pub use hub::{Hub, OpenFault};
-pub use line_reply::LONGEST_LINE;
-pub use reader::{Line, Request, read_line};
+pub use line_reader::feed_at;
+pub use line_reply::{LONGEST_LINE, answer_text, asked_text, fault_text, without_return};
+pub use reader::{Line, Request, read_line, read_request};
 pub use replaying::{ReplayFault, replay};
 pub use running::{LONGEST_HEAD, RunFault, run};

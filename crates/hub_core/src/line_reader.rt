@@ -126,7 +126,7 @@ pub(crate) fn take_piece<R: BufRead>(
 }
 
 /// How many bytes stand before the first line feed, or how many there are.
-fn feed_at(bytes: &[u8]) -> usize
+pub fn feed_at(bytes: &[u8]) -> usize
     ensures within { result ≤ length bytes.now }
     ensures before { HasNoFeed (take result bytes.now) }
     ensures feed { result < length bytes.now → take (result + 1) bytes.now ≡ take result bytes.now ++ 10 ∷ [] }

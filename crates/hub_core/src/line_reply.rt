@@ -19,7 +19,7 @@ use std::alloc::{AllocError, Global};
 pub const LONGEST_LINE: usize = 16_384;
 
 /// The line without the one carriage return at its end, if it has one.
-pub(crate) fn without_return(line: &[u8]) -> &[u8]
+pub fn without_return(line: &[u8]) -> &[u8]
     ensures { result.now ≡ without_return line.now }
 {
     line.strip_suffix(b"\r").unwrap_or(line)
@@ -94,7 +94,7 @@ fn bad_reply(alloc: Global, number: u64, fault: ReadFault) -> Result<String, All
 }
 
 /// The name of a line's fault, with its key where it has one.
-fn fault_text(alloc: Global, fault: ReadFault) -> Result<String, AllocError>
+pub fn fault_text(alloc: Global, fault: ReadFault) -> Result<String, AllocError>
     ensures { IfOk result (λ text. string_bytes text ≡ fault_text fault) }
 {
     match fault {
@@ -147,27 +147,32 @@ fn scan_reply<S: Register>(
     let station = arrival.station;
     let n = arrival.n;
     match hub.arrive(alloc, arrival) {
-        Ok(answer) => Ok(answer_text(alloc, station, n, answer, hub)?),
+        Ok(answer) => {
+            let setup = hub.ledger().setup();
+            Ok(answer_text(alloc, setup, station, n, answer, hub.posted())?)
+        }
         Err(fault) => Err(fault),
     }
 }
 
-/// What is printed of an answer.
-fn answer_text<S: Register>(
+/// What is printed of an answer to number `n` of a station, where these entries are posted, oldest first: a line, or one
+/// for each that was posted and for all behind it.
+pub fn answer_text(
     alloc: Global,
+    setup: &Setup,
     station: StationNo,
     n: u64,
     answer: Answer,
-    hub: &Hub<S>,
+    posted: &[Entry],
 ) -> Result<String, AllocError>
-    requires known { station < length hub.now.book.museum.stations }
-    ensures { IfOk result (λ text. string_bytes text ≡ answer_text (station_text hub.now.book.museum station) n hub.now.book.posted answer) }
+    requires { station < length setup.now.stations }
+    ensures { IfOk result (λ text. string_bytes text ≡ answer_text (station_text setup.now station) n (reverse posted.now) answer) }
 {
-    let name = hub.ledger().setup().station_name(station);
+    let name = setup.station_name(station);
     match answer {
         Answer::Refused(refusal) => replies::refused(alloc, name, n, refusal.name()),
         Answer::Held => replies::held(alloc, name, n),
-        Answer::Posted { first, .. } => posted_lines(alloc, name, first, hub.posted()),
+        Answer::Posted { first, .. } => posted_lines(alloc, name, first, posted),
     }
 }
 
@@ -203,8 +208,22 @@ fn question_reply<S: Register>(
     ensures fault { IfErr result (λ fault. fault ≡ HubFault.NoMemory) }
 {
     let place = hub.ask(alloc, code)?;
-    let setup = hub.ledger().setup();
-    let text = place_text(alloc, setup, &place)?;
+    Ok(asked_text(alloc, hub.ledger().setup(), station, code, &place)?)
+}
+
+/// What is printed of the question of a station where a thing is, which is told.
+pub fn asked_text(
+    alloc: Global,
+    setup: &Setup,
+    station: StationNo,
+    code: &ThingCode,
+    place: &Where,
+) -> Result<String, NoMemory>
+    requires known { station < length setup.now.stations }
+    requires placed { IsPlaced setup.now place.now }
+    ensures { IfOk result (λ text. string_bytes text ≡ asked_line (station_text setup.now station) code.now (place_text setup.now place.now)) }
+{
+    let text = place_text(alloc, setup, place)?;
     let name = setup.station_name(station);
     Ok(replies::asked(alloc, name, code.as_str(), text.as_str())?)
 }

@@ -3,7 +3,7 @@ ghost use Rattle.std.specs.Prelude.{◌≡◌, ◌≢◌, ◌<◌, length, Ok, E
 ghost use Rattle.serde_json.specs.View.{view};
 ghost use Rattle.serde_json.specs.Find.{get};
 ghost use Rattle.register_store.specs.Spelling.{key_name};
-ghost use Rattle.hub_core.specs.Requests.{number_from, message_from, request_of, line_of, line_in};
+ghost use Rattle.hub_core.specs.Requests.{number_from, message_from, request_of, object_of, request_in, line_of, line_in};
 
 use codes_core::ThingCode;
 use nest_core::{Setup, StationNo};
@@ -41,7 +41,31 @@ pub fn read_line(alloc: Global, setup: &Setup, bytes: &[u8]) -> Result<Line, Rea
     }
 }
 
-/// What a value asks.
+/// What the bytes of a line ask, whatever its station, else their first fault: NotJson; then that of what they ask, as
+/// `read_line` tells it. NoMemory may stand in place of any answer.
+pub fn read_request(alloc: Global, bytes: &[u8]) -> Result<Request, ReadFault>
+    ensures exact { MatchResult result (λ request. request_in bytes.now ≡ Ok request)
+        (λ fault. fault ≢ ReadFault.NoMemory → request_in bytes.now ≡ Err fault) }
+{
+    match Value::from_slice(alloc, bytes) {
+        Ok(value) => object_of(alloc, &value),
+        Err(error) if error.is_memory() => Err(ReadFault::NoMemory),
+        Err(_) => Err(ReadFault::NotJson),
+    }
+}
+
+/// What a value asks, if it is an object.
+fn object_of(alloc: Global, value: &Value) -> Result<Request, ReadFault>
+    ensures exact { MatchResult result (λ request. object_of (view value.now) ≡ Ok request)
+        (λ fault. fault ≢ ReadFault.NoMemory → object_of (view value.now) ≡ Err fault) }
+{
+    if !value.is_object() {
+        return Err(ReadFault::NotJson);
+    }
+    request_of(alloc, value)
+}
+
+/// What a value asks, and of which station.
 fn line_of(alloc: Global, setup: &Setup, value: &Value) -> Result<Line, ReadFault>
     ensures exact { MatchResult result (λ line. line_of setup.now (view value.now) ≡ Ok line)
         (λ fault. fault ≢ ReadFault.NoMemory → line_of setup.now (view value.now) ≡ Err fault) }
