@@ -11,6 +11,7 @@ mod log;
 mod sending;
 mod serve_fault;
 mod serving;
+mod text_feed;
 mod turning;
 
 pub use feed::{Feed, ListFeed};
@@ -21,3 +22,4 @@ pub use log::Log;
 pub use sending::{SendsAll, Sent};
 pub use serve_fault::ServeFault;
 pub use serving::{ServeFailed, Served, serve};
+pub use text_feed::TextFeed;

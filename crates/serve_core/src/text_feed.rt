@@ -1,0 +1,127 @@
+//! A feed of a text.
+ghost use Rattle.std.specs.Prelude.{◌≡◌, ◌≤◌, ◌<◌, ◌+◌, ◌∷◌, [], length, drop, min, IfOk, IfNone, IfSome, OnErr};
+ghost use Rattle.hub_core.specs.Lines.{without_return, lines};
+ghost use Rattle.serve_core.specs.declared.item.Item.{Item};
+ghost use Rattle.serve_core.specs.Feeds.{request_item, line_items, text_items, items_left, IsPlaceIn};
+
+use crate::{Feed, Item, LineFault};
+use codes_core::NoMemory;
+use hub_core::{LONGEST_LINE, Request, feed_at, read_request, without_return};
+use register_store::ReadFault;
+use std::alloc::Global;
+use std::marker::Model;
+
+/// Where a line of a text begins, and which it is, from 1.
+#[derive(Clone, Copy, Debug)]
+struct Place {
+    at: usize,
+    number: u64,
+}
+
+/// A feed of a text: an item for each line that isn't empty. Seen as the items that are left.
+#[derive(Drop)]
+pub struct TextFeed {
+    bytes: Vec<u8>,
+    place: Place,
+}
+
+impl Model for TextFeed {
+    ghost use Rattle.std.specs.Prelude.{List};
+    ghost use Rattle.serve_core.specs.declared.item.Item.{Item};
+    ghost use Rattle.serve_core.specs.Feeds.{items_left, IsPlaceIn};
+
+    ghost Value = { List Item };
+
+    ghost view = { λ f. items_left f.bytes.items f.place };
+
+    ghost invariant = { λ f. IsPlaceIn f.bytes.items f.place };
+}
+
+impl TextFeed {
+    /// A feed of these bytes. A line ends at a line feed or at the end, and one carriage return before its end isn't of
+    /// it; lines are numbered from 1. A line is read as those of a replay are, but its station isn't looked at; a faulty
+    /// one is a Bad item.
+    pub fn new(bytes: Vec<u8>) -> TextFeed
+        ensures { result ≡ text_items bytes.items }
+    {
+        TextFeed {
+            bytes,
+            place: Place { at: 0, number: 1 },
+        }
+    }
+}
+
+impl Feed for TextFeed {
+    ghost items = { λ f. f };
+
+    fn next(&mut self, alloc: Global) -> Result<Option<Item>, NoMemory> {
+        next_item(alloc, self.bytes.as_slice(), &mut self.place)
+    }
+}
+
+/// The item of the next line that isn't empty; none where all that are left are. The place is moved behind that line.
+/// After NoMemory the same items are left.
+fn next_item(alloc: Global, bytes: &[u8], place: &mut Place) -> Result<Option<Item>, NoMemory>
+    requires { IsPlaceIn bytes.now place.old }
+    ensures none { IfOk result (λ next. IfNone next ((items_left bytes.now place.old ≡ []) × (items_left bytes.now place.new ≡ []))) }
+    ensures some { IfOk result (λ next. IfSome next (λ x. items_left bytes.now place.old ≡ x ∷ items_left bytes.now place.new)) }
+    ensures kept { OnErr result (items_left bytes.now place.new ≡ items_left bytes.now place.old) }
+    ensures place { IsPlaceIn bytes.now place.new }
+{
+    while place.at < bytes.len() {
+        let line = line_at(bytes, place.at);
+        let item = item_of(alloc, place.number, without_return(line))?;
+        place.at = bytes.len().min(place.at + line.len() + 1);
+        place.number += 1;
+        if item.is_some() {
+            return Ok(item);
+        }
+    }
+    Ok(None)
+}
+
+/// The bytes from a place on, up to a line feed or the end.
+fn line_at(bytes: &[u8], at: usize) -> &[u8]
+    requires { at < length bytes.now }
+    ensures there { at + length result.now ≤ length bytes.now }
+    // Of the lines that begin there it is the first, but for its carriage return.
+    ensures first { lines (drop at bytes.now) ≡ without_return result.now ∷ lines (drop (min (length bytes.now) (at + length result.now + 1)) bytes.now) }
+{
+    let rest = &bytes[at..];
+    &rest[..feed_at(rest)]
+}
+
+/// The item of the `number`-th line; an empty line has none.
+fn item_of(alloc: Global, number: u64, line: &[u8]) -> Result<Option<Item>, NoMemory>
+    ensures none { IfOk result (λ item. IfNone item (line_items number line.now ≡ [])) }
+    ensures some { IfOk result (λ item. IfSome item (λ x. line_items number line.now ≡ x ∷ [])) }
+{
+    if line.is_empty() {
+        return Ok(None);
+    }
+    if line.len() > LONGEST_LINE {
+        return Ok(Some(bad(number, LineFault::TooLong)));
+    }
+    match read_request(alloc, line) {
+        Ok(request) => Ok(Some(request_item(request))),
+        Err(ReadFault::NoMemory) => Err(NoMemory),
+        Err(fault) => Ok(Some(bad(number, LineFault::Read(fault)))),
+    }
+}
+
+/// The item of what a line asks.
+fn request_item(request: Request) -> Item
+    ensures { result ≡ request_item request }
+{
+    match request {
+        Request::Scan { n, message } => Item::Scan { n, message },
+        Request::Ask { code } => Item::Ask(code),
+    }
+}
+
+/// A faulty line.
+fn bad(line: u64, fault: LineFault) -> Item
+    ensures { result ≡ Item.Bad line fault }
+{
+    Item::Bad { line, fault }
+}
