@@ -1,14 +1,15 @@
 -- The definitions computed on worked rows.
-use Rattle.std.specs.Prelude.{ℕ, ℤ, pos, ◌≡◌, List, [], ◌∷◌, Some, None, refl, codes}
+use Rattle.std.specs.Prelude.{ℕ, ℤ, pos, ◌≡◌, Bool, true, false, List, [], ◌∷◌, Some, None, map, refl, codes}
 use Rattle.posting_core.specs.declared.message.Message.TheVariants.{Pack, Agree, Authorise, Exit, Return, Receive, Extend}
 use Rattle.posting_core.specs.declared.entry.Entry.{Entry}
-use Rattle.posting_core.proofs.WorkedRows.{pack, gal, s1, s2, museum_x, crate_1, object_1, object_2, object_3, may, moved, run, book}
+use Rattle.posting_core.proofs.WorkedRows.{pack, gal, s1, s1_a, s2, museum_x, lender_y, crate_1, object_1, object_2, object_3, may, moved, run, book}
 use Rattle.count_core.specs.declared.count_row.CountRow.{CountRow}
 use Rattle.count_core.specs.declared.count_fault.CountFault.TheVariants.{BadFields, BadCode}
 use Rattle.count_core.specs.declared.answer.CountAnswer.TheVariants.{UnknownPlace, Counted, UnknownObject, Again, Unplaced, Found, Elsewhere}
 use Rattle.nest_core.specs.SetupRows.{Fields}
 use Rattle.count_core.specs.CountRows.{counts_of, first_fault}
 use Rattle.count_core.specs.Counts.{answers, missing}
+use Rattle.count_core.specs.Inside.{outer_places, outer_of, outer_of_each, is_unflagged_in}
 use Rattle.count_core.specs.Reports.{overdue, away, in_place}
 
 -- count_list: two objects on the shelf S1-A, one at S2
@@ -51,6 +52,30 @@ count_list-once = refl
 count_list-in_place : in_place (book placed) (codes "S1") ≡ object_1 ∷ object_3 ∷ []
 count_list-in_place = refl
 
+-- the shelf S1-A lies in S1 and in itself
+count_list-outer : outer_places (book placed).museum (codes "S1-A") ≡ s1 ∷ s1_a ∷ []
+count_list-outer = refl
+
+-- only known places are told; a segment counts whole
+count_list-outer_known : outer_places (book placed).museum (codes "S1-B") ≡ s1 ∷ []
+count_list-outer_known = refl
+
+count_list-outer_whole : outer_places (book placed).museum (codes "S10") ≡ []
+count_list-outer_whole = refl
+
+count_list-outer_each : outer_of_each (book placed).museum ≡ (s1 ∷ []) ∷ (s1 ∷ s1_a ∷ []) ∷ (s2 ∷ []) ∷ (museum_x ∷ []) ∷ (lender_y ∷ []) ∷ []
+count_list-outer_each = refl
+
+count_list-outer_none : outer_of (book placed).museum 5 ≡ []
+count_list-outer_none = refl
+
+-- two rows name the first object, and the objects 1 and 3 are in S1
+abbrev first_flagged : List Bool
+first_flagged = false ∷ false ∷ true ∷ false ∷ false ∷ false ∷ []
+
+count_list-unflagged : map (is_unflagged_in (book placed) first_flagged s1) (object_1 ∷ object_2 ∷ object_3 ∷ []) ≡ false ∷ false ∷ true ∷ []
+count_list-unflagged = refl
+
 -- all three are where they belong, or not
 count_list-away : away (book placed) ≡ record { object = object_2; place = Some s2 } ∷ []
 count_list-away = refl
@@ -77,6 +102,10 @@ taken_out_of_a_crate-in_place = refl
 -- containers are never missing
 taken_out_of_a_crate-missing : missing (book taken_out) (counted_alone (codes "S1") ∷ []) ≡ record { place = s1; object = object_1 } ∷ []
 taken_out_of_a_crate-missing = refl
+
+-- nor unflagged
+taken_out_of_a_crate-unflagged : is_unflagged_in (book taken_out) [] s1 crate_1 ≡ false
+taken_out_of_a_crate-unflagged = refl
 
 -- loan_out: an object left on the last day of its loan, the day after which the loan is overdue
 
