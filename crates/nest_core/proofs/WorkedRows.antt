@@ -4,15 +4,16 @@ use Rattle.std.proofs.Common.{arith}
 use Rattle.csv.specs.Machine.{next_record}
 use Rattle.csv.specs.Reading.{records_from, strip_bom}
 use Rattle.nest_core.specs.declared.TheConstants.{MOST_STATIONS, MOST_PLACES, MOST_THINGS}
-use Rattle.nest_core.specs.Museum.{Museum}
-use Rattle.nest_core.specs.SetupRows.{first_fault, museum_of, rows_of}
+use Rattle.nest_core.specs.Museum.{Museum, no_museum}
+use Rattle.nest_core.specs.InOrder.{◌if◌, first_or}
+use Rattle.nest_core.specs.SetupRows.{first_fault, museum_of, rows_of, station_fault}
 use Rattle.nest_core.specs.SetupTexts.{setup_rows}
 use Rattle.nest_core.specs.declared.put.Put.{Put}
 use Rattle.nest_core.specs.declared.put.Target.TheVariants.{At, Within}
 use Rattle.nest_core.specs.declared.nest.PackBar.TheVariants.{Cycle, TooDeep}
 use Rattle.nest_core.specs.Puts.{last, chain, place, carried, contents}
 use Rattle.nest_core.specs.Nest.{pack_bar, moved_by, leaves}
-use Rattle.nest_core.specs.declared.setup_fault.SetupFault.TheVariants.{BadCode, BadFields, BadKind, Repeated, UnknownNormal}
+use Rattle.nest_core.specs.declared.setup_fault.SetupFault.TheVariants.{BadCode, BadFields, BadKind, NoStation, Repeated, UnknownNormal}
 
 abbrev file : List ℕ
 file = codes "station,GAL\nplace,S1,inside\nplace,MUSEUM-X,elsewhere\nbox,C1\nown,2001.4.1,S1\nlent,L1999.7\n"
@@ -78,6 +79,25 @@ marked = refl
 pub marked_twice : first_fault [] (rows_of (0xEF ∷ 0xBB ∷ 0xBF ∷ 0xEF ∷ 0xBB ∷ 0xBF ∷ codes "station,GAL")) ≡ Some (BadKind 1)
 unfolding next_record records_from strip_bom
 marked_twice = refl
+
+-- a museum needs a station, and no more
+pub no_station : station_fault no_museum ≡ Some NoStation
+no_station = refl
+
+pub station_alone : station_fault (record no_museum { stations = codes "GAL" ∷ [] }) ≡ None
+station_alone = refl
+
+-- an empty file lists none
+pub empty_file : station_fault (museum_of (rows_of [])) ≡ Some NoStation
+unfolding next_record records_from strip_bom
+empty_file = refl
+
+-- of several rows that hold the first one speaks; where none holds, the other does
+first_of_two : first_or (codes "other") ((codes "one" if false) ∷ (codes "two" if true) ∷ (codes "three" if true) ∷ []) ≡ codes "two"
+first_of_two = refl
+
+none_holds : first_or (codes "other") ((codes "one" if false) ∷ (codes "two" if false) ∷ []) ≡ codes "other"
+none_holds = refl
 
 -- What is put where, by puts alone: each list stands newest first. Six things, of which 0 and 1 are crates.
 
