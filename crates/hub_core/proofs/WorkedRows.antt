@@ -1,6 +1,8 @@
 -- The definitions computed on worked rows.
 use Rattle.std.specs.Fmt.{digits}
-use Rattle.std.specs.Prelude.{ℕ, pos, ◌≡◌, true, [], ◌∷◌, Some, refl, codes, Ok, Err}
+use Rattle.std.specs.Prelude.{ℕ, pos, ◌≡◌, true, [], ◌∷◌, None, Some, refl, codes, Ok, Err}
+use Rattle.serde_json.proofs.OnLiterals.{serde_json_on_literals}
+use Rattle.serde_json.specs.Read.{read}
 use Rattle.serde_json.specs.Data.{Data, Members, string, number, unsigned, array, object, no_items, no_members, put}
 use Rattle.nest_core.specs.Museum.{Museum}
 use Rattle.posting_core.specs.declared.message.Message.TheVariants.{Move}
@@ -17,7 +19,7 @@ use Rattle.hub_core.specs.declared.line_reply.TheConstants.{LONGEST_LINE}
 use Rattle.hub_core.specs.declared.running.TheConstants.{LONGEST_HEAD}
 use Rattle.hub_core.specs.Lines.{without_return, lines, ended, head, after_head}
 use Rattle.hub_core.specs.LineText.{station_reply}
-use Rattle.hub_core.specs.Requests.{line_of}
+use Rattle.hub_core.specs.Requests.{line_of, object_of, request_read}
 use Rattle.hub_core.specs.Points.{reply, posted, whereabouts, cut}
 use Rattle.hub_core.specs.Replies.{refused_line, unknown_station_line, held_line, posted_line, bad_line, asked_line}
 
@@ -97,6 +99,28 @@ no_station = refl
 
 pub a_list : line_of museum (array no_items) ≡ Err NotJson
 a_list = refl
+
+-- a line of a feed, whatever its station: none is looked for, and none is known
+pub question_of_any : object_of (object (put (codes "ask") (string (codes "2001.4.1")) no_members)) ≡ Ok (Ask (codes "2001.4.1"))
+question_of_any = refl
+
+pub no_request_of_any : object_of (object no_members) ≡ Err (Missing key.N)
+no_request_of_any = refl
+
+pub a_list_of_any : object_of (array no_items) ≡ Err NotJson
+a_list_of_any = refl
+
+pub no_json_of_any : request_read None ≡ Err NotJson
+no_json_of_any = refl
+
+-- as it stands in the file
+pub question_of_none : request_read (read (codes "{\"station\":\"NONE\",\"ask\":\"2001.4.1\"}")) ≡ Ok (Ask (codes "2001.4.1"))
+unfolding serde_json_on_literals
+question_of_none = refl
+
+pub cut_off : request_read (read (codes "{\"station\":\"GAL\"")) ≡ Err NotJson
+unfolding serde_json_on_literals
+cut_off = refl
 
 pub first_run : posted_line (codes "GAL") 1 1 (codes "Applied") ≡ codes "GAL 1 posted 1 Applied\n"
 unfolding digits
