@@ -1,5 +1,5 @@
 //! The hub asked about one item.
-ghost use Rattle.std.specs.Prelude.{◌≡◌, ◌++◌, ◌∷◌, [], List, false, IfOk, OnOk, OnErr};
+ghost use Rattle.std.specs.Prelude.{◌≡◌, ◌++◌, ◌∷◌, [], List, true, false, IfOk, IsErrOf, OnOk, OnErr};
 ghost use Rattle.hub_core.specs.declared.answer.Arrival.{Arrival};
 ghost use Rattle.posting_core.specs.declared.entry.Entry.{Entry};
 ghost use Rattle.hub_core.specs.Faults.{CountsStore};
@@ -22,6 +22,7 @@ fn reply_to_item<R: Register>(
     ensures reply { IfOk result (λ reply. (O : List Entry) (A : List Arrival) → StandsFor R.holding hub.old O A →
         (reply ≡ item_reply hub.old.book.museum hub.old.book.depth O A station item) × StandsFor R.holding hub.new O (A ++ sent_item station item)) }
     ensures level { OnOk result (hub.new.down ≡ hub.old.down) }
+    ensures down { IsErrOf result HubFault.Down → hub.old.down ≡ true }
     ensures fault { OnErr result (hub.new.down ≡ false → hub.new ≡ hub.old) }
     ensures placed { IfOk result (IsPlacedReply hub.old.book.museum) }
     ensures count { CountsStore (R.refusals hub.old.register) (R.refusals hub.new.register) result }
@@ -61,6 +62,7 @@ pub(crate) fn log_item<R: Register>(
         × Serves R.holding hub.old hub.new (line ∷ [])) }
     ensures fault { OnErr result ((lines.new.items ≡ lines.old.items) × Serves R.holding hub.old hub.new []) }
     ensures level { OnOk result (hub.new.down ≡ hub.old.down) }
+    ensures down { IsErrOf result HubFault.Down → hub.old.down ≡ true }
     ensures count { CountsStore (R.refusals hub.old.register) (R.refusals hub.new.register) result }
 {
     let asked = item.copy(alloc)?;

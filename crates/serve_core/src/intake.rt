@@ -1,5 +1,5 @@
 //! The end that takes from all lanes.
-ghost use Rattle.std.specs.Prelude.{◌≡◌, ◌^◌, ◌<◌, ◌≤◌, ◌++◌, ℕ, [], List, IfOk, OnOk, vec_len, length};
+ghost use Rattle.std.specs.Prelude.{◌≡◌, ◌^◌, ◌<◌, ◌≤◌, ◌++◌, ℕ, [], List, true, IfOk, IsErrOf, OnOk, vec_len, length};
 ghost use Rattle.std.specs.List.{AllZip};
 ghost use Rattle.rtrb.specs.Ring.{SameConsumer};
 ghost use Rattle.hub_core.specs.Faults.{CountsStore};
@@ -53,7 +53,8 @@ pub fn lanes(alloc: Global, n: u32) -> Result<(Vec<Lane>, Intake), NoMemory>
 impl Intake {
     /// Takes at most one item of each lane, that of lane 0 first, asks the hub, and adds a line to the log for each; answers
     /// how many. The faults: NoMemory, also of the item's copy and of the log's room, which come before the hub is asked;
-    /// Store; Down. A fault stops the turn: the item that met it is dropped, and the lines before it stay.
+    /// Store; Down, only where the hub is down. A fault stops the turn: the item that met it is dropped, and the lines
+    /// before it stay.
     pub fn turn<R: Register>(
         &mut self,
         alloc: Global,
@@ -63,6 +64,7 @@ impl Intake {
         ensures lines { (G : List LogLine) × (log.new ≡ log.old ++ G) × Serves R.holding hub.old hub.new G × TakesSome self.old self.new G
             × IfOk result (λ n. Takes self.old self.new G × (n ≡ length G) × Ascends 0 (length self.old) G) }
         ensures level { OnOk result (hub.new.down ≡ hub.old.down) }
+        ensures down { IsErrOf result HubFault.Down → hub.old.down ≡ true }
         ensures count { CountsStore (R.refusals hub.old.register) (R.refusals hub.new.register) result }
     {
         turn_all(alloc, hub, &mut self.rings, &mut log.lines)
@@ -89,6 +91,7 @@ impl Intake {
         ensures lines { (G : List LogLine) × (log.new ≡ log.old ++ G) × Serves R.holding hub.old hub.new G × AreOfStations (length self) G
             × TakesFront self ends.items G × OnOk result (TakesLeft self ends.items G) }
         ensures level { OnOk result (hub.new.down ≡ hub.old.down) }
+        ensures down { IsErrOf result HubFault.Down → hub.old.down ≡ true }
         ensures count { CountsStore (R.refusals hub.old.register) (R.refusals hub.new.register) result }
     {
         let Intake { mut rings } = self;
@@ -140,6 +143,7 @@ fn turn_all<R: Register>(
         × IfOk result (λ n. Takes rings.old.items rings.new.items G × (n ≡ length G) × Ascends 0 (vec_len rings.old) G) }
     ensures few { vec_len rings.new ≡ vec_len rings.old }
     ensures level { OnOk result (hub.new.down ≡ hub.old.down) }
+    ensures down { IsErrOf result HubFault.Down → hub.old.down ≡ true }
     ensures count { CountsStore (R.refusals hub.old.register) (R.refusals hub.new.register) result }
 {
     let mut taken = 0;
@@ -160,6 +164,7 @@ fn take_one<R: Register>(
     ensures lines { (G : List LogLine) × (lines.new.items ≡ lines.old.items ++ G) × Serves R.holding hub.old hub.new G × TakesSomeOf station ring.old ring.new G
         × IfOk result (λ n. TakesOf station ring.old ring.new G × (n ≡ length G) × (n ≤ 1)) }
     ensures level { OnOk result (hub.new.down ≡ hub.old.down) }
+    ensures down { IsErrOf result HubFault.Down → hub.old.down ≡ true }
     ensures count { CountsStore (R.refusals hub.old.register) (R.refusals hub.new.register) result }
 {
     match ring.pop() {
@@ -185,6 +190,7 @@ fn take_left<R: Register>(
         × OnOk result (TakesLeft rings.old.items ends.old.items G) }
     ensures ends { AllZip IsEndOn ends.new.items rings.new.items × SameEnds ends.old.items ends.new.items }
     ensures level { OnOk result (hub.new.down ≡ hub.old.down) }
+    ensures down { IsErrOf result HubFault.Down → hub.old.down ≡ true }
     ensures count { CountsStore (R.refusals hub.old.register) (R.refusals hub.new.register) result }
 {
     for i in 0..rings.len() {
@@ -207,6 +213,7 @@ fn drain<R: Register>(
         × OnOk result (TakesOf station ring.old ring.new G × (received_is ring.new ≡ end_items end.old)) }
     ensures end { IsEndOn end.new ring.new × (end_items end.new ≡ end_items end.old) }
     ensures level { OnOk result (hub.new.down ≡ hub.old.down) }
+    ensures down { IsErrOf result HubFault.Down → hub.old.down ≡ true }
     ensures count { CountsStore (R.refusals hub.old.register) (R.refusals hub.new.register) result }
 {
     let left = ring.slots_after(&mut end.finished);
