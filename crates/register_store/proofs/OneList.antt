@@ -134,7 +134,7 @@ of_number v = elim v as (λ v. get_or all_verdicts (verdict_number v) Applied �
 one_verdict : (v w : Verdict) → verdict_number v ≡ verdict_number w → v ≡ w
 one_verdict v w same = sym (of_number v) ∙ ap (λ n. get_or all_verdicts n Applied) same ∙ of_number w
 
-one_entry : (number : ℕ) (e f : Entry) (row : PostingRow) → IsPostingRow number e row → IsPostingRow number f row → e ≡ f
+pub one_entry : (number : ℕ) (e f : Entry) (row : PostingRow) → IsPostingRow number e row → IsPostingRow number f row → e ≡ f
 one_entry number e f row h k =
     let station : e.station ≡ f.station = ap nat_abs (sym h.station ∙ k.station) in
     let n : e.n ≡ f.n = ap nat_abs (sym h.n ∙ k.n) in
