@@ -11,7 +11,7 @@ use Rattle.sqlite_tied.specs.Compute.{everything}
 use Rattle.register_sql.specs.Queries.{text_of, tree_of, least_of, shown_by, shows_id, shown_in, IsInOrder, IsSame}
 use Rattle.register_sql.specs.Tables.{prefix}
 use Rattle.register_sql.specs.declared.queries.Query.{Query}
-use Rattle.register_sql.specs.declared.queries.Query.TheVariants.{Metas, Setups, Postings, Spots, Lines, Terms, SetupIds, PostingIds, LineIds, TermIds}
+use Rattle.register_sql.specs.declared.queries.Query.TheVariants.{Metas, Setups, Postings, Spots, Lines, Terms, MetaIds, SetupIds, PostingIds, LineIds, TermIds}
 use Rattle.register_sql.proofs.Listings.{IsListing, shows_of, lists, lists_same, lists_sorted}
 use Rattle.register_sql.proofs.Texts.{ordered_by_rowid}
 
@@ -22,6 +22,7 @@ columns_of Postings = col 1 0 ∷ col 1 2 ∷ col 1 3 ∷ col 1 4 ∷ col 1 5 �
 columns_of Spots = col 1 1 ∷ col 1 2 ∷ col 1 3 ∷ col 1 4 ∷ col 1 5 ∷ []
 columns_of Lines = col 1 1 ∷ col 1 2 ∷ col 1 3 ∷ []
 columns_of Terms = col 1 1 ∷ col 1 2 ∷ []
+columns_of MetaIds = col 1 0 ∷ []
 columns_of SetupIds = col 1 0 ∷ []
 columns_of PostingIds = col 1 0 ∷ []
 columns_of LineIds = col 1 0 ∷ []
@@ -34,6 +35,7 @@ names_of Postings = codes "id" ∷ codes "station" ∷ codes "n" ∷ codes "body
 names_of Spots = codes "thing" ∷ codes "k" ∷ codes "entry" ∷ codes "place" ∷ codes "day" ∷ []
 names_of Lines = codes "loan" ∷ codes "object" ∷ codes "stage" ∷ []
 names_of Terms = codes "loan" ∷ codes "day" ∷ []
+names_of MetaIds = codes "rowid" ∷ []
 names_of SetupIds = codes "id" ∷ []
 names_of PostingIds = codes "id" ∷ []
 names_of LineIds = codes "rowid" ∷ []
@@ -64,14 +66,14 @@ asks_setups (suc (suc (suc (suc (suc zero))))) some few = record { command = ref
 asks_setups (suc (suc (suc (suc (suc (suc zero)))))) some few = record { command = refl; unlisted = refl; plain = (refl, refl); bare = λ db. refl }
 asks_setups (suc (suc (suc (suc (suc (suc (suc made))))))) some few = absurd (omega (arith, few))
 
-asks_postings : (made : ℕ) → 6 ≤ made → made ≤ 6 → IsListed Postings made
+asks_postings : (made : ℕ) → 5 ≤ made → made ≤ 6 → IsListed Postings made
 unfolding understood everything
 asks_postings zero some few = absurd (omega (arith, some))
 asks_postings (suc zero) some few = absurd (omega (arith, some))
 asks_postings (suc (suc zero)) some few = absurd (omega (arith, some))
 asks_postings (suc (suc (suc zero))) some few = absurd (omega (arith, some))
 asks_postings (suc (suc (suc (suc zero)))) some few = absurd (omega (arith, some))
-asks_postings (suc (suc (suc (suc (suc zero))))) some few = absurd (omega (arith, some))
+asks_postings (suc (suc (suc (suc (suc zero))))) some few = record { command = refl; unlisted = refl; plain = (refl, refl); bare = λ db. refl }
 asks_postings (suc (suc (suc (suc (suc (suc zero)))))) some few = record { command = refl; unlisted = refl; plain = (refl, refl); bare = λ db. refl }
 asks_postings (suc (suc (suc (suc (suc (suc (suc made))))))) some few = absurd (omega (arith, few))
 
@@ -107,6 +109,17 @@ asks_terms (suc (suc (suc (suc zero)))) some few = absurd (omega (arith, some))
 asks_terms (suc (suc (suc (suc (suc zero))))) some few = absurd (omega (arith, some))
 asks_terms (suc (suc (suc (suc (suc (suc zero)))))) some few = record { command = refl; unlisted = refl; plain = (refl, refl); bare = λ db. refl }
 asks_terms (suc (suc (suc (suc (suc (suc (suc made))))))) some few = absurd (omega (arith, few))
+
+asks_metaids : (made : ℕ) → 1 ≤ made → made ≤ 6 → IsListed MetaIds made
+unfolding understood everything
+asks_metaids zero some few = absurd (omega (arith, some))
+asks_metaids (suc zero) some few = record { command = refl; unlisted = refl; plain = (refl, refl); bare = λ db. refl }
+asks_metaids (suc (suc zero)) some few = record { command = refl; unlisted = refl; plain = (refl, refl); bare = λ db. refl }
+asks_metaids (suc (suc (suc zero))) some few = record { command = refl; unlisted = refl; plain = (refl, refl); bare = λ db. refl }
+asks_metaids (suc (suc (suc (suc zero)))) some few = record { command = refl; unlisted = refl; plain = (refl, refl); bare = λ db. refl }
+asks_metaids (suc (suc (suc (suc (suc zero))))) some few = record { command = refl; unlisted = refl; plain = (refl, refl); bare = λ db. refl }
+asks_metaids (suc (suc (suc (suc (suc (suc zero)))))) some few = record { command = refl; unlisted = refl; plain = (refl, refl); bare = λ db. refl }
+asks_metaids (suc (suc (suc (suc (suc (suc (suc made))))))) some few = absurd (omega (arith, few))
 
 asks_setupids : (made : ℕ) → 2 ≤ made → made ≤ 6 → IsListed SetupIds made
 unfolding understood everything
@@ -159,6 +172,7 @@ listed Postings = asks_postings
 listed Spots = asks_spots
 listed Lines = asks_lines
 listed Terms = asks_terms
+listed MetaIds = asks_metaids
 listed SetupIds = asks_setupids
 listed PostingIds = asks_postingids
 listed LineIds = asks_lineids
@@ -171,6 +185,7 @@ shows_is Postings = refl
 shows_is Spots = refl
 shows_is Lines = refl
 shows_is Terms = refl
+shows_is MetaIds = refl
 shows_is SetupIds = refl
 shows_is PostingIds = refl
 shows_is LineIds = refl
@@ -196,6 +211,7 @@ rows_ordered Postings made some few old new (Ok rows) has h = λ _. lists_sorted
 rows_ordered Spots made some few old new (Ok rows) has h = unsorted Spots refl rows.items
 rows_ordered Lines made some few old new (Ok rows) has h = unsorted Lines refl rows.items
 rows_ordered Terms made some few old new (Ok rows) has h = unsorted Terms refl rows.items
+rows_ordered MetaIds made some few old new (Ok rows) has h = λ _. lists_sorted (prefix made) (text_of MetaIds) (tree_of MetaIds) _ (names_of MetaIds) (listed MetaIds made some few) old new (Ok rows) has h
 rows_ordered SetupIds made some few old new (Ok rows) has h = λ _. lists_sorted (prefix made) (text_of SetupIds) (tree_of SetupIds) _ (names_of SetupIds) (listed SetupIds made some few) old new (Ok rows) has h
 rows_ordered PostingIds made some few old new (Ok rows) has h = λ _. lists_sorted (prefix made) (text_of PostingIds) (tree_of PostingIds) _ (names_of PostingIds) (listed PostingIds made some few) old new (Ok rows) has h
 rows_ordered LineIds made some few old new (Ok rows) has h = λ _. lists_sorted (prefix made) (text_of LineIds) (tree_of LineIds) _ (names_of LineIds) (listed LineIds made some few) old new (Ok rows) has h

@@ -60,7 +60,7 @@ unfolding pick
 cells_picked [] = refl
 cells_picked (m ∷ ms) = ap (λ l. meta_cells m ∷ l) (cells_picked ms)
 
-metas_read : (made : ℕ) → 1 ≤ made → (db : Trees) (c : Content) (rows : List Row) → HasPart made db c → IsPermutation (shown_in Metas db) rows → IsPermutation (map meta_cells c.meta) rows
+pub metas_read : (made : ℕ) → 1 ≤ made → (db : Trees) (c : Content) (rows : List Row) → HasPart made db c → IsPermutation (shown_in Metas db) rows → IsPermutation (map meta_cells c.meta) rows
 metas_read made some db c rows held read =
     let there : IsPermutation (map meta_cells c.meta) (map (drop 1) (db 0)) = subst (λ l. IsPermutation (map meta_cells c.meta) (map (drop 1) l)) (here 1 made (db 0) some) held.meta in
     let picks : IsPermutation (map pick (map meta_cells c.meta)) (map pick (map (drop 1) (db 0))) = IsPermutation-map pick _ _ there in
@@ -70,7 +70,7 @@ meta_back : Row → MetaRow
 meta_back r = record { name = bytes (column r 0); val = id_in (column r 1) }
 
 -- the same rows of `meta`
-same_metas : (xs ys : List MetaRow) (rows : List Row) → IsPermutation (map meta_cells xs) rows → IsPermutation (map meta_cells ys) rows → IsPermutation xs ys
+pub same_metas : (xs ys : List MetaRow) (rows : List Row) → IsPermutation (map meta_cells xs) rows → IsPermutation (map meta_cells ys) rows → IsPermutation xs ys
 unfolding meta_back
 same_metas xs ys rows = unmapped meta_cells meta_back (λ m. refl) xs ys rows
 
@@ -78,7 +78,7 @@ pub none_new : (ms : List MetaRow) → IsPermutation (map meta_cells ms) [] → 
 none_new [] h = refl
 none_new (m ∷ ms) h = absurd (omega (arith, length_permutation _ _ h))
 
-some_old : (ms : List MetaRow) (rows : List Row) → rows ≢ [] → IsPermutation (map meta_cells ms) rows → is_new ms ≡ false
+pub some_old : (ms : List MetaRow) (rows : List Row) → rows ≢ [] → IsPermutation (map meta_cells ms) rows → is_new ms ≡ false
 some_old [] rows some h = absurd (some (empty rows (length_permutation _ _ h)))
   where
     empty : (rs : List Row) → length rs ≡ length (map meta_cells []) → rs ≡ []
@@ -130,7 +130,7 @@ found_in (r ∷ rs) all fit = pick_one (other r) refl fit (found_in rs all.1)
     pick_one true is h next = (0, r, omega arith, refl, subst IsOther (sym all.0.1) (other_at all.0.0 (ap other (sym all.0.1) ∙ is)))
     pick_one false is h next = let it = next h in (suc it.0, it.1, omega (arith, it.2), it.3, it.4)
 
-none_other : (rows : List Row) (ms : List MetaRow) → IsPermutation (map meta_cells ms) rows → ¬ HasOther rows → has_other_version ms ≡ false
+pub none_other : (rows : List Row) (ms : List MetaRow) → IsPermutation (map meta_cells ms) rows → ¬ HasOther rows → has_other_version ms ≡ false
 none_other rows ms held none = go (list_any other rows) refl
   where
     each : (xs : List MetaRow) → AllByRecursion (λ r. (m : MetaRow) × (r ≡ meta_cells m)) (map meta_cells xs)
@@ -164,13 +164,13 @@ whole_meta made some db rows depth read is c held = same_metas _ _ rows is.1 (me
 
 -- ---- the setup
 
-setup_back : Row → SetupRow
+pub setup_back : Row → SetupRow
 setup_back r = record { id = id_in (column r 0); text = bytes (column r 1) }
 
-setups_shown : (made : ℕ) (db : Trees) (c : Content) → HasPart made db c → IsPermutation (map setup_shown c.setup) (setup_in made db)
+pub setups_shown : (made : ℕ) (db : Trees) (c : Content) → HasPart made db c → IsPermutation (map setup_shown c.setup) (setup_in made db)
 setups_shown made db c held = subst (λ l. IsPermutation l (setup_in made db)) (map_twice shown_setup setup_cells c.setup) (IsPermutation-map shown_setup _ _ held.setup)
 
-setup_rows_are : (S : Museum) → IsPermutation (rows_of_setup S) (setup_from 1 (setup_rows S))
+pub setup_rows_are : (S : Museum) → IsPermutation (rows_of_setup S) (setup_from 1 (setup_rows S))
 setup_rows_are S = subst (λ l. IsPermutation (rows_of_setup S) (setup_from 1 l)) (reverse-reverse (setup_rows S)) (numbered_are (reverse (setup_rows S)))
 
 has_the_setup : (S : Museum) (db : Trees) (c : Content) → AreRows db c → Decides true (IsPermutation (setup_rows_shown (setup_rows S)) (setup_in 6 db)) → IsPermutation (rows_of_setup S) c.setup
@@ -205,7 +205,7 @@ old_meta : (depth : ℕ) (ms : List MetaRow) → IsPermutation (rows_of_meta dep
 old_meta depth [] h = absurd (omega (arith, length_permutation _ _ h))
 old_meta depth (m ∷ ms) h = refl
 
-sound_in : (made : ℕ) (s : State) → IsPart made s → IsSound (prefix made) s.now.trees
+pub sound_in : (made : ℕ) (s : State) → IsPart made s → IsSound (prefix made) s.now.trees
 sound_in made s part = subst (λ k. IsSound k s.now.trees) part.schema part.sound
 
 -- an old store of this version, with this setup

@@ -30,14 +30,14 @@ pub record Laws (s : State) : Type 0 where
   pub stays : IsTrue s.is_open → s.may_leave s.committed.trees
   pub survives : HasCleanDisk s → ∥ ((db : Trees) × s.may_leave db) ∥₁
 
-abbrev Holds : State → Content → Type 0
+abbrev pub Holds : State → Content → Type 0
 Holds s c = (db : Trees) × s.may_leave db × IsStored db c
 
 -- an open store may hold what it shows, and nothing else
-shown_held : (s : State) → Laws s → IsSettled s → (c : Content) → IsStored s.now.trees c → Holds s c
+pub shown_held : (s : State) → Laws s → IsSettled s → (c : Content) → IsStored s.now.trees c → Holds s c
 shown_held s laws up c stored = (s.committed.trees, laws.stays up.is_open, subst (λ (d : Database). IsStored d.trees c) up.settled stored)
 
-held_shown : (s : State) → Laws s → IsSettled s → (c : Content) → Holds s c → IsStored s.now.trees c
+pub held_shown : (s : State) → Laws s → IsSettled s → (c : Content) → Holds s c → IsStored s.now.trees c
 held_shown s laws up c held =
     subst (λ db. IsStored db c) (laws.settled held.0 up.is_open held.1 ∙ sym (ap (λ (d : Database). d.trees) up.settled)) held.2
 
@@ -47,13 +47,13 @@ whole_sound s ready = subst (λ k. IsSound k s.now.trees) ready.whole.schema rea
 pub open_ready : (s : State) → IsReady s → IsSettled s
 open_ready s ready = record { is_open = ready.is_open; settled = ready.settled }
 
-rows_held : (s : State) → Laws s → IsReady s → (c : Content) → AreRows s.now.trees c → Holds s c
+pub rows_held : (s : State) → Laws s → IsReady s → (c : Content) → AreRows s.now.trees c → Holds s c
 rows_held s laws ready c rows = shown_held s laws (open_ready s ready) c (record { made = 6; few = omega arith; sound = whole_sound s ready; rows = rows })
 
-held_rows : (s : State) → Laws s → IsReady s → (c : Content) → Holds s c → AreRows s.now.trees c
+pub held_rows : (s : State) → Laws s → IsReady s → (c : Content) → Holds s c → AreRows s.now.trees c
 held_rows s laws ready c held = part_of 6 (omega arith) s.now.trees (whole_sound s ready) c (held_shown s laws (open_ready s ready) c held)
 
-no_two : (a b : ⊥) → a ≡ b
+pub no_two : (a b : ⊥) → a ≡ b
 no_two a b = absurd a
 
 -- ---- nothing is changed

@@ -24,5 +24,10 @@ pub mod Postings
 pub mod Binds
 pub mod Holds
 pub mod Links
+pub mod Moved
 pub mod Stranger
+pub mod Ages
+pub mod Earlier
+pub mod Raised
+pub mod Migrations
 mod WorkedRows

@@ -94,7 +94,7 @@ in_order ps sorted k d low high =
 
 -- ---- one entry more
 
-taken_shown : (ps : List PostingRow) (rows : List Row) (i : ℕ) (row : Row) (d : PostingRow) → map posting_shown ps ≡ rows → i < length rows → row ≡ get_or rows i row → posting_shown (get_or ps i d) ≡ row
+pub taken_shown : (ps : List PostingRow) (rows : List Row) (i : ℕ) (row : Row) (d : PostingRow) → map posting_shown ps ≡ rows → i < length rows → row ≡ get_or rows i row → posting_shown (get_or ps i d) ≡ row
 taken_shown ps rows i row d are low is =
     let many : length ps ≡ length rows = sym (length-map ps posting_shown) ∙ ap length are in
     sym (get_or-map posting_shown ps i d row (omega (arith, low, many))) ∙ ap (λ l. get_or l i row) are ∙ sym is
@@ -109,16 +109,16 @@ next_entry entries more ps i e p less is pushed kept before =
     (subst (λ l. ArePostings (e ∷ reverse entries) l) (sym (reverse-append (take i ps) (p ∷ [])))
     (subst (λ n. IsPostingRow (n + 1) e p) (sym count) kept, before))))
 
-default_free : (ps : List PostingRow) (i : ℕ) (d e : PostingRow) → i < length ps → get_or ps i d ≡ get_or ps i e
+pub default_free : (ps : List PostingRow) (i : ℕ) (d e : PostingRow) → i < length ps → get_or ps i d ≡ get_or ps i e
 default_free [] i d e low = absurd (omega (arith, low))
 default_free (x ∷ xs) zero d e low = refl
 default_free (x ∷ xs) (suc i) d e low = default_free xs i d e (omega (arith, low))
 
 -- the posting that the row is shown of
-abbrev back : Row → PostingRow
+abbrev pub back : Row → PostingRow
 back r = record { id = id_in (column r 0); station = id_in (column r 1); n = id_in (column r 2); body = bytes (column r 3); verdict = id_in (column r 4) }
 
-same_length : (ps : List PostingRow) (rows : List Row) → map posting_shown ps ≡ rows → length ps ≡ length rows
+pub same_length : (ps : List PostingRow) (rows : List Row) → map posting_shown ps ≡ rows → length ps ≡ length rows
 same_length ps rows are = sym (length-map ps posting_shown) ∙ ap length are
 
 pub next_listed : (entries more : List Entry) (rows : List Row) (ps : List PostingRow) (i : ℕ) (e : Entry) (row : Row) → map posting_shown ps ≡ rows → i < length rows → row ≡ get_or rows i row → more ≡ entries ++ e ∷ []

@@ -18,7 +18,7 @@ use Rattle.sqlite_trees.specs.View.{is_int}
 use Rattle.register_sql.specs.Rows.{Apart, same_id, had}
 use Rattle.register_sql.specs.Queries.{tree_of, least_of, shown_by, shows_id, shown_in, IsApartIn, AreApart, IsPart, IsSame}
 use Rattle.register_sql.specs.declared.queries.Query.{Query}
-use Rattle.register_sql.specs.declared.queries.Query.TheVariants.{Metas, Setups, Postings, Spots, Lines, Terms, SetupIds, PostingIds, LineIds, TermIds}
+use Rattle.register_sql.specs.declared.queries.Query.TheVariants.{Metas, Setups, Postings, Spots, Lines, Terms, MetaIds, SetupIds, PostingIds, LineIds, TermIds}
 use Rattle.register_sql.proofs.Apart.{apart_moved, no_rows}
 use Rattle.register_sql.specs.Rowids.{IsBelow, IsRising}
 
@@ -115,6 +115,7 @@ shows_first Postings is r = refl
 shows_first Spots is r = absurd (let e : false ≡ true = is in cc)
 shows_first Lines is r = absurd (let e : false ≡ true = is in cc)
 shows_first Terms is r = absurd (let e : false ≡ true = is in cc)
+shows_first MetaIds is r = refl
 shows_first SetupIds is r = refl
 shows_first PostingIds is r = refl
 shows_first LineIds is r = refl

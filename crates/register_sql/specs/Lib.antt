@@ -12,3 +12,6 @@ pub mod Says
 pub mod Binding
 pub mod Stores
 pub mod Strange
+pub mod Ages
+pub mod Early
+pub mod Migrating

@@ -9,7 +9,7 @@ use Rattle.register_sql.specs.Rows.{had, Apart}
 use Rattle.register_sql.specs.Shown.{shown_meta, shown_setup, shown_posting, shown_spot, shown_line, shown_term, shown_id, id_cmp}
 use Rattle.register_sql.specs.Tables.{prefix}
 use Rattle.register_sql.specs.declared.queries.Query.{Query}
-use Rattle.register_sql.specs.declared.queries.Query.TheVariants.{Metas, Setups, Postings, Spots, Lines, Terms, SetupIds, PostingIds, LineIds, TermIds}
+use Rattle.register_sql.specs.declared.queries.Query.TheVariants.{Metas, Setups, Postings, Spots, Lines, Terms, MetaIds, SetupIds, PostingIds, LineIds, TermIds}
 
 abbrev pub text_of : Query → List ℕ
 text_of Metas = codes "SELECT name, val FROM meta ORDER BY rowid"
@@ -18,6 +18,7 @@ text_of Postings = codes "SELECT id, station, n, body, verdict FROM posting ORDE
 text_of Spots = codes "SELECT thing, k, entry, place, day FROM spot ORDER BY rowid"
 text_of Lines = codes "SELECT loan, object, stage FROM line ORDER BY rowid"
 text_of Terms = codes "SELECT loan, day FROM term ORDER BY rowid"
+text_of MetaIds = codes "SELECT rowid FROM meta ORDER BY rowid"
 text_of SetupIds = codes "SELECT id FROM setup ORDER BY id"
 text_of PostingIds = codes "SELECT id FROM posting ORDER BY id"
 text_of LineIds = codes "SELECT rowid FROM line ORDER BY rowid"
@@ -31,6 +32,7 @@ tree_of Postings = 3
 tree_of Spots = 5
 tree_of Lines = 7
 tree_of Terms = 9
+tree_of MetaIds = 0
 tree_of SetupIds = 2
 tree_of PostingIds = 3
 tree_of LineIds = 7
@@ -40,10 +42,11 @@ tree_of TermIds = 9
 abbrev pub least_of : Query → ℕ
 least_of Metas = 1
 least_of Setups = 2
-least_of Postings = 6
+least_of Postings = 5
 least_of Spots = 6
 least_of Lines = 6
 least_of Terms = 6
+least_of MetaIds = 1
 least_of SetupIds = 2
 least_of PostingIds = 3
 least_of LineIds = 5
@@ -57,6 +60,7 @@ shown_by Postings = shown_posting
 shown_by Spots = shown_spot
 shown_by Lines = shown_line
 shown_by Terms = shown_term
+shown_by MetaIds = shown_id
 shown_by SetupIds = shown_id
 shown_by PostingIds = shown_id
 shown_by LineIds = shown_id
@@ -70,6 +74,7 @@ shows_id Postings = true
 shows_id Spots = false
 shows_id Lines = false
 shows_id Terms = false
+shows_id MetaIds = true
 shows_id SetupIds = true
 shows_id PostingIds = true
 shows_id LineIds = true

@@ -1,13 +1,17 @@
 //! The register over SQLite.
 #![tactic(auto)]
 
+mod age;
 mod agree;
 mod bind;
+mod early;
 mod link;
 mod list;
 mod make;
+mod migrate;
 mod put;
 mod queries;
+mod raise;
 mod rowids;
 mod schema;
 mod sql;
@@ -16,4 +20,5 @@ mod table;
 mod told;
 mod typed;
 
+pub use migrate::given_days_are_of_looking_back;
 pub use sql::SqlRegister;

@@ -5,11 +5,13 @@ ghost use Rattle.sqlite.specs.Held.{state};
 ghost use Rattle.register_store.specs.Holdings.{Each, Has, Comes, IsPosted, IsBound, IsNotBound};
 ghost use Rattle.register_store.specs.Registers.{is_failure, is_of_listing, IsOfStation, IsListFault};
 ghost use Rattle.register_store.specs.StoredRows.{AreSame, HasList, HasRows, IsBoundTo};
+ghost use Rattle.register_sql.specs.Migrating.{Migrates, IsNotMigrated};
 ghost use Rattle.register_sql.specs.Stores.{in_store, IsKept};
 
 use crate::agree::agrees;
 use crate::bind::bind;
 use crate::list::list;
+use crate::migrate::migrate;
 use crate::put::put_whole;
 use nest_core::Setup;
 use posting_core::{Changes, Entry, Ledger};
@@ -74,6 +76,27 @@ pub(crate) fn bind_store<S: Alter>(
             Ok(depth)
         }
         Ok(Err(fault)) => Err(fault),
+        Err(error) => Err(stop(link, error)),
+    }
+}
+
+/// Makes a store of version 1 with this setup one of version 2, with the last days that its entries gave loans.
+pub(crate) fn migrate_store<S: Alter>(
+    alloc: Global,
+    link: &mut Link<S>,
+    setup: &Setup,
+) -> Result<(), StoreFault>
+    requires { IsKept (state S.Store link.old.conn) link.old.bound link.old.stopped }
+    ensures invariant { IsKept (state S.Store link.new.conn) link.new.bound link.new.stopped }
+    ensures migrated { OnOk result (Comes (in_store (state S.Store link.old.conn)) (in_store (state S.Store link.new.conn)) (Migrates setup.now)) }
+    ensures refused { IfErr result (λ fault. Comes (in_store (state S.Store link.old.conn)) (in_store (state S.Store link.new.conn)) (IsNotMigrated setup.now fault)) }
+    ensures still { link.new.bound ≡ link.old.bound }
+{
+    if let Some(fault) = link.stopped {
+        return Err(fault);
+    }
+    match migrate(alloc, &mut link.conn, setup) {
+        Ok(answer) => answer,
         Err(error) => Err(stop(link, error)),
     }
 }

@@ -47,7 +47,12 @@ fn unread(error: Error, number: u64) -> StoreFault
 }
 
 /// The entry that the row keeps under this number.
-fn entry_in(alloc: Global, row: &Row, number: u64, stations: u32) -> Result<Entry, StoreFault>
+pub(crate) fn entry_in(
+    alloc: Global,
+    row: &Row,
+    number: u64,
+    stations: u32,
+) -> Result<Entry, StoreFault>
     ensures kept { IfOk result (λ entry. (p : stored.PostingRow) → posting_shown p ≡ row.now → IsPostingRow number entry p) }
     ensures stationed { IfOk result (IsOfStation stations) }
     ensures damaged { IfErr result (λ fault. fault ≢ StoreFault.NoMemory → fault ≡ StoreFault.Damaged number) }

@@ -32,7 +32,7 @@ fn create_text(at: usize) -> &'static str
 }
 
 /// Makes the table after the first so many.
-fn make_at<S: Alter>(tx: &mut Transaction<'_, S>, at: usize) -> Result<(), Error>
+pub(crate) fn make_at<S: Alter>(tx: &mut Transaction<'_, S>, at: usize) -> Result<(), Error>
     requires few { at < 6 }
     requires made { IsMaking at (state S.Store tx.old.conn.now) }
     ensures same_reference { tx.new.conn.ghost_name ≡ tx.old.conn.ghost_name }
@@ -126,7 +126,7 @@ fn add_meta<S: Alter>(tx: &mut Transaction<'_, S>, name: &str, val: u32) -> Resu
 }
 
 /// Adds the version of the store, and the depth limit that it is made with.
-fn add_metas<S: Alter>(tx: &mut Transaction<'_, S>, depth: u32) -> Result<(), Error>
+pub(crate) fn add_metas<S: Alter>(tx: &mut Transaction<'_, S>, depth: u32) -> Result<(), Error>
     requires { IsMaking 6 (state S.Store tx.old.conn.now) }
     ensures same_reference { tx.new.conn.ghost_name ≡ tx.old.conn.ghost_name }
     ensures wrote { Went (state S.Store tx.old.conn.now) (state S.Store tx.new.conn.now) result

@@ -192,7 +192,10 @@ fn put_term<S: Alter>(tx: &mut Transaction<'_, S>, term: &(LoanCode, Day)) -> Re
 }
 
 /// Puts the last day that an entry gives a loan, if it gives one.
-fn put_some_term<S: Alter>(tx: &mut Transaction<'_, S>, entry: &Entry) -> Result<(), Error>
+pub(crate) fn put_some_term<S: Alter>(
+    tx: &mut Transaction<'_, S>,
+    entry: &Entry,
+) -> Result<(), Error>
     requires { IsWithin (state S.Store tx.old.conn.now) }
     ensures same_reference { tx.new.conn.ghost_name ≡ tx.old.conn.ghost_name }
     ensures wrote { Wrote (state S.Store tx.old.conn.now) (state S.Store tx.new.conn.now) result

@@ -17,6 +17,7 @@ pub(crate) enum Query {
     Spots,
     Lines,
     Terms,
+    MetaIds,
     SetupIds,
     PostingIds,
     LineIds,
@@ -34,6 +35,7 @@ fn text_of(query: Query) -> &'static str
         Query::Spots => "SELECT thing, k, entry, place, day FROM spot ORDER BY rowid",
         Query::Lines => "SELECT loan, object, stage FROM line ORDER BY rowid",
         Query::Terms => "SELECT loan, day FROM term ORDER BY rowid",
+        Query::MetaIds => "SELECT rowid FROM meta ORDER BY rowid",
         Query::SetupIds => "SELECT id FROM setup ORDER BY id",
         Query::PostingIds => "SELECT id FROM posting ORDER BY id",
         Query::LineIds => "SELECT rowid FROM line ORDER BY rowid",
@@ -46,10 +48,10 @@ pub(crate) fn least_of(query: Query) -> usize
     ensures { result ≡ least_of query }
 {
     match query {
-        Query::Metas => 1,
+        Query::Metas | Query::MetaIds => 1,
         Query::Setups | Query::SetupIds => 2,
         Query::PostingIds => 3,
-        Query::LineIds => 5,
+        Query::Postings | Query::LineIds => 5,
         _ => 6,
     }
 }

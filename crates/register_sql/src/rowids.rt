@@ -73,7 +73,11 @@ fn are_apart(rows: &[Row]) -> bool
 }
 
 /// Whether the rowids that the query asks for, if its table is among the first so many, are numbers that differ.
-fn is_apart<S: Alter>(conn: &mut Connection<S>, query: Query, made: usize) -> Result<bool, Error>
+pub(crate) fn is_apart<S: Alter>(
+    conn: &mut Connection<S>,
+    query: Query,
+    made: usize,
+) -> Result<bool, Error>
     requires ids { shows_id query ≡ true }
     requires few { made ≤ 6 }
     requires part { HasCleanDisk (state S.Store conn.old) → IsPart made (state S.Store conn.old) }

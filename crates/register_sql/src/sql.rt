@@ -1,15 +1,18 @@
 //! The register over a connection to a database.
-ghost use Rattle.std.specs.Prelude.{◌≡◌, true, false, IsTrue, IfOk, IfErr};
+ghost use Rattle.std.specs.Prelude.{◌≡◌, true, false, IsTrue, IfOk, IfErr, OnOk};
 ghost use Rattle.sqlite.specs.Held.{state};
 ghost use Rattle.sqlite.specs.Files.{file_state};
 ghost use Rattle.sqlite.specs.State.{HasCleanDisk};
 ghost use Rattle.sqlite.specs.Steps.{over_memory};
-ghost use Rattle.register_store.specs.Holdings.{Has};
+ghost use Rattle.register_store.specs.Holdings.{Has, Comes};
 ghost use Rattle.register_store.specs.Registers.{is_failure, CountsRefusal};
 ghost use Rattle.register_sql.specs.Binding.{IsSettled};
+ghost use Rattle.register_sql.specs.Migrating.{Migrates, IsNotMigrated};
 ghost use Rattle.register_sql.specs.Stores.{in_store, no_rows};
 
-use crate::link::{Link, bind_store, fault_of, list_store, post_to_store, store_agrees};
+use crate::link::{
+    Link, bind_store, fault_of, list_store, migrate_store, post_to_store, store_agrees,
+};
 use nest_core::Setup;
 use posting_core::{Changes, Entry, Ledger};
 use register_store::{Register, StoreFault};
@@ -93,6 +96,22 @@ impl<S: Alter> SqlRegister<S> {
             stations: 0,
             refusals: 0,
         }
+    }
+
+    /// Makes a store of version 1 with this setup one of version 2: its entries, spots, lines and setup stay as they are, and
+    /// so does its depth limit, 8; it gets the last days that its entries gave loans, and says version 2. A store of version 2
+    /// stays as it is, whatever else is in it. The faults, first that holds: OtherVersion, of a new store too; Damaged(0),
+    /// where what the store says of itself isn't whole; OtherSetup; Damaged(i) as `all` tells it, where an extension, and the
+    /// verdict that refuses one, are no entry's of version 1. NoMemory and Store can stand in place of any answer.
+    pub fn migrate(&mut self, alloc: Global, setup: &Setup) -> Result<(), StoreFault>
+        ensures migrated { OnOk result (Comes (in_store (state S.Store self.old.conn)) (in_store (state S.Store self.new.conn)) (Migrates setup.now)) }
+        ensures refused { IfErr result (λ fault. Comes (in_store (state S.Store self.old.conn)) (in_store (state S.Store self.new.conn)) (IsNotMigrated setup.now fault)) }
+        ensures still { (self.new.bound ≡ self.old.bound) × (self.new.stations ≡ self.old.stations) }
+        ensures count { CountsRefusal self.old.refusals self.new.refusals result }
+    {
+        let answer = migrate_store(alloc, &mut self.link, setup);
+        self.refusals = recount(self.refusals, &answer);
+        answer
     }
 
     /// The connection.

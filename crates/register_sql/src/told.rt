@@ -70,7 +70,7 @@ fn is_some_number(row: &Row, at: usize) -> bool
 }
 
 /// Whether it is the row of `meta` with this name and value.
-fn is_meta(row: &Row, name: &str, val: u32) -> bool
+pub(crate) fn is_meta(row: &Row, name: &str, val: u32) -> bool
     ensures { Decides result (row.now ≡ Text name.now ∷ Int (pos val) ∷ []) }
 {
     row.column_count() == 2 && is_text(row, 0, name) && is_number(row, 1, u64::from(val))
@@ -87,7 +87,7 @@ fn is_other(row: &Row) -> bool
 }
 
 /// Whether one of the rows is that of another version.
-fn has_other(rows: &[Row]) -> bool
+pub(crate) fn has_other(rows: &[Row]) -> bool
     ensures { Decides result (HasOther rows.now) }
 {
     'rows: for row in rows {

@@ -1,0 +1,167 @@
+-- What a migration takes, what it makes of it, and why it refuses.
+use Rattle.std.specs.Prelude.{◌≡◌, ◌≢◌, ◌⊎◌, ℕ, true, false, List, [], ◌∷◌, length, reverse, map, drop, All, Result, OnOk, IsTrue}
+use Rattle.std.specs.List.{AllByRecursion}
+use Rattle.std.specs.List.Sorted.{IsPermutation}
+use Rattle.std.specs.Option.{option_map_or}
+use Rattle.nest_core.specs.Museum.{Museum}
+use Rattle.posting_core.specs.declared.entry.Entry.{Entry}
+use Rattle.sqlite.specs.State.{State}
+use Rattle.sqlite.specs.Tree.{Trees}
+use Rattle.sqlite_catalog.specs.Listing.{IsSound}
+use Rattle.register_store.specs.Registers.{is_new, is_failure, has_other_version}
+use Rattle.register_store.specs.StoredRows.{Content, MetaRow, TermRow, AreSame, HasList, rows_of_setup, rows_of_meta, put, is_same_loan, term_of}
+use Rattle.register_store.specs.declared.store_fault.StoreFault.{StoreFault}
+use Rattle.register_store.specs.declared.store_fault.StoreFault.TheVariants.{NoMemory, Store, OtherSetup, Damaged, OtherVersion}
+use Rattle.register_sql.specs.Ages.{version_row, first_meta}
+use Rattle.register_sql.specs.Early.{IsEarlyOf, IsFirstEarlyWrong}
+use Rattle.register_sql.specs.Posting.{Within, IsWhole, IsReady, with_each, with_some_term}
+use Rattle.register_sql.specs.Queries.{IsPart, IsSame, AreApart}
+use Rattle.register_sql.specs.Rows.{HasPart, AreRows, IsStored, Apart, meta_cells}
+use Rattle.register_sql.specs.Tables.{hub_schema}
+
+-- no row says this version
+abbrev pub Lacks : ℕ → List MetaRow → Type 0
+Lacks version meta = AllByRecursion (λ row. row ≢ version_row version) meta
+
+-- the last days that entries gave loans, each in the place of the one before
+abbrev pub days_given : List Entry → List TermRow
+days_given [] = []
+days_given (e ∷ P) = option_map_or (λ t. put is_same_loan t (days_given P)) (term_of e) (days_given P)
+
+-- all that a migration changes: what the store says of itself, and the last days that its entries gave
+abbrev pub migrated : List Entry → Content → Content
+migrated P c = record c { meta = rows_of_meta 8; terms = days_given P }
+
+-- a store of version 1 with this setup and these entries, each of which version 1 knows
+pub record IsOfFirst (S : Museum) (P : List Entry) (c : Content) : Type 0 where
+  pub meta : IsPermutation first_meta c.meta
+  pub setup : IsPermutation (rows_of_setup S) c.setup
+  pub list : HasList P c
+  pub known : All (IsEarlyOf (length S.stations)) P
+
+-- a store of version 1 becomes one of version 2
+abbrev pub IsMigrated : Museum → Content → Content → Type 0
+IsMigrated S c d = (P : List Entry) × IsOfFirst S P c × AreSame (migrated P c) d
+
+-- that, or the store is one of version 2 and is as it was
+abbrev pub Migrates : Museum → Content → Content → Type 0
+Migrates S c d = IsMigrated S c d ⊎ ((¬ Lacks 2 c.meta) × AreSame c d)
+
+-- it says nothing of itself; or a version, and neither of the two that are known
+abbrev pub IsUnknown : List MetaRow → Type 0
+IsUnknown meta = (is_new meta ≡ true) ⊎ ((has_other_version meta ≡ true) × Lacks 1 meta × Lacks 2 meta)
+
+-- it says something, no version that is unknown, and isn't whole
+pub record IsDamagedMeta (meta : List MetaRow) : Type 0 where
+  pub old : is_new meta ≡ false
+  pub known : has_other_version meta ≡ true → ¬ Lacks 1 meta
+  pub lacks : Lacks 2 meta
+  pub broken : ¬ IsPermutation first_meta meta
+
+-- why a store can't be migrated: the first cause
+abbrev pub IsMigrateFault : Museum → Content → StoreFault → Type 0
+IsMigrateFault S c NoMemory = Unit {0}
+IsMigrateFault S c Store = Unit {0}
+IsMigrateFault S c OtherVersion = IsUnknown c.meta
+IsMigrateFault S c OtherSetup = IsPermutation first_meta c.meta × ¬ IsPermutation (rows_of_setup S) c.setup
+IsMigrateFault S c (Damaged at) =
+    ((at ≡ 0) × IsDamagedMeta c.meta) ⊎ (IsPermutation first_meta c.meta × IsPermutation (rows_of_setup S) c.setup × IsFirstEarlyWrong (length S.stations) at c)
+
+-- it isn't migrated, for this cause, and is as it was; for want of memory, or where it refused, it may be migrated
+abbrev pub IsNotMigrated : Museum → StoreFault → Content → Content → Type 0
+IsNotMigrated S fault c d = IsMigrateFault S c fault × (AreSame c d ⊎ ((is_failure fault ≡ true) × IsMigrated S c d))
+
+-- ---- the steps of the transaction
+
+pub record SparesEntries (db next : Trees) : Type 0 where
+  pub setup : next 2 ≡ db 2
+  pub postings : next 3 ≡ db 3
+  pub spots : next 5 ≡ db 5
+  pub lines : next 7 ≡ db 7
+  pub terms : next 9 ≡ db 9
+
+-- the store says nothing of itself any more
+pub record ClearsMeta (db next : Trees) : Type 0 where
+  pub meta : next 0 ≡ []
+  pub others : SparesEntries db next
+
+-- it says this instead
+pub record RenewsMeta (rows : List MetaRow) (db next : Trees) : Type 0 where
+  pub meta : IsPermutation (map meta_cells rows) (map (drop 1) (next 0))
+  pub others : SparesEntries db next
+
+-- the table of last days comes, empty, and the store says that it is of version 2
+pub record Raises (db next : Trees) : Type 0 where
+  pub meta : IsPermutation (map meta_cells (rows_of_meta 8)) (map (drop 1) (next 0))
+  pub setup : next 2 ≡ db 2
+  pub postings : next 3 ≡ db 3
+  pub spots : next 5 ≡ db 5
+  pub lines : next 7 ≡ db 7
+  pub terms : next 9 ≡ []
+
+-- the content of version 2 with the last days that these entries give, oldest first
+abbrev pub lifted : List Entry → Content → Content
+lifted entries c = with_each (λ e. with_some_term (term_of e)) entries (record c { meta = rows_of_meta 8; terms = [] })
+
+abbrev pub Lifts : List Entry → Trees → Trees → Type 0
+Lifts entries db next = (c : Content) → HasPart 5 db c → AreRows next (lifted entries c)
+
+-- the transaction goes on, over a whole store
+pub record IsLifting (entries : List Entry) (old new : State) : Type 0 where
+  pub within : Within new
+  pub stays : IsTrue old.is_open → IsTrue new.is_open
+  pub rows : Lifts entries old.now.trees new.now.trees
+
+-- and is committed
+pub record IsLifted (entries : List Entry) (old new : State) : Type 0 where
+  pub is_open : IsTrue new.is_open
+  pub whole : IsWhole new.now
+  pub rows : Lifts entries old.now.trees new.now.trees
+  pub committed : new.committed ≡ new.now
+
+pub record LeavesLifted (entries : List Entry) (old : State) (db : Trees) : Type 0 where
+  pub sound : IsSound hub_schema db
+  pub rows : Lifts entries old.now.trees db
+
+-- ---- the whole
+
+-- a database that says that it is a store of version 1, and has this setup
+pub record IsFirstOf (S : Museum) (db : Trees) : Type 0 where
+  pub meta : (c : Content) → HasPart 5 db c → IsPermutation first_meta c.meta
+  pub setup : (c : Content) → HasPart 5 db c → IsPermutation (rows_of_setup S) c.setup
+
+-- it can be migrated, if its entries can be listed
+pub record IsRaisable (S : Museum) (s : State) : Type 0 where
+  pub part : IsPart 5 s
+  pub meta_apart : Apart (s.now.trees 0)
+  pub apart : AreApart 5 s.now.trees
+  pub first : IsFirstOf S s.now.trees
+
+-- the rows come, by being migrated, from those that a database holds
+abbrev pub ComesMigrated : Museum → Trees → Content → Type 0
+ComesMigrated S db d = (c : Content) × IsStored db c × IsMigrated S c d
+
+pub record IsMoved (S : Museum) (old new : State) : Type 0 where
+  pub was_open : IsTrue old.is_open
+  pub ready : IsReady new
+  pub content : (d : Content) × AreRows new.now.trees d
+  pub comes : (d : Content) → AreRows new.now.trees d → ComesMigrated S old.now.trees d
+
+pub record IsSecond (old new : State) : Type 0 where
+  pub same : IsSame old new
+  pub second : (c : Content) → IsStored old.now.trees c → ¬ Lacks 2 c.meta
+
+-- the store is of version 2 now
+abbrev pub IsRaised : Museum → State → State → Type 0
+IsRaised S old new = IsMoved S old new ⊎ IsSecond old new
+
+-- it is refused for this cause, and nothing is changed
+pub record IsLeft (S : Museum) (old new : State) (fault : StoreFault) : Type 0 where
+  pub same : IsSame old new
+  pub cause : (c : Content) → IsStored old.now.trees c → IsMigrateFault S c fault
+
+-- a database that is migrated
+pub record LeavesMoved (S : Museum) (old : State) (db : Trees) : Type 0 where
+  pub sound : IsSound hub_schema db
+  pub content : (d : Content) × AreRows db d
+  pub comes : (d : Content) → AreRows db d → ComesMigrated S old.now.trees d
