@@ -1,5 +1,5 @@
 -- Sorted rows whose rowids differ rise, so that what is read tells exactly whether the rowids of a table differ.
-use Rattle.std.proofs.Common.{Result, Ok, Err, IfOk, zero, suc, ◌-◌, ◌≤◌, length, slice_index_or, ◌≡◌, ◌<◌, ◌+◌, ◌<ℤ◌, ℕ, ℤ, List, [], ◌∷◌, map, Bool, true, false, IsTrue, refl, sym, ap, subst, ◌∙◌, arith}
+use Rattle.std.proofs.Common.{Result, Ok, Err, IfOk, zero, suc, ◌-◌, ◌≤◌, length, slice_index_or, ◌≡◌, ◌<◌, ◌+◌, ℕ, List, [], ◌∷◌, map, Bool, true, false, IsTrue, refl, sym, ap, subst, ◌∙◌, arith}
 use Rattle.std.specs.Bool.{Decides}
 use Rattle.std.specs.List.{AllByRecursion, IsDistinct}
 use Rattle.std.specs.List.Sorted.{IsPermutation, IsSorted}

@@ -1,5 +1,5 @@
 -- The first entry that version 1 doesn't know, and why the entries of such a store can't be listed.
-use Rattle.std.proofs.Common.{◌<◌, ◌≤◌, ◌+◌, ◌≡◌, ◌≢◌, ℕ, List, ◌∷◌, ◌++◌, length, map, reverse, take, drop, get_or, Bool, true, false, refl, sym, ap, subst, ◌∙◌, arith, Ok, Err, Result, IfOk, IfErr, All}
+use Rattle.std.proofs.Common.{◌<◌, ◌+◌, ◌≡◌, ◌≢◌, ℕ, List, length, map, reverse, take, drop, get_or, true, false, sym, ap, subst, ◌∙◌, arith, All}
 use Rattle.std.specs.List.Sorted.{IsPermutation, IsSorted}
 use Rattle.std.proofs.lemmas.List.{length-take-le}
 use Rattle.std.proofs.lemmas.List.Sorted.{IsPermutation-map, IsPermutation-trans, IsPermutation-sym, IsPermutation-reverse, All-permutation}
@@ -9,7 +9,7 @@ use Rattle.sqlite.specs.Tree.{Trees}
 use Rattle.posting_core.specs.declared.entry.Entry.{Entry}
 use Rattle.register_store.proofs.Lists.{split_at}
 use Rattle.register_store.proofs.OneList.{one_entry}
-use Rattle.register_store.specs.Registers.{IsOfStation, IsWrongRow}
+use Rattle.register_store.specs.Registers.{IsWrongRow}
 use Rattle.register_store.specs.StoredRows.{Content, PostingRow, IsPostingRow, ArePostings, HasList}
 use Rattle.register_store.specs.declared.store_fault.StoreFault.{StoreFault}
 use Rattle.register_store.specs.declared.store_fault.StoreFault.TheVariants.{NoMemory, Damaged}

@@ -1,5 +1,5 @@
 -- What a store says of its version decides whether it is migrated, and what it then holds.
-use Rattle.std.proofs.Common.{◌≡◌, ◌≢◌, ◌⊎◌, inl, inr, ◌<◌, ◌≤◌, ◌+◌, ℕ, zero, suc, List, [], ◌∷◌, length, map, drop, reverse, slice_index_or, Bool, true, false, All, Ok, Err, Result, IfOk, IfErr, OnOk, IsTrue, refl, sym, ap, subst, ◌∙◌, arith}
+use Rattle.std.proofs.Common.{◌≡◌, ◌≢◌, inl, inr, ◌≤◌, ℕ, zero, suc, List, [], ◌∷◌, length, map, reverse, Bool, true, false, All, Ok, Err, Result, IfOk, IfErr, OnOk, IsTrue, refl, sym, ap, subst, ◌∙◌, arith}
 use Rattle.std.specs.Bool.{Decides}
 use Rattle.std.specs.List.{AllByRecursion}
 use Rattle.std.specs.List.Sorted.{IsPermutation}
@@ -15,26 +15,22 @@ use Rattle.sqlite.specs.Order.{Row, column}
 use Rattle.sqlite.specs.State.{State, HasCleanDisk, Survives}
 use Rattle.sqlite.specs.Tree.{Trees}
 use Rattle.sqlite.specs.declared.error.Error.{Error}
-use Rattle.sqlite_catalog.specs.Listing.{IsSound}
 use Rattle.sqlite_trees.proofs.ListLemmas.{all-permutation}
 use Rattle.sqlite_value.specs.Order.{bytes}
 use Rattle.register_store.proofs.TermRows.{next_terms}
-use Rattle.register_store.specs.Registers.{is_new, is_of_listing, has_other_version}
-use Rattle.register_store.specs.StoredRows.{Content, SetupRow, MetaRow, AreSame, HasList, rows_of_setup, rows_of_terms}
+use Rattle.register_store.specs.Registers.{is_new, is_of_listing}
+use Rattle.register_store.specs.StoredRows.{Content, SetupRow, MetaRow, HasList, rows_of_setup, rows_of_terms}
 use Rattle.register_store.specs.declared.store_fault.StoreFault.{StoreFault}
 use Rattle.register_store.specs.declared.store_fault.StoreFault.TheVariants.{NoMemory, Store, OtherSetup, Damaged, OtherVersion}
-use Rattle.register_sql.specs.Ages.{version_row, first_meta, LacksRow, IsFirst, IsAged}
+use Rattle.register_sql.specs.Ages.{version_row, first_meta, LacksRow, IsAged}
 use Rattle.register_sql.specs.Early.{IsEarlyOf, IsFirstEarlyWrong}
-use Rattle.register_sql.specs.Migrating.{Lacks, IsUnknown, IsDamagedMeta, IsOfFirst, IsMigrateFault, IsFirstOf, IsRaisable, IsMoved, IsSecond, IsRaised, IsLeft, LeavesMoved, ComesMigrated, IsLifted, LeavesLifted, days_given, migrated, lifted}
-use Rattle.register_sql.specs.Posting.{IsReady}
+use Rattle.register_sql.specs.Migrating.{Lacks, IsOfFirst, IsMigrateFault, IsFirstOf, IsRaisable, IsRaised, IsLeft, LeavesMoved, ComesMigrated, IsLifted, LeavesLifted, days_given, migrated, lifted}
 use Rattle.register_sql.specs.Queries.{shown_in, IsPart, IsSame, IsApartIn, AreApart}
-use Rattle.register_sql.specs.Rows.{HasPart, AreRows, IsStored, Apart, meta_cells, setup_cells}
+use Rattle.register_sql.specs.Rows.{HasPart, AreRows, IsStored, Apart, meta_cells}
 use Rattle.register_sql.specs.Says.{HasOther, setup_rows_shown, setup_in}
 use Rattle.register_sql.specs.Shown.{setup_shown}
-use Rattle.register_sql.specs.Tables.{prefix}
 use Rattle.register_sql.specs.declared.age.Age.TheVariants as age
 use Rattle.register_sql.specs.declared.queries.Query.TheVariants.{Metas, MetaIds}
-use Rattle.register_sql.specs.declared.told.Told.TheVariants as told
 use Rattle.register_sql.proofs.Binds.{metas_read, same_metas, none_new, some_old, none_other, told_other, setup_rows_are, setups_shown, part_of, sound_in}
 use Rattle.register_sql.proofs.Contents.{content_in, same_part, unmapped}
 use Rattle.register_sql.proofs.Raised.{lifted_is}

@@ -6,7 +6,7 @@ use Rattle.std.proofs.lemmas.Grind.{reverse_onto}
 use Rattle.std.proofs.lemmas.List.Sorted.{IsPermutation-refl}
 use Rattle.posting_core.specs.declared.entry.Entry.{Entry}
 use Rattle.sqlite.specs.Command.TheVariants.{Delete}
-use Rattle.sqlite.specs.Effect.{Database, IsDatabase}
+use Rattle.sqlite.specs.Effect.{Database}
 use Rattle.sqlite.specs.Held.{Held, state}
 use Rattle.sqlite.specs.Listing.{understood}
 use Rattle.sqlite.specs.Order.{Row}
@@ -21,9 +21,8 @@ use Rattle.sqlite_tied.specs.Compute.{everything}
 use Rattle.register_store.specs.StoredRows.{Content, MetaRow, TermRow, rows_of_meta, put, is_same_loan, term_of}
 use Rattle.register_sql.specs.Changes.{Removes}
 use Rattle.register_sql.specs.Making.{IsMade, Goes, Grown, AddsMeta}
-use Rattle.register_sql.specs.Migrating.{days_given, migrated, lifted, Lifts, SparesEntries, ClearsMeta, RenewsMeta, Raises, IsLifting, IsLifted, LeavesLifted}
-use Rattle.register_sql.specs.Posting.{IsWhole, Within, Turns, Makes, with_each, with_some_term}
-use Rattle.register_sql.specs.Queries.{IsPart}
+use Rattle.register_sql.specs.Migrating.{days_given, migrated, lifted, Lifts, ClearsMeta, RenewsMeta, Raises, IsLifting, IsLifted, LeavesLifted}
+use Rattle.register_sql.specs.Posting.{IsWhole, Within, Makes, with_each, with_some_term}
 use Rattle.register_sql.specs.Rows.{HasPart, AreRows, Apart, meta_cells}
 use Rattle.register_sql.specs.Tables.{meta, hub_schema}
 use Rattle.register_sql.proofs.Apart.{no_rows}

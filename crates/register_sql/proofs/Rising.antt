@@ -1,5 +1,5 @@
 -- Rows whose rowids rise have rowids that differ, and so do those of the tables of which they were read.
-use Rattle.std.proofs.Common.{Result, Ok, Err, IfOk, OnOk, zero, ◌-◌, cond, nat_lt, ltb, ltb-true, ltb-false, ◌≤◌, length, slice_index_or, ◌≡◌, ◌<◌, ◌+◌, ℕ, suc, add-one, ℤ, List, [], ◌∷◌, map, Bool, true, false, IsTrue, refl, sym, ap, subst, ◌∙◌, arith}
+use Rattle.std.proofs.Common.{Result, Ok, Err, OnOk, zero, ◌-◌, cond, nat_lt, ltb, ltb-true, ltb-false, ◌≤◌, length, slice_index_or, ◌≡◌, ◌<◌, ◌+◌, ℕ, suc, add-one, ℤ, List, [], ◌∷◌, map, Bool, true, false, IsTrue, refl, sym, ap, subst, ◌∙◌, arith}
 use Rattle.std.specs.List.{AllByRecursion, IsDistinct}
 use Rattle.std.specs.Ordering.{is_eq}
 use Rattle.std.specs.Cmp.{int_cmp_is}
@@ -16,7 +16,7 @@ use Rattle.sqlite_value.specs.Order.{value_cmp}
 use Rattle.sqlite_value.proofs.OrderLemmas.{value_cmp-Int, value_cmp_total}
 use Rattle.sqlite_trees.specs.View.{is_int}
 use Rattle.register_sql.specs.Rows.{Apart, same_id, had}
-use Rattle.register_sql.specs.Queries.{tree_of, least_of, shown_by, shows_id, shown_in, IsApartIn, AreApart, IsPart, IsSame}
+use Rattle.register_sql.specs.Queries.{tree_of, least_of, shown_by, shows_id, shown_in, IsApartIn, IsPart, IsSame}
 use Rattle.register_sql.specs.declared.queries.Query.{Query}
 use Rattle.register_sql.specs.declared.queries.Query.TheVariants.{Metas, Setups, Postings, Spots, Lines, Terms, MetaIds, SetupIds, PostingIds, LineIds, TermIds}
 use Rattle.register_sql.proofs.Apart.{apart_moved, no_rows}

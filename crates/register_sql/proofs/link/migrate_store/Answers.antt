@@ -1,9 +1,9 @@
-use Rattle.std.proofs.Common.{◌≡◌, true, sym, subst, IfErr, IfSome}
+use Rattle.std.proofs.Common.{◌≡◌, true, sym, subst, IfSome}
 use Rattle.sqlite.specs.Held.{state}
 use Rattle.register_store.specs.Holdings.{Comes}
 use Rattle.register_store.specs.Registers.{is_failure}
 use Rattle.register_sql.specs.Migrating.{IsNotMigrated, LeavesMoved}
-use Rattle.register_sql.specs.Stores.{in_store, IsKept}
+use Rattle.register_sql.specs.Stores.{in_store}
 use Rattle.register_sql.proofs.Holds.{Laws}
 use Rattle.register_sql.proofs.Moved.{answer_kept, ok_comes, err_comes, unmoved_comes, still_unmoved}
 use Rattle.register_sql.proofs.link.migrate_store.Goals as goal

@@ -1,12 +1,11 @@
-use Rattle.std.proofs.Common.{◌≡◌, true, ℕ, OnOk, IfOk, IfErr, All, List, reverse, length, arith, rules, subst}
-use Rattle.posting_core.specs.declared.entry.Entry.{Entry}
+use Rattle.std.proofs.Common.{◌≡◌, true, ℕ, IfOk, IfErr, All, reverse, length, arith, rules, subst}
 use Rattle.sqlite.specs.Held.{state}
 use Rattle.sqlite.specs.State.{HasCleanDisk, Survives}
 use Rattle.register_store.specs.Registers.{is_of_listing}
 use Rattle.register_store.specs.StoredRows.{Content, HasList}
 use Rattle.register_store.specs.declared.store_fault.StoreFault.TheVariants.{Damaged}
 use Rattle.register_sql.specs.Early.{IsEarlyOf, IsFirstEarlyWrong}
-use Rattle.register_sql.specs.Migrating.{IsLifted, LeavesLifted, LeavesMoved}
+use Rattle.register_sql.specs.Migrating.{IsLifted, LeavesLifted}
 use Rattle.register_sql.specs.Rows.{HasPart}
 use Rattle.register_sql.proofs.Migrations.{moved_of, moved_survives, list_left, metas_there, lines_there}
 use Rattle.register_sql.proofs.Rising.{part_same}
