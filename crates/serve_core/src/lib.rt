@@ -8,6 +8,7 @@ mod intake;
 mod item;
 mod lane;
 mod log;
+mod resting;
 mod sending;
 mod serve_fault;
 mod serving;

@@ -4,6 +4,7 @@ ghost use Rattle.std.specs.List.{AllZip};
 ghost use Rattle.serve_core.specs.Lanes.{sent_items, SameLane};
 ghost use Rattle.serve_core.specs.Sending.{Sends};
 
+use crate::resting::rest;
 use crate::{Feed, Full, Item, Lane};
 use codes_core::NoMemory;
 use std::alloc::{AllocError, Global};
@@ -20,8 +21,8 @@ pub struct Sent {
     pub(crate) whole: bool,
 }
 
-/// Waits until the item is sent.
-fn send_waiting(rt: &impl Wait, lane: &mut Lane, item: Item)
+/// Waits until the item is sent through a lane, one of so many.
+fn send_waiting(rt: &impl Wait, lanes: usize, lane: &mut Lane, item: Item)
     ensures lane { SameLane lane.old lane.new }
     ensures sent { sent_items lane.new ≡ sent_items lane.old ++ item ∷ [] }
 {
@@ -31,20 +32,26 @@ fn send_waiting(rt: &impl Wait, lane: &mut Lane, item: Item)
             Ok(()) => return,
             Err(Full(back)) => item = back,
         }
-        thread::yield_now();
+        rest(rt, lanes);
     }
     unreachable!()
 }
 
-/// Sends a feed up to its end, or up to where it finds no memory.
-fn send_all<F: Feed + Drop>(rt: &impl Wait, alloc: Global, lane: Lane, feed: F) -> Sent
+/// Sends a feed up to its end, or up to where it finds no memory, through a lane, one of so many.
+fn send_all<F: Feed + Drop>(
+    rt: &impl Wait,
+    alloc: Global,
+    lanes: usize,
+    lane: Lane,
+    feed: F,
+) -> Sent
     ensures { Sends lane (F.items feed) result }
 {
     let mut lane = lane;
     let mut feed = feed;
     for _ in rt.forever() {
         match feed.next(alloc) {
-            Ok(Some(item)) => send_waiting(rt, &mut lane, item),
+            Ok(Some(item)) => send_waiting(rt, lanes, &mut lane, item),
             Ok(None) => return Sent { lane, whole: true },
             Err(_) => return Sent { lane, whole: false },
         }
@@ -70,6 +77,7 @@ fn start<F: Feed + Drop + Send + 'static, R: Threads + Wait + Copy + Send + 'sta
     rt: &R,
     alloc: Global,
     mark: Arc<AtomicBool>,
+    lanes: usize,
     lane: Lane,
     feed: F,
 ) -> Result<PromisedHandle<Sent, SendsAll<F>>, AllocError>
@@ -86,7 +94,7 @@ fn start<F: Feed + Drop + Send + 'static, R: Threads + Wait + Copy + Send + 'sta
         move || -> Sent
             ensures { Sends lane (F.items feed) result }
         {
-            let sent = send_all(&mine, alloc, lane, feed);
+            let sent = send_all(&mine, alloc, lanes, lane, feed);
             mark.store(true, Ordering::SeqCst);
             sent
         },
@@ -113,6 +121,7 @@ pub(crate) fn start_all<F: Feed + Drop + Send + 'static, R: Threads + Wait + Cop
     ensures lanes { IfOk result (λ s. s.all ≡ true → map (λ h. h.promise.lane.value) s.children.items ≡ lanes.items) }
     ensures feeds { IfOk result (λ s. s.all ≡ true → map (λ h. h.promise.feed.value) s.children.items ≡ feeds.items) }
 {
+    let count = lanes.len();
     let mut lanes = lanes;
     let mut feeds = feeds;
     let mut children = Vec::with_capacity(alloc, lanes.len())?;
@@ -120,7 +129,7 @@ pub(crate) fn start_all<F: Feed + Drop + Send + 'static, R: Threads + Wait + Cop
     while !lanes.is_empty() && !feeds.is_empty() {
         let lane = lanes.remove(0);
         let feed = feeds.remove(0);
-        let Ok((child, mark)) = start_marked(rt, alloc, lane, feed) else {
+        let Ok((child, mark)) = start_marked(rt, alloc, count, lane, feed) else {
             return Ok(Started {
                 children,
                 marks,
@@ -141,6 +150,7 @@ pub(crate) fn start_all<F: Feed + Drop + Send + 'static, R: Threads + Wait + Cop
 fn start_marked<F: Feed + Drop + Send + 'static, R: Threads + Wait + Copy + Send + 'static>(
     rt: &R,
     alloc: Global,
+    lanes: usize,
     lane: Lane,
     feed: F,
 ) -> Result<(PromisedHandle<Sent, SendsAll<F>>, Arc<AtomicBool>), AllocError>
@@ -148,7 +158,7 @@ fn start_marked<F: Feed + Drop + Send + 'static, R: Threads + Wait + Copy + Send
 {
     let mark = Arc::new(alloc, AtomicBool::new(false))?;
     let theirs = Arc::try_clone(&mark)?;
-    let child = start(rt, alloc, theirs, lane, feed)?;
+    let child = start(rt, alloc, theirs, lanes, lane, feed)?;
     Ok((child, mark))
 }
 

@@ -5,6 +5,7 @@ ghost use Rattle.serve_core.specs.declared.item.LogLine.{LogLine};
 ghost use Rattle.serve_core.specs.Logs.{Serves};
 ghost use Rattle.serve_core.specs.Lanes.{Takes, TakesSome};
 
+use crate::resting::rest;
 use crate::sending::Started;
 use crate::{Feed, Intake, Log};
 use hub_core::{Hub, HubFault};
@@ -12,7 +13,6 @@ use register_store::Register;
 use std::alloc::Global;
 use std::sync::atomic::{AtomicBool, Ordering};
 use std::sync::{Arc, Wait};
-use std::thread;
 use std::thread::Threads;
 
 /// Whether all marks are set.
@@ -25,10 +25,10 @@ fn all_ended(marks: &[Arc<AtomicBool>]) -> bool {
     true
 }
 
-/// Lets other threads run where nothing was taken.
-fn rest_if_none(taken: u32) {
+/// Leaves the processor to other threads where nothing was taken.
+fn rest_if_none(rt: &impl Wait, taken: u32) {
     if taken == 0 {
-        thread::yield_now();
+        rest(rt, 1);
     }
 }
 
@@ -51,7 +51,7 @@ pub(crate) fn turn_until<R: Register>(
             return Ok(());
         }
         let taken = intake.turn(alloc, hub, log)?;
-        rest_if_none(taken);
+        rest_if_none(rt, taken);
     }
     unreachable!()
 }
@@ -65,7 +65,7 @@ pub(crate) fn drop_until(rt: &impl Wait, intake: &mut Intake, marks: &[Arc<Atomi
             return;
         }
         let taken = intake.drop_items();
-        rest_if_none(taken);
+        rest_if_none(rt, taken);
     }
     unreachable!()
 }
