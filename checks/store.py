@@ -1,8 +1,9 @@
 #!/usr/bin/env python3
 """What the program does with a store on a disk, beside a stock SQLite (Python's sqlite3) that reads and changes it.
 
-Usage: store.py PROGRAM [KILLS]. Each check prints its name and ok or FAILED; the last line is 'N passed, M failed'. KILLS is
-how often the program is killed at a random moment (100 where it isn't said)."""
+Usage: store.py PROGRAM [KILLS [CHECK..]]. Each check prints its name and ok or FAILED; the last line is 'N passed, M failed'.
+KILLS is how often the program is killed at a random moment (100 where it isn't said). Beside the gate:
+`checks/store.py bin/pairsalder 1000 killed`."""
 import ctypes
 import os
 import random
@@ -279,6 +280,7 @@ def main():
     program, kills = sys.argv[1], int(sys.argv[2]) if len(sys.argv) > 2 else 100
     checks = [tables, damaged_cells, wrong_term, depth_kept, foreign_hand, no_database, not_to_be_written]
     checks += [full_disk, together, many_counted, killed]
+    checks = [check for check in checks if check.__name__ in sys.argv[3:] or not sys.argv[3:]]
     passed = 0
     base = "/dev/shm" if os.path.isdir("/dev/shm") else None
     for check in checks:

@@ -3,18 +3,21 @@
 use crate::explain::explain;
 use crate::fault::CommandFault;
 use crate::files::{read_list, read_setup};
+use crate::migration::migrate_file;
+use crate::serving::serve_files;
 use crate::work::{Work, over_store};
 use codes_core::{Day, LoanCode, PlaceCode, ThingCode};
 use command_words::words::chosen;
 use command_words::{Chosen, WordsFault};
 use hub_core::run;
 use std::io::{BufRead, Write};
+use std::sync::Wait;
 use std::thread::Threads;
 
 /// Does what the words after the program's name say, or, where there are none, takes a setup and lines from the input
 /// and writes the replies to the output. Answers the exit status: 0 where it is done, or help was asked for; 1 after a
 /// fault, whose line goes to the errors; 2 where the words aren't right.
-pub fn command<T: Threads + Sync, R: BufRead, W: Write, E: Write>(
+pub fn command<T: Threads + Wait + Sync + Copy + Send + 'static, R: BufRead, W: Write, E: Write>(
     rt: &HostRuntime,
     threads: &T,
     words: &[&str],
@@ -67,7 +70,7 @@ fn refuse<W: Write, E: Write>(fault: &WordsFault, output: &mut W, errors: &mut E
 
 /// Does the command. Faults are found in this order: a day, a code or a number among the words; the setup; the count
 /// list; the store and its opening; the command's own.
-fn perform<T: Threads + Sync, R: BufRead, W: Write>(
+fn perform<T: Threads + Wait + Sync + Copy + Send + 'static, R: BufRead, W: Write>(
     rt: &HostRuntime,
     threads: &T,
     chosen: &Chosen<'_>,
@@ -79,7 +82,12 @@ fn perform<T: Threads + Sync, R: BufRead, W: Write>(
             rt, threads, setup, store, list, input, output,
         ),
         Chosen::Explain { name } => explain(name, output),
-        Chosen::Serve { .. } | Chosen::Migrate { .. } => Err(CommandFault::Words),
+        Chosen::Serve {
+            setup,
+            store,
+            feeds,
+        } => serve_files(rt, threads, setup, *store, feeds.as_slice(), output),
+        Chosen::Migrate { setup, store } => migrate_file(rt, setup, store, output),
         _ => {
             let asked = question(chosen)?;
             let setup = read_setup(rt, rt.alloc(), asked.setup)?;

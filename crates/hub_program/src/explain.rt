@@ -64,7 +64,11 @@ const MEANINGS: &[Meaning] = &[
         "a container is listed, is received, or exits under a loan in",
         "Name the objects one by one",
     ),
-    ("Repeated", "an object is listed twice", "List it once"),
+    (
+        "Repeated",
+        "an agreement lists an object twice, or a setup a thing, a place or a station",
+        "List it once",
+    ),
     (
         "WrongOwner",
         "a loan out lists a borrowed object, or a loan in an own one",
@@ -147,7 +151,7 @@ const MEANINGS: &[Meaning] = &[
     ),
     (
         "BadNumber",
-        "the number is 0, or above 999999, or has a 0 before it",
+        "a station's number or one in a code is 0, or above 999999, or has a 0 before it",
         "Correct the number",
     ),
     (
@@ -223,5 +227,70 @@ const MEANINGS: &[Meaning] = &[
         "Damaged",
         "the store isn't what a record leaves: at the posting of this number, or, with 0, elsewhere",
         "Keep the file, and go on from its last copy",
+    ),
+    (
+        "Empty",
+        "the text of a code or a day has no character",
+        "Write the code or the day",
+    ),
+    (
+        "BadShape",
+        "the text isn't of the form of such a code, or of a day",
+        "Write it as help shows it: 2001.4.1, C17, LO2024.1, S1-A, 2024-06-01",
+    ),
+    (
+        "NoSuchDay",
+        "the calendar has no such day, or it is before the year 1",
+        "Correct the day",
+    ),
+    (
+        "memory",
+        "the program was refused memory",
+        "End other programs, and start this one again: what was answered is on record",
+    ),
+    (
+        "read",
+        "standard input could not be read",
+        "Send what is unanswered once more: what was answered is on record",
+    ),
+    (
+        "write",
+        "standard output could not be written",
+        "Send the last lines once more: what was posted is on record, and is told as Double",
+    ),
+    (
+        "file",
+        "a file that the command names can't be read",
+        "Correct its name, or see who may read it",
+    ),
+    (
+        "head",
+        "the setup before the lines is longer than 8388608 bytes",
+        "Put an empty line after the setup",
+    ),
+    (
+        "number",
+        "the text after --from is no number of an entry",
+        "Write the number alone, as 100",
+    ),
+    (
+        "name",
+        "no reply and no fault line has this word",
+        "Write the word as it was printed, capitals too",
+    ),
+    (
+        "feeds",
+        "there are more or fewer files of lines than the setup has stations",
+        "Name one file for each station, in the order of the setup",
+    ),
+    (
+        "unfinished",
+        "the lane of the station that is named gave no end, which should never happen",
+        "Send what is unanswered once more: what was answered is on record",
+    ),
+    (
+        "words",
+        "there is no command, or not all that it needs",
+        "Ask pairsalder help, or pairsalder help and the command",
     ),
 ];

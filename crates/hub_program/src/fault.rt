@@ -10,7 +10,7 @@ use std::io;
 use std::io::Write;
 
 /// Why a command stopped.
-#[derive(Clone, Copy, PartialEq, Eq)]
+#[derive(Drop)]
 pub enum CommandFault {
     /// A growth was refused.
     NoMemory,
@@ -36,6 +36,10 @@ pub enum CommandFault {
     Number,
     /// Nothing has this name.
     Name,
+    /// The lane of the station of this name gave no end.
+    Unfinished(String),
+    /// There are more or fewer feeds than stations.
+    Feeds,
     /// There is no command, or not all that it needs.
     Words,
 }
@@ -111,19 +115,20 @@ impl From<RunFault> for CommandFault {
 
 impl CommandFault {
     /// The exit status: 2 where the words aren't right, else 1.
-    pub fn status(self) -> u8 {
+    pub fn status(&self) -> u8 {
         match self {
             CommandFault::Day(_)
             | CommandFault::Code(_)
             | CommandFault::Number
             | CommandFault::Name
+            | CommandFault::Feeds
             | CommandFault::Words => 2,
             _ => 1,
         }
     }
 
     /// Writes the fault's line.
-    pub fn write<W: Write>(self, errors: &mut W) -> io::Result<()> {
+    pub fn write<W: Write>(&self, errors: &mut W) -> io::Result<()> {
         match self {
             CommandFault::NoMemory => writeln!(errors, "fault memory"),
             CommandFault::ReadFailed => writeln!(errors, "fault read"),
@@ -132,11 +137,13 @@ impl CommandFault {
             CommandFault::HeadTooLong => writeln!(errors, "fault head"),
             CommandFault::Setup(fault) => write_row(errors, "setup", fault.name(), fault.row()),
             CommandFault::Counts(fault) => write_row(errors, "counts", fault.name(), fault.row()),
-            CommandFault::Store(fault) => write_store(errors, fault),
-            CommandFault::Day(fault) => write_code(errors, "day", fault),
-            CommandFault::Code(fault) => write_code(errors, "code", fault),
+            CommandFault::Store(fault) => write_store(errors, *fault),
+            CommandFault::Day(fault) => write_code(errors, "day", *fault),
+            CommandFault::Code(fault) => write_code(errors, "code", *fault),
             CommandFault::Number => writeln!(errors, "fault number"),
             CommandFault::Name => writeln!(errors, "fault name"),
+            CommandFault::Unfinished(station) => writeln!(errors, "fault unfinished {station}"),
+            CommandFault::Feeds => writeln!(errors, "fault feeds"),
             CommandFault::Words => writeln!(errors, "fault words"),
         }
     }

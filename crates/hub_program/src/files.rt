@@ -24,7 +24,7 @@ pub fn read_list(
 }
 
 /// The bytes of a file.
-fn read_file(rt: &HostRuntime, path: &str) -> Result<Vec<u8>, CommandFault> {
+pub fn read_file(rt: &HostRuntime, path: &str) -> Result<Vec<u8>, CommandFault> {
     match fs::read(rt, path) {
         Ok(bytes) => Ok(bytes),
         Err(error) if error.kind() == ErrorKind::OutOfMemory => Err(CommandFault::NoMemory),

@@ -6,16 +6,20 @@ mod explain;
 mod fault;
 mod files;
 mod lines;
+mod log_lines;
+mod migration;
 mod questions;
 mod reports;
+mod serving;
 #[cfg(test)]
 mod tests;
 mod work;
 
 use crate::command::command;
 use crate::fault::CommandFault;
-use std::io::{BufReader, BufWriter};
+use std::io::{BufReader, BufWriter, ErrorKind};
 use std::process::ExitCode;
+use std::sync::Wait;
 use std::thread::Threads;
 use std::{env, io};
 
@@ -29,8 +33,16 @@ fn main(rt: HostRuntime) -> ExitCode {
     }
 }
 
+/// Why the words can't be had: there is no memory for them, or one isn't UTF-8.
+fn fault_of_words(error: io::Error) -> CommandFault {
+    match error.kind() {
+        ErrorKind::OutOfMemory => CommandFault::NoMemory,
+        _ => CommandFault::Words,
+    }
+}
+
 /// Does the command between standard input and standard output.
-fn on_standard_streams<T: Threads + Sync>(
+fn on_standard_streams<T: Threads + Wait + Sync + Copy + Send + 'static>(
     rt: &HostRuntime,
     threads: &T,
 ) -> Result<u8, CommandFault> {
@@ -38,7 +50,7 @@ fn on_standard_streams<T: Threads + Sync>(
     let mut output = BufWriter::new(rt.alloc(), io::writer(rt)).map_err(
         |_| CommandFault::NoMemory,
     )?;
-    let given = env::args(rt).map_err(|_| CommandFault::Words)?;
+    let given = env::args(rt).map_err(fault_of_words)?;
     let mut texts = Vec::new(rt.alloc());
     for text in given.skip(1) {
         texts.push(text)?;

@@ -1,0 +1,144 @@
+//! Lanes without threads.
+ghost use Rattle.std.specs.Prelude.{◌≡◌, ◌∷◌, [], IfOk};
+ghost use Rattle.std.specs.List.{AllZip};
+ghost use Rattle.serve_core.specs.Lanes.{SameLane, IsFresh, IsEndOf, IsEndOn};
+
+use super::hub::opened;
+use codes_core::ThingCode;
+use hub_core::Hub;
+use register_store::PlainRegister;
+use serve_core::{Intake, Item, Lane, LaneEnd, Log, lanes};
+use std::alloc::Global;
+use std::process::Abort;
+use std::test::Fail;
+
+/// A question.
+fn question() -> Result<Item, Fail> {
+    Ok(Item::Ask(ThingCode::parse(b"2001.4.1")?))
+}
+
+/// Sends so many questions through a lane; tells how many came back.
+fn send(lane: &mut Lane, count: u32) -> Result<u32, Fail>
+    ensures { SameLane lane.old lane.new }
+{
+    let mut back = 0u32;
+    for _ in 0..count {
+        let sent = lane.send(question()?);
+        if sent.is_err() {
+            back = back.saturating_add(1);
+        }
+    }
+    Ok(back)
+}
+
+/// One lane, and its intake.
+fn one_lane(alloc: Global) -> Result<(Lane, Intake), Fail>
+    ensures { IfOk result (λ r. AllZip IsFresh (r.0 ∷ []) r.1) }
+{
+    let (mut lanes, intake) = lanes(alloc, 1)?;
+    let Some(lane) = lanes.pop() else {
+        return Err(Fail::new("no lane"));
+    };
+    Ok((lane, intake))
+}
+
+/// The end of a lane.
+fn end(alloc: Global, lane: Lane) -> Result<Vec<LaneEnd>, Fail>
+    ensures { IfOk result (λ ends. AllZip IsEndOf (lane ∷ []) ends.items) }
+{
+    let Some(end) = lane.finish() else {
+        return Err(Fail::new("no end"));
+    };
+    let mut ends = Vec::new(alloc);
+    ends.push(end)?;
+    Ok(ends)
+}
+
+/// The ends of a lane through which so many questions were sent, with its intake; of the questions one comes back.
+fn filled(rt: &impl Abort, alloc: Global) -> Result<(Vec<LaneEnd>, Intake), Fail>
+    ensures { IfOk result (λ r. AllZip IsEndOn r.0.items r.1) }
+{
+    let (mut lane, intake) = one_lane(alloc)?;
+    let back = send(&mut lane, 257)?;
+    assert!(rt; back == 1);
+    let ends = end(alloc, lane)?;
+    Ok((ends, intake))
+}
+
+/// The log of all that is in a lane, and how many lines it has.
+fn finished(
+    alloc: Global,
+    hub: &mut Hub<PlainRegister>,
+    ends: Vec<LaneEnd>,
+    intake: Intake,
+) -> Result<usize, Fail>
+    requires { AllZip IsEndOn ends.items intake }
+{
+    let mut log = Log::new(alloc);
+    intake.finish(alloc, hub, &mut log, ends)?;
+    Ok(log.lines().len())
+}
+
+#[test]
+fn full_lane(rt: HostRuntime) -> Result<(), Fail> {
+    let (ends, intake) = filled(&rt, rt.alloc())?;
+    let mut hub = opened(rt.alloc())?;
+    let lines = finished(rt.alloc(), &mut hub, ends, intake);
+    drop(hub);
+    assert_eq!(rt; lines?, 256);
+    Ok(())
+}
+
+/// What a turn over no lanes takes, and the lines of a finish of them.
+fn nothing(alloc: Global, hub: &mut Hub<PlainRegister>) -> Result<(usize, u32, usize), Fail> {
+    let (lanes, mut intake) = lanes(alloc, 0)?;
+    let mut log = Log::new(alloc);
+    let taken = intake.turn(alloc, hub, &mut log)?;
+    intake.finish(alloc, hub, &mut log, Vec::new(alloc))?;
+    Ok((lanes.len(), taken, log.lines().len()))
+}
+
+#[test]
+fn no_lanes(rt: HostRuntime) -> Result<(), Fail> {
+    let mut hub = opened(rt.alloc())?;
+    let told = nothing(rt.alloc(), &mut hub);
+    drop(hub);
+    assert!(rt; told? == (0, 0, 0));
+    Ok(())
+}
+
+/// Takes three turns where the second of two lanes was sent two questions, and the first one.
+fn three_turns(
+    alloc: Global,
+    hub: &mut Hub<PlainRegister>,
+    log: &mut Log,
+) -> Result<(u32, u32, u32), Fail> {
+    let (mut lanes, mut intake) = lanes(alloc, 2)?;
+    if lanes.len() == 2 {
+        let _ = send(&mut lanes[0], 1)?;
+        let _ = send(&mut lanes[1], 2)?;
+    }
+    let first = intake.turn(alloc, hub, log)?;
+    let second = intake.turn(alloc, hub, log)?;
+    let third = intake.turn(alloc, hub, log)?;
+    Ok((first, second, third))
+}
+
+/// Whether the lines of a log are of these stations.
+fn are_of(log: &Log, stations: &[u32]) -> bool {
+    log.lines()
+        .iter()
+        .map(|line| line.station)
+        .eq(stations.iter().copied())
+}
+
+#[test]
+fn one_item_a_turn(rt: HostRuntime) -> Result<(), Fail> {
+    let mut hub = opened(rt.alloc())?;
+    let mut log = Log::new(rt.alloc());
+    let told = three_turns(rt.alloc(), &mut hub, &mut log);
+    drop(hub);
+    assert!(rt; told? == (2, 1, 0));
+    assert!(rt; are_of(&log, &[0, 1, 1]));
+    Ok(())
+}

@@ -1,0 +1,378 @@
+//! Feeds served all at once. What the command prints of files stands in `cases/`.
+ghost use Rattle.std.specs.Prelude.{◌≡◌, false, length, vec_len};
+
+use super::{SMALL, TO_S1, museum, setup_of};
+use crate::serving::served;
+use codes_core::{NoMemory, ThingCode};
+use hub_core::Hub;
+use nest_core::Setup;
+use posting_core::{Changes, Entry, Ledger};
+use register_store::{PlainRegister, Register, StoreFault, read_message};
+use serve_core::{Feed, Item, ListFeed, TextFeed};
+use std::alloc::Global;
+use std::process::Abort;
+use std::sync::atomic::{AtomicBool, Ordering};
+use std::sync::{Arc, Wait};
+use std::test::Fail;
+use std::thread::Threads;
+
+const TURNS: u32 = 1_000_000_000;
+
+/// A feed that, when it is asked the second time, sets one flag and waits for another.
+#[derive(Drop)]
+struct Waiting {
+    feed: ListFeed,
+    asked: u32,
+    sets: Arc<AtomicBool>,
+    waits_for: Arc<AtomicBool>,
+    missed: Arc<AtomicBool>,
+}
+
+impl Waiting {
+    fn wait(&self) {
+        self.sets.store(true, Ordering::SeqCst);
+        for _ in 0..TURNS {
+            if self.waits_for.load(Ordering::SeqCst) {
+                return;
+            }
+        }
+        self.missed.store(true, Ordering::SeqCst);
+    }
+}
+
+impl Feed for Waiting {
+    ghost items = { λ f. f.feed };
+
+    fn next(&mut self, alloc: Global) -> Result<Option<Item>, NoMemory> {
+        self.asked = self.asked.saturating_add(1);
+        if self.asked == 2 {
+            self.wait();
+        }
+        self.feed.next(alloc)
+    }
+}
+
+/// A message under number 1, and then a question.
+pub fn told_and_asked(alloc: Global, message: &str, code: &str) -> Result<ListFeed, Fail> {
+    let mut items = Vec::new(alloc);
+    items.push(Item::Scan {
+        n: 1,
+        message: read_message(alloc, message.as_bytes())?,
+    })?;
+    items.push(Item::Ask(ThingCode::parse(code.as_bytes())?))?;
+    Ok(ListFeed::new(items))
+}
+
+fn flag(alloc: Global) -> Result<Arc<AtomicBool>, Fail> {
+    Ok(Arc::new(alloc, AtomicBool::new(false))?)
+}
+
+/// That a hub can serve these feeds.
+pub fn can_serve<R: Register, F: Feed>(rt: &impl Abort, hub: &Hub<R>, feeds: &Vec<F>)
+    ensures up { hub.now.down ≡ false }
+    ensures feeds { vec_len feeds.now ≡ length hub.now.book.museum.stations }
+{
+    assert!(rt; !hub.is_down());
+    assert!(rt; feeds.len() == hub.ledger().setup().stations() as usize);
+}
+
+/// What is printed of a serving, where it met no fault.
+fn printed<
+    T: Threads + Wait + Abort + Copy + Send + 'static,
+    R: Register + Drop,
+    F: Feed + Drop + Send + 'static,
+>(rt: &T, alloc: Global, setup: Setup, register: R, feeds: Vec<F>) -> Result<String, Fail> {
+    match Hub::open(alloc, setup, register) {
+        Ok(hub) => served_text(rt, alloc, hub, feeds),
+        Err(_) => Err(Fail::new("not opened")),
+    }
+}
+
+fn served_text<
+    T: Threads + Wait + Abort + Copy + Send + 'static,
+    R: Register + Drop,
+    F: Feed + Drop + Send + 'static,
+>(rt: &T, alloc: Global, hub: Hub<R>, feeds: Vec<F>) -> Result<String, Fail> {
+    can_serve(rt, &hub, &feeds);
+    let mut output = Vec::new(alloc);
+    let (register, ended) = served(alloc, rt, hub, feeds, &mut output);
+    drop(register);
+    match ended {
+        Ok(()) => Ok(String::from_utf8(output)?),
+        Err(_) => Err(Fail::new("a fault")),
+    }
+}
+
+/// The lines of a text that begin so.
+fn cut(alloc: Global, text: &str, station: &str) -> Result<String, Fail> {
+    let mut kept = String::new(alloc);
+    for line in text.lines() {
+        if line.starts_with(station) {
+            kept.push_str(line)?;
+            kept.push_str("\n")?;
+        }
+    }
+    Ok(kept)
+}
+
+/// Whether a text, cut to PACK and to GAL, is this.
+fn is_cut(alloc: Global, text: &str, pack: &str, gal: &str) -> Result<bool, Fail> {
+    Ok(
+        cut(alloc, text, "PACK ")?.as_str() == pack
+            && cut(alloc, text, "GAL ")?.as_str() == gal
+            && text.len() == pack.len().saturating_add(gal.len()),
+    )
+}
+
+const TO_S2: &str = r#"{"kind":"move","thing":"2001.4.2","place":"S2","day":"2024-05-01"}"#;
+
+const PACK_FIRST: &str = "PACK 1 posted 1 Applied\nPACK ask 2001.4.1 at S1\n";
+
+const PACK_SECOND: &str = "PACK 1 posted 2 Applied\nPACK ask 2001.4.1 at S1\n";
+
+const GAL_FIRST: &str = "GAL 1 posted 1 Applied\nGAL ask 2001.4.2 at S2\n";
+
+const GAL_SECOND: &str = "GAL 1 posted 2 Applied\nGAL ask 2001.4.2 at S2\n";
+
+/// Two feeds, each of which goes on when the other one has been asked twice.
+fn meeting(alloc: Global, missed: &Arc<AtomicBool>) -> Result<Vec<Waiting>, Fail> {
+    let pack = flag(alloc)?;
+    let gal = flag(alloc)?;
+    let mut feeds = Vec::new(alloc);
+    feeds.push(Waiting {
+        feed: told_and_asked(alloc, TO_S1, "2001.4.1")?,
+        asked: 0,
+        sets: Arc::try_clone(&pack)?,
+        waits_for: Arc::try_clone(&gal)?,
+        missed: Arc::try_clone(missed)?,
+    })?;
+    feeds.push(Waiting {
+        feed: told_and_asked(alloc, TO_S2, "2001.4.2")?,
+        asked: 0,
+        sets: gal,
+        waits_for: pack,
+        missed: Arc::try_clone(missed)?,
+    })?;
+    Ok(feeds)
+}
+
+#[test]
+fn two_feeds_at_once(rt: HostRuntime) -> Result<(), Fail> {
+    let alloc = rt.alloc();
+    let missed = flag(alloc)?;
+    let feeds = meeting(alloc, &missed)?;
+    let text = printed(&rt, alloc, museum(alloc)?, PlainRegister::new(alloc), feeds)?;
+    let first = is_cut(alloc, text.as_str(), PACK_FIRST, GAL_SECOND)?;
+    let second = is_cut(alloc, text.as_str(), PACK_SECOND, GAL_FIRST)?;
+    assert!(rt; first || second);
+    assert!(rt; !missed.load(Ordering::SeqCst));
+    Ok(())
+}
+
+/// A register in memory that sets a flag when it has posted.
+#[derive(Drop)]
+struct Telling {
+    kept: PlainRegister,
+    posted: Arc<AtomicBool>,
+}
+
+impl Register for Telling {
+    ghost use Rattle.std.specs.Prelude.{false};
+    ghost use Rattle.register_store.specs.Plain.{in_memory};
+
+    ghost holding = { λ r. in_memory r.kept };
+
+    ghost is_bound = { λ r. r.kept.bound };
+
+    ghost stations = { λ r. r.kept.stations };
+
+    ghost refusals = { λ r. 0 };
+
+    ghost can_refuse = { false };
+
+    fn bind(&mut self, alloc: Global, setup: &Setup) -> Result<u32, StoreFault> {
+        self.kept.bind(alloc, setup)
+    }
+
+    fn all(&mut self, alloc: Global) -> Result<Vec<Entry>, StoreFault> {
+        self.kept.all(alloc)
+    }
+
+    fn post(&mut self, alloc: Global, entry: &Entry, changes: &Changes) -> Result<(), StoreFault> {
+        let ended = self.kept.post(alloc, entry, changes);
+        self.posted.store(true, Ordering::SeqCst);
+        ended
+    }
+
+    fn agrees(&mut self, alloc: Global, ledger: &Ledger) -> Result<bool, StoreFault> {
+        self.kept.agrees(alloc, ledger)
+    }
+}
+
+/// A feed that goes on when a register has posted.
+fn patient(
+    alloc: Global,
+    posted: &Arc<AtomicBool>,
+    missed: &Arc<AtomicBool>,
+) -> Result<Vec<Waiting>, Fail> {
+    let mut feeds = Vec::new(alloc);
+    feeds.push(Waiting {
+        feed: told_and_asked(alloc, TO_S1, "2001.4.1")?,
+        asked: 0,
+        sets: flag(alloc)?,
+        waits_for: Arc::try_clone(posted)?,
+        missed: Arc::try_clone(missed)?,
+    })?;
+    Ok(feeds)
+}
+
+/// The hub is asked while a feed still has items.
+#[test]
+fn asked_while_feeds_run(rt: HostRuntime) -> Result<(), Fail> {
+    let alloc = rt.alloc();
+    let missed = flag(alloc)?;
+    let posted = flag(alloc)?;
+    let feeds = patient(alloc, &posted, &missed)?;
+    let setup = setup_of(alloc, SMALL)?;
+    let register = Telling {
+        kept: PlainRegister::new(alloc),
+        posted,
+    };
+    let text = printed(&rt, alloc, setup, register, feeds)?;
+    let right = text.as_str() == "GAL 1 posted 1 Applied\nGAL ask 2001.4.1 at S1\n";
+    assert!(rt; right);
+    assert!(rt; !missed.load(Ordering::SeqCst));
+    Ok(())
+}
+
+/// What is printed of feeds of these texts, one for each station of the setup.
+fn printed_of<T: Threads + Wait + Abort + Copy + Send + 'static>(
+    rt: &T,
+    alloc: Global,
+    setup: &str,
+    texts: &[&str],
+) -> Result<String, Fail> {
+    let mut feeds = Vec::new(alloc);
+    for text in texts {
+        feeds.push(TextFeed::new(Vec::from_slice(alloc, text.as_bytes())?))?;
+    }
+    let setup = setup_of(alloc, setup)?;
+    printed(rt, alloc, setup, PlainRegister::new(alloc), feeds)
+}
+
+/// A feed text of one station, and what is printed of it.
+const FEEDS: &[(&str, &str)] = &[
+    ("", ""),
+    (
+        "{\"n\":1,\"message\":{\"kind\":\"move\",\"thing\":\"2001.4.1\",\"place\":\"S1\",\"day\":\"2024-05-01\"}}\r\n{\"ask\":\"2001.4.1\"}",
+        "GAL 1 posted 1 Applied\nGAL ask 2001.4.1 at S1\n",
+    ),
+    (
+        "x\n\n{\"station\":1,\"n\":1,\"message\":{\"kind\":\"move\",\"thing\":\"2001.4.1\",\"place\":\"S1\",\"day\":\"2024-05-01\"}}\n",
+        "GAL line 1 bad NotJson\nGAL 1 posted 1 Applied\n",
+    ),
+    (
+        "\n\r\n[]\n{}\r\n{\"n\":2}\n{\"ask\":1}",
+        "GAL line 3 bad NotJson\nGAL line 4 bad Missing n\nGAL line 5 bad Missing message\nGAL line 6 bad BadField ask\n",
+    ),
+];
+
+#[test]
+fn one_feed(rt: HostRuntime) -> Result<(), Fail> {
+    for (text, want) in FEEDS {
+        let told = printed_of(&rt, rt.alloc(), SMALL, &[text])?;
+        assert_eq!(rt; told.as_str(), *want);
+    }
+    Ok(())
+}
+
+/// Lines of so many bytes of `x`, and what is printed of one.
+const LONGEST: &[(usize, &str)] = &[
+    (16_384, "GAL line 1 bad NotJson\n"),
+    (16_385, "GAL line 1 bad TooLong\n"),
+];
+
+#[test]
+fn bad_feed_line(rt: HostRuntime) -> Result<(), Fail> {
+    for (length, want) in LONGEST {
+        let line = "x".repeat(rt.alloc(), *length)?;
+        let told = printed_of(&rt, rt.alloc(), SMALL, &[line.as_str()])?;
+        assert_eq!(rt; told.as_str(), *want);
+    }
+    Ok(())
+}
+
+/// Questions of things 2000.1 to 2000.count.
+fn questions(alloc: Global, count: u32) -> Result<String, Fail> {
+    let mut text = String::new(alloc);
+    for k in 1..count.saturating_add(1) {
+        text.push_str("{\"ask\":\"2000.")?;
+        text.push_str(format!(in alloc; "{k}")?.as_str())?;
+        text.push_str("\"}\n")?;
+    }
+    Ok(text)
+}
+
+/// What is printed of them, where the setup has none of these.
+fn unknown(alloc: Global, station: &str, count: u32) -> Result<String, Fail> {
+    let mut text = String::new(alloc);
+    for k in 1..count.saturating_add(1) {
+        text.push_str(format!(in alloc; "{station} ask 2000.{k} unknown\n")?.as_str())?;
+    }
+    Ok(text)
+}
+
+/// So many stations.
+fn stations(alloc: Global, count: u32) -> Result<String, Fail> {
+    let mut text = String::new(alloc);
+    for k in 1..count.saturating_add(1) {
+        text.push_str(format!(in alloc; "station,{k}\n")?.as_str())?;
+    }
+    Ok(text)
+}
+
+/// Whether each of so many stations has its so many questions in a log, in their order, and the log nothing else.
+fn has_each_whole(alloc: Global, log: &str, feeds: u32, each: u32) -> Result<bool, Fail> {
+    let mut left = log.len();
+    for k in 1..feeds.saturating_add(1) {
+        let station = format!(in alloc; "{k}")?;
+        let begin = format!(in alloc; "{k} ")?;
+        let want = unknown(alloc, station.as_str(), each)?;
+        if cut(alloc, log, begin.as_str())?.as_str() != want.as_str() {
+            return Ok(false);
+        }
+        left = left.saturating_sub(want.len());
+    }
+    Ok(left == 0)
+}
+
+/// Whether so many stations that ask so many questions each come whole.
+fn come_whole<T: Threads + Wait + Abort + Copy + Send + 'static>(
+    rt: &T,
+    alloc: Global,
+    feeds: u32,
+    each: u32,
+) -> Result<bool, Fail> {
+    let text = questions(alloc, each)?;
+    let mut texts = Vec::new(alloc);
+    for _ in 0..feeds {
+        texts.push(text.as_str())?;
+    }
+    let setup = stations(alloc, feeds)?;
+    let log = printed_of(rt, alloc, setup.as_str(), texts.as_slice())?;
+    has_each_whole(alloc, log.as_str(), feeds, each)
+}
+
+#[test]
+fn sixty_four_stations(rt: HostRuntime) -> Result<(), Fail> {
+    let whole = come_whole(&rt, rt.alloc(), 64, 10)?;
+    assert!(rt; whole);
+    Ok(())
+}
+
+#[test]
+fn two_thousand_items(rt: HostRuntime) -> Result<(), Fail> {
+    let whole = come_whole(&rt, rt.alloc(), 2, 1_000)?;
+    assert!(rt; whole);
+    Ok(())
+}

@@ -1,0 +1,169 @@
+//! Servings that stop: a register that refuses, and feeds that find no memory.
+ghost use Rattle.std.specs.Prelude.{◌≡◌, IfOk};
+
+use super::serving::{can_serve, told_and_asked};
+use super::{SMALL, TO_S1, setup_of};
+use crate::fault::CommandFault;
+use crate::serving::served;
+use codes_core::NoMemory;
+use hub_core::Hub;
+use nest_core::Setup;
+use posting_core::{Changes, Entry, Ledger};
+use register_store::{PlainRegister, Register, StoreFault};
+use serve_core::{Feed, Item, ListFeed};
+use std::alloc::Global;
+use std::process::Abort;
+use std::sync::Wait;
+use std::test::Fail;
+use std::thread::Threads;
+
+/// A register in memory that posts so many entries, and refuses the others.
+#[derive(Drop)]
+struct Refusing {
+    kept: PlainRegister,
+    posts: u32,
+    refused: u64,
+}
+
+impl Register for Refusing {
+    ghost use Rattle.std.specs.Prelude.{true};
+    ghost use Rattle.register_store.specs.Plain.{in_memory};
+
+    ghost holding = { λ r. in_memory r.kept };
+
+    ghost is_bound = { λ r. r.kept.bound };
+
+    ghost stations = { λ r. r.kept.stations };
+
+    ghost refusals = { λ r. r.refused };
+
+    ghost can_refuse = { true };
+
+    fn bind(&mut self, alloc: Global, setup: &Setup) -> Result<u32, StoreFault> {
+        self.kept.bind(alloc, setup)
+    }
+
+    fn all(&mut self, alloc: Global) -> Result<Vec<Entry>, StoreFault> {
+        self.kept.all(alloc)
+    }
+
+    fn post(&mut self, alloc: Global, entry: &Entry, changes: &Changes) -> Result<(), StoreFault> {
+        if self.posts == 0 {
+            self.refused = self.refused.saturating_add(1);
+            return Err(StoreFault::Store);
+        }
+        self.posts -= 1;
+        self.kept.post(alloc, entry, changes)
+    }
+
+    fn agrees(&mut self, alloc: Global, ledger: &Ledger) -> Result<bool, StoreFault> {
+        self.kept.agrees(alloc, ledger)
+    }
+}
+
+/// A feed that finds no memory when so many items were taken.
+#[derive(Drop)]
+struct Poor {
+    feed: ListFeed,
+    left: u32,
+}
+
+impl Feed for Poor {
+    ghost items = { λ f. f.feed };
+
+    fn next(&mut self, alloc: Global) -> Result<Option<Item>, NoMemory> {
+        if self.left == 0 {
+            return Err(NoMemory);
+        }
+        self.left -= 1;
+        self.feed.next(alloc)
+    }
+}
+
+/// What is printed of a serving, and why it stopped.
+fn stopped<
+    T: Threads + Wait + Abort + Copy + Send + 'static,
+    R: Register + Drop,
+    F: Feed + Drop + Send + 'static,
+>(
+    rt: &T,
+    alloc: Global,
+    hub: Hub<R>,
+    feeds: Vec<F>,
+) -> Result<(String, Option<CommandFault>), Fail> {
+    can_serve(rt, &hub, &feeds);
+    let mut output = Vec::new(alloc);
+    let (register, ended) = served(alloc, rt, hub, feeds, &mut output);
+    drop(register);
+    Ok((String::from_utf8(output)?, ended.err()))
+}
+
+/// The same of a register, opened with the small setup.
+fn stopped_over<
+    T: Threads + Wait + Abort + Copy + Send + 'static,
+    R: Register + Drop,
+    F: Feed + Drop + Send + 'static,
+>(
+    rt: &T,
+    alloc: Global,
+    register: R,
+    feeds: Vec<F>,
+) -> Result<(String, Option<CommandFault>), Fail> {
+    let setup = setup_of(alloc, SMALL)?;
+    match Hub::open(alloc, setup, register) {
+        Ok(hub) => stopped(rt, alloc, hub, feeds),
+        Err(_) => Err(Fail::new("not opened")),
+    }
+}
+
+/// One feed: a message, and then a question.
+fn one(alloc: Global) -> Result<Vec<ListFeed>, Fail> {
+    let mut feeds = Vec::new(alloc);
+    feeds.push(told_and_asked(alloc, TO_S1, "2001.4.1")?)?;
+    Ok(feeds)
+}
+
+/// How many posts a register takes, what is printed, and whether it stopped for the store.
+const POSTS: &[(u32, &str, bool)] = &[
+    (0, "", true),
+    (1, "GAL 1 posted 1 Applied\nGAL ask 2001.4.1 at S1\n", false),
+];
+
+#[test]
+fn register_refuses(rt: HostRuntime) -> Result<(), Fail> {
+    for (posts, want, stops) in POSTS {
+        let register = Refusing {
+            kept: PlainRegister::new(rt.alloc()),
+            posts: *posts,
+            refused: 0,
+        };
+        let (text, fault) = stopped_over(&rt, rt.alloc(), register, one(rt.alloc())?)?;
+        assert_eq!(rt; text.as_str(), *want);
+        let stopped = matches!(fault, Some(CommandFault::Store(StoreFault::Store)));
+        assert!(rt; stopped == *stops);
+    }
+    Ok(())
+}
+
+/// How many items a feed gives, and what is printed.
+const ITEMS: &[(u32, &str)] = &[
+    (0, ""),
+    (1, "GAL 1 posted 1 Applied\n"),
+    (2, "GAL 1 posted 1 Applied\nGAL ask 2001.4.1 at S1\n"),
+];
+
+#[test]
+fn feed_without_memory(rt: HostRuntime) -> Result<(), Fail> {
+    for (left, want) in ITEMS {
+        let mut feeds = Vec::new(rt.alloc());
+        feeds.push(Poor {
+            feed: told_and_asked(rt.alloc(), TO_S1, "2001.4.1")?,
+            left: *left,
+        })?;
+        let register = PlainRegister::new(rt.alloc());
+        let (text, fault) = stopped_over(&rt, rt.alloc(), register, feeds)?;
+        assert_eq!(rt; text.as_str(), *want);
+        assert!(rt; matches!(fault, Some(CommandFault::NoMemory)));
+    }
+    Ok(())
+}
