@@ -16,7 +16,7 @@ use Rattle.codes_core.proofs.Texts.{no_fault}
 use Rattle.codes_core.proofs.DayTexts.{text_shape, year_back, month_back, date_back, day_parts, text_back, year_small}
 
 -- 0001-01-01
-year_one : day_count (pos 1) 1 1 ≡ 3652791
+pub year_one : day_count (pos 1) 1 1 ≡ 3652791
 year_one = day_count-early (pos 1) 10000 1 1 refl (omega arith) (omega arith) (omega arith)
 
 -- a day from 0001-01-01 on is of the year 1 or a later one

@@ -1,4 +1,5 @@
 pub mod Days
+pub mod SpelledDays
 pub mod DayTexts
 pub mod Parts
 pub mod FirstGroup

@@ -1,5 +1,5 @@
 -- Civil days (2024-05-01), each seen as its number from 1970-01-01.
-use Rattle.std.specs.Prelude.{ℕ, ℤ, pos, negsuc, ◌≡◌, ◌+◌, ◌/◌, ◌%◌, ◌&&◌, ◌==◌, Bool, nat_lt, nat_le, List, [], ◌∷◌, ◌++◌, length, take, drop, slice_index, slice_range, Option, None}
+use Rattle.std.specs.Prelude.{ℕ, zero, suc, ℤ, pos, negsuc, ◌-ℤ◌, unsigned_abs, ◌≡◌, ◌+◌, ◌/◌, ◌%◌, ◌&&◌, ◌==◌, if◌then◌else◌, Bool, nat_lt, nat_le, List, [], ◌∷◌, ◌++◌, length, take, drop, slice_index, slice_range, Option, None}
 use Rattle.std.specs.Char.{is_ascii_digit}
 use Rattle.std.specs.List.{list_all}
 use Rattle.jiff_core.specs.Calendar.{days_in_month, days_from_civil}
@@ -58,3 +58,28 @@ two_digits n = (48 + n / 10 % 10) ∷ (48 + n % 10) ∷ []
 abbrev pub date_text : ℕ → ℕ → ℕ → List ℕ
 date_text year month date =
     two_digits (year / 100) ++ two_digits year ++ 45 ∷ two_digits month ++ 45 ∷ two_digits date
+
+-- a day by its year, its month and its date
+pub record CivilDay : Type 0 where
+  pub year : ℕ
+  pub month : ℕ
+  pub date : ℕ
+
+-- the day after: the next of its month, else the first of the next month, else of the next year
+abbrev pub day_after : CivilDay → CivilDay
+day_after day =
+    if nat_lt day.date (days_in_month (pos day.year) day.month) then record { year = day.year; month = day.month; date = day.date + 1 }
+    else (if nat_lt day.month 12 then record { year = day.year; month = day.month + 1; date = 1 }
+    else record { year = day.year + 1; month = 1; date = 1 })
+
+-- the day that comes so many days after 0001-01-01
+abbrev pub day_from_first : ℕ → CivilDay
+day_from_first zero = record { year = 1; month = 1; date = 1 }
+day_from_first (suc n) = day_after (day_from_first n)
+
+abbrev pub text_of_day : CivilDay → List ℕ
+text_of_day day = date_text day.year day.month day.date
+
+-- the text that spells the day of this number
+unfoldable pub day_text : ℤ → List ℕ
+day_text number = text_of_day (day_from_first (unsigned_abs (number -ℤ first_number)))

@@ -1,7 +1,7 @@
 //! Civil days.
 ghost use Rattle.std.specs.Prelude.{◌≡◌, true, false, ◌++◌, ◌-ℤ◌, ◌≤◌, ◌≤ℤ◌, pos, List, ℕ, None, Some, IfSome, IfNone, OnOk, OnErr, MatchResult, MatchOption, string_bytes};
 ghost use Rattle.jiff_core.specs.Calendar.{days_from_civil};
-ghost use Rattle.codes_core.specs.Day.{is_day_shape, is_civil, day_fault, day_number, first_number, last_number, IsOnlySpelling, date_text, two_digits};
+ghost use Rattle.codes_core.specs.Day.{is_day_shape, is_civil, day_fault, day_number, first_number, last_number, IsOnlySpelling, day_text, date_text, two_digits};
 
 use crate::digits::{are_digits, number_of};
 use crate::spelling::Spelling;
@@ -61,13 +61,15 @@ impl Day {
     /// Appends the day's one spelling; after NoMemory the text is unchanged.
     pub fn write(&self, _alloc: Global, out: &mut String) -> Result<(), NoMemory>
         ensures ok { OnOk result ((text : List ℕ) × IsOnlySpelling text self.now × (string_bytes out.new ≡ string_bytes out.old ++ text)) }
+        ensures text { OnOk result (string_bytes out.new ≡ string_bytes out.old ++ day_text self.now) }
         ensures err { OnErr result (string_bytes out.new ≡ string_bytes out.old) }
     {
         self.spelling().write(out)
     }
 
     fn spelling(&self) -> Spelling<10>
-        ensures { IsOnlySpelling result self.now }
+        ensures only { IsOnlySpelling result self.now }
+        ensures text { result ≡ day_text self.now }
     {
         let date = Date::from_unix_epoch_day(self.number as i64).unwrap();
         Spelling::new(&text_of(date.year.unsigned_abs(), date.month, date.day))
@@ -75,7 +77,8 @@ impl Day {
 
     /// Its number: 0 is 1970-01-01.
     pub fn number(self) -> i32
-        ensures { result ≡ self }
+        ensures number { result ≡ self }
+        ensures spelled { IsOnlySpelling (day_text self) self }
     {
         self.number
     }

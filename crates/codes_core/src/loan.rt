@@ -51,6 +51,14 @@ impl LoanCode {
         self.spelling.as_str()
     }
 
+    /// The bytes of the code's one spelling.
+    pub fn as_bytes(&self) -> &[u8]
+        ensures text { result.now ≡ self.now }
+        ensures code { loan_fault self.now ≡ None }
+    {
+        self.spelling.as_bytes()
+    }
+
     /// Appends the code's one spelling; after NoMemory the text is unchanged.
     pub fn write(&self, _alloc: Global, out: &mut String) -> Result<(), NoMemory>
         ensures ok { OnOk result (string_bytes out.new ≡ string_bytes out.old ++ self.now) }

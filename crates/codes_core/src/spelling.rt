@@ -1,5 +1,5 @@
 //! A short text that is kept in place.
-ghost use Rattle.std.specs.Prelude.{◌≡◌, ◌++◌, ◌≤◌, ◌-◌, length, replicate, OnOk, OnErr, string_bytes};
+ghost use Rattle.std.specs.Prelude.{◌≡◌, ◌++◌, ◌≤◌, ◌<◌, ◌-◌, length, replicate, OnOk, OnErr, string_bytes};
 ghost use Rattle.std.specs.Str.{bytes_eq, IsAscii};
 ghost use Rattle.std.specs.Hash as fed;
 ghost use Rattle.std.specs.Cmp.Rules.{comparing, hashing};
@@ -10,11 +10,11 @@ use std::fmt;
 use std::hash::{Hash, Hasher};
 use std::marker::Model;
 
-/// A text of at most N bytes of ASCII, seen as its bytes.
+/// A text of at most N bytes of ASCII, seen as its bytes. Its length is kept in one byte.
 #[derive(Clone, Copy)]
 pub struct Spelling<const N: usize> {
     text: [u8; N],
-    len: usize,
+    len: u8,
 }
 
 impl<const N: usize> Model for Spelling<N> {
@@ -38,11 +38,12 @@ impl<const N: usize> Spelling<N> {
     pub fn new(text: &[u8]) -> Spelling<N>
         requires fits { length text.now ≤ N }
         requires ascii { IsAscii text.now }
+        requires short { N < 256 }
         ensures { result ≡ text.now }
     {
         Spelling {
             text: padded(text),
-            len: text.len(),
+            len: text.len() as u8,
         }
     }
 
@@ -50,14 +51,14 @@ impl<const N: usize> Spelling<N> {
     pub fn as_bytes(&self) -> &[u8]
         ensures { result.now ≡ self.now }
     {
-        &self.text[..self.len]
+        &self.text[..self.len as usize]
     }
 
     /// The text.
     pub fn as_str(&self) -> &str
         ensures { result.now ≡ self.now }
     {
-        str::from_utf8(&self.text[..self.len]).unwrap()
+        str::from_utf8(&self.text[..self.len as usize]).unwrap()
     }
 
     /// Appends the text; after NoMemory what was there is unchanged.
