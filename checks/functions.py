@@ -24,9 +24,11 @@ class Impl:
         said = re.sub(r"^impl\s*(<(?:[^<>]|<[^<>]*>)*>)?\s*", "", head.split("{")[0]).split(" where ")[0]
         trait, _, of = said.rpartition(" for ")
         bare = lambda text: re.sub(r"<.*", "", text).split("::")[-1].strip()
+        # another crate's type has that crate in its name
+        whole = lambda text: "".join(it[:1].upper() + it[1:] for it in re.sub(r"<.*", "", text).strip().split("::"))
         given = re.sub(r"<.*", "", trait.partition("<")[2].strip().rstrip(">")).split("::")
         # a drop is the type's own
-        self.name = bare(of) + bare(trait).removesuffix("Drop") + "".join(it[:1].upper() + it[1:] for it in given)
+        self.name = whole(of) + bare(trait).removesuffix("Drop") + "".join(it[:1].upper() + it[1:] for it in given)
         if not trait and lines[0].startswith("impl "):
             self.name = "+".join(re.findall(r"\w+", of))
         self.is_of_trait = bool(trait)
@@ -47,13 +49,16 @@ class Function:
             at -= 1
         self.first = at
         self.path = [*module, *([inside.name] if inside else []), self.name]
-        self.recurs = os.path.isdir(f"{crate.folder}/proofs/{'/'.join(self.path[:-1])}/+{self.name}")
+        # the cycle of calls that it names, whose functions have one folder of proofs
+        named = re.search(r"#\[cycle\((\w+)\)\]", "\n".join(lines[at : self.body]))
+        self.is_in_cycle, self.cycle = bool(named), named[1] if named else self.name
+        self.recurs = os.path.isdir(f"{crate.folder}/proofs/{'/'.join(self.path[:-1])}/+{self.cycle}")
 
     def can_be_copied(self):
         return not self.recurs and not (self.impl and self.impl.is_of_trait)
 
     def proofs(self):
-        return "/".join([*self.path[:-1], "+" * self.recurs + self.name])
+        return "/".join([*self.path[:-1], "+" * self.recurs + self.cycle])
 
 
 def module_of(file):

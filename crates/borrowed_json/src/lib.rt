@@ -1,0 +1,13 @@
+//! JSON values that borrow their text, and what is read of a value, whether or not it owns its text.
+#![tactic(auto)]
+
+mod fault;
+mod fields;
+mod number;
+mod reader;
+mod value;
+
+pub use fault::TextFault;
+pub use fields::Fields;
+pub use json::Scratch;
+pub use value::Value;

@@ -1,0 +1,135 @@
+//! Values read, in one pass over the tokens of a text.
+ghost use Rattle.std.specs.Prelude.{◌≡◌, ◌<◌, length, Some, None, Err, IfOk, OnOk, IsUtf8};
+ghost use Rattle.json.specs.Json.{value, items, members};
+ghost use Rattle.serde_json.specs.Data.{no_members};
+ghost use Rattle.serde_json.specs.Read.{of_json, of_items, of_members, converted, read as read_text};
+ghost use Rattle.borrowed_json.specs.View.{view, items_view, members_view};
+
+use crate::number::number_of;
+use crate::{Scratch, TextFault, Value};
+use json::{Reader, Token};
+use std::alloc::Global;
+
+/// How deep arrays and objects may nest, as serde_json reads them.
+const MAX_DEPTH: usize = 127;
+
+impl<'a> Value<'a> {
+    /// The value that bytes spell, as serde_json's `from_slice` reads them, else NotJson: they are
+    /// UTF-8 of one JSON value, in which arrays and objects nest at most 127 deep and every number
+    /// is in range. NoMemory may stand in place of any answer. The scratch serves one text after
+    /// the other.
+    pub fn from_slice(
+        alloc: Global,
+        bytes: &'a [u8],
+        scratch: &'a mut Scratch,
+    ) -> Result<Value<'a>, TextFault>
+        ensures ok { IfOk result (λ v. IsUtf8 bytes.now × (read_text bytes.now ≡ Some (view v))) }
+        ensures not_json { result ≡ Err TextFault.NotJson → IsUtf8 bytes.now
+            → read_text bytes.now ≡ None }
+    {
+        match simdutf8::compat::from_utf8(bytes) {
+            Ok(text) => read_all(alloc, text, scratch),
+            Err(_) => Err(TextFault::NotJson),
+        }
+    }
+}
+
+/// The value that a text spells.
+fn read_all<'a>(
+    alloc: Global,
+    text: &'a str,
+    scratch: &'a mut Scratch,
+) -> Result<Value<'a>, TextFault>
+    ensures ok { IfOk result (λ v. read_text text.now ≡ Some (view v)) }
+    ensures not_json { result ≡ Err TextFault.NotJson → read_text text.now ≡ None }
+{
+    let mut reader = Reader::new(text, scratch)?;
+    let value = read(alloc, &mut reader, MAX_DEPTH)?;
+    if reader.next().is_some() {
+        return Err(TextFault::NotJson);
+    }
+    Ok(value)
+}
+
+/// The value that begins at the next token, with arrays and objects nested so deep at most.
+#[cycle(read)]
+#[inline(always)]
+fn read<'a>(alloc: Global, reader: &mut Reader<'a>, depth: usize) -> Result<Value<'a>, TextFault>
+    ensures ok { IfOk result
+        (λ v. converted of_json (value depth reader.old) ≡ Some (view v, reader.new)) }
+    ensures shorter { OnOk result (length reader.new < length reader.old) }
+    ensures err { result ≡ Err TextFault.NotJson
+        → converted of_json (value depth reader.old) ≡ None }
+{
+    let token = reader.next().ok_or(TextFault::NotJson)?;
+    match token {
+        Token::String(text) => Ok(Value::String(text)),
+        Token::Number(text) => match number_of(text) {
+            Some(number) => Ok(Value::Number(number)),
+            None => Err(TextFault::NotJson),
+        },
+        Token::Bool(b) => Ok(Value::Bool(b)),
+        Token::Null => Ok(Value::Null),
+        Token::EndObject | Token::EndArray | Token::Key(_) | Token::Bad => Err(TextFault::NotJson),
+        Token::BeginArray => {
+            if depth == 0 {
+                return Err(TextFault::NotJson);
+            }
+            Ok(Value::Array(read_items(alloc, reader, depth - 1)?))
+        }
+        Token::BeginObject => {
+            if depth == 0 {
+                return Err(TextFault::NotJson);
+            }
+            Ok(Value::Object(read_members(alloc, reader, depth - 1)?))
+        }
+    }
+}
+
+/// The items of an array that has begun.
+#[cycle(read)]
+#[inline(never)]
+fn read_items<'a>(
+    alloc: Global,
+    reader: &mut Reader<'a>,
+    depth: usize,
+) -> Result<Vec<Value<'a>>, TextFault>
+    ensures ok { IfOk result
+        (λ v. converted of_items (items (value depth) (length reader.old) reader.old)
+        ≡ Some (items_view v.items, reader.new)) }
+    ensures shorter { OnOk result (length reader.new < length reader.old) }
+    ensures err { result ≡ Err TextFault.NotJson
+        → converted of_items (items (value depth) (length reader.old) reader.old) ≡ None }
+{
+    let mut found = Vec::new(alloc);
+    'items: while !reader.take_end_array() {
+        let item = read(alloc, reader, depth)?;
+        found.push(item)?;
+    }
+    Ok(found)
+}
+
+/// The members of an object that has begun, in the order of the text.
+#[cycle(read)]
+#[inline(never)]
+fn read_members<'a>(
+    alloc: Global,
+    reader: &mut Reader<'a>,
+    depth: usize,
+) -> Result<Vec<(&'a str, Value<'a>)>, TextFault>
+    ensures ok { IfOk result
+        (λ v. converted (λ ms. of_members ms no_members)
+        (members (value depth) (length reader.old) reader.old)
+        ≡ Some (members_view v.items, reader.new)) }
+    ensures shorter { OnOk result (length reader.new < length reader.old) }
+    ensures err { result ≡ Err TextFault.NotJson
+        → converted (λ ms. of_members ms no_members)
+        (members (value depth) (length reader.old) reader.old) ≡ None }
+{
+    let mut found = Vec::new(alloc);
+    'members: while let Some(name) = reader.next_key()? {
+        let member = read(alloc, reader, depth)?;
+        found.push((name, member))?;
+    }
+    Ok(found)
+}

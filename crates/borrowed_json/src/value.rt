@@ -1,0 +1,75 @@
+//! A value that borrows its text.
+ghost use Rattle.std.specs.Prelude.{◌≡◌, option_map};
+ghost use Rattle.serde_json.specs.Find.{get_member};
+ghost use Rattle.borrowed_json.specs.View.{view, members_view};
+
+use crate::Fields;
+use serde_json::Number;
+
+/// A JSON value whose texts are borrowed. An object keeps its members in the order of the text; of
+/// a key that comes twice the last counts.
+#[derive(Drop)]
+pub enum Value<'a> {
+    Null,
+    Bool(bool),
+    Number(Number),
+    String(&'a str),
+    Array(Vec<Value<'a>>),
+    Object(Vec<(&'a str, Value<'a>)>),
+}
+
+impl<'a> Fields for Value<'a> {
+    ghost seen = { view };
+
+    fn at(&self, name: &str) -> Option<&Value<'a>> {
+        if let Value::Object(members) = self {
+            find(members, name)
+        } else {
+            None
+        }
+    }
+
+    fn has_members(&self) -> bool {
+        matches!(self, Value::Object(_))
+    }
+
+    fn text(&self) -> Option<&str> {
+        if let Value::String(text) = self {
+            Some(*text)
+        } else {
+            None
+        }
+    }
+
+    fn whole_number(&self) -> Option<u64> {
+        if let Value::Number(number) = self {
+            number.as_u64()
+        } else {
+            None
+        }
+    }
+
+    fn items(&self) -> Option<&Vec<Value<'a>>> {
+        if let Value::Array(items) = self {
+            Some(items)
+        } else {
+            None
+        }
+    }
+}
+
+/// The value of the last member of this name.
+fn find<'v, 'a>(members: &'v Vec<(&'a str, Value<'a>)>, name: &str) -> Option<&'v Value<'a>>
+    ensures { option_map (λ v. view v.now) result
+        ≡ get_member name.now (members_view members.now.items) }
+{
+    let mut left = members.len();
+    while left > 0 {
+        left -= 1;
+        let member = &members[left];
+        if member.0 == name {
+            return Some(&member.1);
+        }
+    }
+    None
+}
