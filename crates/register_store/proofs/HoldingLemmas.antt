@@ -1,6 +1,6 @@
 -- What a store may hold, after one call and after another.
-use Rattle.std.proofs.Common.{◌≡◌, ℕ, List}
-use Rattle.std.proofs.lemmas.List.Sorted.{IsPermutation-sym, IsPermutation-trans}
+use Rattle.std.proofs.Common.{ℕ, List}
+use Rattle.std.proofs.lemmas.List.Sorted.{IsPermutation-trans}
 use Rattle.nest_core.specs.Museum.{Museum}
 use Rattle.posting_core.specs.declared.entry.Entry.{Entry}
 use Rattle.register_store.specs.StoredRows.{Content, AreSame, IsBoundTo, HasList, HasRows, IsStoreOf}

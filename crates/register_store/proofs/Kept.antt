@@ -18,13 +18,13 @@ use Rattle.posting_core.specs.declared.stage.LineStage.{LineStage}
 use Rattle.posting_core.specs.declared.stage.LineStage.TheVariants.{Awaiting, Away, Back, Here, GivenBack}
 use Rattle.posting_core.specs.StageNumbers.{stage_number}
 use Rattle.register_store.specs.declared.loan_rows.LineKey.{LineKey}
-use Rattle.register_store.specs.declared.rows.KeptPosting.{KeptPosting}
+use Rattle.register_store.specs.declared.kept_entry.KeptEntry.{KeptEntry}
 use Rattle.register_store.specs.declared.store_fault.StoreFault.{StoreFault}
 use Rattle.register_store.specs.declared.store_fault.StoreFault.TheVariants.{NoMemory, Store, OtherSetup, Damaged, OtherVersion}
 use Rattle.register_store.specs.StoredRows.{Content, MetaRow, PostingRow, SpotRow, LineRow, TermRow, AreSame, HasRows, numbered, rows_of_setup, rows_of_meta, IsBoundTo, spot_row, line_row, spots_by_thing, lines_by_loan, rows_of_spots, rows_of_lines, rows_of_terms, is_same_line, put_each, term_of, with_posted}
 use Rattle.register_store.specs.Registers.{is_new, bound_by, bound_to, IsBindFault, IsWrongAt, IsListFault}
 use Rattle.register_store.specs.Holdings.{Each, Comes}
-use Rattle.register_store.specs.Plain.{rows_in_memory, texts_of, meta_of, posting_row, has_same_key, held_lines, term_rows}
+use Rattle.register_store.specs.Plain.{rows_in_memory, texts_of, meta_of, kept_row, has_same_key, held_lines, term_rows}
 use Rattle.register_store.proofs.OneList.{one_setup}
 use Rattle.register_store.proofs.SpotRows.{looking_back}
 use Rattle.register_store.proofs.ListedRows.{in_order}
@@ -83,18 +83,18 @@ not_new [] h = absurd (omega (arith, length_permutation _ _ h))
 not_new (row ∷ rows) h = refl
 
 -- a register in memory of these fields
-abbrev pub content_of : Option (Vec (String Global) Global) → List KeptPosting → List NewSpot → List NewLine → List TermRow → Content
+abbrev pub content_of : Option (Vec (String Global) Global) → List KeptEntry → List NewSpot → List NewLine → List TermRow → Content
 content_of texts postings spots lines terms = record {
   setup = numbered (reverse (texts_of texts));
   meta = meta_of texts;
-  postings = map posting_row postings;
+  postings = map kept_row postings;
   spots = map spot_row spots;
   lines = map line_row lines;
   terms = terms;
 }
 
 -- it takes a setup where it is new, or has this one
-pub bound_kept : (S : Museum) (o : Option (Vec (String Global) Global)) (texts : Vec (String Global) Global) (postings : List KeptPosting) (spots : List NewSpot) (lines : List NewLine) (terms : List TermRow) (K d : Content)
+pub bound_kept : (S : Museum) (o : Option (Vec (String Global) Global)) (texts : Vec (String Global) Global) (postings : List KeptEntry) (spots : List NewSpot) (lines : List NewLine) (terms : List TermRow) (K d : Content)
     → map string_bytes texts.items ≡ setup_rows S → MatchOption o (Unit {0}) (λ old. map string_bytes old.items ≡ map string_bytes texts.items) → K ≡ content_of o postings spots lines terms → AreSame K d
     → AreSame (content_of (Some texts) postings spots lines terms) (bound_to S d)
 bound_kept S None texts postings spots lines terms K d rows fits is h =
@@ -120,12 +120,12 @@ bound_kept S (Some old) texts postings spots lines terms K d rows fits is h =
     })
 
 -- it is bound
-pub bound_now : (S : Museum) (texts : Vec (String Global) Global) (postings : List KeptPosting) (spots : List NewSpot) (lines : List NewLine) (terms : List TermRow) (d : Content)
+pub bound_now : (S : Museum) (texts : Vec (String Global) Global) (postings : List KeptEntry) (spots : List NewSpot) (lines : List NewLine) (terms : List TermRow) (d : Content)
     → map string_bytes texts.items ≡ setup_rows S → AreSame (content_of (Some texts) postings spots lines terms) d → IsBoundTo S 12 d
 bound_now S texts postings spots lines terms d rows h = record { setup = subst (λ l. IsPermutation (numbered (reverse l)) d.setup) rows h.setup; meta = h.meta; limit = refl }
 
 -- it has another setup
-pub other_setup : (S : Museum) (old texts : Vec (String Global) Global) (postings : List KeptPosting) (spots : List NewSpot) (lines : List NewLine) (terms : List TermRow) (K d : Content)
+pub other_setup : (S : Museum) (old texts : Vec (String Global) Global) (postings : List KeptEntry) (spots : List NewSpot) (lines : List NewLine) (terms : List TermRow) (K d : Content)
     → map string_bytes texts.items ≡ setup_rows S → (map string_bytes old.items ≡ map string_bytes texts.items → ⊥) → K ≡ content_of (Some old) postings spots lines terms → AreSame K d
     → IsBindFault S d OtherSetup
 other_setup S old texts postings spots lines terms K d rows differ is h =
@@ -135,7 +135,7 @@ other_setup S old texts postings spots lines terms K d rows differ is h =
     )
 
 -- what `bind` finds out of its texts
-pub refused_setup : (S : Museum) (o : Option (Vec (String Global) Global)) (texts : Vec (String Global) Global) (items : List (String Global)) (postings : List KeptPosting) (spots : List NewSpot) (lines : List NewLine) (terms : List TermRow)
+pub refused_setup : (S : Museum) (o : Option (Vec (String Global) Global)) (texts : Vec (String Global) Global) (items : List (String Global)) (postings : List KeptEntry) (spots : List NewSpot) (lines : List NewLine) (terms : List TermRow)
     (K d : Content) (r : Bool) → map string_bytes texts.items ≡ setup_rows S → items ≡ texts.items → MatchOption o (r ≡ true) (λ old. Decides r (map string_bytes old.items ≡ map string_bytes items)) → r ≡ false
     → K ≡ content_of o postings spots lines terms → AreSame K d → IsBindFault S d OtherSetup
 refused_setup S None texts items postings spots lines terms K d r rows at told differs is h = absurd (true≢false (sym told ∙ differs))
@@ -148,15 +148,15 @@ fitted None texts items r at told fits = tt
 fitted (Some old) texts items r at told fits = told.0 fits ∙ ap (map string_bytes) at
 
 -- one more posting at the end of the kept rows
-pub posted_same : (o : Option (Vec (String Global) Global)) (ps more : List KeptPosting) (ss longer : List NewSpot) (ls new_ls : List NewLine) (ts new_ts : List TermRow) (row : KeptPosting) (e : Entry) (changes : Changes) (K d : Content)
+pub posted_same : (o : Option (Vec (String Global) Global)) (ps more : List KeptEntry) (ss longer : List NewSpot) (ls new_ls : List NewLine) (ts new_ts : List TermRow) (row : KeptEntry) (e : Entry) (changes : Changes) (K d : Content)
     → more ≡ ps ++ row ∷ [] → longer ≡ ss ++ changes.spots → IsPermutation new_ls (put_each has_same_key changes.lines ls) → IsPermutation new_ts (with_term (term_of e) ts)
-    → K ≡ content_of o (reverse ps) (reverse ss) ls ts → AreSame K d → AreSame (content_of o (reverse more) (reverse longer) new_ls new_ts) (with_posted (posting_row row) e changes d)
+    → K ≡ content_of o (reverse ps) (reverse ss) ls ts → AreSame K d → AreSame (content_of o (reverse more) (reverse longer) new_ls new_ts) (with_posted (kept_row row) e changes d)
 posted_same o ps more ss longer ls new_ls ts new_ts row e changes K d pushed extended lined dated is h =
     let same : AreSame (content_of o (reverse ps) (reverse ss) ls ts) d = subst (λ (c : Content). AreSame c d) is h in
     record {
       setup = same.setup;
       meta = same.meta;
-      postings = subst (λ l. IsPermutation (map posting_row l) (posting_row row ∷ d.postings)) (sym (ap reverse pushed ∙ reverse-append ps (row ∷ []))) (IsPermutation-cons (posting_row row) _ _ same.postings);
+      postings = subst (λ l. IsPermutation (map kept_row l) (kept_row row ∷ d.postings)) (sym (ap reverse pushed ∙ reverse-append ps (row ∷ []))) (IsPermutation-cons (kept_row row) _ _ same.postings);
       spots = subst (λ l. IsPermutation l (map spot_row (reverse changes.spots) ++ d.spots)) (sym (ap (λ l. map spot_row (reverse l)) extended ∙ ap (map spot_row) (reverse-append ss changes.spots) ∙ map-append spot_row (reverse changes.spots) (reverse ss)))
           (IsPermutation-append_right (map spot_row (reverse changes.spots)) _ _ same.spots);
       lines = IsPermutation-trans _ _ _
@@ -166,7 +166,7 @@ posted_same o ps more ss longer ls new_ls ts new_ts row e changes K d pushed ext
     }
 
 -- growths alone leave what is held
-pub left_as_was : {T E : Type 0} (r : Result T E) (Q : Content → Content → Type 0) (o : Option (Vec (String Global) Global)) (ps ps' : List KeptPosting) (ss ss' : List NewSpot) (ks ks' : List (LineKey × LineStage)) (ts ts' : List (List ℕ × ℤ)) (K L : Content)
+pub left_as_was : {T E : Type 0} (r : Result T E) (Q : Content → Content → Type 0) (o : Option (Vec (String Global) Global)) (ps ps' : List KeptEntry) (ss ss' : List NewSpot) (ks ks' : List (LineKey × LineStage)) (ts ts' : List (List ℕ × ℤ)) (K L : Content)
     → K ≡ content_of o (reverse ps) (reverse ss) (held_lines ks) (term_rows ts) → L ≡ content_of o (reverse ps') (reverse ss') (held_lines ks') (term_rows ts') → ps' ≡ ps → ss' ≡ ss → ks' ≡ ks → ts' ≡ ts
     → OnErr r (Comes (rows_in_memory K) (rows_in_memory L) (λ c d. AreSame c d ⊎ Q c d))
 left_as_was (Ok x) Q o ps ps' ss ss' ks ks' ts ts' K L is now p s k t = tt
@@ -175,13 +175,13 @@ left_as_was (Err e) Q o ps ps' ss ss' ks ks' ts ts' K L is now p s k t =
     comes_from K L (λ c d. AreSame c d ⊎ Q c d) (λ d h. inl (subst (λ (c : Content). AreSame c d) same h))
 
 -- the same rows in another order are held as before
-pub reordered : (o : Option (Vec (String Global) Global)) (ps ps' : List KeptPosting) (ss ss' : List NewSpot) (lines : List NewLine) (terms : List TermRow) (K d : Content) → IsPermutation ps ps' → IsPermutation ss ss'
+pub reordered : (o : Option (Vec (String Global) Global)) (ps ps' : List KeptEntry) (ss ss' : List NewSpot) (lines : List NewLine) (terms : List TermRow) (K d : Content) → IsPermutation ps ps' → IsPermutation ss ss'
     → K ≡ content_of o (reverse ps) (reverse ss) lines terms → AreSame K d ↔ AreSame (content_of o (reverse ps') (reverse ss') lines terms) d
 reordered o ps ps' ss ss' lines terms K d p s is =
     let now : AreSame (content_of o (reverse ps) (reverse ss) lines terms) (content_of o (reverse ps') (reverse ss') lines terms) = record {
       setup = IsPermutation-refl _;
       meta = IsPermutation-refl _;
-      postings = map-IsPermutation posting_row _ _ (turned_same ps ps' p);
+      postings = map-IsPermutation kept_row _ _ (turned_same ps ps' p);
       spots = map-IsPermutation spot_row _ _ (turned_same ss ss' s);
       lines = IsPermutation-refl _;
       terms = IsPermutation-refl _;
@@ -191,8 +191,8 @@ reordered o ps ps' ss ss' lines terms K d p s is =
     )
 
 -- why its rows are no list
-pub listed_fault : (r : Result (Vec Entry Global) StoreFault) (stations stations' : ℕ) (rows items : List KeptPosting) (o : Option (Vec (String Global) Global)) (spots : List NewSpot) (lines : List NewLine) (terms : List TermRow) → stations' ≡ stations → items ≡ rows
-    → IsNonDecreasingBy (λ row. row.id) rows → IfErr r (λ fault. fault ≢ NoMemory → (at : ℕ) × (fault ≡ Damaged at) × IsWrongAt stations at (map posting_row items))
+pub listed_fault : (r : Result (Vec Entry Global) StoreFault) (stations stations' : ℕ) (rows items : List KeptEntry) (o : Option (Vec (String Global) Global)) (spots : List NewSpot) (lines : List NewLine) (terms : List TermRow) → stations' ≡ stations → items ≡ rows
+    → IsNonDecreasingBy (λ row. row.id) rows → IfErr r (λ fault. fault ≢ NoMemory → (at : ℕ) × (fault ≡ Damaged at) × IsWrongAt stations at (map kept_row items))
     → IfErr r (λ fault. Each (rows_in_memory (content_of o (reverse rows) spots lines terms)) (λ d. IsListFault stations' d fault))
 listed_fault (Ok entries) stations stations' rows items o spots lines terms st at order wrong = tt
 listed_fault (Err NoMemory) stations stations' rows items o spots lines terms st at order wrong = λ quiet d h. tt
@@ -203,8 +203,8 @@ listed_fault (Err (Damaged i)) stations stations' rows items o spots lines terms
     let w = wrong (λ e. cc) in
     let e = w.1 in
     let same : w.0 ≡ i = cc in
-    let first : IsWrongAt stations' i (map posting_row rows) = subst (λ l. IsWrongAt stations' i (map posting_row l)) at (subst (λ n. IsWrongAt n i (map posting_row items)) (sym st) (subst (λ n. IsWrongAt stations n (map posting_row items)) same w.2)) in
-    record { rows = map posting_row rows; all = IsPermutation-trans _ _ _ (map-IsPermutation posting_row _ _ (IsPermutation-reverse rows)) h.postings; order = in_order rows order; first = first }
+    let first : IsWrongAt stations' i (map kept_row rows) = subst (λ l. IsWrongAt stations' i (map kept_row l)) at (subst (λ n. IsWrongAt n i (map kept_row items)) (sym st) (subst (λ n. IsWrongAt stations n (map kept_row items)) same w.2)) in
+    record { rows = map kept_row rows; all = IsPermutation-trans _ _ _ (map-IsPermutation kept_row _ _ (IsPermutation-reverse rows)) h.postings; order = in_order rows order; first = first }
 
 -- whether what is wanted is kept, by the rows that stand for it
 pairs_told : {A R : Type 0} (row : A → R) (pair : R → A) → ((a : A) → pair (row a) ≡ a) → (r : Bool) (wanted kept : List A) (rows held : List R) → map row wanted ≡ rows → Decides r (IsPermutation wanted kept)
@@ -234,7 +234,7 @@ abbrev line_in : LineRow → LineKey × LineStage
 line_in r = let key : LineKey = record { loan = r.loan; object = nat_abs r.object } in (key, stage_in (nat_abs r.stage))
 
 pub told_by : (a b c : Bool) (S : Museum) (P : List Entry) (wanted sorted : List NewSpot) (lines kept_lines : List (LineKey × LineStage)) (terms kept_terms : List (List ℕ × ℤ)) (o : Option (Vec (String Global) Global))
-    (postings : List KeptPosting) (d : Content) → wanted ≡ spots_by_thing S P → held_lines lines ≡ lines_by_loan S P → term_rows terms ≡ rows_of_terms P
+    (postings : List KeptEntry) (d : Content) → wanted ≡ spots_by_thing S P → held_lines lines ≡ lines_by_loan S P → term_rows terms ≡ rows_of_terms P
     → Decides a (IsPermutation wanted sorted) → Decides b (IsPermutation lines kept_lines) → Decides c (IsPermutation terms kept_terms)
     → AreSame (content_of o postings (reverse sorted) (held_lines kept_lines) (term_rows kept_terms)) d → Decides (a && (b && c)) (HasRows S P d)
 told_by a b c S P wanted sorted lines kept_lines terms kept_terms o postings d is lined dated has_spots has_lines has_terms h =

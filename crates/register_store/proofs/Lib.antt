@@ -1,7 +1,10 @@
 pub mod HoldingLemmas
 pub mod Fields
+pub mod Objects
 pub mod ObjectLists
 pub mod RoundTrip
+pub mod Bodies
+pub mod KeptRows
 pub mod Lists
 pub mod OneList
 pub mod ListedRows
@@ -15,6 +18,6 @@ pub mod SpotRows
 pub mod SpotOrder
 pub mod Kept
 pub mod WholeLists
-mod WorkedTexts
+pub mod WorkedTexts
 pub mod WorkedRows
 mod WorkedLoans

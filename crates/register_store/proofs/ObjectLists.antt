@@ -8,8 +8,7 @@ use Rattle.std.proofs.lemmas.List.{length-map}
 use Rattle.std.proofs.lemmas.List.Folds.{list_all-map, list_all_at}
 use Rattle.serde_json.specs.Data.{Data, string}
 use Rattle.serde_json.specs.Find.{as_array}
-use Rattle.serde_json.specs.View.{view, items_of}
-use Rattle.serde_json.specs.declared.value.Value.{Value}
+use Rattle.serde_json.specs.View.{items_of}
 use Rattle.posting_core.specs.declared.TheConstants.{MOST_OBJECTS}
 use Rattle.register_store.specs.declared.fault.ReadFault.{ReadFault}
 use Rattle.register_store.specs.declared.fault.ReadFault.TheVariants.{BadField}
@@ -56,9 +55,10 @@ listed_many key test o ds texts there is many =
     list_fault key test o ds there ∙ rw more
 
 -- one that is no such string
-pub one_amiss : (test : List ℕ → Bool) (vs : List Value) (i : ℕ) (v : Value) → i < length vs → v ≡ get_or vs i v → is_string test (view v) ≡ false → list_all (is_string test) (map view vs) ≡ false
-one_amiss test vs i v within is amiss =
-    list_all-map (is_string test) view vs ∙ list_all_at (λ (w : Value). is_string test (view w)) vs i v within (ap (λ (w : Value). is_string test (view w)) (sym is) ∙ amiss)
+pub one_amiss : {V : Type 0} (seen : V → Data) (test : List ℕ → Bool) (vs : List V) (i : ℕ) (v : V) → i < length vs → v ≡ get_or vs i v → is_string test (seen v) ≡ false
+    → list_all (is_string test) (map seen vs) ≡ false
+one_amiss {V} seen test vs i v within is amiss =
+    list_all-map (is_string test) seen vs ∙ list_all_at (λ (w : V). is_string test (seen w)) vs i v within (ap (λ (w : V). is_string test (seen w)) (sym is) ∙ amiss)
 
 all_strings : (test : List ℕ → Bool) (texts : List (List ℕ)) → list_all (is_string test) (map string texts) ≡ list_all test texts
 all_strings test texts = list_all-map (is_string test) string texts

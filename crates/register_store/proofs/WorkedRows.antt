@@ -27,7 +27,7 @@ use Rattle.register_store.specs.StoredRows.{SetupRow, MetaRow, PostingRow, Conte
 use Rattle.register_store.specs.Registers.{CountsRefusal, bound_to, IsBindFault, IsOfStation, IsWrongRow, IsListFault}
 use Rattle.posting_core.specs.VerdictNames.{verdict_number}
 use Rattle.register_store.proofs.OneList.{all_verdicts, of_number}
-use Rattle.register_store.proofs.WorkedTexts.{may, may-spelled, first_move, first_text, ann, spaced_text, begins}
+use Rattle.register_store.proofs.WorkedTexts.{may, may-text, first_move, first_text, first_run-text, ann, spaced_text, begins}
 
 -- two stations, three places of the museum's own and two partners', two crates, three own objects and a borrowed one
 abbrev pub museum : Museum
@@ -187,15 +187,15 @@ in_tables = record {
 
 first_kept : IsPostingRow 1 entry_1 row_1
 unfolding is_utf8 chars encode value punctuate lex content escape_byte days_from_civil day_count days_of_years days_of_months
-first_kept = record { id = refl; station = refl; n = refl; body = (_, (codes "2024-05-01", may-spelled, refl), refl); reads_back = refl; verdict = refl }
+first_kept = record { id = refl; station = refl; n = refl; body = first_run-text; reads_back = refl; verdict = refl }
 
 second_kept : IsPostingRow 2 entry_2 row_2
 unfolding is_utf8 chars encode value punctuate lex content escape_byte days_from_civil day_count days_of_years days_of_months
-second_kept = record { id = refl; station = refl; n = refl; body = (_, (codes "2024-05-01", may-spelled, refl), refl); reads_back = refl; verdict = refl }
+second_kept = record { id = refl; station = refl; n = refl; body = rw may-text refl; reads_back = refl; verdict = refl }
 
 third_kept : IsPostingRow 3 entry_3 row_3
 unfolding is_utf8 chars encode value punctuate lex content escape_byte days_from_civil day_count days_of_years days_of_months
-third_kept = record { id = refl; station = refl; n = refl; body = (_, (codes "2024-05-01", may-spelled, refl), refl); reads_back = refl; verdict = refl }
+third_kept = record { id = refl; station = refl; n = refl; body = rw may-text refl; reads_back = refl; verdict = refl }
 
 held_then_posted-listed : HasList held_then_posted in_tables
 held_then_posted-listed = record { rows = row_3 ∷ row_2 ∷ row_1 ∷ []; each = (third_kept, (second_kept, (first_kept, tt))); all = IsPermutation-reverse (row_3 ∷ row_2 ∷ row_1 ∷ []) }

@@ -1,8 +1,8 @@
 -- The texts of messages computed on worked rows: what they spell, and the one text of each.
-use Rattle.std.specs.Prelude.{ℤ, pos, ◌≡◌, List, ℕ, zero, suc, [], ◌∷◌, take, refl, codes, Ok, Err}
+use Rattle.std.specs.Prelude.{ℤ, pos, ◌≤ℤ◌, ◌≡◌, List, ℕ, zero, suc, [], ◌∷◌, take, refl, codes, Ok, Err}
 use Rattle.std.specs.Str.{is_utf8, chars}
 use Rattle.std.proofs.Math.Utf8.{encode}
-use Rattle.std.proofs.Common.{arith, ◌∙◌, ap}
+use Rattle.std.proofs.Common.{arith, ap}
 use Rattle.jiff_core.specs.Calendar.{days_from_civil, day_count, days_of_years, days_of_months}
 use Rattle.jiff_core.proofs.SignedLemmas.{signed_arith}
 use Rattle.json.specs.Json.{value}
@@ -10,9 +10,9 @@ use Rattle.json.specs.Lex.{punctuate, lex}
 use Rattle.json.specs.Text.{content}
 use Rattle.json.specs.Print.{escape_byte}
 use Rattle.serde_json.specs.Data.{Data, Members, null, string, number, unsigned, array, object, Items, item, no_items, no_members, put}
-use Rattle.serde_json.specs.Written.{compact_text}
-use Rattle.codes_core.specs.Day.{IsOnlySpelling}
+use Rattle.codes_core.specs.Day.{first_number, last_number, IsOnlySpelling, day_text}
 use Rattle.codes_core.proofs.Days.{only_spelling}
+use Rattle.codes_core.proofs.SpelledDays.{text_spells_day}
 use Rattle.posting_core.specs.declared.message.Message.{Message}
 use Rattle.posting_core.specs.declared.message.Message.TheVariants.{Move, Pack, Agree, Authorise, Exit, Return, Receive, SignOff, Extend}
 use Rattle.register_store.specs.declared.fault.ReadFault.TheVariants.{NotJson, Missing, BadKind, BadField}
@@ -24,7 +24,7 @@ use Rattle.register_store.specs.MessageText.{IsTextOf}
 abbrev pub may : ℤ
 may = pos 19844
 
-pub may-spelled : IsOnlySpelling (codes "2024-05-01") may
+may-spelled : IsOnlySpelling (codes "2024-05-01") may
 unfolding days_from_civil day_count days_of_years days_of_months
 may-spelled =
     only_spelling (record {
@@ -36,11 +36,18 @@ may-spelled =
       day_in = (omega arith, omega arith);
     }) may refl (omega (arith, signed_arith))
 
+-- whatever spells a day of the calendar is its text
+same_text : (text : List ℕ) (day : ℤ) → IsOnlySpelling text day → first_number ≤ℤ day → day ≤ℤ last_number → day_text day ≡ text
+same_text text day is low high = is.only (day_text day) (text_spells_day day low high).spells
+
+pub may-text : day_text may ≡ codes "2024-05-01"
+may-text = same_text (codes "2024-05-01") may may-spelled (omega (arith, signed_arith)) (omega (arith, signed_arith))
+
 -- 2024-05-31
 abbrev pub end_of_may : ℤ
 end_of_may = pos 19874
 
-pub end_of_may-spelled : IsOnlySpelling (codes "2024-05-31") end_of_may
+end_of_may-spelled : IsOnlySpelling (codes "2024-05-31") end_of_may
 unfolding days_from_civil day_count days_of_years days_of_months
 end_of_may-spelled =
     only_spelling (record {
@@ -52,11 +59,14 @@ end_of_may-spelled =
       day_in = (omega arith, omega arith);
     }) end_of_may refl (omega (arith, signed_arith))
 
+pub end_of_may-text : day_text end_of_may ≡ codes "2024-05-31"
+end_of_may-text = same_text (codes "2024-05-31") end_of_may end_of_may-spelled (omega (arith, signed_arith)) (omega (arith, signed_arith))
+
 -- 2024-06-30
 abbrev pub end_of_june : ℤ
 end_of_june = pos 19904
 
-pub end_of_june-spelled : IsOnlySpelling (codes "2024-06-30") end_of_june
+end_of_june-spelled : IsOnlySpelling (codes "2024-06-30") end_of_june
 unfolding days_from_civil day_count days_of_years days_of_months
 end_of_june-spelled =
     only_spelling (record {
@@ -67,6 +77,9 @@ end_of_june-spelled =
       month_in = (omega arith, omega arith);
       day_in = (omega arith, omega arith);
     }) end_of_june refl (omega (arith, signed_arith))
+
+end_of_june-text : day_text end_of_june ≡ codes "2024-06-30"
+end_of_june-text = same_text (codes "2024-06-30") end_of_june end_of_june-spelled (omega (arith, signed_arith)) (omega (arith, signed_arith))
 
 abbrev pub first_move : Message
 first_move = Move (codes "2001.4.1") (codes "S1") may
@@ -85,7 +98,7 @@ first_run-sent = refl
 
 pub first_run-text : IsTextOf first_move first_text
 unfolding escape_byte
-first_run-text = (_, (codes "2024-05-01", may-spelled, refl), refl)
+first_run-text = rw may-text refl
 
 pub first_run-reads_back : of_bytes first_text ≡ Ok first_move
 unfolding is_utf8 chars encode value punctuate lex content days_from_civil day_count days_of_years days_of_months
@@ -93,7 +106,7 @@ first_run-reads_back = refl
 
 pub sign_off-text : IsTextOf ann (codes "{\"by\":\"Ann\",\"kind\":\"signoff\"}")
 unfolding escape_byte
-sign_off-text = (_, refl, refl)
+sign_off-text = refl
 
 pub sign_off-reads_back : of_bytes (codes "{\"by\":\"Ann\",\"kind\":\"signoff\"}") ≡ Ok ann
 unfolding is_utf8 chars encode value punctuate lex content
@@ -109,7 +122,7 @@ agreed_text = codes "{\"first\":\"2024-05-01\",\"kind\":\"agree\",\"last\":\"202
 
 pub agree-text : IsTextOf agreed agreed_text
 unfolding escape_byte
-agree-text = (_, (codes "2024-05-01", may-spelled, (codes "2024-05-31", end_of_may-spelled, refl)), refl)
+agree-text = rw (may-text, end_of_may-text) refl
 
 pub agree-reads_back : of_bytes agreed_text ≡ Ok agreed
 unfolding is_utf8 chars encode value punctuate lex content days_from_civil day_count days_of_years days_of_months
@@ -123,7 +136,7 @@ extended_text = codes "{\"kind\":\"extend\",\"last\":\"2024-06-30\",\"loan\":\"L
 
 pub extend-text : IsTextOf extended extended_text
 unfolding escape_byte
-extend-text = (_, (codes "2024-06-30", end_of_june-spelled, refl), refl)
+extend-text = rw end_of_june-text refl
 
 pub extend-reads_back : of_bytes extended_text ≡ Ok extended
 unfolding is_utf8 chars encode value punctuate lex content days_from_civil day_count days_of_years days_of_months
@@ -131,15 +144,15 @@ extend-reads_back = refl
 
 -- whatever a message says, its text begins with a brace and a quote
 pub begins : (m : Message) (text : List ℕ) → IsTextOf m text → take 2 text ≡ codes "{\""
-begins (Move x p day) text h = ap (take 2) (h.2 ∙ ap compact_text h.1.2)
-begins (Pack x c day) text h = ap (take 2) (h.2 ∙ ap compact_text h.1.2)
-begins (Agree loan partner objects first last) text h = ap (take 2) (h.2 ∙ ap compact_text h.1.2.2)
-begins (Authorise loan name) text h = ap (take 2) (h.2 ∙ ap compact_text h.1)
-begins (Exit x loan day) text h = ap (take 2) (h.2 ∙ ap compact_text h.1.2)
-begins (Return x loan p day) text h = ap (take 2) (h.2 ∙ ap compact_text h.1.2)
-begins (Receive x loan p day) text h = ap (take 2) (h.2 ∙ ap compact_text h.1.2)
-begins (Extend loan last) text h = ap (take 2) (h.2 ∙ ap compact_text h.1.2)
-begins (SignOff name) text h = ap (take 2) (h.2 ∙ ap compact_text h.1)
+begins (Move x p day) text h = ap (take 2) h
+begins (Pack x c day) text h = ap (take 2) h
+begins (Agree loan partner objects first last) text h = ap (take 2) h
+begins (Authorise loan name) text h = ap (take 2) h
+begins (Exit x loan day) text h = ap (take 2) h
+begins (Return x loan p day) text h = ap (take 2) h
+begins (Receive x loan p day) text h = ap (take 2) h
+begins (Extend loan last) text h = ap (take 2) h
+begins (SignOff name) text h = ap (take 2) h
 
 -- other bytes of the same message: read, and not its text
 

@@ -1,5 +1,5 @@
 -- The table of kinds, and the message that a JSON value spells by it.
-use Rattle.std.specs.Prelude.{ℕ, ℤ, ◌&&◌, nat_le, Bool, false, List, [], ◌∷◌, length, map, Option, Some, None, option_and_then, unwrap_or, Result, Ok, Err, if◌then◌else◌, codes}
+use Rattle.std.specs.Prelude.{ℕ, ℤ, ◌&&◌, nat_le, Bool, false, List, [], ◌∷◌, length, map, Option, Some, None, is_some, option_and_then, unwrap_or, Result, Ok, Err, if◌then◌else◌, codes}
 use Rattle.std.specs.Option.{option_map_or}
 use Rattle.std.specs.List.{list_all}
 use Rattle.std.specs.Str.{bytes_eq, is_utf8}
@@ -134,6 +134,10 @@ loan_kinds = agree_row ∷ authorise_row ∷ exit_row ∷ return_row ∷ receive
 abbrev pub kinds : List Row
 kinds = move_row ∷ pack_row ∷ sign_off_row ∷ loan_kinds
 
+-- the kinds whose messages keep a name or a list of objects, and so take memory
+abbrev pub kinds_that_grow : List Row
+kinds_that_grow = agree_row ∷ authorise_row ∷ sign_off_row ∷ []
+
 abbrev pub kind_named : List Row → List ℕ → Option Row
 kind_named [] name = None
 kind_named (row ∷ rows) name = if bytes_eq name row.name then Some row else kind_named rows name
@@ -161,6 +165,11 @@ of_row d row = of_fields d row.fields (row.message d)
 abbrev pub of_named : Data → Option Row → Result message.Message ReadFault
 of_named d None = Err BadKind
 of_named d (Some row) = of_row d row
+
+-- a value of a kind that takes memory
+abbrev pub takes_memory : Data → Bool
+takes_memory d =
+    is_some (option_and_then (kind_named kinds_that_grow) (option_and_then as_str (get (key_name Kind) d)))
 
 -- by the value of the object's kind
 abbrev pub of_kind : Data → Option Data → Result message.Message ReadFault

@@ -1,14 +1,20 @@
 -- The text of a message: the compact JSON of the object with its kind and its kind's keys.
-use Rattle.std.specs.Prelude.{ℕ, ℤ, ◌≡◌, List, [], ◌∷◌, map, codes}
+use Rattle.std.specs.Prelude.{ℕ, ℤ, ◌≡◌, ◌≤◌, true, List, [], ◌∷◌, length, map, None, codes}
+use Rattle.std.specs.List.{list_all}
 use Rattle.serde_json.specs.Data.{Data, string, array, object, Members, no_members, put}
 use Rattle.serde_json.specs.View.{items_of}
 use Rattle.serde_json.specs.Written.{compact_text}
-use Rattle.codes_core.specs.Day.{IsOnlySpelling}
+use Rattle.codes_core.specs.Day.{day_text, IsOnlySpelling}
+use Rattle.codes_core.specs.Loan.{loan_fault}
+use Rattle.codes_core.specs.Name.{IsName}
+use Rattle.codes_core.specs.Place.{place_fault}
+use Rattle.codes_core.specs.Thing.{thing_fault}
+use Rattle.posting_core.specs.declared.TheConstants.{MOST_OBJECTS}
 use Rattle.posting_core.specs.declared.message.Message as message
 use Rattle.posting_core.specs.declared.message.Message.TheVariants.{Move, Pack, Agree, Authorise, Exit, Return, Receive, SignOff, Extend}
 use Rattle.register_store.specs.declared.key.Key.{Key}
 use Rattle.register_store.specs.declared.key.Key.TheVariants.{Kind, Thing, Place, Container, Day, By, Loan, Partner, Objects, First, Last}
-use Rattle.register_store.specs.Spelling.{key_name}
+use Rattle.register_store.specs.Spelling.{key_name, is_thing}
 
 -- a key and the value at it
 pub record Member : Type 0 where
@@ -20,6 +26,11 @@ infixl 10 ◌is◌
 abbrev pub ◌is◌ : Key → List ℕ → Member
 key is text = record { key = key; value = string text }
 
+infixl 10 ◌on◌
+-- a day, as the one text that spells it
+abbrev pub ◌on◌ : Key → ℤ → Member
+key on day = record { key = key; value = string (day_text day) }
+
 infixl 10 ◌are◌
 -- an array of strings
 abbrev pub ◌are◌ : Key → List (List ℕ) → Member
@@ -30,33 +41,49 @@ abbrev pub members_of : List Member → Members
 members_of [] = no_members
 members_of (m ∷ ms) = put (key_name m.key) m.value (members_of ms)
 
-abbrev pub Has : List Member → Data → Type 0
-Has ms d = d ≡ object (members_of ms)
-
--- a day in an object stands as the one text that spells it
-abbrev pub IsDated : ℤ → (List ℕ → Data → Type 0) → Data → Type 0
-IsDated day Is d = (text : List ℕ) × IsOnlySpelling text day × Is text d
+abbrev pub members : message.Message → List Member
+members (Move x p day) = (Kind is codes "move") ∷ (Thing is x) ∷ (Place is p) ∷ (Day on day) ∷ []
+members (Pack x c day) = (Kind is codes "pack") ∷ (Thing is x) ∷ (Container is c) ∷ (Day on day) ∷ []
+members (Agree loan partner objects first last) =
+    (Kind is codes "agree") ∷ (Loan is loan) ∷ (Partner is partner) ∷ (Objects are objects) ∷ (First on first) ∷ (Last on last) ∷ []
+members (Authorise loan name) = (Kind is codes "authorise") ∷ (Loan is loan) ∷ (By is name) ∷ []
+members (Exit x loan day) = (Kind is codes "exit") ∷ (Thing is x) ∷ (Loan is loan) ∷ (Day on day) ∷ []
+members (Return x loan p day) = (Kind is codes "return") ∷ (Thing is x) ∷ (Loan is loan) ∷ (Place is p) ∷ (Day on day) ∷ []
+members (Receive x loan p day) = (Kind is codes "receive") ∷ (Thing is x) ∷ (Loan is loan) ∷ (Place is p) ∷ (Day on day) ∷ []
+members (SignOff name) = (Kind is codes "signoff") ∷ (By is name) ∷ []
+members (Extend loan last) = (Kind is codes "extend") ∷ (Loan is loan) ∷ (Last on last) ∷ []
 
 -- the object of a message
-abbrev pub IsJson : message.Message → Data → Type 0
-IsJson (Move x p day) =
-    IsDated day (λ text. Has ((Kind is codes "move") ∷ (Thing is x) ∷ (Place is p) ∷ (Day is text) ∷ []))
-IsJson (Pack x c day) =
-    IsDated day (λ text. Has ((Kind is codes "pack") ∷ (Thing is x) ∷ (Container is c) ∷ (Day is text) ∷ []))
-IsJson (Agree loan partner objects first last) =
-    IsDated first (λ from. IsDated last (λ to.
-    Has ((Kind is codes "agree") ∷ (Loan is loan) ∷ (Partner is partner) ∷ (Objects are objects) ∷ (First is from) ∷ (Last is to) ∷ [])))
-IsJson (Authorise loan name) = Has ((Kind is codes "authorise") ∷ (Loan is loan) ∷ (By is name) ∷ [])
-IsJson (Exit x loan day) =
-    IsDated day (λ text. Has ((Kind is codes "exit") ∷ (Thing is x) ∷ (Loan is loan) ∷ (Day is text) ∷ []))
-IsJson (Return x loan p day) =
-    IsDated day (λ text. Has ((Kind is codes "return") ∷ (Thing is x) ∷ (Loan is loan) ∷ (Place is p) ∷ (Day is text) ∷ []))
-IsJson (Receive x loan p day) =
-    IsDated day (λ text. Has ((Kind is codes "receive") ∷ (Thing is x) ∷ (Loan is loan) ∷ (Place is p) ∷ (Day is text) ∷ []))
-IsJson (SignOff name) = Has ((Kind is codes "signoff") ∷ (By is name) ∷ [])
-IsJson (Extend loan last) =
-    IsDated last (λ text. Has ((Kind is codes "extend") ∷ (Loan is loan) ∷ (Last is text) ∷ []))
+abbrev pub json : message.Message → Data
+json m = object (members_of (members m))
 
--- the text of a message; there is one
+-- the one text of a message
+abbrev pub body_of : message.Message → List ℕ
+body_of m = compact_text (json m)
+
 abbrev pub IsTextOf : message.Message → List ℕ → Type 0
-IsTextOf m text = (d : Data) × IsJson m d × (text ≡ compact_text d)
+IsTextOf m text = text ≡ body_of m
+
+-- a day that its text spells, and no other text
+abbrev pub IsDay : ℤ → Type 0
+IsDay day = IsOnlySpelling (day_text day) day
+
+-- codes of things, and no more than a loan lists
+pub record AreThings (objects : List (List ℕ)) : Type 0 where
+  pub things : list_all is_thing objects ≡ true
+  pub few : length objects ≤ MOST_OBJECTS
+
+-- what a message says is spelled as codes, names and days are; that of each message is
+abbrev pub IsSpelled : message.Message → Type 0
+IsSpelled (Move x p day) = (thing_fault x ≡ None) × (place_fault p ≡ None) × IsDay day
+IsSpelled (Pack x c day) = (thing_fault x ≡ None) × (thing_fault c ≡ None) × IsDay day
+IsSpelled (Agree loan partner objects first last) =
+    (loan_fault loan ≡ None) × (place_fault partner ≡ None) × AreThings objects × IsDay first × IsDay last
+IsSpelled (Authorise loan name) = (loan_fault loan ≡ None) × IsName name
+IsSpelled (Exit x loan day) = (thing_fault x ≡ None) × (loan_fault loan ≡ None) × IsDay day
+IsSpelled (Return x loan p day) =
+    (thing_fault x ≡ None) × (loan_fault loan ≡ None) × (place_fault p ≡ None) × IsDay day
+IsSpelled (Receive x loan p day) =
+    (thing_fault x ≡ None) × (loan_fault loan ≡ None) × (place_fault p ≡ None) × IsDay day
+IsSpelled (SignOff name) = IsName name
+IsSpelled (Extend loan last) = (loan_fault loan ≡ None) × IsDay last

@@ -8,8 +8,11 @@ use Rattle.std.specs.declared.alloc.Global.{Global}
 use Rattle.posting_core.specs.Book.{Book, line_in, last_day_in}
 use Rattle.posting_core.specs.declared.entry.NewLine.{NewLine}
 use Rattle.posting_core.specs.declared.stage.LineStage.{LineStage}
+use Rattle.posting_core.specs.VerdictNames.{verdict_number}
+use Rattle.register_store.specs.declared.kept_entry.KeptEntry.{KeptEntry}
 use Rattle.register_store.specs.declared.loan_rows.LineKey.{LineKey}
 use Rattle.register_store.specs.declared.rows.KeptPosting.{KeptPosting}
+use Rattle.register_store.specs.MessageText.{body_of}
 use Rattle.register_store.specs.StoredRows.{Content, MetaRow, PostingRow, TermRow, AreSame, rows_of_meta}
 use Rattle.register_store.specs.Holdings.{Holding}
 
@@ -36,9 +39,19 @@ abbrev pub meta_of : Option (Vec (String Global) Global) → List MetaRow
 meta_of None = []
 meta_of (Some texts) = rows_of_meta 12
 
--- the row that a posting is kept as
+-- the row of a posting whose numbers can be an entry's
 abbrev pub posting_row : KeptPosting → PostingRow
 posting_row r = record { id = pos r.id; station = pos r.station; n = pos r.n; body = string_bytes r.body; verdict = pos r.verdict }
+
+-- the row of an entry that is kept under its number: its body is the message's one text
+abbrev pub kept_row : KeptEntry → PostingRow
+kept_row k = record {
+  id = pos k.id;
+  station = pos k.entry.station;
+  n = pos k.entry.n;
+  body = body_of k.entry.message;
+  verdict = pos (verdict_number k.entry.verdict);
+}
 
 -- lines of the same object under the same loan
 abbrev pub has_same_key : NewLine → NewLine → Bool

@@ -1,42 +1,42 @@
 //! The values at the keys of an object.
 ghost use Rattle.std.specs.Prelude.{◌≡◌, ◌≢◌, None, Some, IfErr, MatchResult, option_and_then, List, ℕ, Bool};
-ghost use Rattle.serde_json.specs.View.{view};
 ghost use Rattle.serde_json.specs.Find.{get, as_str};
 ghost use Rattle.register_store.specs.Spelling.{key_name, is_thing, is_place, is_loan, is_day, is_name};
 ghost use Rattle.register_store.specs.Kinds.{◌spells◌, text_at, day_at as day_said, fault_at};
 
 use crate::{Key, ReadFault};
+use borrowed_json::Fields;
 use codes_core::{Day, LoanCode, Name, NameFault, PlaceCode, ThingCode};
-use serde_json::Value;
 use std::alloc::Global;
 
 /// The value at a key, else Missing.
-pub fn value_at<'a>(object: &'a Value, key: Key) -> Result<&'a Value, ReadFault>
+pub fn value_at<'a, V: Fields>(object: &'a V, key: Key) -> Result<&'a V, ReadFault>
     ensures exact { MatchResult result
-        (λ value. get (key_name key) (view object.now) ≡ Some (view value.now))
-        (λ fault. (get (key_name key) (view object.now) ≡ None) × (fault ≡ ReadFault.Missing key)) }
+        (λ value. get (key_name key) (V.seen object.now) ≡ Some (V.seen value.now))
+        (λ fault. (get (key_name key) (V.seen object.now) ≡ None) × (fault ≡ ReadFault.Missing key)) }
 {
-    object.get(key.name()).ok_or(ReadFault::Missing(key))
+    object.at(key.name()).ok_or(ReadFault::Missing(key))
 }
 
 /// The string at a key, else Missing or BadField.
-pub fn string_at<'a>(object: &'a Value, key: Key) -> Result<&'a str, ReadFault>
+pub fn string_at<'a, V: Fields>(object: &'a V, key: Key) -> Result<&'a str, ReadFault>
     // The fault is the same whatever texts are right there.
     ensures exact { MatchResult result
-        (λ text. option_and_then as_str (get (key_name key) (view object.now)) ≡ Some text.now)
-        (λ fault. (test : List ℕ → Bool) → fault_at (view object.now) (key spells test) ≡ Some fault) }
+        (λ text. option_and_then as_str (get (key_name key) (V.seen object.now)) ≡ Some text.now)
+        (λ fault. (test : List ℕ → Bool) → fault_at (V.seen object.now) (key spells test) ≡ Some fault) }
     ensures told { IfErr result (λ fault. fault ≢ ReadFault.NoMemory) }
 {
     value_at(object, key)?
-        .as_str()
+        .text()
         .ok_or(ReadFault::BadField(key))
 }
 
 /// The thing's code at a key, else Missing or BadField.
-pub fn thing_at(object: &Value, key: Key) -> Result<ThingCode, ReadFault>
+pub fn thing_at<V: Fields>(object: &V, key: Key) -> Result<ThingCode, ReadFault>
     ensures exact { MatchResult result
-        (λ code. (fault_at (view object.now) (key spells is_thing) ≡ None) × (code ≡ text_at (view object.now) key))
-        (λ fault. fault_at (view object.now) (key spells is_thing) ≡ Some fault) }
+        (λ code. (fault_at (V.seen object.now) (key spells is_thing) ≡ None) × (code ≡ text_at (V.seen object.now) key))
+        (λ fault. fault_at (V.seen object.now) (key spells is_thing) ≡ Some fault) }
+    ensures told { IfErr result (λ fault. fault ≢ ReadFault.NoMemory) }
 {
     let text = string_at(object, key)?;
     ThingCode::parse(text.as_bytes())
@@ -45,10 +45,11 @@ pub fn thing_at(object: &Value, key: Key) -> Result<ThingCode, ReadFault>
 }
 
 /// The place's code at a key, else Missing or BadField.
-pub(crate) fn place_at(object: &Value, key: Key) -> Result<PlaceCode, ReadFault>
+pub(crate) fn place_at<V: Fields>(object: &V, key: Key) -> Result<PlaceCode, ReadFault>
     ensures exact { MatchResult result
-        (λ code. (fault_at (view object.now) (key spells is_place) ≡ None) × (code ≡ text_at (view object.now) key))
-        (λ fault. fault_at (view object.now) (key spells is_place) ≡ Some fault) }
+        (λ code. (fault_at (V.seen object.now) (key spells is_place) ≡ None) × (code ≡ text_at (V.seen object.now) key))
+        (λ fault. fault_at (V.seen object.now) (key spells is_place) ≡ Some fault) }
+    ensures told { IfErr result (λ fault. fault ≢ ReadFault.NoMemory) }
 {
     let text = string_at(object, key)?;
     PlaceCode::parse(text.as_bytes())
@@ -57,10 +58,10 @@ pub(crate) fn place_at(object: &Value, key: Key) -> Result<PlaceCode, ReadFault>
 }
 
 /// The loan's code at a key, else Missing or BadField.
-pub(crate) fn loan_at(object: &Value, key: Key) -> Result<LoanCode, ReadFault>
+pub(crate) fn loan_at<V: Fields>(object: &V, key: Key) -> Result<LoanCode, ReadFault>
     ensures exact { MatchResult result
-        (λ code. (fault_at (view object.now) (key spells is_loan) ≡ None) × (code ≡ text_at (view object.now) key))
-        (λ fault. fault_at (view object.now) (key spells is_loan) ≡ Some fault) }
+        (λ code. (fault_at (V.seen object.now) (key spells is_loan) ≡ None) × (code ≡ text_at (V.seen object.now) key))
+        (λ fault. fault_at (V.seen object.now) (key spells is_loan) ≡ Some fault) }
     ensures told { IfErr result (λ fault. fault ≢ ReadFault.NoMemory) }
 {
     let text = string_at(object, key)?;
@@ -70,10 +71,11 @@ pub(crate) fn loan_at(object: &Value, key: Key) -> Result<LoanCode, ReadFault>
 }
 
 /// The day at a key, else Missing or BadField.
-pub(crate) fn day_at(object: &Value, key: Key) -> Result<Day, ReadFault>
+pub(crate) fn day_at<V: Fields>(object: &V, key: Key) -> Result<Day, ReadFault>
     ensures exact { MatchResult result
-        (λ day. (fault_at (view object.now) (key spells is_day) ≡ None) × (day ≡ day_said (view object.now) key))
-        (λ fault. fault_at (view object.now) (key spells is_day) ≡ Some fault) }
+        (λ day. (fault_at (V.seen object.now) (key spells is_day) ≡ None) × (day ≡ day_said (V.seen object.now) key))
+        (λ fault. fault_at (V.seen object.now) (key spells is_day) ≡ Some fault) }
+    ensures told { IfErr result (λ fault. fault ≢ ReadFault.NoMemory) }
 {
     let text = string_at(object, key)?;
     Day::parse(text.as_bytes())
@@ -82,11 +84,11 @@ pub(crate) fn day_at(object: &Value, key: Key) -> Result<Day, ReadFault>
 }
 
 /// The name at a key, else Missing, BadField or, where a name stands there, NoMemory.
-pub(crate) fn name_at(alloc: Global, object: &Value, key: Key) -> Result<Name, ReadFault>
+pub(crate) fn name_at<V: Fields>(alloc: Global, object: &V, key: Key) -> Result<Name, ReadFault>
     ensures exact { MatchResult result
-        (λ name. (fault_at (view object.now) (key spells is_name) ≡ None) × (name ≡ text_at (view object.now) key))
-        (λ fault. fault ≢ ReadFault.NoMemory → fault_at (view object.now) (key spells is_name) ≡ Some fault) }
-    ensures gives_up { result ≡ Err ReadFault.NoMemory → fault_at (view object.now) (key spells is_name) ≡ None }
+        (λ name. (fault_at (V.seen object.now) (key spells is_name) ≡ None) × (name ≡ text_at (V.seen object.now) key))
+        (λ fault. fault ≢ ReadFault.NoMemory → fault_at (V.seen object.now) (key spells is_name) ≡ Some fault) }
+    ensures gives_up { result ≡ Err ReadFault.NoMemory → fault_at (V.seen object.now) (key spells is_name) ≡ None }
 {
     let text = string_at(object, key)?;
     match Name::new(alloc, text.as_bytes()) {

@@ -3,6 +3,7 @@
 
 mod fault;
 mod field;
+mod kept_entry;
 mod key;
 pub mod laws;
 mod ledger_rows;
@@ -17,6 +18,7 @@ mod plain;
 mod register;
 mod rows;
 mod same_rows;
+mod spelled;
 mod store_fault;
 
 pub use fault::ReadFault;
@@ -24,7 +26,7 @@ pub use field::{string_at, thing_at, value_at};
 pub use key::Key;
 pub use ledger_rows::{lines_of, row_texts, spot_rows, terms_of};
 pub use loan_rows::{LineKey, term_of};
-pub use message_reader::{message_of, read_message};
+pub use message_reader::{message_in, message_of, read_message};
 pub use message_writer::message_text;
 pub use plain::{NEW_DEPTH, PlainRegister};
 pub use register::Register;

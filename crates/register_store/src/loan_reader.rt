@@ -1,25 +1,25 @@
 //! Messages of loans read from JSON.
-ghost use Rattle.std.specs.Prelude.{◌≡◌, ◌≢◌, Ok, Err, IsOk, MatchResult};
-ghost use Rattle.serde_json.specs.View.{view};
-ghost use Rattle.register_store.specs.Kinds.{kind_named, loan_kinds, of_named, of_row, agree_row, authorise_row, exit_row, return_row, receive_row, extend_row};
+ghost use Rattle.std.specs.Prelude.{◌≡◌, ◌≢◌, true, is_some, Ok, Err, IsOk, IfErr, MatchResult};
+ghost use Rattle.register_store.specs.Kinds.{kind_named, loan_kinds, kinds_that_grow, of_named, of_row, agree_row, authorise_row, exit_row, return_row, receive_row, extend_row};
 
 use crate::field::{day_at, loan_at, name_at, place_at, thing_at};
 use crate::object_list::objects_at;
 use crate::{Key, ReadFault};
+use borrowed_json::Fields;
 use posting_core::Message;
-use serde_json::Value;
 use std::alloc::Global;
 
 /// The message of a loan that an object of this kind spells, else its first fault; BadKind where no loan has messages of
-/// this kind. NoMemory may stand in place of any answer.
-pub(crate) fn loan_message_of(
+/// this kind. NoMemory only where it keeps a name or a list of objects.
+pub(crate) fn loan_message_of<V: Fields>(
     alloc: Global,
     kind: &str,
-    object: &Value,
+    object: &V,
 ) -> Result<Message, ReadFault>
     ensures exact { MatchResult result
-        (λ message. of_named (view object.now) (kind_named loan_kinds kind.now) ≡ Ok message)
-        (λ fault. fault ≢ ReadFault.NoMemory → of_named (view object.now) (kind_named loan_kinds kind.now) ≡ Err fault) }
+        (λ message. of_named (V.seen object.now) (kind_named loan_kinds kind.now) ≡ Ok message)
+        (λ fault. fault ≢ ReadFault.NoMemory → of_named (V.seen object.now) (kind_named loan_kinds kind.now) ≡ Err fault) }
+    ensures gives_up { result ≡ Err ReadFault.NoMemory → is_some (kind_named kinds_that_grow kind.now) ≡ true }
 {
     match kind {
         "agree" => agree_of(alloc, object),
@@ -32,10 +32,10 @@ pub(crate) fn loan_message_of(
     }
 }
 
-fn agree_of(alloc: Global, object: &Value) -> Result<Message, ReadFault>
+fn agree_of<V: Fields>(alloc: Global, object: &V) -> Result<Message, ReadFault>
     ensures exact { MatchResult result
-        (λ message. of_row (view object.now) agree_row ≡ Ok message)
-        (λ fault. fault ≢ ReadFault.NoMemory → of_row (view object.now) agree_row ≡ Err fault) }
+        (λ message. of_row (V.seen object.now) agree_row ≡ Ok message)
+        (λ fault. fault ≢ ReadFault.NoMemory → of_row (V.seen object.now) agree_row ≡ Err fault) }
 {
     let loan = loan_at(object, Key::Loan)?;
     let partner = place_at(object, Key::Partner)?;
@@ -51,21 +51,22 @@ fn agree_of(alloc: Global, object: &Value) -> Result<Message, ReadFault>
     })
 }
 
-fn authorise_of(alloc: Global, object: &Value) -> Result<Message, ReadFault>
+fn authorise_of<V: Fields>(alloc: Global, object: &V) -> Result<Message, ReadFault>
     ensures exact { MatchResult result
-        (λ message. of_row (view object.now) authorise_row ≡ Ok message)
-        (λ fault. fault ≢ ReadFault.NoMemory → of_row (view object.now) authorise_row ≡ Err fault) }
-    ensures gives_up { result ≡ Err ReadFault.NoMemory → IsOk (of_row (view object.now) authorise_row) }
+        (λ message. of_row (V.seen object.now) authorise_row ≡ Ok message)
+        (λ fault. fault ≢ ReadFault.NoMemory → of_row (V.seen object.now) authorise_row ≡ Err fault) }
+    ensures gives_up { result ≡ Err ReadFault.NoMemory → IsOk (of_row (V.seen object.now) authorise_row) }
 {
     let loan = loan_at(object, Key::Loan)?;
     let name = name_at(alloc, object, Key::By)?;
     Ok(Message::Authorise { loan, name })
 }
 
-fn exit_of(object: &Value) -> Result<Message, ReadFault>
+fn exit_of<V: Fields>(object: &V) -> Result<Message, ReadFault>
     ensures exact { MatchResult result
-        (λ message. of_row (view object.now) exit_row ≡ Ok message)
-        (λ fault. of_row (view object.now) exit_row ≡ Err fault) }
+        (λ message. of_row (V.seen object.now) exit_row ≡ Ok message)
+        (λ fault. of_row (V.seen object.now) exit_row ≡ Err fault) }
+    ensures told { IfErr result (λ fault. fault ≢ ReadFault.NoMemory) }
 {
     let thing = thing_at(object, Key::Thing)?;
     let loan = loan_at(object, Key::Loan)?;
@@ -73,10 +74,11 @@ fn exit_of(object: &Value) -> Result<Message, ReadFault>
     Ok(Message::Exit { thing, loan, day })
 }
 
-fn return_of(object: &Value) -> Result<Message, ReadFault>
+fn return_of<V: Fields>(object: &V) -> Result<Message, ReadFault>
     ensures exact { MatchResult result
-        (λ message. of_row (view object.now) return_row ≡ Ok message)
-        (λ fault. of_row (view object.now) return_row ≡ Err fault) }
+        (λ message. of_row (V.seen object.now) return_row ≡ Ok message)
+        (λ fault. of_row (V.seen object.now) return_row ≡ Err fault) }
+    ensures told { IfErr result (λ fault. fault ≢ ReadFault.NoMemory) }
 {
     let thing = thing_at(object, Key::Thing)?;
     let loan = loan_at(object, Key::Loan)?;
@@ -90,10 +92,11 @@ fn return_of(object: &Value) -> Result<Message, ReadFault>
     })
 }
 
-fn receive_of(object: &Value) -> Result<Message, ReadFault>
+fn receive_of<V: Fields>(object: &V) -> Result<Message, ReadFault>
     ensures exact { MatchResult result
-        (λ message. of_row (view object.now) receive_row ≡ Ok message)
-        (λ fault. of_row (view object.now) receive_row ≡ Err fault) }
+        (λ message. of_row (V.seen object.now) receive_row ≡ Ok message)
+        (λ fault. of_row (V.seen object.now) receive_row ≡ Err fault) }
+    ensures told { IfErr result (λ fault. fault ≢ ReadFault.NoMemory) }
 {
     let thing = thing_at(object, Key::Thing)?;
     let loan = loan_at(object, Key::Loan)?;
@@ -107,10 +110,11 @@ fn receive_of(object: &Value) -> Result<Message, ReadFault>
     })
 }
 
-fn extend_of(object: &Value) -> Result<Message, ReadFault>
+fn extend_of<V: Fields>(object: &V) -> Result<Message, ReadFault>
     ensures exact { MatchResult result
-        (λ message. of_row (view object.now) extend_row ≡ Ok message)
-        (λ fault. of_row (view object.now) extend_row ≡ Err fault) }
+        (λ message. of_row (V.seen object.now) extend_row ≡ Ok message)
+        (λ fault. of_row (V.seen object.now) extend_row ≡ Err fault) }
+    ensures told { IfErr result (λ fault. fault ≢ ReadFault.NoMemory) }
 {
     let loan = loan_at(object, Key::Loan)?;
     let last = day_at(object, Key::Last)?;

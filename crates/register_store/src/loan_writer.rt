@@ -1,8 +1,7 @@
 //! Messages of loans written as JSON.
-ghost use Rattle.std.specs.Prelude.{◌≡◌, IfOk, Ok};
+ghost use Rattle.std.specs.Prelude.{◌≡◌, IfOk};
 ghost use Rattle.serde_json.specs.View.{view};
-ghost use Rattle.register_store.specs.Kinds.{of_json};
-ghost use Rattle.register_store.specs.MessageText.{IsJson};
+ghost use Rattle.register_store.specs.MessageText.{json};
 
 use crate::Key;
 use crate::member::{object_of_kind, put_day, put_text, put_things};
@@ -19,8 +18,7 @@ pub(crate) fn agree_object(
     first: Day,
     last: Day,
 ) -> Result<Value, NoMemory>
-    ensures object { IfOk result (λ value. IsJson (Message.Agree loan.now partner.now objects.now first last) (view value)) }
-    ensures reads_back { IfOk result (λ value. of_json (view value) ≡ Ok (Message.Agree loan.now partner.now objects.now first last)) }
+    ensures { IfOk result (λ value. view value ≡ json (Message.Agree loan.now partner.now objects.now first last)) }
 {
     let mut object = object_of_kind(alloc, "agree")?;
     put_text(alloc, &mut object, Key::Loan, loan.as_str())?;
@@ -36,8 +34,7 @@ pub(crate) fn authorise_object(
     loan: &LoanCode,
     name: &Name,
 ) -> Result<Value, NoMemory>
-    ensures object { IfOk result (λ value. IsJson (Message.Authorise loan.now name.now) (view value)) }
-    ensures reads_back { IfOk result (λ value. of_json (view value) ≡ Ok (Message.Authorise loan.now name.now)) }
+    ensures { IfOk result (λ value. view value ≡ json (Message.Authorise loan.now name.now)) }
 {
     let mut object = object_of_kind(alloc, "authorise")?;
     put_text(alloc, &mut object, Key::Loan, loan.as_str())?;
@@ -51,8 +48,7 @@ pub(crate) fn exit_object(
     loan: &LoanCode,
     day: Day,
 ) -> Result<Value, NoMemory>
-    ensures object { IfOk result (λ value. IsJson (Message.Exit thing.now loan.now day) (view value)) }
-    ensures reads_back { IfOk result (λ value. of_json (view value) ≡ Ok (Message.Exit thing.now loan.now day)) }
+    ensures { IfOk result (λ value. view value ≡ json (Message.Exit thing.now loan.now day)) }
 {
     let mut object = object_of_kind(alloc, "exit")?;
     put_text(alloc, &mut object, Key::Thing, thing.as_str())?;
@@ -68,8 +64,7 @@ pub(crate) fn return_object(
     place: &PlaceCode,
     day: Day,
 ) -> Result<Value, NoMemory>
-    ensures object { IfOk result (λ value. IsJson (Message.Return thing.now loan.now place.now day) (view value)) }
-    ensures reads_back { IfOk result (λ value. of_json (view value) ≡ Ok (Message.Return thing.now loan.now place.now day)) }
+    ensures { IfOk result (λ value. view value ≡ json (Message.Return thing.now loan.now place.now day)) }
 {
     let mut object = object_of_kind(alloc, "return")?;
     put_text(alloc, &mut object, Key::Thing, thing.as_str())?;
@@ -86,8 +81,7 @@ pub(crate) fn receive_object(
     place: &PlaceCode,
     day: Day,
 ) -> Result<Value, NoMemory>
-    ensures object { IfOk result (λ value. IsJson (Message.Receive thing.now loan.now place.now day) (view value)) }
-    ensures reads_back { IfOk result (λ value. of_json (view value) ≡ Ok (Message.Receive thing.now loan.now place.now day)) }
+    ensures { IfOk result (λ value. view value ≡ json (Message.Receive thing.now loan.now place.now day)) }
 {
     let mut object = object_of_kind(alloc, "receive")?;
     put_text(alloc, &mut object, Key::Thing, thing.as_str())?;
@@ -98,8 +92,7 @@ pub(crate) fn receive_object(
 }
 
 pub(crate) fn extend_object(alloc: Global, loan: &LoanCode, last: Day) -> Result<Value, NoMemory>
-    ensures object { IfOk result (λ value. IsJson (Message.Extend loan.now last) (view value)) }
-    ensures reads_back { IfOk result (λ value. of_json (view value) ≡ Ok (Message.Extend loan.now last)) }
+    ensures { IfOk result (λ value. view value ≡ json (Message.Extend loan.now last)) }
 {
     let mut object = object_of_kind(alloc, "extend")?;
     put_text(alloc, &mut object, Key::Loan, loan.as_str())?;

@@ -1,12 +1,10 @@
 //! The members of an object, and their values.
-ghost use Rattle.std.specs.Prelude.{◌≡◌, List, ℕ, IfOk, OnOk, map, true};
-ghost use Rattle.std.specs.List.{list_all};
+ghost use Rattle.std.specs.Prelude.{◌≡◌, IfOk, OnOk, map};
 ghost use Rattle.serde_json.specs.Data.{string, array, put, no_members};
 ghost use Rattle.serde_json.specs.View.{items_of, items_view, members_view};
-ghost use Rattle.codes_core.specs.Day.{IsOnlySpelling};
-ghost use Rattle.register_store.specs.Spelling.{key_name, is_thing};
+ghost use Rattle.codes_core.specs.Day.{day_text};
+ghost use Rattle.register_store.specs.Spelling.{key_name};
 ghost use Rattle.register_store.specs.declared.key.Key.{Key};
-ghost use Rattle.register_store.specs.Kinds.{are_strings};
 
 use crate::Key;
 use codes_core::{Day, NoMemory, ThingCode};
@@ -46,9 +44,8 @@ pub(crate) fn put_things(
     key: Key,
     things: &Objects,
 ) -> Result<(), NoMemory>
-    ensures array { OnOk result (members_view object.new.entries
+    ensures { OnOk result (members_view object.new.entries
         ≡ put (key_name key) (array (items_of (map string things.now))) (members_view object.old.entries)) }
-    ensures fits { OnOk result (are_strings is_thing (items_of (map string things.now)) ≡ true) }
 {
     let items = things_array(alloc, things.as_slice())?;
     serde_json::put(object, alloc, key.name(), Value::Array(items))?;
@@ -57,8 +54,7 @@ pub(crate) fn put_things(
 
 /// The strings of things.
 fn things_array(alloc: Global, things: &[ThingCode]) -> Result<Vec<Value>, NoMemory>
-    ensures strings { IfOk result (λ items. items_view items.items ≡ items_of (map string things.now)) }
-    ensures things { IfOk result (λ _. list_all is_thing things.now ≡ true) }
+    ensures { IfOk result (λ items. items_view items.items ≡ items_of (map string things.now)) }
 {
     let mut items = Vec::new(alloc);
     for thing in things {
@@ -74,8 +70,8 @@ pub(crate) fn put_day(
     key: Key,
     day: Day,
 ) -> Result<(), NoMemory>
-    ensures { OnOk result ((text : List ℕ) × IsOnlySpelling text day
-        × (members_view object.new.entries ≡ put (key_name key) (string text) (members_view object.old.entries))) }
+    ensures { OnOk result (members_view object.new.entries
+        ≡ put (key_name key) (string (day_text day)) (members_view object.old.entries)) }
 {
     let mut text = String::new(alloc);
     day.write(alloc, &mut text)?;

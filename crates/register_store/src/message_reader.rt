@@ -1,11 +1,12 @@
 //! Messages read from JSON.
-ghost use Rattle.std.specs.Prelude.{◌≡◌, ◌≢◌, Ok, Err, IsOk, MatchResult};
+ghost use Rattle.std.specs.Prelude.{◌≡◌, ◌≢◌, true, Ok, Err, IsOk, IfErr, MatchResult};
 ghost use Rattle.serde_json.specs.View.{view};
-ghost use Rattle.register_store.specs.Kinds.{of_row, move_row, pack_row, sign_off_row, of_json, of_bytes};
+ghost use Rattle.register_store.specs.Kinds.{of_row, move_row, pack_row, sign_off_row, takes_memory, of_json, of_bytes};
 
 use crate::field::{day_at, name_at, place_at, thing_at, value_at};
 use crate::loan_reader::loan_message_of;
 use crate::{Key, ReadFault};
+use borrowed_json::{Fields, Scratch, TextFault};
 use posting_core::Message;
 use serde_json::Value;
 use std::alloc::Global;
@@ -15,22 +16,35 @@ pub fn read_message(alloc: Global, bytes: &[u8]) -> Result<Message, ReadFault>
     ensures exact { MatchResult result (λ message. of_bytes bytes.now ≡ Ok message)
         (λ fault. fault ≢ ReadFault.NoMemory → of_bytes bytes.now ≡ Err fault) }
 {
-    match Value::from_slice(alloc, bytes) {
-        Ok(value) => message_of(alloc, &value),
-        Err(error) if error.is_memory() => Err(ReadFault::NoMemory),
-        Err(_) => Err(ReadFault::NotJson),
+    let mut scratch = Scratch::new(alloc);
+    match borrowed_json::Value::from_slice(alloc, bytes, &mut scratch) {
+        Ok(value) => message_in(alloc, &value),
+        Err(TextFault::NotJson) => Err(ReadFault::NotJson),
+        Err(TextFault::NoMemory) => Err(ReadFault::NoMemory),
     }
 }
 
-/// The message that a value spells, else its first fault; NoMemory may stand in place of any answer.
+/// The message that a value spells, else its first fault; NoMemory only where the value is of a kind that keeps a name or a
+/// list of objects.
 pub fn message_of(alloc: Global, value: &Value) -> Result<Message, ReadFault>
     ensures exact { MatchResult result (λ message. of_json (view value.now) ≡ Ok message)
         (λ fault. fault ≢ ReadFault.NoMemory → of_json (view value.now) ≡ Err fault) }
+    ensures gives_up { result ≡ Err ReadFault.NoMemory → takes_memory (view value.now) ≡ true }
 {
-    if !value.is_object() {
+    message_in(alloc, value)
+}
+
+/// The same of any JSON value.
+#[tactic(auto, using(crate::proofs::Objects::of_object, crate::proofs::Objects::no_object))]
+pub fn message_in<V: Fields>(alloc: Global, value: &V) -> Result<Message, ReadFault>
+    ensures exact { MatchResult result (λ message. of_json (V.seen value.now) ≡ Ok message)
+        (λ fault. fault ≢ ReadFault.NoMemory → of_json (V.seen value.now) ≡ Err fault) }
+    ensures gives_up { result ≡ Err ReadFault.NoMemory → takes_memory (V.seen value.now) ≡ true }
+{
+    if !value.has_members() {
         return Err(ReadFault::NotJson);
     }
-    let Some(kind) = value_at(value, Key::Kind)?.as_str() else {
+    let Some(kind) = value_at(value, Key::Kind)?.text() else {
         return Err(ReadFault::BadKind);
     };
     match kind {
@@ -41,10 +55,11 @@ pub fn message_of(alloc: Global, value: &Value) -> Result<Message, ReadFault>
     }
 }
 
-fn move_of(object: &Value) -> Result<Message, ReadFault>
+fn move_of<V: Fields>(object: &V) -> Result<Message, ReadFault>
     ensures exact { MatchResult result
-        (λ message. of_row (view object.now) move_row ≡ Ok message)
-        (λ fault. of_row (view object.now) move_row ≡ Err fault) }
+        (λ message. of_row (V.seen object.now) move_row ≡ Ok message)
+        (λ fault. of_row (V.seen object.now) move_row ≡ Err fault) }
+    ensures told { IfErr result (λ fault. fault ≢ ReadFault.NoMemory) }
 {
     let thing = thing_at(object, Key::Thing)?;
     let place = place_at(object, Key::Place)?;
@@ -52,10 +67,11 @@ fn move_of(object: &Value) -> Result<Message, ReadFault>
     Ok(Message::Move { thing, place, day })
 }
 
-fn pack_of(object: &Value) -> Result<Message, ReadFault>
+fn pack_of<V: Fields>(object: &V) -> Result<Message, ReadFault>
     ensures exact { MatchResult result
-        (λ message. of_row (view object.now) pack_row ≡ Ok message)
-        (λ fault. of_row (view object.now) pack_row ≡ Err fault) }
+        (λ message. of_row (V.seen object.now) pack_row ≡ Ok message)
+        (λ fault. of_row (V.seen object.now) pack_row ≡ Err fault) }
+    ensures told { IfErr result (λ fault. fault ≢ ReadFault.NoMemory) }
 {
     let thing = thing_at(object, Key::Thing)?;
     let container = thing_at(object, Key::Container)?;
@@ -67,11 +83,11 @@ fn pack_of(object: &Value) -> Result<Message, ReadFault>
     })
 }
 
-fn sign_off_of(alloc: Global, object: &Value) -> Result<Message, ReadFault>
+fn sign_off_of<V: Fields>(alloc: Global, object: &V) -> Result<Message, ReadFault>
     ensures exact { MatchResult result
-        (λ message. of_row (view object.now) sign_off_row ≡ Ok message)
-        (λ fault. fault ≢ ReadFault.NoMemory → of_row (view object.now) sign_off_row ≡ Err fault) }
-    ensures gives_up { result ≡ Err ReadFault.NoMemory → IsOk (of_row (view object.now) sign_off_row) }
+        (λ message. of_row (V.seen object.now) sign_off_row ≡ Ok message)
+        (λ fault. fault ≢ ReadFault.NoMemory → of_row (V.seen object.now) sign_off_row ≡ Err fault) }
+    ensures gives_up { result ≡ Err ReadFault.NoMemory → IsOk (of_row (V.seen object.now) sign_off_row) }
 {
     let name = name_at(alloc, object, Key::By)?;
     Ok(Message::SignOff { name })

@@ -1,14 +1,15 @@
 //! Messages written as JSON.
 ghost use Rattle.std.specs.Prelude.{◌≡◌, IfOk, Ok, string_bytes};
 ghost use Rattle.serde_json.specs.View.{view};
-ghost use Rattle.register_store.specs.Kinds.{of_json, of_bytes};
-ghost use Rattle.register_store.specs.MessageText.{IsJson, IsTextOf};
+ghost use Rattle.register_store.specs.Kinds.{of_bytes};
+ghost use Rattle.register_store.specs.MessageText.{json, IsTextOf};
 
 use crate::Key;
 use crate::loan_writer::{
     agree_object, authorise_object, exit_object, extend_object, receive_object, return_object,
 };
 use crate::member::{object_of_kind, put_day, put_text};
+use crate::spelled::message_is_spelled;
 use codes_core::{Day, Name, NoMemory, PlaceCode, ThingCode};
 use posting_core::Message;
 use serde_json::Value;
@@ -19,14 +20,14 @@ pub fn message_text(alloc: Global, message: &Message) -> Result<String, NoMemory
     ensures text { IfOk result (λ text. IsTextOf message.now (string_bytes text)) }
     ensures reads_back { IfOk result (λ text. of_bytes (string_bytes text) ≡ Ok message.now) }
 {
+    message_is_spelled(message);
     let object = object_of(alloc, message)?;
     Ok(object.to_string(alloc)?)
 }
 
 /// The object of a message.
 fn object_of(alloc: Global, message: &Message) -> Result<Value, NoMemory>
-    ensures object { IfOk result (λ value. IsJson message.now (view value)) }
-    ensures reads_back { IfOk result (λ value. of_json (view value) ≡ Ok message.now) }
+    ensures { IfOk result (λ value. view value ≡ json message.now) }
 {
     match message {
         Message::Move { thing, place, day } => move_object(alloc, thing, place, *day),
@@ -67,8 +68,7 @@ fn move_object(
     place: &PlaceCode,
     day: Day,
 ) -> Result<Value, NoMemory>
-    ensures object { IfOk result (λ value. IsJson (Message.Move thing.now place.now day) (view value)) }
-    ensures reads_back { IfOk result (λ value. of_json (view value) ≡ Ok (Message.Move thing.now place.now day)) }
+    ensures { IfOk result (λ value. view value ≡ json (Message.Move thing.now place.now day)) }
 {
     let mut object = object_of_kind(alloc, "move")?;
     put_text(alloc, &mut object, Key::Thing, thing.as_str())?;
@@ -83,8 +83,7 @@ fn pack_object(
     container: &ThingCode,
     day: Day,
 ) -> Result<Value, NoMemory>
-    ensures object { IfOk result (λ value. IsJson (Message.Pack thing.now container.now day) (view value)) }
-    ensures reads_back { IfOk result (λ value. of_json (view value) ≡ Ok (Message.Pack thing.now container.now day)) }
+    ensures { IfOk result (λ value. view value ≡ json (Message.Pack thing.now container.now day)) }
 {
     let mut object = object_of_kind(alloc, "pack")?;
     put_text(alloc, &mut object, Key::Thing, thing.as_str())?;
@@ -94,8 +93,7 @@ fn pack_object(
 }
 
 fn sign_off_object(alloc: Global, name: &Name) -> Result<Value, NoMemory>
-    ensures object { IfOk result (λ value. IsJson (Message.SignOff name.now) (view value)) }
-    ensures reads_back { IfOk result (λ value. of_json (view value) ≡ Ok (Message.SignOff name.now)) }
+    ensures { IfOk result (λ value. view value ≡ json (Message.SignOff name.now)) }
 {
     let mut object = object_of_kind(alloc, "signoff")?;
     put_text(alloc, &mut object, Key::By, name.as_str())?;

@@ -3,12 +3,13 @@ ghost use Rattle.std.specs.Prelude.{◌≡◌, ◌≢◌, ◌&&◌, ◌∷◌, �
 ghost use Rattle.std.specs.Bool.{Decides};
 ghost use Rattle.std.specs.List.Sorted.{IsPermutation, IsNonDecreasingBy};
 ghost use Rattle.register_store.specs.StoredRows.{ArePostings};
-ghost use Rattle.register_store.specs.Plain.{posting_row};
+ghost use Rattle.register_store.specs.Plain.{kept_row};
 ghost use Rattle.register_store.specs.Registers.{IsOfStation, IsWrongAt};
 
+use crate::kept_entry::KeptEntry;
 use crate::ledger_rows::{lines_of, row_texts, spot_rows, terms_of};
 use crate::loan_rows::{LineKey, put_lines, put_term};
-use crate::rows::{KeptPosting, entry_of, is_same, row_of};
+use crate::rows::is_same;
 use crate::same_rows::{has_all, has_rows};
 use crate::{Register, StoreFault};
 use codes_core::{Day, LoanCode, NoMemory};
@@ -25,7 +26,7 @@ pub const NEW_DEPTH: u32 = 12;
 pub struct PlainRegister {
     /// The setup's rows, once it is bound.
     setup: Option<Vec<String>>,
-    postings: Vec<KeptPosting>,
+    postings: Vec<KeptEntry>,
     spots: Vec<NewSpot>,
     lines: IndexMap<LineKey, LineStage>,
     terms: IndexMap<LoanCode, Day>,
@@ -35,7 +36,7 @@ pub struct PlainRegister {
 
 impl Model for PlainRegister {
     ghost use Rattle.std.specs.Prelude.{map, reverse};
-    ghost use Rattle.register_store.specs.Plain.{Kept, texts_of, meta_of, posting_row, held_lines, term_rows};
+    ghost use Rattle.register_store.specs.Plain.{Kept, texts_of, meta_of, kept_row, held_lines, term_rows};
     ghost use Rattle.register_store.specs.StoredRows.{numbered, spot_row, line_row};
 
     ghost Value = { Kept };
@@ -44,7 +45,7 @@ impl Model for PlainRegister {
       content = record {
         setup = numbered (reverse (texts_of r.setup));
         meta = meta_of r.setup;
-        postings = map posting_row (reverse r.postings.items);
+        postings = map kept_row (reverse r.postings.items);
         spots = map spot_row (reverse r.spots.items);
         lines = map line_row (held_lines r.lines.entries);
         terms = term_rows r.terms.entries;
@@ -124,12 +125,12 @@ impl Register for PlainRegister {
     }
 
     fn post(&mut self, alloc: Global, entry: &Entry, changes: &Changes) -> Result<(), StoreFault> {
-        let row = row_of(alloc, changes.entry, entry)?;
+        let kept = KeptEntry::new(alloc, changes.entry, entry)?;
         let lines = changes.lines.as_slice();
         self.lines.reserve(lines.len())?;
         self.terms.reserve(1)?;
         let spots = changes.spots.as_slice();
-        add_posting(&mut self.postings, &mut self.spots, row, spots)?;
+        add_posting(&mut self.postings, &mut self.spots, kept, spots)?;
         put_lines(&mut self.lines, lines);
         put_term(&mut self.terms, entry);
         Ok(())
@@ -147,20 +148,20 @@ impl Register for PlainRegister {
     }
 }
 
-/// Adds the row of an entry and its spots, or, where memory is refused, neither.
+/// Adds an entry and its spots, or, where memory is refused, neither.
 fn add_posting(
-    postings: &mut Vec<KeptPosting>,
+    postings: &mut Vec<KeptEntry>,
     spots: &mut Vec<NewSpot>,
-    row: KeptPosting,
+    kept: KeptEntry,
     more: &[NewSpot],
 ) -> Result<(), NoMemory>
-    ensures row { OnOk result (postings.new.items ≡ postings.old.items ++ row ∷ []) }
+    ensures posting { OnOk result (postings.new.items ≡ postings.old.items ++ kept ∷ []) }
     ensures spots { OnOk result (spots.new.items ≡ spots.old.items ++ more.now) }
     ensures failed { OnErr result ((postings.new.items ≡ postings.old.items) × (spots.new.items ≡ spots.old.items)) }
 {
     postings.reserve(1)?;
     spots.extend_from_slice(more)?;
-    postings.push(row).unwrap();
+    postings.push(kept).unwrap();
     Ok(())
 }
 
@@ -197,7 +198,7 @@ fn are_same(a: &[String], b: &[String]) -> bool
 }
 
 /// The rows in the order of their numbers.
-fn sort_rows(rows: &mut Vec<KeptPosting>)
+fn sort_rows(rows: &mut Vec<KeptEntry>)
     ensures same { IsPermutation rows.old.items rows.new.items }
     ensures order { IsNonDecreasingBy (λ row. row.id) rows.new.items }
 {
@@ -205,14 +206,14 @@ fn sort_rows(rows: &mut Vec<KeptPosting>)
 }
 
 /// The entries of rows, oldest first; Damaged at the first that is no row of an entry of these stations.
-fn entries_of(alloc: Global, rows: &[KeptPosting], stations: u32) -> Result<Vec<Entry>, StoreFault>
-    ensures kept { IfOk result (λ entries. ArePostings (reverse entries.items) (map posting_row (reverse rows.now))) }
+fn entries_of(alloc: Global, rows: &[KeptEntry], stations: u32) -> Result<Vec<Entry>, StoreFault>
+    ensures kept { IfOk result (λ entries. ArePostings (reverse entries.items) (map kept_row (reverse rows.now))) }
     ensures stationed { IfOk result (λ entries. All (IsOfStation stations) entries.items) }
-    ensures faults { IfErr result (λ fault. fault ≢ StoreFault.NoMemory → (at : ℕ) × (fault ≡ StoreFault.Damaged at) × IsWrongAt stations at (map posting_row rows.now)) }
+    ensures faults { IfErr result (λ fault. fault ≢ StoreFault.NoMemory → (at : ℕ) × (fault ≡ StoreFault.Damaged at) × IsWrongAt stations at (map kept_row rows.now)) }
 {
     let mut entries = Vec::new(alloc);
     for i in 0..rows.len() {
-        match entry_of(alloc, &rows[i], i as u64 + 1, stations) {
+        match rows[i].listed(alloc, i as u64 + 1, stations) {
             Ok(entry) => entries.push(entry)?,
             Err(fault) => return Err(fault),
         }

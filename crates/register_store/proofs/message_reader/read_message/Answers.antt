@@ -18,9 +18,9 @@ of_none bytes none = refused (is_utf8 bytes) bytes (λ utf8. none (IsUtf8-from_i
 pub returns-in-Ok : goal.returns-in-Ok
 returns-in-Ok c =
     let same = of_value _ _ (is_utf8-from_IsUtf8 _ c.in-Ok.ensures.ok.0) c.in-Ok.ensures.ok.1 in
-    rw same c.message_of.ensures
+    record { exact = rw same c.message_in.ensures.exact }
 
-pub returns-in-Err-2 : goal.returns-in-Err-2
-returns-in-Err-2 c =
-    let memory = c.is_memory.ensures.1 in
-    record { exact = λ _. of_none _ (c.in-Err.ensures.err (λ e. let is = memory e in cc)) }
+pub returns-in-Err-NotJson : goal.returns-in-Err-NotJson
+returns-in-Err-NotJson c =
+    let is = c.in-Err-NotJson.field-0-is in
+    record { exact = λ _. of_none _ (c.in-Err-NotJson.ensures.not_json (ap Err is)) }

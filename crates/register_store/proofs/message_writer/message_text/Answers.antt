@@ -1,16 +1,14 @@
-use Rattle.std.proofs.Common.{◌∙◌}
-use Rattle.std.proofs.lemmas.Str.{IsUtf8-string_bytes, is_utf8-from_IsUtf8}
-use Rattle.serde_json.specs.View.{view}
-use Rattle.register_store.proofs.Fields.{of_value}
-use Rattle.register_store.proofs.RoundTrip.{no_float, shallow}
+use Rattle.std.proofs.Common.{◌∙◌, ap, sym, subst, false}
+use Rattle.serde_json.specs.Written.{has_float, compact_text}
+use Rattle.register_store.proofs.RoundTrip.{no_float}
+use Rattle.register_store.specs.Kinds.{of_bytes}
+use Rattle.register_store.proofs.Bodies.{reads_back}
 use Rattle.register_store.proofs.message_writer.message_text.Goals as goal
 
 pub returns-clause-text : goal.returns-clause-text
 returns-clause-text c =
-    let is = c.in_ok-object.ensures.object in
-    (view c.in_ok-object.object, is, c.in_ok-to_string.ensures.text (no_float _ _ is))
+    let is = c.in_ok-object.ensures in
+    c.in_ok-to_string.ensures.text (ap has_float is ∙ no_float c.args.message.now) ∙ ap compact_text is
 
 pub returns-clause-reads_back : goal.returns-clause-reads_back
-returns-clause-reads_back c =
-    let read = c.in_ok-to_string.ensures.reads_back (shallow _ _ c.in_ok-object.ensures.object) in
-    of_value _ _ (is_utf8-from_IsUtf8 _ (IsUtf8-string_bytes c.in_ok-to_string.field-0)) read ∙ c.in_ok-object.ensures.reads_back
+returns-clause-reads_back c = ap of_bytes (returns-clause-text c) ∙ reads_back c.args.message.now c.message_is_spelled.ensures

@@ -2,7 +2,7 @@ use Rattle.std.proofs.Common.{rules, ◌+◌, ◌∷◌, map, reverse, take, dro
 use Rattle.std.proofs.lemmas.List.{map-append, length-map}
 use Rattle.indexmap.proofs.ReorderLemmas.{map-reverse}
 use Rattle.std.proofs.lemmas.List.Sorted.{IsPermutation-reverse, All-permutation}
-use Rattle.register_store.specs.Plain.{posting_row}
+use Rattle.register_store.specs.Plain.{kept_row}
 use Rattle.register_store.specs.StoredRows.{ArePostings}
 use Rattle.register_store.specs.Registers.{IsOfStation}
 use Rattle.register_store.proofs.Lists.{split_at}
@@ -25,13 +25,13 @@ returns-in-Err-clause-faults c other =
       i + 1,
       search rules,
       record {
-        before = map posting_row (take i rows);
-        row = posting_row c.index-rows-i.result;
-        after = map posting_row (drop (i + 1) rows);
-        split = ap (map posting_row) (split_at rows i c.index-rows-i.result c.loop-i-test.true c.index-rows-i.is) ∙ map-append posting_row (take i rows) (c.index-rows-i.result ∷ drop (i + 1) rows);
-        number = ap (λ n. n + 1) (length-map (take i rows) posting_row ∙ taken_length rows i c.loop-i-test.true);
+        before = map kept_row (take i rows);
+        row = kept_row c.index-rows-i.result;
+        after = map kept_row (drop (i + 1) rows);
+        split = ap (map kept_row) (split_at rows i c.index-rows-i.result c.loop-i-test.true c.index-rows-i.is) ∙ map-append kept_row (take i rows) (c.index-rows-i.result ∷ drop (i + 1) rows);
+        number = ap (λ n. n + 1) (length-map (take i rows) kept_row ∙ taken_length rows i c.loop-i-test.true);
         entries = reverse c.loop-i.entries.items;
-        right = subst (ArePostings (reverse c.loop-i.entries.items)) (map-reverse posting_row (take i rows)) c.loop-i.invariant.kept;
+        right = subst (ArePostings (reverse c.loop-i.entries.items)) (map-reverse kept_row (take i rows)) c.loop-i.invariant.kept;
         stationed = All-permutation (IsOfStation c.args.stations) c.loop-i.entries.items _ (IsPermutation-reverse c.loop-i.entries.items) c.loop-i.invariant.stationed;
         wrong = search rules;
       },

@@ -1,6 +1,6 @@
 use Rattle.std.proofs.Common.{rules, refl, sym, subst, ap}
 use Rattle.std.specs.List.Sorted.{IsPermutation}
-use Rattle.register_store.specs.Plain.{Kept, posting_row, has_same_key, held_lines, term_rows}
+use Rattle.register_store.specs.Plain.{Kept, kept_row, has_same_key, held_lines, term_rows}
 use Rattle.register_store.specs.StoredRows.{put_each, term_of}
 use Rattle.register_store.specs.Holdings.{IsPosted}
 use Rattle.register_store.proofs.Kept.{same_itself, same_back, same_then, comes_from, posted_same, left_as_was}
@@ -17,9 +17,9 @@ returns-clause-posted c =
     let dated : IsPermutation (term_rows c.put_term.new.kept.entries) (with_term (term_of c.args.entry.now) (term_rows c.self.inside.terms.entries)) =
     subst (λ es. IsPermutation (term_rows c.put_term.new.kept.entries) (with_term (term_of c.args.entry.now) (term_rows es))) c.reserve-2.ensures.entries c.put_term.ensures in
     let now = posted_same c.self.inside.setup c.self.inside.postings.items c.add_posting.new.postings.items c.self.inside.spots.items c.add_posting.new.spots.items (held_lines c.self.inside.lines.entries) (held_lines c.put_lines.new.kept.entries)
-    (term_rows c.self.inside.terms.entries) (term_rows c.put_term.new.kept.entries) c.in_ok-row.row c.args.entry.now c.args.changes.now K K
+    (term_rows c.self.inside.terms.entries) (term_rows c.put_term.new.kept.entries) c.in_ok-kept.kept c.args.entry.now c.args.changes.now K K
     (search rules) (search rules) lined dated (sym (ap (λ (k : Kept). k.content) c.self.view_is)) (same_itself K) in
-    comes_from K _ (IsPosted c.args.entry.now c.args.changes.now) (λ d h. (posting_row c.in_ok-row.row, c.in_ok-row.ensures, same_then _ _ d (same_back _ _ now) h))
+    comes_from K _ (IsPosted c.args.entry.now c.args.changes.now) (λ d h. (kept_row c.in_ok-kept.kept, c.in_ok-kept.ensures, same_then _ _ d (same_back _ _ now) h))
 
 pub returns-in_err-reserve-clause-failed : goal.returns-in_err-reserve-clause-failed
 returns-in_err-reserve-clause-failed c =
