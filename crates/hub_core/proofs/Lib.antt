@@ -11,6 +11,7 @@ pub mod LineLemmas
 pub mod HeadLemmas
 pub mod HeadTaken
 pub mod ReplyLemmas
+pub mod RoomLemmas
 pub mod PostLemmas
 pub mod OpenLemmas
 pub mod StopLemmas

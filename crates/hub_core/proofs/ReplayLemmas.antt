@@ -1,7 +1,6 @@
 -- A replay, line by line.
-use Rattle.std.proofs.Common.{◌≡◌, ℕ, ◌+◌, ◌-◌, ◌^◌, ◌≤◌, Bool, true, false, List, [], ◌∷◌, ◌++◌, length, take, Option, None, Some, Result, Ok, Err, String, refl, ap, ◌∙◌, sym, subst, arith, append_assoc, append-nil, true≢false, not}
+use Rattle.std.proofs.Common.{◌≡◌, ℕ, ◌+◌, ◌-◌, ◌^◌, ◌≤◌, Bool, true, false, List, [], ◌∷◌, ◌++◌, length, take, Option, None, Some, Result, Ok, Err, refl, ap, ◌∙◌, sym, subst, arith, append_assoc, append-nil, true≢false, not}
 use Rattle.std.specs.Prelude.{OnSome, IfSome, IfErr, min}
-use Rattle.std.specs.declared.alloc.Global.{Global}
 use Rattle.std.specs.Result.{IsErrAnd}
 use Rattle.std.specs.Io.KnownBytes.{Appends, Consumes, Keeps, IsAtEnd}
 use Rattle.std.proofs.KnownBytes.{Consumes-nil, Consumes-trans, Appends-nil, Appends-trans}
@@ -279,10 +278,10 @@ count_after old Store = min (old + 1) (2 ^ 64 - 1)
 count_after old ReadFailed = old
 count_after old WriteFailed = old
 
-pub after_hub : (old mid new : ℕ) (fault : HubFault) → mid ≡ old → CountsStore {T = String Global} mid new (Err fault) → new ≡ count_after old (replay_fault fault)
+pub after_hub : (old mid new : ℕ) (fault : HubFault) → mid ≡ old → CountsStore {T = Unit {0}} mid new (Err fault) → new ≡ count_after old (replay_fault fault)
 after_hub old mid new fault same counts = subst (λ n. new ≡ count_after n (replay_fault fault)) same (by fault counts)
   where
-    by : (fault : HubFault) → CountsStore {T = String Global} mid new (Err fault) → new ≡ count_after mid (replay_fault fault)
+    by : (fault : HubFault) → CountsStore {T = Unit {0}} mid new (Err fault) → new ≡ count_after mid (replay_fault fault)
     by hub_faults.NoMemory h = h
     by hub_faults.Store h = h
     by hub_faults.Down h = h

@@ -1,12 +1,14 @@
 pub mod Requests
 pub mod Points
 pub mod Replies
+pub mod Adds
 pub mod Faults
 pub mod Lines
 pub mod LineText
 pub mod Reading
 pub mod StandsFor
 pub mod Serving
+pub mod Memory
 pub mod Posting
 pub mod Openings
 pub mod Replayed

@@ -1,5 +1,6 @@
 -- What the bytes of a line ask, else their first fault.
-use Rattle.std.specs.Prelude.{ℕ, true, List, Option, Some, None, option_and_then, is_some, Result, Ok, Err, if◌then◌else◌}
+use Rattle.std.specs.Prelude.{ℕ, Bool, true, false, List, Option, Some, None, option_and_then, is_some, Result, Ok, Err, if◌then◌else◌}
+use Rattle.std.specs.Option.{option_map_or}
 use Rattle.std.specs.Str.{is_utf8}
 use Rattle.serde_json.specs.Data.{Data}
 use Rattle.serde_json.specs.Find.{get, as_number, as_u64, as_object}
@@ -10,7 +11,7 @@ use Rattle.register_store.specs.declared.fault.ReadFault.{ReadFault}
 use Rattle.register_store.specs.declared.fault.ReadFault.TheVariants.{NotJson, Missing, BadField}
 use Rattle.register_store.specs.declared.key.Key.TheVariants.{Station, N, Message, Ask}
 use Rattle.register_store.specs.Spelling.{key_name, is_thing}
-use Rattle.register_store.specs.Kinds.{◌spells◌, text_at, fault_at, of_json}
+use Rattle.register_store.specs.Kinds.{◌spells◌, text_at, fault_at, takes_memory, of_json}
 use Rattle.hub_core.specs.declared.reader.Line.{Line}
 use Rattle.hub_core.specs.declared.reader.Request.{Request}
 use Rattle.hub_core.specs.declared.reader.Request.TheVariants as asks
@@ -36,6 +37,10 @@ number_from (Some d) = number_or (whole_number d)
 abbrev pub message_from : Option Data → Result message.Message ReadFault
 message_from None = Err (Missing Message)
 message_from (Some d) = if is_some (as_object d) then of_json d else Err (BadField Message)
+
+-- it has a message of a kind that takes memory
+abbrev pub has_growing_message : Data → Bool
+has_growing_message d = option_map_or takes_memory (get (key_name Message) d) false
 
 -- the number's fault comes before the message's
 abbrev pub scan_of : Result ℕ ReadFault → Result message.Message ReadFault → Result Request ReadFault

@@ -1,6 +1,5 @@
--- What a call on a hub does that answers a text.
-use Rattle.std.specs.Prelude.{ℕ, ◌≡◌, ◌++◌, false, List, Result, String, string_bytes, IfOk, OnOk, OnErr}
-use Rattle.std.specs.declared.alloc.Global.{Global}
+-- What a call on a hub does that writes a text.
+use Rattle.std.specs.Prelude.{ℕ, ◌≡◌, ◌++◌, false, List, Result, OnOk, OnErr}
 use Rattle.posting_core.specs.declared.entry.Entry.{Entry}
 use Rattle.register_store.specs.Holdings.{Holding}
 use Rattle.hub_core.specs.declared.answer.Arrival.{Arrival}
@@ -8,10 +7,11 @@ use Rattle.hub_core.specs.declared.answer.HubFault.{HubFault}
 use Rattle.hub_core.specs.Faults.{CountsStore}
 use Rattle.hub_core.specs.StandsFor.{State, StandsFor, TakesSome}
 
--- a hub serves what is sent: for every list of arrivals that it stood for, the text is what is to be said, and it stands
--- for the list with what was sent; after a fault it has taken some of that, or was stopped in it
-pub record Serves {R : Type 0} (holding : R → Holding) (refusals : R → ℕ) (old new : State R) (said : List Entry → List Arrival → List ℕ) (sent : List Arrival) (result : Result (String Global) HubFault) : Type 0 where
-  pub reply : IfOk result (λ text. (O : List Entry) (A : List Arrival) → StandsFor holding old O A → (string_bytes text ≡ said O A) × StandsFor holding new O (A ++ sent))
+-- a hub serves what is sent: for every list of arrivals that it stood for, what is to be said stands in the text, behind
+-- what is to stay there, and it stands for the list with what was sent; after a fault it has taken some of that, or was
+-- stopped in it
+pub record Serves {R T : Type 0} (holding : R → Holding) (refusals : R → ℕ) (old new : State R) (before text : List ℕ) (said : List Entry → List Arrival → List ℕ) (sent : List Arrival) (result : Result T HubFault) : Type 0 where
+  pub reply : OnOk result ((O : List Entry) (A : List Arrival) → StandsFor holding old O A → (text ≡ before ++ said O A) × StandsFor holding new O (A ++ sent))
   pub fault : OnErr result ((O : List Entry) (A : List Arrival) → StandsFor holding old O A → TakesSome holding new O A sent)
   pub up : OnOk result (new.down ≡ false)
   pub count : CountsStore (refusals old.register) (refusals new.register) result

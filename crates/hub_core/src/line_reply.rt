@@ -1,15 +1,19 @@
 //! What is said to a line.
-ghost use Rattle.std.specs.Prelude.{◌≡◌, ◌<◌, ◌∷◌, ◌++◌, [], false, length, reverse, string_bytes, IfOk, IfErr, IfSome, OnOk, All};
-ghost use Rattle.hub_core.specs.Points.{whereabouts, IsPlaced};
+ghost use Rattle.std.specs.Prelude.{◌≡◌, ◌≤◌, ◌<◌, ◌||◌, ◌∷◌, ◌++◌, [], false, true, length, reverse, string_bytes, string_capacity, IsOk, IfErr, IfSome, OnErr, OnOk, All};
+ghost use Rattle.hub_core.specs.Points.{reply, whereabouts, IsPlaced};
 ghost use Rattle.hub_core.specs.Requests.{line_in};
-ghost use Rattle.hub_core.specs.Replies.{asked_line, bad_line};
+ghost use Rattle.hub_core.specs.Replies.{asked_line};
+ghost use Rattle.hub_core.specs.Adds.{Adds};
 ghost use Rattle.hub_core.specs.Serving.{Serves};
-ghost use Rattle.hub_core.specs.Lines.{without_return};
-ghost use Rattle.hub_core.specs.LineText.{fault_text, place_text, chain_text, posted_lines, answer_text, arrival_reply, station_text, station_reply, sent_from, request_reply, sent_by, read_reply, sent, line_reply, line_arrivals};
+ghost use Rattle.hub_core.specs.Memory.{HasRoom, is_posted, can_fail, line_can_fail, FailsOnlyWhere};
+ghost use Rattle.hub_core.specs.Lines.{is_empty, without_return};
+ghost use Rattle.hub_core.specs.LineText.{place_text, chain_text, posted_lines, answer_text, arrival_reply, station_text, station_reply, sent_from, request_reply, sent_by, read_reply, sent, is_too_long, line_reply, line_arrivals};
 
-use crate::reader::{Line, Request, read_line};
+use crate::reader::{Line, Request, read_line_with};
+use crate::replies::REPLY_ROOM;
 use crate::{Answer, Arrival, Hub, HubFault, Where, replies};
-use codes_core::{NoMemory, ThingCode};
+use borrowed_json::Scratch;
+use codes_core::ThingCode;
 use nest_core::{Setup, StationNo};
 use posting_core::Entry;
 use register_store::{ReadFault, Register};
@@ -25,44 +29,56 @@ pub fn without_return(line: &[u8]) -> &[u8]
     line.strip_suffix(b"\r").unwrap_or(line)
 }
 
-/// Does what a line asks, and answers the reply to it, which is empty for an empty line. The line is the `number`-th, from 1.
-/// After a fault the hub has taken the line's arrival or not, or it is down, stopped in that.
+/// Does what a line asks, and makes the text the reply to it, which is empty for an empty line. The line is the
+/// `number`-th, from 1. After a fault the hub has taken the line's arrival or not, or it is down, stopped in that.
 pub(crate) fn reply_to<S: Register>(
     alloc: Global,
+    scratch: &mut Scratch,
     number: u64,
     line: &[u8],
     hub: &mut Hub<S>,
-) -> Result<String, HubFault>
-    requires { hub.old.down ≡ false }
-    ensures { Serves S.holding S.refusals hub.old hub.new
+    text: &mut String,
+) -> Result<(), HubFault>
+    requires up { hub.old.down ≡ false }
+    requires room { REPLY_ROOM ≤ string_capacity text.old }
+    ensures served { Serves S.holding S.refusals hub.old hub.new [] (string_bytes text.new)
         (λ O A. line_reply hub.old.book.museum hub.old.book.depth O A number line.now)
         (line_arrivals hub.old.book.museum line.now) result }
+    // What isn't read meets no fault.
+    ensures unread { (is_empty line.now || is_too_long line.now) ≡ true → IsOk result }
+    ensures capacity { string_capacity text.old ≤ string_capacity text.new }
 {
+    text.clear();
     if line.is_empty() {
-        return Ok(String::new(alloc));
+        return Ok(());
     }
     if line.len() > LONGEST_LINE {
-        return Ok(replies::bad(alloc, number, "TooLong")?);
+        return Ok(replies::add_too_long(text, number)?);
     }
-    read_reply(alloc, number, line, hub)
+    read_reply(alloc, scratch, number, line, hub, text)
 }
 
-/// The same for a line that is neither empty nor too long.
+/// The same for a line that is neither empty nor too long, behind what stands in the text.
 fn read_reply<S: Register>(
     alloc: Global,
+    scratch: &mut Scratch,
     number: u64,
     line: &[u8],
     hub: &mut Hub<S>,
-) -> Result<String, HubFault>
-    requires { hub.old.down ≡ false }
-    ensures { Serves S.holding S.refusals hub.old hub.new
+    text: &mut String,
+) -> Result<(), HubFault>
+    requires up { hub.old.down ≡ false }
+    requires room { HasRoom text.old }
+    ensures served { Serves S.holding S.refusals hub.old hub.new
+        (string_bytes text.old) (string_bytes text.new)
         (λ O A. read_reply hub.old.book.museum hub.old.book.depth O A number (line_in hub.old.book.museum line.now))
         (sent (line_in hub.old.book.museum line.now)) result }
+    ensures capacity { string_capacity text.old ≤ string_capacity text.new }
 {
-    match read_line(alloc, hub.ledger().setup(), line) {
-        Ok(line) => request_reply(alloc, number, line, hub),
+    match read_line_with(alloc, scratch, hub.ledger().setup(), line) {
+        Ok(line) => request_reply(alloc, number, line, hub, text),
         Err(ReadFault::NoMemory) => Err(HubFault::NoMemory),
-        Err(fault) => Ok(bad_reply(alloc, number, fault)?),
+        Err(fault) => Ok(replies::add_bad(text, number, fault)?),
     }
 }
 
@@ -72,52 +88,43 @@ fn request_reply<S: Register>(
     number: u64,
     line: Line,
     hub: &mut Hub<S>,
-) -> Result<String, HubFault>
+    text: &mut String,
+) -> Result<(), HubFault>
     requires up { hub.old.down ≡ false }
     requires known { IfSome line.station (λ s. s < length hub.old.book.museum.stations) }
-    ensures { Serves S.holding S.refusals hub.old hub.new
+    requires room { HasRoom text.old }
+    ensures served { Serves S.holding S.refusals hub.old hub.new
+        (string_bytes text.old) (string_bytes text.new)
         (λ O A. request_reply hub.old.book.museum hub.old.book.depth O A number line.station line.request)
         (sent_by line.station line.request) result }
+    ensures fails { FailsOnlyWhere S.holding hub.old
+        (λ O A. line_can_fail hub.old.book.museum hub.old.book.depth O A line.station line.request) result }
+    ensures capacity { string_capacity text.old ≤ string_capacity text.new }
 {
     match line.station {
-        None => Ok(replies::unknown_station(alloc, number)?),
-        Some(station) => station_reply(alloc, station, line.request, hub),
+        None => Ok(replies::add_unknown_station(text, number)?),
+        Some(station) => station_reply(alloc, station, line.request, hub, text),
     }
 }
 
-/// The reply to a faulty line.
-fn bad_reply(alloc: Global, number: u64, fault: ReadFault) -> Result<String, AllocError>
-    ensures { IfOk result (λ text. string_bytes text ≡ bad_line number (fault_text fault)) }
-{
-    let text = fault_text(alloc, fault)?;
-    replies::bad(alloc, number, text.as_str())
-}
-
-/// The name of a line's fault, with its key where it has one.
-pub fn fault_text(alloc: Global, fault: ReadFault) -> Result<String, AllocError>
-    ensures { IfOk result (λ text. string_bytes text ≡ fault_text fault) }
-{
-    match fault {
-        ReadFault::NotJson => ["NotJson"].concat(alloc),
-        ReadFault::Missing(key) => ["Missing ", key.name()].concat(alloc),
-        ReadFault::BadKind => ["BadKind"].concat(alloc),
-        ReadFault::BadField(key) => ["BadField ", key.name()].concat(alloc),
-        ReadFault::NoMemory => ["NoMemory"].concat(alloc),
-    }
-}
-
-/// Does what a station asks, and answers the reply.
+/// Does what a station asks, and appends the reply.
 fn station_reply<S: Register>(
     alloc: Global,
     station: StationNo,
     request: Request,
     hub: &mut Hub<S>,
-) -> Result<String, HubFault>
+    text: &mut String,
+) -> Result<(), HubFault>
     requires up { hub.old.down ≡ false }
     requires known { station < length hub.old.book.museum.stations }
-    ensures { Serves S.holding S.refusals hub.old hub.new
+    requires room { HasRoom text.old }
+    ensures served { Serves S.holding S.refusals hub.old hub.new
+        (string_bytes text.old) (string_bytes text.new)
         (λ O A. station_reply hub.old.book.museum hub.old.book.depth O A station request)
         (sent_from station request) result }
+    ensures fails { FailsOnlyWhere S.holding hub.old
+        (λ O A. can_fail hub.old.book.museum hub.old.book.depth O A station request) result }
+    ensures capacity { string_capacity text.old ≤ string_capacity text.new }
 {
     match request {
         Request::Scan { n, message } => {
@@ -126,135 +133,152 @@ fn station_reply<S: Register>(
                 n,
                 message,
             };
-            scan_reply(alloc, arrival, hub)
+            scan_reply(alloc, arrival, hub, text)
         }
-        Request::Ask { code } => question_reply(alloc, station, &code, hub),
+        Request::Ask { code } => question_reply(alloc, station, &code, hub, text),
     }
 }
 
-/// Hands an arrival to the hub, and answers the reply.
+/// Hands an arrival to the hub, and appends the reply.
 fn scan_reply<S: Register>(
     alloc: Global,
     arrival: Arrival,
     hub: &mut Hub<S>,
-) -> Result<String, HubFault>
+    text: &mut String,
+) -> Result<(), HubFault>
     requires up { hub.old.down ≡ false }
     requires known { arrival.station < length hub.old.book.museum.stations }
-    ensures { Serves S.holding S.refusals hub.old hub.new
+    requires room { HasRoom text.old }
+    ensures served { Serves S.holding S.refusals hub.old hub.new
+        (string_bytes text.old) (string_bytes text.new)
         (λ O A. arrival_reply hub.old.book.museum hub.old.book.depth O A arrival)
         (arrival ∷ []) result }
+    // What is refused or held meets no fault.
+    ensures fails { FailsOnlyWhere S.holding hub.old
+        (λ O A. is_posted (reply hub.old.book.museum hub.old.book.depth O A arrival)) result }
+    ensures capacity { string_capacity text.old ≤ string_capacity text.new }
 {
     let station = arrival.station;
     let n = arrival.n;
     match hub.arrive(alloc, arrival) {
         Ok(answer) => {
             let setup = hub.ledger().setup();
-            Ok(answer_text(alloc, setup, station, n, answer, hub.posted())?)
+            Ok(add_answer(text, setup, station, n, answer, hub.posted())?)
         }
         Err(fault) => Err(fault),
     }
 }
 
-/// What is printed of an answer to number `n` of a station, where these entries are posted, oldest first: a line, or one
-/// for each that was posted and for all behind it.
-pub fn answer_text(
-    alloc: Global,
+/// Appends what is printed of an answer to number `n` of a station, where these entries are posted, oldest first: a line,
+/// or one for each that was posted and for all behind it. After NoMemory the text may end with a part of it.
+pub fn add_answer(
+    text: &mut String,
     setup: &Setup,
     station: StationNo,
     n: u64,
     answer: Answer,
     posted: &[Entry],
-) -> Result<String, AllocError>
+) -> Result<(), AllocError>
     requires { station < length setup.now.stations }
-    ensures { IfOk result (λ text. string_bytes text ≡ answer_text (station_text setup.now station) n (reverse posted.now) answer) }
+    ensures added { Adds text.old text.new
+        (answer_text (station_text setup.now station) n (reverse posted.now) answer) result }
+    // With the room of a reply, what is refused or held meets no fault.
+    ensures fails { HasRoom text.old → OnErr result (is_posted answer ≡ true) }
 {
+    setup.is_museum();
     let name = setup.station_name(station);
     match answer {
-        Answer::Refused(refusal) => replies::refused(alloc, name, n, refusal.name()),
-        Answer::Held => replies::held(alloc, name, n),
-        Answer::Posted { first, .. } => posted_lines(alloc, name, first, posted),
+        Answer::Refused(refusal) => replies::add_refused(text, name, n, refusal.name()),
+        Answer::Held => replies::add_held(text, name, n),
+        Answer::Posted { first, .. } => add_posted_lines(text, name, first, posted),
     }
 }
 
-/// A line for each of the entries, which stand oldest first, from number `first` on.
-fn posted_lines(
-    alloc: Global,
+/// Appends a line for each of the entries, which stand oldest first, from number `first` on.
+fn add_posted_lines(
+    text: &mut String,
     station: &str,
     first: u64,
     entries: &[Entry],
-) -> Result<String, AllocError>
-    ensures { IfOk result (λ text. string_bytes text ≡ posted_lines station.now first (reverse entries.now)) }
+) -> Result<(), AllocError>
+    ensures { Adds text.old text.new (posted_lines station.now first (reverse entries.now)) result }
 {
-    let mut text = String::new(alloc);
     let start = first.saturating_sub(1) as usize;
     for i in start..entries.len() {
         let entry = &entries[i];
-        let line = replies::posted(alloc, station, entry.n, i as u64 + 1, entry.verdict.name())?;
-        text.push_str(line.as_str())?;
+        replies::add_posted(text, station, entry.n, i as u64 + 1, entry.verdict.name())?;
     }
-    Ok(text)
+    Ok(())
 }
 
-/// The reply to the question where a thing is.
+/// Appends the reply to the question where a thing is.
 fn question_reply<S: Register>(
     alloc: Global,
     station: StationNo,
     code: &ThingCode,
     hub: &Hub<S>,
-) -> Result<String, HubFault>
+    text: &mut String,
+) -> Result<(), HubFault>
     requires up { hub.now.down ≡ false }
     requires known { station < length hub.now.book.museum.stations }
-    ensures text { IfOk result (λ text. string_bytes text ≡ asked_line (station_text hub.now.book.museum station) code.now (place_text hub.now.book.museum (whereabouts hub.now.book.museum hub.now.book.posted code.now))) }
+    ensures text { OnOk result (string_bytes text.new ≡ string_bytes text.old
+        ++ asked_line (station_text hub.now.book.museum station) code.now
+        (place_text hub.now.book.museum (whereabouts hub.now.book.museum hub.now.book.posted code.now))) }
     ensures fault { IfErr result (λ fault. fault ≡ HubFault.NoMemory) }
+    ensures capacity { string_capacity text.old ≤ string_capacity text.new }
 {
     let place = hub.ask(alloc, code)?;
-    Ok(asked_text(alloc, hub.ledger().setup(), station, code, &place)?)
+    Ok(add_asked(text, hub.ledger().setup(), station, code, &place)?)
 }
 
-/// What is printed of the question of a station where a thing is, which is told.
-pub fn asked_text(
-    alloc: Global,
+/// Appends what is printed of the question of a station where a thing is, which is told. After NoMemory the text may end
+/// with a part of it.
+pub fn add_asked(
+    text: &mut String,
     setup: &Setup,
     station: StationNo,
     code: &ThingCode,
     place: &Where,
-) -> Result<String, NoMemory>
+) -> Result<(), AllocError>
     requires known { station < length setup.now.stations }
     requires placed { IsPlaced setup.now place.now }
-    ensures { IfOk result (λ text. string_bytes text ≡ asked_line (station_text setup.now station) code.now (place_text setup.now place.now)) }
+    ensures text { OnOk result (string_bytes text.new ≡ string_bytes text.old
+        ++ asked_line (station_text setup.now station) code.now (place_text setup.now place.now)) }
+    ensures capacity { string_capacity text.old ≤ string_capacity text.new }
 {
-    let text = place_text(alloc, setup, place)?;
-    let name = setup.station_name(station);
-    Ok(replies::asked(alloc, name, code.as_str(), text.as_str())?)
+    replies::add(
+        text,
+        &[setup.station_name(station), " ask ", code.as_str(), " "],
+    )?;
+    add_place(text, setup, place)?;
+    text.push_str("\n")
 }
 
-/// What is said of where a thing is: `unknown`, `unplaced`, `at PLACE`, or `at PLACE in` its containers, innermost first.
-fn place_text(alloc: Global, setup: &Setup, place: &Where) -> Result<String, NoMemory>
+/// Appends what is said of where a thing is: `unknown`, `unplaced`, `at PLACE`, or `at PLACE in` its containers, innermost
+/// first.
+fn add_place(text: &mut String, setup: &Setup, place: &Where) -> Result<(), AllocError>
     requires { IsPlaced setup.now place.now }
-    ensures { IfOk result (λ text. string_bytes text ≡ place_text setup.now place.now) }
+    ensures text { OnOk result (string_bytes text.new ≡ string_bytes text.old
+        ++ place_text setup.now place.now) }
+    ensures capacity { string_capacity text.old ≤ string_capacity text.new }
 {
-    let mut text = String::new(alloc);
     match place {
-        Where::UnknownThing => text.push_str("unknown")?,
-        Where::Unplaced => text.push_str("unplaced")?,
+        Where::UnknownThing => text.push_str("unknown"),
+        Where::Unplaced => text.push_str("unplaced"),
         Where::At { place, chain } => {
             text.push_str("at ")?;
-            setup.place_code(*place).write(alloc, &mut text)?;
-            write_chain(alloc, setup, chain.as_slice(), &mut text)?;
+            text.push_str(setup.place_code(*place).as_str())?;
+            add_chain(text, setup, chain.as_slice())
         }
     }
-    Ok(text)
 }
 
 /// Appends the containers above a thing.
-fn write_chain(
-    alloc: Global,
-    setup: &Setup,
-    chain: &[u32],
-    text: &mut String,
-) -> Result<(), NoMemory>
+fn add_chain(text: &mut String, setup: &Setup, chain: &[u32]) -> Result<(), AllocError>
     requires { All (λ c. c < length setup.now.things) chain.now }
-    ensures { OnOk result (string_bytes text.new ≡ string_bytes text.old ++ chain_text setup.now chain.now) }
+    ensures text { OnOk result (string_bytes text.new ≡ string_bytes text.old
+        ++ chain_text setup.now chain.now) }
+    ensures capacity { string_capacity text.old ≤ string_capacity text.new }
 {
     if chain.is_empty() {
         return Ok(());
@@ -262,7 +286,7 @@ fn write_chain(
     text.push_str(" in")?;
     for container in chain {
         text.push_str(" ")?;
-        setup.thing_code(*container).write(alloc, text)?;
+        text.push_str(setup.thing_code(*container).as_str())?;
     }
     Ok(())
 }

@@ -1,15 +1,14 @@
 //! Lines read: what a station asks by one.
-ghost use Rattle.std.specs.Prelude.{◌≡◌, ◌≢◌, ◌<◌, length, Ok, Err, IfOk, IfSome, MatchResult};
-ghost use Rattle.serde_json.specs.View.{view};
+ghost use Rattle.std.specs.Prelude.{◌≡◌, ◌≢◌, ◌<◌, length, true, Ok, Err, IfOk, IfErr, IfSome, MatchResult};
 ghost use Rattle.serde_json.specs.Find.{get};
 ghost use Rattle.register_store.specs.Spelling.{key_name};
-ghost use Rattle.hub_core.specs.Requests.{number_from, message_from, request_of, object_of, request_in, line_of, line_in};
+ghost use Rattle.hub_core.specs.Requests.{number_from, message_from, has_growing_message, request_of, object_of, request_in, line_of, line_in};
 
+use borrowed_json::{Fields, Scratch, TextFault, Value};
 use codes_core::ThingCode;
 use nest_core::{Setup, StationNo};
 use posting_core::Message;
-use register_store::{Key, ReadFault, message_of, string_at, thing_at, value_at};
-use serde_json::Value;
+use register_store::{Key, ReadFault, message_in, string_at, thing_at, value_at};
 use std::alloc::Global;
 
 /// What a line asks: to take a message under a number, or where a thing is.
@@ -34,10 +33,24 @@ pub fn read_line(alloc: Global, setup: &Setup, bytes: &[u8]) -> Result<Line, Rea
         (λ fault. fault ≢ ReadFault.NoMemory → line_in setup.now bytes.now ≡ Err fault) }
     ensures within { IfOk result (λ line. IfSome line.station (λ s. s < length setup.now.stations)) }
 {
-    match Value::from_slice(alloc, bytes) {
+    read_line_with(alloc, &mut Scratch::new(alloc), setup, bytes)
+}
+
+/// The same, with a scratch that serves one line after the other.
+pub fn read_line_with(
+    alloc: Global,
+    scratch: &mut Scratch,
+    setup: &Setup,
+    bytes: &[u8],
+) -> Result<Line, ReadFault>
+    ensures exact { MatchResult result (λ line. line_in setup.now bytes.now ≡ Ok line)
+        (λ fault. fault ≢ ReadFault.NoMemory → line_in setup.now bytes.now ≡ Err fault) }
+    ensures within { IfOk result (λ line. IfSome line.station (λ s. s < length setup.now.stations)) }
+{
+    match Value::from_slice(alloc, bytes, scratch) {
         Ok(value) => line_of(alloc, setup, &value),
-        Err(error) if error.is_memory() => Err(ReadFault::NoMemory),
-        Err(_) => Err(ReadFault::NotJson),
+        Err(TextFault::NotJson) => Err(ReadFault::NotJson),
+        Err(TextFault::NoMemory) => Err(ReadFault::NoMemory),
     }
 }
 
@@ -47,31 +60,47 @@ pub fn read_request(alloc: Global, bytes: &[u8]) -> Result<Request, ReadFault>
     ensures exact { MatchResult result (λ request. request_in bytes.now ≡ Ok request)
         (λ fault. fault ≢ ReadFault.NoMemory → request_in bytes.now ≡ Err fault) }
 {
-    match Value::from_slice(alloc, bytes) {
+    read_request_with(alloc, &mut Scratch::new(alloc), bytes)
+}
+
+/// The same, with a scratch that serves one line after the other.
+pub fn read_request_with(
+    alloc: Global,
+    scratch: &mut Scratch,
+    bytes: &[u8],
+) -> Result<Request, ReadFault>
+    ensures exact { MatchResult result (λ request. request_in bytes.now ≡ Ok request)
+        (λ fault. fault ≢ ReadFault.NoMemory → request_in bytes.now ≡ Err fault) }
+{
+    match Value::from_slice(alloc, bytes, scratch) {
         Ok(value) => object_of(alloc, &value),
-        Err(error) if error.is_memory() => Err(ReadFault::NoMemory),
-        Err(_) => Err(ReadFault::NotJson),
+        Err(TextFault::NotJson) => Err(ReadFault::NotJson),
+        Err(TextFault::NoMemory) => Err(ReadFault::NoMemory),
     }
 }
 
-/// What a value asks, if it is an object.
-fn object_of(alloc: Global, value: &Value) -> Result<Request, ReadFault>
-    ensures exact { MatchResult result (λ request. object_of (view value.now) ≡ Ok request)
-        (λ fault. fault ≢ ReadFault.NoMemory → object_of (view value.now) ≡ Err fault) }
+/// What a value asks, if it is an object; NoMemory only where its message is of a kind that keeps a name or a list.
+fn object_of<V: Fields>(alloc: Global, value: &V) -> Result<Request, ReadFault>
+    ensures exact { MatchResult result (λ request. object_of (V.seen value.now) ≡ Ok request)
+        (λ fault. fault ≢ ReadFault.NoMemory → object_of (V.seen value.now) ≡ Err fault) }
+    ensures gives_up { result ≡ Err ReadFault.NoMemory
+        → has_growing_message (V.seen value.now) ≡ true }
 {
-    if !value.is_object() {
+    if !value.has_members() {
         return Err(ReadFault::NotJson);
     }
     request_of(alloc, value)
 }
 
-/// What a value asks, and of which station.
-fn line_of(alloc: Global, setup: &Setup, value: &Value) -> Result<Line, ReadFault>
-    ensures exact { MatchResult result (λ line. line_of setup.now (view value.now) ≡ Ok line)
-        (λ fault. fault ≢ ReadFault.NoMemory → line_of setup.now (view value.now) ≡ Err fault) }
+/// What a value asks, and of which station; NoMemory only where its message is of a kind that keeps a name or a list.
+fn line_of<V: Fields>(alloc: Global, setup: &Setup, value: &V) -> Result<Line, ReadFault>
+    ensures exact { MatchResult result (λ line. line_of setup.now (V.seen value.now) ≡ Ok line)
+        (λ fault. fault ≢ ReadFault.NoMemory → line_of setup.now (V.seen value.now) ≡ Err fault) }
+    ensures gives_up { result ≡ Err ReadFault.NoMemory
+        → has_growing_message (V.seen value.now) ≡ true }
     ensures within { IfOk result (λ line. IfSome line.station (λ s. s < length setup.now.stations)) }
 {
-    if !value.is_object() {
+    if !value.has_members() {
         return Err(ReadFault::NotJson);
     }
     let station = setup.station(string_at(value, Key::Station)?);
@@ -80,11 +109,13 @@ fn line_of(alloc: Global, setup: &Setup, value: &Value) -> Result<Line, ReadFaul
 }
 
 /// What an object asks.
-fn request_of(alloc: Global, object: &Value) -> Result<Request, ReadFault>
-    ensures exact { MatchResult result (λ request. request_of (view object.now) ≡ Ok request)
-        (λ fault. fault ≢ ReadFault.NoMemory → request_of (view object.now) ≡ Err fault) }
+fn request_of<V: Fields>(alloc: Global, object: &V) -> Result<Request, ReadFault>
+    ensures exact { MatchResult result (λ request. request_of (V.seen object.now) ≡ Ok request)
+        (λ fault. fault ≢ ReadFault.NoMemory → request_of (V.seen object.now) ≡ Err fault) }
+    ensures gives_up { result ≡ Err ReadFault.NoMemory
+        → has_growing_message (V.seen object.now) ≡ true }
 {
-    if object.get(Key::Ask.name()).is_some() {
+    if object.at(Key::Ask.name()).is_some() {
         let code = thing_at(object, Key::Ask)?;
         return Ok(Request::Ask { code });
     }
@@ -94,23 +125,29 @@ fn request_of(alloc: Global, object: &Value) -> Result<Request, ReadFault>
 }
 
 /// The number of a message, else Missing or BadField.
-fn number_of(object: &Value) -> Result<u64, ReadFault>
-    ensures exact { MatchResult result (λ n. number_from (get (key_name Key.N) (view object.now)) ≡ Ok n)
-        (λ fault. number_from (get (key_name Key.N) (view object.now)) ≡ Err fault) }
+fn number_of<V: Fields>(object: &V) -> Result<u64, ReadFault>
+    ensures exact { MatchResult result
+        (λ n. number_from (get (key_name Key.N) (V.seen object.now)) ≡ Ok n)
+        (λ fault. number_from (get (key_name Key.N) (V.seen object.now)) ≡ Err fault) }
+    ensures told { IfErr result (λ fault. fault ≢ ReadFault.NoMemory) }
 {
     value_at(object, Key::N)?
-        .as_u64()
+        .whole_number()
         .ok_or(ReadFault::BadField(Key::N))
 }
 
 /// The message of an object, else Missing or BadField of its key, or the message's own fault.
-fn message_at(alloc: Global, object: &Value) -> Result<Message, ReadFault>
-    ensures exact { MatchResult result (λ message. message_from (get (key_name Key.Message) (view object.now)) ≡ Ok message)
-        (λ fault. fault ≢ ReadFault.NoMemory → message_from (get (key_name Key.Message) (view object.now)) ≡ Err fault) }
+fn message_at<V: Fields>(alloc: Global, object: &V) -> Result<Message, ReadFault>
+    ensures exact { MatchResult result
+        (λ message. message_from (get (key_name Key.Message) (V.seen object.now)) ≡ Ok message)
+        (λ fault. fault ≢ ReadFault.NoMemory
+        → message_from (get (key_name Key.Message) (V.seen object.now)) ≡ Err fault) }
+    ensures gives_up { result ≡ Err ReadFault.NoMemory
+        → has_growing_message (V.seen object.now) ≡ true }
 {
     let message = value_at(object, Key::Message)?;
-    if !message.is_object() {
+    if !message.has_members() {
         return Err(ReadFault::BadField(Key::Message));
     }
-    message_of(alloc, message)
+    message_in(alloc, message)
 }

@@ -9,7 +9,9 @@ ghost use Rattle.hub_core.specs.Replayed.{Answered, EndsReplay};
 
 use crate::line_reader::{Reads, flush, next_line};
 use crate::line_reply::{reply_to, without_return};
+use crate::replies::REPLY_ROOM;
 use crate::{Hub, HubFault};
+use borrowed_json::Scratch;
 use register_store::Register;
 use std::alloc::Global;
 use std::io::{BufRead, ErrorKind, Write};
@@ -74,7 +76,8 @@ pub fn replay<R: BufRead, W: Write, S: Register>(
     replay_from(alloc, input, output, hub, &mut Reads::new())
 }
 
-/// The same, with the reads that are left; it takes one at least.
+/// The same, with the reads that are left; it takes one at least. All replies are written over one text, which has
+/// REPLY_ROOM from the start: where that growth is refused, no line is read.
 pub(crate) fn replay_from<R: BufRead, W: Write, S: Register>(
     alloc: Global,
     input: &mut R,
@@ -89,9 +92,20 @@ pub(crate) fn replay_from<R: BufRead, W: Write, S: Register>(
     ensures reads { OnOk result (reads.new.left < reads.old.left) }
 {
     let mut line = Vec::new(alloc);
+    let Ok(mut text) = String::with_capacity(alloc, REPLY_ROOM) else {
+        return Err(ReplayFault::NoMemory);
+    };
+    let mut scratch = Scratch::new(alloc);
     for number in 1..u64::MAX {
         let fed = next_line(input, output, reads, &mut line)?;
-        let text = reply_to(alloc, number, without_return(line.as_slice()), hub)?;
+        reply_to(
+            alloc,
+            &mut scratch,
+            number,
+            without_return(line.as_slice()),
+            hub,
+            &mut text,
+        )?;
         write_text(output, text.as_bytes())?;
         if !fed {
             return flush(output);

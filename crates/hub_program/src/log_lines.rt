@@ -5,7 +5,7 @@ ghost use Rattle.serve_core.specs.Logs.{AreOfStations, IsPlacedReply};
 use crate::fault::CommandFault;
 use crate::lines::write_line;
 use codes_core::NoMemory;
-use hub_core::{Answer, answer_text, asked_text, fault_text};
+use hub_core::{Answer, add_answer, add_asked, add_fault};
 use posting_core::{Entry, Ledger};
 use serve_core::{Item, LineFault, LogLine, Reply};
 use std::alloc::Global;
@@ -22,15 +22,17 @@ pub fn write_log<W: Write>(
     requires stations { AreOfStations (length ledger.now.museum.stations) lines.now }
     requires placed { All (λ l. IsPlacedReply ledger.now.museum l.reply) lines.now }
 {
+    let mut text = String::new(alloc);
     for i in 0..lines.len() {
-        let text = line_text(alloc, ledger, &lines[i])?;
+        text.clear();
+        add_line(&mut text, ledger, &lines[i])?;
         write_line(output, &text)?;
     }
     Ok(())
 }
 
-/// The reply to a line of a log.
-fn line_text(alloc: Global, ledger: &Ledger, line: &LogLine) -> Result<String, NoMemory>
+/// Appends the reply to a line of a log.
+fn add_line(text: &mut String, ledger: &Ledger, line: &LogLine) -> Result<(), NoMemory>
     requires station { line.now.station < length ledger.now.museum.stations }
     requires placed { IsPlacedReply ledger.now.museum line.now.reply }
 {
@@ -39,18 +41,16 @@ fn line_text(alloc: Global, ledger: &Ledger, line: &LogLine) -> Result<String, N
     match (&line.item, &line.reply) {
         (Item::Scan { n, .. }, Reply::Answered(answer)) => {
             let posted = up_to(ledger.posted(), *answer);
-            Ok(answer_text(alloc, setup, station, *n, *answer, posted)?)
+            add_answer(text, setup, station, *n, *answer, posted)?;
         }
-        (Item::Ask(code), Reply::Found(place)) => asked_text(alloc, setup, station, code, place),
-        (Item::Bad { line, fault }, _) => bad_text(
-            alloc,
-            setup.station_name(station),
-            *line,
-            *fault,
-        ),
+        (Item::Ask(code), Reply::Found(place)) => add_asked(text, setup, station, code, place)?,
+        (Item::Bad { line, fault }, _) => {
+            add_bad(text, setup.station_name(station), *line, *fault)?;
+        }
         // no log has any other pair
-        _ => Ok(String::new(alloc)),
+        _ => {}
     }
+    Ok(())
 }
 
 /// The entries that stood with an answer, oldest first.
@@ -61,11 +61,13 @@ fn up_to(posted: &[Entry], answer: Answer) -> &[Entry] {
     }
 }
 
-/// `STATION line K bad FAULT`.
-fn bad_text(alloc: Global, station: &str, line: u64, fault: LineFault) -> Result<String, NoMemory> {
-    let fault = match fault {
-        LineFault::TooLong => String::from_str(alloc, "TooLong")?,
-        LineFault::Read(fault) => fault_text(alloc, fault)?,
-    };
-    Ok(format!(in alloc; "{station} line {line} bad {fault}\n")?)
+/// Appends `STATION line K bad FAULT`.
+fn add_bad(text: &mut String, station: &str, line: u64, fault: LineFault) -> Result<(), NoMemory> {
+    write!(text, "{station} line {line} bad ")?;
+    match fault {
+        LineFault::TooLong => text.push_str("TooLong")?,
+        LineFault::Read(fault) => add_fault(text, fault)?,
+    }
+    text.push_str("\n")?;
+    Ok(())
 }

@@ -5,8 +5,9 @@ ghost use Rattle.serve_core.specs.declared.item.Item.{Item};
 ghost use Rattle.serve_core.specs.Feeds.{request_item, line_items, text_items, items_left, IsPlaceIn};
 
 use crate::{Feed, Item, LineFault};
+use borrowed_json::Scratch;
 use codes_core::NoMemory;
-use hub_core::{LONGEST_LINE, Request, feed_at, read_request, without_return};
+use hub_core::{LONGEST_LINE, Request, feed_at, read_request_with, without_return};
 use register_store::ReadFault;
 use std::alloc::Global;
 use std::marker::Model;
@@ -23,6 +24,8 @@ struct Place {
 pub struct TextFeed {
     bytes: Vec<u8>,
     place: Place,
+    // serves one line after the other
+    scratch: Scratch,
 }
 
 impl Model for TextFeed {
@@ -44,9 +47,11 @@ impl TextFeed {
     pub fn new(bytes: Vec<u8>) -> TextFeed
         ensures { result ≡ text_items bytes.items }
     {
+        let scratch = Scratch::new(*bytes.allocator());
         TextFeed {
             bytes,
             place: Place { at: 0, number: 1 },
+            scratch,
         }
     }
 }
@@ -55,13 +60,23 @@ impl Feed for TextFeed {
     ghost items = { λ f. f };
 
     fn next(&mut self, alloc: Global) -> Result<Option<Item>, NoMemory> {
-        next_item(alloc, self.bytes.as_slice(), &mut self.place)
+        next_item(
+            alloc,
+            &mut self.scratch,
+            self.bytes.as_slice(),
+            &mut self.place,
+        )
     }
 }
 
 /// The item of the next line that isn't empty; none where all that are left are. The place is moved behind that line.
 /// After NoMemory the same items are left.
-fn next_item(alloc: Global, bytes: &[u8], place: &mut Place) -> Result<Option<Item>, NoMemory>
+fn next_item(
+    alloc: Global,
+    scratch: &mut Scratch,
+    bytes: &[u8],
+    place: &mut Place,
+) -> Result<Option<Item>, NoMemory>
     requires { IsPlaceIn bytes.now place.old }
     ensures none { IfOk result (λ next. IfNone next ((items_left bytes.now place.old ≡ []) × (items_left bytes.now place.new ≡ []))) }
     ensures some { IfOk result (λ next. IfSome next (λ x. items_left bytes.now place.old ≡ x ∷ items_left bytes.now place.new)) }
@@ -70,7 +85,7 @@ fn next_item(alloc: Global, bytes: &[u8], place: &mut Place) -> Result<Option<It
 {
     while place.at < bytes.len() {
         let line = line_at(bytes, place.at);
-        let item = item_of(alloc, place.number, without_return(line))?;
+        let item = item_of(alloc, scratch, place.number, without_return(line))?;
         place.at = bytes.len().min(place.at + line.len() + 1);
         place.number += 1;
         if item.is_some() {
@@ -92,7 +107,12 @@ fn line_at(bytes: &[u8], at: usize) -> &[u8]
 }
 
 /// The item of the `number`-th line; an empty line has none.
-fn item_of(alloc: Global, number: u64, line: &[u8]) -> Result<Option<Item>, NoMemory>
+fn item_of(
+    alloc: Global,
+    scratch: &mut Scratch,
+    number: u64,
+    line: &[u8],
+) -> Result<Option<Item>, NoMemory>
     ensures none { IfOk result (λ item. IfNone item (line_items number line.now ≡ [])) }
     ensures some { IfOk result (λ item. IfSome item (λ x. line_items number line.now ≡ x ∷ [])) }
 {
@@ -102,7 +122,7 @@ fn item_of(alloc: Global, number: u64, line: &[u8]) -> Result<Option<Item>, NoMe
     if line.len() > LONGEST_LINE {
         return Ok(Some(bad(number, LineFault::TooLong)));
     }
-    match read_request(alloc, line) {
+    match read_request_with(alloc, scratch, line) {
         Ok(request) => Ok(Some(request_item(request))),
         Err(ReadFault::NoMemory) => Err(NoMemory),
         Err(fault) => Ok(Some(bad(number, LineFault::Read(fault)))),
