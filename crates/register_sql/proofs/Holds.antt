@@ -53,6 +53,12 @@ rows_held s laws ready c rows = shown_held s laws (open_ready s ready) c (record
 pub held_rows : (s : State) → Laws s → IsReady s → (c : Content) → Holds s c → AreRows s.now.trees c
 held_rows s laws ready c held = part_of 6 (omega arith) s.now.trees (whole_sound s ready) c (held_shown s laws (open_ready s ready) c held)
 
+-- what a later opening of it may find has all six tables
+pub ready_left : (s : State) → Laws s → IsReady s → (db : Trees) → s.may_leave db → IsSound hub_schema db
+ready_left s laws ready db left =
+    let is : s.now.trees ≡ db = ap (λ (d : Database). d.trees) ready.settled ∙ sym (laws.settled db ready.is_open left) in
+    subst (IsSound hub_schema) is (whole_sound s ready)
+
 pub no_two : (a b : ⊥) → a ≡ b
 no_two a b = absurd a
 

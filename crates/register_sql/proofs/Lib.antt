@@ -31,3 +31,4 @@ pub mod Earlier
 pub mod Raised
 pub mod Migrations
 mod WorkedRows
+mod WorkedFirst

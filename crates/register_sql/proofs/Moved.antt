@@ -11,13 +11,13 @@ use Rattle.register_store.specs.StoredRows.{Content}
 use Rattle.register_store.specs.declared.store_fault.StoreFault.{StoreFault}
 use Rattle.register_store.specs.declared.store_fault.StoreFault.TheVariants.{NoMemory, Store, OtherSetup, Damaged, OtherVersion}
 use Rattle.register_sql.specs.Binding.{IsSettled}
-use Rattle.register_sql.specs.Migrating.{IsMigrateFault, Migrates, IsNotMigrated, IsMoved, IsSecond, IsRaised, IsLeft, LeavesMoved}
+use Rattle.register_sql.specs.Migrating.{IsMigrateFault, Migrates, IsNotMigrated, IsMoved, IsSecond, IsRaised, IsCompleted, IsLeft, LeavesMoved}
 use Rattle.register_sql.specs.Posting.{IsWhole, IsReady}
 use Rattle.register_sql.specs.Queries.{IsSame}
 use Rattle.register_sql.specs.Rows.{AreRows, IsStored}
 use Rattle.register_sql.specs.Stores.{in_store, IsKept}
 use Rattle.register_sql.proofs.Binds.{part_of, same_all}
-use Rattle.register_sql.proofs.Holds.{Laws, Holds, shown_held, held_shown, rows_held, held_rows, no_two}
+use Rattle.register_sql.proofs.Holds.{Laws, Holds, shown_held, held_shown, rows_held, held_rows, ready_left, no_two}
 
 still : (old new : State) → IsSame old new → IsSettled old → IsSettled new
 still old new same was = record { is_open = same.is_open; settled = same.now ∙ was.settled ∙ sym same.committed }
@@ -142,6 +142,11 @@ pub ok_comes : {X : Type 0} (S : Museum) (old new : State) (P : Trees → Type 0
     → OnOk r (Comes (in_store old) (in_store new) (Migrates S))
 ok_comes S old new P (Ok x) before after up survives is = raised_comes S old new P before after up survives is
 ok_comes S old new P (Err e) before after up survives is = tt
+
+pub ok_completed : {X : Type 0} (S : Museum) (old new : State) (r : Result X StoreFault) → Laws new → OnOk r (IsRaised S old new) → OnOk r (IsCompleted old new)
+ok_completed S old new (Ok x) after (inl it) = inl (ready_left new after it.ready)
+ok_completed S old new (Ok x) after (inr it) = inr it
+ok_completed S old new (Err e) after is = tt
 
 pub err_comes : {X : Type 0} (S : Museum) (old new : State) (P : Trees → Type 0) (r : Result X StoreFault) → Laws old → Laws new → (HasCleanDisk old → IsSettled old) → Survives old new P → (HasCleanDisk new → IfErr r (IsLeft S old new))
     → IfErr r (λ fault. Comes (in_store old) (in_store new) (IsNotMigrated S fault))

@@ -155,6 +155,14 @@ pub record IsSecond (old new : State) : Type 0 where
 abbrev pub IsRaised : Museum → State → State → Type 0
 IsRaised S old new = IsMoved S old new ⊎ IsSecond old new
 
+-- each database that a later opening may find has all six tables
+abbrev pub LeavesSix : State → Type 0
+LeavesSix s = (db : Trees) → s.may_leave db → IsSound hub_schema db
+
+-- so it is now; or it said that it is of version 2, and is as it was
+abbrev pub IsCompleted : State → State → Type 0
+IsCompleted old new = LeavesSix new ⊎ IsSecond old new
+
 -- it is refused for this cause, and nothing is changed
 pub record IsLeft (S : Museum) (old new : State) (fault : StoreFault) : Type 0 where
   pub same : IsSame old new

@@ -7,7 +7,7 @@ ghost use Rattle.sqlite.specs.Steps.{over_memory};
 ghost use Rattle.register_store.specs.Holdings.{Has, Comes};
 ghost use Rattle.register_store.specs.Registers.{is_failure, CountsRefusal};
 ghost use Rattle.register_sql.specs.Binding.{IsSettled};
-ghost use Rattle.register_sql.specs.Migrating.{Migrates, IsNotMigrated};
+ghost use Rattle.register_sql.specs.Migrating.{Migrates, IsNotMigrated, IsCompleted};
 ghost use Rattle.register_sql.specs.Stores.{in_store, no_rows};
 
 use crate::link::{
@@ -99,12 +99,14 @@ impl<S: Alter> SqlRegister<S> {
     }
 
     /// Makes a store of version 1 with this setup one of version 2: its entries, spots, lines and setup stay as they are, and
-    /// so does its depth limit, 8; it gets the last days that its entries gave loans, and says version 2. A store of version 2
-    /// stays as it is, whatever else is in it. The faults, first that holds: OtherVersion, of a new store too; Damaged(0),
+    /// so does its depth limit, 8; it gets the table of last days, with those that its entries gave loans, and says version 2.
+    /// A store of version 2 stays as it is, whatever else is in it. The faults, first that holds: OtherVersion, of a new store too; Damaged(0),
     /// where what the store says of itself isn't whole; OtherSetup; Damaged(i) as `all` tells it, where an extension, and the
     /// verdict that refuses one, are no entry's of version 1. NoMemory and Store can stand in place of any answer.
     pub fn migrate(&mut self, alloc: Global, setup: &Setup) -> Result<(), StoreFault>
         ensures migrated { OnOk result (Comes (in_store (state S.Store self.old.conn)) (in_store (state S.Store self.new.conn)) (Migrates setup.now)) }
+        ensures whole { HasCleanDisk (state S.Store self.new.conn)
+            → OnOk result (IsCompleted (state S.Store self.old.conn) (state S.Store self.new.conn)) }
         ensures refused { IfErr result (λ fault. Comes (in_store (state S.Store self.old.conn)) (in_store (state S.Store self.new.conn)) (IsNotMigrated setup.now fault)) }
         ensures still { (self.new.bound ≡ self.old.bound) × (self.new.stations ≡ self.old.stations) }
         ensures count { CountsRefusal self.old.refusals self.new.refusals result }

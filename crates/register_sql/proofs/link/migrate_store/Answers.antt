@@ -5,7 +5,7 @@ use Rattle.register_store.specs.Registers.{is_failure}
 use Rattle.register_sql.specs.Migrating.{IsNotMigrated, LeavesMoved}
 use Rattle.register_sql.specs.Stores.{in_store}
 use Rattle.register_sql.proofs.Holds.{Laws}
-use Rattle.register_sql.proofs.Moved.{answer_kept, ok_comes, err_comes, unmoved_comes, still_unmoved}
+use Rattle.register_sql.proofs.Moved.{answer_kept, ok_comes, ok_completed, err_comes, unmoved_comes, still_unmoved}
 use Rattle.register_sql.proofs.link.migrate_store.Goals as goal
 
 pub returns-in-Some-clause-refused : goal.returns-in-Some-clause-refused
@@ -29,6 +29,12 @@ returns-in-Ok-clause-migrated g c =
     let before : Laws old = record { settled = g.met.S.Store.settled first; stays = g.met.S.Store.stays first; survives = g.met.S.Store.survives first } in
     let after : Laws new = record { settled = g.met.S.Store.settled store; stays = g.met.S.Store.stays store; survives = g.met.S.Store.survives store } in
     ok_comes S old new (LeavesMoved S old) c.in-Ok.answer before after (c.requires.settled c.in_default.is) c.migrate.ensures.crash c.in-Ok.ensures.raised
+
+pub returns-in-Ok-clause-whole : goal.returns-in-Ok-clause-whole
+returns-in-Ok-clause-whole g c clean =
+    let store = c.migrate.new.conn.store in
+    let after : Laws (state g.S.Store c.migrate.new.conn) = record { settled = g.met.S.Store.settled store; stays = g.met.S.Store.stays store; survives = g.met.S.Store.survives store } in
+    ok_completed c.args.setup.now (state g.S.Store c.args.link.now.conn) (state g.S.Store c.migrate.new.conn) c.in-Ok.answer after (c.in-Ok.ensures.raised clean)
 
 pub returns-in-Ok-clause-refused : goal.returns-in-Ok-clause-refused
 returns-in-Ok-clause-refused g c =
