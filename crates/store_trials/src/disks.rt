@@ -11,32 +11,60 @@ pub type Stopping = Fuse<Memory>;
 /// The log of a store, and its database.
 pub type Pair = Files<Stopping>;
 
-/// Two new files that fail each call after so many.
-pub fn new_files(alloc: Global, log_calls: u64, db_calls: u64) -> Pair {
-    Files {
-        log: Fuse::new(Memory::new(alloc), log_calls),
-        db: Fuse::new(Memory::new(alloc), db_calls),
+/// After how many calls the log stops, or else the database; the other never does.
+#[derive(Clone, Copy)]
+pub struct Stops {
+    pub in_log: bool,
+    pub calls: u64,
+}
+
+impl Stops {
+    /// Neither file stops.
+    pub const NEVER: Stops = Stops {
+        in_log: true,
+        calls: u64::MAX,
+    };
+
+    fn of_log(self) -> u64 {
+        if self.in_log { self.calls } else { u64::MAX }
+    }
+
+    fn of_database(self) -> u64 {
+        if self.in_log { u64::MAX } else { self.calls }
     }
 }
 
-/// The files as they stand, where only the program ended. They stop no more.
-pub fn left_behind(alloc: Global, files: &Pair) -> io::Result<Pair> {
+/// Two new files that stop so.
+pub fn new_files(alloc: Global, stops: Stops) -> Pair {
+    Files {
+        log: Fuse::new(Memory::new(alloc), stops.of_log()),
+        db: Fuse::new(Memory::new(alloc), stops.of_database()),
+    }
+}
+
+/// Two files as these stand, that stop so.
+pub fn copied(alloc: Global, files: &Pair, stops: Stops) -> io::Result<Pair> {
     Ok(Files {
-        log: copied(alloc, &files.log)?,
-        db: copied(alloc, &files.db)?,
+        log: copied_file(alloc, &files.log, stops.of_log())?,
+        db: copied_file(alloc, &files.db, stops.of_database())?,
     })
 }
 
-fn copied(alloc: Global, file: &Stopping) -> io::Result<Stopping> {
+fn copied_file(alloc: Global, file: &Stopping, calls: u64) -> io::Result<Stopping> {
     let mut memory = Memory::new(alloc);
     memory.write_at(0, file.inner().bytes())?;
     memory.sync()?;
-    Ok(Fuse::new(memory, u64::MAX))
+    Ok(Fuse::new(memory, calls))
 }
 
-/// The files after a crash of the machine, which loses what was not synced. They stop no more.
-pub fn crashed(mut files: Pair) -> Pair {
-    files.log.crash();
-    files.db.crash();
-    files
+/// The files after an end of the program, as they stand, or after a crash of the machine, which loses what was not
+/// synced. They stop no more.
+pub fn left_after(alloc: Global, mut files: Pair, crashes: bool) -> Option<Pair> {
+    if crashes {
+        files.log.crash();
+        files.db.crash();
+        Some(files)
+    } else {
+        copied(alloc, &files, Stops::NEVER).ok()
+    }
 }

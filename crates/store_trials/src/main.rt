@@ -1,11 +1,14 @@
 //! What the checks try of the register on a file and can't try of the program: a session over a database in memory, and
-//! postings over disks that stop at each of their calls in turn.
+//! postings and migrations over disks that stop at each of their calls in turn.
 #![tactic(auto)]
 
 mod disks;
+mod migrations;
+mod sending;
 mod session;
 mod stops;
 
+use crate::migrations::{are_answers_right, count_migrations};
 use crate::session::answered;
 use crate::stops::count_stops;
 use std::io::{BufWriter, Read, Write};
@@ -42,8 +45,12 @@ fn stop(rt: &HostRuntime) -> bool {
     for (in_log, crashes) in [(true, false), (true, true), (false, false), (false, true)] {
         let file = if in_log { "log" } else { "database" };
         let event = if crashes { "crash" } else { "stop" };
-        good &= count_stops(rt.alloc(), in_log, crashes).is_some_and(|count| count > 0)
-            && println!(rt; "{file}: whole after each {event}").is_ok();
+        let posted = count_stops(rt.alloc(), in_log, crashes);
+        let migrated = count_migrations(rt.alloc(), in_log, crashes);
+        good &= posted.is_some_and(|count| count > 0)
+            && println!(rt; "{file}: posted whole after each {event}").is_ok();
+        good &= migrated.is_some_and(|count| count > 0)
+            && println!(rt; "{file}: migrated whole after each {event}").is_ok();
     }
-    good
+    good && are_answers_right(rt.alloc()) && println!(rt; "migration: each answer").is_ok()
 }

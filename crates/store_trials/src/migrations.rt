@@ -1,0 +1,184 @@
+//! Migrations of a store of version 1 whose disk stops at each of its calls in turn.
+
+use crate::disks::{Pair, Stops, copied, left_after, new_files};
+use crate::sending::{Ended, SETUP, Sent, run};
+use nest_core::Setup;
+use register_sql::SqlRegister;
+use register_store::StoreFault;
+use sqlite::{Connection, Files, Options};
+use sqlite_disk::Disk;
+use std::alloc::Global;
+
+/// The tables of a store of version 1, with the first two of the three messages posted.
+const FIRST: &str = r#"
+CREATE TABLE meta (name TEXT PRIMARY KEY, val INTEGER NOT NULL) STRICT;
+CREATE TABLE setup (id INTEGER PRIMARY KEY, txt TEXT NOT NULL) STRICT;
+CREATE TABLE posting (id INTEGER PRIMARY KEY, station INTEGER NOT NULL, n INTEGER NOT NULL, body TEXT NOT NULL, verdict INTEGER NOT NULL, UNIQUE (station, n)) STRICT;
+CREATE TABLE spot (thing INTEGER, k INTEGER, entry INTEGER NOT NULL, place INTEGER NOT NULL, day INTEGER NOT NULL, PRIMARY KEY (thing, k)) STRICT;
+CREATE TABLE line (loan TEXT, object INTEGER, stage INTEGER NOT NULL, PRIMARY KEY (loan, object)) STRICT;
+INSERT INTO meta VALUES ('version', 1), ('depth', 8);
+INSERT INTO setup VALUES (1, 'station,GAL'), (2, 'place,S1,inside'), (3, 'place,MUSEUM-X,elsewhere'), (4, 'box,C1'), (5, 'own,2001.4.1,S1');
+INSERT INTO posting VALUES (1, 0, 1, '{"first":"2024-05-01","kind":"agree","last":"2024-05-31","loan":"LO2024.1","objects":["2001.4.1"],"partner":"MUSEUM-X"}', 0);
+INSERT INTO posting VALUES (2, 0, 2, '{"day":"2024-05-01","kind":"move","place":"S1","thing":"C1"}', 0);
+INSERT INTO spot VALUES (0, 1, 2, 0, 19844);
+INSERT INTO line VALUES ('LO2024.1', 1, 0);
+"#;
+
+/// What a migration answers.
+type Answer = Result<(), StoreFault>;
+
+/// Stops the log, or else the database, at its first call, at its second, and so on until a migration isn't stopped;
+/// tells how many stops there were. After each the store is whole, of version 1 or of version 2. None where one is not so.
+pub fn count_migrations(alloc: Global, in_log: bool, crashes: bool) -> Option<u64> {
+    let first = changed(alloc, new_files(alloc, Stops::NEVER), FIRST)?;
+    let setup = Setup::read(alloc, SETUP.as_bytes()).ok()?;
+    count_over(alloc, &first, &setup, in_log, crashes)
+}
+
+/// The same over copies of these files, with this setup.
+fn count_over(
+    alloc: Global,
+    first: &Pair,
+    setup: &Setup,
+    in_log: bool,
+    crashes: bool,
+) -> Option<u64> {
+    for calls in 0..10_000 {
+        let files = copied(alloc, first, Stops { in_log, calls }).ok()?;
+        if is_migrated(alloc, files, setup, crashes)? {
+            return Some(calls);
+        }
+    }
+    None
+}
+
+/// Whether a migration over the files isn't stopped; none where what it left isn't whole.
+fn is_migrated(alloc: Global, files: Pair, setup: &Setup, crashes: bool) -> Option<bool> {
+    let ended = migrated(alloc, files, setup)?;
+    let done = ended.given.is_ok();
+    let left = left_after(alloc, ended.files, crashes)?;
+    let found = run(alloc, left)?;
+    if went_on(found.given) || (!done && is_whole_of_first(alloc, found.files, setup)) {
+        Some(done)
+    } else {
+        None
+    }
+}
+
+/// Whether the store in the files can be migrated, and then has what was posted and goes on.
+fn is_whole_of_first(alloc: Global, files: Pair, setup: &Setup) -> bool {
+    match migrated(alloc, files, setup) {
+        Some(ended) => ended.given.is_ok() && goes_on(alloc, ended.files),
+        None => false,
+    }
+}
+
+/// Whether a hub opens over the files, and finds the first two messages and posts the third.
+fn goes_on(alloc: Global, files: Pair) -> bool {
+    match run(alloc, files) {
+        Some(ended) => went_on(ended.given),
+        None => false,
+    }
+}
+
+/// Whether a run found the first two messages and posted the third.
+fn went_on(sent: Sent) -> bool {
+    !sent.stopped && sent.doubles == 2 && sent.posted == 1
+}
+
+/// Whether a migration answers what it has to, of a new store and of one of version 1, as it is and changed.
+pub fn are_answers_right(alloc: Global) -> bool {
+    let Ok(setup) = Setup::read(alloc, SETUP.as_bytes()) else {
+        return false;
+    };
+    let new = new_files(alloc, Stops::NEVER);
+    is_answered(alloc, &new, &setup, "", Err(StoreFault::OtherVersion))
+        && changed(alloc, new, FIRST).is_some_and(|first| are_all_right(alloc, &first, &setup))
+}
+
+/// The same of the store of version 1 in these files.
+fn are_all_right(alloc: Global, first: &Pair, setup: &Setup) -> bool {
+    let rows = [
+        ("", Ok(())),
+        ("UPDATE meta SET val = 2 WHERE name = 'version'", Ok(())),
+        ("DELETE FROM meta", Err(StoreFault::OtherVersion)),
+        (
+            "UPDATE meta SET val = 3 WHERE name = 'version'",
+            Err(StoreFault::OtherVersion),
+        ),
+        (
+            "UPDATE meta SET val = 12 WHERE name = 'depth'",
+            Err(StoreFault::Damaged(0)),
+        ),
+        (
+            "DELETE FROM setup WHERE id = 5",
+            Err(StoreFault::OtherSetup),
+        ),
+        (
+            "UPDATE posting SET verdict = 25 WHERE id = 2",
+            Err(StoreFault::Damaged(2)),
+        ),
+        ("DROP TABLE line", Err(StoreFault::Store)),
+    ];
+    for (text, answer) in rows {
+        if !is_answered(alloc, first, setup, text, answer) {
+            return false;
+        }
+    }
+    true
+}
+
+/// Whether a migration of a copy of the store, changed by this text, gives this answer.
+fn is_answered(alloc: Global, store: &Pair, setup: &Setup, text: &str, answer: Answer) -> bool {
+    let Ok(files) = copied(alloc, store, Stops::NEVER) else {
+        return false;
+    };
+    let Some(files) = changed(alloc, files, text) else {
+        return false;
+    };
+    match migrated(alloc, files, setup) {
+        Some(ended) => ended.given == answer,
+        None => false,
+    }
+}
+
+/// The files of a store to which this was done; none where it can't be.
+fn changed<D: Disk + Drop>(alloc: Global, files: Files<D>, text: &str) -> Option<Files<D>> {
+    if !files.log.may_be_used() || !files.db.may_be_used() {
+        return None;
+    }
+    match Connection::open_files(alloc, files, Options::new(7)) {
+        Ok(mut conn) => {
+            let done = conn.execute_batch(text).is_ok();
+            let files = conn.into_store().close();
+            if done { Some(files) } else { None }
+        }
+        Err((_, left)) => {
+            drop(left.into_files());
+            None
+        }
+    }
+}
+
+/// A migration of the store in the files, with this setup. Where they aren't opened, that is Store.
+fn migrated<D: Disk + Drop>(
+    alloc: Global,
+    files: Files<D>,
+    setup: &Setup,
+) -> Option<Ended<Answer, D>> {
+    if !files.log.may_be_used() || !files.db.may_be_used() {
+        return None;
+    }
+    match Connection::open_files(alloc, files, Options::new(7)) {
+        Ok(conn) => {
+            let mut register = SqlRegister::adopt(conn);
+            let given = register.migrate(alloc, setup);
+            let files = register.into_connection().into_store().close();
+            Some(Ended { files, given })
+        }
+        Err((_, left)) => Some(Ended {
+            files: left.into_files(),
+            given: Err(StoreFault::Store),
+        }),
+    }
+}

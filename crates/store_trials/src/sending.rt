@@ -1,0 +1,103 @@
+//! Three messages, sent to a hub over a store.
+
+use hub_core::{Answer, Arrival, Hub, HubFault};
+use nest_core::Setup;
+use register_sql::SqlRegister;
+use register_store::{Register, read_message};
+use sqlite::{Connection, Files, Options};
+use sqlite_disk::Disk;
+use station_core::Refusal;
+use std::alloc::Global;
+
+pub const SETUP: &str =
+    "station,GAL\nplace,S1,inside\nplace,MUSEUM-X,elsewhere\nbox,C1\nown,2001.4.1,S1\n";
+
+const AGREED: &str =
+    r#"{"kind":"agree","loan":"LO2024.1","partner":"MUSEUM-X","objects":["2001.4.1"],"first":"2024-05-01","last":"2024-05-31"}"#;
+
+const MOVED: &str = r#"{"kind":"move","thing":"C1","place":"S1","day":"2024-05-01"}"#;
+
+const PACKED: &str = r#"{"kind":"pack","thing":"2001.4.1","container":"C1","day":"2024-05-01"}"#;
+
+/// How many of the three messages a run posted, how many were posted before, and whether it was stopped.
+#[derive(Clone, Copy)]
+pub struct Sent {
+    pub posted: u64,
+    pub doubles: u64,
+    pub stopped: bool,
+}
+
+/// What a run did whose hub was not opened.
+const UNOPENED: Sent = Sent {
+    posted: 0,
+    doubles: 0,
+    stopped: true,
+};
+
+/// What was done over a store, and the store's files.
+#[derive(Drop)]
+pub struct Ended<T, D: Disk> {
+    pub files: Files<D>,
+    pub given: T,
+}
+
+/// Opens a hub over the files, and sends it the three messages.
+pub fn run<D: Disk + Drop>(alloc: Global, files: Files<D>) -> Option<Ended<Sent, D>> {
+    if !files.log.may_be_used() || !files.db.may_be_used() {
+        return None;
+    }
+    match Connection::open_files(alloc, files, Options::new(7)) {
+        Ok(conn) => {
+            let (register, sent) = over(alloc, SqlRegister::adopt(conn));
+            let files = register.into_connection().into_store().close();
+            Some(Ended {
+                files,
+                given: sent?,
+            })
+        }
+        Err((_, left)) => Some(Ended {
+            files: left.into_files(),
+            given: UNOPENED,
+        }),
+    }
+}
+
+/// Opens a hub over the register, sends it the three messages, and gives the register back.
+fn over<R: Register>(alloc: Global, register: R) -> (R, Option<Sent>) {
+    let Ok(setup) = Setup::read(alloc, SETUP.as_bytes()) else {
+        return (register, None);
+    };
+    match Hub::open(alloc, setup, register) {
+        Ok(mut hub) => {
+            let sent = send_all(alloc, &mut hub);
+            (hub.close(), sent)
+        }
+        Err(failed) => (failed.register, Some(UNOPENED)),
+    }
+}
+
+/// Sends the three messages. After a fault the hub is down, and says so.
+fn send_all<S: Register>(alloc: Global, hub: &mut Hub<S>) -> Option<Sent> {
+    let mut sent = Sent {
+        posted: 0,
+        doubles: 0,
+        stopped: false,
+    };
+    for (n, text) in [(1, AGREED), (2, MOVED), (3, PACKED)] {
+        let message = read_message(alloc, text.as_bytes()).ok()?;
+        let arrival = Arrival {
+            station: 0,
+            n,
+            message,
+        };
+        match hub.arrive(alloc, arrival) {
+            Ok(Answer::Posted { .. }) => sent.posted = sent.posted.saturating_add(1),
+            Ok(Answer::Refused(Refusal::Double)) => sent.doubles = sent.doubles.saturating_add(1),
+            Ok(_) => return None,
+            Err(HubFault::Store) if hub.is_down() => sent.stopped = true,
+            Err(HubFault::Down) if sent.stopped => {}
+            Err(_) => return None,
+        }
+    }
+    Some(sent)
+}
