@@ -6,6 +6,7 @@ line none, a named fault of that line, or its whole reply. Usage: cut_anywhere.p
 import re
 import subprocess
 import sys
+import time
 from concurrent.futures import ThreadPoolExecutor
 
 SETUP_FAULT = re.compile(rb"fault setup [A-Za-z]+( row [0-9]+)?\n")
@@ -63,7 +64,7 @@ class Case:
 
 
 def main():
-    program, folders, cuts = sys.argv[1], sys.argv[2:], 0
+    program, folders, cuts, began = sys.argv[1], sys.argv[2:], 0, time.monotonic()
     for folder in folders:
         case = Case(program, folder)
         with ThreadPoolExecutor(2) as pool:
@@ -72,7 +73,7 @@ def main():
                 if not right:
                     sys.exit(f"{folder}: cut after {cut} bytes")
                 cuts += 1
-    print(f"{cuts} cuts")
+    print(f"{cuts} cuts, in {time.monotonic() - began:.0f} s")
 
 
 if __name__ == "__main__":

@@ -16,6 +16,7 @@ import shutil
 import subprocess
 import sys
 import tempfile
+import time
 from collections import Counter
 from concurrent.futures import ThreadPoolExecutor
 
@@ -125,7 +126,7 @@ def tried(program, source, each, pool):
 
 
 def main():
-    words, each, peer = sys.argv[1:], 1, None
+    words, each, peer, began = sys.argv[1:], 1, None, time.monotonic()
     while words[0].startswith("--"):
         if words[0] == "--each":
             each = int(words[1])
@@ -144,7 +145,7 @@ def main():
                     runs = Runs(case, step, files)
                     count["files and words"] += tried(program, runs, each, pool)
                     runs.run(program, files)
-    print(", ".join(f"{number:,} damages of {kind}" for kind, number in count.items()) + ": all was right")
+    print(", ".join(f"{number:,} damages of {kind}" for kind, number in count.items()) + f": all was right, in {time.monotonic() - began:.0f} s")
 
 
 if __name__ == "__main__":

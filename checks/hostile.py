@@ -121,13 +121,13 @@ def main():
     program, times = sys.argv[1], int(sys.argv[2]) if len(sys.argv) > 2 else 60
     checks, passed = [damaged_file, cut_file, serve_killed], 0
     for check in checks:
-        folder = tempfile.mkdtemp(dir="/dev/shm" if os.path.isdir("/dev/shm") else None)
+        began, folder = time.monotonic(), tempfile.mkdtemp(dir="/dev/shm" if os.path.isdir("/dev/shm") else None)
         try:
             good = check(Room(program, folder), times)
         finally:
             shutil.rmtree(folder)
         passed += good
-        print(f"{check.__name__}: {'ok' if good else 'FAILED'}", flush=True)
+        print(f"{check.__name__}: {'ok' if good else 'FAILED'}, in {time.monotonic() - began:.0f} s", flush=True)
     print(f"{passed} passed, {len(checks) - passed} failed")
     return passed < len(checks)
 

@@ -162,14 +162,14 @@ def main():
     program, times = sys.argv[1], int(sys.argv[2]) if len(sys.argv) > 2 else 60
     checks, passed = [migrated_store, no_loans, migrate_refusals, no_store, migration_killed], 0
     for check in checks:
-        folder = tempfile.mkdtemp(dir="/dev/shm" if os.path.isdir("/dev/shm") else None)
+        began, folder = time.monotonic(), tempfile.mkdtemp(dir="/dev/shm" if os.path.isdir("/dev/shm") else None)
         try:
             room = Room(program, folder)
             good = check(room, times) if check is migration_killed else check(room)
         finally:
             shutil.rmtree(folder)
         passed += good
-        print(f"{check.__name__}: {'ok' if good else 'FAILED'}", flush=True)
+        print(f"{check.__name__}: {'ok' if good else 'FAILED'}, in {time.monotonic() - began:.0f} s", flush=True)
     print(f"{passed} passed, {len(checks) - passed} failed")
     return passed < len(checks)
 

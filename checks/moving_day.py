@@ -11,6 +11,7 @@ import re
 import subprocess
 import sys
 import tempfile
+import time
 
 POSTED = re.compile(r" posted (\d+) ")
 
@@ -54,13 +55,13 @@ def differences(program, folder, store):
 
 def main():
     program, folder, times = os.path.abspath(sys.argv[1]), sys.argv[2], int((sys.argv[3:] or ["20"])[0])
-    failed = 0
+    failed, began = 0, time.monotonic()
     for _ in range(times):
         with tempfile.TemporaryDirectory() as room:
             wrong = list(differences(program, folder, os.path.join(room, "museum.db")))
         failed += bool(wrong)
         print("".join(text + "\n" for text in wrong), end="")
-    print(f"{times} logs, {failed} wrong")
+    print(f"{times} logs, {failed} wrong, in {time.monotonic() - began:.0f} s")
     return failed or not times
 
 

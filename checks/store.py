@@ -284,14 +284,14 @@ def main():
     passed = 0
     base = "/dev/shm" if os.path.isdir("/dev/shm") else None
     for check in checks:
-        folder = tempfile.mkdtemp(dir=base)
+        began, folder = time.monotonic(), tempfile.mkdtemp(dir=base)
         try:
             room = Room(program, folder)
             good = check(room, kills) if check is killed else check(room)
         finally:
             shutil.rmtree(folder)
         passed += good
-        print(f"{check.__name__}: {'ok' if good else 'FAILED'}", flush=True)
+        print(f"{check.__name__}: {'ok' if good else 'FAILED'}, in {time.monotonic() - began:.0f} s", flush=True)
     print(f"{passed} passed, {len(checks) - passed} failed")
     return passed < len(checks)
 
