@@ -1,10 +1,10 @@
 -- The definitions computed on worked words.
-use Rattle.std.specs.Prelude.{◌≡◌, ◌∷◌, [], List, None, Option, Some, codes, false, map, option_map, refl, true}
+use Rattle.std.specs.Prelude.{◌≡◌, ◌∷◌, [], List, None, Some, codes, false, map, refl, true}
 use Rattle.clap.specs.Words.{Text}
 use Rattle.clap.proofs.OnLiterals.{clap_on_literals}
-use Rattle.clap.specs.declared.error.kind.ErrorKind.TheVariants.{ArgumentConflict, DisplayHelp, InvalidValue}
+use Rattle.clap.specs.declared.error.kind.ErrorKind.TheVariants.{ArgumentConflict, InvalidValue}
 use Rattle.clap.specs.declared.error.kind.ErrorKind.TheVariants.{UnknownArgument}
-use Rattle.command_words.specs.Commands.{overdue, posted, replay, serve}
+use Rattle.command_words.specs.Commands.{posted, replay, serve}
 use Rattle.command_words.specs.Words.{form_named, lacks, refusals, status_of_kind, value, values}
 
 -- replay --setup a --store b

@@ -1,11 +1,15 @@
 -- The commands: what clap reads of each, and which values each needs.
-use Rattle.std.specs.Prelude.{◌∷◌, [], List, Some, codes, map, true, false}
+use Rattle.std.specs.Prelude.{◌∷◌, [], Bool, List, Some, codes, map, true, false}
 use Rattle.clap.specs.Words.{App, Rule, Text, new_app, new_rule, with_rule}
-use Rattle.clap.specs.declared.builder.action.ArgAction.TheVariants.{Set, Append}
+use Rattle.clap.specs.declared.builder.action.ArgAction.TheVariants.{Set, SetTrue, Append}
 
 -- an option with a value, as --setup PATH
 abbrev pub option_rule : Text → Rule
 option_rule id = record (new_rule id) { long = Some id; value_names = 1; action = Some Set }
+
+-- an option without a value, as --csv
+abbrev pub flag_rule : Text → Rule
+flag_rule id = record (new_rule id) { long = Some id; action = Some SetTrue }
 
 -- a value by its place, as LIST
 abbrev pub word_rule : Text → Rule
@@ -20,40 +24,48 @@ abbrev pub register_app : Text → App
 register_app name =
     with_rule (with_rule (new_app name) (option_rule (codes "setup"))) (option_rule (codes "store"))
 
--- a command as clap reads it, and the values that have to be there
+-- a command whose rows are printed as CSV or as JSON where that is asked for
+abbrev pub report_app : App → App
+report_app app = with_rule (with_rule app (flag_rule (codes "csv"))) (flag_rule (codes "json"))
+
+-- a command as clap reads it, the values that have to be there, and whether it is a report, which asks for one form at most
 pub record Form : Type 0 where
   pub app : App
   pub needed : List Text
+  pub is_report : Bool
 
 abbrev pub one_needed : App → Text → Form
-one_needed app id = record { app = app; needed = id ∷ [] }
+one_needed app id = record { app = app; needed = id ∷ []; is_report = false }
 
 abbrev pub setup_needed : App → Form
 setup_needed app = one_needed app (codes "setup")
 
 abbrev pub both_needed : App → Form
-both_needed app = record { app = app; needed = codes "setup" ∷ codes "store" ∷ [] }
+both_needed app = record { app = app; needed = codes "setup" ∷ codes "store" ∷ []; is_report = false }
 
 abbrev pub all_needed : App → Text → Form
-all_needed app id = record { app = app; needed = codes "setup" ∷ codes "store" ∷ id ∷ [] }
+all_needed app id = record { app = app; needed = codes "setup" ∷ codes "store" ∷ id ∷ []; is_report = false }
+
+abbrev pub report : Form → Form
+report form = record form { is_report = true }
 
 abbrev pub replay : Form
-replay = setup_needed (register_app (codes "replay"))
+replay = setup_needed (with_rule (register_app (codes "replay")) (flag_rule (codes "progress")))
 
 abbrev pub serve : Form
 serve = setup_needed (with_rule (register_app (codes "serve")) (words_rule (codes "feeds")))
 
 abbrev pub count : Form
-count = all_needed (with_rule (register_app (codes "count")) (word_rule (codes "list"))) (codes "list")
+count = report (all_needed (report_app (with_rule (register_app (codes "count")) (word_rule (codes "list")))) (codes "list"))
 
 abbrev pub overdue : Form
-overdue = all_needed (with_rule (register_app (codes "overdue")) (option_rule (codes "on"))) (codes "on")
+overdue = report (all_needed (report_app (with_rule (register_app (codes "overdue")) (option_rule (codes "on")))) (codes "on"))
 
 abbrev pub away : Form
-away = both_needed (register_app (codes "away"))
+away = report (both_needed (report_app (register_app (codes "away"))))
 
 abbrev pub history : Form
-history = all_needed (with_rule (register_app (codes "history")) (word_rule (codes "code"))) (codes "code")
+history = report (all_needed (report_app (with_rule (register_app (codes "history")) (word_rule (codes "code")))) (codes "code"))
 
 abbrev pub migrate : Form
 migrate = both_needed (register_app (codes "migrate"))
@@ -62,22 +74,22 @@ abbrev pub explain : Form
 explain = one_needed (with_rule (new_app (codes "explain")) (word_rule (codes "name"))) (codes "name")
 
 abbrev pub stations : Form
-stations = both_needed (register_app (codes "stations"))
+stations = report (both_needed (report_app (register_app (codes "stations"))))
 
 abbrev pub where_is : Form
-where_is = all_needed (with_rule (register_app (codes "where")) (word_rule (codes "code"))) (codes "code")
+where_is = report (all_needed (report_app (with_rule (register_app (codes "where")) (word_rule (codes "code")))) (codes "code"))
 
 abbrev pub contents : Form
-contents = all_needed (with_rule (register_app (codes "contents")) (word_rule (codes "code"))) (codes "code")
+contents = report (all_needed (report_app (with_rule (register_app (codes "contents")) (word_rule (codes "code")))) (codes "code"))
 
 abbrev pub loan : Form
-loan = all_needed (with_rule (register_app (codes "loan")) (word_rule (codes "code"))) (codes "code")
+loan = report (all_needed (report_app (with_rule (register_app (codes "loan")) (word_rule (codes "code")))) (codes "code"))
 
 abbrev pub at : Form
-at = all_needed (with_rule (register_app (codes "at")) (word_rule (codes "place"))) (codes "place")
+at = report (all_needed (report_app (with_rule (register_app (codes "at")) (word_rule (codes "place")))) (codes "place"))
 
 abbrev pub posted : Form
-posted = both_needed (with_rule (register_app (codes "posted")) (option_rule (codes "from")))
+posted = report (both_needed (report_app (with_rule (register_app (codes "posted")) (option_rule (codes "from")))))
 
 abbrev pub commands : List Form
 commands = replay ∷ serve ∷ count ∷ overdue ∷ away ∷ history ∷ migrate

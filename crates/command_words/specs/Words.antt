@@ -1,22 +1,26 @@
 -- What the words of a command line choose, and why they choose nothing.
 use Rattle.std.specs.Prelude.{◌≡◌, ◌≢◌, ◌∷◌, [], ℕ, Bool, List, Option, Result, Some, None, MatchResult, codes, find, is_some}
-use Rattle.std.specs.Prelude.{map, not, option_map, slice_get, true, unwrap_or}
+use Rattle.std.specs.Prelude.{false, if◌then◌else◌, map, not, option_map, slice_get, true, unwrap_or}
 use Rattle.std.specs.Borrow.{Bor}
 use Rattle.std.specs.List.{list_any}
-use Rattle.std.specs.Option.{option_and_then}
+use Rattle.std.specs.Option.{option_and_then, option_map_or}
 use Rattle.std.specs.Str.{bytes_eq}
 use Rattle.clap.specs.Words.{App, Row, Text, all_of, first_of, matches_of}
 use Rattle.clap.specs.Faults.{fault_of}
-use Rattle.clap.specs.Kinds.{IsAmong, Kinds}
+use Rattle.clap.specs.Kinds.{IsAmong, Kinds, or_else}
 use Rattle.clap.specs.Values.{kind_of}
 use Rattle.clap.specs.declared.error.Error.{Error}
 use Rattle.clap.specs.declared.error.kind.ErrorKind.{ErrorKind}
-use Rattle.clap.specs.declared.error.kind.ErrorKind.TheVariants.{DisplayHelp, DisplayVersion, OutOfMemory}
+use Rattle.clap.specs.declared.error.kind.ErrorKind.TheVariants.{ArgumentConflict, DisplayHelp, DisplayVersion, OutOfMemory}
 use Rattle.command_words.specs.Commands.{Form, at, away, commands, contents, count, explain}
 use Rattle.command_words.specs.Commands.{history, loan, migrate, overdue, overview, posted, replay, serve}
 use Rattle.command_words.specs.Commands.{stations, where_is}
 use Rattle.command_words.specs.declared.reading.Files.{Files}
 use Rattle.command_words.specs.declared.reading.Record.{Record}
+use Rattle.command_words.specs.declared.reading.Report.{Report}
+use Rattle.command_words.specs.declared.reading.Asked.{Asked}
+use Rattle.command_words.specs.declared.command.Format.{Format}
+use Rattle.command_words.specs.declared.command.Format.TheVariants.{Csv, Json, Lines}
 use Rattle.command_words.specs.declared.command.Chosen.{Chosen}
 use Rattle.command_words.specs.declared.command.Chosen.TheVariants as command
 use Rattle.command_words.specs.declared.command.WordsFault.{WordsFault}
@@ -48,62 +52,94 @@ value app words id = first_of id (matches_of app words)
 abbrev pub values : App → List Text → Text → List Text
 values app words id = all_in id (matches_of app words)
 
+-- an option without a value is given: clap writes true for it
+abbrev pub is_true : Option Text → Bool
+is_true text = option_map_or (λ t. bytes_eq t (codes "true")) text false
+
+abbrev pub is_given : App → List Text → Text → Bool
+is_given app words id = is_true (value app words id)
+
+-- the form of a report's rows, by whether each of the two options is given; none for both
+abbrev pub format_by : Bool → Bool → Option Format
+format_by true true = None
+format_by true false = Some Csv
+format_by false true = Some Json
+format_by false false = Some Lines
+
+abbrev pub format_in : App → List Text → Option Format
+format_in app words = format_by (is_given app words (codes "csv")) (is_given app words (codes "json"))
+
 -- the words name this command, and give it these values
 abbrev pub IsChosen : List Text → Chosen → Type 0
-IsChosen words (command.Replay setup store) = IsNamed words (codes "replay")
+IsChosen words (command.Replay setup store progress) = IsNamed words (codes "replay")
     × (value replay.app words (codes "setup") ≡ Some setup.now)
     × (value replay.app words (codes "store") ≡ text_of store)
+    × (is_given replay.app words (codes "progress") ≡ progress)
 IsChosen words (command.Serve setup store feeds) = IsNamed words (codes "serve")
     × (value serve.app words (codes "setup") ≡ Some setup.now)
     × (value serve.app words (codes "store") ≡ text_of store)
     × (values serve.app words (codes "feeds") ≡ texts_of feeds.items)
-IsChosen words (command.Count setup store list) = IsNamed words (codes "count")
+IsChosen words (command.Count setup store list format) = IsNamed words (codes "count")
     × (value count.app words (codes "setup") ≡ Some setup.now)
     × (value count.app words (codes "store") ≡ Some store.now)
     × (value count.app words (codes "list") ≡ Some list.now)
-IsChosen words (command.Overdue setup store on) = IsNamed words (codes "overdue")
+    × (format_in count.app words ≡ Some format)
+IsChosen words (command.Overdue setup store on format) = IsNamed words (codes "overdue")
     × (value overdue.app words (codes "setup") ≡ Some setup.now)
     × (value overdue.app words (codes "store") ≡ Some store.now)
     × (value overdue.app words (codes "on") ≡ Some on.now)
-IsChosen words (command.Away setup store) = IsNamed words (codes "away")
+    × (format_in overdue.app words ≡ Some format)
+IsChosen words (command.Away setup store format) = IsNamed words (codes "away")
     × (value away.app words (codes "setup") ≡ Some setup.now)
     × (value away.app words (codes "store") ≡ Some store.now)
-IsChosen words (command.History setup store code) = IsNamed words (codes "history")
+    × (format_in away.app words ≡ Some format)
+IsChosen words (command.History setup store code format) = IsNamed words (codes "history")
     × (value history.app words (codes "setup") ≡ Some setup.now)
     × (value history.app words (codes "store") ≡ Some store.now)
     × (value history.app words (codes "code") ≡ Some code.now)
+    × (format_in history.app words ≡ Some format)
 IsChosen words (command.Migrate setup store) = IsNamed words (codes "migrate")
     × (value migrate.app words (codes "setup") ≡ Some setup.now)
     × (value migrate.app words (codes "store") ≡ Some store.now)
 IsChosen words (command.Explain name) = IsNamed words (codes "explain")
     × (value explain.app words (codes "name") ≡ Some name.now)
-IsChosen words (command.Stations setup store) = IsNamed words (codes "stations")
+IsChosen words (command.Stations setup store format) = IsNamed words (codes "stations")
     × (value stations.app words (codes "setup") ≡ Some setup.now)
     × (value stations.app words (codes "store") ≡ Some store.now)
-IsChosen words (command.Where setup store code) = IsNamed words (codes "where")
+    × (format_in stations.app words ≡ Some format)
+IsChosen words (command.Where setup store code format) = IsNamed words (codes "where")
     × (value where_is.app words (codes "setup") ≡ Some setup.now)
     × (value where_is.app words (codes "store") ≡ Some store.now)
     × (value where_is.app words (codes "code") ≡ Some code.now)
-IsChosen words (command.Contents setup store code) = IsNamed words (codes "contents")
+    × (format_in where_is.app words ≡ Some format)
+IsChosen words (command.Contents setup store code format) = IsNamed words (codes "contents")
     × (value contents.app words (codes "setup") ≡ Some setup.now)
     × (value contents.app words (codes "store") ≡ Some store.now)
     × (value contents.app words (codes "code") ≡ Some code.now)
-IsChosen words (command.Loan setup store code) = IsNamed words (codes "loan")
+    × (format_in contents.app words ≡ Some format)
+IsChosen words (command.Loan setup store code format) = IsNamed words (codes "loan")
     × (value loan.app words (codes "setup") ≡ Some setup.now)
     × (value loan.app words (codes "store") ≡ Some store.now)
     × (value loan.app words (codes "code") ≡ Some code.now)
-IsChosen words (command.At setup store place) = IsNamed words (codes "at")
+    × (format_in loan.app words ≡ Some format)
+IsChosen words (command.At setup store place format) = IsNamed words (codes "at")
     × (value at.app words (codes "setup") ≡ Some setup.now)
     × (value at.app words (codes "store") ≡ Some store.now)
     × (value at.app words (codes "place") ≡ Some place.now)
-IsChosen words (command.Posted setup store from) = IsNamed words (codes "posted")
+    × (format_in at.app words ≡ Some format)
+IsChosen words (command.Posted setup store from format) = IsNamed words (codes "posted")
     × (value posted.app words (codes "setup") ≡ Some setup.now)
     × (value posted.app words (codes "store") ≡ Some store.now)
     × (value posted.app words (codes "from") ≡ text_of from)
+    × (format_in posted.app words ≡ Some format)
 
--- what clap refuses in words that name a command, or none; where it refuses nothing the list is empty
+-- what is refused in the words of a report: what clap refuses, and then both forms of its rows at once
+abbrev pub report_kinds : App → List Text → Kinds
+report_kinds app words = or_else (fault_of app words) (option_map_or (λ format. []) (format_in app words) (ArgumentConflict ∷ []))
+
+-- what is refused in words that name a command, or none; where nothing is refused the list is empty
 abbrev pub kinds_by : Option Form → List Text → Kinds
-kinds_by (Some form) words = fault_of form.app words
+kinds_by (Some form) words = if form.is_report then report_kinds form.app words else fault_of form.app words
 kinds_by None words = fault_of overview (codes "pairsalder" ∷ words)
 
 -- a value that the command needs isn't there, or there is no command
@@ -133,6 +169,11 @@ FromRefusal error NoMemory = kind_of error ≡ OutOfMemory
 abbrev pub IsRead : App → List Text → List Row → Type 0
 IsRead app words rows = (fault_of app words ≡ []) × (rows ≡ matches_of app words)
 
+-- clap takes the words of a report, makes these rows of them, and this form is asked for
+abbrev pub IsReadAs : App → List Text → List Row → Format → Type 0
+IsReadAs app words rows format = (report_kinds app words ≡ []) × (rows ≡ matches_of app words)
+    × (format_in app words ≡ Some format)
+
 -- clap takes the words of a command, which name these files
 abbrev pub GivesFiles : App → List Text → Files → Type 0
 GivesFiles app words files = (fault_of app words ≡ [])
@@ -144,6 +185,27 @@ abbrev pub GivesRecord : App → List Text → Record → Type 0
 GivesRecord app words files = (fault_of app words ≡ [])
     × (value app words (codes "setup") ≡ Some files.setup.now)
     × (value app words (codes "store") ≡ Some files.store.now)
+
+-- the words of a report are taken, and name both files and the form of its rows
+abbrev pub GivesReport : App → List Text → Report → Type 0
+GivesReport app words report = (report_kinds app words ≡ [])
+    × (value app words (codes "setup") ≡ Some report.setup.now)
+    × (value app words (codes "store") ≡ Some report.store.now)
+    × (format_in app words ≡ Some report.format)
+
+-- the words of a report are taken, and name these files, the form of its rows and this value of one argument more
+abbrev pub GivesAsked : App → List Text → Text → Asked → Type 0
+GivesAsked app words id asked = (report_kinds app words ≡ [])
+    × (value app words (codes "setup") ≡ text_of asked.files.setup)
+    × (value app words (codes "store") ≡ text_of asked.files.store)
+    × (format_in app words ≡ Some asked.format)
+    × (value app words id ≡ text_of asked.own)
+
+-- the words of a report are refused, or memory ran out
+abbrev pub IsRefusedReport : App → List Text → WordsFault → Type 0
+IsRefusedReport app words (Refused error) = IsAmong (kind_of error) (report_kinds app words)
+IsRefusedReport app words Missing = ⊥
+IsRefusedReport app words NoMemory = Unit {0}
 
 -- clap refuses the words of a command, or memory ran out
 abbrev pub IsRefused : App → List Text → WordsFault → Type 0
@@ -157,7 +219,7 @@ IsFaultBy form words (Refused error) = IsAmong (kind_of error) (kinds_by form wo
 IsFaultBy form words Missing = (kinds_by form words ≡ []) × (lacks form words ≡ true)
 IsFaultBy form words NoMemory = Unit {0}
 
--- what clap refuses in the words
+-- what is refused in the words
 abbrev pub refusals : List Text → Kinds
 refusals words = kinds_by (form_named words) words
 

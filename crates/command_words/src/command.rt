@@ -7,13 +7,25 @@ use clap::error::ErrorKind;
 use std::alloc::{AllocError, AllocFailed};
 use thiserror::Error as Fault;
 
+/// The form of a report's rows.
+#[derive(Clone, Copy, Debug, PartialEq, Eq)]
+pub enum Format {
+    /// Plain lines.
+    Lines,
+    /// Comma-separated values, under a row of their names.
+    Csv,
+    /// One JSON object a line.
+    Json,
+}
+
 /// A command with its values, as they stand in the words. A store that isn't named stands in memory.
 #[derive(Drop)]
 pub enum Chosen<'a> {
-    /// Takes the lines of standard input.
+    /// Takes the lines of standard input, and tells how far it has come where that is asked for.
     Replay {
         setup: &'a str,
         store: Option<&'a str>,
+        progress: bool,
     },
     /// Takes one file of lines a station, in the setup's order.
     Serve {
@@ -26,23 +38,27 @@ pub enum Chosen<'a> {
         setup: &'a str,
         store: &'a str,
         list: &'a str,
+        format: Format,
     },
     /// Lists the loans that are overdue on a day.
     Overdue {
         setup: &'a str,
         store: &'a str,
         on: &'a str,
+        format: Format,
     },
     /// Lists the own objects that aren't at their normal places.
     Away {
         setup: &'a str,
         store: &'a str,
+        format: Format,
     },
     /// Lists where a thing was.
     History {
         setup: &'a str,
         store: &'a str,
         code: &'a str,
+        format: Format,
     },
     /// Makes a store of the version before one of this version.
     Migrate {
@@ -57,36 +73,42 @@ pub enum Chosen<'a> {
     Stations {
         setup: &'a str,
         store: &'a str,
+        format: Format,
     },
     /// Tells where a thing is.
     Where {
         setup: &'a str,
         store: &'a str,
         code: &'a str,
+        format: Format,
     },
     /// Lists what is in a container.
     Contents {
         setup: &'a str,
         store: &'a str,
         code: &'a str,
+        format: Format,
     },
     /// Tells how a loan stands.
     Loan {
         setup: &'a str,
         store: &'a str,
         code: &'a str,
+        format: Format,
     },
     /// Lists all that is at a place.
     At {
         setup: &'a str,
         store: &'a str,
         place: &'a str,
+        format: Format,
     },
     /// Lists what is on record, from an entry on, if it is named.
     Posted {
         setup: &'a str,
         store: &'a str,
         from: Option<&'a str>,
+        format: Format,
     },
 }
 

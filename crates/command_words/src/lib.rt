@@ -13,4 +13,4 @@ mod shapes;
 mod texts;
 pub mod words;
 
-pub use command::{Chosen, WordsFault};
+pub use command::{Chosen, Format, WordsFault};

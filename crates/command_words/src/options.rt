@@ -1,7 +1,8 @@
 //! The arguments of a command, and a command over a register.
 ghost use Rattle.std.specs.Prelude.{◌≡◌, false, IfOk, codes};
 ghost use Rattle.clap.specs.Words.{app_of, rule_of, with_rule};
-ghost use Rattle.command_words.specs.Commands.{option_rule, register_app, word_rule, words_rule};
+ghost use Rattle.command_words.specs.Commands.{flag_rule, option_rule, register_app, report_app, word_rule};
+ghost use Rattle.command_words.specs.Commands.{words_rule};
 
 use crate::texts::Help;
 use clap::{Arg, ArgAction, Command};
@@ -16,6 +17,17 @@ pub(crate) fn option<'a>(alloc: Global, id: &'a str, value: &'a str, help: &'a s
         .long(id)
         .value_name(value)
         .action(ArgAction::Set)
+        .help(help)
+}
+
+/// An option without a value, as `--csv`.
+pub(crate) fn flag<'a>(alloc: Global, name: &'a str, help: &'a str) -> Arg<'a>
+    ensures rule { rule_of result ≡ flag_rule name.now }
+    ensures local { result.global ≡ false }
+{
+    Arg::new(alloc, name)
+        .long(name)
+        .action(ArgAction::SetTrue)
         .help(help)
 }
 
@@ -81,4 +93,22 @@ pub(crate) fn over_a_register<'a>(
         command,
         option(alloc, "store", "PATH", "The file that keeps the record"),
     )
+}
+
+/// A report, with the two options that ask for another form of its rows.
+pub(crate) fn with_formats<'a>(
+    alloc: Global,
+    command: Command<'a>,
+) -> Result<Command<'a>, AllocError>
+    ensures { IfOk result (λ r. app_of r ≡ report_app (app_of command.entry)) }
+{
+    let command = with(
+        command,
+        flag(
+            alloc,
+            "csv",
+            "Print comma-separated values, under a row of their names",
+        ),
+    )?;
+    with(command, flag(alloc, "json", "Print one JSON object a line"))
 }

@@ -3,7 +3,7 @@ ghost use Rattle.std.specs.Prelude.{Some, codes};
 ghost use Rattle.command_words.specs.Commands as commands;
 ghost use Rattle.command_words.specs.Words.{Chooses, IsNamed, texts_of};
 
-use crate::reading::{read_record, read_record_and, read_record_and_perhaps, read_word};
+use crate::reading::{read_report, read_report_and, read_report_and_perhaps, read_word};
 use crate::{Chosen, WordsFault, question_shapes};
 use std::alloc::Global;
 
@@ -19,10 +19,11 @@ pub(crate) fn stations<'a>(alloc: Global, words: &'a [&'a str]) -> Result<Chosen
     requires { IsNamed (texts_of words.now) (codes "stations") }
     ensures { Chooses (Some commands.stations) (texts_of words.now) result }
 {
-    let record = read_record(question_shapes::stations_command(alloc)?, words)?;
+    let report = read_report(question_shapes::stations_command(alloc)?, words)?;
     Ok(Chosen::Stations {
-        setup: record.setup,
-        store: record.store,
+        setup: report.setup,
+        store: report.store,
+        format: report.format,
     })
 }
 
@@ -30,11 +31,12 @@ pub(crate) fn where_is<'a>(alloc: Global, words: &'a [&'a str]) -> Result<Chosen
     requires { IsNamed (texts_of words.now) (codes "where") }
     ensures { Chooses (Some commands.where_is) (texts_of words.now) result }
 {
-    let (record, code) = read_record_and(question_shapes::where_command(alloc)?, words, "code")?;
+    let (report, code) = read_report_and(question_shapes::where_command(alloc)?, words, "code")?;
     Ok(Chosen::Where {
-        setup: record.setup,
-        store: record.store,
+        setup: report.setup,
+        store: report.store,
         code,
+        format: report.format,
     })
 }
 
@@ -42,11 +44,12 @@ pub(crate) fn contents<'a>(alloc: Global, words: &'a [&'a str]) -> Result<Chosen
     requires { IsNamed (texts_of words.now) (codes "contents") }
     ensures { Chooses (Some commands.contents) (texts_of words.now) result }
 {
-    let (record, code) = read_record_and(question_shapes::contents_command(alloc)?, words, "code")?;
+    let (report, code) = read_report_and(question_shapes::contents_command(alloc)?, words, "code")?;
     Ok(Chosen::Contents {
-        setup: record.setup,
-        store: record.store,
+        setup: report.setup,
+        store: report.store,
         code,
+        format: report.format,
     })
 }
 
@@ -54,11 +57,12 @@ pub(crate) fn loan<'a>(alloc: Global, words: &'a [&'a str]) -> Result<Chosen<'a>
     requires { IsNamed (texts_of words.now) (codes "loan") }
     ensures { Chooses (Some commands.loan) (texts_of words.now) result }
 {
-    let (record, code) = read_record_and(question_shapes::loan_command(alloc)?, words, "code")?;
+    let (report, code) = read_report_and(question_shapes::loan_command(alloc)?, words, "code")?;
     Ok(Chosen::Loan {
-        setup: record.setup,
-        store: record.store,
+        setup: report.setup,
+        store: report.store,
         code,
+        format: report.format,
     })
 }
 
@@ -66,11 +70,12 @@ pub(crate) fn at<'a>(alloc: Global, words: &'a [&'a str]) -> Result<Chosen<'a>, 
     requires { IsNamed (texts_of words.now) (codes "at") }
     ensures { Chooses (Some commands.at) (texts_of words.now) result }
 {
-    let (record, place) = read_record_and(question_shapes::at_command(alloc)?, words, "place")?;
+    let (report, place) = read_report_and(question_shapes::at_command(alloc)?, words, "place")?;
     Ok(Chosen::At {
-        setup: record.setup,
-        store: record.store,
+        setup: report.setup,
+        store: report.store,
         place,
+        format: report.format,
     })
 }
 
@@ -78,14 +83,15 @@ pub(crate) fn posted<'a>(alloc: Global, words: &'a [&'a str]) -> Result<Chosen<'
     requires { IsNamed (texts_of words.now) (codes "posted") }
     ensures { Chooses (Some commands.posted) (texts_of words.now) result }
 {
-    let (record, from) = read_record_and_perhaps(
+    let (report, from) = read_report_and_perhaps(
         question_shapes::posted_command(alloc)?,
         words,
         "from",
     )?;
     Ok(Chosen::Posted {
-        setup: record.setup,
-        store: record.store,
+        setup: report.setup,
+        store: report.store,
         from,
+        format: report.format,
     })
 }

@@ -1,14 +1,16 @@
 //! What the words give a command's arguments.
 ghost use Rattle.std.specs.Prelude.{◌≡◌, [], IfOk, MatchResult, None, Some, true};
 ghost use Rattle.clap.specs.Faults.{fault_of, is_simple_and_free};
-ghost use Rattle.clap.specs.Words.{app_of, first_of, found_of, rows_of};
-ghost use Rattle.command_words.specs.Commands.{all_needed, both_needed, one_needed};
-ghost use Rattle.command_words.specs.Words.{GivesFiles, GivesRecord, IsFaultBy, IsRead, IsRefused};
-ghost use Rattle.command_words.specs.Words.{all_in, text_of, texts_of, value, values};
+ghost use Rattle.clap.specs.Words.{app_of, first_of, found_of, kind_of, rows_of};
+ghost use Rattle.command_words.specs.Commands.{all_needed, both_needed, one_needed, report};
+ghost use Rattle.command_words.specs.Words.{GivesAsked, GivesFiles, GivesRecord, GivesReport, IsFaultBy};
+ghost use Rattle.command_words.specs.Words.{IsRead, IsReadAs, IsRefused, IsRefusedReport, all_in, is_given};
+ghost use Rattle.command_words.specs.Words.{format_by, is_true, text_of, texts_of, value, values};
 ghost use Rattle.command_words.specs.declared.command.WordsFault.TheVariants.{Missing, NoMemory};
 
-use crate::WordsFault;
-use clap::{ArgMatches, Command};
+use crate::{Format, WordsFault};
+use clap::error::ErrorKind;
+use clap::{ArgMatches, Command, Error};
 use std::alloc::{AllocError, Global};
 
 /// The setup and the store, where the words name them.
@@ -23,6 +25,23 @@ pub(crate) struct Files<'a> {
 pub(crate) struct Record<'a> {
     pub setup: &'a str,
     pub store: &'a str,
+}
+
+/// A record that a report is of, and the form of the report's rows.
+#[derive(Clone, Copy)]
+pub(crate) struct Report<'a> {
+    pub setup: &'a str,
+    pub store: &'a str,
+    pub format: Format,
+}
+
+/// What the words give a report: its files, where they name them, the form of its rows, and the value of one argument
+/// more.
+#[derive(Clone, Copy)]
+struct Asked<'a> {
+    files: Files<'a>,
+    format: Format,
+    own: Option<&'a str>,
 }
 
 /// What `clap` makes of the words, or why it refuses them.
@@ -59,11 +78,30 @@ fn all<'a, 'b>(
     }
 }
 
+/// Whether an option without a value is given.
+fn is_set(matches: &ArgMatches<'_>, id: &'static str) -> bool
+    ensures { result ≡ is_true (first_of id.now (rows_of (found_of matches.now))) }
+{
+    match one(matches, id) {
+        Some(text) => text == "true",
+        None => false,
+    }
+}
+
+/// The form of a report's rows, by whether each of the two options is given, or none for both.
+fn format_of(csv: bool, json: bool) -> Option<Format>
+    ensures { result ≡ format_by csv json }
+{
+    match (csv, json) {
+        (true, true) => None,
+        (true, false) => Some(Format::Csv),
+        (false, true) => Some(Format::Json),
+        (false, false) => Some(Format::Lines),
+    }
+}
+
 /// The files of a command over a register.
-pub(crate) fn read_files<'a>(
-    command: Command<'a>,
-    words: &'a [&'a str],
-) -> Result<Files<'a>, WordsFault>
+fn read_files<'a>(command: Command<'a>, words: &'a [&'a str]) -> Result<Files<'a>, WordsFault>
     requires { is_simple_and_free (app_of command) ≡ true }
     ensures { MatchResult result
         (GivesFiles (app_of command.entry) (texts_of words.now))
@@ -78,16 +116,16 @@ pub(crate) fn read_files<'a>(
     Ok(files)
 }
 
-/// The files of a command over a register, and the value of one argument more.
-fn read_files_and<'a>(
+/// The files of a command over a register, and whether an option without a value is given.
+pub(crate) fn read_files_and_flag<'a>(
     command: Command<'a>,
     words: &'a [&'a str],
     id: &'static str,
-) -> Result<(Files<'a>, Option<&'a str>), WordsFault>
+) -> Result<(Files<'a>, bool), WordsFault>
     requires { is_simple_and_free (app_of command) ≡ true }
     ensures { MatchResult result
         (λ r. GivesFiles (app_of command.entry) (texts_of words.now) r.0
-        × (value (app_of command.entry) (texts_of words.now) id.now ≡ text_of r.1))
+        × (is_given (app_of command.entry) (texts_of words.now) id.now ≡ r.1))
         (IsRefused (app_of command.entry) (texts_of words.now)) }
 {
     let matches = read(command, words)?;
@@ -95,9 +133,9 @@ fn read_files_and<'a>(
         setup: one(&matches, "setup"),
         store: one(&matches, "store"),
     };
-    let own = one(&matches, id);
+    let given = is_set(&matches, id);
     drop(matches);
-    Ok((files, own))
+    Ok((files, given))
 }
 
 /// The files of a command over a register, and all values of one argument more.
@@ -152,44 +190,122 @@ pub(crate) fn read_record<'a>(
     })
 }
 
-/// The setup, the store and the value of one argument more, of a command that needs all three.
-pub(crate) fn read_record_and<'a>(
-    command: Command<'a>,
+/// What `clap` makes of the words of a report, and the form of its rows. Two forms at once are refused as `clap` refuses
+/// two options that exclude each other.
+fn read_format<'a>(
+    mut command: Command<'a>,
     words: &'a [&'a str],
-    id: &'static str,
-) -> Result<(Record<'a>, &'a str), WordsFault>
+) -> Result<(ArgMatches<'a>, Format), WordsFault>
     requires { is_simple_and_free (app_of command) ≡ true }
     ensures { MatchResult result
-        (λ r. GivesRecord (app_of command.entry) (texts_of words.now) r.0
-        × (value (app_of command.entry) (texts_of words.now) id.now ≡ Some r.1.now))
-        (IsFaultBy (Some (all_needed (app_of command.entry) id.now)) (texts_of words.now)) }
+        (λ r. IsReadAs (app_of command.entry) (texts_of words.now) (rows_of (found_of r.0)) r.1)
+        (IsRefusedReport (app_of command.entry) (texts_of words.now)) }
 {
-    let (files, own) = read_files_and(command, words, id)?;
-    let record = Record {
-        setup: needed(files.setup)?,
-        store: needed(files.store)?,
-    };
-    Ok((record, needed(own)?))
+    let matches = read_on(&mut command, words)?;
+    match format_of(is_set(&matches, "csv"), is_set(&matches, "json")) {
+        Some(format) => Ok((matches, format)),
+        None => Err(WordsFault::Refused(both_formats(command)?)),
+    }
 }
 
-/// The setup and the store of a command that needs both, and the value of one argument more, if it is there.
-pub(crate) fn read_record_and_perhaps<'a>(
+/// What `clap` makes of the words, or why it refuses them; the command stays.
+fn read_on<'a>(
+    command: &mut Command<'a>,
+    words: &'a [&'a str],
+) -> Result<ArgMatches<'a>, WordsFault>
+    requires { is_simple_and_free (app_of command.old) ≡ true }
+    ensures { MatchResult result
+        (λ m. IsRead (app_of command.old) (texts_of words.now) (rows_of (found_of m)))
+        (IsRefused (app_of command.old) (texts_of words.now)) }
+{
+    Ok(command.try_get_matches_from_mut(words)?)
+}
+
+/// `clap`'s error for two options that exclude each other.
+fn both_formats(mut command: Command<'_>) -> Result<Error, AllocError>
+    ensures { IfOk result (λ e. kind_of e ≡ ErrorKind.ArgumentConflict) }
+{
+    command.error(
+        ErrorKind::ArgumentConflict,
+        "the argument '--csv' cannot be used with '--json'",
+    )
+}
+
+/// What the words give a report, and the value of one argument more.
+fn read_asked<'a>(
     command: Command<'a>,
     words: &'a [&'a str],
     id: &'static str,
-) -> Result<(Record<'a>, Option<&'a str>), WordsFault>
+) -> Result<Asked<'a>, WordsFault>
     requires { is_simple_and_free (app_of command) ≡ true }
     ensures { MatchResult result
-        (λ r. GivesRecord (app_of command.entry) (texts_of words.now) r.0
-        × (value (app_of command.entry) (texts_of words.now) id.now ≡ text_of r.1))
-        (IsFaultBy (Some (both_needed (app_of command.entry))) (texts_of words.now)) }
+        (GivesAsked (app_of command.entry) (texts_of words.now) id.now)
+        (IsRefusedReport (app_of command.entry) (texts_of words.now)) }
 {
-    let (files, own) = read_files_and(command, words, id)?;
-    let record = Record {
-        setup: needed(files.setup)?,
-        store: needed(files.store)?,
+    let (matches, format) = read_format(command, words)?;
+    let files = Files {
+        setup: one(&matches, "setup"),
+        store: one(&matches, "store"),
     };
-    Ok((record, own))
+    let own = one(&matches, id);
+    drop(matches);
+    Ok(Asked { files, format, own })
+}
+
+/// The setup and the store of a report, and the form of its rows.
+pub(crate) fn read_report<'a>(
+    command: Command<'a>,
+    words: &'a [&'a str],
+) -> Result<Report<'a>, WordsFault>
+    requires { is_simple_and_free (app_of command) ≡ true }
+    ensures { MatchResult result
+        (GivesReport (app_of command.entry) (texts_of words.now))
+        (IsFaultBy (Some (report (both_needed (app_of command.entry)))) (texts_of words.now)) }
+{
+    let (report, _setup) = read_report_and_perhaps(command, words, "setup")?;
+    Ok(report)
+}
+
+/// What a report needs, and the value of one argument more, which it needs too.
+pub(crate) fn read_report_and<'a>(
+    command: Command<'a>,
+    words: &'a [&'a str],
+    id: &'static str,
+) -> Result<(Report<'a>, &'a str), WordsFault>
+    requires { is_simple_and_free (app_of command) ≡ true }
+    ensures { MatchResult result
+        (λ r. GivesReport (app_of command.entry) (texts_of words.now) r.0
+        × (value (app_of command.entry) (texts_of words.now) id.now ≡ Some r.1.now))
+        (IsFaultBy (Some (report (all_needed (app_of command.entry) id.now))) (texts_of words.now)) }
+{
+    let asked = read_asked(command, words, id)?;
+    let report = Report {
+        setup: needed(asked.files.setup)?,
+        store: needed(asked.files.store)?,
+        format: asked.format,
+    };
+    Ok((report, needed(asked.own)?))
+}
+
+/// What a report needs, and the value of one argument more, if it is there.
+pub(crate) fn read_report_and_perhaps<'a>(
+    command: Command<'a>,
+    words: &'a [&'a str],
+    id: &'static str,
+) -> Result<(Report<'a>, Option<&'a str>), WordsFault>
+    requires { is_simple_and_free (app_of command) ≡ true }
+    ensures { MatchResult result
+        (λ r. GivesReport (app_of command.entry) (texts_of words.now) r.0
+        × (value (app_of command.entry) (texts_of words.now) id.now ≡ text_of r.1))
+        (IsFaultBy (Some (report (both_needed (app_of command.entry)))) (texts_of words.now)) }
+{
+    let asked = read_asked(command, words, id)?;
+    let report = Report {
+        setup: needed(asked.files.setup)?,
+        store: needed(asked.files.store)?,
+        format: asked.format,
+    };
+    Ok((report, asked.own))
 }
 
 /// The value of the one argument of a command that needs no more.

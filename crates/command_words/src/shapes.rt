@@ -3,7 +3,9 @@ ghost use Rattle.std.specs.Prelude.{◌≡◌, IfOk, true};
 ghost use Rattle.clap.specs.Words.{App, app_of, shape_of, with_subcommand};
 ghost use Rattle.command_words.specs.Commands.{away, count, history, migrate, overdue, overview, program_alone, replay, serve};
 
-use crate::options::{option, over_a_register, several_words, with, with_help, word};
+use crate::options::{
+    flag, option, over_a_register, several_words, with, with_formats, with_help, word,
+};
 use crate::question_shapes::{
     at_command, contents_command, explain_command, loan_command, posted_command, stations_command,
     where_command,
@@ -18,7 +20,15 @@ pub(crate) const PROGRAM: &str = "pairsalder";
 pub(crate) fn replay_command<'a>(alloc: Global) -> Result<Command<'a>, AllocError>
     ensures { IfOk result (λ r. app_of r ≡ replay.app) }
 {
-    over_a_register(alloc, "replay", &texts::REPLAY)
+    let command = over_a_register(alloc, "replay", &texts::REPLAY)?;
+    with(
+        command,
+        flag(
+            alloc,
+            "progress",
+            "Tell on standard error, once a second, how far it has come",
+        ),
+    )
 }
 
 pub(crate) fn serve_command<'a>(alloc: Global) -> Result<Command<'a>, AllocError>
@@ -40,14 +50,15 @@ pub(crate) fn count_command<'a>(alloc: Global) -> Result<Command<'a>, AllocError
     ensures { IfOk result (λ r. app_of r ≡ count.app) }
 {
     let command = over_a_register(alloc, "count", &texts::COUNT)?;
-    with(command, word(alloc, "list", "LIST", "The count list"))
+    let command = with(command, word(alloc, "list", "LIST", "The count list"))?;
+    with_formats(alloc, command)
 }
 
 pub(crate) fn overdue_command<'a>(alloc: Global) -> Result<Command<'a>, AllocError>
     ensures { IfOk result (λ r. app_of r ≡ overdue.app) }
 {
     let command = over_a_register(alloc, "overdue", &texts::OVERDUE)?;
-    with(
+    let command = with(
         command,
         option(
             alloc,
@@ -55,23 +66,25 @@ pub(crate) fn overdue_command<'a>(alloc: Global) -> Result<Command<'a>, AllocErr
             "DAY",
             "The day that is asked about, as 2024-06-01",
         ),
-    )
+    )?;
+    with_formats(alloc, command)
 }
 
 pub(crate) fn away_command<'a>(alloc: Global) -> Result<Command<'a>, AllocError>
     ensures { IfOk result (λ r. app_of r ≡ away.app) }
 {
-    over_a_register(alloc, "away", &texts::AWAY)
+    with_formats(alloc, over_a_register(alloc, "away", &texts::AWAY)?)
 }
 
 pub(crate) fn history_command<'a>(alloc: Global) -> Result<Command<'a>, AllocError>
     ensures { IfOk result (λ r. app_of r ≡ history.app) }
 {
     let command = over_a_register(alloc, "history", &texts::HISTORY)?;
-    with(
+    let command = with(
         command,
         word(alloc, "code", "CODE", "A thing's code, as 2001.4.1 or C17"),
-    )
+    )?;
+    with_formats(alloc, command)
 }
 
 pub(crate) fn migrate_command<'a>(alloc: Global) -> Result<Command<'a>, AllocError>

@@ -11,7 +11,7 @@ pub(crate) struct Help {
 /// The version of the program, and by what it is proved.
 pub(crate) const VERSION: &str = "0.1.0\n\
     Proved: written in Rattle, Rust with contracts, and checked with\n\
-    rattle-kit-13b logic dac8208d650f15bf.";
+    rattle-kit-13f logic dac8208d650f15bf.";
 
 pub(crate) const PROGRAM: Help = Help {
     about: "Keeps the record of where a museum's objects are, where they were before,\n\
@@ -33,7 +33,7 @@ aren't right.",
 
 pub(crate) const REPLAY: Help = Help {
     about: "Takes messages and questions from standard input, and answers each",
-    usage: "pairsalder replay --setup PATH [--store PATH] < LINES",
+    usage: "pairsalder replay --setup PATH [--store PATH] [--progress] < LINES",
     more: "\
 For the day's work: what the stations sent goes on the record, each station's
 messages in its own order, and each once.
@@ -42,10 +42,13 @@ Reads one JSON object a line, a message or a question. Prints the reply to each
 line before it reads on: posted with a verdict, held, refused, or where the thing
 is. A line that can't be read is told as bad, and the next one is taken. With
 --store the record is kept in that file, which is made where there is none;
-without it nothing is kept.
+without it nothing is kept. With --progress standard error is told, once a second
+and at the end, how many lines are answered, how many messages are posted, how many
+of these were refused and by which verdicts, and how many lines go by in a second.
 
-Example:
+Examples:
   pairsalder replay --setup museum.csv --store museum.db < monday.jsonl
+  pairsalder replay --setup museum.csv --progress < monday.jsonl
 
 Exit status: 0 every line is answered, bad ones too; 1 a fault; 2 the words aren't
 right.",
@@ -72,14 +75,16 @@ aren't right, or there are more or fewer files than stations.",
 
 pub(crate) const COUNT: Help = Help {
     about: "Compares a count list with the record, and tells what is missing",
-    usage: "pairsalder count --setup PATH --store PATH LIST",
+    usage: "pairsalder count --setup PATH --store PATH LIST [--csv | --json]",
     more: "\
 For a stocktaking: someone went to the shelves, and wrote down what lay there.
 
 LIST is a file with a row 'PLACE,THING' for each thing that was seen, and a row
 'PLACE' for a place that was looked at. Prints a line for each row, as Found,
 Elsewhere with the place on record, Unplaced or Again, and then a line 'missing'
-for each object that should lie at a counted place, and that no row names.
+for each object that should lie at a counted place, and that no row names. With
+--csv or --json its fields are row, place, thing, answer and on_record; a missing
+object has no row, and the answer Missing.
 
 Example:
   pairsalder count --setup museum.csv --store museum.db shelves.csv
@@ -90,13 +95,13 @@ aren't right.",
 
 pub(crate) const OVERDUE: Help = Help {
     about: "Lists the loans whose last day is past while objects are out or here under them",
-    usage: "pairsalder overdue --setup PATH --store PATH --on DAY",
+    usage: "pairsalder overdue --setup PATH --store PATH --on DAY [--csv | --json]",
     more: "\
 For loan control: which partner is to be asked for what should be back, and what
 should have gone home from here.
 
 Prints a line for each loan, its code and its last day, in the order in which the
-loans were agreed.
+loans were agreed. With --csv or --json these are loan and last.
 
 Example:
   pairsalder overdue --setup museum.csv --store museum.db --on 2024-06-01
@@ -107,13 +112,13 @@ aren't right, or DAY is no day.",
 
 pub(crate) const AWAY: Help = Help {
     about: "Lists the own objects that aren't at their normal places",
-    usage: "pairsalder away --setup PATH --store PATH",
+    usage: "pairsalder away --setup PATH --store PATH [--csv | --json]",
     more: "\
 For the walk through the stores: what is at another place than its own, on loan
 too, or was never put anywhere.
 
 Prints a line for each object: its code, where it is, and its normal place; '-'
-stands for no place.
+stands for no place. With --csv or --json these are object, place and normal.
 
 Example:
   pairsalder away --setup museum.csv --store museum.db
@@ -124,14 +129,14 @@ aren't right.",
 
 pub(crate) const HISTORY: Help = Help {
     about: "Lists every place where a thing was, from the first on",
-    usage: "pairsalder history --setup PATH --store PATH CODE",
+    usage: "pairsalder history --setup PATH --store PATH CODE [--csv | --json]",
     more: "\
 For an audit: how an object, or a container, came to where it is, also while it
 travelled in a crate.
 
 Prints a line for each time that its place changed: the number of the entry on
 record, the day, and the place. Of a thing that isn't in the setup it prints
-nothing.
+nothing. With --csv or --json these are entry, day and place.
 
 Example:
   pairsalder history --setup museum.csv --store museum.db 2001.4.1
@@ -173,12 +178,13 @@ this NAME.",
 
 pub(crate) const STATIONS: Help = Help {
     about: "Tells for each station which number it has to send next",
-    usage: "pairsalder stations --setup PATH --store PATH",
+    usage: "pairsalder stations --setup PATH --store PATH [--csv | --json]",
     more: "\
 For the morning after an import: which station's messages are still missing.
 
 Prints a line for each station: its name, the number of the message that it has to
-send next, and whether it has signed off.
+send next, and whether it has signed off. With --csv or --json these are station,
+next and signed_off.
 
 Example:
   pairsalder stations --setup museum.csv --store museum.db
@@ -188,12 +194,13 @@ Exit status: 0 the stations are told; 1 a fault; 2 the words aren't right.",
 
 pub(crate) const WHERE: Help = Help {
     about: "Tells where a thing is",
-    usage: "pairsalder where --setup PATH --store PATH CODE",
+    usage: "pairsalder where --setup PATH --store PATH CODE [--csv | --json]",
     more: "\
 For whoever has to fetch it: the place, and the boxes and crates that it is in.
 
 Prints the place of the object or the container, and the containers around it,
-innermost first.
+innermost first. With --csv or --json its fields are thing, state, place and
+containers; the state is at, unplaced or unknown.
 
 Example:
   pairsalder where --setup museum.csv --store museum.db 2001.4.1
@@ -204,12 +211,15 @@ thing's code.",
 
 pub(crate) const CONTENTS: Help = Help {
     about: "Lists what is in a container",
-    usage: "pairsalder contents --setup PATH --store PATH CODE",
+    usage: "pairsalder contents --setup PATH --store PATH CODE [--csv | --json]",
     more: "\
 For a packing list: what lies straight in a box or a crate, and what is in the
 boxes in it.
 
-Prints first what is straight in the container, and then all that is in it.
+Prints a line for each thing in the container, through all levels: its code, and the
+containers around it, innermost first. With --csv or --json its fields are thing,
+state and containers; the state is in, or unknown for a container that the setup
+doesn't have.
 
 Example:
   pairsalder contents --setup museum.csv --store museum.db C1
@@ -220,13 +230,14 @@ aren't right, or CODE is no thing's code.",
 
 pub(crate) const LOAN: Help = Help {
     about: "Tells how a loan stands: its partner, its days, and each object's stage",
-    usage: "pairsalder loan --setup PATH --store PATH CODE",
+    usage: "pairsalder loan --setup PATH --store PATH CODE [--csv | --json]",
     more: "\
 For a call from the partner: what was agreed, and which objects are awaited, out,
 here or back.
 
 Prints the partner's place, the first and the last day, how far the loan has come,
-and a line for each object with its stage.
+and a line for each object with its stage. With --csv or --json there is a row for
+each object, with loan, state, partner, first, last, object and stage.
 
 Example:
   pairsalder loan --setup museum.csv --store museum.db LO2024.1
@@ -237,12 +248,12 @@ loan's code.",
 
 pub(crate) const AT: Help = Help {
     about: "Lists all that is at a place",
-    usage: "pairsalder at --setup PATH --store PATH PLACE",
+    usage: "pairsalder at --setup PATH --store PATH PLACE [--csv | --json]",
     more: "\
 For a look at a shelf, a room or a partner: what should be there.
 
 Prints a line for each thing at the place or at a place in it, also for what is in
-a container there.
+a container there. With --csv or --json its fields are thing and place.
 
 Example:
   pairsalder at --setup museum.csv --store museum.db S1
@@ -253,12 +264,13 @@ aren't right, or PLACE is no place's code.",
 
 pub(crate) const POSTED: Help = Help {
     about: "Lists what is on record, entry by entry",
-    usage: "pairsalder posted --setup PATH --store PATH [--from N]",
+    usage: "pairsalder posted --setup PATH --store PATH [--from N] [--csv | --json]",
     more: "\
 For an audit, and for other programs: every message that was posted, refused ones
 too, with its verdict.
 
-Prints a line for each entry, from the first on, or from entry N on.
+Prints a line for each entry, from the first on, or from entry N on. With --csv or
+--json its fields are entry, station, n, verdict and message.
 
 Example:
   pairsalder posted --setup museum.csv --store museum.db --from 100

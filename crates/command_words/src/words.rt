@@ -1,10 +1,13 @@
 //! The command that the words choose.
 ghost use Rattle.std.specs.Prelude.{◌≡◌, ◌∷◌, [], IfErr, IfOk, None, OnOk, Some, codes};
 ghost use Rattle.command_words.specs.Commands as commands;
-ghost use Rattle.command_words.specs.Words.{Chooses, IsChosen, IsFault, IsNamed, refusals, texts_of};
+ghost use Rattle.command_words.specs.Words.{Chooses, IsChosen, IsFault, IsNamed, form_named, refusals, texts_of};
 
 use crate::questions::{at, contents, explain, loan, posted, stations, where_is};
-use crate::reading::{needed, read, read_files, read_files_and_all, read_record, read_record_and};
+use crate::reading::{
+    needed, read, read_files_and_all, read_files_and_flag, read_record, read_report,
+    read_report_and,
+};
 use crate::{Chosen, WordsFault, shapes};
 use std::alloc::{AllocError, Global};
 
@@ -20,6 +23,14 @@ pub fn chosen<'a>(alloc: Global, words: &'a [&'a str]) -> Result<Chosen<'a>, Wor
     let Some(name) = words.first().copied() else {
         return no_command(alloc, words);
     };
+    named(alloc, name, words)
+}
+
+/// What the words come to, of which the first is this name.
+fn named<'a>(alloc: Global, name: &str, words: &'a [&'a str]) -> Result<Chosen<'a>, WordsFault>
+    requires { IsNamed (texts_of words.now) name.now }
+    ensures { Chooses (form_named (texts_of words.now)) (texts_of words.now) result }
+{
     match name {
         "replay" => replay(alloc, words),
         "serve" => serve(alloc, words),
@@ -43,10 +54,11 @@ fn replay<'a>(alloc: Global, words: &'a [&'a str]) -> Result<Chosen<'a>, WordsFa
     requires { IsNamed (texts_of words.now) (codes "replay") }
     ensures { Chooses (Some commands.replay) (texts_of words.now) result }
 {
-    let files = read_files(shapes::replay_command(alloc)?, words)?;
+    let (files, progress) = read_files_and_flag(shapes::replay_command(alloc)?, words, "progress")?;
     Ok(Chosen::Replay {
         setup: needed(files.setup)?,
         store: files.store,
+        progress,
     })
 }
 
@@ -66,11 +78,12 @@ fn count<'a>(alloc: Global, words: &'a [&'a str]) -> Result<Chosen<'a>, WordsFau
     requires { IsNamed (texts_of words.now) (codes "count") }
     ensures { Chooses (Some commands.count) (texts_of words.now) result }
 {
-    let (record, list) = read_record_and(shapes::count_command(alloc)?, words, "list")?;
+    let (report, list) = read_report_and(shapes::count_command(alloc)?, words, "list")?;
     Ok(Chosen::Count {
-        setup: record.setup,
-        store: record.store,
+        setup: report.setup,
+        store: report.store,
         list,
+        format: report.format,
     })
 }
 
@@ -78,11 +91,12 @@ fn overdue<'a>(alloc: Global, words: &'a [&'a str]) -> Result<Chosen<'a>, WordsF
     requires { IsNamed (texts_of words.now) (codes "overdue") }
     ensures { Chooses (Some commands.overdue) (texts_of words.now) result }
 {
-    let (record, on) = read_record_and(shapes::overdue_command(alloc)?, words, "on")?;
+    let (report, on) = read_report_and(shapes::overdue_command(alloc)?, words, "on")?;
     Ok(Chosen::Overdue {
-        setup: record.setup,
-        store: record.store,
+        setup: report.setup,
+        store: report.store,
         on,
+        format: report.format,
     })
 }
 
@@ -90,10 +104,11 @@ fn away<'a>(alloc: Global, words: &'a [&'a str]) -> Result<Chosen<'a>, WordsFaul
     requires { IsNamed (texts_of words.now) (codes "away") }
     ensures { Chooses (Some commands.away) (texts_of words.now) result }
 {
-    let record = read_record(shapes::away_command(alloc)?, words)?;
+    let report = read_report(shapes::away_command(alloc)?, words)?;
     Ok(Chosen::Away {
-        setup: record.setup,
-        store: record.store,
+        setup: report.setup,
+        store: report.store,
+        format: report.format,
     })
 }
 
@@ -101,11 +116,12 @@ fn history<'a>(alloc: Global, words: &'a [&'a str]) -> Result<Chosen<'a>, WordsF
     requires { IsNamed (texts_of words.now) (codes "history") }
     ensures { Chooses (Some commands.history) (texts_of words.now) result }
 {
-    let (record, code) = read_record_and(shapes::history_command(alloc)?, words, "code")?;
+    let (report, code) = read_report_and(shapes::history_command(alloc)?, words, "code")?;
     Ok(Chosen::History {
-        setup: record.setup,
-        store: record.store,
+        setup: report.setup,
+        store: report.store,
         code,
+        format: report.format,
     })
 }
 

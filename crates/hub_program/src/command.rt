@@ -4,11 +4,13 @@ use crate::explain::explain;
 use crate::fault::CommandFault;
 use crate::files::{read_list, read_setup};
 use crate::migration::migrate_file;
+use crate::progress::Progress;
+use crate::report::Report;
 use crate::serving::serve_files;
 use crate::work::{Work, over_store};
 use codes_core::{Day, LoanCode, PlaceCode, ThingCode};
 use command_words::words::chosen;
-use command_words::{Chosen, WordsFault};
+use command_words::{Chosen, Format, WordsFault};
 use hub_core::run;
 use std::io::{BufRead, Write};
 use std::sync::Wait;
@@ -30,7 +32,10 @@ pub fn command<T: Threads + Wait + Sync + Copy + Send + 'static, R: BufRead, W: 
         return status(ended.map_err(CommandFault::from), output, errors);
     }
     match chosen(rt.alloc(), words) {
-        Ok(chosen) => status(perform(rt, threads, &chosen, input, output), output, errors),
+        Ok(chosen) => {
+            let ended = perform(rt, threads, &chosen, input, output, errors);
+            status(ended, output, errors)
+        }
         Err(fault) => refuse(&fault, output, errors),
     }
 }
@@ -70,17 +75,35 @@ fn refuse<W: Write, E: Write>(fault: &WordsFault, output: &mut W, errors: &mut E
 
 /// Does the command. Faults are found in this order: a day, a code or a number among the words; the setup; the count
 /// list; the store and its opening; the command's own.
-fn perform<T: Threads + Wait + Sync + Copy + Send + 'static, R: BufRead, W: Write>(
+fn perform<T: Threads + Wait + Sync + Copy + Send + 'static, R: BufRead, W: Write, E: Write>(
     rt: &HostRuntime,
     threads: &T,
     chosen: &Chosen<'_>,
     input: &mut R,
     output: &mut W,
+    errors: &mut E,
 ) -> Result<(), CommandFault> {
     match chosen {
-        Chosen::Count { setup, store, list } => counted(
-            rt, threads, setup, store, list, input, output,
-        ),
+        Chosen::Replay {
+            setup,
+            store,
+            progress,
+        } => {
+            let setup = read_setup(rt, rt.alloc(), setup)?;
+            if !*progress {
+                return over_store(rt, threads, setup, *store, &Work::Replay, input, output);
+            }
+            let mut told = Progress::new(rt, output, errors);
+            let ended = over_store(rt, threads, setup, *store, &Work::Replay, input, &mut told);
+            told.end();
+            ended
+        }
+        Chosen::Count {
+            setup,
+            store,
+            list,
+            format,
+        } => counted(rt, threads, setup, store, list, *format, input, output),
         Chosen::Explain { name } => explain(name, output),
         Chosen::Serve {
             setup,
@@ -91,61 +114,81 @@ fn perform<T: Threads + Wait + Sync + Copy + Send + 'static, R: BufRead, W: Writ
         _ => {
             let asked = question(chosen)?;
             let setup = read_setup(rt, rt.alloc(), asked.setup)?;
-            over_store(rt, threads, setup, asked.store, &asked.work, input, output)
+            let store = Some(asked.store);
+            over_store(rt, threads, setup, store, &asked.work, input, output)
         }
     }
 }
 
-/// What is asked of a record, and of which one.
+/// A report, and of which record.
 #[derive(Drop)]
 struct Asked<'a> {
     setup: &'a str,
-    store: Option<&'a str>,
+    store: &'a str,
     work: Work,
 }
 
-fn of_store<'a>(setup: &'a str, store: &'a str, work: Work) -> Asked<'a> {
-    Asked {
-        setup,
-        store: Some(store),
-        work,
-    }
-}
-
-/// What a command asks of a record. The faults of a day, a code or a number.
+/// The report that a command asks for, but a count. The faults of a day, a code or a number.
 fn question<'a>(chosen: &Chosen<'a>) -> Result<Asked<'a>, CommandFault> {
-    Ok(match chosen {
-        Chosen::Replay { setup, store } => Asked {
-            setup,
-            store: *store,
-            work: Work::Replay,
-        },
-        Chosen::Overdue { setup, store, on } => of_store(setup, store, Work::Overdue(day(on)?)),
-        Chosen::Away { setup, store } => of_store(setup, store, Work::Away),
-        Chosen::History { setup, store, code } => of_store(
+    let (setup, store, format, report) = match chosen {
+        Chosen::Overdue {
             setup,
             store,
-            Work::History(thing(code)?),
-        ),
-        Chosen::Stations { setup, store } => of_store(setup, store, Work::Stations),
-        Chosen::Where { setup, store, code } => of_store(setup, store, Work::Where(thing(code)?)),
-        Chosen::Contents { setup, store, code } => of_store(
+            on,
+            format,
+        } => { (setup, store, format, Report::Overdue(day(on)?)) }
+        Chosen::Away {
             setup,
             store,
-            Work::Contents(thing(code)?),
-        ),
-        Chosen::Loan { setup, store, code } => of_store(setup, store, Work::Loan(loan(code)?)),
+            format,
+        } => (setup, store, format, Report::Away),
+        Chosen::History {
+            setup,
+            store,
+            code,
+            format,
+        } => { (setup, store, format, Report::History(thing(code)?)) }
+        Chosen::Stations {
+            setup,
+            store,
+            format,
+        } => (setup, store, format, Report::Stations),
+        Chosen::Where {
+            setup,
+            store,
+            code,
+            format,
+        } => { (setup, store, format, Report::Where(thing(code)?)) }
+        Chosen::Contents {
+            setup,
+            store,
+            code,
+            format,
+        } => { (setup, store, format, Report::Contents(thing(code)?)) }
+        Chosen::Loan {
+            setup,
+            store,
+            code,
+            format,
+        } => { (setup, store, format, Report::Loan(loan(code)?)) }
         Chosen::At {
             setup,
             store,
             place: code,
-        } => of_store(setup, store, Work::At(place(code)?)),
-        Chosen::Posted { setup, store, from } => of_store(
+            format,
+        } => { (setup, store, format, Report::At(place(code)?)) }
+        Chosen::Posted {
             setup,
             store,
-            Work::Posted(number(*from)?),
-        ),
+            from,
+            format,
+        } => { (setup, store, format, Report::Posted(number(*from)?)) }
         _ => return Err(CommandFault::Words),
+    };
+    Ok(Asked {
+        setup,
+        store,
+        work: Work::Print(report, *format),
     })
 }
 
@@ -180,6 +223,7 @@ fn counted<T: Threads + Sync, R: BufRead, W: Write>(
     setup: &str,
     store: &str,
     list: &str,
+    format: Format,
     input: &mut R,
     output: &mut W,
 ) -> Result<(), CommandFault> {
@@ -190,7 +234,7 @@ fn counted<T: Threads + Sync, R: BufRead, W: Write>(
             threads,
             setup,
             Some(store),
-            &Work::Count(rows),
+            &Work::Print(Report::Count(rows), format),
             input,
             output,
         ),

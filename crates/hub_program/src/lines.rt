@@ -2,18 +2,22 @@
 ghost use Rattle.std.specs.Prelude.{◌<◌, length, IfSome};
 
 use crate::fault::CommandFault;
-use codes_core::{Day, LoanCode, NoMemory};
+use codes_core::{Day, LoanCode, NoMemory, PlaceCode};
 use nest_core::{PlaceNo, Setup, ThingNo};
 use std::alloc::Global;
 use std::io::Write;
 
-/// A place's code, or `-` for none.
-pub fn known_place(alloc: Global, setup: &Setup, place: Option<PlaceNo>) -> Result<String, NoMemory>
+/// A place's code, where there is a place.
+pub fn place_text_if(
+    alloc: Global,
+    setup: &Setup,
+    place: Option<PlaceNo>,
+) -> Result<Option<String>, NoMemory>
     requires { IfSome place (λ p. p < length setup.now.places) }
 {
     match place {
-        Some(place) => place_text(alloc, setup, place),
-        None => Ok(String::from_str(alloc, "-")?),
+        Some(place) => Ok(Some(place_text(alloc, setup, place)?)),
+        None => Ok(None),
     }
 }
 
@@ -23,6 +27,13 @@ pub fn place_text(alloc: Global, setup: &Setup, place: PlaceNo) -> Result<String
 {
     let mut text = String::new(alloc);
     setup.place_code(place).write(alloc, &mut text)?;
+    Ok(text)
+}
+
+/// A partner's code.
+pub fn partner_text(alloc: Global, partner: &PlaceCode) -> Result<String, NoMemory> {
+    let mut text = String::new(alloc);
+    partner.write(alloc, &mut text)?;
     Ok(text)
 }
 

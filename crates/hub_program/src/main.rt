@@ -8,9 +8,12 @@ mod files;
 mod lines;
 mod log_lines;
 mod migration;
+mod progress;
 mod questions;
+mod report;
 mod reports;
 mod serving;
+mod sheet;
 #[cfg(test)]
 mod tests;
 mod work;

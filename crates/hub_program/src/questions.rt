@@ -1,41 +1,42 @@
-//! What a record is asked, as lines: of a thing, of a container, of a loan, of a place, of the stations, of all entries.
+//! What a record is asked: of a thing, of a container, of a loan, of a place, of the stations, of all entries.
 ghost use Rattle.std.specs.Prelude.{◌<◌, length};
 
 use crate::fault::CommandFault;
-use crate::lines::{day_text, loan_text, place_text, thing_text, write_line};
-use codes_core::{LoanCode, NoMemory, PlaceCode, ThingCode};
+use crate::lines::{day_text, loan_text, partner_text, place_text_if, thing_text};
+use crate::sheet::Sheet;
+use codes_core::{Day, LoanCode, NoMemory, PlaceCode, ThingCode};
 use count_core::in_place;
 use nest_core::{StationNo, ThingNo};
 use posting_core::{Entry, Ledger, LineStage, LoanState, Message, Verdict};
 use register_store::message_text;
+use report_rows::{AtRow, ContentRow, LoanRow, PostedRow, StationRow, WhereRow};
 use std::alloc::Global;
 use std::io::Write;
 
-/// `STATION next N` for each station, or `STATION signed off`.
-pub fn stations<W: Write>(
-    alloc: Global,
-    ledger: &Ledger,
-    output: &mut W,
-) -> Result<(), CommandFault> {
+/// A row for each station, with the number that it has to send next.
+pub fn stations<W: Write>(ledger: &Ledger, sheet: &mut Sheet<'_, W>) -> Result<(), CommandFault> {
+    sheet.head::<StationRow>()?;
     for station in 0..ledger.setup().stations() {
-        let line = station_line(alloc, ledger, station)?;
-        write_line(output, &line)?;
+        sheet.put(&station_row(sheet.alloc, ledger, station)?)?;
     }
     Ok(())
 }
 
-fn station_line(alloc: Global, ledger: &Ledger, station: StationNo) -> Result<String, NoMemory>
+fn station_row(alloc: Global, ledger: &Ledger, station: StationNo) -> Result<StationRow, NoMemory>
     requires { station < length ledger.now.museum.stations }
 {
-    let name = ledger.setup().station_name(station);
-    let line = match last_entry(ledger.posted(), station) {
-        None => format!(in alloc; "{name} next 1\n")?,
-        Some(last) if matches!(last.message, Message::SignOff { .. }) => {
-            format!(in alloc; "{name} signed off\n")?
-        }
-        Some(last) => format!(in alloc; "{name} next {}\n", last.n.saturating_add(1))?,
-    };
-    Ok(line)
+    let last = last_entry(ledger.posted(), station);
+    let signed_off = last.is_some_and(|entry| matches!(entry.message, Message::SignOff { .. }));
+    let next = last.map_or(1, |entry| entry.n.saturating_add(1));
+    Ok(StationRow {
+        station: String::from_str(alloc, ledger.setup().station_name(station))?,
+        next: if signed_off {
+            None
+        } else {
+            Some(u64::from(next))
+        },
+        signed_off,
+    })
 }
 
 /// The last entry of a station.
@@ -43,83 +44,94 @@ fn last_entry(posted: &[Entry], station: StationNo) -> Option<&Entry> {
     posted.iter().rev().find(|entry| entry.station == station)
 }
 
-/// `CODE at PLACE in C2 C1`, innermost first, or `CODE unplaced`, or `CODE unknown`.
+/// The place of a thing, and the containers that it is in.
 pub fn whereabouts<W: Write>(
-    alloc: Global,
     ledger: &Ledger,
     code: &ThingCode,
-    output: &mut W,
+    sheet: &mut Sheet<'_, W>,
 ) -> Result<(), CommandFault> {
-    let mut line = String::new(alloc);
-    code.write(alloc, &mut line)?;
-    match ledger.setup().thing(code) {
-        None => line.push_str(" unknown\n")?,
-        Some(thing) => add_place(alloc, ledger, thing, &mut line)?,
+    sheet.head::<WhereRow>()?;
+    sheet.put(&where_row(sheet.alloc, ledger, code)?)
+}
+
+fn where_row(alloc: Global, ledger: &Ledger, code: &ThingCode) -> Result<WhereRow, NoMemory> {
+    let found = ledger.setup().thing(code);
+    let mut thing = String::new(alloc);
+    code.write(alloc, &mut thing)?;
+    Ok(match found {
+        None => nowhere(alloc, thing, "unknown"),
+        Some(number) => match place_text_if(alloc, ledger.setup(), ledger.place_of(number))? {
+            None => nowhere(alloc, thing, "unplaced"),
+            place => WhereRow {
+                thing,
+                state: "at",
+                place,
+                containers: chain_texts(alloc, ledger, number)?,
+            },
+        },
+    })
+}
+
+fn nowhere(alloc: Global, thing: String, state: &'static str) -> WhereRow {
+    WhereRow {
+        thing,
+        state,
+        place: None,
+        containers: Vec::new(alloc),
     }
-    write_line(output, &line)
 }
 
-fn add_place(
-    alloc: Global,
-    ledger: &Ledger,
-    thing: ThingNo,
-    line: &mut String,
-) -> Result<(), NoMemory>
-    requires { thing < length ledger.now.museum.things }
-{
-    let Some(place) = ledger.place_of(thing) else {
-        line.push_str(" unplaced\n")?;
-        return Ok(());
-    };
-    line.push_str(" at ")?;
-    line.push_str(&place_text(alloc, ledger.setup(), place)?)?;
-    add_chain(alloc, ledger, thing, line)?;
-    line.push_str("\n")?;
-    Ok(())
-}
-
-/// Adds ` in C2 C1`, where a thing is in containers.
-fn add_chain(
-    alloc: Global,
-    ledger: &Ledger,
-    thing: ThingNo,
-    line: &mut String,
-) -> Result<(), NoMemory>
+/// The codes of the containers that a thing is in, innermost first.
+fn chain_texts(alloc: Global, ledger: &Ledger, thing: ThingNo) -> Result<Vec<String>, NoMemory>
     requires { thing < length ledger.now.museum.things }
 {
     let chain = ledger.chain(alloc, thing)?;
     let above = chain.as_slice();
+    let mut texts = Vec::new(alloc);
     for i in 0..above.len() {
-        line.push_str(if i == 0 { " in " } else { " " })?;
-        line.push_str(&thing_text(alloc, ledger.setup(), above[i])?)?;
+        texts.push(thing_text(alloc, ledger.setup(), above[i])?)?;
+    }
+    Ok(texts)
+}
+
+/// A row for each thing in a container, through all levels, ascending, with the containers that it is in; one that says
+/// so where the setup doesn't have the container.
+pub fn contents<W: Write>(
+    ledger: &Ledger,
+    code: &ThingCode,
+    sheet: &mut Sheet<'_, W>,
+) -> Result<(), CommandFault> {
+    sheet.head::<ContentRow>()?;
+    let setup = ledger.setup();
+    let Some(container) = setup.thing(code) else {
+        return sheet.put(&unknown_container(sheet.alloc, code)?);
+    };
+    for thing in 0..setup.things() {
+        if is_in(sheet.alloc, ledger, thing, container)? {
+            sheet.put(&content_row(sheet.alloc, ledger, thing)?)?;
+        }
     }
     Ok(())
 }
 
-/// `CODE in C2 C1` for each thing in a container, through all levels, ascending; those straight in it have it alone.
-/// `CODE unknown` where the setup doesn't have it.
-pub fn contents<W: Write>(
-    alloc: Global,
-    ledger: &Ledger,
-    code: &ThingCode,
-    output: &mut W,
-) -> Result<(), CommandFault> {
-    let setup = ledger.setup();
-    let Some(container) = setup.thing(code) else {
-        let mut line = String::new(alloc);
-        code.write(alloc, &mut line)?;
-        line.push_str(" unknown\n")?;
-        return write_line(output, &line);
-    };
-    for thing in 0..setup.things() {
-        if is_in(alloc, ledger, thing, container)? {
-            let mut line = thing_text(alloc, setup, thing)?;
-            add_chain(alloc, ledger, thing, &mut line)?;
-            line.push_str("\n")?;
-            write_line(output, &line)?;
-        }
-    }
-    Ok(())
+fn unknown_container(alloc: Global, code: &ThingCode) -> Result<ContentRow, NoMemory> {
+    let mut thing = String::new(alloc);
+    code.write(alloc, &mut thing)?;
+    Ok(ContentRow {
+        thing,
+        state: "unknown",
+        containers: Vec::new(alloc),
+    })
+}
+
+fn content_row(alloc: Global, ledger: &Ledger, thing: ThingNo) -> Result<ContentRow, NoMemory>
+    requires { thing < length ledger.now.museum.things }
+{
+    Ok(ContentRow {
+        thing: thing_text(alloc, ledger.setup(), thing)?,
+        state: "in",
+        containers: chain_texts(alloc, ledger, thing)?,
+    })
 }
 
 fn is_in(
@@ -133,44 +145,37 @@ fn is_in(
     Ok(ledger.chain(alloc, thing)?.as_slice().contains(&container))
 }
 
-/// `CODE PLACE` for each thing whose place is the one with the code, or lies in it, ascending.
+/// A row for each thing whose place is the one with the code, or lies in it, ascending.
 pub fn at<W: Write>(
-    alloc: Global,
     ledger: &Ledger,
     place: &PlaceCode,
-    output: &mut W,
+    sheet: &mut Sheet<'_, W>,
 ) -> Result<(), CommandFault> {
+    sheet.head::<AtRow>()?;
     let setup = ledger.setup();
-    let things = in_place(alloc, ledger, place)?;
+    let things = in_place(sheet.alloc, ledger, place)?;
     for i in 0..things.len() {
-        let mut line = thing_text(alloc, setup, things[i])?;
-        if let Some(own) = ledger.place_of(things[i]) {
-            line.push_str(" ")?;
-            line.push_str(&place_text(alloc, setup, own)?)?;
-        }
-        line.push_str("\n")?;
-        write_line(output, &line)?;
+        sheet.put(&AtRow {
+            thing: thing_text(sheet.alloc, setup, things[i])?,
+            place: place_text_if(sheet.alloc, setup, ledger.place_of(things[i]))?,
+        })?;
     }
     Ok(())
 }
 
-/// `LOAN STATE with PARTNER from DAY to DAY`, then `CODE STAGE` for each of its objects; `LOAN unknown` where it isn't
-/// agreed.
+/// How a loan stands, and a row for each of its objects with its stage; one that says so where it isn't agreed.
 pub fn loan<W: Write>(
-    alloc: Global,
     ledger: &Ledger,
     loan: &LoanCode,
-    output: &mut W,
+    sheet: &mut Sheet<'_, W>,
 ) -> Result<(), CommandFault> {
+    sheet.head::<LoanRow>()?;
     for entry in ledger.posted().iter() {
         if is_agreement(entry, loan) {
-            write_terms(alloc, ledger, loan, &entry.message, output)?;
-            return write_stages(alloc, ledger, loan, &entry.message, output);
+            return put_loan(ledger, loan, &entry.message, sheet);
         }
     }
-    let mut line = loan_text(alloc, loan)?;
-    line.push_str(" unknown\n")?;
-    write_line(output, &line)
+    sheet.put(&unknown_loan(sheet.alloc, loan)?)
 }
 
 /// Whether an entry agrees the loan.
@@ -181,101 +186,144 @@ fn is_agreement(entry: &Entry, sought: &LoanCode) -> bool {
     }
 }
 
-fn write_terms<W: Write>(
-    alloc: Global,
+fn unknown_loan(alloc: Global, loan: &LoanCode) -> Result<LoanRow, NoMemory> {
+    Ok(LoanRow {
+        loan: loan_text(alloc, loan)?,
+        state: "unknown",
+        partner: None,
+        first: None,
+        last: None,
+        object: None,
+        stage: None,
+    })
+}
+
+fn put_loan<W: Write>(
     ledger: &Ledger,
     loan: &LoanCode,
     agreement: &Message,
-    output: &mut W,
+    sheet: &mut Sheet<'_, W>,
 ) -> Result<(), CommandFault> {
-    let Message::Agree { partner, first, .. } = agreement else {
+    let Message::Agree {
+        partner,
+        first,
+        objects,
+        ..
+    } = agreement
+    else {
         return Ok(());
     };
     let (Some(state), Some(last)) = (ledger.loan_state(loan), ledger.last_day(loan)) else {
         return Ok(());
     };
-    let mut line = loan_text(alloc, loan)?;
-    line.push_str(state_word(state))?;
-    partner.write(alloc, &mut line)?;
-    line.push_str(" from ")?;
-    line.push_str(&day_text(alloc, first)?)?;
-    line.push_str(" to ")?;
-    line.push_str(&day_text(alloc, &last)?)?;
-    line.push_str("\n")?;
-    write_line(output, &line)
-}
-
-fn write_stages<W: Write>(
-    alloc: Global,
-    ledger: &Ledger,
-    loan: &LoanCode,
-    agreement: &Message,
-    output: &mut W,
-) -> Result<(), CommandFault> {
-    let Message::Agree { objects, .. } = agreement else {
-        return Ok(());
+    let terms = Terms {
+        loan: *loan,
+        state,
+        partner: *partner,
+        first: *first,
+        last,
     };
+    put_terms(&terms, sheet)?;
     for code in objects.as_slice().iter() {
-        let mut line = String::new(alloc);
-        code.write(alloc, &mut line)?;
-        if let Some(object) = ledger.setup().thing(code) {
-            line.push_str(stage_word(ledger.line(loan, object)))?;
-        }
-        line.push_str("\n")?;
-        write_line(output, &line)?;
+        sheet.put(&loan_row(sheet.alloc, ledger, &terms, code)?)?;
     }
     Ok(())
+}
+
+/// How a loan stands.
+#[derive(Clone, Copy)]
+struct Terms {
+    loan: LoanCode,
+    state: LoanState,
+    partner: PlaceCode,
+    first: Day,
+    last: Day,
+}
+
+/// The line of a loan's terms, which its rows tell in the other forms.
+fn put_terms<W: Write>(terms: &Terms, sheet: &mut Sheet<'_, W>) -> Result<(), CommandFault> {
+    let loan = loan_text(sheet.alloc, &terms.loan)?;
+    let state = state_word(terms.state);
+    let partner = partner_text(sheet.alloc, &terms.partner)?;
+    let first = day_text(sheet.alloc, &terms.first)?;
+    let last = day_text(sheet.alloc, &terms.last)?;
+    let line = format!(in sheet.alloc; "{loan} {state} with {partner} from {first} to {last}\n")?;
+    sheet.plain(&line)
+}
+
+fn loan_row(
+    alloc: Global,
+    ledger: &Ledger,
+    terms: &Terms,
+    code: &ThingCode,
+) -> Result<LoanRow, NoMemory> {
+    let mut object = String::new(alloc);
+    code.write(alloc, &mut object)?;
+    let thing = ledger.setup().thing(code);
+    let stage = thing.and_then(|thing| ledger.line(&terms.loan, thing));
+    Ok(LoanRow {
+        loan: loan_text(alloc, &terms.loan)?,
+        state: state_word(terms.state),
+        partner: Some(partner_text(alloc, &terms.partner)?),
+        first: Some(day_text(alloc, &terms.first)?),
+        last: Some(day_text(alloc, &terms.last)?),
+        object: Some(object),
+        stage: stage.map(stage_word),
+    })
 }
 
 fn state_word(state: LoanState) -> &'static str {
     match state {
-        LoanState::Draft => " Draft with ",
-        LoanState::Authorised => " Authorised with ",
-        LoanState::Running => " Running with ",
-        LoanState::Closed => " Closed with ",
+        LoanState::Draft => "Draft",
+        LoanState::Authorised => "Authorised",
+        LoanState::Running => "Running",
+        LoanState::Closed => "Closed",
     }
 }
 
-fn stage_word(stage: Option<LineStage>) -> &'static str {
+fn stage_word(stage: LineStage) -> &'static str {
     match stage {
-        None => "",
-        Some(LineStage::Awaiting) => " Awaiting",
-        Some(LineStage::Away) => " Away",
-        Some(LineStage::Back) => " Back",
-        Some(LineStage::Here) => " Here",
-        Some(LineStage::GivenBack) => " GivenBack",
+        LineStage::Awaiting => "Awaiting",
+        LineStage::Away => "Away",
+        LineStage::Back => "Back",
+        LineStage::Here => "Here",
+        LineStage::GivenBack => "GivenBack",
     }
 }
 
-/// `ENTRY STATION n VERDICT MESSAGE` for each entry from this number on, the message as its text.
+/// A row for each entry from this number on.
 pub fn posted<W: Write>(
-    alloc: Global,
     ledger: &Ledger,
     from: u64,
-    output: &mut W,
+    sheet: &mut Sheet<'_, W>,
 ) -> Result<(), CommandFault> {
+    sheet.head::<PostedRow>()?;
     for (i, entry) in ledger.posted().iter().enumerate() {
         let number = (i as u64).saturating_add(1);
         if number >= from {
-            write_line(output, &entry_line(alloc, ledger, number, entry)?)?;
+            put_entry(ledger, number, entry, sheet)?;
         }
     }
     Ok(())
 }
 
-fn entry_line(
-    alloc: Global,
+fn put_entry<W: Write>(
     ledger: &Ledger,
     number: u64,
     entry: &Entry,
-) -> Result<String, NoMemory> {
-    let text = message_text(alloc, &entry.message)?;
-    let verdict = entry.verdict.name();
+    sheet: &mut Sheet<'_, W>,
+) -> Result<(), CommandFault> {
     let setup = ledger.setup();
     let station = if entry.station < setup.stations() {
         setup.station_name(entry.station)
     } else {
         ""
     };
-    Ok(format!(in alloc; "{number} {station} {} {verdict} {text}\n", entry.n)?)
+    sheet.put(&PostedRow {
+        entry: number,
+        station: String::from_str(sheet.alloc, station)?,
+        n: entry.n,
+        verdict: entry.verdict.name(),
+        message: message_text(sheet.alloc, &entry.message)?,
+    })
 }

@@ -1,141 +1,178 @@
-//! The reports as lines.
+//! The reports: of a count list, of overdue loans, of what is away, and of where a thing was.
 ghost use Rattle.std.specs.Prelude.{◌<◌, All, length};
 ghost use Rattle.count_core.specs.Counts.{IsAnswerIn, IsMissingIn};
 ghost use Rattle.count_core.specs.Reports.{IsAwayIn};
 
 use crate::fault::CommandFault;
-use crate::lines::{day_text, known_place, loan_text, place_text, thing_text, write_line};
+use crate::lines::{day_text, loan_text, place_text, place_text_if, thing_text};
+use crate::sheet::Sheet;
 use codes_core::{Day, NoMemory, ThingCode};
 use count_core::{AwayObject, CountAnswer, CountRow, MissingObject, check};
 use nest_core::Setup;
 use posting_core::{Ledger, Spot};
+use report_rows::{AwayRow, CountedRow, OverdueRow, SpotRow};
 use std::alloc::Global;
 use std::io::Write;
 use std::thread::Threads;
 
-/// `row i ANSWER` for each row of the count list, then `missing PLACE CODE` for each object that it misses.
+/// A row for each row of the count list with its answer, then one for each object that the list misses.
 pub fn count<T: Threads + Sync, W: Write>(
-    alloc: Global,
     threads: &T,
     ledger: &Ledger,
     rows: &[CountRow],
-    output: &mut W,
+    sheet: &mut Sheet<'_, W>,
 ) -> Result<(), CommandFault> {
-    let report = check(threads, alloc, ledger, rows)?;
-    write_answers(alloc, ledger.setup(), report.answers.as_slice(), output)?;
-    write_missing(alloc, ledger.setup(), report.missing.as_slice(), output)
+    let report = check(threads, sheet.alloc, ledger, rows)?;
+    sheet.head::<CountedRow>()?;
+    put_answers(ledger.setup(), rows, report.answers.as_slice(), sheet)?;
+    put_missing(ledger.setup(), report.missing.as_slice(), sheet)
 }
 
-fn write_answers<W: Write>(
-    alloc: Global,
+fn put_answers<W: Write>(
     setup: &Setup,
+    rows: &[CountRow],
     answers: &[CountAnswer],
-    output: &mut W,
+    sheet: &mut Sheet<'_, W>,
 ) -> Result<(), CommandFault>
     requires { All (IsAnswerIn setup.now) answers.now }
 {
     for i in 0..answers.len() {
-        let said = answer_text(alloc, setup, answers[i])?;
-        let number = i.saturating_add(1);
-        write_line(output, &format!(in alloc; "row {number} {said}\n")?)?;
-    }
-    Ok(())
-}
-
-fn write_missing<W: Write>(
-    alloc: Global,
-    setup: &Setup,
-    missing: &[MissingObject],
-    output: &mut W,
-) -> Result<(), CommandFault>
-    requires { All (IsMissingIn setup.now) missing.now }
-{
-    for i in 0..missing.len() {
-        let place = place_text(alloc, setup, missing[i].place)?;
-        let object = thing_text(alloc, setup, missing[i].object)?;
-        write_line(output, &format!(in alloc; "missing {place} {object}\n")?)?;
-    }
-    Ok(())
-}
-
-/// `LOAN DAY` for each overdue loan, with its last day.
-pub fn overdue<W: Write>(
-    alloc: Global,
-    ledger: &Ledger,
-    on: Day,
-    output: &mut W,
-) -> Result<(), CommandFault> {
-    let loans = count_core::overdue(alloc, ledger, on)?;
-    for loan in loans.iter() {
-        if let Some(last) = ledger.last_day(loan) {
-            let loan = loan_text(alloc, loan)?;
-            let last = day_text(alloc, &last)?;
-            write_line(output, &format!(in alloc; "{loan} {last}\n")?)?;
+        if let Some(row) = rows.get(i) {
+            let number = (i as u64).saturating_add(1);
+            sheet.put(&counted_row(sheet.alloc, setup, number, row, answers[i])?)?;
         }
     }
     Ok(())
 }
 
-/// `CODE PLACE normal PLACE` for each own object that isn't at its normal place, with `-` for no place.
-pub fn away<W: Write>(alloc: Global, ledger: &Ledger, output: &mut W) -> Result<(), CommandFault> {
-    let setup = ledger.setup();
-    let objects = count_core::away(alloc, ledger)?;
-    for i in 0..objects.len() {
-        let line = away_line(alloc, setup, objects[i])?;
-        write_line(output, &line)?;
-    }
-    Ok(())
-}
-
-fn away_line(alloc: Global, setup: &Setup, away: AwayObject) -> Result<String, NoMemory>
-    requires { IsAwayIn setup.now away }
-{
-    let object = thing_text(alloc, setup, away.object)?;
-    let place = known_place(alloc, setup, away.place)?;
-    let normal = known_place(alloc, setup, setup.normal(away.object))?;
-    Ok(format!(in alloc; "{object} {place} normal {normal}\n")?)
-}
-
-/// `ENTRY DAY PLACE` for each spot of a thing; nothing for one that the setup doesn't have.
-pub fn history<W: Write>(
+fn counted_row(
     alloc: Global,
-    ledger: &Ledger,
-    code: &ThingCode,
-    output: &mut W,
-) -> Result<(), CommandFault> {
-    let setup = ledger.setup();
-    let Some(thing) = setup.thing(code) else {
-        return Ok(());
-    };
-    for spot in ledger.spots(thing).iter() {
-        write_line(output, &spot_line(alloc, setup, spot)?)?;
-    }
-    Ok(())
+    setup: &Setup,
+    number: u64,
+    row: &CountRow,
+    answer: CountAnswer,
+) -> Result<CountedRow, NoMemory>
+    requires { IsAnswerIn setup.now answer }
+{
+    let mut place = String::new(alloc);
+    row.place.write(alloc, &mut place)?;
+    Ok(CountedRow {
+        row: Some(number),
+        place,
+        thing: code_if(alloc, row.object)?,
+        answer: answer_word(answer),
+        on_record: match answer {
+            CountAnswer::Elsewhere(place) => Some(place_text(alloc, setup, place)?),
+            _ => None,
+        },
+    })
 }
 
-fn spot_line(alloc: Global, setup: &Setup, spot: &Spot) -> Result<String, NoMemory>
-    requires { spot.now.place < length setup.now.places }
-{
-    let place = place_text(alloc, setup, spot.place)?;
-    let day = day_text(alloc, &spot.day)?;
-    Ok(format!(in alloc; "{} {day} {place}\n", spot.entry)?)
+/// A thing's code, where there is one.
+fn code_if(alloc: Global, code: Option<ThingCode>) -> Result<Option<String>, NoMemory> {
+    let Some(code) = code else {
+        return Ok(None);
+    };
+    let mut text = String::new(alloc);
+    code.write(alloc, &mut text)?;
+    Ok(Some(text))
 }
 
 /// What is said to a row of a count list.
-fn answer_text(alloc: Global, setup: &Setup, answer: CountAnswer) -> Result<String, NoMemory>
-    requires { IsAnswerIn setup.now answer }
-{
-    let word = match answer {
+fn answer_word(answer: CountAnswer) -> &'static str {
+    match answer {
         CountAnswer::UnknownPlace => "UnknownPlace",
         CountAnswer::Counted => "Counted",
         CountAnswer::UnknownObject => "UnknownObject",
         CountAnswer::Again => "Again",
         CountAnswer::Unplaced => "Unplaced",
         CountAnswer::Found => "Found",
-        CountAnswer::Elsewhere(place) => {
-            let place = place_text(alloc, setup, place)?;
-            return Ok(format!(in alloc; "Elsewhere {place}")?);
+        CountAnswer::Elsewhere(_) => "Elsewhere",
+    }
+}
+
+fn put_missing<W: Write>(
+    setup: &Setup,
+    missing: &[MissingObject],
+    sheet: &mut Sheet<'_, W>,
+) -> Result<(), CommandFault>
+    requires { All (IsMissingIn setup.now) missing.now }
+{
+    for i in 0..missing.len() {
+        sheet.put(&CountedRow {
+            row: None,
+            place: place_text(sheet.alloc, setup, missing[i].place)?,
+            thing: Some(thing_text(sheet.alloc, setup, missing[i].object)?),
+            answer: "Missing",
+            on_record: None,
+        })?;
+    }
+    Ok(())
+}
+
+/// A row for each overdue loan, with its last day.
+pub fn overdue<W: Write>(
+    ledger: &Ledger,
+    on: Day,
+    sheet: &mut Sheet<'_, W>,
+) -> Result<(), CommandFault> {
+    sheet.head::<OverdueRow>()?;
+    let loans = count_core::overdue(sheet.alloc, ledger, on)?;
+    for loan in loans.iter() {
+        if let Some(last) = ledger.last_day(loan) {
+            sheet.put(&OverdueRow {
+                loan: loan_text(sheet.alloc, loan)?,
+                last: day_text(sheet.alloc, &last)?,
+            })?;
         }
+    }
+    Ok(())
+}
+
+/// A row for each own object that isn't at its normal place.
+pub fn away<W: Write>(ledger: &Ledger, sheet: &mut Sheet<'_, W>) -> Result<(), CommandFault> {
+    sheet.head::<AwayRow>()?;
+    let setup = ledger.setup();
+    let objects = count_core::away(sheet.alloc, ledger)?;
+    for i in 0..objects.len() {
+        sheet.put(&away_row(sheet.alloc, setup, objects[i])?)?;
+    }
+    Ok(())
+}
+
+fn away_row(alloc: Global, setup: &Setup, away: AwayObject) -> Result<AwayRow, NoMemory>
+    requires { IsAwayIn setup.now away }
+{
+    Ok(AwayRow {
+        object: thing_text(alloc, setup, away.object)?,
+        place: place_text_if(alloc, setup, away.place)?,
+        normal: place_text_if(alloc, setup, setup.normal(away.object))?,
+    })
+}
+
+/// A row for each spot of a thing; none for a thing that the setup doesn't have.
+pub fn history<W: Write>(
+    ledger: &Ledger,
+    code: &ThingCode,
+    sheet: &mut Sheet<'_, W>,
+) -> Result<(), CommandFault> {
+    sheet.head::<SpotRow>()?;
+    let setup = ledger.setup();
+    let Some(thing) = setup.thing(code) else {
+        return Ok(());
     };
-    Ok(String::from_str(alloc, word)?)
+    for spot in ledger.spots(thing).iter() {
+        sheet.put(&spot_row(sheet.alloc, setup, spot)?)?;
+    }
+    Ok(())
+}
+
+fn spot_row(alloc: Global, setup: &Setup, spot: &Spot) -> Result<SpotRow, NoMemory>
+    requires { spot.now.place < length setup.now.places }
+{
+    Ok(SpotRow {
+        entry: spot.entry,
+        day: day_text(alloc, &spot.day)?,
+        place: place_text(alloc, setup, spot.place)?,
+    })
 }

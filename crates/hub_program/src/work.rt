@@ -2,9 +2,9 @@
 ghost use Rattle.std.specs.Prelude.{◌≡◌, false};
 
 use crate::fault::CommandFault;
-use crate::{questions, reports};
-use codes_core::{Day, LoanCode, PlaceCode, ThingCode};
-use count_core::CountRow;
+use crate::report::{Report, print};
+use crate::sheet::Sheet;
+use command_words::Format;
 use hub_core::{Hub, replay};
 use nest_core::Setup;
 use register_sql::SqlRegister;
@@ -20,26 +20,8 @@ use store_file::shut;
 pub enum Work {
     /// Lines are read from the input, and answered.
     Replay,
-    /// A count list is checked.
-    Count(Vec<CountRow>),
-    /// The loans that are overdue on a day are listed.
-    Overdue(Day),
-    /// The own objects that aren't at their normal places are listed.
-    Away,
-    /// A thing's spots are listed.
-    History(ThingCode),
-    /// The number that each station has to send next is told.
-    Stations,
-    /// A thing's place and containers are told.
-    Where(ThingCode),
-    /// What is in a container is listed.
-    Contents(ThingCode),
-    /// A loan's terms, its state and the stages of its objects are told.
-    Loan(LoanCode),
-    /// What is at a place is listed.
-    At(PlaceCode),
-    /// The entries from this number on are listed.
-    Posted(u64),
+    /// A report is printed, its rows in this form.
+    Print(Report, Format),
 }
 
 /// Does the work over what is in the store, or over an empty register in memory where none is named.
@@ -147,15 +129,13 @@ fn done<T: Threads + Sync, S: Register, R: BufRead, W: Write>(
 {
     match work {
         Work::Replay => Ok(replay(alloc, input, output, hub)?),
-        Work::Count(rows) => reports::count(alloc, threads, hub.ledger(), rows.as_slice(), output),
-        Work::Overdue(day) => reports::overdue(alloc, hub.ledger(), *day, output),
-        Work::Away => reports::away(alloc, hub.ledger(), output),
-        Work::History(code) => reports::history(alloc, hub.ledger(), code, output),
-        Work::Stations => questions::stations(alloc, hub.ledger(), output),
-        Work::Where(code) => questions::whereabouts(alloc, hub.ledger(), code, output),
-        Work::Contents(code) => questions::contents(alloc, hub.ledger(), code, output),
-        Work::Loan(code) => questions::loan(alloc, hub.ledger(), code, output),
-        Work::At(place) => questions::at(alloc, hub.ledger(), place, output),
-        Work::Posted(from) => questions::posted(alloc, hub.ledger(), *from, output),
+        Work::Print(report, format) => {
+            print(
+                threads,
+                hub.ledger(),
+                report,
+                &mut Sheet::new(alloc, *format, output),
+            )
+        }
     }
 }

@@ -3,8 +3,8 @@ use Rattle.command_words.specs.Commands.{where_is}
 use Rattle.command_words.specs.Words.{IsFaultBy, texts_of}
 use Rattle.command_words.proofs.questions.where_is.Goals as goal
 
-pub returns-in_err-record : goal.returns-in_err-record
-returns-in_err-record c =
-    let fault : IsFaultBy (Some where_is) (texts_of c.args.words.now) c.in_err-record.field-0.0 =
-    rw c.in_ok-where_command.ensures at c.in_err-record.ensures in
+pub returns-in_err-report : goal.returns-in_err-report
+returns-in_err-report c =
+    let fault : IsFaultBy (Some where_is) (texts_of c.args.words.now) c.in_err-report.field-0.0 =
+    rw c.in_ok-where_command.ensures at c.in_err-report.ensures in
     search rules

@@ -1,0 +1,71 @@
+-- What the rows of a report tell: a value under each of their names, as comma-separated values and as JSON.
+use Rattle.std.specs.Prelude.{◌∷◌, ◌++◌, [], ℕ, Bool, List, None, Option, Some, codes, decimal, if◌then◌else◌, map, string_bytes}
+use Rattle.std.specs.List.{join_by}
+use Rattle.serde_json.specs.Data.{string}
+use Rattle.serde_json.specs.Written.{compact_text}
+use Rattle.report_rows.specs.declared.field.Field.{Field}
+use Rattle.report_rows.specs.declared.field.Field.TheVariants as field
+
+-- what a row tells under one name
+pub data Told : Type 0 where
+  nothing : Told
+  number : ℕ → Told
+  flag : Bool → Told
+  text : List ℕ → Told
+  texts : List (List ℕ) → Told
+  json : List ℕ → Told
+
+-- what a field tells
+abbrev pub told : Field → Told
+told field.Nothing = nothing
+told (field.Number n) = number n
+told (field.Flag b) = flag b
+told (field.Text t) = text t.now
+told (field.Codes ts) = texts (map string_bytes ts.now)
+told (field.Json t) = json t.now
+
+abbrev pub number_if : Option ℕ → Told
+number_if None = nothing
+number_if (Some n) = number n
+
+abbrev pub text_if : Option (List ℕ) → Told
+text_if None = nothing
+text_if (Some t) = text t
+
+abbrev pub flag_text : Bool → List ℕ
+flag_text b = if b then codes "true" else codes "false"
+
+-- one of the comma-separated values: what isn't there is empty, and several texts are parted by spaces
+abbrev pub csv_text : Told → List ℕ
+csv_text nothing = []
+csv_text (number n) = decimal n
+csv_text (flag b) = flag_text b
+csv_text (text t) = t
+csv_text (texts ts) = join_by (λ t. t) (codes " ") ts
+csv_text (json t) = t
+
+-- a string as JSON
+abbrev pub quoted : List ℕ → List ℕ
+quoted t = compact_text (string t)
+
+-- the text of a JSON value: what isn't there is null
+abbrev pub json_text : Told → List ℕ
+json_text nothing = codes "null"
+json_text (number n) = decimal n
+json_text (flag b) = flag_text b
+json_text (text t) = quoted t
+json_text (texts ts) = codes "[" ++ (join_by quoted (codes ",") ts ++ codes "]")
+json_text (json t) = t
+
+-- a name with what is told under it
+abbrev pub member : List ℕ → Told → List ℕ
+member name value = quoted name ++ (codes ":" ++ json_text value)
+
+abbrev pub members : List (List ℕ) → List Told → List (List ℕ)
+members [] values = []
+members (name ∷ names) [] = []
+members (name ∷ names) (value ∷ values) = member name value ∷ members names values
+
+-- an object with the members in the order of their names, and a line feed
+abbrev pub object_line : List (List ℕ) → List Told → List ℕ
+object_line names values = codes "{" ++ (join_by (λ m. m) (codes ",") (members names values) ++ codes "}\n")

@@ -1,0 +1,99 @@
+//! The rows of what tells of entries and stations.
+ghost use Rattle.std.specs.Prelude.{◌∷◌, [], codes, refl, string_bytes};
+ghost use Rattle.report_rows.specs.Fields.{flag, json, number, number_if, text};
+
+use crate::Row;
+use crate::field::{Field, number_if};
+use codes_core::NoMemory;
+use std::alloc::Global;
+use std::fmt::{Display, Formatter, Result as Written, Write};
+
+/// A station, with the number that it has to send next, unless it has signed off.
+#[derive(Drop)]
+pub struct StationRow {
+    pub station: String,
+    pub next: Option<u64>,
+    pub signed_off: bool,
+}
+
+impl Row for StationRow {
+    ghost names = { codes "station" ∷ codes "next" ∷ codes "signed_off" ∷ [] };
+
+    ghost values = { λ row. text (string_bytes row.station)
+        ∷ number_if row.next
+        ∷ flag row.signed_off ∷ [] };
+
+    fn columns() -> &'static [&'static str] {
+        &["station", "next", "signed_off"]
+    }
+
+    fn fields(&self, alloc: Global) -> Result<Vec<Field<'_>>, NoMemory> {
+        Ok(vec![in alloc;
+            Field::Text(self.station.as_str()),
+            number_if(self.next),
+            Field::Flag(self.signed_off),
+        ]?)
+    }
+
+    ghost as_many = { λ row. refl };
+}
+
+impl Display for StationRow {
+    fn fmt<W: Write>(&self, f: &mut Formatter<W>) -> Written {
+        match self.next {
+            Some(next) => write!(f, "{} next {next}", self.station),
+            None => write!(f, "{} signed off", self.station),
+        }
+    }
+}
+
+/// An entry on record: its number, the station and its number, the verdict, and the message.
+#[derive(Drop)]
+pub struct PostedRow {
+    pub entry: u64,
+    pub station: String,
+    pub n: u32,
+    pub verdict: &'static str,
+    /// The text of its JSON.
+    pub message: String,
+}
+
+impl Row for PostedRow {
+    ghost names = { codes "entry"
+        ∷ codes "station"
+        ∷ codes "n"
+        ∷ codes "verdict"
+        ∷ codes "message" ∷ [] };
+
+    ghost values = { λ row. number row.entry
+        ∷ text (string_bytes row.station)
+        ∷ number row.n
+        ∷ text row.verdict.now
+        ∷ json (string_bytes row.message) ∷ [] };
+
+    fn columns() -> &'static [&'static str] {
+        &["entry", "station", "n", "verdict", "message"]
+    }
+
+    fn fields(&self, alloc: Global) -> Result<Vec<Field<'_>>, NoMemory> {
+        Ok(vec![in alloc;
+            Field::Number(self.entry),
+            Field::Text(self.station.as_str()),
+            Field::Number(u64::from(self.n)),
+            Field::Text(self.verdict),
+            Field::Json(self.message.as_str()),
+        ]?)
+    }
+
+    ghost as_many = { λ row. refl };
+}
+
+impl Display for PostedRow {
+    fn fmt<W: Write>(&self, f: &mut Formatter<W>) -> Written {
+        write!(
+            f,
+            "{} {} {} {} {}",
+            self.entry, self.station, self.n, self.verdict, self.message
+        )
+    }
+}

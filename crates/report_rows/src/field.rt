@@ -1,0 +1,105 @@
+//! What a row tells under one name, as one of comma-separated values and as JSON.
+ghost use Rattle.std.specs.Prelude.{◌≡◌, IfOk, map, option_map, string_bytes};
+ghost use Rattle.report_rows.specs.Fields.{Told, csv_text, flag_text, json_text, number_if, quoted, text_if, told};
+
+use codes_core::NoMemory;
+use serde_json::Value;
+use std::alloc::Global;
+
+/// A field of a row.
+#[derive(Clone, Copy)]
+pub enum Field<'a> {
+    /// There is nothing to tell.
+    Nothing,
+    Number(u64),
+    Flag(bool),
+    Text(&'a str),
+    /// Several codes.
+    Codes(&'a [String]),
+    /// The text of a JSON value.
+    Json(&'a str),
+}
+
+/// A number, where there is one.
+pub(crate) fn number_if<'a>(number: Option<u64>) -> Field<'a>
+    ensures { told result ≡ number_if number }
+{
+    match number {
+        Some(number) => Field::Number(number),
+        None => Field::Nothing,
+    }
+}
+
+/// A fixed word, where there is one.
+pub(crate) fn word_if<'a>(word: Option<&'static str>) -> Field<'a>
+    ensures { told result ≡ text_if (option_map (λ t. t.now) word.entry) }
+{
+    match word {
+        Some(word) => Field::Text(word),
+        None => Field::Nothing,
+    }
+}
+
+/// A text, where there is one.
+pub(crate) fn kept_if<'a>(text: &'a Option<String>) -> Field<'a>
+    ensures { told result ≡ text_if (option_map string_bytes text.now) }
+{
+    match text {
+        Some(text) => Field::Text(text.as_str()),
+        None => Field::Nothing,
+    }
+}
+
+/// The field as one of comma-separated values, not quoted yet.
+pub(crate) fn csv_text(alloc: Global, field: Field<'_>) -> Result<String, NoMemory>
+    ensures { IfOk result (λ text. string_bytes text ≡ csv_text (told field.entry)) }
+{
+    match field {
+        Field::Nothing => Ok(String::new(alloc)),
+        Field::Number(number) => Ok(number.to_string(alloc)?),
+        Field::Flag(flag) => Ok(String::from_str(alloc, flag_word(flag))?),
+        Field::Text(text) => Ok(String::from_str(alloc, text)?),
+        Field::Codes(codes) => Ok(codes.join(alloc, " ")?),
+        Field::Json(text) => Ok(String::from_str(alloc, text)?),
+    }
+}
+
+/// The field as JSON.
+pub(crate) fn json_text(alloc: Global, field: Field<'_>) -> Result<String, NoMemory>
+    ensures { IfOk result (λ text. string_bytes text ≡ json_text (told field.entry)) }
+{
+    match field {
+        Field::Nothing => Ok(String::from_str(alloc, "null")?),
+        Field::Number(number) => Ok(number.to_string(alloc)?),
+        Field::Flag(flag) => Ok(String::from_str(alloc, flag_word(flag))?),
+        Field::Text(text) => quoted(alloc, text),
+        Field::Codes(codes) => array_text(alloc, codes),
+        Field::Json(text) => Ok(String::from_str(alloc, text)?),
+    }
+}
+
+fn flag_word(flag: bool) -> &'static str
+    ensures { result.now ≡ flag_text flag }
+{
+    if flag { "true" } else { "false" }
+}
+
+/// A string as JSON.
+pub(crate) fn quoted(alloc: Global, text: &str) -> Result<String, NoMemory>
+    ensures { IfOk result (λ written. string_bytes written ≡ quoted text.now) }
+{
+    let value = Value::try_from_str(alloc, text)?;
+    Ok(value.to_string(alloc)?)
+}
+
+/// An array of strings as JSON.
+fn array_text(alloc: Global, texts: &[String]) -> Result<String, NoMemory>
+    ensures { IfOk result (λ all. string_bytes all ≡ json_text (Told.texts (map string_bytes texts.now))) }
+{
+    let mut items = Vec::new(alloc);
+    for i in 0..texts.len() {
+        items.push(quoted(alloc, texts[i].as_str())?)?;
+    }
+    let items = items.as_slice().join(alloc, ",")?;
+    Ok(["[", items.as_str(), "]"].concat(alloc)?)
+}

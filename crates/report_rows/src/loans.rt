@@ -1,0 +1,102 @@
+//! The rows of what tells of loans.
+ghost use Rattle.std.specs.Prelude.{◌∷◌, [], codes, option_map, refl, string_bytes};
+ghost use Rattle.report_rows.specs.Fields.{text, text_if};
+
+use crate::Row;
+use crate::field::{Field, kept_if, word_if};
+use codes_core::NoMemory;
+use std::alloc::Global;
+use std::fmt::{Display, Formatter, Result as Written, Write};
+
+/// A loan that is overdue, with its last day.
+#[derive(Drop)]
+pub struct OverdueRow {
+    pub loan: String,
+    pub last: String,
+}
+
+impl Row for OverdueRow {
+    ghost names = { codes "loan" ∷ codes "last" ∷ [] };
+
+    ghost values = { λ row. text (string_bytes row.loan)
+        ∷ text (string_bytes row.last) ∷ [] };
+
+    fn columns() -> &'static [&'static str] {
+        &["loan", "last"]
+    }
+
+    fn fields(&self, alloc: Global) -> Result<Vec<Field<'_>>, NoMemory> {
+        Ok(vec![in alloc;
+            Field::Text(self.loan.as_str()),
+            Field::Text(self.last.as_str()),
+        ]?)
+    }
+
+    ghost as_many = { λ row. refl };
+}
+
+impl Display for OverdueRow {
+    fn fmt<W: Write>(&self, f: &mut Formatter<W>) -> Written {
+        write!(f, "{} {}", self.loan, self.last)
+    }
+}
+
+/// An object of a loan with its stage, and how the loan stands; of a loan that isn't agreed its code alone.
+#[derive(Drop)]
+pub struct LoanRow {
+    pub loan: String,
+    pub state: &'static str,
+    pub partner: Option<String>,
+    pub first: Option<String>,
+    pub last: Option<String>,
+    pub object: Option<String>,
+    pub stage: Option<&'static str>,
+}
+
+impl Row for LoanRow {
+    ghost names = { codes "loan"
+        ∷ codes "state"
+        ∷ codes "partner"
+        ∷ codes "first"
+        ∷ codes "last"
+        ∷ codes "object"
+        ∷ codes "stage" ∷ [] };
+
+    ghost values = { λ row. text (string_bytes row.loan)
+        ∷ text row.state.now
+        ∷ text_if (option_map string_bytes row.partner)
+        ∷ text_if (option_map string_bytes row.first)
+        ∷ text_if (option_map string_bytes row.last)
+        ∷ text_if (option_map string_bytes row.object)
+        ∷ text_if (option_map (λ t. t.now) row.stage) ∷ [] };
+
+    fn columns() -> &'static [&'static str] {
+        &[
+            "loan", "state", "partner", "first", "last", "object", "stage",
+        ]
+    }
+
+    fn fields(&self, alloc: Global) -> Result<Vec<Field<'_>>, NoMemory> {
+        Ok(vec![in alloc;
+            Field::Text(self.loan.as_str()),
+            Field::Text(self.state),
+            kept_if(&self.partner),
+            kept_if(&self.first),
+            kept_if(&self.last),
+            kept_if(&self.object),
+            word_if(self.stage),
+        ]?)
+    }
+
+    ghost as_many = { λ row. refl };
+}
+
+impl Display for LoanRow {
+    fn fmt<W: Write>(&self, f: &mut Formatter<W>) -> Written {
+        match (&self.object, &self.stage) {
+            (None, _) => write!(f, "{} {}", self.loan, self.state),
+            (Some(object), None) => write!(f, "{object}"),
+            (Some(object), Some(stage)) => write!(f, "{object} {stage}"),
+        }
+    }
+}

@@ -1,0 +1,122 @@
+//! A row as text, each of the three forms with its line feed.
+ghost use Rattle.std.specs.Prelude.{◌≡◌, ℕ, List, IfOk, length, map, string_bytes};
+ghost use Rattle.csv.specs.Writing.{default_writer, row_text};
+ghost use Rattle.report_rows.specs.Fields.{Told, csv_text, member, members, object_line, told};
+
+use crate::field::{Field, csv_text, json_text, quoted};
+use codes_core::NoMemory;
+use csv::WriterBuilder;
+use std::alloc::Global;
+use std::fmt::Display;
+
+/// A row of a report: its plain line is its `Display`, and the other forms tell its fields, each under its name.
+pub trait Row: Display {
+    // The names of the fields, in their order.
+    ghost names: { List (List ℕ) };
+
+    // What a row tells under each.
+    ghost values: { Self → List Told };
+
+    /// The names of the fields, in their order.
+    fn columns() -> &'static [&'static str]
+        ensures { map (λ name. name.now) result.now ≡ names };
+
+    /// The fields, in the order of their names.
+    fn fields(&self, alloc: Global) -> Result<Vec<Field<'_>>, NoMemory>
+        ensures { IfOk result (λ fields. map told fields.items ≡ values self.now) };
+
+    ghost as_many: { (row : Self) → length (values row) ≡ length names };
+}
+
+/// The row's plain line.
+pub fn plain_line<R: Row>(alloc: Global, row: &R) -> Result<String, NoMemory> {
+    Ok(format!(in alloc; "{row}\n")?)
+}
+
+/// The names of the fields as comma-separated values.
+pub fn csv_heading<R: Row>(alloc: Global) -> Result<String, NoMemory>
+    ensures { IfOk result (λ text. string_bytes text ≡ row_text default_writer R.names) }
+{
+    separated(alloc, R::columns())
+}
+
+/// The row as comma-separated values, each quoted where it has to be.
+pub fn csv_line<R: Row>(alloc: Global, row: &R) -> Result<String, NoMemory>
+    ensures { IfOk result (λ line. string_bytes line ≡ row_text default_writer (map csv_text (R.values row.now))) }
+{
+    let fields = row.fields(alloc)?;
+    separated_fields(alloc, fields.as_slice())
+}
+
+/// The row as a JSON object, its members in the order of their names.
+pub fn json_line<R: Row>(alloc: Global, row: &R) -> Result<String, NoMemory>
+    ensures { IfOk result (λ line. string_bytes line ≡ object_line R.names (R.values row.now)) }
+{
+    let fields = row.fields(alloc)?;
+    object(alloc, R::columns(), fields.as_slice())
+}
+
+fn object(alloc: Global, names: &[&str], fields: &[Field<'_>]) -> Result<String, NoMemory>
+    requires { length fields.now ≡ length names.now }
+    ensures { IfOk result (λ line. string_bytes line
+        ≡ object_line (map (λ name. name.now) names.now) (map told fields.now)) }
+{
+    let mut texts = Vec::new(alloc);
+    for i in 0..names.len() {
+        texts.push(member(alloc, names[i], fields[i])?)?;
+    }
+    let members = texts.as_slice().join(alloc, ",")?;
+    Ok(["{", members.as_str(), "}\n"].concat(alloc)?)
+}
+
+/// A name with its field.
+fn member(alloc: Global, name: &str, field: Field<'_>) -> Result<String, NoMemory>
+    ensures { IfOk result (λ text. string_bytes text ≡ member name.now (told field.entry)) }
+{
+    let name = quoted(alloc, name)?;
+    let value = json_text(alloc, field)?;
+    Ok([name.as_str(), ":", value.as_str()].concat(alloc)?)
+}
+
+fn separated_fields(alloc: Global, fields: &[Field<'_>]) -> Result<String, NoMemory>
+    ensures { IfOk result (λ line. string_bytes line ≡ row_text default_writer (map csv_text (map told fields.now))) }
+{
+    let mut texts = Vec::new(alloc);
+    for i in 0..fields.len() {
+        texts.push(csv_text(alloc, fields[i])?)?;
+    }
+    let mut values = Vec::new(alloc);
+    for text in texts.iter() {
+        values.push(text.as_str())?;
+    }
+    separated(alloc, values.as_slice())
+}
+
+/// A row of comma-separated values with these texts.
+fn separated(alloc: Global, texts: &[&str]) -> Result<String, NoMemory>
+    ensures { IfOk result (λ text. string_bytes text ≡ row_text default_writer (map (λ t. t.now) texts.now)) }
+{
+    let mut fields = Vec::new(alloc);
+    for i in 0..texts.len() {
+        fields.push(texts[i].as_bytes())?;
+    }
+    let Ok(bytes) = row_bytes(alloc, fields.as_slice()) else {
+        return Err(NoMemory);
+    };
+    match String::from_utf8(bytes) {
+        Ok(text) => Ok(text),
+        Err(_) => Err(NoMemory),
+    }
+}
+
+/// The bytes of such a row.
+fn row_bytes(alloc: Global, fields: &[&[u8]]) -> Result<Vec<u8>, csv::Error>
+    ensures { IfOk result (λ bytes. bytes.items ≡ row_text default_writer (map (λ f. f.now) fields.now)) }
+{
+    let mut wtr = WriterBuilder::new().from_writer(Vec::new(alloc));
+    wtr.write_fields(fields)?;
+    match wtr.into_inner() {
+        Ok(bytes) => Ok(bytes),
+        Err(error) => Err(error.into_error()),
+    }
+}
