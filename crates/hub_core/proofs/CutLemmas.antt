@@ -16,7 +16,7 @@ use Rattle.station_core.proofs.RunLemmas.{at_its_number, ready_is, stops_at_miss
 use Rattle.station_core.specs.declared.Start.{Start}
 use Rattle.station_core.specs.Progress.{StartsFrom}
 use Rattle.posting_core.specs.Lawful.{count_at, Follows, IsLawful}
-use Rattle.hub_core.specs.declared.answer.Arrival.{Arrival}
+use Rattle.hub_core.specs.declared.hub.answer.Arrival.{Arrival}
 use Rattle.hub_core.specs.Points.{seen, arrival_of, post, Point, point_with, point_after, point, cut}
 use Rattle.hub_core.proofs.OpenLemmas.{sent, sent_next, lawful_start}
 use Rattle.hub_core.proofs.StandLemmas.{point_refused, point_accepted}

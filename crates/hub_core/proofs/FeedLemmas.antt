@@ -4,8 +4,8 @@ use Rattle.std.specs.Prelude.{OnSome, unwrap_or}
 use Rattle.std.specs.Io.KnownBytes.{Consumes, IsAtEnd}
 use Rattle.std.proofs.lemmas.List.{take_more}
 use Rattle.memchr.specs.Find.{Nowhere, Passes, IsFirstByte, is_byte}
-use Rattle.hub_core.specs.declared.line_reader.End.{End}
-use Rattle.hub_core.specs.declared.line_reader.End.TheVariants.{Feed, Input, Open}
+use Rattle.hub_core.specs.declared.line.bytes.End.{End}
+use Rattle.hub_core.specs.declared.line.bytes.End.TheVariants.{Feed, Input, Open}
 use Rattle.hub_core.specs.Reading.{HasNoFeed, feed_if, is_feed}
 
 pub no_feed_join : (p q : List ℕ) → HasNoFeed p → HasNoFeed q → HasNoFeed (p ++ q)

@@ -6,9 +6,9 @@ use Rattle.std.specs.Io.KnownBytes.{Consumes, IsAtEnd}
 use Rattle.std.proofs.KnownBytes.{Consumes-trans}
 use Rattle.std.proofs.lemmas.Bool.{lt-ltb}
 use Rattle.nest_core.specs.SetupRows.{setup_fault}
-use Rattle.hub_core.specs.declared.running.TheConstants.{LONGEST_HEAD}
-use Rattle.hub_core.specs.declared.running.RunFault.{RunFault}
-use Rattle.hub_core.specs.declared.running.RunFault.TheVariants.{NoMemory, Store, ReadFailed, WriteFailed, Setup, HeadTooLong}
+use Rattle.hub_core.specs.declared.stream.head.TheConstants.{LONGEST_HEAD}
+use Rattle.hub_core.specs.declared.run_fault.RunFault.{RunFault}
+use Rattle.hub_core.specs.declared.run_fault.RunFault.TheVariants.{NoMemory, Store, ReadFailed, WriteFailed, Setup, HeadTooLong}
 use Rattle.hub_core.specs.Reading.{HasNoFeed, feed_if, TakesLine}
 use Rattle.hub_core.specs.Lines.{is_empty, without_return, head, after_head}
 use Rattle.hub_core.specs.WholeRun.{head_fault, InHead, TakesHead, StopsInLine, BeforeLines, has_empty_line}

@@ -5,8 +5,8 @@ use Rattle.std.specs.List.{ends_with}
 use Rattle.std.proofs.lemmas.Bool.Decides.{nat_tests}
 use Rattle.nest_core.specs.Museum.{Museum}
 use Rattle.posting_core.specs.declared.entry.Entry.{Entry}
-use Rattle.hub_core.specs.declared.answer.Arrival.{Arrival}
-use Rattle.hub_core.specs.declared.line_reply.TheConstants.{LONGEST_LINE}
+use Rattle.hub_core.specs.declared.hub.answer.Arrival.{Arrival}
+use Rattle.hub_core.specs.declared.line.reply.TheConstants.{LONGEST_LINE}
 use Rattle.hub_core.specs.Replies.{bad_line}
 use Rattle.hub_core.specs.Requests.{line_in}
 use Rattle.hub_core.specs.Lines.{without_return}

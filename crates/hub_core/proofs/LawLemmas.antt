@@ -13,8 +13,8 @@ use Rattle.station_core.specs.declared.TheConstants.{LAST}
 use Rattle.station_core.specs.declared.Refusal.TheVariants.{Double}
 use Rattle.station_core.specs.Runs.{Arrived, message_at, ready, due}
 use Rattle.station_core.proofs.RunLemmas.{ready_same, due_same}
-use Rattle.hub_core.specs.declared.answer.Arrival.{Arrival}
-use Rattle.hub_core.specs.declared.answer.Answer.TheVariants.{Refused}
+use Rattle.hub_core.specs.declared.hub.answer.Arrival.{Arrival}
+use Rattle.hub_core.specs.declared.hub.answer.Answer.TheVariants.{Refused}
 use Rattle.hub_core.specs.Points.{arrival_of, point, reply, cut}
 use Rattle.hub_core.proofs.PostLemmas.{count_same, count_other}
 use Rattle.hub_core.proofs.StandLemmas.{refused_at, point_more, point_refused}

@@ -2,8 +2,8 @@
 use Rattle.std.proofs.Common.{◌≡◌, ℕ, Bool, true, false, List, ◌++◌, take, Option, ap, sym, subst, append_assoc, append-nil, true≢false}
 use Rattle.std.specs.Io.KnownBytes.{Consumes}
 use Rattle.std.proofs.KnownBytes.{Consumes-trans}
-use Rattle.hub_core.specs.declared.line_reader.End.{End}
-use Rattle.hub_core.specs.declared.line_reader.End.TheVariants.{Feed, Input, Open}
+use Rattle.hub_core.specs.declared.line.bytes.End.{End}
+use Rattle.hub_core.specs.declared.line.bytes.End.TheVariants.{Feed, Input, Open}
 use Rattle.hub_core.specs.Reading.{HasNoFeed, feed_if, is_feed, TakesPiece, TakesLine}
 use Rattle.hub_core.proofs.FeedLemmas.{no_feed_join, end_after}
 

@@ -9,7 +9,7 @@ use Rattle.posting_core.specs.Book.{Book}
 use Rattle.posting_core.specs.Accountability.{AnswerAlike}
 use Rattle.posting_core.specs.Onward.{are_refused}
 use Rattle.posting_core.proofs.Refused.{all_unchanged}
-use Rattle.hub_core.specs.declared.answer.Where.TheVariants.{UnknownThing}
+use Rattle.hub_core.specs.declared.hub.answer.Where.TheVariants.{UnknownThing}
 use Rattle.hub_core.specs.Points.{where_from, whereabouts}
 
 abbrev pub book_at : Museum → ℕ → List Entry → Book

@@ -7,13 +7,13 @@ use Rattle.std.proofs.KnownBytes.{Consumes-nil, Consumes-trans, Appends-nil, App
 use Rattle.std.proofs.lemmas.Bool.{not-true}
 use Rattle.nest_core.specs.Museum.{Museum}
 use Rattle.posting_core.specs.declared.entry.Entry.{Entry}
-use Rattle.hub_core.specs.declared.answer.Arrival.{Arrival}
-use Rattle.hub_core.specs.declared.answer.HubFault.{HubFault}
-use Rattle.hub_core.specs.declared.answer.HubFault.TheVariants as hub_faults
-use Rattle.hub_core.specs.declared.replaying.ReplayFault.{ReplayFault}
-use Rattle.hub_core.specs.declared.replaying.ReplayFault.TheVariants.{NoMemory, Store, ReadFailed, WriteFailed}
-use Rattle.hub_core.specs.declared.line_reader.TheConstants.{MOST_KEPT}
-use Rattle.hub_core.specs.declared.line_reply.TheConstants.{LONGEST_LINE}
+use Rattle.hub_core.specs.declared.hub.answer.Arrival.{Arrival}
+use Rattle.hub_core.specs.declared.hub.answer.HubFault.{HubFault}
+use Rattle.hub_core.specs.declared.hub.answer.HubFault.TheVariants as hub_faults
+use Rattle.hub_core.specs.declared.replay_fault.ReplayFault.{ReplayFault}
+use Rattle.hub_core.specs.declared.replay_fault.ReplayFault.TheVariants.{NoMemory, Store, ReadFailed, WriteFailed}
+use Rattle.hub_core.specs.declared.line.bytes.TheConstants.{MOST_KEPT}
+use Rattle.hub_core.specs.declared.line.reply.TheConstants.{LONGEST_LINE}
 use Rattle.hub_core.specs.Reading.{HasNoFeed, feed_if, TakesLine, TakesStart}
 use Rattle.hub_core.specs.Lines.{lines, ended, without_return}
 use Rattle.hub_core.specs.LineText.{text, arrivals, line_reply, line_arrivals}

@@ -3,7 +3,7 @@ use Rattle.std.proofs.Common.{◌≡◌, ℕ, ◌+◌, ◌≤◌, Bool, true, fa
 use Rattle.std.specs.Prelude.{flat_map}
 use Rattle.nest_core.specs.Museum.{Museum}
 use Rattle.posting_core.specs.declared.entry.Entry.{Entry}
-use Rattle.hub_core.specs.declared.answer.Arrival.{Arrival}
+use Rattle.hub_core.specs.declared.hub.answer.Arrival.{Arrival}
 use Rattle.hub_core.specs.Reading.{HasNoFeed, feed_if}
 use Rattle.hub_core.specs.Lines.{pieces, line_of, lines, without_return}
 use Rattle.hub_core.specs.LineText.{line_reply, line_arrivals, replies, text, arrivals}

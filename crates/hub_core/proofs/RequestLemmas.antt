@@ -11,7 +11,7 @@ use Rattle.register_store.specs.declared.key.Key.TheVariants.{Station}
 use Rattle.register_store.specs.Spelling.{key_name}
 use Rattle.register_store.specs.Kinds.{◌spells◌, fault_at}
 use Rattle.register_store.proofs.Fields.{text_fault}
-use Rattle.hub_core.specs.declared.reader.Request.{Request}
+use Rattle.hub_core.specs.declared.line.request.Request.{Request}
 use Rattle.hub_core.specs.Requests.{request_of, object_of, request_read, request_in, line_of, line_read, line_in}
 
 -- UTF-8 that is JSON asks what its value asks

@@ -12,7 +12,7 @@ use Rattle.nest_core.proofs.Positions.{passes_at}
 use Rattle.station_core.specs.declared.Refusal.{Refusal}
 use Rattle.station_core.specs.declared.Refusal.TheVariants.{UnknownStation, BadNumber, Double, SignedOff, TooEarly}
 use Rattle.station_core.specs.Refusals.{refusal_name}
-use Rattle.hub_core.specs.declared.replies.TheConstants.{REPLY_ROOM}
+use Rattle.hub_core.specs.declared.line.wording.TheConstants.{REPLY_ROOM}
 use Rattle.hub_core.specs.Replies.{refused_line, unknown_station_line, held_line, bad_line}
 
 digits_few : (n : ℕ) → n < 2 ^ 64 → length (decimal n) ≤ 20

@@ -4,7 +4,7 @@ use Rattle.std.specs.Prelude.{IfSome, nat_lt}
 use Rattle.std.specs.Option.{option_map}
 use Rattle.std.proofs.lemmas.Bool.Decides.{nat_tests}
 use Rattle.nest_core.specs.SetupRows.{rows_of, museum_of, setup_fault}
-use Rattle.hub_core.specs.declared.running.TheConstants.{LONGEST_HEAD}
+use Rattle.hub_core.specs.declared.stream.head.TheConstants.{LONGEST_HEAD}
 use Rattle.std.specs.Io.KnownBytes.{Appends, IsAtEnd}
 use Rattle.std.proofs.lemmas.List.{nil_from_length}
 use Rattle.std.proofs.lemmas.List.Sorted.{IsPermutation-refl, IsPermutation-sym, IsPermutation-trans, length_permutation}
@@ -19,11 +19,11 @@ use Rattle.register_store.specs.Plain.{Kept, in_memory}
 use Rattle.register_store.specs.Holdings.{Comes}
 use Rattle.register_store.proofs.Kept.{same_itself}
 use Rattle.register_store.proofs.OneList.{as_many}
-use Rattle.hub_core.specs.declared.answer.Arrival.{Arrival}
-use Rattle.hub_core.specs.declared.replaying.ReplayFault.{ReplayFault}
-use Rattle.hub_core.specs.declared.replaying.ReplayFault.TheVariants as replay
-use Rattle.hub_core.specs.declared.running.RunFault.{RunFault}
-use Rattle.hub_core.specs.declared.running.RunFault.TheVariants.{NoMemory, Store, ReadFailed, WriteFailed, Setup, HeadTooLong}
+use Rattle.hub_core.specs.declared.hub.answer.Arrival.{Arrival}
+use Rattle.hub_core.specs.declared.replay_fault.ReplayFault.{ReplayFault}
+use Rattle.hub_core.specs.declared.replay_fault.ReplayFault.TheVariants as replay
+use Rattle.hub_core.specs.declared.run_fault.RunFault.{RunFault}
+use Rattle.hub_core.specs.declared.run_fault.RunFault.TheVariants.{NoMemory, Store, ReadFailed, WriteFailed, Setup, HeadTooLong}
 use Rattle.hub_core.specs.Faults.{CountsReplay}
 use Rattle.hub_core.specs.Lines.{head, after_head}
 use Rattle.hub_core.specs.StandsFor.{State, StandsFor}

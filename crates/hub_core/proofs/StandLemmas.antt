@@ -16,8 +16,8 @@ use Rattle.station_core.specs.Progress.{IsPosting, AllMatch}
 use Rattle.station_core.specs.declared.Refusal.{Refusal}
 use Rattle.station_core.proofs.StationLemmas.{taken_refused, taken_accepted, series_at_set_same, accepted}
 use Rattle.register_store.specs.Holdings.{Holding}
-use Rattle.hub_core.specs.declared.answer.Arrival.{Arrival}
-use Rattle.hub_core.specs.declared.answer.Answer.TheVariants.{Refused, Held, Posted}
+use Rattle.hub_core.specs.declared.hub.answer.Arrival.{Arrival}
+use Rattle.hub_core.specs.declared.hub.answer.Answer.TheVariants.{Refused, Held, Posted}
 use Rattle.hub_core.specs.Points.{seen, post, Point, point_with, point_after, point, reply, reply_from, due_with, arrival_of}
 use Rattle.hub_core.specs.StandsFor.{State, StandsFor, InStep, Done, HasStore, Stopped, TakesSome}
 

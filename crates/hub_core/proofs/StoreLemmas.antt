@@ -20,7 +20,7 @@ use Rattle.register_store.proofs.LineRows.{next_line_rows}
 use Rattle.register_store.proofs.SpotRows.{next_spot_rows}
 use Rattle.register_store.proofs.TermRows.{next_terms}
 use Rattle.hub_core.specs.Points.{entry_of, post}
-use Rattle.hub_core.specs.declared.answer.HubFault.{HubFault}
+use Rattle.hub_core.specs.declared.hub.answer.HubFault.{HubFault}
 use Rattle.hub_core.specs.Faults.{CountsStore}
 use Rattle.hub_core.specs.StandsFor.{HasStore, HasEither}
 

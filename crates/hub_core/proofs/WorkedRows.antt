@@ -11,12 +11,12 @@ use Rattle.station_core.specs.Series.{window}
 use Rattle.station_core.specs.Runs.{arrived}
 use Rattle.register_store.specs.declared.fault.ReadFault.TheVariants.{NotJson, Missing, BadField}
 use Rattle.register_store.specs.declared.key.Key.TheVariants as key
-use Rattle.hub_core.specs.declared.answer.Arrival.{Arrival}
-use Rattle.hub_core.specs.declared.answer.Answer.TheVariants.{Refused, Held, Posted}
-use Rattle.hub_core.specs.declared.answer.Where.TheVariants.{UnknownThing, Unplaced, At}
-use Rattle.hub_core.specs.declared.reader.Request.TheVariants.{Scan, Ask}
-use Rattle.hub_core.specs.declared.line_reply.TheConstants.{LONGEST_LINE}
-use Rattle.hub_core.specs.declared.running.TheConstants.{LONGEST_HEAD}
+use Rattle.hub_core.specs.declared.hub.answer.Arrival.{Arrival}
+use Rattle.hub_core.specs.declared.hub.answer.Answer.TheVariants.{Refused, Held, Posted}
+use Rattle.hub_core.specs.declared.hub.answer.Where.TheVariants.{UnknownThing, Unplaced, At}
+use Rattle.hub_core.specs.declared.line.request.Request.TheVariants.{Scan, Ask}
+use Rattle.hub_core.specs.declared.line.reply.TheConstants.{LONGEST_LINE}
+use Rattle.hub_core.specs.declared.stream.head.TheConstants.{LONGEST_HEAD}
 use Rattle.hub_core.specs.Lines.{without_return, lines, ended, head, after_head}
 use Rattle.hub_core.specs.LineText.{station_reply}
 use Rattle.hub_core.specs.Requests.{line_of, object_of, request_read}

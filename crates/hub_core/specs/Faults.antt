@@ -2,10 +2,10 @@
 use Rattle.std.specs.Prelude.{ℕ, ◌≡◌, ◌+◌, ◌-◌, ◌^◌, min, Result, Ok, Err}
 use Rattle.register_store.specs.declared.store_fault.StoreFault.{StoreFault}
 use Rattle.register_store.specs.declared.store_fault.StoreFault.TheVariants as store
-use Rattle.hub_core.specs.declared.replaying.ReplayFault.{ReplayFault}
-use Rattle.hub_core.specs.declared.replaying.ReplayFault.TheVariants as replay
-use Rattle.hub_core.specs.declared.answer.HubFault.{HubFault}
-use Rattle.hub_core.specs.declared.answer.HubFault.TheVariants.{NoMemory, Store, Down}
+use Rattle.hub_core.specs.declared.replay_fault.ReplayFault.{ReplayFault}
+use Rattle.hub_core.specs.declared.replay_fault.ReplayFault.TheVariants as replay
+use Rattle.hub_core.specs.declared.hub.answer.HubFault.{HubFault}
+use Rattle.hub_core.specs.declared.hub.answer.HubFault.TheVariants.{NoMemory, Store, Down}
 
 -- a register's fault, as the hub tells it
 abbrev pub hub_fault : StoreFault → HubFault

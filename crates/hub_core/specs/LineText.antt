@@ -8,15 +8,15 @@ use Rattle.station_core.specs.Refusals.{refusal_name}
 use Rattle.register_store.specs.Spelling.{key_name}
 use Rattle.register_store.specs.declared.fault.ReadFault.{ReadFault}
 use Rattle.register_store.specs.declared.fault.ReadFault.TheVariants.{NotJson, Missing, BadKind, BadField, NoMemory}
-use Rattle.hub_core.specs.declared.answer.Arrival.{Arrival}
-use Rattle.hub_core.specs.declared.answer.Answer.{Answer}
-use Rattle.hub_core.specs.declared.answer.Answer.TheVariants.{Refused, Held, Posted}
-use Rattle.hub_core.specs.declared.answer.Where.{Where}
-use Rattle.hub_core.specs.declared.answer.Where.TheVariants.{UnknownThing, Unplaced, At}
-use Rattle.hub_core.specs.declared.reader.Line.{Line}
-use Rattle.hub_core.specs.declared.reader.Request.{Request}
-use Rattle.hub_core.specs.declared.reader.Request.TheVariants.{Scan, Ask}
-use Rattle.hub_core.specs.declared.line_reply.TheConstants.{LONGEST_LINE}
+use Rattle.hub_core.specs.declared.hub.answer.Arrival.{Arrival}
+use Rattle.hub_core.specs.declared.hub.answer.Answer.{Answer}
+use Rattle.hub_core.specs.declared.hub.answer.Answer.TheVariants.{Refused, Held, Posted}
+use Rattle.hub_core.specs.declared.hub.answer.Where.{Where}
+use Rattle.hub_core.specs.declared.hub.answer.Where.TheVariants.{UnknownThing, Unplaced, At}
+use Rattle.hub_core.specs.declared.line.request.Line.{Line}
+use Rattle.hub_core.specs.declared.line.request.Request.{Request}
+use Rattle.hub_core.specs.declared.line.request.Request.TheVariants.{Scan, Ask}
+use Rattle.hub_core.specs.declared.line.reply.TheConstants.{LONGEST_LINE}
 use Rattle.hub_core.specs.Lines.{is_empty, lines}
 use Rattle.hub_core.specs.Requests.{line_in}
 use Rattle.hub_core.specs.Points.{posted, reply, whereabouts}

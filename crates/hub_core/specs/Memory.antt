@@ -4,13 +4,13 @@ use Rattle.std.specs.declared.alloc.Global.{Global}
 use Rattle.nest_core.specs.Museum.{Museum}
 use Rattle.posting_core.specs.declared.entry.Entry.{Entry}
 use Rattle.register_store.specs.Holdings.{Holding}
-use Rattle.hub_core.specs.declared.answer.Arrival.{Arrival}
-use Rattle.hub_core.specs.declared.answer.Answer.{Answer}
-use Rattle.hub_core.specs.declared.answer.Answer.TheVariants.{Refused, Held, Posted}
-use Rattle.hub_core.specs.declared.answer.HubFault.{HubFault}
-use Rattle.hub_core.specs.declared.reader.Request.{Request}
-use Rattle.hub_core.specs.declared.reader.Request.TheVariants.{Scan, Ask}
-use Rattle.hub_core.specs.declared.replies.TheConstants.{REPLY_ROOM}
+use Rattle.hub_core.specs.declared.hub.answer.Arrival.{Arrival}
+use Rattle.hub_core.specs.declared.hub.answer.Answer.{Answer}
+use Rattle.hub_core.specs.declared.hub.answer.Answer.TheVariants.{Refused, Held, Posted}
+use Rattle.hub_core.specs.declared.hub.answer.HubFault.{HubFault}
+use Rattle.hub_core.specs.declared.line.request.Request.{Request}
+use Rattle.hub_core.specs.declared.line.request.Request.TheVariants.{Scan, Ask}
+use Rattle.hub_core.specs.declared.line.wording.TheConstants.{REPLY_ROOM}
 use Rattle.hub_core.specs.Points.{reply}
 use Rattle.hub_core.specs.StandsFor.{State, StandsFor}
 

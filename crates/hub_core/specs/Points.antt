@@ -9,11 +9,11 @@ use Rattle.posting_core.specs.History.{place_at, chain_at}
 use Rattle.posting_core.specs.Verdicts.{verdict}
 use Rattle.station_core.specs.declared.Refusal.{Refusal}
 use Rattle.station_core.specs.Runs.{Arrived, arrived, ready, refusal, taken_after, due}
-use Rattle.hub_core.specs.declared.answer.Arrival.{Arrival}
-use Rattle.hub_core.specs.declared.answer.Answer.{Answer}
-use Rattle.hub_core.specs.declared.answer.Answer.TheVariants.{Refused, Held, Posted}
-use Rattle.hub_core.specs.declared.answer.Where.{Where}
-use Rattle.hub_core.specs.declared.answer.Where.TheVariants.{UnknownThing, Unplaced, At}
+use Rattle.hub_core.specs.declared.hub.answer.Arrival.{Arrival}
+use Rattle.hub_core.specs.declared.hub.answer.Answer.{Answer}
+use Rattle.hub_core.specs.declared.hub.answer.Answer.TheVariants.{Refused, Held, Posted}
+use Rattle.hub_core.specs.declared.hub.answer.Where.{Where}
+use Rattle.hub_core.specs.declared.hub.answer.Where.TheVariants.{UnknownThing, Unplaced, At}
 
 -- an arrival, as hold-back sees it
 abbrev pub seen : Arrival → Arrived Message

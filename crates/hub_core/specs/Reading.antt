@@ -1,8 +1,8 @@
 -- How lines are read.
 use Rattle.std.specs.Prelude.{ℕ, ◌≡◌, ◌≢◌, ◌∷◌, ◌++◌, Bool, true, false, List, [], Option, OnSome, take}
 use Rattle.std.specs.Io.KnownBytes.{Consumes, IsAtEnd}
-use Rattle.hub_core.specs.declared.line_reader.End.{End}
-use Rattle.hub_core.specs.declared.line_reader.End.TheVariants.{Feed, Input, Open}
+use Rattle.hub_core.specs.declared.line.bytes.End.{End}
+use Rattle.hub_core.specs.declared.line.bytes.End.TheVariants.{Feed, Input, Open}
 
 -- no line feed
 abbrev pub HasNoFeed : List ℕ → Type 0

@@ -4,9 +4,9 @@ use Rattle.std.specs.Io.KnownBytes.{Appends, Consumes, IsAtEnd}
 use Rattle.nest_core.specs.Museum.{Museum}
 use Rattle.posting_core.specs.declared.entry.Entry.{Entry}
 use Rattle.register_store.specs.Holdings.{Holding}
-use Rattle.hub_core.specs.declared.answer.Arrival.{Arrival}
-use Rattle.hub_core.specs.declared.replaying.ReplayFault.{ReplayFault}
-use Rattle.hub_core.specs.declared.replaying.ReplayFault.TheVariants.{NoMemory, Store, ReadFailed, WriteFailed}
+use Rattle.hub_core.specs.declared.hub.answer.Arrival.{Arrival}
+use Rattle.hub_core.specs.declared.replay_fault.ReplayFault.{ReplayFault}
+use Rattle.hub_core.specs.declared.replay_fault.ReplayFault.TheVariants.{NoMemory, Store, ReadFailed, WriteFailed}
 use Rattle.hub_core.specs.Faults.{CountsReplay}
 use Rattle.hub_core.specs.Lines.{lines, ended}
 use Rattle.hub_core.specs.LineText.{text, arrivals}

@@ -12,9 +12,9 @@ use Rattle.register_store.specs.declared.fault.ReadFault.TheVariants.{NotJson, M
 use Rattle.register_store.specs.declared.key.Key.TheVariants.{Station, N, Message, Ask}
 use Rattle.register_store.specs.Spelling.{key_name, is_thing}
 use Rattle.register_store.specs.Kinds.{◌spells◌, text_at, fault_at, takes_memory, of_json}
-use Rattle.hub_core.specs.declared.reader.Line.{Line}
-use Rattle.hub_core.specs.declared.reader.Request.{Request}
-use Rattle.hub_core.specs.declared.reader.Request.TheVariants as asks
+use Rattle.hub_core.specs.declared.line.request.Line.{Line}
+use Rattle.hub_core.specs.declared.line.request.Request.{Request}
+use Rattle.hub_core.specs.declared.line.request.Request.TheVariants as asks
 
 -- an answer, where there is no fault before it
 abbrev pub unless : {T : Type 0} → Option ReadFault → Result T ReadFault → Result T ReadFault

@@ -2,8 +2,8 @@
 use Rattle.std.specs.Prelude.{ℕ, ◌≡◌, ◌++◌, false, List, Result, OnOk, OnErr}
 use Rattle.posting_core.specs.declared.entry.Entry.{Entry}
 use Rattle.register_store.specs.Holdings.{Holding}
-use Rattle.hub_core.specs.declared.answer.Arrival.{Arrival}
-use Rattle.hub_core.specs.declared.answer.HubFault.{HubFault}
+use Rattle.hub_core.specs.declared.hub.answer.Arrival.{Arrival}
+use Rattle.hub_core.specs.declared.hub.answer.HubFault.{HubFault}
 use Rattle.hub_core.specs.Faults.{CountsStore}
 use Rattle.hub_core.specs.StandsFor.{State, StandsFor, TakesSome}
 

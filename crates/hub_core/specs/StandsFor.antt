@@ -11,7 +11,7 @@ use Rattle.station_core.specs.Runs.{Arrived, ready, due}
 use Rattle.station_core.specs.Progress.{AllMatch}
 use Rattle.register_store.specs.StoredRows.{IsStoreOf}
 use Rattle.register_store.specs.Holdings.{Holding, Has}
-use Rattle.hub_core.specs.declared.answer.Arrival.{Arrival}
+use Rattle.hub_core.specs.declared.hub.answer.Arrival.{Arrival}
 use Rattle.hub_core.specs.Points.{point, post, due_with}
 
 -- what a hub is: its stations' series, its ledger's book, its register, and whether it is down

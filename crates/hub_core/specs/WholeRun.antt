@@ -9,11 +9,11 @@ use Rattle.nest_core.specs.declared.setup_fault.SetupFault.{SetupFault}
 use Rattle.nest_core.specs.declared.setup_fault.SetupFault.TheVariants as setup
 use Rattle.register_store.specs.declared.plain.TheConstants.{NEW_DEPTH}
 use Rattle.register_store.specs.Plain.{Kept, in_memory}
-use Rattle.hub_core.specs.declared.replaying.ReplayFault.{ReplayFault}
-use Rattle.hub_core.specs.declared.replaying.ReplayFault.TheVariants as replay
-use Rattle.hub_core.specs.declared.running.TheConstants.{LONGEST_HEAD}
-use Rattle.hub_core.specs.declared.running.RunFault.{RunFault}
-use Rattle.hub_core.specs.declared.running.RunFault.TheVariants.{NoMemory, Store, ReadFailed, WriteFailed, Setup, HeadTooLong}
+use Rattle.hub_core.specs.declared.replay_fault.ReplayFault.{ReplayFault}
+use Rattle.hub_core.specs.declared.replay_fault.ReplayFault.TheVariants as replay
+use Rattle.hub_core.specs.declared.stream.head.TheConstants.{LONGEST_HEAD}
+use Rattle.hub_core.specs.declared.run_fault.RunFault.{RunFault}
+use Rattle.hub_core.specs.declared.run_fault.RunFault.TheVariants.{NoMemory, Store, ReadFailed, WriteFailed, Setup, HeadTooLong}
 use Rattle.hub_core.specs.Reading.{HasNoFeed}
 use Rattle.hub_core.specs.Lines.{pieces, ended, is_blank, head, after_head}
 use Rattle.hub_core.specs.LineText.{text}

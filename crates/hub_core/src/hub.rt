@@ -1,7 +1,7 @@
 //! The hub.
 ghost use Rattle.std.specs.Prelude.{◌≡◌, ◌≢◌, ◌↔◌, List, [], ◌∷◌, ◌++◌, ℕ, reverse, true, false, IfOk, OnOk, OnErr, IsErrOf, IfErr};
 ghost use Rattle.posting_core.specs.declared.entry.Entry.{Entry};
-ghost use Rattle.hub_core.specs.declared.answer.Arrival.{Arrival};
+ghost use Rattle.hub_core.specs.declared.hub.answer.Arrival.{Arrival};
 ghost use Rattle.posting_core.specs.Messages.{is_sign_off};
 ghost use Rattle.posting_core.specs.Lawful.{IsLawful};
 ghost use Rattle.station_core.specs.Runs.{run};
@@ -11,8 +11,13 @@ ghost use Rattle.hub_core.specs.Openings.{CountsFault, Opened, IsNotOpened, Open
 ghost use Rattle.hub_core.specs.Faults.{CountsStore};
 ghost use Rattle.hub_core.specs.Points.{point, reply, due_with, whereabouts, cut, IsPlaced};
 
-use crate::opening::prepare;
-use crate::posting::post_due;
+pub(crate) mod answer;
+mod opening;
+mod posting;
+mod reposting;
+
+use crate::hub::opening::prepare;
+use crate::hub::posting::post_due;
 use crate::{Answer, Arrival, HubFault, Where};
 use codes_core::{NoMemory, ThingCode};
 use nest_core::Setup;

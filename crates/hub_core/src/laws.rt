@@ -16,8 +16,8 @@ ghost use Rattle.register_store.specs.declared.store_fault.StoreFault.{StoreFaul
 ghost use Rattle.register_store.specs.StoredRows.{Content, AreSame, IsStoreOf};
 ghost use Rattle.register_store.specs.Registers.{is_failure};
 ghost use Rattle.register_store.specs.Holdings.{Comes, IsPosted};
-ghost use Rattle.hub_core.specs.declared.answer.Arrival.{Arrival};
-ghost use Rattle.hub_core.specs.declared.answer.Answer.TheVariants.{Refused};
+ghost use Rattle.hub_core.specs.declared.hub.answer.Arrival.{Arrival};
+ghost use Rattle.hub_core.specs.declared.hub.answer.Answer.TheVariants.{Refused};
 ghost use Rattle.hub_core.specs.Points.{point, posted, entry_of, post, reply, whereabouts, cut};
 ghost use Rattle.hub_core.specs.Openings.{IsOpenFault, Opened};
 ghost use Rattle.hub_core.specs.StandsFor.{State, HasStore};

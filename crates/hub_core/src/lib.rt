@@ -1,24 +1,23 @@
 //! The hub: arrivals in, entries out.
 #![tactic(auto)]
 
-mod answer;
 mod hub;
-mod judging;
 pub mod laws;
-mod line_reader;
-mod line_reply;
-mod opening;
-mod posting;
-mod reader;
-mod replaying;
-mod replies;
-mod running;
+mod line;
+mod replay_fault;
+mod run_fault;
+mod stream;
 
-pub use answer::{Answer, Arrival, HubFault, Where};
+pub use hub::answer::{Answer, Arrival, HubFault, Where};
 pub use hub::{Hub, OpenFault};
-pub use line_reader::feed_at;
-pub use line_reply::{LONGEST_LINE, add_answer, add_asked, without_return};
-pub use reader::{Line, Request, read_line, read_line_with, read_request, read_request_with};
-pub use replaying::{ReplayFault, replay};
-pub use replies::{REPLY_ROOM, add_fault};
-pub use running::{LONGEST_HEAD, RunFault, run};
+pub use line::bytes::{feed_at, without_return};
+pub use line::reply::LONGEST_LINE;
+pub use line::request::{
+    Line, Request, read_line, read_line_with, read_request, read_request_with,
+};
+pub use line::wording::{REPLY_ROOM, add_answer, add_asked, add_fault};
+pub use replay_fault::ReplayFault;
+pub use run_fault::RunFault;
+pub use stream::head::LONGEST_HEAD;
+pub use stream::lines::replay;
+pub use stream::run::run;

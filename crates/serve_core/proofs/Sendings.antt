@@ -4,8 +4,8 @@ use Rattle.std.proofs.lemmas.List.Elements.{All-append, All-head, All-nil, All-t
 use Rattle.std.specs.Prelude.{All}
 use Rattle.std.specs.List.{AllZip}
 use Rattle.rtrb.specs.Ring.{SameConsumer}
-use Rattle.hub_core.specs.declared.answer.HubFault.{HubFault}
-use Rattle.hub_core.specs.declared.answer.HubFault.TheVariants as hub
+use Rattle.hub_core.specs.declared.hub.answer.HubFault.{HubFault}
+use Rattle.hub_core.specs.declared.hub.answer.HubFault.TheVariants as hub
 use Rattle.serve_core.specs.declared.item.Item.{Item}
 use Rattle.serve_core.specs.declared.item.LogLine.{LogLine}
 use Rattle.serve_core.specs.declared.lane.Lane.{Lane}

@@ -5,12 +5,12 @@ use Rattle.std.proofs.lemmas.List.Elements.{All-nil, All-cons, All-head}
 use Rattle.posting_core.proofs.WorkedRows.{museum, pack, gal, s1, s2, moved}
 use Rattle.station_core.specs.Series.{window}
 use Rattle.register_store.specs.declared.fault.ReadFault.TheVariants.{NotJson}
-use Rattle.hub_core.specs.declared.answer.Arrival.{Arrival}
-use Rattle.hub_core.specs.declared.answer.Answer.TheVariants.{Posted}
-use Rattle.hub_core.specs.declared.answer.Where.TheVariants.{Unplaced, At}
-use Rattle.hub_core.specs.declared.answer.HubFault.TheVariants as hub
-use Rattle.hub_core.specs.declared.line_reply.TheConstants.{LONGEST_LINE}
-use Rattle.hub_core.specs.declared.reader.Request.TheVariants as asks
+use Rattle.hub_core.specs.declared.hub.answer.Arrival.{Arrival}
+use Rattle.hub_core.specs.declared.hub.answer.Answer.TheVariants.{Posted}
+use Rattle.hub_core.specs.declared.hub.answer.Where.TheVariants.{Unplaced, At}
+use Rattle.hub_core.specs.declared.hub.answer.HubFault.TheVariants as hub
+use Rattle.hub_core.specs.declared.line.reply.TheConstants.{LONGEST_LINE}
+use Rattle.hub_core.specs.declared.line.request.Request.TheVariants as asks
 use Rattle.hub_core.specs.Requests.{request_in}
 use Rattle.serve_core.specs.declared.item.Item.{Item}
 use Rattle.serve_core.specs.declared.item.Item.TheVariants.{Scan, Ask, Bad}

@@ -1,8 +1,8 @@
 -- The items of a feed text.
 use Rattle.std.specs.Prelude.{ℕ, ◌+◌, ◌≤◌, List, [], ◌∷◌, ◌++◌, length, drop, Result, Ok, Err, if◌then◌else◌}
 use Rattle.register_store.specs.declared.fault.ReadFault.{ReadFault}
-use Rattle.hub_core.specs.declared.reader.Request.{Request}
-use Rattle.hub_core.specs.declared.reader.Request.TheVariants as asks
+use Rattle.hub_core.specs.declared.line.request.Request.{Request}
+use Rattle.hub_core.specs.declared.line.request.Request.TheVariants as asks
 use Rattle.hub_core.specs.Lines.{is_empty, lines}
 use Rattle.hub_core.specs.LineText.{is_too_long}
 use Rattle.hub_core.specs.Requests.{request_in}

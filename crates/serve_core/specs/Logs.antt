@@ -1,6 +1,6 @@
 -- The log: the items that were taken, each with its reply.
 use Rattle.std.specs.Prelude.{◌≡◌, ℕ, ◌+◌, ◌<◌, ◌≤◌, ◌==◌, false, List, [], ◌∷◌, ◌++◌, filter, map, flat_map, All}
-use Rattle.hub_core.specs.declared.answer.Arrival.{Arrival}
+use Rattle.hub_core.specs.declared.hub.answer.Arrival.{Arrival}
 use Rattle.nest_core.specs.Museum.{Museum}
 use Rattle.posting_core.specs.declared.entry.Entry.{Entry}
 use Rattle.hub_core.specs.Points.{posted, reply, whereabouts, IsPlaced}

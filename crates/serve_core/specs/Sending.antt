@@ -1,8 +1,8 @@
 -- What the threads hand back, and what a serving tells of its log.
 use Rattle.std.specs.Prelude.{ℕ, ◌≡◌, ◌<◌, ◌≤◌, ◌+◌, ◌-◌, ◌^◌, min, true, Option, Some, None, List, [], ◌++◌, length, slice_get, unwrap_or}
 use Rattle.rtrb.specs.Ring.{IsPair}
-use Rattle.hub_core.specs.declared.answer.HubFault.{HubFault}
-use Rattle.hub_core.specs.declared.answer.HubFault.TheVariants as hub
+use Rattle.hub_core.specs.declared.hub.answer.HubFault.{HubFault}
+use Rattle.hub_core.specs.declared.hub.answer.HubFault.TheVariants as hub
 use Rattle.serve_core.specs.declared.item.Item.{Item}
 use Rattle.serve_core.specs.declared.item.LogLine.{LogLine}
 use Rattle.serve_core.specs.declared.lane.Lane.{Lane}

@@ -1,6 +1,6 @@
 //! The hub asked about one item.
 ghost use Rattle.std.specs.Prelude.{◌≡◌, ◌++◌, ◌∷◌, [], List, true, false, IfOk, IsErrOf, OnOk, OnErr};
-ghost use Rattle.hub_core.specs.declared.answer.Arrival.{Arrival};
+ghost use Rattle.hub_core.specs.declared.hub.answer.Arrival.{Arrival};
 ghost use Rattle.posting_core.specs.declared.entry.Entry.{Entry};
 ghost use Rattle.hub_core.specs.Faults.{CountsStore};
 ghost use Rattle.hub_core.specs.StandsFor.{StandsFor};

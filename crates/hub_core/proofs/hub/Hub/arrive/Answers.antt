@@ -4,8 +4,8 @@ use Rattle.posting_core.specs.declared.message.Message.{Message}
 use Rattle.posting_core.specs.Messages.{is_sign_off}
 use Rattle.station_core.specs.Series.{series_at, Series, with_held}
 use Rattle.station_core.proofs.StationLemmas.{accepted_within}
-use Rattle.hub_core.specs.declared.answer.Arrival.{Arrival}
-use Rattle.hub_core.specs.declared.answer.Answer.TheVariants.{Refused, Held, Posted}
+use Rattle.hub_core.specs.declared.hub.answer.Arrival.{Arrival}
+use Rattle.hub_core.specs.declared.hub.answer.Answer.TheVariants.{Refused, Held, Posted}
 use Rattle.hub_core.specs.Points.{reply, due_with}
 use Rattle.hub_core.specs.StandsFor.{State, StandsFor, Stopped}
 use Rattle.hub_core.proofs.PostLemmas.{written, step_held, taken_unsigned}

@@ -1,7 +1,0 @@
-use Rattle.hub_core.proofs.line_reply.station_reply.Goals as goal
-
-pub returns-in-Scan-clause-served : goal.returns-in-Scan-clause-served
-returns-in-Scan-clause-served g c = rw c.in-Scan.is c.scan_reply.ensures.served
-
-pub returns-in-Scan-clause-fails : goal.returns-in-Scan-clause-fails
-returns-in-Scan-clause-fails g c = rw c.in-Scan.is c.scan_reply.ensures.fails

@@ -1,0 +1,90 @@
+//! The opening of a hub over what a register has.
+ghost use Rattle.std.specs.Prelude.{◌≡◌, [], true, length, OnOk, IfOk, IfErr};
+ghost use Rattle.register_store.specs.StoredRows.{AreSame, HasRows, IsBoundTo};
+ghost use Rattle.register_store.specs.Registers.{CountsRefusal};
+ghost use Rattle.register_store.specs.Holdings.{Comes, Each, Has, IsBound};
+ghost use Rattle.hub_core.specs.Openings.{IsNotOpened, IsPrepared, IsRestored, IsRestoreFault, IsRowsFault};
+
+use crate::hub::reposting::judged;
+use nest_core::Setup;
+use posting_core::{Ledger, Message};
+use register_store::{Register, StoreFault};
+use station_core::Sequences;
+use std::alloc::Global;
+
+/// The stations and the ledger of a hub over what the register has.
+pub(crate) fn prepare<R: Register>(
+    alloc: Global,
+    setup: Setup,
+    register: &mut R,
+) -> Result<(Sequences<Message>, Ledger), StoreFault>
+    ensures prepared { IfOk result (λ p. IsPrepared (R.holding register.old) (R.holding register.new) setup p.0 p.1) }
+    ensures refused { IfErr result (λ fault. Comes (R.holding register.old) (R.holding register.new) (IsNotOpened setup fault)) }
+    ensures bound { OnOk result (R.is_bound register.new ≡ true) }
+    ensures count { CountsRefusal (R.refusals register.old) (R.refusals register.new) result }
+{
+    let mut ledger = bound(alloc, setup, register)?;
+    match restore(alloc, &mut ledger, register) {
+        Ok(sequences) => Ok((sequences, ledger)),
+        Err(fault) => {
+            drop(ledger);
+            Err(fault)
+        }
+    }
+}
+
+/// Binds the register to the setup, and makes a ledger of it with the register's depth limit and nothing posted.
+fn bound<R: Register>(alloc: Global, setup: Setup, register: &mut R) -> Result<Ledger, StoreFault>
+    ensures new { IfOk result (λ ledger. (ledger.museum ≡ setup) × (ledger.posted ≡ [])) }
+    ensures bound { IfOk result (λ ledger. Has (R.holding register.new) (IsBoundTo setup ledger.depth)) }
+    ensures kept { OnOk result (Comes (R.holding register.old) (R.holding register.new) (IsBound setup)) }
+    ensures ready { OnOk result ((R.is_bound register.new ≡ true) × (R.stations register.new ≡ length setup.stations)) }
+    ensures refused { IfErr result (λ fault. Comes (R.holding register.old) (R.holding register.new) (IsNotOpened setup fault)) }
+    ensures count { CountsRefusal (R.refusals register.old) (R.refusals register.new) result }
+{
+    match register.bind(alloc, &setup) {
+        Ok(depth) => Ok(Ledger::new(alloc, setup, depth)?),
+        Err(fault) => {
+            drop(setup);
+            Err(fault)
+        }
+    }
+}
+
+/// Posts again in a new ledger what the register has, compares its rows with the ledger's, and answers the stations as
+/// they go on.
+fn restore<R: Register>(
+    alloc: Global,
+    ledger: &mut Ledger,
+    register: &mut R,
+) -> Result<Sequences<Message>, StoreFault>
+    requires new { ledger.old.posted ≡ [] }
+    requires ready { (R.is_bound register.old ≡ true) × (R.stations register.old ≡ length ledger.old.museum.stations) }
+    requires bound { Has (R.holding register.old) (IsBoundTo ledger.old.museum ledger.old.depth) }
+    ensures restored { IfOk result (λ sequences. IsRestored (R.holding register.new) ledger.old sequences ledger.new) }
+    ensures fault { IfErr result (λ fault. Each (R.holding register.new) (λ c. IsRestoreFault ledger.old.museum c fault)) }
+    ensures unchanged { Comes (R.holding register.old) (R.holding register.new) AreSame }
+    ensures bound { R.is_bound register.new ≡ true }
+    ensures count { CountsRefusal (R.refusals register.old) (R.refusals register.new) result }
+{
+    let entries = register.all(alloc)?;
+    let starts = judged(alloc, ledger, entries)?;
+    compare(alloc, ledger, register)?;
+    Ok(Sequences::new(alloc, &starts)?)
+}
+
+/// Compares the register's rows with those of the ledger.
+fn compare<R: Register>(alloc: Global, ledger: &Ledger, register: &mut R) -> Result<(), StoreFault>
+    requires { R.is_bound register.old ≡ true }
+    ensures rows { OnOk result (Each (R.holding register.new) (HasRows ledger.now.museum ledger.now.posted)) }
+    ensures fault { IfErr result (λ fault. Each (R.holding register.new) (λ c. IsRowsFault ledger.now.museum ledger.now.posted c fault)) }
+    ensures unchanged { Comes (R.holding register.old) (R.holding register.new) AreSame }
+    ensures bound { R.is_bound register.new ≡ true }
+    ensures count { CountsRefusal (R.refusals register.old) (R.refusals register.new) result }
+{
+    if register.agrees(alloc, ledger)? {
+        Ok(())
+    } else {
+        Err(StoreFault::Damaged(0))
+    }
+}

@@ -1,0 +1,108 @@
+//! Lines answered one after the other: lines in, replies out.
+ghost use Rattle.std.specs.Prelude.{◌≡◌, ◌<◌, ◌++◌, false, true, List, ℕ, take, OnOk, OnErr, IfErr, IfSome};
+ghost use Rattle.std.specs.Io.KnownBytes.{Appends, IsAtEnd};
+ghost use Rattle.posting_core.specs.declared.entry.Entry.{Entry};
+ghost use Rattle.hub_core.specs.declared.hub.answer.Arrival.{Arrival};
+ghost use Rattle.hub_core.specs.LineText.{text, arrivals};
+ghost use Rattle.hub_core.specs.StandsFor.{StandsFor};
+ghost use Rattle.hub_core.specs.Replayed.{Answered, EndsReplay};
+
+use crate::line::bytes::{Reads, flush, next_line, without_return};
+use crate::line::reply::reply_to;
+use crate::line::wording::REPLY_ROOM;
+use crate::{Hub, ReplayFault};
+use borrowed_json::Scratch;
+use register_store::Register;
+use std::alloc::Global;
+use std::io::{BufRead, ErrorKind, Write};
+
+/// Answers the lines of the input, one after the other, over the hub, and writes the replies to the output. Lines are
+/// numbered from 1; one of more than LONGEST_LINE bytes is `bad TooLong`. The output is flushed before each read that may
+/// wait, and at the end. A read is one call of `fill_buf`; there are at most 4,294,967,295.
+///
+/// After ReadFailed the lines that have ended are answered. After WriteFailed the lines that were read are taken, and a
+/// front of their replies is written. After NoMemory or Store all lines before the one that met it are answered; the hub
+/// has taken that line's arrival or not, or it is down, and its store has what is posted, or that with the next message.
+pub fn replay<R: BufRead, W: Write, S: Register>(
+    alloc: Global,
+    input: &mut R,
+    output: &mut W,
+    hub: &mut Hub<S>,
+) -> Result<(), ReplayFault>
+    requires { hub.old.down ≡ false }
+    // For every list of arrivals that the hub stands for: all bytes are read, what is written is their text, and the
+    // hub stands for the list with their arrivals.
+    ensures bytes_to_bytes { OnOk result ((O : List Entry) (A : List Arrival) → StandsFor S.holding hub.old O A → IfSome (R.remaining input.old) (λ bytes.
+        IsAtEnd (R.remaining input.new)
+        × Appends (W.contents output.old) (W.contents output.new) (text hub.old.book.museum hub.old.book.depth O A bytes)
+        × StandsFor S.holding hub.new O (A ++ arrivals hub.old.book.museum bytes))) }
+    // Whether or not the reader's bytes are known, those that were read are answered, and the reader is at its end.
+    ensures answered { OnOk result ((O : List Entry) (A : List Arrival) → StandsFor S.holding hub.old O A →
+        Answered hub.old.book.museum hub.old.book.depth O A (R.remaining input.old) (R.remaining input.new) (W.contents output.old) (W.contents output.new) S.holding hub.new true) }
+    ensures ends { EndsReplay S.holding S.refusals (R.remaining input.old) (R.remaining input.new) (W.contents output.old) (W.contents output.new) hub.old hub.new result }
+{
+    replay_from(alloc, input, output, hub, &mut Reads::new())
+}
+
+/// The same, with the reads that are left; it takes one at least. All replies are written over one text, which has
+/// REPLY_ROOM from the start: where that growth is refused, no line is read.
+pub(crate) fn replay_from<R: BufRead, W: Write, S: Register>(
+    alloc: Global,
+    input: &mut R,
+    output: &mut W,
+    hub: &mut Hub<S>,
+    reads: &mut Reads,
+) -> Result<(), ReplayFault>
+    requires { hub.old.down ≡ false }
+    ensures answered { OnOk result ((O : List Entry) (A : List Arrival) → StandsFor S.holding hub.old O A →
+        Answered hub.old.book.museum hub.old.book.depth O A (R.remaining input.old) (R.remaining input.new) (W.contents output.old) (W.contents output.new) S.holding hub.new true) }
+    ensures ends { EndsReplay S.holding S.refusals (R.remaining input.old) (R.remaining input.new) (W.contents output.old) (W.contents output.new) hub.old hub.new result }
+    ensures reads { OnOk result (reads.new.left < reads.old.left) }
+{
+    let mut line = Vec::new(alloc);
+    let Ok(mut text) = String::with_capacity(alloc, REPLY_ROOM) else {
+        return Err(ReplayFault::NoMemory);
+    };
+    let mut scratch = Scratch::new(alloc);
+    for number in 1..u64::MAX {
+        let fed = next_line(input, output, reads, &mut line)?;
+        reply_to(
+            alloc,
+            &mut scratch,
+            number,
+            without_return(line.as_slice()),
+            hub,
+            &mut text,
+        )?;
+        write_text(output, text.as_bytes())?;
+        if !fed {
+            return flush(output);
+        }
+    }
+    Err(ReplayFault::ReadFailed)
+}
+
+/// Writes these bytes, in at most 4,294,967,295 writes. A write that takes no byte has failed. `Write::write_all` does the
+/// same, but doesn't promise that what it wrote before it failed is a front of them.
+fn write_text<W: Write>(output: &mut W, text: &[u8]) -> Result<(), ReplayFault>
+    ensures ok { OnOk result (Appends (W.contents output.old) (W.contents output.new) text.now) }
+    ensures fault { OnErr result ((k : ℕ) × Appends (W.contents output.old) (W.contents output.new) (take k text.now)) }
+    ensures cause { IfErr result (λ fault. fault ≡ ReplayFault.WriteFailed) }
+{
+    let mut done = 0;
+    for _ in 0..u32::MAX {
+        if done >= text.len() {
+            return Ok(());
+        }
+        match output.write(&text[done..]) {
+            Ok(0) => return Err(ReplayFault::WriteFailed),
+            Ok(count) => done += count,
+            Err(error) => {
+                if error.kind() != ErrorKind::Interrupted {
+                    return Err(ReplayFault::WriteFailed);
+                }
+            }
+        }
+    }
+    Err(ReplayFault::WriteFailed)
+}

@@ -1,0 +1,81 @@
+//! A run: a setup and lines in, replies out.
+ghost use Rattle.std.specs.Prelude.{◌≡◌, ◌≢◌, ◌≤◌, ◌<◌, ◌+◌, false, OnOk, IfOk, IfErr, IfSome};
+ghost use Rattle.std.specs.Io.KnownBytes.{Appends, IsAtEnd};
+ghost use Rattle.hub_core.specs.Lines.{head};
+ghost use Rattle.hub_core.specs.WholeRun.{head_fault, run_text, AfterRun, OpensHub, IsFresh, BeforeLines};
+
+use crate::line::bytes::Reads;
+use crate::stream::head::read_head;
+use crate::stream::lines::replay_from;
+use crate::{Hub, RunFault};
+use nest_core::Setup;
+use register_store::{PlainRegister, StoreFault};
+use std::alloc::Global;
+use std::io::{BufRead, Write};
+
+/// Reads the setup, which is the bytes before the first empty line, or all of them, and replays the rest over a new hub in
+/// memory. The faults of the head: ReadFailed; HeadTooLong, found as soon as it holds; the setup's first. Nothing is
+/// written then. In the lines each fault leaves what it leaves of a replay. NoMemory can stand in place of any answer, and
+/// Store never comes. The reads of the head and of the lines are counted together.
+pub fn run<R: BufRead, W: Write>(
+    alloc: Global,
+    input: &mut R,
+    output: &mut W,
+) -> Result<(), RunFault>
+    // All bytes are read, their head has no fault, and what is written is their text.
+    ensures bytes_to_bytes { OnOk result (IfSome (R.remaining input.old) (λ bytes. (head_fault (head bytes) ≡ None)
+        × IsAtEnd (R.remaining input.new) × Appends (W.contents output.old) (W.contents output.new) (run_text bytes))) }
+    ensures faults { IfErr result (AfterRun (R.remaining input.old) (R.remaining input.new) (W.contents output.old) (W.contents output.new)) }
+    // Its register is in memory.
+    ensures never_store { IfErr result (λ fault. fault ≢ RunFault.Store) }
+{
+    run_counted(alloc, input, output, &mut Reads::new())
+}
+
+/// The same, with the reads that are left: the head takes one at least, and so do the lines.
+fn run_counted<R: BufRead, W: Write>(
+    alloc: Global,
+    input: &mut R,
+    output: &mut W,
+    reads: &mut Reads,
+) -> Result<(), RunFault>
+    ensures bytes_to_bytes { OnOk result (IfSome (R.remaining input.old) (λ bytes. (head_fault (head bytes) ≡ None)
+        × IsAtEnd (R.remaining input.new) × Appends (W.contents output.old) (W.contents output.new) (run_text bytes))) }
+    ensures faults { IfErr result (AfterRun (R.remaining input.old) (R.remaining input.new) (W.contents output.old) (W.contents output.new)) }
+    ensures never_store { IfErr result (λ fault. fault ≢ RunFault.Store) }
+    ensures reads { OnOk result (reads.new.left + 2 ≤ reads.old.left) }
+{
+    let mut hub = opened(alloc, input, reads)?;
+    replay_from(alloc, input, output, &mut hub, reads)?;
+    Ok(())
+}
+
+/// Reads the head, and opens a hub with its setup and nothing posted.
+fn opened<R: BufRead>(
+    alloc: Global,
+    input: &mut R,
+    reads: &mut Reads,
+) -> Result<Hub<PlainRegister>, RunFault>
+    ensures hub { IfOk result (OpensHub (R.remaining input.old) (R.remaining input.new)) }
+    ensures up { IfOk result (λ hub. hub.down ≡ false) }
+    ensures fault { IfErr result (BeforeLines (R.remaining input.old) (R.remaining input.new)) }
+    ensures reads { OnOk result (reads.new.left < reads.old.left) }
+{
+    let head = read_head(alloc, input, reads)?;
+    let setup = Setup::read(alloc, head.as_slice())?;
+    match new_hub(alloc, setup) {
+        Ok(hub) => Ok(hub),
+        Err(_) => Err(RunFault::NoMemory),
+    }
+}
+
+/// A hub with this setup and nothing posted. Nothing but memory can lack for it.
+fn new_hub(alloc: Global, setup: Setup) -> Result<Hub<PlainRegister>, StoreFault>
+    ensures fresh { IfOk result (λ hub. IsFresh hub setup) }
+    ensures fault { IfErr result (λ fault. fault ≡ StoreFault.NoMemory) }
+{
+    match Hub::open(alloc, setup, PlainRegister::new(alloc)) {
+        Ok(hub) => Ok(hub),
+        Err(failed) => Err(failed.fault),
+    }
+}
