@@ -8,7 +8,7 @@ use Rattle.std.proofs.lemmas.Option.{get_or_from_slice_get}
 use Rattle.std.proofs.lemmas.List.{take_more, length-map}
 use Rattle.std.proofs.lemmas.List.Quantifiers.{position-Some}
 use Rattle.std.proofs.lemmas.List.FromFn.{get_or-map-range_with_len, length-map-range_with_len}
-use Rattle.nest_core.specs.Museum.{Museum, find_place, find_thing, thing_codes}
+use Rattle.nest_core.specs.Museum.{Museum, find_place, find_thing, place_codes, thing_codes}
 use Rattle.posting_core.specs.Book.{Book, place_in}
 use Rattle.count_core.specs.declared.count_row.CountRow.{CountRow}
 use Rattle.count_core.specs.declared.looking.Looked.{Looked}
@@ -72,6 +72,19 @@ some_at [] i lt = absurd (omega arith)
 some_at (x ∷ xs) zero lt = (x, refl)
 some_at (x ∷ xs) (suc i) lt = some_at xs i (omega arith)
 
+pub place_below : (S : Museum) (code : List ℕ) (q : ℕ) → find_place S code ≡ Some q → q < length S.places
+place_below S code q found = omega (arith, (position-Some (bytes_eq code) (place_codes S) q [] found).0, length-map S.places (λ (row : List ℕ × Bool). row.0))
+
+-- row i, and the number that was found of its place
+pub found_at : (B : Book) (rows : List CountRow) (looked : List Looked) (i : ℕ) (first : Looked) → i < length rows → looked ≡ map (look_at B rows) (range_with_len 0 (length rows)) → slice_get looked i ≡ Some first
+    → (r : CountRow) × (take (i + 1) rows ≡ take i rows ++ r ∷ []) × (find_place B.museum r.place ≡ first.place)
+found_at B rows looked i first lt all there =
+    let at = some_at rows i lt in
+    let r = at.0 in
+    let more : take (i + 1) rows ≡ take i rows ++ r ∷ [] = take_more rows i r lt ∙ ap (λ (q : CountRow). take i rows ++ q ∷ []) (get_or_from_slice_get rows i r r at.1) in
+    let is : first ≡ looked_of B r = first_is B rows looked i first all lt there ∙ ap (λ (o : Option CountRow). option_map_or (looked_of B) o (record { answer = UnknownPlace; thing = None; place = None })) at.1 in
+    (r, more, ap (λ (l : Looked). l.place) (sym is))
+
 -- row i and its answer
 pub said_at : (B : Book) (rows : List CountRow) (looked : List Looked) (i : ℕ) (flags : List Bool) (first : Looked) → AreNames (named B.museum) (length B.museum.things) (take i rows) flags
     → i < length rows → looked ≡ map (look_at B rows) (range_with_len 0 (length rows)) → slice_get looked i ≡ Some first
@@ -80,7 +93,7 @@ said_at B rows looked i flags first are lt all there =
     let at = some_at rows i lt in
     let r = at.0 in
     let more : take (i + 1) rows ≡ take i rows ++ r ∷ [] = take_more rows i r lt ∙ ap (λ (q : CountRow). take i rows ++ q ∷ []) (get_or_from_slice_get rows i r r at.1) in
-    let is : first ≡ looked_of B r = first_is B rows looked i first all lt there ∙ ap (λ (o : Option CountRow). option_map_or (looked_of B) o (record { answer = UnknownPlace; thing = None })) at.1 in (
+    let is : first ≡ looked_of B r = first_is B rows looked i first all lt there ∙ ap (λ (o : Option CountRow). option_map_or (looked_of B) o (record { answer = UnknownPlace; thing = None; place = None })) at.1 in (
       ap (λ (l : Looked). mark (flagged flags l.thing) l.answer) is
           ∙ (said B (take i rows) r flags are ∙ sym (ap (λ (o : Option CountRow). option_map_or (answer B (take i rows)) o UnknownPlace) at.1)),
       subst (λ (l : Looked). AreNames (named B.museum) (length B.museum.things) (take (i + 1) rows) (with_flag flags l.thing)) (sym is)

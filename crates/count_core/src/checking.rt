@@ -57,8 +57,8 @@ pub fn check_by<P: Probe + Sync>(
 {
     ledger.is_lawful();
     let looked = looked(rt, alloc, ledger, rows, probe)?;
-    let marked = marked(alloc, ledger, rows, looked.as_slice())?;
-    let missing = missing(alloc, ledger, rows, marked.named.as_slice())?;
+    let marked = marked(alloc, ledger, rows, &looked)?;
+    let missing = missing(alloc, ledger, rows, &looked, &marked.named)?;
     Ok(CountReport {
         answers: marked.answers,
         missing,

@@ -1,55 +1,70 @@
 //! A row looked up by itself, and whether a thing is in a place.
-ghost use Rattle.std.specs.Prelude.{◌≡◌, ◌<◌, length, Some};
-ghost use Rattle.count_core.specs.Counts.{look, look_object, found_from, named};
+ghost use Rattle.std.specs.Prelude.{◌≡◌, ◌<◌, IfSome, length, slice_get, Some};
+ghost use Rattle.nest_core.specs.Museum.{find_place};
+ghost use Rattle.count_core.specs.Counts.{answer_for, found_from, look, looked_of, named};
 ghost use Rattle.count_core.specs.Reports.{is_in};
 
 use crate::{CountAnswer, CountRow};
-use codes_core::{PlaceCode, ThingCode};
+use codes_core::PlaceCode;
 use nest_core::{PlaceNo, ThingNo};
 use posting_core::Ledger;
 
-/// What is said to a row where no row before it names its thing, and the number of that thing.
+/// What is said to a row where no row before it names its thing, and the numbers of that thing and of its place.
 #[derive(Clone, Copy, Debug, PartialEq)]
 pub(crate) struct Looked {
     pub answer: CountAnswer,
     pub thing: Option<ThingNo>,
+    pub place: Option<PlaceNo>,
 }
 
 /// The row looked up by itself.
 pub(crate) fn look(ledger: &Ledger, row: &CountRow) -> Looked
-    ensures answer { result.answer ≡ look ledger.now row.now }
-    ensures thing { result.thing ≡ named ledger.now.museum row.now }
+    ensures { result ≡ looked_of ledger.now row.now }
 {
+    let place = ledger.setup().place(&row.place);
+    let thing = named(ledger, row);
     Looked {
-        answer: answer_of(ledger, row),
-        thing: named(ledger, row),
+        answer: answer_of(ledger, row, place, thing),
+        thing,
+        place,
     }
 }
 
 /// The number of the thing that the row names.
 fn named(ledger: &Ledger, row: &CountRow) -> Option<ThingNo>
-    ensures { result ≡ named ledger.now.museum row.now }
+    ensures named { result ≡ named ledger.now.museum row.now }
+    ensures within { IfSome result (λ x. x < length ledger.now.museum.things) }
 {
     ledger.setup().thing(&row.object?)
 }
 
-fn answer_of(ledger: &Ledger, row: &CountRow) -> CountAnswer
+/// What is said to a row of these numbers.
+fn answer_of(
+    ledger: &Ledger,
+    row: &CountRow,
+    place: Option<PlaceNo>,
+    thing: Option<ThingNo>,
+) -> CountAnswer
+    requires place { place ≡ find_place ledger.now.museum row.now.place }
+    requires thing { thing ≡ named ledger.now.museum row.now }
+    requires within { IfSome thing (λ x. x < length ledger.now.museum.things) }
     ensures { result ≡ look ledger.now row.now }
 {
-    if ledger.setup().place(&row.place).is_none() {
+    if place.is_none() {
         return CountAnswer::UnknownPlace;
     }
     match row.object {
         None => CountAnswer::Counted,
-        Some(code) => object_answer(ledger, &row.place, &code),
+        Some(_) => object_answer(ledger, &row.place, thing),
     }
 }
 
-/// What is said to a known place and an object that it is to hold.
-fn object_answer(ledger: &Ledger, sought: &PlaceCode, code: &ThingCode) -> CountAnswer
-    ensures { result ≡ look_object ledger.now sought.now code.now }
+/// What is said to a known place and the object that it is to hold, none where the setup doesn't have it.
+fn object_answer(ledger: &Ledger, sought: &PlaceCode, thing: Option<ThingNo>) -> CountAnswer
+    requires { IfSome thing (λ x. x < length ledger.now.museum.things) }
+    ensures { result ≡ answer_for ledger.now sought.now thing }
 {
-    match ledger.setup().thing(code) {
+    match thing {
         None => CountAnswer::UnknownObject,
         Some(thing) => match ledger.place_of(thing) {
             None => CountAnswer::Unplaced,
@@ -77,4 +92,12 @@ pub(crate) fn is_in(ledger: &Ledger, thing: ThingNo, sought: &PlaceCode) -> bool
         None => false,
         Some(place) => ledger.setup().place_code(place).lies_in(sought),
     }
+}
+
+/// What was found of row i, from 0.
+pub(crate) fn looked_in(looked: &[Looked], i: usize) -> Looked
+    requires { i < length looked.now }
+    ensures { slice_get looked.now i ≡ Some result }
+{
+    looked[i]
 }

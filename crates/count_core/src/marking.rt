@@ -1,10 +1,10 @@
 //! Rows that were looked up, marked Again where an earlier one names the same thing.
-ghost use Rattle.std.specs.Prelude.{◌≡◌, ◌<◌, IfOk, length, map, slice_get, Some};
+ghost use Rattle.std.specs.Prelude.{◌≡◌, IfOk, length, map, Some};
 ghost use Rattle.std.specs.List.{range_with_len};
 ghost use Rattle.count_core.specs.Counts.{look_at, answers, named};
 ghost use Rattle.count_core.specs.Marks.{AreNames, flagged, with_flag, mark};
 
-use crate::looking::Looked;
+use crate::looking::{Looked, looked_in};
 use crate::{CountAnswer, CountRow};
 use codes_core::NoMemory;
 use posting_core::Ledger;
@@ -40,13 +40,6 @@ pub(crate) fn marked(
         answers: done,
         named: flags,
     })
-}
-
-fn looked_in(looked: &[Looked], i: usize) -> Looked
-    requires { i < length looked.now }
-    ensures { slice_get looked.now i ≡ Some result }
-{
-    looked[i]
 }
 
 /// What is said to the row, by the flags of the things that those before it name; from then on its thing is flagged.

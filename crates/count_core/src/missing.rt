@@ -1,13 +1,15 @@
 //! The objects that a count list misses.
 ghost use Rattle.std.specs.Prelude.{◌≡◌, ◌<◌, ◌++◌, All, IfOk, OnOk, length, map};
-ghost use Rattle.count_core.specs.Counts.{mentioned, missing, missing_at, named, IsMissingIn};
+ghost use Rattle.std.specs.List.{range_with_len};
+ghost use Rattle.count_core.specs.Counts.{look_at, mentioned, missing, missing_at, named, IsMissingIn};
 ghost use Rattle.count_core.specs.Marks.{AreNames};
 
+use crate::looking::{Looked, looked_in};
 use crate::marking::set_flag;
 use crate::unnamed::unnamed_in_each;
 use crate::{CountRow, MissingObject};
 use codes_core::NoMemory;
-use nest_core::{PlaceNo, Setup, ThingNo};
+use nest_core::{PlaceNo, ThingNo};
 use posting_core::Ledger;
 use std::alloc::Global;
 
@@ -17,14 +19,16 @@ pub(crate) fn missing(
     alloc: Global,
     ledger: &Ledger,
     rows: &[CountRow],
+    looked: &[Looked],
     flags: &[bool],
 ) -> Result<Vec<MissingObject>, NoMemory>
-    requires { AreNames (named ledger.now.museum) (length ledger.now.museum.things) rows.now flags.now }
+    requires looked { looked.now ≡ map (look_at ledger.now rows.now) (range_with_len 0 (length rows.now)) }
+    requires flags { AreNames (named ledger.now.museum) (length ledger.now.museum.things) rows.now flags.now }
     ensures missing { IfOk result (λ v. v.items ≡ missing ledger.now rows.now) }
     ensures within { IfOk result (λ v. All (IsMissingIn ledger.now.museum) v.items) }
 {
     let unnamed = unnamed_in_each(alloc, ledger, flags)?;
-    let places = mentioned(alloc, ledger.setup(), rows)?;
+    let places = mentioned(alloc, ledger, rows, looked)?;
     let mut missing = Vec::new(alloc);
     for i in 0..places.len() {
         let place = places[i];
@@ -33,15 +37,22 @@ pub(crate) fn missing(
     Ok(missing)
 }
 
-/// The known places of the rows, by first mention and once.
-fn mentioned(alloc: Global, setup: &Setup, rows: &[CountRow]) -> Result<Vec<PlaceNo>, NoMemory>
-    ensures places { IfOk result (λ v. v.items ≡ mentioned setup.now rows.now) }
-    ensures within { IfOk result (λ v. All (λ q. q < length setup.now.places) v.items) }
+/// The known places of the rows, which were looked up, by first mention and once.
+fn mentioned(
+    alloc: Global,
+    ledger: &Ledger,
+    rows: &[CountRow],
+    looked: &[Looked],
+) -> Result<Vec<PlaceNo>, NoMemory>
+    requires { looked.now ≡ map (look_at ledger.now rows.now) (range_with_len 0 (length rows.now)) }
+    ensures places { IfOk result (λ v. v.items ≡ mentioned ledger.now.museum rows.now) }
+    ensures within { IfOk result (λ v. All (λ q. q < length ledger.now.museum.places) v.items) }
 {
-    let mut flags = vec![in alloc; false; setup.places() as usize]?;
+    let mut flags = vec![in alloc; false; ledger.setup().places() as usize]?;
     let mut places = Vec::new(alloc);
     for i in 0..rows.len() {
-        if let Some(place) = setup.place(&rows[i].place) {
+        let first = looked_in(looked, i);
+        if let Some(place) = first.place {
             if !set_flag(&mut flags, place) {
                 places.push(place)?;
             }

@@ -14,8 +14,6 @@ mod report;
 mod reports;
 mod serving;
 mod sheet;
-#[cfg(test)]
-mod tests;
 mod work;
 
 use crate::command::command;

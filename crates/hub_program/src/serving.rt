@@ -9,7 +9,7 @@ use hub_core::Hub;
 use nest_core::Setup;
 use register_sql::SqlRegister;
 use register_store::{PlainRegister, Register, StoreFault};
-use serve_core::{Feed, ServeFailed, ServeFault, Served, TextFeed, serve};
+use serve_core::{ServeFailed, ServeFault, Served, TextFeed, serve};
 use std::alloc::Global;
 use std::io::Write;
 use std::sync::Wait;
@@ -128,16 +128,11 @@ fn over<T: Threads + Wait + Copy + Send + 'static, S: Register, W: Write>(
 }
 
 /// Serves with a hub, prints the log, and gives the hub's register back.
-pub fn served<
-    T: Threads + Wait + Copy + Send + 'static,
-    S: Register,
-    F: Feed + Drop + Send + 'static,
-    W: Write,
->(
+fn served<T: Threads + Wait + Copy + Send + 'static, S: Register, W: Write>(
     alloc: Global,
     threads: &T,
     hub: Hub<S>,
-    feeds: Vec<F>,
+    feeds: Vec<TextFeed>,
     output: &mut W,
 ) -> (S, Result<(), CommandFault>)
     requires feeds { vec_len feeds ≡ length hub.book.museum.stations }

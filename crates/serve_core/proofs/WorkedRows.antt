@@ -1,7 +1,8 @@
 -- The definitions computed on worked rows: the items of a feed text, and logs of two stations.
-use Rattle.std.specs.Prelude.{ℕ, ◌≡◌, ◌-◌, ◌^◌, ◌<◌, ◌≤◌, nat_lt, List, [], ◌∷◌, length, map, Ok, Err, if◌then◌else◌, refl, codes}
+use Rattle.std.specs.Prelude.{ℕ, ◌≡◌, ◌-◌, ◌^◌, ◌<◌, ◌≤◌, nat_lt, List, [], ◌∷◌, length, map, reverse, Ok, Err, if◌then◌else◌, refl, codes}
 use Rattle.std.proofs.Common.{arith, ap, suc, zero}
 use Rattle.std.proofs.lemmas.List.Elements.{All-nil, All-cons, All-head}
+use Rattle.posting_core.specs.declared.entry.Entry.{Entry}
 use Rattle.posting_core.proofs.WorkedRows.{museum, pack, gal, s1, s2, moved}
 use Rattle.station_core.specs.Series.{window}
 use Rattle.register_store.specs.declared.fault.ReadFault.TheVariants.{NotJson}
@@ -11,6 +12,7 @@ use Rattle.hub_core.specs.declared.hub.answer.Where.TheVariants.{Unplaced, At}
 use Rattle.hub_core.specs.declared.hub.answer.HubFault.TheVariants as hub
 use Rattle.hub_core.specs.declared.line.reply.TheConstants.{LONGEST_LINE}
 use Rattle.hub_core.specs.declared.line.request.Request.TheVariants as asks
+use Rattle.hub_core.specs.Points.{posted}
 use Rattle.hub_core.specs.Requests.{request_in}
 use Rattle.serve_core.specs.declared.item.Item.{Item}
 use Rattle.serve_core.specs.declared.item.Item.TheVariants.{Scan, Ask, Bad}
@@ -22,6 +24,7 @@ use Rattle.serve_core.specs.declared.serve_fault.ServeFault.TheVariants.{NoMemor
 use Rattle.serve_core.specs.Feeds.{asked_item, line_items, text_items}
 use Rattle.serve_core.specs.Lanes.{Begins}
 use Rattle.serve_core.specs.Logs.{sent_item, item_reply, log_arrivals, items_of, AreOfStations, Ascends, IsAnswered}
+use Rattle.serve_core.specs.Wording.{logged_text}
 use Rattle.serve_core.specs.Sending.{serve_fault, CountsServe, IsOneOf, items_at, IsMerge, AreFronts}
 
 -- ---- feed texts
@@ -153,6 +156,30 @@ turned_round h = let e : ask_1 ∷ move_1 ∷ [] ≡ move_1 ∷ ask_1 ∷ [] = h
 -- nor has a line of a station without a feed
 of_another : IsMerge feeds (line 2 ask_1 (Found Unplaced) ∷ both) → ⊥
 of_another h = let known : 2 < 2 = All-head (λ (l : LogLine). l.station < 2) (line 2 ask_1 (Found Unplaced)) both h.stations in omega arith
+
+-- ---- what is printed of it
+
+-- what both moves posted, oldest first
+abbrev posted_both : List Entry
+posted_both = reverse (posted museum 12 [] (log_arrivals both))
+
+abbrev printed_of : LogLine → List ℕ
+printed_of l = logged_text museum posted_both l
+
+-- each message with its own entry alone
+printed-pack : printed_of pack_moved ≡ codes "PACK 1 posted 1 Applied\n"
+unfolding window
+printed-pack = refl
+
+printed-gal : printed_of gal_moved ≡ codes "GAL 1 posted 2 Applied\n"
+unfolding window
+printed-gal = refl
+
+printed-asked : printed_of gal_asked ≡ codes "GAL ask 2001.4.2 at S2\n"
+printed-asked = refl
+
+printed-faulty : map (λ fault. printed_of (line gal (Bad 3 fault) Unread)) (TooLong ∷ Read NotJson ∷ []) ≡ codes "GAL line 3 bad TooLong\n" ∷ codes "GAL line 3 bad NotJson\n" ∷ []
+printed-faulty = refl
 
 -- ---- after a fault
 

@@ -14,6 +14,7 @@ mod serve_fault;
 mod serving;
 mod text_feed;
 mod turning;
+mod wording;
 
 pub use feed::{Feed, ListFeed};
 pub use intake::{Intake, lanes};
@@ -24,3 +25,4 @@ pub use sending::{SendsAll, Sent};
 pub use serve_fault::ServeFault;
 pub use serving::{ServeFailed, Served, serve};
 pub use text_feed::TextFeed;
+pub use wording::add_logged;

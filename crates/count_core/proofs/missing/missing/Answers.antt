@@ -24,7 +24,7 @@ loop-i-preserved c =
     let there = slice_get_read lists (length B.museum.places) q c.index.result.now count here c.index.ensures in
     let objects : List ℕ = filter (is_missing B rows q) (range_with_len 0 (length B.museum.things)) in
     let found : c.as_slice.result.now ≡ objects =
-    c.as_slice.ensures.value ∙ (sym (at_of lists q c.index.result.now there) ∙ (are.each q here ∙ missed_in B rows c.args.flags.now q c.requires)) in
+    c.as_slice.ensures.value ∙ (sym (at_of lists q c.index.result.now there) ∙ (are.each q here ∙ missed_in B rows c.args.flags.now q c.requires.flags)) in
     let added = c.in_ok-add_missing.ensures ∙ ap (λ xs. c.loop-i.missing.items ++ map (missing_at q) xs) found in
     let below = filter_below (is_missing B rows q) (length B.museum.things) in (
       added

@@ -2,8 +2,8 @@ use Rattle.std.proofs.Common.{◌≡◌, ◌∷◌, [], reverse}
 use Rattle.std.proofs.lemmas.Result.{IfOk-weaker}
 use Rattle.register_store.specs.StoredRows.{HasList}
 use Rattle.register_store.specs.Holdings.{Each, Comes}
-use Rattle.hub_program.proofs.Keeping.{two_kept}
-use Rattle.hub_program.proofs.tests.register.keep_two.Goals as goal
+use Rattle.layer_tests.proofs.Keeping.{two_kept}
+use Rattle.layer_tests.proofs.tests.register.keep_two.Goals as goal
 
 pub returns : goal.returns
 returns g c =

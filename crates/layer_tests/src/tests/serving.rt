@@ -1,14 +1,16 @@
 //! Feeds served all at once. What the command prints of files stands in `cases/`.
-ghost use Rattle.std.specs.Prelude.{◌≡◌, false, length, vec_len};
+ghost use Rattle.std.specs.Prelude.{◌≡◌, false, All, length, vec_len};
+ghost use Rattle.serve_core.specs.Logs.{IsPlacedReply};
 
 use super::{SMALL, TO_S1, museum, setup_of};
-use crate::serving::served;
 use codes_core::{NoMemory, ThingCode};
 use hub_core::Hub;
 use nest_core::Setup;
 use posting_core::{Changes, Entry, Ledger};
 use register_store::{PlainRegister, Register, StoreFault, read_message};
-use serve_core::{Feed, Item, ListFeed, TextFeed};
+use serve_core::{
+    Feed, Item, ListFeed, LogLine, ServeFailed, ServeFault, Served, TextFeed, add_logged, serve,
+};
 use std::alloc::Global;
 use std::process::Abort;
 use std::sync::atomic::{AtomicBool, Ordering};
@@ -76,30 +78,76 @@ pub fn can_serve<R: Register, F: Feed>(rt: &impl Abort, hub: &Hub<R>, feeds: &Ve
     assert!(rt; feeds.len() == hub.ledger().setup().stations() as usize);
 }
 
+/// What is printed of a log, after which the ledger is this one.
+fn logged(
+    rt: &impl Abort,
+    alloc: Global,
+    ledger: &Ledger,
+    lines: &[LogLine],
+) -> Result<String, Fail>
+    requires { All (λ l. IsPlacedReply ledger.now.museum l.reply) lines.now }
+{
+    let mut text = String::new(alloc);
+    for line in lines {
+        assert!(rt; line.station < ledger.setup().stations());
+        add_logged(&mut text, ledger, line)?;
+    }
+    Ok(text)
+}
+
+/// What is printed of a serving, and why it stopped.
+pub fn stopped<
+    T: Threads + Wait + Abort + Copy + Send + 'static,
+    R: Register + Drop,
+    F: Feed + Drop + Send + 'static,
+>(
+    rt: &T,
+    alloc: Global,
+    hub: Hub<R>,
+    feeds: Vec<F>,
+) -> Result<(String, Option<ServeFault>), Fail> {
+    can_serve(rt, &hub, &feeds);
+    match serve(rt, alloc, hub, feeds) {
+        Ok(Served { hub, log }) => {
+            let text = logged(rt, alloc, hub.ledger(), log.lines());
+            drop(hub.close());
+            Ok((text?, None))
+        }
+        Err(ServeFailed { fault, hub, log }) => {
+            let text = logged(rt, alloc, hub.ledger(), log.lines());
+            drop(hub.close());
+            Ok((text?, Some(fault)))
+        }
+    }
+}
+
+/// The same of a register, opened with this setup.
+pub fn stopped_over<
+    T: Threads + Wait + Abort + Copy + Send + 'static,
+    R: Register + Drop,
+    F: Feed + Drop + Send + 'static,
+>(
+    rt: &T,
+    alloc: Global,
+    setup: Setup,
+    register: R,
+    feeds: Vec<F>,
+) -> Result<(String, Option<ServeFault>), Fail> {
+    match Hub::open(alloc, setup, register) {
+        Ok(hub) => stopped(rt, alloc, hub, feeds),
+        Err(_) => Err(Fail::new("not opened")),
+    }
+}
+
 /// What is printed of a serving, where it met no fault.
 fn printed<
     T: Threads + Wait + Abort + Copy + Send + 'static,
     R: Register + Drop,
     F: Feed + Drop + Send + 'static,
 >(rt: &T, alloc: Global, setup: Setup, register: R, feeds: Vec<F>) -> Result<String, Fail> {
-    match Hub::open(alloc, setup, register) {
-        Ok(hub) => served_text(rt, alloc, hub, feeds),
-        Err(_) => Err(Fail::new("not opened")),
-    }
-}
-
-fn served_text<
-    T: Threads + Wait + Abort + Copy + Send + 'static,
-    R: Register + Drop,
-    F: Feed + Drop + Send + 'static,
->(rt: &T, alloc: Global, hub: Hub<R>, feeds: Vec<F>) -> Result<String, Fail> {
-    can_serve(rt, &hub, &feeds);
-    let mut output = Vec::new(alloc);
-    let (register, ended) = served(alloc, rt, hub, feeds, &mut output);
-    drop(register);
-    match ended {
-        Ok(()) => Ok(String::from_utf8(output)?),
-        Err(_) => Err(Fail::new("a fault")),
+    match stopped_over(rt, alloc, setup, register, feeds)? {
+        (text, None) => Ok(text),
+        _ => Err(Fail::new("a fault")),
     }
 }
 

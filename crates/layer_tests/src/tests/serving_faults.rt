@@ -1,21 +1,15 @@
 //! Servings that stop: a register that refuses, and feeds that find no memory.
 ghost use Rattle.std.specs.Prelude.{◌≡◌, IfOk};
 
-use super::serving::{can_serve, told_and_asked};
+use super::serving::{stopped_over, told_and_asked};
 use super::{SMALL, TO_S1, setup_of};
-use crate::fault::CommandFault;
-use crate::serving::served;
 use codes_core::NoMemory;
-use hub_core::Hub;
 use nest_core::Setup;
 use posting_core::{Changes, Entry, Ledger};
 use register_store::{PlainRegister, Register, StoreFault};
-use serve_core::{Feed, Item, ListFeed};
+use serve_core::{Feed, Item, ListFeed, ServeFault};
 use std::alloc::Global;
-use std::process::Abort;
-use std::sync::Wait;
 use std::test::Fail;
-use std::thread::Threads;
 
 /// A register in memory that posts so many entries, and refuses the others.
 #[derive(Drop)]
@@ -80,42 +74,6 @@ impl Feed for Poor {
     }
 }
 
-/// What is printed of a serving, and why it stopped.
-fn stopped<
-    T: Threads + Wait + Abort + Copy + Send + 'static,
-    R: Register + Drop,
-    F: Feed + Drop + Send + 'static,
->(
-    rt: &T,
-    alloc: Global,
-    hub: Hub<R>,
-    feeds: Vec<F>,
-) -> Result<(String, Option<CommandFault>), Fail> {
-    can_serve(rt, &hub, &feeds);
-    let mut output = Vec::new(alloc);
-    let (register, ended) = served(alloc, rt, hub, feeds, &mut output);
-    drop(register);
-    Ok((String::from_utf8(output)?, ended.err()))
-}
-
-/// The same of a register, opened with the small setup.
-fn stopped_over<
-    T: Threads + Wait + Abort + Copy + Send + 'static,
-    R: Register + Drop,
-    F: Feed + Drop + Send + 'static,
->(
-    rt: &T,
-    alloc: Global,
-    register: R,
-    feeds: Vec<F>,
-) -> Result<(String, Option<CommandFault>), Fail> {
-    let setup = setup_of(alloc, SMALL)?;
-    match Hub::open(alloc, setup, register) {
-        Ok(hub) => stopped(rt, alloc, hub, feeds),
-        Err(_) => Err(Fail::new("not opened")),
-    }
-}
-
 /// One feed: a message, and then a question.
 fn one(alloc: Global) -> Result<Vec<ListFeed>, Fail> {
     let mut feeds = Vec::new(alloc);
@@ -137,9 +95,11 @@ fn register_refuses(rt: HostRuntime) -> Result<(), Fail> {
             posts: *posts,
             refused: 0,
         };
-        let (text, fault) = stopped_over(&rt, rt.alloc(), register, one(rt.alloc())?)?;
+        let setup = setup_of(rt.alloc(), SMALL)?;
+        let feeds = one(rt.alloc())?;
+        let (text, fault) = stopped_over(&rt, rt.alloc(), setup, register, feeds)?;
         assert_eq!(rt; text.as_str(), *want);
-        let stopped = matches!(fault, Some(CommandFault::Store(StoreFault::Store)));
+        let stopped = matches!(fault, Some(ServeFault::Store));
         assert!(rt; stopped == *stops);
     }
     Ok(())
@@ -161,9 +121,10 @@ fn feed_without_memory(rt: HostRuntime) -> Result<(), Fail> {
             left: *left,
         })?;
         let register = PlainRegister::new(rt.alloc());
-        let (text, fault) = stopped_over(&rt, rt.alloc(), register, feeds)?;
+        let setup = setup_of(rt.alloc(), SMALL)?;
+        let (text, fault) = stopped_over(&rt, rt.alloc(), setup, register, feeds)?;
         assert_eq!(rt; text.as_str(), *want);
-        assert!(rt; matches!(fault, Some(CommandFault::NoMemory)));
+        assert!(rt; matches!(fault, Some(ServeFault::NoMemory)));
     }
     Ok(())
 }

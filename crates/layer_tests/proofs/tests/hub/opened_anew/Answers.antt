@@ -4,7 +4,7 @@ use Rattle.register_store.specs.Registers.{is_failure}
 use Rattle.register_store.specs.Holdings.{Comes}
 use Rattle.hub_core.specs.Openings.{IsNotOpened}
 use Rattle.hub_core.proofs.ReopenLemmas.{fails_so}
-use Rattle.hub_program.proofs.tests.hub.opened_anew.Goals as goal
+use Rattle.layer_tests.proofs.tests.hub.opened_anew.Goals as goal
 
 pub returns : goal.returns
 returns g c =

@@ -1,0 +1,67 @@
+//! The words of a log's lines, each with its line feed, appended to a text.
+ghost use Rattle.std.specs.Prelude.{◌≡◌, ◌<◌, ◌++◌, OnOk, length, reverse, string_bytes};
+ghost use Rattle.hub_core.specs.LineText.{station_text};
+ghost use Rattle.serve_core.specs.Logs.{IsPlacedReply};
+ghost use Rattle.serve_core.specs.Wording.{bad_item_line, logged_text, up_to};
+
+use crate::{Item, LineFault, LogLine, Reply};
+use hub_core::{Answer, add_answer, add_asked, add_fault};
+use itoa::Buffer;
+use posting_core::{Entry, Ledger};
+use std::alloc::AllocError;
+
+/// Appends what is printed of a line of a log, where the ledger is that after the log: the reply to its item, as a replay
+/// prints it, or `STATION line K bad FAULT` for a faulty line. After NoMemory the text may end with a part of it.
+pub fn add_logged(text: &mut String, ledger: &Ledger, line: &LogLine) -> Result<(), AllocError>
+    requires station { line.now.station < length ledger.now.museum.stations }
+    requires placed { IsPlacedReply ledger.now.museum line.now.reply }
+    ensures added { OnOk result (string_bytes text.new ≡ string_bytes text.old
+        ++ logged_text ledger.now.museum (reverse ledger.now.posted) line.now) }
+{
+    let setup = ledger.setup();
+    let station = line.station;
+    match (&line.item, &line.reply) {
+        (Item::Scan { n, .. }, Reply::Answered(answer)) => {
+            let posted = up_to(ledger.posted(), *answer);
+            add_answer(text, setup, station, *n, *answer, posted)
+        }
+        (Item::Ask(code), Reply::Found(place)) => add_asked(text, setup, station, code, place),
+        (Item::Bad { line, fault }, Reply::Unread) => {
+            add_bad_item(text, setup.station_name(station), *line, *fault)
+        }
+        // no log has any other pair
+        _ => Ok(()),
+    }
+}
+
+/// The entries that stood with an answer, oldest first.
+fn up_to(posted: &[Entry], answer: Answer) -> &[Entry]
+    ensures { result.now ≡ up_to answer posted.now }
+{
+    match answer {
+        Answer::Posted { last, .. } => &posted[..posted.len().min(last as usize)],
+        _ => posted,
+    }
+}
+
+/// Appends `STATION line K bad FAULT`.
+fn add_bad_item(
+    text: &mut String,
+    station: &str,
+    line: u64,
+    fault: LineFault,
+) -> Result<(), AllocError>
+    ensures { OnOk result (string_bytes text.new ≡ string_bytes text.old
+        ++ bad_item_line station.now line fault) }
+{
+    let mut digits = Buffer::new();
+    text.push_str(station)?;
+    text.push_str(" line ")?;
+    text.push_str(digits.format(line))?;
+    text.push_str(" bad ")?;
+    match fault {
+        LineFault::TooLong => text.push_str("TooLong")?,
+        LineFault::Read(fault) => add_fault(text, fault)?,
+    }
+    text.push_str("\n")
+}
