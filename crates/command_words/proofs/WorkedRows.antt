@@ -1,11 +1,13 @@
 -- The definitions computed on worked words.
-use Rattle.std.specs.Prelude.{◌≡◌, ◌∷◌, [], List, None, Some, codes, false, map, refl, true}
+use Rattle.std.specs.Prelude.{◌≡◌, ◌∷◌, ◌++◌, [], List, None, Some, codes, false, map, refl, true}
 use Rattle.clap.specs.Words.{Text}
 use Rattle.clap.proofs.OnLiterals.{clap_on_literals}
 use Rattle.clap.specs.declared.error.kind.ErrorKind.TheVariants.{ArgumentConflict, InvalidValue}
 use Rattle.clap.specs.declared.error.kind.ErrorKind.TheVariants.{UnknownArgument}
-use Rattle.command_words.specs.Commands.{posted, replay, serve}
-use Rattle.command_words.specs.Words.{form_named, lacks, refusals, status_of_kind, value, values}
+use Rattle.command_words.specs.Commands.{away, posted, replay, serve}
+use Rattle.command_words.specs.Words.{form_named, format_in, is_given, lacks, refusals, report_kinds}
+use Rattle.command_words.specs.Words.{status_of_kind, value, values}
+use Rattle.command_words.specs.declared.command.Format.TheVariants.{Csv, Json, Lines}
 
 -- replay --setup a --store b
 abbrev replay_words : List Text
@@ -68,6 +70,51 @@ pub posted_from : value posted.app (codes "posted" ∷ codes "--setup" ∷ codes
     ∷ codes "--from" ∷ codes "7" ∷ []) (codes "from") ≡ Some (codes "7")
 unfolding clap_on_literals
 posted_from = refl
+
+-- replay --setup a --progress, and without the option
+pub progress_asked : is_given replay.app (codes "replay" ∷ codes "--setup=a" ∷ codes "--progress" ∷ []) (codes "progress") ≡ true
+unfolding clap_on_literals
+progress_asked = refl
+
+pub no_progress_asked : is_given replay.app replay_words (codes "progress") ≡ false
+unfolding clap_on_literals
+no_progress_asked = refl
+
+-- away --setup a --store b, as plain lines, as comma-separated values, as JSON
+abbrev away_words : List Text
+away_words = codes "away" ∷ codes "--setup=a" ∷ codes "--store=b" ∷ []
+
+pub away_lines : format_in away.app away_words ≡ Some Lines
+unfolding clap_on_literals
+away_lines = refl
+
+pub away_csv : format_in away.app (away_words ++ codes "--csv" ∷ []) ≡ Some Csv
+unfolding clap_on_literals
+away_csv = refl
+
+pub away_json : format_in away.app (away_words ++ codes "--json" ∷ []) ≡ Some Json
+unfolding clap_on_literals
+away_json = refl
+
+pub away_csv_taken : report_kinds away.app (away_words ++ codes "--csv" ∷ []) ≡ []
+unfolding clap_on_literals
+away_csv_taken = refl
+
+-- both forms at once are none, and refused, after what clap refuses
+abbrev both_forms : List Text
+both_forms = away_words ++ codes "--csv" ∷ codes "--json" ∷ []
+
+pub both_forms_none : format_in away.app both_forms ≡ None
+unfolding clap_on_literals
+both_forms_none = refl
+
+pub both_forms_refused : report_kinds away.app both_forms ≡ ArgumentConflict ∷ []
+unfolding clap_on_literals
+both_forms_refused = refl
+
+pub word_refused_first : report_kinds away.app (both_forms ++ codes "x" ∷ []) ≡ UnknownArgument ∷ []
+unfolding clap_on_literals
+word_refused_first = refl
 
 -- what is refused comes before what is missing: an option without its value, one given twice, a word too many
 pub value_missing : refusals (codes "replay" ∷ codes "--setup" ∷ []) ≡ InvalidValue ∷ []

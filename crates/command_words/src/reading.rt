@@ -1,5 +1,5 @@
 //! What the words give a command's arguments.
-ghost use Rattle.std.specs.Prelude.{◌≡◌, [], IfOk, MatchResult, None, Some, true};
+ghost use Rattle.std.specs.Prelude.{◌≡◌, [], IfOk, MatchResult, None, Some, codes, true};
 ghost use Rattle.clap.specs.Faults.{fault_of, is_simple_and_free};
 ghost use Rattle.clap.specs.Words.{app_of, first_of, found_of, kind_of, rows_of};
 ghost use Rattle.command_words.specs.Commands.{all_needed, both_needed, one_needed, report};
@@ -64,6 +64,17 @@ fn one<'a, 'b>(matches: &'b ArgMatches<'a>, id: &'static str) -> Option<&'a str>
     matches.get_str(id)
 }
 
+/// The setup and the store.
+fn files_of<'a, 'b>(found: &'b ArgMatches<'a>) -> Files<'a>
+    ensures setup { text_of result.setup ≡ first_of (codes "setup") (rows_of (found_of found.now)) }
+    ensures store { text_of result.store ≡ first_of (codes "store") (rows_of (found_of found.now)) }
+{
+    Files {
+        setup: one(found, "setup"),
+        store: one(found, "store"),
+    }
+}
+
 /// All values of an argument.
 fn all<'a, 'b>(
     alloc: Global,
@@ -108,10 +119,7 @@ fn read_files<'a>(command: Command<'a>, words: &'a [&'a str]) -> Result<Files<'a
         (IsRefused (app_of command.entry) (texts_of words.now)) }
 {
     let matches = read(command, words)?;
-    let files = Files {
-        setup: one(&matches, "setup"),
-        store: one(&matches, "store"),
-    };
+    let files = files_of(&matches);
     drop(matches);
     Ok(files)
 }
@@ -129,10 +137,7 @@ pub(crate) fn read_files_and_flag<'a>(
         (IsRefused (app_of command.entry) (texts_of words.now)) }
 {
     let matches = read(command, words)?;
-    let files = Files {
-        setup: one(&matches, "setup"),
-        store: one(&matches, "store"),
-    };
+    let files = files_of(&matches);
     let given = is_set(&matches, id);
     drop(matches);
     Ok((files, given))
@@ -152,10 +157,7 @@ pub(crate) fn read_files_and_all<'a>(
         (IsRefused (app_of command.entry) (texts_of words.now)) }
 {
     let matches = read(command, words)?;
-    let files = Files {
-        setup: one(&matches, "setup"),
-        store: one(&matches, "store"),
-    };
+    let files = files_of(&matches);
     let given = all(alloc, &matches, id);
     drop(matches);
     Ok((files, given?))
@@ -243,10 +245,7 @@ fn read_asked<'a>(
         (IsRefusedReport (app_of command.entry) (texts_of words.now)) }
 {
     let (matches, format) = read_format(command, words)?;
-    let files = Files {
-        setup: one(&matches, "setup"),
-        store: one(&matches, "store"),
-    };
+    let files = files_of(&matches);
     let own = one(&matches, id);
     drop(matches);
     Ok(Asked { files, format, own })
@@ -262,8 +261,14 @@ pub(crate) fn read_report<'a>(
         (GivesReport (app_of command.entry) (texts_of words.now))
         (IsFaultBy (Some (report (both_needed (app_of command.entry)))) (texts_of words.now)) }
 {
-    let (report, _setup) = read_report_and_perhaps(command, words, "setup")?;
-    Ok(report)
+    let (matches, format) = read_format(command, words)?;
+    let files = files_of(&matches);
+    drop(matches);
+    Ok(Report {
+        setup: needed(files.setup)?,
+        store: needed(files.store)?,
+        format,
+    })
 }
 
 /// What a report needs, and the value of one argument more, which it needs too.

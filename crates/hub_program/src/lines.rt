@@ -25,25 +25,19 @@ pub fn place_text_if(
 pub fn place_text(alloc: Global, setup: &Setup, place: PlaceNo) -> Result<String, NoMemory>
     requires { place < length setup.now.places }
 {
-    let mut text = String::new(alloc);
-    setup.place_code(place).write(alloc, &mut text)?;
-    Ok(text)
+    Ok(String::from_str(alloc, setup.place_code(place).as_str())?)
 }
 
 /// A partner's code.
 pub fn partner_text(alloc: Global, partner: &PlaceCode) -> Result<String, NoMemory> {
-    let mut text = String::new(alloc);
-    partner.write(alloc, &mut text)?;
-    Ok(text)
+    Ok(String::from_str(alloc, partner.as_str())?)
 }
 
 /// A thing's code.
 pub fn thing_text(alloc: Global, setup: &Setup, thing: ThingNo) -> Result<String, NoMemory>
     requires { thing < length setup.now.things }
 {
-    let mut text = String::new(alloc);
-    setup.thing_code(thing).write(alloc, &mut text)?;
-    Ok(text)
+    Ok(String::from_str(alloc, setup.thing_code(thing).as_str())?)
 }
 
 /// Writes a line.
@@ -56,9 +50,7 @@ pub fn write_line<W: Write>(output: &mut W, line: &str) -> Result<(), CommandFau
 
 /// A loan's code.
 pub fn loan_text(alloc: Global, loan: &LoanCode) -> Result<String, NoMemory> {
-    let mut text = String::new(alloc);
-    loan.write(alloc, &mut text)?;
-    Ok(text)
+    Ok(String::from_str(alloc, loan.as_str())?)
 }
 
 /// A day.

@@ -56,8 +56,7 @@ pub fn whereabouts<W: Write>(
 
 fn where_row(alloc: Global, ledger: &Ledger, code: &ThingCode) -> Result<WhereRow, NoMemory> {
     let found = ledger.setup().thing(code);
-    let mut thing = String::new(alloc);
-    code.write(alloc, &mut thing)?;
+    let thing = String::from_str(alloc, code.as_str())?;
     Ok(match found {
         None => nowhere(alloc, thing, "unknown"),
         Some(number) => match place_text_if(alloc, ledger.setup(), ledger.place_of(number))? {
@@ -115,10 +114,8 @@ pub fn contents<W: Write>(
 }
 
 fn unknown_container(alloc: Global, code: &ThingCode) -> Result<ContentRow, NoMemory> {
-    let mut thing = String::new(alloc);
-    code.write(alloc, &mut thing)?;
     Ok(ContentRow {
-        thing,
+        thing: String::from_str(alloc, code.as_str())?,
         state: "unknown",
         containers: Vec::new(alloc),
     })
@@ -257,8 +254,6 @@ fn loan_row(
     terms: &Terms,
     code: &ThingCode,
 ) -> Result<LoanRow, NoMemory> {
-    let mut object = String::new(alloc);
-    code.write(alloc, &mut object)?;
     let thing = ledger.setup().thing(code);
     let stage = thing.and_then(|thing| ledger.line(&terms.loan, thing));
     Ok(LoanRow {
@@ -267,7 +262,7 @@ fn loan_row(
         partner: Some(partner_text(alloc, &terms.partner)?),
         first: Some(day_text(alloc, &terms.first)?),
         last: Some(day_text(alloc, &terms.last)?),
-        object: Some(object),
+        object: Some(String::from_str(alloc, code.as_str())?),
         stage: stage.map(stage_word),
     })
 }

@@ -54,11 +54,9 @@ fn counted_row(
 ) -> Result<CountedRow, NoMemory>
     requires { IsAnswerIn setup.now answer }
 {
-    let mut place = String::new(alloc);
-    row.place.write(alloc, &mut place)?;
     Ok(CountedRow {
         row: Some(number),
-        place,
+        place: String::from_str(alloc, row.place.as_str())?,
         thing: code_if(alloc, row.object)?,
         answer: answer_word(answer),
         on_record: match answer {
@@ -70,12 +68,10 @@ fn counted_row(
 
 /// A thing's code, where there is one.
 fn code_if(alloc: Global, code: Option<ThingCode>) -> Result<Option<String>, NoMemory> {
-    let Some(code) = code else {
-        return Ok(None);
-    };
-    let mut text = String::new(alloc);
-    code.write(alloc, &mut text)?;
-    Ok(Some(text))
+    match code {
+        Some(code) => Ok(Some(String::from_str(alloc, code.as_str())?)),
+        None => Ok(None),
+    }
 }
 
 /// What is said to a row of a count list.

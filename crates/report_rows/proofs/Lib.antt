@@ -1,2 +1,3 @@
 mod Joining
 mod Pairing
+mod WorkedRows

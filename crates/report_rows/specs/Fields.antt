@@ -1,6 +1,7 @@
--- What the rows of a report tell: a value under each of their names, as comma-separated values and as JSON.
-use Rattle.std.specs.Prelude.{◌∷◌, ◌++◌, [], ℕ, Bool, List, None, Option, Some, codes, decimal, if◌then◌else◌, map, string_bytes}
-use Rattle.std.specs.List.{join_by}
+-- What the rows of a report tell: the words of a plain line, and a value under each of their names.
+use Rattle.std.specs.Prelude.{◌∷◌, ◌++◌, [], ℕ, Bool, List, None, Option, Some, codes, decimal}
+use Rattle.std.specs.Prelude.{false, if◌then◌else◌, map, string_bytes, true}
+use Rattle.std.specs.List.{filter, join_by}
 use Rattle.serde_json.specs.Data.{string}
 use Rattle.serde_json.specs.Written.{compact_text}
 use Rattle.report_rows.specs.declared.field.Field.{Field}
@@ -35,14 +36,24 @@ text_if (Some t) = text t
 abbrev pub flag_text : Bool → List ℕ
 flag_text b = if b then codes "true" else codes "false"
 
--- one of the comma-separated values: what isn't there is empty, and several texts are parted by spaces
-abbrev pub csv_text : Told → List ℕ
-csv_text nothing = []
-csv_text (number n) = decimal n
-csv_text (flag b) = flag_text b
-csv_text (text t) = t
-csv_text (texts ts) = join_by (λ t. t) (codes " ") ts
-csv_text (json t) = t
+-- as plain text: what isn't there is empty, and several texts are parted by spaces
+abbrev pub plain_text : Told → List ℕ
+plain_text nothing = []
+plain_text (number n) = decimal n
+plain_text (flag b) = flag_text b
+plain_text (text t) = t
+plain_text (texts ts) = join_by (λ t. t) (codes " ") ts
+plain_text (json t) = t
+
+-- there is something: not nothing, nor several texts of which there is none
+abbrev pub is_told : Told → Bool
+is_told nothing = false
+is_told (texts []) = false
+is_told _ = true
+
+-- a line of the words that are there, parted by spaces, and a line feed
+abbrev pub words_line : List Told → List ℕ
+words_line words = join_by plain_text (codes " ") (filter is_told words) ++ codes "\n"
 
 -- a string as JSON
 abbrev pub quoted : List ℕ → List ℕ

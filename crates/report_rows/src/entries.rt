@@ -1,12 +1,12 @@
 //! The rows of what tells of entries and stations.
 ghost use Rattle.std.specs.Prelude.{◌∷◌, [], codes, refl, string_bytes};
 ghost use Rattle.report_rows.specs.Fields.{flag, json, number, number_if, text};
+ghost use Rattle.report_rows.specs.Lines.{posted_words, station_words};
 
 use crate::Row;
 use crate::field::{Field, number_if};
 use codes_core::NoMemory;
 use std::alloc::Global;
-use std::fmt::{Display, Formatter, Result as Written, Write};
 
 /// A station, with the number that it has to send next, unless it has signed off.
 #[derive(Drop)]
@@ -23,6 +23,8 @@ impl Row for StationRow {
         ∷ number_if row.next
         ∷ flag row.signed_off ∷ [] };
 
+    ghost line = { station_words };
+
     fn columns() -> &'static [&'static str] {
         &["station", "next", "signed_off"]
     }
@@ -35,16 +37,15 @@ impl Row for StationRow {
         ]?)
     }
 
-    ghost as_many = { λ row. refl };
-}
-
-impl Display for StationRow {
-    fn fmt<W: Write>(&self, f: &mut Formatter<W>) -> Written {
-        match self.next {
-            Some(next) => write!(f, "{} next {next}", self.station),
-            None => write!(f, "{} signed off", self.station),
-        }
+    fn words(&self, alloc: Global) -> Result<Vec<Field<'_>>, NoMemory> {
+        let station = Field::Text(self.station.as_str());
+        Ok(match self.next {
+            Some(next) => vec![in alloc; station, Field::Text("next"), Field::Number(next)]?,
+            None => vec![in alloc; station, Field::Text("signed"), Field::Text("off")]?,
+        })
     }
+
+    ghost as_many = { λ row. refl };
 }
 
 /// An entry on record: its number, the station and its number, the verdict, and the message.
@@ -71,6 +72,8 @@ impl Row for PostedRow {
         ∷ text row.verdict.now
         ∷ json (string_bytes row.message) ∷ [] };
 
+    ghost line = { posted_words };
+
     fn columns() -> &'static [&'static str] {
         &["entry", "station", "n", "verdict", "message"]
     }
@@ -85,15 +88,9 @@ impl Row for PostedRow {
         ]?)
     }
 
-    ghost as_many = { λ row. refl };
-}
-
-impl Display for PostedRow {
-    fn fmt<W: Write>(&self, f: &mut Formatter<W>) -> Written {
-        write!(
-            f,
-            "{} {} {} {} {}",
-            self.entry, self.station, self.n, self.verdict, self.message
-        )
+    fn words(&self, alloc: Global) -> Result<Vec<Field<'_>>, NoMemory> {
+        self.fields(alloc)
     }
+
+    ghost as_many = { λ row. refl };
 }

@@ -1,6 +1,8 @@
-//! What a row tells under one name, as one of comma-separated values and as JSON.
+//! What a row tells under one name, or as a word of its plain line: as plain text and as JSON.
 ghost use Rattle.std.specs.Prelude.{◌≡◌, IfOk, map, option_map, string_bytes};
-ghost use Rattle.report_rows.specs.Fields.{Told, csv_text, flag_text, json_text, number_if, quoted, text_if, told};
+ghost use Rattle.report_rows.specs.Fields.{Told, flag_text, is_told, json_text, number_if, plain_text};
+ghost use Rattle.report_rows.specs.Fields.{quoted, text_if, told};
+ghost use Rattle.report_rows.specs.Lines.{in_if, or_dash};
 
 use codes_core::NoMemory;
 use serde_json::Value;
@@ -50,9 +52,41 @@ pub(crate) fn kept_if<'a>(text: &'a Option<String>) -> Field<'a>
     }
 }
 
-/// The field as one of comma-separated values, not quoted yet.
-pub(crate) fn csv_text(alloc: Global, field: Field<'_>) -> Result<String, NoMemory>
-    ensures { IfOk result (λ text. string_bytes text ≡ csv_text (told field.entry)) }
+/// A text, or a dash for none.
+pub(crate) fn or_dash<'a>(text: &'a Option<String>) -> Field<'a>
+    ensures { told result ≡ or_dash (option_map string_bytes text.now) }
+{
+    match text {
+        Some(text) => Field::Text(text.as_str()),
+        None => Field::Text("-"),
+    }
+}
+
+/// The word `in` before codes, where there are some.
+pub(crate) fn in_if<'a>(codes: &[String]) -> Field<'a>
+    ensures { told result ≡ in_if (map string_bytes codes.now) }
+{
+    if codes.is_empty() {
+        Field::Nothing
+    } else {
+        Field::Text("in")
+    }
+}
+
+/// Whether there is something to tell.
+pub(crate) fn is_told(field: Field<'_>) -> bool
+    ensures { result ≡ is_told (told field.entry) }
+{
+    match field {
+        Field::Nothing => false,
+        Field::Codes(codes) => !codes.is_empty(),
+        Field::Number(_) | Field::Flag(_) | Field::Text(_) | Field::Json(_) => true,
+    }
+}
+
+/// The field as plain text.
+pub(crate) fn plain_text(alloc: Global, field: Field<'_>) -> Result<String, NoMemory>
+    ensures { IfOk result (λ text. string_bytes text ≡ plain_text (told field.entry)) }
 {
     match field {
         Field::Nothing => Ok(String::new(alloc)),
@@ -94,7 +128,8 @@ pub(crate) fn quoted(alloc: Global, text: &str) -> Result<String, NoMemory>
 
 /// An array of strings as JSON.
 fn array_text(alloc: Global, texts: &[String]) -> Result<String, NoMemory>
-    ensures { IfOk result (λ all. string_bytes all ≡ json_text (Told.texts (map string_bytes texts.now))) }
+    ensures { IfOk result (λ all. string_bytes all
+        ≡ json_text (Told.texts (map string_bytes texts.now))) }
 {
     let mut items = Vec::new(alloc);
     for i in 0..texts.len() {

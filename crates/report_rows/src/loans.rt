@@ -1,12 +1,12 @@
 //! The rows of what tells of loans.
 ghost use Rattle.std.specs.Prelude.{◌∷◌, [], codes, option_map, refl, string_bytes};
 ghost use Rattle.report_rows.specs.Fields.{text, text_if};
+ghost use Rattle.report_rows.specs.Lines.{loan_words, overdue_words};
 
 use crate::Row;
 use crate::field::{Field, kept_if, word_if};
 use codes_core::NoMemory;
 use std::alloc::Global;
-use std::fmt::{Display, Formatter, Result as Written, Write};
 
 /// A loan that is overdue, with its last day.
 #[derive(Drop)]
@@ -21,6 +21,8 @@ impl Row for OverdueRow {
     ghost values = { λ row. text (string_bytes row.loan)
         ∷ text (string_bytes row.last) ∷ [] };
 
+    ghost line = { overdue_words };
+
     fn columns() -> &'static [&'static str] {
         &["loan", "last"]
     }
@@ -32,13 +34,11 @@ impl Row for OverdueRow {
         ]?)
     }
 
-    ghost as_many = { λ row. refl };
-}
-
-impl Display for OverdueRow {
-    fn fmt<W: Write>(&self, f: &mut Formatter<W>) -> Written {
-        write!(f, "{} {}", self.loan, self.last)
+    fn words(&self, alloc: Global) -> Result<Vec<Field<'_>>, NoMemory> {
+        self.fields(alloc)
     }
+
+    ghost as_many = { λ row. refl };
 }
 
 /// An object of a loan with its stage, and how the loan stands; of a loan that isn't agreed its code alone.
@@ -70,6 +70,8 @@ impl Row for LoanRow {
         ∷ text_if (option_map string_bytes row.object)
         ∷ text_if (option_map (λ t. t.now) row.stage) ∷ [] };
 
+    ghost line = { loan_words };
+
     fn columns() -> &'static [&'static str] {
         &[
             "loan", "state", "partner", "first", "last", "object", "stage",
@@ -88,15 +90,13 @@ impl Row for LoanRow {
         ]?)
     }
 
-    ghost as_many = { λ row. refl };
-}
-
-impl Display for LoanRow {
-    fn fmt<W: Write>(&self, f: &mut Formatter<W>) -> Written {
-        match (&self.object, &self.stage) {
-            (None, _) => write!(f, "{} {}", self.loan, self.state),
-            (Some(object), None) => write!(f, "{object}"),
-            (Some(object), Some(stage)) => write!(f, "{object} {stage}"),
-        }
+    fn words(&self, alloc: Global) -> Result<Vec<Field<'_>>, NoMemory> {
+        let loan = Field::Text(self.loan.as_str());
+        Ok(match &self.object {
+            Some(object) => vec![in alloc; Field::Text(object.as_str()), word_if(self.stage)]?,
+            None => vec![in alloc; loan, Field::Text(self.state)]?,
+        })
     }
+
+    ghost as_many = { λ row. refl };
 }

@@ -1,21 +1,24 @@
 //! A row as text, each of the three forms with its line feed.
 ghost use Rattle.std.specs.Prelude.{◌≡◌, ℕ, List, IfOk, length, map, string_bytes};
 ghost use Rattle.csv.specs.Writing.{default_writer, row_text};
-ghost use Rattle.report_rows.specs.Fields.{Told, csv_text, member, members, object_line, told};
+ghost use Rattle.report_rows.specs.Fields.{Told, member, members, object_line, plain_text, told};
+ghost use Rattle.report_rows.specs.Fields.{words_line};
 
-use crate::field::{Field, csv_text, json_text, quoted};
+use crate::field::{Field, is_told, json_text, plain_text, quoted};
 use codes_core::NoMemory;
 use csv::WriterBuilder;
 use std::alloc::Global;
-use std::fmt::Display;
 
-/// A row of a report: its plain line is its `Display`, and the other forms tell its fields, each under its name.
-pub trait Row: Display {
+/// A row of a report: its plain line has its words, and the other forms tell its fields, each under its name.
+pub trait Row {
     // The names of the fields, in their order.
     ghost names: { List (List ℕ) };
 
     // What a row tells under each.
     ghost values: { Self → List Told };
+
+    // What it tells as the words of its plain line, in their order.
+    ghost line: { Self → List Told };
 
     /// The names of the fields, in their order.
     fn columns() -> &'static [&'static str]
@@ -25,12 +28,19 @@ pub trait Row: Display {
     fn fields(&self, alloc: Global) -> Result<Vec<Field<'_>>, NoMemory>
         ensures { IfOk result (λ fields. map told fields.items ≡ values self.now) };
 
+    /// The words of the plain line, in their order; what isn't there is none.
+    fn words(&self, alloc: Global) -> Result<Vec<Field<'_>>, NoMemory>
+        ensures { IfOk result (λ words. map told words.items ≡ line self.now) };
+
     ghost as_many: { (row : Self) → length (values row) ≡ length names };
 }
 
 /// The row's plain line.
-pub fn plain_line<R: Row>(alloc: Global, row: &R) -> Result<String, NoMemory> {
-    Ok(format!(in alloc; "{row}\n")?)
+pub fn plain_line<R: Row>(alloc: Global, row: &R) -> Result<String, NoMemory>
+    ensures { IfOk result (λ line. string_bytes line ≡ words_line (R.line row.now)) }
+{
+    let words = row.words(alloc)?;
+    words_line(alloc, words.as_slice())
 }
 
 /// The names of the fields as comma-separated values.
@@ -42,7 +52,8 @@ pub fn csv_heading<R: Row>(alloc: Global) -> Result<String, NoMemory>
 
 /// The row as comma-separated values, each quoted where it has to be.
 pub fn csv_line<R: Row>(alloc: Global, row: &R) -> Result<String, NoMemory>
-    ensures { IfOk result (λ line. string_bytes line ≡ row_text default_writer (map csv_text (R.values row.now))) }
+    ensures { IfOk result (λ line. string_bytes line
+        ≡ row_text default_writer (map plain_text (R.values row.now))) }
 {
     let fields = row.fields(alloc)?;
     separated_fields(alloc, fields.as_slice())
@@ -54,6 +65,20 @@ pub fn json_line<R: Row>(alloc: Global, row: &R) -> Result<String, NoMemory>
 {
     let fields = row.fields(alloc)?;
     object(alloc, R::columns(), fields.as_slice())
+}
+
+/// The words that are there, parted by spaces.
+fn words_line(alloc: Global, words: &[Field<'_>]) -> Result<String, NoMemory>
+    ensures { IfOk result (λ line. string_bytes line ≡ words_line (map told words.now)) }
+{
+    let mut texts = Vec::new(alloc);
+    for i in 0..words.len() {
+        if is_told(words[i]) {
+            texts.push(plain_text(alloc, words[i])?)?;
+        }
+    }
+    let line = texts.as_slice().join(alloc, " ")?;
+    Ok([line.as_str(), "\n"].concat(alloc)?)
 }
 
 fn object(alloc: Global, names: &[&str], fields: &[Field<'_>]) -> Result<String, NoMemory>
@@ -79,11 +104,12 @@ fn member(alloc: Global, name: &str, field: Field<'_>) -> Result<String, NoMemor
 }
 
 fn separated_fields(alloc: Global, fields: &[Field<'_>]) -> Result<String, NoMemory>
-    ensures { IfOk result (λ line. string_bytes line ≡ row_text default_writer (map csv_text (map told fields.now))) }
+    ensures { IfOk result (λ line. string_bytes line
+        ≡ row_text default_writer (map plain_text (map told fields.now))) }
 {
     let mut texts = Vec::new(alloc);
     for i in 0..fields.len() {
-        texts.push(csv_text(alloc, fields[i])?)?;
+        texts.push(plain_text(alloc, fields[i])?)?;
     }
     let mut values = Vec::new(alloc);
     for text in texts.iter() {
@@ -94,7 +120,8 @@ fn separated_fields(alloc: Global, fields: &[Field<'_>]) -> Result<String, NoMem
 
 /// A row of comma-separated values with these texts.
 fn separated(alloc: Global, texts: &[&str]) -> Result<String, NoMemory>
-    ensures { IfOk result (λ text. string_bytes text ≡ row_text default_writer (map (λ t. t.now) texts.now)) }
+    ensures { IfOk result (λ text. string_bytes text
+        ≡ row_text default_writer (map (λ t. t.now) texts.now)) }
 {
     let mut fields = Vec::new(alloc);
     for i in 0..texts.len() {
@@ -111,7 +138,8 @@ fn separated(alloc: Global, texts: &[&str]) -> Result<String, NoMemory>
 
 /// The bytes of such a row.
 fn row_bytes(alloc: Global, fields: &[&[u8]]) -> Result<Vec<u8>, csv::Error>
-    ensures { IfOk result (λ bytes. bytes.items ≡ row_text default_writer (map (λ f. f.now) fields.now)) }
+    ensures { IfOk result (λ bytes. bytes.items
+        ≡ row_text default_writer (map (λ f. f.now) fields.now)) }
 {
     let mut wtr = WriterBuilder::new().from_writer(Vec::new(alloc));
     wtr.write_fields(fields)?;
