@@ -1,5 +1,6 @@
 -- The definitions computed on worked rows: the items of a feed text, and logs of two stations.
 use Rattle.std.specs.Prelude.{ℕ, ◌≡◌, ◌-◌, ◌^◌, ◌<◌, ◌≤◌, nat_lt, List, [], ◌∷◌, length, map, reverse, Ok, Err, if◌then◌else◌, refl, codes}
+use Rattle.std.specs.Fmt.{digits}
 use Rattle.std.proofs.Common.{arith, ap, suc, zero}
 use Rattle.std.proofs.lemmas.List.Elements.{All-nil, All-cons, All-head}
 use Rattle.posting_core.specs.declared.entry.Entry.{Entry}
@@ -168,17 +169,18 @@ printed_of l = logged_text museum posted_both l
 
 -- each message with its own entry alone
 printed-pack : printed_of pack_moved ≡ codes "PACK 1 posted 1 Applied\n"
-unfolding window
+unfolding window digits
 printed-pack = refl
 
 printed-gal : printed_of gal_moved ≡ codes "GAL 1 posted 2 Applied\n"
-unfolding window
+unfolding window digits
 printed-gal = refl
 
 printed-asked : printed_of gal_asked ≡ codes "GAL ask 2001.4.2 at S2\n"
 printed-asked = refl
 
 printed-faulty : map (λ fault. printed_of (line gal (Bad 3 fault) Unread)) (TooLong ∷ Read NotJson ∷ []) ≡ codes "GAL line 3 bad TooLong\n" ∷ codes "GAL line 3 bad NotJson\n" ∷ []
+unfolding digits
 printed-faulty = refl
 
 -- ---- after a fault
