@@ -1,5 +1,5 @@
 -- What a store says of its version decides whether it is migrated, and what it then holds.
-use Rattle.std.proofs.Common.{◌≡◌, ◌≢◌, inl, inr, ◌≤◌, ℕ, zero, suc, List, [], ◌∷◌, length, map, reverse, Bool, true, false, All, Ok, Err, Result, IfOk, IfErr, OnOk, IsTrue, refl, sym, ap, subst, ◌∙◌, arith}
+use Rattle.std.proofs.Common.{◌≡◌, ◌≢◌, inl, inr, ◌≤◌, ℕ, zero, suc, List, [], ◌∷◌, length, map, reverse, Bool, true, false, All, Ok, Err, Result, IfOk, IfErr, OnOk, refl, sym, ap, subst, ◌∙◌, arith}
 use Rattle.std.specs.Bool.{Decides}
 use Rattle.std.specs.List.{AllByRecursion}
 use Rattle.std.specs.List.Sorted.{IsPermutation}
@@ -18,13 +18,14 @@ use Rattle.sqlite.specs.declared.error.Error.{Error}
 use Rattle.sqlite_trees.proofs.ListLemmas.{all-permutation}
 use Rattle.sqlite_value.specs.Order.{bytes}
 use Rattle.register_store.proofs.TermRows.{next_terms}
-use Rattle.register_store.specs.Registers.{is_new, is_of_listing}
+use Rattle.register_store.specs.Registers.{is_new, is_failure, is_of_listing}
 use Rattle.register_store.specs.StoredRows.{Content, SetupRow, MetaRow, HasList, rows_of_setup, rows_of_terms}
 use Rattle.register_store.specs.declared.store_fault.StoreFault.{StoreFault}
 use Rattle.register_store.specs.declared.store_fault.StoreFault.TheVariants.{NoMemory, Store, OtherSetup, Damaged, OtherVersion}
 use Rattle.register_sql.specs.Ages.{version_row, first_meta, LacksRow, IsAged}
+use Rattle.register_sql.specs.Binding.{IsSettled}
 use Rattle.register_sql.specs.Early.{IsEarlyOf, IsFirstEarlyWrong}
-use Rattle.register_sql.specs.Migrating.{Lacks, IsOfFirst, IsMigrateFault, IsFirstOf, IsRaisable, IsRaised, IsLeft, LeavesMoved, ComesMigrated, IsLifted, LeavesLifted, days_given, migrated, lifted}
+use Rattle.register_sql.specs.Migrating.{Lacks, IsOfFirst, IsMigrateFault, AreFirstApart, IsNoStore, IsUnfit, IsFirstOf, IsRaisable, IsRaised, IsLeft, LeavesMoved, ComesMigrated, IsLifted, LeavesLifted, days_given, migrated, lifted}
 use Rattle.register_sql.specs.Queries.{shown_in, IsPart, IsSame, IsApartIn, AreApart}
 use Rattle.register_sql.specs.Rows.{HasPart, AreRows, IsStored, Apart, meta_cells}
 use Rattle.register_sql.specs.Says.{HasOther, setup_rows_shown, setup_in}
@@ -33,8 +34,9 @@ use Rattle.register_sql.specs.declared.age.Age.TheVariants as age
 use Rattle.register_sql.specs.declared.queries.Query.TheVariants.{Metas, MetaIds}
 use Rattle.register_sql.proofs.Binds.{metas_read, same_metas, none_new, some_old, none_other, told_other, setup_rows_are, setups_shown, part_of, sound_in}
 use Rattle.register_sql.proofs.Contents.{content_in, same_part, unmapped}
+use Rattle.register_sql.proofs.Prefixes.{same_count}
 use Rattle.register_sql.proofs.Raised.{lifted_is}
-use Rattle.register_sql.proofs.Rising.{part_same, same_then}
+use Rattle.register_sql.proofs.Rising.{part_same, same_then, trees_same}
 
 -- ---- the law
 
@@ -124,12 +126,37 @@ has_the_setup S made db is c held =
 pub first_of : (S : Museum) (db : Trees) (rows : List Row) → IsPermutation (shown_in Metas db) rows → IsAged rows age.First → Decides true (IsPermutation (setup_rows_shown (setup_rows S)) (setup_in 5 db)) → IsFirstOf S db
 first_of S db rows read is has = record { meta = says_first S 5 (omega arith) db rows read is; setup = has_the_setup S 5 db has }
 
-pub left_as : (S : Museum) (made : ℕ) → made ≤ 6 → (old new : State) (fault : StoreFault) → IsPart made old → IsSame old new → ((c : Content) → HasPart made old.now.trees c → IsMigrateFault S c fault) → IsLeft S old new fault
-left_as S made few old new fault part same cause =
-    record { same = same; cause = λ c held. cause c (part_of made few old.now.trees (sound_in made old part) c held) }
+pub left_as : (S : Museum) (made : ℕ) → made ≤ 6 → (old new : State) (fault : StoreFault) → IsPart made old → IsSame old new → ((c : Content) → HasPart made old.now.trees c → IsMigrateFault S c fault) → fault ≢ Store → IsLeft S old new fault
+left_as S made few old new fault part same cause other =
+    record { same = same; cause = λ c held. cause c (part_of made few old.now.trees (sound_in made old part) c held); unfit = λ is. absurd (other is) }
+
+pub other_fault : (fault : StoreFault) → is_failure fault ≡ false → fault ≢ Store
+other_fault fault other is = absurd (let e : false ≡ true = sym other ∙ ap is_failure is in cc)
+
+pub left_unfit : (S : Museum) (old new : State) → IsSame old new → IsUnfit S old.now → IsLeft S old new Store
+left_unfit S old new same unfit = record { same = same; cause = λ c held. tt; unfit = λ is. unfit }
+
+pub left_no_store : (S : Museum) (old : State) → IsSettled old → IsNoStore old.now → IsLeft S old old Store
+left_no_store S old settled other =
+    left_unfit S old old (record { was_open = settled.is_open; is_open = settled.is_open; now = refl; committed = refl }) (inl other)
+
+pub other_tables : (S : Museum) (made : ℕ) → 1 ≤ made → made ≤ 6 → (old : State) (rows : List Row) → IsPart made old → IsPermutation (shown_in Metas old.now.trees) rows → IsAged rows age.First
+    → Decides true (IsPermutation (setup_rows_shown (setup_rows S)) (setup_in made old.now.trees)) → made ≢ 5 → IsUnfit S old.now
+other_tables S made some few old rows part read is has other =
+    let held : (c : Content) → IsStored old.now.trees c → HasPart made old.now.trees c = part_of made few old.now.trees (sound_in made old part) in
+    inr (record {
+      meta = λ c stored. says_first S made some old.now.trees rows read is c (held c stored);
+      setup = λ c stored. has_the_setup S made old.now.trees has c (held c stored);
+      unfit = inl (λ five. other (same_count made 5 few (omega arith) (sym part.schema ∙ five)));
+    })
+
+pub other_rowids : (S : Museum) (old : State) → IsPart 5 old → IsFirstOf S old.now.trees → ¬ AreFirstApart old.now.trees → IsUnfit S old.now
+other_rowids S old part first other =
+    let held : (c : Content) → IsStored old.now.trees c → HasPart 5 old.now.trees c = part_of 5 (omega arith) old.now.trees (sound_in 5 old part) in
+    inr (record { meta = λ c stored. first.meta c (held c stored); setup = λ c stored. first.setup c (held c stored); unfit = inr other })
 
 pub left_without_tables : (S : Museum) (old : State) → IsPart 0 old → IsSame old old → IsLeft S old old OtherVersion
-left_without_tables S old part same = left_as S 0 (omega arith) old old OtherVersion part same (no_table S old.now.trees)
+left_without_tables S old part same = left_as S 0 (omega arith) old old OtherVersion part same (no_table S old.now.trees) (other_fault OtherVersion refl)
 
 pub second_as : (made : ℕ) → 1 ≤ made → made ≤ 6 → (old new : State) (rows : List Row) → IsPart made old → IsSame old new → IsPermutation (shown_in Metas old.now.trees) rows → IsAged rows age.Second → (S : Museum) → IsRaised S old new
 second_as made some few old new rows part same read is S =
@@ -213,20 +240,19 @@ list_cause S c OtherSetup is meta setup why = absurd (let e : false ≡ true = i
 list_cause S c (Damaged at) is meta setup why = inr (meta, setup, why at refl)
 list_cause S c OtherVersion is meta setup why = absurd (let e : false ≡ true = is in cc)
 
-pub list_left : (S : Museum) (stations : ℕ) (fault : StoreFault) (old new : State) → stations ≡ length S.stations → IsRaisable S old → IsSame old new → is_of_listing fault ≡ true
+pub list_left : (S : Museum) (stations : ℕ) (fault : StoreFault) (old new : State) → stations ≡ length S.stations → IsRaisable S old → IsSame old new → is_of_listing fault ≡ true → fault ≢ Store
     → ((at : ℕ) → fault ≡ Damaged at → (c : Content) → HasPart 5 old.now.trees c → IsFirstEarlyWrong stations at c) → IsLeft S old new fault
-list_left S stations fault old new are raisable same is why =
+list_left S stations fault old new are raisable same is other why =
     left_as S 5 (omega arith) old new fault raisable.part same
     (λ c held. list_cause S c fault is (raisable.first.meta c held) (raisable.first.setup c held) (λ at fit. subst (λ n. IsFirstEarlyWrong n at c) are (why at fit c held)))
+    other
 
-pub decided : {E : Type 0} (r : Result Bool E) (P : Type 0) → IfOk r (λ b. Decides b P) → IfOk r (λ b. IsTrue b → P)
-decided (Err e) P is = tt
-decided (Ok b) P is = λ yes. is.0 yes
-
-pub metas_and_others : (old mid : State) (r : Result Bool Error) → IsSame old mid → IsApartIn MetaIds 5 old.now.trees → IfOk r (λ b. IsTrue b → AreApart 5 mid.now.trees)
-    → IfOk r (λ b. IsTrue b → Apart (old.now.trees 0) × AreApart 5 old.now.trees)
+pub metas_and_others : (old mid : State) (r : Result Bool Error) → IsSame old mid → IsApartIn MetaIds 5 old.now.trees → IfOk r (λ b. Decides b (AreApart 5 mid.now.trees))
+    → IfOk r (λ b. Decides b (AreFirstApart old.now.trees))
 metas_and_others old mid (Err e) same metas others = tt
-metas_and_others old mid (Ok b) same metas others = λ is. (metas, subst (λ (k : Database). AreApart 5 k.trees) same.now (others is))
+metas_and_others old mid (Ok b) same metas others =
+    let told : Decides b (AreApart 5 old.now.trees) = subst (λ db. Decides b (AreApart 5 db)) (trees_same old mid same) others in
+    ((λ is. (metas, told.0 is)), λ both. told.1 both.1)
 
 -- ---- after a read that changed nothing
 
@@ -243,7 +269,11 @@ raised_on S old mid new same (inl it) = inl (record {
 raised_on S old mid new same (inr it) = inr (record { same = same_then old mid new same it.same; second = λ c h. it.second c (subst (λ (k : Database). IsStored k.trees c) (sym same.now) h) })
 
 pub left_on : (S : Museum) (old mid new : State) (fault : StoreFault) → IsSame old mid → IsLeft S mid new fault → IsLeft S old new fault
-left_on S old mid new fault same it = record { same = same_then old mid new same it.same; cause = λ c h. it.cause c (subst (λ (k : Database). IsStored k.trees c) (sym same.now) h) }
+left_on S old mid new fault same it = record {
+  same = same_then old mid new same it.same;
+  cause = λ c h. it.cause c (subst (λ (k : Database). IsStored k.trees c) (sym same.now) h);
+  unfit = λ is. subst (IsUnfit S) same.now (it.unfit is);
+}
 
 leaves_on : (S : Museum) (old mid : State) → IsSame old mid → (db : Trees) → LeavesMoved S mid db → LeavesMoved S old db
 leaves_on S old mid same db it = record { sound = it.sound; content = it.content; comes = λ d h. subst (λ (k : Database). ComesMigrated S k.trees d) same.now (it.comes d h) }

@@ -1,5 +1,5 @@
 -- A store of version 1 computed on a worked list, what a migration makes of it, and why an extension is no entry of it.
-use Rattle.std.specs.Prelude.{◌≡◌, ℕ, ℤ, pos, true, false, List, [], ◌∷◌, Some, None, slice_index_or, codes, refl}
+use Rattle.std.specs.Prelude.{◌≡◌, ℕ, pos, true, false, List, [], ◌∷◌, Some, slice_index_or, codes, refl}
 use Rattle.std.specs.Str.{is_utf8, chars}
 use Rattle.std.proofs.Common.{arith}
 use Rattle.std.proofs.Math.Utf8.{encode}
@@ -24,7 +24,7 @@ use Rattle.register_store.proofs.WorkedTexts.{may, may-text, end_of_may, end_of_
 use Rattle.register_store.specs.StoredRows.{Content, SetupRow, PostingRow, TermRow, IsPostingRow, HasList, rows_of_setup, rows_of_meta}
 use Rattle.register_sql.specs.Ages.{first_meta}
 use Rattle.register_sql.specs.Early.{IsEarlyOf}
-use Rattle.register_sql.specs.Migrating.{IsOfFirst, IsMigrated, days_given, migrated}
+use Rattle.register_sql.specs.Migrating.{IsOfFirst, IsMigrated, days_given}
 use Rattle.register_sql.specs.Rows.{HasPart, IsStored}
 use Rattle.register_sql.specs.Tables.{prefix}
 

@@ -5,6 +5,7 @@ use Rattle.std.specs.List.Sorted.{IsPermutation}
 use Rattle.std.specs.Option.{option_map_or}
 use Rattle.nest_core.specs.Museum.{Museum}
 use Rattle.posting_core.specs.declared.entry.Entry.{Entry}
+use Rattle.sqlite.specs.Effect.{Database}
 use Rattle.sqlite.specs.State.{State}
 use Rattle.sqlite.specs.Tree.{Trees}
 use Rattle.sqlite_catalog.specs.Listing.{IsSound}
@@ -17,7 +18,7 @@ use Rattle.register_sql.specs.Early.{IsEarlyOf, IsFirstEarlyWrong}
 use Rattle.register_sql.specs.Posting.{Within, IsWhole, IsReady, with_each, with_some_term}
 use Rattle.register_sql.specs.Queries.{IsPart, IsSame, AreApart}
 use Rattle.register_sql.specs.Rows.{HasPart, AreRows, IsStored, Apart, meta_cells}
-use Rattle.register_sql.specs.Tables.{hub_schema}
+use Rattle.register_sql.specs.Tables.{prefix, hub_schema}
 
 -- no row says this version
 abbrev pub Lacks : ℕ → List MetaRow → Type 0
@@ -163,10 +164,29 @@ LeavesSix s = (db : Trees) → s.may_leave db → IsSound hub_schema db
 abbrev pub IsCompleted : State → State → Type 0
 IsCompleted old new = LeavesSix new ⊎ IsSecond old new
 
+-- the rowids of what a store of version 1 says of itself, of its setup, entries and lines, are numbers that differ
+abbrev pub AreFirstApart : Trees → Type 0
+AreFirstApart db = Apart (db 0) × AreApart 5 db
+
+-- a database whose tables are none of a store
+abbrev pub IsNoStore : Database → Type 0
+IsNoStore db = (made : ℕ) → db.schema ≢ prefix made
+
+-- one that says that it is of version 1, and has this setup, but other tables than its five, or rowids that don't differ
+pub record IsUnfitFirst (S : Museum) (db : Database) : Type 0 where
+  pub meta : (c : Content) → IsStored db.trees c → IsPermutation first_meta c.meta
+  pub setup : (c : Content) → IsStored db.trees c → IsPermutation (rows_of_setup S) c.setup
+  pub unfit : (db.schema ≢ prefix 5) ⊎ (¬ AreFirstApart db.trees)
+
+-- what is refused as Store, where no statement fails
+abbrev pub IsUnfit : Museum → Database → Type 0
+IsUnfit S db = IsNoStore db ⊎ IsUnfitFirst S db
+
 -- it is refused for this cause, and nothing is changed
 pub record IsLeft (S : Museum) (old new : State) (fault : StoreFault) : Type 0 where
   pub same : IsSame old new
   pub cause : (c : Content) → IsStored old.now.trees c → IsMigrateFault S c fault
+  pub unfit : fault ≡ Store → IsUnfit S old.now
 
 -- a database that is migrated
 pub record LeavesMoved (S : Museum) (old : State) (db : Trees) : Type 0 where

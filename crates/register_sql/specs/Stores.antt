@@ -13,17 +13,20 @@ use Rattle.register_sql.specs.Binding.{IsSettled}
 use Rattle.register_sql.specs.Posting.{IsReady}
 use Rattle.register_sql.specs.Rows.{AreRows, IsStored}
 
--- a register: its connection, whether a setup is bound to it and how many stations that has, and how often it refused
+-- a register: its connection, whether a setup is bound to it, whether a statement has failed, how many stations the setup
+-- has, and how often it refused
 pub record Kept (S : Type 0) : Type 0 where
   pub conn : Held S
   pub bound : Bool
+  pub stopped : Bool
   pub stations : ℕ
   pub refusals : ℕ
 
 abbrev pub kept_code : {S : Type 0} → Coded S → Coded (Kept S)
 kept_code {S} store =
-    code_by (Held S × (Bool × (ℕ × ℕ))) (coded× (held_code store) (coded× coded_bool (coded× coded_ℕ coded_ℕ)))
-    (λ r. (r.conn, (r.bound, (r.stations, r.refusals)))) (λ p. record { conn = p.0; bound = p.1.0; stations = p.1.1.0; refusals = p.1.1.1 }) (λ _. refl)
+    code_by (Held S × (Bool × (Bool × (ℕ × ℕ)))) (coded× (held_code store) (coded× coded_bool (coded× coded_bool (coded× coded_ℕ coded_ℕ))))
+    (λ r. (r.conn, (r.bound, (r.stopped, (r.stations, r.refusals)))))
+    (λ p. record { conn = p.0; bound = p.1.0; stopped = p.1.1.0; stations = p.1.1.1.0; refusals = p.1.1.1.1 }) (λ _. refl)
 
 -- the store is quiet where the disk has returned what was written, and it may hold the rows of each database that a later
 -- opening may find

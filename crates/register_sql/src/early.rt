@@ -75,6 +75,7 @@ pub(crate) fn early_list<S: Alter>(
         (c : stored.Content) → HasPart 5 (state S.Store conn.old).now.trees c → HasList (reverse entries.items) c)) }
     ensures known { IfOk result (λ answer. IfOk answer (λ entries. All (IsEarlyOf stations) entries.items)) }
     ensures faults { IfOk result (λ answer. IfErr answer (λ fault. is_of_listing fault ≡ true)) }
+    ensures able { IfOk result (λ answer. IfErr answer (λ fault. fault ≢ StoreFault.Store)) }
     ensures cause { HasCleanDisk (state S.Store conn.new) → IfOk result (λ answer. IfErr answer (λ fault. (at : ℕ) → fault ≡ StoreFault.Damaged at
         → (c : stored.Content) → HasPart 5 (state S.Store conn.old).now.trees c → IsFirstEarlyWrong stations at c)) }
     ensures same { HasCleanDisk (state S.Store conn.new)

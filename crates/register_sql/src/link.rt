@@ -1,12 +1,12 @@
 //! A connection that is asked nothing more once a statement has failed.
-ghost use Rattle.std.specs.Prelude.{◌≡◌, ◌≢◌, ◌⊎◌, true, Some, reverse, All, IfOk, IfErr, OnOk, OnErr};
+ghost use Rattle.std.specs.Prelude.{◌≡◌, ◌≢◌, ◌⊎◌, true, Some, Err, reverse, All, IsNone, IfOk, IfErr, OnOk, OnErr};
 ghost use Rattle.std.specs.Bool.{Decides};
 ghost use Rattle.sqlite.specs.Held.{state};
 ghost use Rattle.sqlite.specs.State.{HasCleanDisk};
 ghost use Rattle.register_store.specs.Holdings.{Each, Has, Comes, IsPosted, IsBound, IsNotBound};
 ghost use Rattle.register_store.specs.Registers.{is_failure, is_of_listing, IsOfStation, IsListFault};
 ghost use Rattle.register_store.specs.StoredRows.{AreSame, HasList, HasRows, IsBoundTo};
-ghost use Rattle.register_sql.specs.Migrating.{Migrates, IsNotMigrated, IsCompleted};
+ghost use Rattle.register_sql.specs.Migrating.{Migrates, IsNotMigrated, IsCompleted, IsUnfit};
 ghost use Rattle.register_sql.specs.Stores.{in_store, IsKept};
 
 use crate::agree::agrees;
@@ -93,6 +93,8 @@ pub(crate) fn migrate_store<S: Alter>(
     ensures whole { HasCleanDisk (state S.Store link.new.conn)
         → OnOk result (IsCompleted (state S.Store link.old.conn) (state S.Store link.new.conn)) }
     ensures refused { IfErr result (λ fault. Comes (in_store (state S.Store link.old.conn)) (in_store (state S.Store link.new.conn)) (IsNotMigrated setup.now fault)) }
+    ensures unfit { HasCleanDisk (state S.Store link.new.conn) → IsNone link.new.stopped
+        → result ≡ Err StoreFault.Store → IsUnfit setup.now (state S.Store link.old.conn).now }
     ensures still { link.new.bound ≡ link.old.bound }
 {
     if let Some(fault) = link.stopped {

@@ -1,5 +1,6 @@
 //! A store of version 1 is migrated to version 2; one of version 2 is never written.
-ghost use Rattle.std.specs.Prelude.{◌≡◌, ◌≤◌, ℕ, List, IsTrue, false, IfOk, IfErr, OnOk};
+ghost use Rattle.std.specs.Prelude.{◌≡◌, ◌≤◌, ℕ, List, false, IfOk, IfErr, OnOk};
+ghost use Rattle.std.specs.Bool.{Decides};
 ghost use Rattle.std.specs.List.Sorted.{IsPermutation};
 ghost use Rattle.nest_core.specs.Museum.{Museum};
 ghost use Rattle.posting_core.specs.declared.entry.Entry.{Entry};
@@ -9,10 +10,9 @@ ghost use Rattle.sqlite.specs.State.{HasCleanDisk, Survives};
 ghost use Rattle.register_store.specs.StoredRows.{rows_of_terms};
 ghost use Rattle.register_sql.specs.Ages.{IsAged};
 ghost use Rattle.register_sql.specs.Binding.{IsSettled};
-ghost use Rattle.register_sql.specs.Migrating.{days_given, IsFirstOf, IsRaisable, IsRaised, IsLeft, LeavesMoved};
+ghost use Rattle.register_sql.specs.Migrating.{days_given, AreFirstApart, IsFirstOf, IsRaisable, IsRaised, IsLeft, LeavesMoved};
 ghost use Rattle.register_sql.specs.Posting.{Survived};
-ghost use Rattle.register_sql.specs.Queries.{shown_in, IsPart, IsSame, AreApart};
-ghost use Rattle.register_sql.specs.Rows.{Apart};
+ghost use Rattle.register_sql.specs.Queries.{shown_in, IsPart, IsSame};
 ghost use Rattle.register_sql.specs.declared.age.Age.TheVariants as age;
 
 use crate::age::{Age, age_in};
@@ -41,7 +41,7 @@ fn are_first_apart<S: Alter>(conn: &mut Connection<S>) -> Result<bool, Error>
     requires part { HasCleanDisk (state S.Store conn.old) → IsPart 5 (state S.Store conn.old) }
     ensures between { conn.old.in_transaction ≡ false → conn.new.in_transaction ≡ false }
     ensures told { HasCleanDisk (state S.Store conn.new) → IfOk result (λ apart.
-        IsTrue apart → Apart ((state S.Store conn.old).now.trees 0) × AreApart 5 (state S.Store conn.old).now.trees) }
+        Decides apart (AreFirstApart (state S.Store conn.old).now.trees)) }
     ensures same { HasCleanDisk (state S.Store conn.new)
         → OnOk result (IsSame (state S.Store conn.old) (state S.Store conn.new)) }
     ensures survives { Survived (state S.Store conn.old) (state S.Store conn.new) }

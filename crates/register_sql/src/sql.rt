@@ -1,5 +1,5 @@
 //! The register over a connection to a database.
-ghost use Rattle.std.specs.Prelude.{◌≡◌, true, false, IsTrue, IfOk, IfErr, OnOk};
+ghost use Rattle.std.specs.Prelude.{◌≡◌, true, false, Err, IsTrue, IfOk, IfErr, OnOk};
 ghost use Rattle.sqlite.specs.Held.{state};
 ghost use Rattle.sqlite.specs.Files.{file_state};
 ghost use Rattle.sqlite.specs.State.{HasCleanDisk};
@@ -7,7 +7,7 @@ ghost use Rattle.sqlite.specs.Steps.{over_memory};
 ghost use Rattle.register_store.specs.Holdings.{Has, Comes};
 ghost use Rattle.register_store.specs.Registers.{is_failure, CountsRefusal};
 ghost use Rattle.register_sql.specs.Binding.{IsSettled};
-ghost use Rattle.register_sql.specs.Migrating.{Migrates, IsNotMigrated, IsCompleted};
+ghost use Rattle.register_sql.specs.Migrating.{Migrates, IsNotMigrated, IsCompleted, IsUnfit};
 ghost use Rattle.register_sql.specs.Stores.{in_store, no_rows};
 
 use crate::link::{
@@ -29,6 +29,7 @@ pub struct SqlRegister<S: Alter> {
 }
 
 impl<S: Alter> Model for SqlRegister<S> {
+    ghost use Rattle.std.specs.Prelude.{is_some};
     ghost use Rattle.sqlite.specs.Held.{state};
     ghost use Rattle.register_sql.specs.Stores.{Kept, kept_code, IsKept};
 
@@ -36,7 +37,13 @@ impl<S: Alter> Model for SqlRegister<S> {
 
     ghost coded = { kept_code S.code };
 
-    ghost view = { λ r. record { conn = r.link.conn; bound = r.link.bound; stations = r.stations; refusals = r.refusals } };
+    ghost view = { λ r. record {
+      conn = r.link.conn;
+      bound = r.link.bound;
+      stopped = is_some r.link.stopped;
+      stations = r.stations;
+      refusals = r.refusals;
+    } };
 
     ghost invariant = { λ r. IsKept (state S.Store r.link.conn) r.link.bound r.link.stopped };
 }
@@ -45,6 +52,7 @@ impl SqlRegister<MemStore> {
     /// A register over a new database in memory, which has no row. The fault: NoMemory.
     pub fn in_memory(alloc: Global) -> Result<SqlRegister<MemStore>, StoreFault>
         ensures new { IfOk result (λ r. (r.bound ≡ false) × (r.stations ≡ 0) × (r.refusals ≡ 0)) }
+        ensures going { IfOk result (λ r. r.stopped ≡ false) }
         ensures quiet { IfOk result (λ r. HasCleanDisk (state over_memory r.conn)) }
         ensures empty { IfOk result (λ r. Has (in_store (state over_memory r.conn)) (λ c. c ≡ no_rows)) }
         ensures memory { IfErr result (λ fault. fault ≡ StoreFault.NoMemory) }
@@ -65,6 +73,7 @@ impl SqlRegister<FileStore<File>> {
         path: &str,
     ) -> Result<SqlRegister<FileStore<File>>, StoreFault>
         ensures new { IfOk result (λ r. (r.bound ≡ false) × (r.stations ≡ 0) × (r.refusals ≡ 0)) }
+        ensures going { IfOk result (λ r. r.stopped ≡ false) }
         ensures open { IfOk result (λ r. HasCleanDisk (file_state r.conn) → IsSettled (file_state r.conn)) }
         ensures faults { IfErr result (λ fault. is_failure fault ≡ true) }
     {
@@ -84,6 +93,7 @@ impl<S: Alter> SqlRegister<S> {
         requires between { conn.in_transaction ≡ false }
         requires open { HasCleanDisk (state S.Store conn) → IsTrue (state S.Store conn).is_open }
         ensures new { (result.bound ≡ false) × (result.stations ≡ 0) × (result.refusals ≡ 0) }
+        ensures going { result.stopped ≡ false }
         ensures same { result.conn ≡ conn }
     {
         let _settled = conn.is_autocommit();
@@ -100,14 +110,18 @@ impl<S: Alter> SqlRegister<S> {
 
     /// Makes a store of version 1 with this setup one of version 2: its entries, spots, lines and setup stay as they are, and
     /// so does its depth limit, 8; it gets the table of last days, with those that its entries gave loans, and says version 2.
-    /// A store of version 2 stays as it is, whatever else is in it. The faults, first that holds: OtherVersion, of a new store too; Damaged(0),
-    /// where what the store says of itself isn't whole; OtherSetup; Damaged(i) as `all` tells it, where an extension, and the
-    /// verdict that refuses one, are no entry's of version 1. NoMemory and Store can stand in place of any answer.
+    /// A store of version 2 stays as it is, whatever else is in it. The faults, first that holds: Store, where the tables are
+    /// none of a store; OtherVersion, of a new store too; Damaged(0), where what the store says of itself isn't whole;
+    /// OtherSetup; Store, where the tables aren't the five of version 1, or their rowids aren't numbers that differ; Damaged(i)
+    /// as `all` tells it, where an extension, and the verdict that refuses one, are no entry's of version 1. NoMemory, and
+    /// Store where a statement has failed, can stand in place of any answer.
     pub fn migrate(&mut self, alloc: Global, setup: &Setup) -> Result<(), StoreFault>
         ensures migrated { OnOk result (Comes (in_store (state S.Store self.old.conn)) (in_store (state S.Store self.new.conn)) (Migrates setup.now)) }
         ensures whole { HasCleanDisk (state S.Store self.new.conn)
             → OnOk result (IsCompleted (state S.Store self.old.conn) (state S.Store self.new.conn)) }
         ensures refused { IfErr result (λ fault. Comes (in_store (state S.Store self.old.conn)) (in_store (state S.Store self.new.conn)) (IsNotMigrated setup.now fault)) }
+        ensures unfit { HasCleanDisk (state S.Store self.new.conn) → self.new.stopped ≡ false
+            → result ≡ Err StoreFault.Store → IsUnfit setup.now (state S.Store self.old.conn).now }
         ensures still { (self.new.bound ≡ self.old.bound) × (self.new.stations ≡ self.old.stations) }
         ensures count { CountsRefusal self.old.refusals self.new.refusals result }
     {

@@ -1,8 +1,9 @@
-use Rattle.std.proofs.Common.{◌≡◌, true, sym, subst, IfSome}
+use Rattle.std.proofs.Common.{◌≡◌, true, refl, sym, subst, IfSome}
+use Rattle.std.proofs.lemmas.Result.{IfErr-at_err}
 use Rattle.sqlite.specs.Held.{state}
 use Rattle.register_store.specs.Holdings.{Comes}
 use Rattle.register_store.specs.Registers.{is_failure}
-use Rattle.register_sql.specs.Migrating.{IsNotMigrated, LeavesMoved}
+use Rattle.register_sql.specs.Migrating.{IsNotMigrated, IsLeft, LeavesMoved}
 use Rattle.register_sql.specs.Stores.{in_store}
 use Rattle.register_sql.proofs.Holds.{Laws}
 use Rattle.register_sql.proofs.Moved.{answer_kept, ok_comes, ok_completed, err_comes, unmoved_comes, still_unmoved}
@@ -58,3 +59,8 @@ returns-in-Err-clause-refused g c =
     let after : Laws new = record { settled = g.met.S.Store.settled store; stays = g.met.S.Store.stays store; survives = g.met.S.Store.survives store } in
     subst (λ conn. Comes (in_store old) (in_store (state g.S.Store conn)) (IsNotMigrated S c.stop.result)) (sym c.stop.ensures.conn)
     (unmoved_comes S c.stop.result old new c.stop.ensures.failure before after (c.requires.settled c.in_default.is) c.migrate.ensures.crash)
+
+pub returns-in-Ok-clause-unfit : goal.returns-in-Ok-clause-unfit
+returns-in-Ok-clause-unfit g c clean going is =
+    let left = IsLeft c.args.setup.now (state g.S.Store c.args.link.now.conn) (state g.S.Store c.migrate.new.conn) in
+    (IfErr-at_err left is (c.in-Ok.ensures.refused clean)).unfit refl

@@ -1,10 +1,9 @@
 use Rattle.std.proofs.Common.{arith, rules}
 use Rattle.sqlite.specs.Held.{state}
 use Rattle.sqlite.specs.State.{HasCleanDisk}
-use Rattle.register_sql.specs.Queries.{AreApart}
 use Rattle.register_sql.proofs.Ends.{survives_on}
 use Rattle.register_sql.proofs.Rising.{part_same, on_same}
-use Rattle.register_sql.proofs.Migrations.{metas_and_others, decided}
+use Rattle.register_sql.proofs.Migrations.{metas_and_others}
 use Rattle.register_sql.proofs.migrate.are_first_apart.Goals as goal
 
 pub are_all_apart-others-requires-clause-part : goal.are_all_apart-others-requires-clause-part
@@ -19,7 +18,7 @@ returns-clause-told g c clean =
     let old = state g.S.Store c.args.conn.now in
     let mid = state g.S.Store c.is_apart.new.conn in
     let early : HasCleanDisk mid = omega (arith, clean, c.are_all_apart-others.ensures.survives.clean) in
-    metas_and_others old mid c.are_all_apart-others.result (c.in_ok-metas.ensures.same early) ((c.in_ok-metas.ensures.told early).0 (search rules)) (decided c.are_all_apart-others.result (AreApart 5 mid.now.trees) (c.are_all_apart-others.ensures.told clean))
+    metas_and_others old mid c.are_all_apart-others.result (c.in_ok-metas.ensures.same early) ((c.in_ok-metas.ensures.told early).0 (search rules)) (c.are_all_apart-others.ensures.told clean)
 
 pub returns-clause-same : goal.returns-clause-same
 returns-clause-same g c clean =

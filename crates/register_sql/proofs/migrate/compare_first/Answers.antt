@@ -1,15 +1,15 @@
-use Rattle.std.proofs.Common.{◌≡◌, arith, rules, map, subst, true, false}
+use Rattle.std.proofs.Common.{◌≡◌, ◌≢◌, refl, arith, rules, map, subst, true, false}
 use Rattle.std.specs.Bool.{Decides}
 use Rattle.std.specs.List.Sorted.{IsPermutation}
 use Rattle.std.specs.Prelude.{string_bytes}
 use Rattle.nest_core.specs.SetupTexts.{setup_rows}
 use Rattle.sqlite.specs.Held.{state}
 use Rattle.sqlite.specs.State.{HasCleanDisk}
-use Rattle.register_store.specs.declared.store_fault.StoreFault.TheVariants.{OtherSetup, Store}
+use Rattle.register_store.specs.declared.store_fault.StoreFault.TheVariants.{OtherSetup}
 use Rattle.register_sql.specs.Migrating.{IsRaised, IsLeft}
 use Rattle.register_sql.specs.Queries.{IsPart}
 use Rattle.register_sql.specs.Says.{setup_rows_shown, setup_in}
-use Rattle.register_sql.proofs.Migrations.{left_as, has_another_setup, first_of, first_on, raised_on, left_on, crash_on, weaker_ok, weaker_err}
+use Rattle.register_sql.proofs.Migrations.{left_as, left_unfit, other_fault, other_tables, has_another_setup, first_of, first_on, raised_on, left_on, crash_on, weaker_ok, weaker_err}
 use Rattle.register_sql.proofs.Rising.{part_same}
 use Rattle.register_sql.proofs.migrate.compare_first.Goals as goal
 
@@ -26,14 +26,22 @@ returns-then-not-same-clause-refused g c clean =
     let told = subst (λ ts. Decides c.in_ok-same.same (IsPermutation (setup_rows_shown ts) (setup_in made old.now.trees))) are (c.in_ok-same.ensures.told clean) in
     let differs : c.in_ok-same.same ≡ false = search rules in
     left_as S made c.requires.few old mid OtherSetup (c.requires.part early) (c.in_ok-same.ensures.same clean)
-    (has_another_setup S made c.requires.some old.now.trees it.0 it.1 it.2 (subst (λ b. Decides b (IsPermutation (setup_rows_shown (setup_rows S)) (setup_in made old.now.trees))) differs told))
+    (has_another_setup S made c.requires.some old.now.trees it.0 it.1 it.2 (subst (λ b. Decides b (IsPermutation (setup_rows_shown (setup_rows S)) (setup_in made old.now.trees))) differs told)) (other_fault OtherSetup refl)
 
 pub returns-then-made-ne5-clause-refused : goal.returns-then-made-ne5-clause-refused
 returns-then-made-ne5-clause-refused g c clean =
     let old = state g.S.Store c.args.conn.now in
     let mid = state g.S.Store c.has_setup.new.conn in
     let early : HasCleanDisk old = omega (arith, clean, c.has_setup.ensures.survives.clean) in
-    left_as c.args.setup.now c.args.made c.requires.few old mid Store (c.requires.part early) (c.in_ok-same.ensures.same clean) (λ k held. tt)
+    let S = c.args.setup.now in
+    let it = c.requires.told early in
+    let texts = map string_bytes c.deref.result.now in
+    let are : texts ≡ setup_rows S = search rules in
+    let told = subst (λ ts. Decides c.in_ok-same.same (IsPermutation (setup_rows_shown ts) (setup_in c.args.made old.now.trees))) are (c.in_ok-same.ensures.told clean) in
+    let equal : c.in_ok-same.same ≡ true = search rules in
+    let has = subst (λ b. Decides b (IsPermutation (setup_rows_shown (setup_rows S)) (setup_in c.args.made old.now.trees))) equal told in
+    let other : c.args.made ≢ 5 = search rules in
+    left_unfit S old mid (c.in_ok-same.ensures.same clean) (other_tables S c.args.made c.requires.some c.requires.few old it.0 (c.requires.part early) it.1 it.2 has other)
 
 pub move_first-answer-requires-clause-part : goal.move_first-answer-requires-clause-part
 move_first-answer-requires-clause-part g c clean =

@@ -1,10 +1,10 @@
-use Rattle.std.proofs.Common.{arith, subst}
+use Rattle.std.proofs.Common.{refl, arith, subst}
 use Rattle.sqlite.specs.Held.{state}
 use Rattle.sqlite.specs.State.{HasCleanDisk}
 use Rattle.register_store.specs.declared.store_fault.StoreFault.TheVariants.{OtherVersion, Damaged}
 use Rattle.register_sql.specs.Ages.{IsAged}
 use Rattle.register_sql.specs.Migrating.{IsRaised, IsLeft}
-use Rattle.register_sql.proofs.Migrations.{left_as, says_nothing, says_other, says_damaged, second_as, told_on, raised_on, left_on, crash_on, weaker_ok, weaker_err}
+use Rattle.register_sql.proofs.Migrations.{left_as, other_fault, says_nothing, says_other, says_damaged, second_as, told_on, raised_on, left_on, crash_on, weaker_ok, weaker_err}
 use Rattle.register_sql.proofs.Rising.{part_same}
 use Rattle.register_sql.proofs.migrate.migrate_told.Goals as goal
 
@@ -15,7 +15,7 @@ returns-in-New-clause-refused g c clean =
     let early : HasCleanDisk old = omega (arith, clean, c.age_in.ensures.survives.clean) in
     let it = c.in_ok-age.ensures.told clean in
     left_as S c.args.made c.requires.few old (state g.S.Store c.age_in.new.conn) OtherVersion (c.requires.part early) (c.in_ok-age.ensures.same clean)
-    (says_nothing S c.args.made c.requires.some old.now.trees it.0 it.1 (subst (IsAged it.0) c.in-New.is it.2))
+    (says_nothing S c.args.made c.requires.some old.now.trees it.0 it.1 (subst (IsAged it.0) c.in-New.is it.2)) (other_fault OtherVersion refl)
 
 pub returns-in-Other-clause-refused : goal.returns-in-Other-clause-refused
 returns-in-Other-clause-refused g c clean =
@@ -24,7 +24,7 @@ returns-in-Other-clause-refused g c clean =
     let early : HasCleanDisk old = omega (arith, clean, c.age_in.ensures.survives.clean) in
     let it = c.in_ok-age.ensures.told clean in
     left_as S c.args.made c.requires.few old (state g.S.Store c.age_in.new.conn) OtherVersion (c.requires.part early) (c.in_ok-age.ensures.same clean)
-    (says_other S c.args.made c.requires.some old.now.trees it.0 it.1 (subst (IsAged it.0) c.in-Other.is it.2))
+    (says_other S c.args.made c.requires.some old.now.trees it.0 it.1 (subst (IsAged it.0) c.in-Other.is it.2)) (other_fault OtherVersion refl)
 
 pub returns-in-Damaged-clause-refused : goal.returns-in-Damaged-clause-refused
 returns-in-Damaged-clause-refused g c clean =
@@ -33,7 +33,7 @@ returns-in-Damaged-clause-refused g c clean =
     let early : HasCleanDisk old = omega (arith, clean, c.age_in.ensures.survives.clean) in
     let it = c.in_ok-age.ensures.told clean in
     left_as S c.args.made c.requires.few old (state g.S.Store c.age_in.new.conn) (Damaged 0) (c.requires.part early) (c.in_ok-age.ensures.same clean)
-    (says_damaged S c.args.made c.requires.some old.now.trees it.0 it.1 (subst (IsAged it.0) c.in-Damaged.is it.2))
+    (says_damaged S c.args.made c.requires.some old.now.trees it.0 it.1 (subst (IsAged it.0) c.in-Damaged.is it.2)) (other_fault (Damaged 0) refl)
 
 pub returns-in-Second-clause-raised : goal.returns-in-Second-clause-raised
 returns-in-Second-clause-raised g c clean =

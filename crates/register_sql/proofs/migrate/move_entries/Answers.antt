@@ -1,9 +1,9 @@
-use Rattle.std.proofs.Common.{◌≡◌, true, ℕ, IfOk, IfErr, All, reverse, length, arith, rules, subst}
+use Rattle.std.proofs.Common.{◌≡◌, ◌≢◌, true, ℕ, IfOk, IfErr, All, reverse, length, arith, rules, subst}
 use Rattle.sqlite.specs.Held.{state}
 use Rattle.sqlite.specs.State.{HasCleanDisk, Survives}
 use Rattle.register_store.specs.Registers.{is_of_listing}
 use Rattle.register_store.specs.StoredRows.{Content, HasList}
-use Rattle.register_store.specs.declared.store_fault.StoreFault.TheVariants.{Damaged}
+use Rattle.register_store.specs.declared.store_fault.StoreFault.TheVariants.{Store, Damaged}
 use Rattle.register_sql.specs.Early.{IsEarlyOf, IsFirstEarlyWrong}
 use Rattle.register_sql.specs.Migrating.{IsLifted, LeavesLifted}
 use Rattle.register_sql.specs.Rows.{HasPart}
@@ -20,6 +20,7 @@ returns-in-Err-clause-refused g c clean =
     let are : c.stations.result ≡ length S.stations = search rules in
     list_left S c.stations.result c.in-Err.fault old mid are (c.requires.raisable early) (c.in_ok-listed.ensures.same clean)
     (subst (λ a. IfErr a (λ fault. is_of_listing fault ≡ true)) c.in-Err.is c.in_ok-listed.ensures.faults)
+    (subst (λ a. IfErr a (λ fault. fault ≢ Store)) c.in-Err.is c.in_ok-listed.ensures.able)
     (subst (λ a. IfErr a (λ fault. (at : ℕ) → fault ≡ Damaged at → (k : Content) → HasPart 5 old.now.trees k → IsFirstEarlyWrong c.stations.result at k)) c.in-Err.is (c.in_ok-listed.ensures.cause clean))
 
 pub returns-clause-raised : goal.returns-clause-raised

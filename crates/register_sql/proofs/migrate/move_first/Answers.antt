@@ -1,9 +1,9 @@
 use Rattle.std.proofs.Common.{arith, rules}
+use Rattle.std.proofs.lemmas.Bool.Decides.{not_from_Decides}
 use Rattle.sqlite.specs.Held.{state}
 use Rattle.sqlite.specs.State.{HasCleanDisk}
-use Rattle.register_store.specs.declared.store_fault.StoreFault.TheVariants.{Store}
 use Rattle.register_sql.specs.Migrating.{IsRaised, IsLeft}
-use Rattle.register_sql.proofs.Migrations.{left_as, raisable_on, raised_on, left_on, crash_on, weaker_ok, weaker_err}
+use Rattle.register_sql.proofs.Migrations.{left_unfit, other_rowids, raisable_on, raised_on, left_on, crash_on, weaker_ok, weaker_err}
 use Rattle.register_sql.proofs.migrate.move_first.Goals as goal
 
 pub returns-then-not-apart-clause-refused : goal.returns-then-not-apart-clause-refused
@@ -11,14 +11,15 @@ returns-then-not-apart-clause-refused g c clean =
     let old = state g.S.Store c.args.conn.now in
     let mid = state g.S.Store c.are_first_apart.new.conn in
     let early : HasCleanDisk old = omega (arith, clean, c.are_first_apart.ensures.survives.clean) in
-    left_as c.args.setup.now 5 (omega arith) old mid Store (c.requires.part early) (c.in_ok-apart.ensures.same clean) (λ k held. tt)
+    left_unfit c.args.setup.now old mid (c.in_ok-apart.ensures.same clean)
+    (other_rowids c.args.setup.now old (c.requires.part early) (c.requires.first early) (not_from_Decides c.in_ok-apart.apart (c.in_ok-apart.ensures.told clean) (search rules)))
 
 pub move_entries-answer-requires-clause-raisable : goal.move_entries-answer-requires-clause-raisable
 move_entries-answer-requires-clause-raisable g c clean =
     let old = state g.S.Store c.args.conn.now in
     let mid = state g.S.Store c.are_first_apart.new.conn in
     let early : HasCleanDisk old = omega (arith, clean, c.are_first_apart.ensures.survives.clean) in
-    let apart = c.in_ok-apart.ensures.told clean (search rules) in
+    let apart = (c.in_ok-apart.ensures.told clean).0 (search rules) in
     raisable_on c.args.setup.now old mid (c.requires.part early) (c.requires.first early) (c.in_ok-apart.ensures.same clean) apart.0 apart.1
 
 pub returns-clause-raised : goal.returns-clause-raised
