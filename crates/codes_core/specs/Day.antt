@@ -11,7 +11,8 @@ use Rattle.codes_core.specs.Grammar.{number_of, code_fault}
 abbrev pub is_day_shape : List ℕ → Bool
 is_day_shape text =
     (length text == 10) && list_all is_ascii_digit (take 4 text) && (slice_index text 4 == 45)
-    && list_all is_ascii_digit (slice_range text 5 7) && (slice_index text 7 == 45) && list_all is_ascii_digit (drop 8 text)
+    && list_all is_ascii_digit (slice_range text 5 7) && (slice_index text 7 == 45)
+    && list_all is_ascii_digit (drop 8 text)
 
 abbrev pub year_of : List ℕ → ℕ
 year_of text = number_of (take 4 text)
@@ -25,11 +26,14 @@ date_of text = number_of (drop 8 text)
 -- the calendar has this day, in the years 1 to 9999
 abbrev pub is_civil : ℕ → ℕ → ℕ → Bool
 is_civil year month date =
-    nat_lt 0 year && nat_lt 0 month && nat_le month 12 && nat_lt 0 date && nat_le date (days_in_month (pos year) month)
+    nat_lt 0 year && nat_lt 0 month && nat_le month 12 && nat_lt 0 date
+    && nat_le date (days_in_month (pos year) month)
 
 -- why the text is no day; without a fault it is the day of this number
 abbrev pub day_fault : List ℕ → Option CodeFault
-day_fault text = code_fault NoSuchDay (is_day_shape text) (is_civil (year_of text) (month_of text) (date_of text)) text
+day_fault text =
+    code_fault NoSuchDay (is_day_shape text)
+    (is_civil (year_of text) (month_of text) (date_of text)) text
 
 abbrev pub day_number : List ℕ → ℤ
 day_number text = days_from_civil (pos (year_of text)) (month_of text) (date_of text)
@@ -68,7 +72,8 @@ pub record CivilDay : Type 0 where
 -- the day after: the next of its month, else the first of the next month, else of the next year
 abbrev pub day_after : CivilDay → CivilDay
 day_after day =
-    if nat_lt day.date (days_in_month (pos day.year) day.month) then record { year = day.year; month = day.month; date = day.date + 1 }
+    if nat_lt day.date (days_in_month (pos day.year) day.month)
+    then record { year = day.year; month = day.month; date = day.date + 1 }
     else (if nat_lt day.month 12 then record { year = day.year; month = day.month + 1; date = 1 }
     else record { year = day.year + 1; month = 1; date = 1 })
 

@@ -11,7 +11,8 @@ is_out text = starts_with nat_eq text (codes "LO")
 
 -- LO or LI, four digits and one group
 abbrev pub is_loan_shape : List ℕ → Bool
-is_loan_shape text = (is_out text || starts_with nat_eq text (codes "LI")) && are_groups 1 (groups (drop 2 text))
+is_loan_shape text =
+    (is_out text || starts_with nat_eq text (codes "LI")) && are_groups 1 (groups (drop 2 text))
 
 abbrev pub has_loan_number : List ℕ → Bool
 has_loan_number text = has_right_groups (groups (drop 2 text))

@@ -15,7 +15,8 @@ thing_kind (b ∷ bs) = if b == 67 then Container else (if b == 76 then Borrowed
 -- the text without the one letter a-z that may stand at its end
 abbrev pub without_letter : List ℕ → List ℕ
 without_letter text =
-    if is_ascii_lowercase (slice_index text (length text - 1)) then take (length text - 1) text else text
+    if is_ascii_lowercase (slice_index text (length text - 1)) then take (length text - 1) text
+    else text
 
 -- four digits, one to three groups, at most one letter
 abbrev pub is_object_shape : List ℕ → Bool
@@ -28,12 +29,14 @@ has_object_numbers text = has_right_groups (groups (without_letter text))
 abbrev pub is_thing_shape : List ℕ → Bool
 is_thing_shape [] = false
 is_thing_shape (b ∷ bs) =
-    if b == 67 then is_digits bs else (if b == 76 then is_object_shape bs else is_object_shape (b ∷ bs))
+    if b == 67 then is_digits bs
+    else (if b == 76 then is_object_shape bs else is_object_shape (b ∷ bs))
 
 abbrev pub has_thing_numbers : List ℕ → Bool
 has_thing_numbers [] = true
 has_thing_numbers (b ∷ bs) =
-    if b == 67 then is_right_number bs else (if b == 76 then has_object_numbers bs else has_object_numbers (b ∷ bs))
+    if b == 67 then is_right_number bs
+    else (if b == 76 then has_object_numbers bs else has_object_numbers (b ∷ bs))
 
 -- why the text is no thing's code; without a fault it is the code
 abbrev pub thing_fault : List ℕ → Option CodeFault

@@ -40,7 +40,8 @@ impl Day {
     /// The day that the bytes spell, else their first fault: Empty, BadShape, or NoSuchDay where the year is
     /// 0000 or the calendar has no such day.
     pub fn parse(bytes: &[u8]) -> Result<Day, CodeFault>
-        ensures exact { MatchResult result (λ day. (day ≡ day_number bytes.now) × (day_fault bytes.now ≡ None))
+        ensures exact { MatchResult result
+            (λ day. (day ≡ day_number bytes.now) × (day_fault bytes.now ≡ None))
             (λ fault. day_fault bytes.now ≡ Some fault) }
     {
         if bytes.is_empty() {
@@ -60,8 +61,11 @@ impl Day {
 
     /// Appends the day's one spelling; after NoMemory the text is unchanged.
     pub fn write(&self, _alloc: Global, out: &mut String) -> Result<(), NoMemory>
-        ensures ok { OnOk result ((text : List ℕ) × IsOnlySpelling text self.now × (string_bytes out.new ≡ string_bytes out.old ++ text)) }
-        ensures text { OnOk result (string_bytes out.new ≡ string_bytes out.old ++ day_text self.now) }
+        ensures ok { OnOk result
+            ((text : List ℕ) × IsOnlySpelling text self.now
+            × (string_bytes out.new ≡ string_bytes out.old ++ text)) }
+        ensures text { OnOk result
+            (string_bytes out.new ≡ string_bytes out.old ++ day_text self.now) }
         ensures err { OnErr result (string_bytes out.new ≡ string_bytes out.old) }
     {
         self.spelling().write(out)

@@ -34,7 +34,8 @@ impl LoanCode {
     /// The code that the bytes spell, else their first fault: Empty, BadShape or BadNumber.
     pub fn parse(bytes: &[u8]) -> Result<LoanCode, CodeFault>
         // What is read is the bytes themselves, and nothing else is a code.
-        ensures exact { MatchResult result (λ code. (code ≡ bytes.now) × (loan_fault bytes.now ≡ None))
+        ensures exact { MatchResult result
+            (λ code. (code ≡ bytes.now) × (loan_fault bytes.now ≡ None))
             (λ fault. loan_fault bytes.now ≡ Some fault) }
     {
         test(bytes, is_loan_shape(bytes), has_loan_number(bytes))?;

@@ -28,7 +28,8 @@ impl Name {
     /// The name that the bytes are, else their first fault: Empty, BadShape, or NoMemory where a growth was refused.
     pub fn new(alloc: Global, bytes: &[u8]) -> Result<Name, NameFault>
         // NoMemory can come of any bytes that are a name.
-        ensures exact { MatchResult result (λ name. (name ≡ bytes.now) × IsName bytes.now) (λ fault. IsNameFault fault bytes.now) }
+        ensures exact { MatchResult result (λ name. (name ≡ bytes.now) × IsName bytes.now)
+            (λ fault. IsNameFault fault bytes.now) }
     {
         if bytes.is_empty() {
             return Err(NameFault::Empty);

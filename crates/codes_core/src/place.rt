@@ -34,7 +34,8 @@ impl PlaceCode {
     /// The code that the bytes spell, else their first fault: Empty or BadShape.
     pub fn parse(bytes: &[u8]) -> Result<PlaceCode, CodeFault>
         // What is read is the bytes themselves, and nothing else is a code.
-        ensures exact { MatchResult result (λ code. (code ≡ bytes.now) × (place_fault bytes.now ≡ None))
+        ensures exact { MatchResult result
+            (λ code. (code ≡ bytes.now) × (place_fault bytes.now ≡ None))
             (λ fault. place_fault bytes.now ≡ Some fault) }
     {
         // A place has no number that could be wrong.

@@ -26,7 +26,8 @@ impl<const N: usize> Model for Spelling<N> {
 
     ghost view = { λ s. take s.len s.text };
 
-    ghost invariant = { λ s. IsAscii (take s.len s.text) × (length s.text ≡ N) × (s.len ≤ N) × (drop s.len s.text ≡ replicate (N - s.len) 0) };
+    ghost invariant = { λ s. IsAscii (take s.len s.text) × (length s.text ≡ N) × (s.len ≤ N)
+        × (drop s.len s.text ≡ replicate (N - s.len) 0) };
 
     ghost inverse = { λ v. record { text = v ++ replicate (N - length v) 0; len = length v } };
 

@@ -46,7 +46,8 @@ impl ThingCode {
     /// The code that the bytes spell, else their first fault: Empty, BadShape or BadNumber.
     pub fn parse(bytes: &[u8]) -> Result<ThingCode, CodeFault>
         // What is read is the bytes themselves, and nothing else is a code.
-        ensures exact { MatchResult result (λ code. (code ≡ bytes.now) × (thing_fault bytes.now ≡ None))
+        ensures exact { MatchResult result
+            (λ code. (code ≡ bytes.now) × (thing_fault bytes.now ≡ None))
             (λ fault. thing_fault bytes.now ≡ Some fault) }
     {
         test(bytes, is_thing_shape(bytes), has_thing_numbers(bytes))?;

@@ -41,10 +41,12 @@ abbrev pub setup_needed : App → Form
 setup_needed app = one_needed app (codes "setup")
 
 abbrev pub both_needed : App → Form
-both_needed app = record { app = app; needed = codes "setup" ∷ codes "store" ∷ []; is_report = false }
+both_needed app =
+    record { app = app; needed = codes "setup" ∷ codes "store" ∷ []; is_report = false }
 
 abbrev pub all_needed : App → Text → Form
-all_needed app id = record { app = app; needed = codes "setup" ∷ codes "store" ∷ id ∷ []; is_report = false }
+all_needed app id =
+    record { app = app; needed = codes "setup" ∷ codes "store" ∷ id ∷ []; is_report = false }
 
 abbrev pub report : Form → Form
 report form = record form { is_report = true }
@@ -56,40 +58,60 @@ abbrev pub serve : Form
 serve = setup_needed (with_rule (register_app (codes "serve")) (words_rule (codes "feeds")))
 
 abbrev pub count : Form
-count = report (all_needed (report_app (with_rule (register_app (codes "count")) (word_rule (codes "list")))) (codes "list"))
+count = report
+    (all_needed (report_app (with_rule (register_app (codes "count")) (word_rule (codes "list"))))
+    (codes "list"))
 
 abbrev pub overdue : Form
-overdue = report (all_needed (report_app (with_rule (register_app (codes "overdue")) (option_rule (codes "on")))) (codes "on"))
+overdue = report
+    (all_needed
+    (report_app (with_rule (register_app (codes "overdue")) (option_rule (codes "on"))))
+    (codes "on"))
 
 abbrev pub away : Form
 away = report (both_needed (report_app (register_app (codes "away"))))
 
 abbrev pub history : Form
-history = report (all_needed (report_app (with_rule (register_app (codes "history")) (word_rule (codes "code")))) (codes "code"))
+history = report
+    (all_needed
+    (report_app (with_rule (register_app (codes "history")) (word_rule (codes "code"))))
+    (codes "code"))
 
 abbrev pub migrate : Form
 migrate = both_needed (register_app (codes "migrate"))
 
 abbrev pub explain : Form
-explain = one_needed (with_rule (new_app (codes "explain")) (word_rule (codes "name"))) (codes "name")
+explain = one_needed (with_rule (new_app (codes "explain")) (word_rule (codes "name")))
+    (codes "name")
 
 abbrev pub stations : Form
 stations = report (both_needed (report_app (register_app (codes "stations"))))
 
 abbrev pub where_is : Form
-where_is = report (all_needed (report_app (with_rule (register_app (codes "where")) (word_rule (codes "code")))) (codes "code"))
+where_is = report
+    (all_needed (report_app (with_rule (register_app (codes "where")) (word_rule (codes "code"))))
+    (codes "code"))
 
 abbrev pub contents : Form
-contents = report (all_needed (report_app (with_rule (register_app (codes "contents")) (word_rule (codes "code")))) (codes "code"))
+contents = report
+    (all_needed
+    (report_app (with_rule (register_app (codes "contents")) (word_rule (codes "code"))))
+    (codes "code"))
 
 abbrev pub loan : Form
-loan = report (all_needed (report_app (with_rule (register_app (codes "loan")) (word_rule (codes "code")))) (codes "code"))
+loan = report
+    (all_needed (report_app (with_rule (register_app (codes "loan")) (word_rule (codes "code"))))
+    (codes "code"))
 
 abbrev pub at : Form
-at = report (all_needed (report_app (with_rule (register_app (codes "at")) (word_rule (codes "place")))) (codes "place"))
+at = report
+    (all_needed (report_app (with_rule (register_app (codes "at")) (word_rule (codes "place"))))
+    (codes "place"))
 
 abbrev pub posted : Form
-posted = report (both_needed (report_app (with_rule (register_app (codes "posted")) (option_rule (codes "from")))))
+posted = report
+    (both_needed
+    (report_app (with_rule (register_app (codes "posted")) (option_rule (codes "from")))))
 
 abbrev pub commands : List Form
 commands = replay ∷ serve ∷ count ∷ overdue ∷ away ∷ history ∷ migrate
@@ -98,7 +120,8 @@ commands = replay ∷ serve ∷ count ∷ overdue ∷ away ∷ history ∷ migra
 -- the program with none of its commands yet
 abbrev pub program_alone : App
 program_alone =
-    record (new_app (codes "pairsalder")) { top = record (new_app (codes "pairsalder")).top { has_version = true } }
+    record (new_app (codes "pairsalder"))
+    { top = record (new_app (codes "pairsalder")).top { has_version = true } }
 
 -- all commands at once, for words that name none of them
 abbrev pub overview : App

@@ -38,7 +38,9 @@ IsNamed words name = slice_get words 0 ≡ Some name
 
 -- the command whose name is the first word
 abbrev pub form_named : List Text → Option Form
-form_named words = option_and_then (λ word. find (λ form. bytes_eq word form.app.top.name) commands) (slice_get words 0)
+form_named words =
+    option_and_then (λ word. find (λ form. bytes_eq word form.app.top.name) commands)
+    (slice_get words 0)
 
 -- all values of an argument, in clap's matches
 abbrev pub all_in : Text → List Row → List Text
@@ -67,7 +69,8 @@ format_by false true = Some Json
 format_by false false = Some Lines
 
 abbrev pub format_in : App → List Text → Option Format
-format_in app words = format_by (is_given app words (codes "csv")) (is_given app words (codes "json"))
+format_in app words =
+    format_by (is_given app words (codes "csv")) (is_given app words (codes "json"))
 
 -- the words name this command, and give it these values
 abbrev pub IsChosen : List Text → Chosen → Type 0
@@ -135,11 +138,14 @@ IsChosen words (command.Posted setup store from format) = IsNamed words (codes "
 
 -- what is refused in the words of a report: what clap refuses, and then both forms of its rows at once
 abbrev pub report_kinds : App → List Text → Kinds
-report_kinds app words = or_else (fault_of app words) (option_map_or (λ format. []) (format_in app words) (ArgumentConflict ∷ []))
+report_kinds app words =
+    or_else (fault_of app words)
+    (option_map_or (λ format. []) (format_in app words) (ArgumentConflict ∷ []))
 
 -- what is refused in words that name a command, or none; where nothing is refused the list is empty
 abbrev pub kinds_by : Option Form → List Text → Kinds
-kinds_by (Some form) words = if form.is_report then report_kinds form.app words else fault_of form.app words
+kinds_by (Some form) words =
+    if form.is_report then report_kinds form.app words else fault_of form.app words
 kinds_by None words = fault_of overview (codes "pairsalder" ∷ words)
 
 -- a value that the command needs isn't there, or there is no command

@@ -281,7 +281,8 @@ pub(crate) fn read_report_and<'a>(
     ensures { MatchResult result
         (λ r. GivesReport (app_of command.entry) (texts_of words.now) r.0
         × (value (app_of command.entry) (texts_of words.now) id.now ≡ Some r.1.now))
-        (IsFaultBy (Some (report (all_needed (app_of command.entry) id.now))) (texts_of words.now)) }
+        (IsFaultBy (Some (report (all_needed (app_of command.entry) id.now)))
+        (texts_of words.now)) }
 {
     let asked = read_asked(command, words, id)?;
     let report = Report {

@@ -27,5 +27,7 @@ answer_of_row B rows i = slice_get (answers B rows) i
 
 -- the rows name everything in the places that they mention
 abbrev pub CountsAll : Book → List CountRow → Type 0
-CountsAll B rows = (q x : ℕ) (code : List ℕ) → Contains (mentioned B.museum rows) q → place_code_of B.museum q ≡ Some code → Contains (in_place B code) x
+CountsAll B rows =
+    (q x : ℕ) (code : List ℕ) → Contains (mentioned B.museum rows) q
+    → place_code_of B.museum q ≡ Some code → Contains (in_place B code) x
     → names B.museum rows x ≡ true

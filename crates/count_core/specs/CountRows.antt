@@ -16,10 +16,13 @@ has_thing row = nat_lt 1 (field_count row)
 
 -- its first field is a place's code, and its second, if it has one, a thing's
 abbrev pub has_codes : Fields → Bool
-has_codes row = is_none (place_fault (field row 0)) && (not (has_thing row) || is_none (thing_fault (field row 1)))
+has_codes row =
+    is_none (place_fault (field row 0))
+    && (not (has_thing row) || is_none (thing_fault (field row 1)))
 
 abbrev pub count_row : Fields → CountRow
-count_row row = record { place = field row 0; object = if has_thing row then Some (field row 1) else None }
+count_row row =
+    record { place = field row 0; object = if has_thing row then Some (field row 1) else None }
 
 -- what a row without a fault counts; a row without a field is skipped
 abbrev pub counted : Fields → Option CountRow
@@ -43,13 +46,16 @@ is_full kept = nat_le MOST_COUNT_ROWS kept
 
 -- the first fault of row n, where so many were kept before it
 abbrev pub row_fault : ℕ → ℕ → Fields → Option CountFault
-row_fault kept n row = option_or (own_fault n row) (if is_some (counted row) && is_full kept then Some (TooMany n) else None)
+row_fault kept n row =
+    option_or (own_fault n row)
+    (if is_some (counted row) && is_full kept then Some (TooMany n) else None)
 
 -- the fault of the first row that has one, behind the rows before
 abbrev pub first_fault : List Fields → List Fields → Option CountFault
 first_fault before [] = None
 first_fault before (row ∷ rows) =
-    option_or (row_fault (length (counts_of before)) (length before + 1) row) (first_fault (before ++ row ∷ []) rows)
+    option_or (row_fault (length (counts_of before)) (length before + 1) row)
+    (first_fault (before ++ row ∷ []) rows)
 
 -- why the bytes are no count list: they are not UTF-8, or a row has a fault
 abbrev pub count_fault : List ℕ → Option CountFault

@@ -18,25 +18,35 @@ found_from S sought (Some p) = if lies_at S p sought then Found else Elsewhere p
 
 -- a thing sought at that place, none where the setup doesn't have it
 abbrev pub answer_for : Book → List ℕ → Option ℕ → CountAnswer
-answer_for B sought thing = option_map_or (λ x. found_from B.museum sought (place_in B x)) thing UnknownObject
+answer_for B sought thing =
+    option_map_or (λ x. found_from B.museum sought (place_in B x)) thing UnknownObject
 
 abbrev pub look_object : Book → List ℕ → List ℕ → CountAnswer
 look_object B sought code = answer_for B sought (find_thing B.museum code)
 
 -- what is said to a row that names its thing first
 abbrev pub look : Book → CountRow → CountAnswer
-look B row = if is_none (find_place B.museum row.place) then UnknownPlace else option_map_or (look_object B row.place) row.object Counted
+look B row =
+    if is_none (find_place B.museum row.place) then UnknownPlace
+    else option_map_or (look_object B row.place) row.object Counted
 
 -- the number of the thing that the row names
 abbrev pub named : Museum → CountRow → Option ℕ
 named S row = option_and_then (find_thing S) row.object
 
 abbrev pub looked_of : Book → CountRow → Looked
-looked_of B row = record { answer = look B row; thing = named B.museum row; place = find_place B.museum row.place }
+looked_of B row =
+    record {
+      answer = look B row;
+      thing = named B.museum row;
+      place = find_place B.museum row.place;
+    }
 
 -- row i, from 0
 abbrev pub look_at : Book → List CountRow → ℕ → Looked
-look_at B rows i = option_map_or (looked_of B) (slice_get rows i) (record { answer = UnknownPlace; thing = None; place = None })
+look_at B rows i =
+    option_map_or (looked_of B) (slice_get rows i)
+    (record { answer = UnknownPlace; thing = None; place = None })
 
 -- one of these rows names thing x
 abbrev pub names : Museum → List CountRow → ℕ → Bool
@@ -100,7 +110,8 @@ missing_at q x = record { place = q; object = x }
 
 -- the objects that the list misses in place q, ascending
 abbrev pub missing_in : Book → List CountRow → ℕ → List MissingObject
-missing_in B rows q = map (missing_at q) (filter (is_missing B rows q) (range_with_len 0 (length B.museum.things)))
+missing_in B rows q =
+    map (missing_at q) (filter (is_missing B rows q) (range_with_len 0 (length B.museum.things)))
 
 -- the objects that the list misses, place by place
 abbrev pub missing : Book → List CountRow → List MissingObject

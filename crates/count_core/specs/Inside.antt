@@ -38,6 +38,8 @@ abbrev pub is_unflagged_in : Book → List Bool → ℕ → ℕ → Bool
 is_unflagged_in B flags q x = is_unflagged B.museum flags x && is_within B q x
 
 -- a list for each place: of the first n things the objects in it that have no flag, ascending
-pub record AreUnflaggedIn (B : Book) (flags : List Bool) (n : ℕ) (xss : List (List ℕ)) : Type 0 where
+pub record AreUnflaggedIn (B : Book) (flags : List Bool) (n : ℕ)
+    (xss : List (List ℕ)) : Type 0 where
   pub many : length xss ≡ length B.museum.places
-  pub each : (q : ℕ) → q < length B.museum.places → list_at xss q ≡ filter (is_unflagged_in B flags q) (range_with_len 0 n)
+  pub each : (q : ℕ) → q < length B.museum.places
+      → list_at xss q ≡ filter (is_unflagged_in B flags q) (range_with_len 0 n)

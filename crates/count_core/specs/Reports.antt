@@ -25,7 +25,8 @@ is_owed B loan o = option_map_or is_out_still (line_in B loan o) false
 
 -- the loan's last day has passed, and an object of it is still owed
 abbrev pub is_overdue : Book → ℤ → List ℕ → Bool
-is_overdue B day loan = is_over B.posted loan day && list_any (is_owed B loan) (objects_of_loan B loan)
+is_overdue B day loan =
+    is_over B.posted loan day && list_any (is_owed B loan) (objects_of_loan B loan)
 
 -- the overdue loans, in the order of their agreements
 abbrev pub overdue : Book → ℤ → List (List ℕ)

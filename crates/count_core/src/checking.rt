@@ -36,8 +36,10 @@ pub fn check(
 ) -> Result<CountReport, NoMemory>
     ensures answers { IfOk result (λ report. report.answers.items ≡ answers ledger.now rows.now) }
     ensures missing { IfOk result (λ report. report.missing.items ≡ missing ledger.now rows.now) }
-    ensures known { IfOk result (λ report. All (IsAnswerIn ledger.now.museum) report.answers.items) }
-    ensures within { IfOk result (λ report. All (IsMissingIn ledger.now.museum) report.missing.items) }
+    ensures known { IfOk result
+        (λ report. All (IsAnswerIn ledger.now.museum) report.answers.items) }
+    ensures within { IfOk result
+        (λ report. All (IsMissingIn ledger.now.museum) report.missing.items) }
 {
     check_by(rt, alloc, ledger, rows, &NoProbe)
 }
@@ -52,8 +54,10 @@ pub fn check_by<P: Probe + Sync>(
 ) -> Result<CountReport, NoMemory>
     ensures answers { IfOk result (λ report. report.answers.items ≡ answers ledger.now rows.now) }
     ensures missing { IfOk result (λ report. report.missing.items ≡ missing ledger.now rows.now) }
-    ensures known { IfOk result (λ report. All (IsAnswerIn ledger.now.museum) report.answers.items) }
-    ensures within { IfOk result (λ report. All (IsMissingIn ledger.now.museum) report.missing.items) }
+    ensures known { IfOk result
+        (λ report. All (IsAnswerIn ledger.now.museum) report.answers.items) }
+    ensures within { IfOk result
+        (λ report. All (IsMissingIn ledger.now.museum) report.missing.items) }
 {
     ledger.is_lawful();
     let looked = looked(rt, alloc, ledger, rows, probe)?;

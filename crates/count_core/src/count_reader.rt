@@ -32,7 +32,8 @@ pub fn read_counts(alloc: Global, bytes: &[u8]) -> Result<Vec<CountRow>, CountFa
 /// What the rows list, else the fault of the first that has one, or NoMemory.
 fn read_rows(alloc: Global, bytes: &[u8]) -> Result<Vec<CountRow>, CountFault>
     ensures { MatchResult result
-        (λ rows. (first_fault [] (rows_of bytes.now) ≡ None) × (rows.items ≡ counts_of (rows_of bytes.now)))
+        (λ rows. (first_fault [] (rows_of bytes.now) ≡ None)
+        × (rows.items ≡ counts_of (rows_of bytes.now)))
         (λ fault. fault ≢ CountFault.NoMemory → first_fault [] (rows_of bytes.now) ≡ Some fault) }
 {
     let mut kept = Vec::new(alloc);
@@ -92,7 +93,8 @@ fn keep(
 /// What row `number` counts, or nothing where it is skipped; else its first fault by itself: BadFields or BadCode.
 fn read_row(number: u64, row: &ByteRecord) -> Result<Option<CountRow>, CountFault>
     ensures { MatchResult result
-        (λ read. (own_fault number (fields_of row.now) ≡ None) × (read ≡ counted (fields_of row.now)))
+        (λ read. (own_fault number (fields_of row.now) ≡ None)
+        × (read ≡ counted (fields_of row.now)))
         (λ fault. own_fault number (fields_of row.now) ≡ Some fault) }
 {
     let fields = field_count(row);

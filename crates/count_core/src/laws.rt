@@ -24,7 +24,8 @@ pub fn away_is_not_at_the_normal_place()
         → is_own B.museum x ≡ true }
     ensures told { (B : Book) (x : ℕ) → Contains (away B) (away_object B x)
         → place_in B x ≢ normal_of B.museum x }
-    ensures all { (B : Book) (x : ℕ) → is_own B.museum x ≡ true → place_in B x ≢ normal_of B.museum x
+    ensures all { (B : Book) (x : ℕ) → is_own B.museum x ≡ true
+        → place_in B x ≢ normal_of B.museum x
         → Contains (away B) (away_object B x) }
 {}
 
@@ -37,7 +38,8 @@ pub fn places_hold_what_lies_in_them()
 /// Each thing with a place is in that place, and at one place only: of two places that it is in, one lies in the other.
 pub fn things_are_at_one_place()
     ensures somewhere { (B : Book) (x p : ℕ) (code : List ℕ) → x < length B.museum.things
-        → place_in B x ≡ Some p → place_code_of B.museum p ≡ Some code → Contains (in_place B code) x }
+        → place_in B x ≡ Some p → place_code_of B.museum p ≡ Some code
+        → Contains (in_place B code) x }
     ensures once { (B : Book) (x : ℕ) (one other : List ℕ)
         → Contains (in_place B one) x → Contains (in_place B other) x
         → (lies_in one other ≡ true) ⊎ (lies_in other one ≡ true) }

@@ -27,7 +27,8 @@ pub(crate) fn marked(
     requires { looked.now ≡ map (look_at ledger.now rows.now) (range_with_len 0 (length rows.now)) }
     ensures answers { IfOk result (λ m. m.answers.items ≡ answers ledger.now rows.now) }
     ensures named { IfOk result (λ m.
-        AreNames (named ledger.now.museum) (length ledger.now.museum.things) rows.now m.named.items) }
+        AreNames (named ledger.now.museum)
+        (length ledger.now.museum.things) rows.now m.named.items) }
 {
     let mut flags = vec![in alloc; false; ledger.setup().things() as usize]?;
     let mut done = Vec::new(alloc);

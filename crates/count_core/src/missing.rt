@@ -22,8 +22,10 @@ pub(crate) fn missing(
     looked: &[Looked],
     flags: &[bool],
 ) -> Result<Vec<MissingObject>, NoMemory>
-    requires looked { looked.now ≡ map (look_at ledger.now rows.now) (range_with_len 0 (length rows.now)) }
-    requires flags { AreNames (named ledger.now.museum) (length ledger.now.museum.things) rows.now flags.now }
+    requires looked { looked.now
+        ≡ map (look_at ledger.now rows.now) (range_with_len 0 (length rows.now)) }
+    requires flags { AreNames (named ledger.now.museum)
+        (length ledger.now.museum.things) rows.now flags.now }
     ensures missing { IfOk result (λ v. v.items ≡ missing ledger.now rows.now) }
     ensures within { IfOk result (λ v. All (IsMissingIn ledger.now.museum) v.items) }
 {

@@ -84,7 +84,8 @@ fn is_away(ledger: &Ledger, thing: ThingNo) -> bool
 /// The things whose place is the one with the code, or lies in it, ascending; else NoMemory.
 pub fn in_place(alloc: Global, ledger: &Ledger, place: &PlaceCode) -> Result<Vec<ThingNo>, NoMemory>
     ensures things { IfOk result (λ things. things.items ≡ in_place ledger.now place.now) }
-    ensures within { IfOk result (λ things. All (λ x. x < length ledger.now.museum.things) things.items) }
+    ensures within { IfOk result
+        (λ things. All (λ x. x < length ledger.now.museum.things) things.items) }
 {
     let mut things = Vec::new(alloc);
     for thing in 0..ledger.setup().things() {

@@ -50,7 +50,8 @@ fn add_unnamed(
     requires flags { length flags.now ≡ length ledger.now.museum.things }
     requires outer { lists outer.now ≡ outer_of_each ledger.now.museum }
     requires before { AreUnflaggedIn ledger.now flags.now thing (lists unnamed.old.items) }
-    ensures { OnOk result (AreUnflaggedIn ledger.now flags.now (thing + 1) (lists unnamed.new.items)) }
+    ensures { OnOk result
+        (AreUnflaggedIn ledger.now flags.now (thing + 1) (lists unnamed.new.items)) }
 {
     let setup = ledger.setup();
     setup.is_museum();
@@ -79,7 +80,8 @@ fn push_to_each(
     requires { All (λ p. p < length unnamed.old.items) places.now }
     ensures many { OnOk result (length unnamed.new.items ≡ length unnamed.old.items) }
     ensures each { OnOk result ((q : ℕ) → list_at (lists unnamed.new.items) q
-        ≡ list_at (lists unnamed.old.items) q ++ map (λ p. thing) (filter (λ p. p == q) places.now)) }
+        ≡ list_at (lists unnamed.old.items) q
+        ++ map (λ p. thing) (filter (λ p. p == q) places.now)) }
 {
     for i in 0..places.len() {
         push_to(unnamed, places[i], thing)?;

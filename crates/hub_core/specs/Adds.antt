@@ -3,7 +3,8 @@ use Rattle.std.specs.Prelude.{ℕ, ◌≡◌, ◌+◌, ◌≤◌, ◌++◌, List
 use Rattle.std.specs.declared.alloc.Global.{Global}
 
 -- these bytes are appended, for certain where the text has room for them; its room never shrinks
-pub record Adds {T E : Type 0} (old new : String Global) (bytes : List ℕ) (result : Result T E) : Type 0 where
+pub record Adds {T E : Type 0} (old new : String Global) (bytes : List ℕ)
+    (result : Result T E) : Type 0 where
   pub text : OnOk result (string_bytes new ≡ string_bytes old ++ bytes)
   pub room : string_len old + length bytes ≤ string_capacity old → IsOk result
   pub capacity : string_capacity old ≤ string_capacity new

@@ -42,14 +42,16 @@ chain_text S (c ∷ cs) = codes " in" ++ flat_map (container_text S) (c ∷ cs)
 abbrev pub place_text : Museum → Where → List ℕ
 place_text S UnknownThing = codes "unknown"
 place_text S Unplaced = codes "unplaced"
-place_text S (At place chain) = codes "at " ++ unwrap_or (place_code_of S place) [] ++ chain_text S chain
+place_text S (At place chain) =
+    codes "at " ++ unwrap_or (place_code_of S place) [] ++ chain_text S chain
 
 -- a line for each of the entries, newest first, from number `first` on
 abbrev pub posted_lines : List ℕ → ℕ → List Entry → List ℕ
 posted_lines station first [] = []
 posted_lines station first (e ∷ P) =
     if nat_lt (length P + 1) first then []
-    else posted_lines station first P ++ posted_line station e.n (length P + 1) (verdict_name e.verdict)
+    else posted_lines station first P
+    ++ posted_line station e.n (length P + 1) (verdict_name e.verdict)
 
 -- the answer to number n of a station, with which the entries P stand
 abbrev pub answer_text : List ℕ → ℕ → List Entry → Answer → List ℕ
@@ -71,11 +73,14 @@ sent_by (Some s) request = sent_from s request
 
 -- the reply to one more arrival, after the arrivals A
 abbrev pub arrival_reply : Museum → ℕ → List Entry → List Arrival → Arrival → List ℕ
-arrival_reply S depth O A r = answer_text (station_text S r.station) r.n (posted S depth O (A ++ r ∷ [])) (reply S depth O A r)
+arrival_reply S depth O A r =
+    answer_text (station_text S r.station) r.n (posted S depth O (A ++ r ∷ []))
+    (reply S depth O A r)
 
 -- the reply to station s, after the arrivals A
 abbrev pub station_reply : Museum → ℕ → List Entry → List Arrival → ℕ → Request → List ℕ
-station_reply S depth O A s (Scan n message) = arrival_reply S depth O A (record { station = s; n = n; message = message })
+station_reply S depth O A s (Scan n message) =
+    arrival_reply S depth O A (record { station = s; n = n; message = message })
 station_reply S depth O A s (Ask code) =
     asked_line (station_text S s) code (place_text S (whereabouts S (posted S depth O A) code))
 
@@ -102,12 +107,16 @@ line_arrivals S line = if is_empty line || is_too_long line then [] else sent (l
 -- the reply to a line, the number-th, after the arrivals A; an empty one has none
 abbrev pub line_reply : Museum → ℕ → List Entry → List Arrival → ℕ → List ℕ → List ℕ
 line_reply S depth O A number line =
-    if is_empty line then [] else (if is_too_long line then bad_line number (codes "TooLong") else read_reply S depth O A number (line_in S line))
+    if is_empty line then []
+    else (if is_too_long line then bad_line number (codes "TooLong")
+    else read_reply S depth O A number (line_in S line))
 
 -- the replies to lines, each after the arrivals of those before it; the first is the number-th
 abbrev pub replies : Museum → ℕ → List Entry → List Arrival → ℕ → List (List ℕ) → List ℕ
 replies S depth O A number [] = []
-replies S depth O A number (line ∷ rest) = line_reply S depth O A number line ++ replies S depth O (A ++ line_arrivals S line) (number + 1) rest
+replies S depth O A number (line ∷ rest) =
+    line_reply S depth O A number line
+    ++ replies S depth O (A ++ line_arrivals S line) (number + 1) rest
 
 -- what is written for the bytes, from the posted list O, after the arrivals A
 abbrev pub text : Museum → ℕ → List Entry → List Arrival → List ℕ → List ℕ

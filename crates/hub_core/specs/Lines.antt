@@ -30,7 +30,8 @@ is_empty (b ∷ line) = false
 -- the bytes through the last line feed
 abbrev pub ended : List ℕ → List ℕ
 ended [] = []
-ended (b ∷ bs) = if b == 10 then b ∷ ended bs else (if is_empty (ended bs) then [] else b ∷ ended bs)
+ended (b ∷ bs) =
+    if b == 10 then b ∷ ended bs else (if is_empty (ended bs) then [] else b ∷ ended bs)
 
 abbrev pub is_blank : List ℕ → Bool
 is_blank piece = is_empty (line_of piece)

@@ -26,7 +26,8 @@ is_posted (Posted first last) = true
 
 -- what station s asks, after the arrivals A, may need memory or the store: it posts entries, or it is a question
 abbrev pub can_fail : Museum → ℕ → List Entry → List Arrival → ℕ → Request → Bool
-can_fail S depth O A s (Scan n message) = is_posted (reply S depth O A (record { station = s; n = n; message = message }))
+can_fail S depth O A s (Scan n message) =
+    is_posted (reply S depth O A (record { station = s; n = n; message = message }))
 can_fail S depth O A s (Ask code) = true
 
 -- so of a line without fault; one of no station of the setup needs neither
@@ -35,5 +36,7 @@ line_can_fail S depth O A None request = false
 line_can_fail S depth O A (Some s) request = can_fail S depth O A s request
 
 -- a fault comes only where it can, for every list of arrivals that the hub stood for
-abbrev pub FailsOnlyWhere : {R T : Type 0} → (R → Holding) → State R → (List Entry → List Arrival → Bool) → Result T HubFault → Type 0
-FailsOnlyWhere holding old can result = OnErr result ((O : List Entry) (A : List Arrival) → StandsFor holding old O A → can O A ≡ true)
+abbrev pub FailsOnlyWhere : {R T : Type 0} → (R → Holding) → State R
+    → (List Entry → List Arrival → Bool) → Result T HubFault → Type 0
+FailsOnlyWhere holding old can result =
+    OnErr result ((O : List Entry) (A : List Arrival) → StandsFor holding old O A → can O A ≡ true)

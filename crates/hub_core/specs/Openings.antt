@@ -102,13 +102,16 @@ IsOpenFault S c (Damaged at) = IsBindFault S c (Damaged at) ⊎ HasWrongList S (
 
 -- nothing but want of memory, or a store that refuses, keeps the store from being opened with the setup
 abbrev pub OpensAgain : Holding → Museum → Type 0
-OpensAgain store S = Has store (λ c. (fault : StoreFault) → IsOpenFault S c fault → is_failure fault ≡ true)
+OpensAgain store S =
+    Has store (λ c. (fault : StoreFault) → IsOpenFault S c fault → is_failure fault ≡ true)
 
 -- a hub over the register, which stands for the list that the store had; the store is bound to its setup, and else as it was
-pub record Opened {R : Type 0} (holding : R → Holding) (S : Museum) (register : R) (hub : State R) : Type 0 where
+pub record Opened {R : Type 0} (holding : R → Holding) (S : Museum) (register : R)
+    (hub : State R) : Type 0 where
   pub setup : hub.book.museum ≡ S
   pub stands : StandsFor holding hub hub.book.posted []
-  pub comes : Comes (holding register) (holding hub.register) (λ c d. HasList hub.book.posted c × IsBound S c d)
+  pub comes : Comes (holding register) (holding hub.register)
+      (λ c d. HasList hub.book.posted c × IsBound S c d)
 
 -- these entries are posted in a ledger that had none, each as the rules give it, and the stations start from them
 pub record IsJudged (old : Book) (P : List Entry) (starts : List Start) (new : Book) : Type 0 where
@@ -124,13 +127,15 @@ pub record GoesOn (sequences : List (Series Message)) (book : Book) : Type 0 whe
   pub series : AllMatch is_sign_off (map arrival_of (reverse book.posted)) sequences
 
 -- a new ledger has the store's list, and the stations go on from it
-pub record IsRestored (store : Holding) (old : Book) (sequences : List (Series Message)) (new : Book) : Type 0 where
+pub record IsRestored (store : Holding) (old : Book) (sequences : List (Series Message))
+    (new : Book) : Type 0 where
   pub museum : new.museum ≡ old.museum
   pub goes_on : GoesOn sequences new
   pub stored : HasStore store new
 
 -- a ledger of the setup has the list that the store had, which is bound to the setup, and the stations go on from it
-pub record IsPrepared (old new : Holding) (S : Museum) (sequences : List (Series Message)) (book : Book) : Type 0 where
+pub record IsPrepared (old new : Holding) (S : Museum) (sequences : List (Series Message))
+    (book : Book) : Type 0 where
   pub museum : book.museum ≡ S
   pub goes_on : GoesOn sequences book
   pub stored : HasStore new book

@@ -25,7 +25,13 @@ arrival_of e = arrived e.station e.n e.message
 
 -- a message is posted with its verdict over the entries before it
 abbrev pub entry_of : Museum → ℕ → List Entry → Arrived Message → Entry
-entry_of S depth P r = record { station = r.station; n = r.n; message = r.message; verdict = verdict S depth P r.message }
+entry_of S depth P r =
+    record {
+      station = r.station;
+      n = r.n;
+      message = r.message;
+      verdict = verdict S depth P r.message;
+    }
 
 abbrev pub post : Museum → ℕ → List Entry → Arrived Message → List Entry
 post S depth P r = entry_of S depth P r ∷ P
@@ -38,24 +44,29 @@ pub record Point : Type 0 where
 -- the point at which this is taken: what came due of station s is posted
 abbrev pub point_with : Museum → ℕ → Point → ℕ → List (Arrived Message) → Point
 point_with S depth p s taken = record {
-  posted = fold (post S depth) p.posted (due taken s (ready is_sign_off p.taken s) (ready is_sign_off taken s - ready is_sign_off p.taken s));
+  posted = fold (post S depth) p.posted
+      (due taken s (ready is_sign_off p.taken s)
+      (ready is_sign_off taken s - ready is_sign_off p.taken s));
   taken = taken;
 }
 
 -- the point after one more arrival
 abbrev pub point_after : Museum → ℕ → Point → Arrival → Point
-point_after S depth p r = point_with S depth p r.station (taken_after is_sign_off (length S.stations) p.taken (seen r))
+point_after S depth p r =
+    point_with S depth p r.station (taken_after is_sign_off (length S.stations) p.taken (seen r))
 
 -- the point after the arrivals A, from the posted list O
 abbrev pub point : Museum → ℕ → List Entry → List Arrival → Point
-point S depth O A = fold (point_after S depth) (record { posted = O; taken = map arrival_of (reverse O) }) A
+point S depth O A =
+    fold (point_after S depth) (record { posted = O; taken = map arrival_of (reverse O) }) A
 
 -- what comes due with one more arrival
 abbrev pub due_with : Museum → ℕ → List Entry → List Arrival → Arrival → List (Arrived Message)
 due_with S depth O A r =
     let before = (point S depth O A).taken in
     let taken = taken_after is_sign_off (length S.stations) before (seen r) in
-    due taken r.station (ready is_sign_off before r.station) (ready is_sign_off taken r.station - ready is_sign_off before r.station)
+    due taken r.station (ready is_sign_off before r.station)
+    (ready is_sign_off taken r.station - ready is_sign_off before r.station)
 
 -- the posted list
 abbrev pub posted : Museum → ℕ → List Entry → List Arrival → List Entry
@@ -69,7 +80,8 @@ reply_from None before now = if before == now then Held else Posted (before + 1)
 abbrev pub reply : Museum → ℕ → List Entry → List Arrival → Arrival → Answer
 reply S depth O A r =
     let p = point S depth O A in
-    reply_from (refusal is_sign_off (length S.stations) p.taken r.station r.n) (length p.posted) (length (point_after S depth p r).posted)
+    reply_from (refusal is_sign_off (length S.stations) p.taken r.station r.n) (length p.posted)
+    (length (point_after S depth p r).posted)
 
 -- where a thing with this place and these containers above it is
 abbrev pub where_from : Option ℕ → List ℕ → Where
@@ -78,7 +90,9 @@ where_from (Some place) chain = At place chain
 
 -- where the thing with the code is, after the entries P
 abbrev pub whereabouts : Museum → List Entry → List ℕ → Where
-whereabouts S P code = option_map_or (λ x. where_from (place_at S P x) (chain_at S P x)) (find_thing S code) UnknownThing
+whereabouts S P code =
+    option_map_or (λ x. where_from (place_at S P x) (chain_at S P x))
+    (find_thing S code) UnknownThing
 
 -- the posted messages of station s, in order
 abbrev pub cut : ℕ → List Entry → List (Arrived Message)

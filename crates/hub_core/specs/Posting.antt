@@ -16,19 +16,26 @@ pub record Posts (old new : Holding) (before after : Book) (next : Arrived Messa
   pub stored : HasStore old before → HasStore new after
 
 -- it isn't posted in the ledger, and perhaps in the store
-pub record LeavesUnposted (old new : Holding) (before after : Book) (next : Arrived Message) : Type 0 where
+pub record LeavesUnposted (old new : Holding) (before after : Book)
+    (next : Arrived Message) : Type 0 where
   pub ledger : after ≡ before
   pub left : HasStore old before → HasEither new before.museum before.depth before.posted next
   pub lawful : HasStore old before → HasSomeStore new after
 
 -- all that is due at station s is posted
-pub record PostsDue (old new : Holding) (s : ℕ) (sequences sequences' : List (Series Message)) (before after : Book) : Type 0 where
+pub record PostsDue (old new : Holding) (s : ℕ) (sequences sequences' : List (Series Message))
+    (before after : Book) : Type 0 where
   pub in_step : InStep sequences' after.museum after.posted
-  pub done : (taken : List (Arrived Message)) → IsPosting is_sign_off taken s sequences → Done before.museum before.depth taken s (series_at sequences s).posted before.posted sequences' after.posted
+  pub done : (taken : List (Arrived Message)) → IsPosting is_sign_off taken s sequences
+      → Done before.museum before.depth taken s
+      (series_at sequences s).posted before.posted sequences' after.posted
   pub stored : HasStore old before → HasStore new after
 
 -- a fault stopped the posting of what is due there
-pub record StopsDue (old new : Holding) (s : ℕ) (sequences : List (Series Message)) (before after : Book) : Type 0 where
-  pub stopped : (taken : List (Arrived Message)) → IsPosting is_sign_off taken s sequences → HasStore old before → Stopped new before.museum before.depth before.posted
-      (due taken s (series_at sequences s).posted (ready is_sign_off taken s - (series_at sequences s).posted)) after.posted
+pub record StopsDue (old new : Holding) (s : ℕ) (sequences : List (Series Message))
+    (before after : Book) : Type 0 where
+  pub stopped : (taken : List (Arrived Message)) → IsPosting is_sign_off taken s sequences
+      → HasStore old before → Stopped new before.museum before.depth before.posted
+      (due taken s (series_at sequences s).posted
+      (ready is_sign_off taken s - (series_at sequences s).posted)) after.posted
   pub lawful : HasStore old before → HasSomeStore new after

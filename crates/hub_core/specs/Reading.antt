@@ -19,7 +19,8 @@ is_feed Input = false
 is_feed Open = false
 
 -- these bytes of a line were taken, and its line feed where they end at it; of the line's bytes the first `most` are kept
-pub record TakesPiece (old new : Option (List ℕ)) (most : ℕ) (held held_new : List ℕ) (end : End) : Type 0 where
+pub record TakesPiece (old new : Option (List ℕ)) (most : ℕ) (held held_new : List ℕ)
+    (end : End) : Type 0 where
   pub bytes : List ℕ
   pub taken : Consumes old new (bytes ++ feed_if (is_feed end))
   pub one : HasNoFeed bytes
@@ -27,7 +28,8 @@ pub record TakesPiece (old new : Option (List ℕ)) (most : ℕ) (held held_new 
   pub last : end ≡ Input → OnSome old (IsAtEnd new)
 
 -- the bytes up to a line feed or the end were taken, and the first `most` of them are kept
-pub record TakesLine (old new : Option (List ℕ)) (most : ℕ) (held : List ℕ) (fed : Bool) : Type 0 where
+pub record TakesLine (old new : Option (List ℕ)) (most : ℕ) (held : List ℕ)
+    (fed : Bool) : Type 0 where
   pub bytes : List ℕ
   pub taken : Consumes old new (bytes ++ feed_if fed)
   pub one : HasNoFeed bytes

@@ -18,7 +18,9 @@ lines_read true bytes = bytes
 lines_read false bytes = ended bytes
 
 -- all lines read are answered
-pub record Answered {Q : Type 0} (S : Museum) (depth : ℕ) (O : List Entry) (A : List Arrival) (i i' o o' : Option (List ℕ)) (holding : Q → Holding) (hub : State Q) (at_end : Bool) : Type 0 where
+pub record Answered {Q : Type 0} (S : Museum) (depth : ℕ) (O : List Entry) (A : List Arrival)
+    (i i' o o' : Option (List ℕ)) (holding : Q → Holding) (hub : State Q)
+    (at_end : Bool) : Type 0 where
   pub bytes : List ℕ
   pub read : Consumes i i' bytes
   pub end : at_end ≡ true → OnSome i (IsAtEnd i')
@@ -26,7 +28,8 @@ pub record Answered {Q : Type 0} (S : Museum) (depth : ℕ) (O : List Entry) (A 
   pub stands : StandsFor holding hub O (A ++ arrivals S (lines_read at_end bytes))
 
 -- all lines read are taken, and k bytes of their replies are written
-pub record CutShort {Q : Type 0} (S : Museum) (depth : ℕ) (O : List Entry) (A : List Arrival) (i i' o o' : Option (List ℕ)) (holding : Q → Holding) (hub : State Q) : Type 0 where
+pub record CutShort {Q : Type 0} (S : Museum) (depth : ℕ) (O : List Entry) (A : List Arrival)
+    (i i' o o' : Option (List ℕ)) (holding : Q → Holding) (hub : State Q) : Type 0 where
   pub bytes : List ℕ
   pub at_end : Bool
   pub k : ℕ
@@ -37,7 +40,8 @@ pub record CutShort {Q : Type 0} (S : Museum) (depth : ℕ) (O : List Entry) (A 
 
 -- all lines before the one that met the fault are answered; the hub has taken that line's arrival or not, or was stopped
 -- in it
-pub record BrokenOff {Q : Type 0} (S : Museum) (depth : ℕ) (O : List Entry) (A : List Arrival) (i i' o o' : Option (List ℕ)) (holding : Q → Holding) (hub : State Q) : Type 0 where
+pub record BrokenOff {Q : Type 0} (S : Museum) (depth : ℕ) (O : List Entry) (A : List Arrival)
+    (i i' o o' : Option (List ℕ)) (holding : Q → Holding) (hub : State Q) : Type 0 where
   pub before : List ℕ
   pub line : List ℕ
   pub read : Consumes i i' (before ++ line)
@@ -47,15 +51,22 @@ pub record BrokenOff {Q : Type 0} (S : Museum) (depth : ℕ) (O : List Entry) (A
   pub stands : TakesSome holding hub O (A ++ arrivals S before) (arrivals S line)
 
 -- after each fault
-abbrev pub AfterFault : {Q : Type 0} → Museum → ℕ → List Entry → List Arrival → Option (List ℕ) → Option (List ℕ) → Option (List ℕ) → Option (List ℕ) → (Q → Holding) → State Q → ReplayFault → Type 0
+abbrev pub AfterFault : {Q : Type 0} → Museum → ℕ → List Entry → List Arrival → Option (List ℕ)
+    → Option (List ℕ) → Option (List ℕ) → Option (List ℕ) → (Q → Holding) → State Q → ReplayFault
+    → Type 0
 AfterFault S depth O A i i' o o' holding hub NoMemory = BrokenOff S depth O A i i' o o' holding hub
 AfterFault S depth O A i i' o o' holding hub Store = BrokenOff S depth O A i i' o o' holding hub
-AfterFault S depth O A i i' o o' holding hub ReadFailed = Answered S depth O A i i' o o' holding hub false
-AfterFault S depth O A i i' o o' holding hub WriteFailed = CutShort S depth O A i i' o o' holding hub
+AfterFault S depth O A i i' o o' holding hub ReadFailed =
+    Answered S depth O A i i' o o' holding hub false
+AfterFault S depth O A i i' o o' holding hub WriteFailed =
+    CutShort S depth O A i i' o o' holding hub
 
 -- what a replay leaves, however it ends
-pub record EndsReplay {Q T : Type 0} (holding : Q → Holding) (refusals : Q → ℕ) (i i' o o' : Option (List ℕ)) (old new : State Q) (result : Result T ReplayFault) : Type 0 where
-  pub faults : IfErr result (λ fault. (O : List Entry) (A : List Arrival) → StandsFor holding old O A → AfterFault old.book.museum old.book.depth O A i i' o o' holding new fault)
+pub record EndsReplay {Q T : Type 0} (holding : Q → Holding) (refusals : Q → ℕ)
+    (i i' o o' : Option (List ℕ)) (old new : State Q) (result : Result T ReplayFault) : Type 0 where
+  pub faults : IfErr result
+      (λ fault. (O : List Entry) (A : List Arrival) → StandsFor holding old O A
+      → AfterFault old.book.museum old.book.depth O A i i' o o' holding new fault)
   pub up : OnOk result (new.down ≡ false)
   pub count : CountsReplay (refusals old.register) (refusals new.register) result
   pub museum : new.book.museum ≡ old.book.museum

@@ -43,7 +43,8 @@ abbrev pub has_growing_message : Data → Bool
 has_growing_message d = option_map_or takes_memory (get (key_name Message) d) false
 
 -- the number's fault comes before the message's
-abbrev pub scan_of : Result ℕ ReadFault → Result message.Message ReadFault → Result Request ReadFault
+abbrev pub scan_of : Result ℕ ReadFault → Result message.Message ReadFault
+    → Result Request ReadFault
 scan_of (Err fault) m = Err fault
 scan_of (Ok n) (Err fault) = Err fault
 scan_of (Ok n) (Ok m) = Ok (asks.Scan n m)
@@ -51,7 +52,8 @@ scan_of (Ok n) (Ok m) = Ok (asks.Scan n m)
 -- where a question is there, a number and a message aren't looked at
 abbrev pub request_of : Data → Result Request ReadFault
 request_of d =
-    if is_some (get (key_name Ask) d) then unless (fault_at d (Ask spells is_thing)) (Ok (asks.Ask (text_at d Ask)))
+    if is_some (get (key_name Ask) d)
+    then unless (fault_at d (Ask spells is_thing)) (Ok (asks.Ask (text_at d Ask)))
     else scan_of (number_from (get (key_name N) d)) (message_from (get (key_name Message) d))
 
 -- what a value asks, whatever its station
@@ -74,7 +76,8 @@ line_with station (Err fault) = Err fault
 abbrev pub line_of : Museum → Data → Result Line ReadFault
 line_of S d =
     if is_some (as_object d)
-    then unless (fault_at d (Station spells (λ text. true))) (line_with (find_station S (text_at d Station)) (request_of d))
+    then unless (fault_at d (Station spells (λ text. true)))
+    (line_with (find_station S (text_at d Station)) (request_of d))
     else Err NotJson
 
 abbrev pub line_read : Museum → Option Data → Result Line ReadFault

@@ -10,9 +10,15 @@ use Rattle.hub_core.specs.StandsFor.{State, StandsFor, TakesSome}
 -- a hub serves what is sent: for every list of arrivals that it stood for, what is to be said stands in the text, behind
 -- what is to stay there, and it stands for the list with what was sent; after a fault it has taken some of that, or was
 -- stopped in it
-pub record Serves {R T : Type 0} (holding : R → Holding) (refusals : R → ℕ) (old new : State R) (before text : List ℕ) (said : List Entry → List Arrival → List ℕ) (sent : List Arrival) (result : Result T HubFault) : Type 0 where
-  pub reply : OnOk result ((O : List Entry) (A : List Arrival) → StandsFor holding old O A → (text ≡ before ++ said O A) × StandsFor holding new O (A ++ sent))
-  pub fault : OnErr result ((O : List Entry) (A : List Arrival) → StandsFor holding old O A → TakesSome holding new O A sent)
+pub record Serves {R T : Type 0} (holding : R → Holding) (refusals : R → ℕ) (old new : State R)
+    (before text : List ℕ) (said : List Entry → List Arrival → List ℕ) (sent : List Arrival)
+    (result : Result T HubFault) : Type 0 where
+  pub reply : OnOk result
+      ((O : List Entry) (A : List Arrival) → StandsFor holding old O A
+      → (text ≡ before ++ said O A) × StandsFor holding new O (A ++ sent))
+  pub fault : OnErr result
+      ((O : List Entry) (A : List Arrival) → StandsFor holding old O A
+      → TakesSome holding new O A sent)
   pub up : OnOk result (new.down ≡ false)
   pub count : CountsStore (refusals old.register) (refusals new.register) result
   pub museum : new.book.museum ≡ old.book.museum

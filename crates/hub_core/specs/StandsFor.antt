@@ -27,15 +27,19 @@ HasStore store book = Has store (IsStoreOf book.museum book.depth book.posted)
 
 -- it has the rows of a lawful list
 abbrev pub HasSomeStore : Holding → Book → Type 0
-HasSomeStore store book = Has store (λ c. (P : List Entry) × IsLawful book.museum book.depth P × IsStoreOf book.museum book.depth P c)
+HasSomeStore store book =
+    Has store (λ c. (P : List Entry) × IsLawful book.museum book.depth P
+    × IsStoreOf book.museum book.depth P c)
 
 -- it has the rows of this list, or of that with the next message posted
 abbrev pub HasEither : Holding → Museum → ℕ → List Entry → Arrived Message → Type 0
-HasEither store S depth P next = Has store (λ c. IsStoreOf S depth P c ⊎ IsStoreOf S depth (post S depth P next) c)
+HasEither store S depth P next =
+    Has store (λ c. IsStoreOf S depth P c ⊎ IsStoreOf S depth (post S depth P next) c)
 
 -- the hub isn't down, its posted list is that of the arrivals A from the posted list O, it holds what was taken above,
 -- and its store has the posted list
-pub record StandsFor {R : Type 0} (holding : R → Holding) (hub : State R) (O : List Entry) (A : List Arrival) : Type 0 where
+pub record StandsFor {R : Type 0} (holding : R → Holding) (hub : State R) (O : List Entry)
+    (A : List Arrival) : Type 0 where
   pub up : hub.down ≡ false
   pub list : hub.book.posted ≡ (point hub.book.museum hub.book.depth O A).posted
   pub series : AllMatch is_sign_off (point hub.book.museum hub.book.depth O A).taken hub.sequences
@@ -43,7 +47,8 @@ pub record StandsFor {R : Type 0} (holding : R → Holding) (hub : State R) (O :
 
 -- a fault stopped the posting of these messages at `next`: those before it are posted, and the store has that list, or
 -- that with `next`
-pub record Stopped (store : Holding) (S : Museum) (depth : ℕ) (before : List Entry) (messages : List (Arrived Message)) (now : List Entry) : Type 0 where
+pub record Stopped (store : Holding) (S : Museum) (depth : ℕ) (before : List Entry)
+    (messages : List (Arrived Message)) (now : List Entry) : Type 0 where
   pub done : List (Arrived Message)
   pub next : Arrived Message
   pub rest : List (Arrived Message)
@@ -58,21 +63,26 @@ pub record InStep (sequences : List (Series Message)) (S : Museum) (P : List Ent
   pub sign : (s : ℕ) → s < length sequences → (series_at sequences s).signed ≡ is_signed_off s P
 
 -- all that is due at station s is posted, where k of its messages were posted before
-pub record Done (S : Museum) (depth : ℕ) (taken : List (Arrived Message)) (s k : ℕ) (before : List Entry) (sequences : List (Series Message)) (now : List Entry) : Type 0 where
+pub record Done (S : Museum) (depth : ℕ) (taken : List (Arrived Message)) (s k : ℕ)
+    (before : List Entry) (sequences : List (Series Message)) (now : List Entry) : Type 0 where
   pub matches : AllMatch is_sign_off taken sequences
   pub list : now ≡ fold (post S depth) before (due taken s k (ready is_sign_off taken s - k))
 
 -- a fault stopped the hub in one of these arrivals: those before it are taken, some of what came due with it is posted,
 -- and the store has that list, or that with the next message
-pub record StopsIn {R : Type 0} (holding : R → Holding) (hub : State R) (O : List Entry) (A sent : List Arrival) : Type 0 where
+pub record StopsIn {R : Type 0} (holding : R → Holding) (hub : State R) (O : List Entry)
+    (A sent : List Arrival) : Type 0 where
   pub down : hub.down ≡ true
   pub before : List Arrival
   pub arrival : Arrival
   pub after : List Arrival
   pub all : sent ≡ before ++ arrival ∷ after
-  pub stopped : Stopped (holding hub.register) hub.book.museum hub.book.depth (point hub.book.museum hub.book.depth O (A ++ before)).posted
+  pub stopped : Stopped (holding hub.register) hub.book.museum hub.book.depth
+      (point hub.book.museum hub.book.depth O (A ++ before)).posted
       (due_with hub.book.museum hub.book.depth O (A ++ before) arrival) hub.book.posted
 
 -- the hub has taken the first k of these arrivals, or was stopped in one of them
-abbrev pub TakesSome : {R : Type 0} → (R → Holding) → State R → List Entry → List Arrival → List Arrival → Type 0
-TakesSome holding hub O A sent = ((k : ℕ) × StandsFor holding hub O (A ++ take k sent)) ⊎ StopsIn holding hub O A sent
+abbrev pub TakesSome : {R : Type 0} → (R → Holding) → State R → List Entry → List Arrival
+    → List Arrival → Type 0
+TakesSome holding hub O A sent =
+    ((k : ℕ) × StandsFor holding hub O (A ++ take k sent)) ⊎ StopsIn holding hub O A sent

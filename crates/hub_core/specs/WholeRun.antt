@@ -22,7 +22,9 @@ use Rattle.hub_core.specs.Replayed.{AfterFault}
 
 -- why a head is refused: it is too long, else the first fault of its setup
 abbrev pub head_fault : List ℕ → Option RunFault
-head_fault bytes = if nat_lt LONGEST_HEAD (length bytes) then Some HeadTooLong else option_map Setup (setup_fault bytes)
+head_fault bytes =
+    if nat_lt LONGEST_HEAD (length bytes) then Some HeadTooLong
+    else option_map Setup (setup_fault bytes)
 
 -- the setup that a run's bytes list
 abbrev pub setup_in : List ℕ → Museum
@@ -45,7 +47,9 @@ pub record InHead (i i' : Option (List ℕ)) : Type 0 where
 
 -- the head and its empty line were read, and the head isn't too long
 abbrev pub TakesHead : Option (List ℕ) → Option (List ℕ) → List ℕ → Type 0
-TakesHead i i' taken = IfSome i (λ bytes. (taken ≡ head bytes) × (length taken ≤ LONGEST_HEAD) × (i' ≡ Some (after_head bytes)))
+TakesHead i i' taken =
+    IfSome i (λ bytes. (taken ≡ head bytes) × (length taken ≤ LONGEST_HEAD)
+    × (i' ≡ Some (after_head bytes)))
 
 -- why a line of a head could not be read, where the head has room for so many bytes more
 abbrev pub IsLineFault : ℕ → List ℕ → RunFault → Type 0
@@ -69,7 +73,9 @@ BeforeLines i i' NoMemory = InHead i i' ⊎ ((taken : List ℕ) × TakesHead i i
 BeforeLines i i' Store = ⊥
 BeforeLines i i' ReadFailed = InHead i i'
 BeforeLines i i' WriteFailed = ⊥
-BeforeLines i i' (Setup fault) = IfSome i (λ bytes. (head_fault (head bytes) ≡ Some (Setup fault)) × (i' ≡ Some (after_head bytes)))
+BeforeLines i i' (Setup fault) =
+    IfSome i (λ bytes. (head_fault (head bytes) ≡ Some (Setup fault))
+    × (i' ≡ Some (after_head bytes)))
 BeforeLines i i' HeadTooLong = IfSome i (λ bytes. head_fault (head bytes) ≡ Some HeadTooLong)
 
 -- a setup's fault, as a run tells it
@@ -99,13 +105,21 @@ pub record IsFresh (hub : State Kept) (S : Museum) : Type 0 where
 
 -- the head has no fault and is read, and the hub has its setup
 abbrev pub OpensHub : Option (List ℕ) → Option (List ℕ) → State Kept → Type 0
-OpensHub i i' hub = IfSome i (λ bytes. (head_fault (head bytes) ≡ None) × (i' ≡ Some (after_head bytes)) × IsFresh hub (setup_in bytes))
+OpensHub i i' hub =
+    IfSome i (λ bytes. (head_fault (head bytes) ≡ None) × (i' ≡ Some (after_head bytes))
+    × IsFresh hub (setup_in bytes))
 
 -- a run met a fault in its lines, after a head without fault: what their replay leaves, over the run's hub
-abbrev pub InLines : Option (List ℕ) → Option (List ℕ) → Option (List ℕ) → Option (List ℕ) → ReplayFault → Type 0
+abbrev pub InLines : Option (List ℕ) → Option (List ℕ) → Option (List ℕ) → Option (List ℕ)
+    → ReplayFault → Type 0
 InLines i i' o o' fault = IfSome i (λ bytes. (head_fault (head bytes) ≡ None)
-    × ((hub : State Kept) × AfterFault (setup_in bytes) NEW_DEPTH [] [] (Some (after_head bytes)) i' o o' in_memory hub fault))
+    × ((hub : State Kept)
+    × AfterFault (setup_in bytes) NEW_DEPTH [] []
+    (Some (after_head bytes)) i' o o' in_memory hub fault))
 
 -- after each fault of a run; before its lines nothing is written
-abbrev pub AfterRun : Option (List ℕ) → Option (List ℕ) → Option (List ℕ) → Option (List ℕ) → RunFault → Type 0
-AfterRun i i' o o' fault = (BeforeLines i i' fault × Keeps o o') ⊎ ((met : ReplayFault) × (fault ≡ run_fault met) × InLines i i' o o' met)
+abbrev pub AfterRun : Option (List ℕ) → Option (List ℕ) → Option (List ℕ) → Option (List ℕ)
+    → RunFault → Type 0
+AfterRun i i' o o' fault =
+    (BeforeLines i i' fault × Keeps o o')
+    ⊎ ((met : ReplayFault) × (fault ≡ run_fault met) × InLines i i' o o' met)

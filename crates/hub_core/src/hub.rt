@@ -42,10 +42,13 @@ impl<R: Register> Model for Hub<R> {
 
     ghost Value = { State R };
 
-    ghost view = { λ h. record { sequences = h.sequences; book = h.ledger; register = h.register; down = h.down } };
+    ghost view = { λ h.
+        record { sequences = h.sequences; book = h.ledger; register = h.register; down = h.down } };
 
-    ghost invariant = { λ h. (h.down ≡ false → InStep h.sequences h.ledger.museum h.ledger.posted) × (R.is_bound h.register ≡ true)
-        × (h.down ≡ false → HasStore (R.holding h.register) h.ledger) × (h.down ≡ true → HasSomeStore (R.holding h.register) h.ledger) };
+    ghost invariant = { λ h. (h.down ≡ false → InStep h.sequences h.ledger.museum h.ledger.posted)
+        × (R.is_bound h.register ≡ true)
+        × (h.down ≡ false → HasStore (R.holding h.register) h.ledger)
+        × (h.down ≡ true → HasSomeStore (R.holding h.register) h.ledger) };
 }
 
 /// Written out, so that whoever drops a hub calls it: a derived drop would stand whole at each of their ways out.
@@ -82,9 +85,13 @@ impl<R: Register> Hub<R> {
         // It stands for the list that the store had, which is bound then.
         ensures opened { IfOk result (λ hub. Opened R.holding setup register hub) }
         // A refused opening leaves the store as it was, or bound.
-        ensures refused { IfErr result (λ failed. Comes (R.holding register) (R.holding failed.register) (IsNotOpened setup failed.fault)) }
+        ensures refused { IfErr result
+            (λ failed. Comes (R.holding register) (R.holding failed.register)
+            (IsNotOpened setup failed.fault)) }
         ensures uncounted { IfOk result (λ hub. R.refusals hub.register ≡ R.refusals register) }
-        ensures counted { IfErr result (λ failed. CountsFault (R.refusals register) (R.refusals failed.register) failed.fault) }
+        ensures counted { IfErr result
+            (λ failed. CountsFault (R.refusals register)
+            (R.refusals failed.register) failed.fault) }
     {
         let mut register = register;
         match prepare(alloc, setup, &mut register) {
@@ -102,22 +109,32 @@ impl<R: Register> Hub<R> {
     /// What is refused or held takes no memory, and always succeeds on a hub that isn't down.
     pub fn arrive(&mut self, alloc: Global, arrival: Arrival) -> Result<Answer, HubFault>
         // For every list of arrivals: the reply is that of looking back, and the hub stands for the list with this one.
-        ensures headline { IfOk result (λ answer. (O : List Entry) (A : List Arrival) → StandsFor R.holding self.old O A →
-            (answer ≡ reply self.old.book.museum self.old.book.depth O A arrival) × StandsFor R.holding self.new O (A ++ arrival ∷ [])) }
+        ensures headline { IfOk result
+            (λ answer. (O : List Entry) (A : List Arrival) → StandsFor R.holding self.old O A →
+            (answer ≡ reply self.old.book.museum self.old.book.depth O A arrival)
+            × StandsFor R.holding self.new O (A ++ arrival ∷ [])) }
         ensures up { OnOk result (self.new.down ≡ false) }
         ensures down { IsErrOf result HubFault.Down ↔ (self.old.down ≡ true) }
         ensures fault { OnErr result (self.new.down ≡ true) }
         ensures closed { self.old.down ≡ true → self.new ≡ self.old }
         // A fault comes while messages are due: those before one of them are posted, and the store has that list, or that
         // with the one.
-        ensures after_fault { OnErr result ((O : List Entry) (A : List Arrival) → StandsFor R.holding self.old O A →
-            Stopped (R.holding self.new.register) self.old.book.museum self.old.book.depth self.old.book.posted
+        ensures after_fault { OnErr result
+            ((O : List Entry) (A : List Arrival) → StandsFor R.holding self.old O A →
+            Stopped (R.holding self.new.register) self.old.book.museum self.old.book.depth
+            self.old.book.posted
             (due_with self.old.book.museum self.old.book.depth O A arrival) self.new.book.posted) }
         // What is refused or held meets no fault.
-        ensures answers { OnErr result ((O : List Entry) (A : List Arrival) → StandsFor R.holding self.old O A →
-            (first : ℕ) × (last : ℕ) × (reply self.old.book.museum self.old.book.depth O A arrival ≡ Answer.Posted first last)) }
-        ensures refused { IfOk result (λ answer. (refusal : Refusal) → answer ≡ Answer.Refused refusal → self.new ≡ self.old) }
-        ensures count { CountsStore (R.refusals self.old.register) (R.refusals self.new.register) result }
+        ensures answers { OnErr result
+            ((O : List Entry) (A : List Arrival) → StandsFor R.holding self.old O A →
+            (first : ℕ) × (last : ℕ)
+            × (reply self.old.book.museum self.old.book.depth O A arrival
+            ≡ Answer.Posted first last)) }
+        ensures refused { IfOk result
+            (λ answer. (refusal : Refusal) → answer ≡ Answer.Refused refusal
+            → self.new ≡ self.old) }
+        ensures count { CountsStore (R.refusals self.old.register)
+            (R.refusals self.new.register) result }
         ensures museum { self.new.book.museum ≡ self.old.book.museum }
         ensures depth { self.new.book.depth ≡ self.old.book.depth }
     {
@@ -152,7 +169,8 @@ impl<R: Register> Hub<R> {
 
     /// Where the thing with the code is. The faults: Down exactly where the hub is down; NoMemory.
     pub fn ask(&self, alloc: Global, code: &ThingCode) -> Result<Where, HubFault>
-        ensures answer { IfOk result (λ place. place ≡ whereabouts self.now.book.museum self.now.book.posted code.now) }
+        ensures answer { IfOk result
+            (λ place. place ≡ whereabouts self.now.book.museum self.now.book.posted code.now) }
         ensures placed { IfOk result (IsPlaced self.now.book.museum) }
         ensures down { IsErrOf result HubFault.Down ↔ (self.now.down ≡ true) }
         ensures never_store { IfErr result (λ fault. fault ≢ HubFault.Store) }
@@ -168,8 +186,10 @@ impl<R: Register> Hub<R> {
         ensures list { reverse result.now ≡ self.now.book.posted }
         ensures lawful { IsLawful self.now.book.museum self.now.book.depth self.now.book.posted }
         // For all that the hub stands for: the entries of each station are the longest unbroken run of what it sent.
-        ensures runs { (O : List Entry) (A : List Arrival) → StandsFor R.holding self.now O A → (s : ℕ) →
-            cut s self.now.book.posted ≡ run is_sign_off (point self.now.book.museum self.now.book.depth O A).taken s }
+        ensures runs { (O : List Entry) (A : List Arrival) → StandsFor R.holding self.now O A
+            → (s : ℕ) →
+            cut s self.now.book.posted
+            ≡ run is_sign_off (point self.now.book.museum self.now.book.depth O A).taken s }
     {
         self.ledger.is_lawful();
         self.ledger.posted()
@@ -209,7 +229,8 @@ impl<R: Register> Hub<R> {
 
 /// Where the thing with the code is, by the ledger.
 fn whereabouts(alloc: Global, ledger: &Ledger, code: &ThingCode) -> Result<Where, NoMemory>
-    ensures answer { IfOk result (λ place. place ≡ whereabouts ledger.now.museum ledger.now.posted code.now) }
+    ensures answer { IfOk result
+        (λ place. place ≡ whereabouts ledger.now.museum ledger.now.posted code.now) }
     ensures placed { IfOk result (IsPlaced ledger.now.museum) }
 {
     let Some(thing) = ledger.setup().thing(code) else {

@@ -106,7 +106,8 @@ is_place_row row = is_none (place_fault row.0)
 
 -- a thing's code, with a normal place where it is to have one
 abbrev pub is_thing_row : ℕ → List ℕ × Option ℕ → Bool
-is_thing_row places row = is_none (thing_fault row.0) && has_right_normal places (thing_kind row.0) row.1
+is_thing_row places row =
+    is_none (thing_fault row.0) && has_right_normal places (thing_kind row.0) row.1
 
 -- what holds of every setup
 pub record IsMuseum (S : Museum) : Type 0 where
@@ -114,9 +115,12 @@ pub record IsMuseum (S : Museum) : Type 0 where
   pub codes_of_places : list_all is_place_row S.places ≡ true
   pub codes_of_things : list_all (is_thing_row (length S.places)) S.things ≡ true
   -- none stands twice: each is found where it stands
-  pub each_station : (s : ℕ) (name : List ℕ) → station_name_of S s ≡ Some name → find_station S name ≡ Some s
-  pub each_place : (p : ℕ) (code : List ℕ) → place_code_of S p ≡ Some code → find_place S code ≡ Some p
-  pub each_thing : (x : ℕ) (code : List ℕ) → thing_code_of S x ≡ Some code → find_thing S code ≡ Some x
+  pub each_station : (s : ℕ) (name : List ℕ) → station_name_of S s ≡ Some name
+      → find_station S name ≡ Some s
+  pub each_place : (p : ℕ) (code : List ℕ) → place_code_of S p ≡ Some code
+      → find_place S code ≡ Some p
+  pub each_thing : (x : ℕ) (code : List ℕ) → thing_code_of S x ≡ Some code
+      → find_thing S code ≡ Some x
   pub few_stations : length S.stations ≤ MOST_STATIONS
   pub few_places : length S.places ≤ MOST_PLACES
   pub few_things : length S.things ≤ MOST_THINGS

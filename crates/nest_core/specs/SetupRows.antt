@@ -55,7 +55,8 @@ fields_of_kind kind.Lent = 2
 
 -- a place's third field says where it is
 abbrev pub has_word : RowKind → Fields → Bool
-has_word kind.Place row = bytes_eq (field row 2) (codes "inside") || bytes_eq (field row 2) (codes "elsewhere")
+has_word kind.Place row =
+    bytes_eq (field row 2) (codes "inside") || bytes_eq (field row 2) (codes "elsewhere")
 has_word _ row = true
 
 abbrev pub is_of_kind : ThingKind → ThingKind → Bool
@@ -96,7 +97,8 @@ has_normal Container normal = is_none normal
 abbrev pub is_right : SetupRow → Bool
 is_right (lists.Station name) = is_station_name name
 is_right (lists.Place code inside) = is_place_code code
-is_right (lists.Thing code normal) = is_none (thing_fault code) && has_normal (thing_kind code) normal
+is_right (lists.Thing code normal) =
+    is_none (thing_fault code) && has_normal (thing_kind code) normal
 
 -- the station, place or thing stands in an earlier row
 abbrev pub is_repeated : Museum → SetupRow → Bool
@@ -108,7 +110,8 @@ is_repeated S (lists.Thing code normal) = is_some (find_thing S code)
 abbrev pub lacks_normal : Museum → SetupRow → Bool
 lacks_normal S (lists.Station name) = false
 lacks_normal S (lists.Place code inside) = false
-lacks_normal S (lists.Thing code normal) = option_map_or (λ place. is_none (find_place S place)) normal false
+lacks_normal S (lists.Thing code normal) =
+    option_map_or (λ place. is_none (find_place S place)) normal false
 
 -- no more of its sort fit
 abbrev pub is_full : Museum → SetupRow → Bool
@@ -120,7 +123,8 @@ is_full S (lists.Thing code normal) = nat_le MOST_THINGS (length S.things)
 abbrev pub with_listed : Museum → SetupRow → Museum
 with_listed S (lists.Station name) = record S { stations = S.stations ++ name ∷ [] }
 with_listed S (lists.Place code inside) = record S { places = S.places ++ (code, inside) ∷ [] }
-with_listed S (lists.Thing code normal) = record S { things = S.things ++ (code, option_and_then (find_place S) normal) ∷ [] }
+with_listed S (lists.Thing code normal) =
+    record S { things = S.things ++ (code, option_and_then (find_place S) normal) ∷ [] }
 
 -- the first fault of what row n lists, over what the rows before it list
 abbrev pub listing_fault : Museum → ℕ → SetupRow → Option SetupFault
@@ -137,7 +141,8 @@ kind_fault S n row (Some k) = first_or (listing_fault S n (listed k row)) (
     ∷ (Some (BadCode n) if not (has_codes k row)) ∷ [])
 
 abbrev pub row_fault : Museum → ℕ → Fields → Option SetupFault
-row_fault S n row = if field_count row == 0 then None else kind_fault S n row (row_kind (field row 0))
+row_fault S n row =
+    if field_count row == 0 then None else kind_fault S n row (row_kind (field row 0))
 
 -- what is listed with one more row
 abbrev pub with_kind : Museum → Fields → Option RowKind → Museum
@@ -159,7 +164,8 @@ museum_of rows = fold with_row no_museum rows
 abbrev pub first_fault : List Fields → List Fields → Option SetupFault
 first_fault before [] = None
 first_fault before (row ∷ rows) =
-    option_or (row_fault (museum_of before) (length before + 1) row) (first_fault (before ++ row ∷ []) rows)
+    option_or (row_fault (museum_of before) (length before + 1) row)
+    (first_fault (before ++ row ∷ []) rows)
 
 -- a museum without a station is none
 abbrev pub station_fault : Museum → Option SetupFault
@@ -168,5 +174,6 @@ station_fault S = if length S.stations == 0 then Some NoStation else None
 -- why the bytes are no setup: they are not UTF-8, a row has a fault, or no row lists a station
 abbrev pub setup_fault : List ℕ → Option SetupFault
 setup_fault bytes =
-    if is_utf8 bytes then option_or (first_fault [] (rows_of bytes)) (station_fault (museum_of (rows_of bytes)))
+    if is_utf8 bytes
+    then option_or (first_fault [] (rows_of bytes)) (station_fault (museum_of (rows_of bytes)))
     else Some NotCsv

@@ -10,7 +10,8 @@ abbrev pub station_fields : List ℕ → List (List ℕ)
 station_fields name = codes "station" ∷ name ∷ []
 
 abbrev pub place_fields : List ℕ × Bool → List (List ℕ)
-place_fields row = codes "place" ∷ row.0 ∷ (if row.1 then codes "inside" else codes "elsewhere") ∷ []
+place_fields row =
+    codes "place" ∷ row.0 ∷ (if row.1 then codes "inside" else codes "elsewhere") ∷ []
 
 -- the first field of a thing's row
 abbrev pub kind_word : ThingKind → List ℕ

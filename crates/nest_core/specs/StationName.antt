@@ -9,4 +9,5 @@ is_station_byte b = is_ascii_uppercase b || is_ascii_lowercase b || is_ascii_dig
 
 -- 1 to 16 of them
 abbrev pub is_station_name : List ℕ → Bool
-is_station_name text = nat_lt 0 (length text) && nat_le (length text) 16 && list_all is_station_byte text
+is_station_name text =
+    nat_lt 0 (length text) && nat_le (length text) 16 && list_all is_station_byte text

@@ -36,9 +36,16 @@ impl Model for Setup {
 
     ghost Value = { Museum };
 
-    ghost view = { λ s. record { stations = s.stations.keys; places = s.places.entries; things = s.things.entries } };
+    ghost view = { λ s.
+        record {
+          stations = s.stations.keys;
+          places = s.places.entries;
+          things = s.things.entries;
+        } };
 
-    ghost invariant = { λ s. IsMuseum (record { stations = s.stations.keys; places = s.places.entries; things = s.things.entries }) };
+    ghost invariant = { λ s.
+        IsMuseum (record
+        { stations = s.stations.keys; places = s.places.entries; things = s.things.entries }) };
 }
 
 /// Written out, so that whoever drops a setup calls it: a derived drop would stand whole at each of their ways out.
@@ -189,9 +196,13 @@ impl Setup {
     /// or NoMemory, and nothing is added.
     pub(crate) fn add(&mut self, number: u64, row: SetupRow) -> Result<(), SetupFault>
         requires { is_right row ≡ true }
-        ensures ok { OnOk result ((listing_fault self.old number row ≡ None) × (self.new ≡ with_listed self.old row)) }
-        ensures fault { IfErr result (λ fault. fault ≢ SetupFault.NoMemory → listing_fault self.old number row ≡ Some fault) }
-        ensures gives_up { result ≡ Err SetupFault.NoMemory → listing_fault self.old number row ≡ None }
+        ensures ok { OnOk result
+            ((listing_fault self.old number row ≡ None) × (self.new ≡ with_listed self.old row)) }
+        ensures fault { IfErr result
+            (λ fault. fault ≢ SetupFault.NoMemory
+            → listing_fault self.old number row ≡ Some fault) }
+        ensures gives_up { result ≡ Err SetupFault.NoMemory
+            → listing_fault self.old number row ≡ None }
         ensures unchanged { OnErr result (self.new ≡ self.old) }
     {
         match row {
@@ -203,9 +214,14 @@ impl Setup {
 
     fn add_station(&mut self, number: u64, name: StationName) -> Result<(), SetupFault>
         requires { is_station_name name ≡ true }
-        ensures ok { OnOk result ((listing_fault self.old number (SetupRow.Station name) ≡ None) × (self.new ≡ with_listed self.old (SetupRow.Station name))) }
-        ensures fault { IfErr result (λ fault. fault ≢ SetupFault.NoMemory → listing_fault self.old number (SetupRow.Station name) ≡ Some fault) }
-        ensures gives_up { result ≡ Err SetupFault.NoMemory → listing_fault self.old number (SetupRow.Station name) ≡ None }
+        ensures ok { OnOk result
+            ((listing_fault self.old number (SetupRow.Station name) ≡ None)
+            × (self.new ≡ with_listed self.old (SetupRow.Station name))) }
+        ensures fault { IfErr result
+            (λ fault. fault ≢ SetupFault.NoMemory
+            → listing_fault self.old number (SetupRow.Station name) ≡ Some fault) }
+        ensures gives_up { result ≡ Err SetupFault.NoMemory
+            → listing_fault self.old number (SetupRow.Station name) ≡ None }
         ensures unchanged { OnErr result (self.new ≡ self.old) }
     {
         if self.stations.get_index_of(&name).is_some() {
@@ -220,9 +236,14 @@ impl Setup {
 
     fn add_place(&mut self, number: u64, code: PlaceCode, inside: bool) -> Result<(), SetupFault>
         requires { is_place_code code ≡ true }
-        ensures ok { OnOk result ((listing_fault self.old number (SetupRow.Place code inside) ≡ None) × (self.new ≡ with_listed self.old (SetupRow.Place code inside))) }
-        ensures fault { IfErr result (λ fault. fault ≢ SetupFault.NoMemory → listing_fault self.old number (SetupRow.Place code inside) ≡ Some fault) }
-        ensures gives_up { result ≡ Err SetupFault.NoMemory → listing_fault self.old number (SetupRow.Place code inside) ≡ None }
+        ensures ok { OnOk result
+            ((listing_fault self.old number (SetupRow.Place code inside) ≡ None)
+            × (self.new ≡ with_listed self.old (SetupRow.Place code inside))) }
+        ensures fault { IfErr result
+            (λ fault. fault ≢ SetupFault.NoMemory
+            → listing_fault self.old number (SetupRow.Place code inside) ≡ Some fault) }
+        ensures gives_up { result ≡ Err SetupFault.NoMemory
+            → listing_fault self.old number (SetupRow.Place code inside) ≡ None }
         ensures unchanged { OnErr result (self.new ≡ self.old) }
     {
         if self.places.get_index_of(&code).is_some() {
@@ -252,9 +273,14 @@ impl Setup {
         normal: Option<PlaceCode>,
     ) -> Result<(), SetupFault>
         requires { is_right (SetupRow.Thing code normal) ≡ true }
-        ensures ok { OnOk result ((listing_fault self.old number (SetupRow.Thing code normal) ≡ None) × (self.new ≡ with_listed self.old (SetupRow.Thing code normal))) }
-        ensures fault { IfErr result (λ fault. fault ≢ SetupFault.NoMemory → listing_fault self.old number (SetupRow.Thing code normal) ≡ Some fault) }
-        ensures gives_up { result ≡ Err SetupFault.NoMemory → listing_fault self.old number (SetupRow.Thing code normal) ≡ None }
+        ensures ok { OnOk result
+            ((listing_fault self.old number (SetupRow.Thing code normal) ≡ None)
+            × (self.new ≡ with_listed self.old (SetupRow.Thing code normal))) }
+        ensures fault { IfErr result
+            (λ fault. fault ≢ SetupFault.NoMemory
+            → listing_fault self.old number (SetupRow.Thing code normal) ≡ Some fault) }
+        ensures gives_up { result ≡ Err SetupFault.NoMemory
+            → listing_fault self.old number (SetupRow.Thing code normal) ≡ None }
         ensures unchanged { OnErr result (self.new ≡ self.old) }
     {
         if self.things.get_index_of(&code).is_some() {

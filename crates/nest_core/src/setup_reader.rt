@@ -40,7 +40,8 @@ impl Setup {
 /// What the rows list, else the fault of the first that has one, or NoMemory.
 fn read_rows(alloc: Global, bytes: &[u8]) -> Result<Setup, SetupFault>
     ensures { MatchResult result
-        (λ setup. (first_fault [] (rows_of bytes.now) ≡ None) × (setup ≡ museum_of (rows_of bytes.now)))
+        (λ setup. (first_fault [] (rows_of bytes.now) ≡ None)
+        × (setup ≡ museum_of (rows_of bytes.now)))
         (λ fault. fault ≢ SetupFault.NoMemory → first_fault [] (rows_of bytes.now) ≡ Some fault) }
 {
     let mut setup = Setup::new(alloc);
@@ -65,7 +66,8 @@ fn add_rows(
     requires empty { setup.old ≡ no_museum }
     requires reads { ReadsRows reader.old bytes.now }
     ensures exact { MatchResult result
-        (λ _. (first_fault [] (rows_of bytes.now) ≡ None) × (setup.new ≡ museum_of (rows_of bytes.now)))
+        (λ _. (first_fault [] (rows_of bytes.now) ≡ None)
+        × (setup.new ≡ museum_of (rows_of bytes.now)))
         (λ fault. fault ≢ SetupFault.NoMemory → first_fault [] (rows_of bytes.now) ≡ Some fault) }
     ensures gives_up { result ≡ Err SetupFault.NoMemory
         → (has_failed reader.new ≡ true) ⊎ CanBeListed setup.new (fields_of row.new) }
@@ -83,9 +85,14 @@ fn add_rows(
 
 /// Adds what row `number` lists, if it isn't skipped; else its first fault, or NoMemory where it has none.
 fn add_row(setup: &mut Setup, number: u64, row: &ByteRecord) -> Result<(), SetupFault>
-    ensures ok { OnOk result ((row_fault setup.old number (fields_of row.now) ≡ None) × (setup.new ≡ with_row setup.old (fields_of row.now))) }
-    ensures fault { IfErr result (λ fault. fault ≢ SetupFault.NoMemory → row_fault setup.old number (fields_of row.now) ≡ Some fault) }
-    ensures gives_up { result ≡ Err SetupFault.NoMemory → CanBeListed setup.new (fields_of row.now) }
+    ensures ok { OnOk result
+        ((row_fault setup.old number (fields_of row.now) ≡ None)
+        × (setup.new ≡ with_row setup.old (fields_of row.now))) }
+    ensures fault { IfErr result
+        (λ fault. fault ≢ SetupFault.NoMemory
+        → row_fault setup.old number (fields_of row.now) ≡ Some fault) }
+    ensures gives_up { result ≡ Err SetupFault.NoMemory
+        → CanBeListed setup.new (fields_of row.now) }
 {
     match SetupRow::read(number, row)? {
         Some(item) => setup.add(number, item),

@@ -109,7 +109,9 @@ fn place_code(bytes: &[u8]) -> Option<PlaceCode>
 
 /// What a row of the kind lists, if its codes are as the kind wants them.
 fn listed(kind: RowKind, row: &ByteRecord) -> Option<SetupRow>
-    ensures { result ≡ (if has_codes kind (fields_of row.now) then Some (listed kind (fields_of row.now)) else None) }
+    ensures { result
+        ≡ (if has_codes kind (fields_of row.now) then Some (listed kind (fields_of row.now))
+        else None) }
 {
     let code = field(row, 1);
     match kind {
@@ -141,11 +143,18 @@ impl SetupRow {
     pub fn read(number: u64, row: &ByteRecord) -> Result<Option<SetupRow>, SetupFault>
         // S is whatever the rows before it list.
         ensures ok { IfOk result (λ read. MatchOption read
-            ((S : Museum) → (row_fault S number (fields_of row.now) ≡ None) × (with_row S (fields_of row.now) ≡ S))
-            (λ item. (is_right item ≡ true) × ((S : Museum) → (row_fault S number (fields_of row.now) ≡ listing_fault S number item) × (with_row S (fields_of row.now) ≡ with_listed S item)))) }
-        ensures skips { IfOk result (λ read. (field_count (fields_of row.now) == 0) ≡ is_none read) }
+            ((S : Museum)
+            → (row_fault S number (fields_of row.now) ≡ None)
+            × (with_row S (fields_of row.now) ≡ S))
+            (λ item. (is_right item ≡ true)
+            × ((S : Museum)
+            → (row_fault S number (fields_of row.now) ≡ listing_fault S number item)
+            × (with_row S (fields_of row.now) ≡ with_listed S item)))) }
+        ensures skips { IfOk result
+            (λ read. (field_count (fields_of row.now) == 0) ≡ is_none read) }
         ensures told { IfErr result (λ fault. fault ≢ SetupFault.NoMemory) }
-        ensures fault { IfErr result (λ fault. (S : Museum) → row_fault S number (fields_of row.now) ≡ Some fault) }
+        ensures fault { IfErr result
+            (λ fault. (S : Museum) → row_fault S number (fields_of row.now) ≡ Some fault) }
     {
         let count = field_count(row);
         if count == 0 {

@@ -13,7 +13,8 @@ impl Setup {
     pub fn row_text(&self, alloc: Global, i: u32) -> Result<String, NoMemory>
         requires from_one { 1 ≤ i }
         requires within { i ≤ row_count self.now }
-        ensures { IfOk result (λ text. slice_get (setup_rows self.now) (i - 1) ≡ Some (string_bytes text)) }
+        ensures { IfOk result
+            (λ text. slice_get (setup_rows self.now) (i - 1) ≡ Some (string_bytes text)) }
     {
         let station = i - 1;
         if station < self.stations() {
@@ -28,7 +29,10 @@ impl Setup {
 
     fn station_text(&self, alloc: Global, station: StationNo) -> Result<String, NoMemory>
         requires { station < length self.now.stations }
-        ensures { IfOk result (λ text. slice_get (map (λ name. joined (station_fields name)) self.now.stations) station ≡ Some (string_bytes text)) }
+        ensures { IfOk result
+            (λ text. slice_get
+            (map (λ name. joined (station_fields name)) self.now.stations) station
+            ≡ Some (string_bytes text)) }
     {
         let mut text = String::from_str(alloc, "station,")?;
         text.push_str(self.station_name(station))?;
@@ -37,7 +41,9 @@ impl Setup {
 
     fn place_text(&self, alloc: Global, place: PlaceNo) -> Result<String, NoMemory>
         requires { place < length self.now.places }
-        ensures { IfOk result (λ text. slice_get (map (λ row. joined (place_fields row)) self.now.places) place ≡ Some (string_bytes text)) }
+        ensures { IfOk result
+            (λ text. slice_get (map (λ row. joined (place_fields row)) self.now.places) place
+            ≡ Some (string_bytes text)) }
     {
         let mut text = String::from_str(alloc, "place,")?;
         self.place_code(place).write(alloc, &mut text)?;
@@ -52,7 +58,10 @@ impl Setup {
 
     fn thing_text(&self, alloc: Global, thing: ThingNo) -> Result<String, NoMemory>
         requires { thing < length self.now.things }
-        ensures { IfOk result (λ text. slice_get (map (λ row. joined (thing_fields self.now row)) self.now.things) thing ≡ Some (string_bytes text)) }
+        ensures { IfOk result
+            (λ text. slice_get
+            (map (λ row. joined (thing_fields self.now row)) self.now.things) thing
+            ≡ Some (string_bytes text)) }
     {
         let mut text = String::from_str(alloc, kind_word(self.kind(thing)))?;
         text.push_str(",")?;

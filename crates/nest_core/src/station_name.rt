@@ -28,7 +28,8 @@ impl Model for StationName {
 impl StationName {
     /// The name that the bytes are, if they are one.
     pub fn parse(bytes: &[u8]) -> Option<StationName>
-        ensures name { IfSome result (λ name. (name ≡ bytes.now) × (is_station_name bytes.now ≡ true)) }
+        ensures name { IfSome result
+            (λ name. (name ≡ bytes.now) × (is_station_name bytes.now ≡ true)) }
         ensures none { IfNone result (is_station_name bytes.now ≡ false) }
     {
         if !is_station_name(bytes) {

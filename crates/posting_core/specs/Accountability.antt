@@ -19,7 +19,8 @@ IsUnderNone B s o = (loan : List ℕ) → line_in B loan o ≢ Some s
 
 -- under this loan, and under no other, it is at the stage
 abbrev pub IsUnderOne : Book → LineStage → ℕ → List ℕ → Type 0
-IsUnderOne B s o loan = (line_in B loan o ≡ Some s) × ((other : List ℕ) → line_in B other o ≡ Some s → other ≡ loan)
+IsUnderOne B s o loan =
+    (line_in B loan o ≡ Some s) × ((other : List ℕ) → line_in B other o ≡ Some s → other ≡ loan)
 
 -- the place of the loan's partner
 abbrev pub partner_in : Book → List ℕ → Option ℕ

@@ -19,7 +19,8 @@ pub record Agreement : Type 0 where
   pub last : ℤ
 
 abbrev pub agreement_in : Message → Option Agreement
-agreement_in (Agree loan partner objects first last) = Some (record { loan = loan; partner = partner; objects = objects; first = first; last = last })
+agreement_in (Agree loan partner objects first last) =
+    Some (record { loan = loan; partner = partner; objects = objects; first = first; last = last })
 agreement_in _ = None
 
 -- the agreement that a message makes under this verdict
@@ -58,7 +59,9 @@ extension_in _ loan = None
 -- the last day of a loan that was agreed until this one: that of its last applied extension, where there is one
 abbrev pub last_from : List Entry → List ℕ → ℤ → ℤ
 last_from [] loan agreed = agreed
-last_from (e ∷ P) loan agreed = unwrap_or (if is_applied e.verdict then extension_in e.message loan else None) (last_from P loan agreed)
+last_from (e ∷ P) loan agreed =
+    unwrap_or (if is_applied e.verdict then extension_in e.message loan else None)
+    (last_from P loan agreed)
 
 -- a loan's last day
 abbrev pub last_day : List Entry → List ℕ → Option ℤ

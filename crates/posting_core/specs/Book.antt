@@ -62,26 +62,31 @@ place_after S P m x = place (length S.things) (with_put (put_in S P m) (puts S P
 -- a thing's new spot, where its place differs from the one before, numbered from 1 in the thing's list
 abbrev pub new_spot : ℕ → ℕ → Option ℕ → Option ℕ → Option ℤ → ℕ → Option NewSpot
 new_spot number count before after day x =
-    option_map (λ spot. record { thing = x; k = count + 1; spot = spot }) (spot_from number before after day)
+    option_map (λ spot. record { thing = x; k = count + 1; spot = spot })
+    (spot_from number before after day)
 
 -- the new spots that the message writes where it is applied after P, ascending by thing
 abbrev pub new_spots : Museum → List Entry → Message → List NewSpot
 new_spots S P m = filter_map
-    (λ x. new_spot (length P + 1) (length (spots S P x)) (place_at S P x) (place_after S P m x) (day_of m) x)
+    (λ x. new_spot (length P + 1) (length (spots S P x)) (place_at S P x) (place_after S P m x)
+    (day_of m) x)
     (range_with_len 0 (length S.things))
 
 -- the lines that an agreement makes, in the order of its list
 abbrev pub lines_of_agreement : Museum → Agreement → List NewLine
-lines_of_agreement S t = map (λ o. record { loan = t.loan; object = o; stage = Awaiting }) (objects_of S t)
+lines_of_agreement S t =
+    map (λ o. record { loan = t.loan; object = o; stage = Awaiting }) (objects_of S t)
 
 -- the lines that a crossing changes, ascending by object
 abbrev pub lines_of_crossing : Museum → List Entry → Crossing → List NewLine
-lines_of_crossing S P c = map (λ o. record { loan = c.loan; object = o; stage = c.stage }) (objects_in S P c.thing)
+lines_of_crossing S P c =
+    map (λ o. record { loan = c.loan; object = o; stage = c.stage }) (objects_in S P c.thing)
 
 -- the lines that the message makes or changes where it is applied after P
 abbrev pub new_lines : Museum → List Entry → Message → List NewLine
 new_lines S P m =
-    option_map_or (lines_of_agreement S) (agreement_in m) (option_map_or (lines_of_crossing S P) (crossing_in m) [])
+    option_map_or (lines_of_agreement S) (agreement_in m)
+    (option_map_or (lines_of_crossing S P) (crossing_in m) [])
 
 -- what posting the message changes; a refused one writes nothing
 abbrev pub changes_of : Book → Message → Changes
@@ -104,4 +109,6 @@ asks_lines B m = is_some (crossing_in m) && hangs_on_lines (verdict_in B m)
 -- to plan it takes memory: to judge it, or where it is applied and puts a thing or agrees a loan
 abbrev pub asks_memory : Book → Message → Bool
 asks_memory B m =
-    asks_lines B m || (is_applied (verdict_in B m) && (is_some (put_in B.museum B.posted m) || is_some (agreement_in m)))
+    asks_lines B m
+    || (is_applied (verdict_in B m)
+    && (is_some (put_in B.museum B.posted m) || is_some (agreement_in m)))

@@ -19,7 +19,9 @@ use Rattle.posting_core.specs.VerdictNames.{is_applied}
 abbrev pub put_in : Museum → List Entry → Message → Option Put
 put_in S P (Move x p day) = Some (record { thing = thing_no S x; to = At (place_no S p) })
 put_in S P (Pack x c day) = Some (record { thing = thing_no S x; to = Within (thing_no S c) })
-put_in S P (Exit x loan day) = option_map (λ t. record { thing = thing_no S x; to = At (place_no S t.partner) }) (agreement P loan)
+put_in S P (Exit x loan day) =
+    option_map (λ t. record { thing = thing_no S x; to = At (place_no S t.partner) })
+    (agreement P loan)
 put_in S P (Return x loan p day) = Some (record { thing = thing_no S x; to = At (place_no S p) })
 put_in S P (Receive x loan p day) = Some (record { thing = thing_no S x; to = At (place_no S p) })
 put_in S P _ = None
@@ -48,7 +50,8 @@ carried_at S P x = carried (length S.things) (puts S P) x
 -- the spot that the entry of this number writes for a thing, where its place differs from the one before
 abbrev pub spot_from : ℕ → Option ℕ → Option ℕ → Option ℤ → Option Spot
 spot_from number before (Some p) (Some day) =
-    if is_same_place before (Some p) then None else Some (record { entry = number; place = p; day = day })
+    if is_same_place before (Some p) then None
+    else Some (record { entry = number; place = p; day = day })
 spot_from number before (Some p) None = None
 spot_from number before None day = None
 
@@ -56,4 +59,6 @@ spot_from number before None day = None
 abbrev pub spots : Museum → List Entry → ℕ → List Spot
 spots S [] x = []
 spots S (e ∷ P) x =
-    spots S P x ++ option_to_list (spot_from (length P + 1) (place_at S P x) (place_at S (e ∷ P) x) (day_of e.message))
+    spots S P x
+    ++ option_to_list
+    (spot_from (length P + 1) (place_at S P x) (place_at S (e ∷ P) x) (day_of e.message))

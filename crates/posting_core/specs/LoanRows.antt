@@ -67,7 +67,11 @@ extended_row last row = record row { last = last }
 
 -- an object's line gets a stage, where the row has one
 abbrev pub with_stage : LoanRow → ℕ → LineStage → LoanRow
-with_stage row o s = record row { stages = option_map_or (λ i. slice_set row.stages i s) (position (nat_eq o) row.objects) row.stages }
+with_stage row o s =
+    record row {
+      stages = option_map_or (λ i. slice_set row.stages i s)
+          (position (nat_eq o) row.objects) row.stages;
+    }
 
 -- each of the lines in turn
 abbrev pub with_lines : List NewLine → LoanRow → LoanRow
@@ -77,12 +81,15 @@ with_lines (l ∷ ls) row = with_lines ls (with_stage row l.object l.stage)
 -- a loan's row is changed so
 abbrev pub changed : (LoanRow → LoanRow) → List ℕ → List LoanRow → List LoanRow
 changed change loan [] = []
-changed change loan (row ∷ rows) = if bytes_eq loan row.loan then change row ∷ rows else row ∷ changed change loan rows
+changed change loan (row ∷ rows) =
+    if bytes_eq loan row.loan then change row ∷ rows else row ∷ changed change loan rows
 
 -- the rows after an applied message that makes or changes these lines
 abbrev pub rows_with : Museum → List LoanRow → Message → List NewLine → List LoanRow
 rows_with S rows (Agree loan partner objects first last) lines =
-    rows ++ agreed_row S (record { loan = loan; partner = partner; objects = objects; first = first; last = last }) ∷ []
+    rows ++ agreed_row S
+    (record { loan = loan; partner = partner; objects = objects; first = first; last = last })
+    ∷ []
 rows_with S rows (Authorise loan name) lines = changed authorised_row loan rows
 rows_with S rows (Exit x loan day) lines = changed (with_lines lines) loan rows
 rows_with S rows (Return x loan p day) lines = changed (with_lines lines) loan rows

@@ -33,7 +33,8 @@ abbrev pub exit_stage : List ℕ → LineStage
 exit_stage loan = if is_out loan then Away else GivenBack
 
 abbrev pub exit_of : List ℕ → List ℕ → Crossing
-exit_of x loan = record { thing = x; loan = loan; wanted = wanted_by_exit loan; stage = exit_stage loan }
+exit_of x loan =
+    record { thing = x; loan = loan; wanted = wanted_by_exit loan; stage = exit_stage loan }
 
 -- a return takes back what a loan out took away
 abbrev pub return_of : List ℕ → List ℕ → Crossing
@@ -60,14 +61,16 @@ objects_in S P code = objects_with S P (thing_no S code)
 -- the stage that an object's line gets by an entry after P, where it crosses under the loan in it
 abbrev pub stage_by : Museum → List Entry → Message → List ℕ → ℕ → Option LineStage
 stage_by S P m loan o = option_and_then
-    (λ x. if bytes_eq x.loan loan && is_among o (objects_in S P x.thing) then Some x.stage else None)
+    (λ x. if bytes_eq x.loan loan && is_among o (objects_in S P x.thing) then Some x.stage
+    else None)
     (crossing_in m)
 
 -- the stage that the last applied crossing of the loan with the object in it gave; where there is none it is awaited
 abbrev pub stage : Museum → List Entry → List ℕ → ℕ → LineStage
 stage S [] loan o = Awaiting
 stage S (e ∷ P) loan o =
-    option_map_or (λ s. s) (if is_applied e.verdict then stage_by S P e.message loan o else None) (stage S P loan o)
+    option_map_or (λ s. s) (if is_applied e.verdict then stage_by S P e.message loan o else None)
+    (stage S P loan o)
 
 -- the objects of an agreement, by number
 abbrev pub objects_of : Museum → Agreement → List ℕ
@@ -106,4 +109,6 @@ state_by authorised stages =
 
 -- a loan's state
 abbrev pub loan_state : Museum → List Entry → List ℕ → Option LoanState
-loan_state S P loan = option_map (λ t. state_by (is_authorised P loan) (map (stage S P loan) (objects_of S t))) (agreement P loan)
+loan_state S P loan =
+    option_map (λ t. state_by (is_authorised P loan) (map (stage S P loan) (objects_of S t)))
+    (agreement P loan)

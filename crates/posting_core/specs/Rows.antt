@@ -25,7 +25,8 @@ row_of rows x = option_map_or (λ spots. spots) (slice_get rows x) []
 -- each spot at the end of its thing's row
 abbrev pub rows_after : List (List Spot) → List NewSpot → List (List Spot)
 rows_after rows [] = rows
-rows_after rows (s ∷ ss) = rows_after (slice_set rows s.thing (row_of rows s.thing ++ s.spot ∷ [])) ss
+rows_after rows (s ∷ ss) =
+    rows_after (slice_set rows s.thing (row_of rows s.thing ++ s.spot ∷ [])) ss
 
 -- the rows that are kept, as lists
 abbrev pub lists : List (Vec Spot Global) → List (List Spot)
@@ -34,7 +35,8 @@ lists rows = map (λ row. row.items) rows
 -- new spots of things in ascending order, each at most once, from this number on and below so many
 abbrev pub AreAscending : ℕ → ℕ → List NewSpot → Type 0
 AreAscending from things [] = Unit {0}
-AreAscending from things (s ∷ ss) = (from ≤ s.thing) × (s.thing < things) × AreAscending (s.thing + 1) things ss
+AreAscending from things (s ∷ ss) =
+    (from ≤ s.thing) × (s.thing < things) × AreAscending (s.thing + 1) things ss
 
 -- the thing's row has room for one more spot
 abbrev pub HasRoom : List (Vec Spot Global) → ℕ → Type 0
@@ -43,10 +45,13 @@ HasRoom rows x = IfSome (slice_get rows x) (λ row. vec_len row + 1 ≤ vec_capa
 -- each new spot can be written: its thing has a row with room, and none stands twice
 abbrev pub AreReady : List (Vec Spot Global) → ℕ → List NewSpot → Type 0
 AreReady rows from [] = Unit {0}
-AreReady rows from (s ∷ ss) = (from ≤ s.thing) × (s.thing < length rows) × HasRoom rows s.thing × AreReady rows (s.thing + 1) ss
+AreReady rows from (s ∷ ss) =
+    (from ≤ s.thing) × (s.thing < length rows) × HasRoom rows s.thing
+    × AreReady rows (s.thing + 1) ss
 
 -- what the fields keep
-pub record IsKept (S : Museum) (P : List Entry) (N : Nested) (rows : List (List Spot)) (L : List LoanRow) : Type 0 where
+pub record IsKept (S : Museum) (P : List Entry) (N : Nested) (rows : List (List Spot))
+    (L : List LoanRow) : Type 0 where
   pub lawful : IsLawful S N.depth P
   pub things : N.things ≡ length S.things
   pub places : N.places ≡ length S.places

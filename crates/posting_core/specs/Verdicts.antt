@@ -63,7 +63,9 @@ is_cycle S P x c = is_among (thing_no S x) (thing_no S c ∷ chain_at S P (thing
 
 -- with x in the container some thing would have more containers above it than the depth limit
 abbrev pub is_deep_with : Museum → ℕ → List Entry → List ℕ → List ℕ → Bool
-is_deep_with S depth P x c = is_too_deep (put_at (last (puts S P)) (thing_no S x) (Within (thing_no S c))) (length S.things) depth
+is_deep_with S depth P x c =
+    is_too_deep (put_at (last (puts S P)) (thing_no S x) (Within (thing_no S c)))
+    (length S.things) depth
 
 -- the rows of a Pack of thing x into container c
 abbrev pub pack_rows : Museum → ℕ → List Entry → List ℕ → List ℕ → List (Row Verdict)
@@ -82,7 +84,8 @@ is_container_code x = is_container_kind (thing_kind x)
 
 -- a loan out lists no borrowed object, a loan in no own one
 abbrev pub is_of_wrong_owner : List ℕ → List ℕ → Bool
-is_of_wrong_owner loan x = if is_out loan then is_borrowed_kind (thing_kind x) else is_own_kind (thing_kind x)
+is_of_wrong_owner loan x =
+    if is_out loan then is_borrowed_kind (thing_kind x) else is_own_kind (thing_kind x)
 
 -- some code stands twice
 abbrev pub repeats : List (List ℕ) → Bool
@@ -94,7 +97,8 @@ is_empty [] = true
 is_empty (x ∷ xs) = false
 
 -- the rows of an Agree of a loan with the partner at this place: its objects, first day and last day
-abbrev pub agree_rows : Museum → List Entry → List ℕ → List ℕ → List (List ℕ) → ℤ → ℤ → List (Row Verdict)
+abbrev pub agree_rows : Museum → List Entry → List ℕ → List ℕ → List (List ℕ) → ℤ → ℤ
+    → List (Row Verdict)
 agree_rows S P loan partner objects first last =
     (UnknownThing if list_any (λ x. not (is_known S x)) objects)
     ∷ (UnknownPlace if not (is_known_place S partner))
@@ -135,7 +139,8 @@ any_unlisted lines objects = list_any (λ o. not (is_some (lines o))) objects
 
 -- some of them has no line at the stage wanted
 abbrev pub any_not_at : (ℕ → Option LineStage) → LineStage → List ℕ → Bool
-any_not_at lines wanted objects = list_any (λ o. not (option_map_or (stage_eq wanted) (lines o) false)) objects
+any_not_at lines wanted objects =
+    list_any (λ o. not (option_map_or (stage_eq wanted) (lines o) false)) objects
 
 -- the last rows of what crosses: of its objects' lines, and of the loan's last day where that is asked
 abbrev pub line_rows : (ℕ → Option LineStage) → LineStage → List ℕ → Bool → List (Row Verdict)
@@ -181,7 +186,8 @@ exit_rows S P x loan day =
 -- the thing's place is the loan's partner place
 abbrev pub is_with_partner : Museum → List Entry → List ℕ → List ℕ → Bool
 is_with_partner S P x loan =
-    option_map_or (λ t. is_same_place (place_at S P (thing_no S x)) (Some (place_no S t.partner))) (agreement P loan) false
+    option_map_or (λ t. is_same_place (place_at S P (thing_no S x)) (Some (place_no S t.partner)))
+    (agreement P loan) false
 
 -- the rows of a Return of thing x under a loan to place p
 abbrev pub return_rows : Museum → List Entry → List ℕ → List ℕ → List ℕ → List (Row Verdict)
@@ -229,7 +235,8 @@ extend_rows P loan day =
 abbrev pub verdict : Museum → ℕ → List Entry → Message → Verdict
 verdict S depth P (Move x p day) = first_of (move_rows S P x p)
 verdict S depth P (Pack x c day) = first_of (pack_rows S depth P x c)
-verdict S depth P (Agree loan partner objects first last) = first_of (agree_rows S P loan partner objects first last)
+verdict S depth P (Agree loan partner objects first last) =
+    first_of (agree_rows S P loan partner objects first last)
 verdict S depth P (Authorise loan name) = first_of (authorise_rows P loan)
 verdict S depth P (Exit x loan day) = first_of (exit_rows S P x loan day)
 verdict S depth P (Return x loan p day) = first_of (return_rows S P x loan p)

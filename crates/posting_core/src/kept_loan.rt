@@ -32,7 +32,15 @@ impl Model for KeptLoan {
 
     ghost Value = { LoanRow };
 
-    ghost view = { λ k. record { loan = k.loan; partner = k.partner; objects = k.objects.keys; stages = k.stages.items; last = k.last; authorised = k.authorised } };
+    ghost view = { λ k.
+        record {
+          loan = k.loan;
+          partner = k.partner;
+          objects = k.objects.keys;
+          stages = k.stages.items;
+          last = k.last;
+          authorised = k.authorised;
+        } };
 
     ghost invariant = { λ k. length k.stages.items ≡ length k.objects.keys };
 }
@@ -159,7 +167,9 @@ fn awaited(
 ) -> Result<(IndexSet<ThingNo>, Vec<LineStage>), NoMemory>
     requires known { list_any (λ x. not (is_known setup.now x)) objects.now ≡ false }
     requires once { repeats objects.now ≡ false }
-    ensures { IfOk result (λ both. (both.0.keys ≡ map (thing_no setup.now) objects.now) × (both.1.items ≡ map (λ o. Awaiting) (map (thing_no setup.now) objects.now))) }
+    ensures { IfOk result
+        (λ both. (both.0.keys ≡ map (thing_no setup.now) objects.now)
+        × (both.1.items ≡ map (λ o. Awaiting) (map (thing_no setup.now) objects.now))) }
 {
     let mut numbers = IndexSet::new(alloc);
     let mut stages = Vec::new(alloc);

@@ -16,7 +16,9 @@ use crate::Ledger;
 
 /// The last spot of a thing is its current place, and a thing without a place has no spot.
 pub fn last_spot_is_current(ledger: &Ledger)
-    ensures current { (x : ℕ) → option_map (λ spot. spot.place) (last_or None (spots_in ledger.now x)) ≡ place_in ledger.now x }
+    ensures current { (x : ℕ)
+        → option_map (λ spot. spot.place) (last_or None (spots_in ledger.now x))
+        ≡ place_in ledger.now x }
     ensures unplaced { (x : ℕ) → place_in ledger.now x ≡ None → spots_in ledger.now x ≡ [] }
 {
     ledger.is_lawful();
@@ -24,7 +26,9 @@ pub fn last_spot_is_current(ledger: &Ledger)
 
 /// No spot is written where the place does not change: each spot of a thing is at another place than the one before it.
 pub fn each_spot_is_a_change(ledger: &Ledger)
-    ensures { (x : ℕ) → AllAdjacentBelow (λ one next. one.place ≢ next.place) (spots_in ledger.now x) (length (spots_in ledger.now x)) }
+    ensures { (x : ℕ)
+        → AllAdjacentBelow (λ one next. one.place ≢ next.place) (spots_in ledger.now x)
+        (length (spots_in ledger.now x)) }
 {
     ledger.is_lawful();
 }
@@ -32,7 +36,8 @@ pub fn each_spot_is_a_change(ledger: &Ledger)
 /// An own object is home, or it is lent: it is elsewhere exactly where it is away under exactly one loan out, and then
 /// it is at the place of that loan's partner.
 pub fn own_objects_are_accounted_for(ledger: &Ledger)
-    ensures { (o : ℕ) → is_own ledger.now.museum o ≡ true → IsHome ledger.now o ⊎ IsLent ledger.now o }
+    ensures { (o : ℕ) → is_own ledger.now.museum o ≡ true
+        → IsHome ledger.now o ⊎ IsLent ledger.now o }
 {
     ledger.is_lawful();
 }
@@ -40,14 +45,16 @@ pub fn own_objects_are_accounted_for(ledger: &Ledger)
 /// A borrowed object is with its lender, or it is a guest: it is inside exactly where it is here under exactly one
 /// loan in.
 pub fn borrowed_objects_are_accounted_for(ledger: &Ledger)
-    ensures { (o : ℕ) → is_borrowed ledger.now.museum o ≡ true → IsWithLender ledger.now o ⊎ IsGuest ledger.now o }
+    ensures { (o : ℕ) → is_borrowed ledger.now.museum o ≡ true
+        → IsWithLender ledger.now o ⊎ IsGuest ledger.now o }
 {
     ledger.is_lawful();
 }
 
 /// Under a closed loan every object is back or given back.
 pub fn closed_loans_are_over(ledger: &Ledger)
-    ensures { (loan : List ℕ) → state_in ledger.now loan ≡ Some Closed → (o : ℕ) → IfSome (line_in ledger.now loan o) IsOver }
+    ensures { (loan : List ℕ) → state_in ledger.now loan ≡ Some Closed → (o : ℕ)
+        → IfSome (line_in ledger.now loan o) IsOver }
 {
     ledger.is_lawful();
 }
@@ -64,7 +71,8 @@ pub fn crossings_are_authorised(ledger: &Ledger)
 /// A message that the rules refuse changes no answer: a ledger that posts it tells the same of every thing and of every
 /// loan as before: places, containers above, spots, loans, their objects, lines, states and last days.
 pub fn refused_changes_no_answer()
-    ensures { (B : Book) (e : Entry) → is_applied e.verdict ≡ false → AnswerAlike (record B { posted = e ∷ B.posted }) B }
+    ensures { (B : Book) (e : Entry) → is_applied e.verdict ≡ false
+        → AnswerAlike (record B { posted = e ∷ B.posted }) B }
 {}
 
 /// Nor do several such messages, one after the other.
@@ -76,12 +84,15 @@ pub fn all_refused_change_no_answer()
 /// spots afterwards are those before with the new ones, a line differs afterwards exactly where a new line names it, and
 /// then it is at the new line's stage.
 pub fn changes_are_the_difference()
-    ensures spots { (B : Book) (e : Entry) → GoesOn B (e ∷ []) → (x : ℕ) → x < length B.museum.things →
+    ensures spots { (B : Book) (e : Entry) → GoesOn B (e ∷ []) → (x : ℕ)
+        → x < length B.museum.things →
         spots_in (later B (e ∷ [])) x ≡ spots_in B x ++ spots_for (changes_of B e.message) x }
     ensures lines { (B : Book) (e : Entry) → GoesOn B (e ∷ []) → (loan : List ℕ) (o : ℕ) →
-        (line_in (later B (e ∷ [])) loan o ≢ line_in B loan o) ↔ (names_line (changes_of B e.message) loan o ≡ true) }
+        (line_in (later B (e ∷ [])) loan o ≢ line_in B loan o) ↔
+        (names_line (changes_of B e.message) loan o ≡ true) }
     ensures stages { (B : Book) (e : Entry) → GoesOn B (e ∷ []) →
-        All (λ l. line_in (later B (e ∷ [])) l.loan l.object ≡ Some l.stage) (changes_of B e.message).lines }
+        All (λ l. line_in (later B (e ∷ [])) l.loan l.object ≡ Some l.stage)
+        (changes_of B e.message).lines }
 {}
 
 /// Under one loan a line only goes forward, whatever is posted later: from awaited to away and to back, or from awaited to

@@ -43,9 +43,11 @@ impl Model for Ledger {
 
     ghost Value = { Book };
 
-    ghost view = { λ a. record { museum = a.setup; depth = a.nest.depth; posted = reverse a.posted.items } };
+    ghost view = { λ a.
+        record { museum = a.setup; depth = a.nest.depth; posted = reverse a.posted.items } };
 
-    ghost invariant = { λ a. IsKept a.setup (reverse a.posted.items) a.nest (lists a.spots.items) a.loans };
+    ghost invariant = { λ a.
+        IsKept a.setup (reverse a.posted.items) a.nest (lists a.spots.items) a.loans };
 }
 
 /// Written out, so that whoever drops a ledger calls it: a derived drop would stand whole at each of their ways out.
@@ -70,7 +72,8 @@ impl Ledger {
     /// Nothing posted yet, over this setup and under this limit of containers above a thing. After NoMemory the
     /// setup is dropped.
     pub fn new(alloc: Global, setup: Setup, depth: u32) -> Result<Ledger, NoMemory>
-        ensures { IfOk result (λ ledger. ledger ≡ record { museum = setup; depth = depth; posted = [] }) }
+        ensures { IfOk result
+            (λ ledger. ledger ≡ record { museum = setup; depth = depth; posted = [] }) }
     {
         let nest = Nest::new(alloc, &setup, depth)?;
         let spots = no_spots(alloc, setup.things())?;
@@ -156,7 +159,8 @@ impl Ledger {
     /// `loan_count`.
     pub fn objects(&self, i: usize) -> &[ThingNo]
         requires { i < length (loans_in self.now) }
-        ensures objects { option_map (objects_of_loan self.now) (slice_get (loans_in self.now) i) ≡ Some result.now }
+        ensures objects { option_map (objects_of_loan self.now) (slice_get (loans_in self.now) i)
+            ≡ Some result.now }
         ensures within { All (λ o. o < length self.now.museum.things) result.now }
     {
         self.loans.at(i).objects()
@@ -279,11 +283,17 @@ impl Ledger {
     /// What is kept of a loan, where it is agreed.
     pub(crate) fn loan(&self, loan: &LoanCode) -> Option<&KeptLoan>
         ensures agreed { is_some result ≡ is_agreed self.now.posted loan.now }
-        ensures authorised { IfSome result (λ row. row.now.authorised ≡ is_authorised self.now.posted loan.now) }
-        ensures last { IfSome result (λ row. last_day self.now.posted loan.now ≡ Some row.now.last) }
-        ensures partner { IfSome result (λ row. option_map (λ t. place_no self.now.museum t.partner) (agreement self.now.posted loan.now) ≡ Some row.now.partner) }
-        ensures lines { IfSome result (λ row. (o : ℕ) → line_of row.now o ≡ line self.now.museum self.now.posted loan.now o) }
-        ensures state { IfSome result (λ row. loan_state self.now.museum self.now.posted loan.now ≡ Some (state_of row.now)) }
+        ensures authorised { IfSome result
+            (λ row. row.now.authorised ≡ is_authorised self.now.posted loan.now) }
+        ensures last { IfSome result
+            (λ row. last_day self.now.posted loan.now ≡ Some row.now.last) }
+        ensures partner { IfSome result
+            (λ row. option_map (λ t. place_no self.now.museum t.partner)
+            (agreement self.now.posted loan.now) ≡ Some row.now.partner) }
+        ensures lines { IfSome result
+            (λ row. (o : ℕ) → line_of row.now o ≡ line self.now.museum self.now.posted loan.now o) }
+        ensures state { IfSome result
+            (λ row. loan_state self.now.museum self.now.posted loan.now ≡ Some (state_of row.now)) }
     {
         self.loans.get(loan)
     }

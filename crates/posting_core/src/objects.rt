@@ -26,7 +26,8 @@ impl Model for Objects {
 impl Objects {
     /// These codes, of any kind; more than [`MOST_OBJECTS`] are handed back.
     pub fn new(codes: Vec<ThingCode>) -> Result<Objects, Vec<ThingCode>>
-        ensures { MatchResult result (λ objects. (objects ≡ codes.items) × (length codes.items ≤ MOST_OBJECTS))
+        ensures { MatchResult result
+            (λ objects. (objects ≡ codes.items) × (length codes.items ≤ MOST_OBJECTS))
             (λ back. (back ≡ codes) × (MOST_OBJECTS < length codes.items)) }
     {
         if codes.len() > MOST_OBJECTS {

@@ -21,8 +21,11 @@ fn put_over<L: Ledger>(
     requires some { 0 < blank.parts }
     requires known { put.thing < nest.old.things }
     requires may { MayGo nest.old put.thing put.to }
-    ensures stands { OnOk result ((Q : List Put) → StandsFor nest.old Q → StandsFor nest.new (put ∷ Q)) }
-    ensures sized { OnOk result ((nest.new.things ≡ nest.old.things) × (nest.new.places ≡ nest.old.places) × (nest.new.depth ≡ nest.old.depth)) }
+    ensures stands { OnOk result
+        ((Q : List Put) → StandsFor nest.old Q → StandsFor nest.new (put ∷ Q)) }
+    ensures sized { OnOk result
+        ((nest.new.things ≡ nest.old.things) × (nest.new.places ≡ nest.old.places)
+        × (nest.new.depth ≡ nest.old.depth)) }
     ensures unchanged { OnErr result (nest.new ≡ nest.old) }
 {
     let mut steps = Steps::<L>::new(blank);
@@ -33,8 +36,11 @@ fn put_over<L: Ledger>(
 /// Puts a thing where it goes, if it goes anywhere; after NoMemory the nest is unchanged.
 pub(crate) fn place(alloc: Global, nest: &mut Nest, put: Option<Put>) -> Result<(), NoMemory>
     requires { IfSome put (λ p. (p.thing < nest.old.things) × MayGo nest.old p.thing p.to) }
-    ensures stands { OnOk result ((Q : List Put) → StandsFor nest.old Q → StandsFor nest.new (with_put put Q)) }
-    ensures sized { OnOk result ((nest.new.things ≡ nest.old.things) × (nest.new.places ≡ nest.old.places) × (nest.new.depth ≡ nest.old.depth)) }
+    ensures stands { OnOk result
+        ((Q : List Put) → StandsFor nest.old Q → StandsFor nest.new (with_put put Q)) }
+    ensures sized { OnOk result
+        ((nest.new.things ≡ nest.old.things) × (nest.new.places ≡ nest.old.places)
+        × (nest.new.depth ≡ nest.old.depth)) }
     ensures unchanged { OnErr result (nest.new ≡ nest.old) }
 {
     if let Some(put) = put {

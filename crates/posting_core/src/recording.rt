@@ -22,8 +22,11 @@ pub(crate) fn record(
     lines: &[NewLine],
 ) -> Result<(), NoMemory>
     requires { IfSome (agreement_by verdict message.now) (MayAgree setup.now loans.old) }
-    ensures ok { OnOk result (loans.new ≡ (if is_applied verdict then rows_with setup.now loans.old message.now lines.now else loans.old)) }
-    ensures err { OnErr result ((loans.new ≡ loans.old) × (is_some (agreement_in message.now) ≡ true)) }
+    ensures ok { OnOk result
+        (loans.new ≡ (if is_applied verdict
+        then rows_with setup.now loans.old message.now lines.now else loans.old)) }
+    ensures err { OnErr result
+        ((loans.new ≡ loans.old) × (is_some (agreement_in message.now) ≡ true)) }
 {
     if !matches!(verdict, Verdict::Applied) {
         return Ok(());

@@ -18,7 +18,8 @@ first_meta = version_row 1 ∷ record { name = codes "depth"; val = pos 8 } ∷ 
 
 -- no row says this version
 abbrev pub LacksRow : ℕ → List Row → Type 0
-LacksRow version rows = (k : ℕ) (d : Row) → k < length rows → slice_index_or rows k d ≢ meta_cells (version_row version)
+LacksRow version rows =
+    (k : ℕ) (d : Row) → k < length rows → slice_index_or rows k d ≢ meta_cells (version_row version)
 
 -- they are the two rows of a store of version 1
 abbrev pub IsFirst : List Row → Type 0
@@ -30,4 +31,5 @@ IsAged rows New = rows ≡ []
 IsAged rows Second = ¬ LacksRow 2 rows
 IsAged rows First = IsFirst rows
 IsAged rows Other = HasOther rows × LacksRow 1 rows × LacksRow 2 rows
-IsAged rows Damaged = (rows ≢ []) × LacksRow 2 rows × ¬ IsFirst rows × (HasOther rows → ¬ LacksRow 1 rows)
+IsAged rows Damaged =
+    (rows ≢ []) × LacksRow 2 rows × ¬ IsFirst rows × (HasOther rows → ¬ LacksRow 1 rows)

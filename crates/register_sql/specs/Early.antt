@@ -29,7 +29,8 @@ pub record IsEarlyOf (stations : ℕ) (e : Entry) : Type 0 where
 
 -- no such entry has such a row under this number
 abbrev pub IsWrongEarly : ℕ → ℕ → PostingRow → Type 0
-IsWrongEarly stations number row = (e : Entry) → IsPostingRow number e row → IsEarlyOf stations e → ⊥
+IsWrongEarly stations number row =
+    (e : Entry) → IsPostingRow number e row → IsEarlyOf stations e → ⊥
 
 -- of these rows, oldest first, the first wrong one has this number
 pub record IsEarlyWrongAt (stations at : ℕ) (rows : List PostingRow) : Type 0 where

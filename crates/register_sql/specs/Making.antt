@@ -14,9 +14,12 @@ use Rattle.register_sql.specs.Tables.{prefix, hub_schema}
 abbrev pub create_of : ℕ → List ℕ
 create_of zero = codes "CREATE TABLE meta (name TEXT PRIMARY KEY, val INTEGER NOT NULL) STRICT"
 create_of (suc zero) = codes "CREATE TABLE setup (id INTEGER PRIMARY KEY, txt TEXT NOT NULL) STRICT"
-create_of (suc (suc zero)) = codes "CREATE TABLE posting (id INTEGER PRIMARY KEY, station INTEGER NOT NULL, n INTEGER NOT NULL, body TEXT NOT NULL, verdict INTEGER NOT NULL, UNIQUE (station, n)) STRICT"
-create_of (suc (suc (suc zero))) = codes "CREATE TABLE spot (thing INTEGER, k INTEGER, entry INTEGER NOT NULL, place INTEGER NOT NULL, day INTEGER NOT NULL, PRIMARY KEY (thing, k)) STRICT"
-create_of (suc (suc (suc (suc zero)))) = codes "CREATE TABLE line (loan TEXT, object INTEGER, stage INTEGER NOT NULL, PRIMARY KEY (loan, object)) STRICT"
+create_of (suc (suc zero)) =
+    codes "CREATE TABLE posting (id INTEGER PRIMARY KEY, station INTEGER NOT NULL, n INTEGER NOT NULL, body TEXT NOT NULL, verdict INTEGER NOT NULL, UNIQUE (station, n)) STRICT"
+create_of (suc (suc (suc zero))) =
+    codes "CREATE TABLE spot (thing INTEGER, k INTEGER, entry INTEGER NOT NULL, place INTEGER NOT NULL, day INTEGER NOT NULL, PRIMARY KEY (thing, k)) STRICT"
+create_of (suc (suc (suc (suc zero)))) =
+    codes "CREATE TABLE line (loan TEXT, object INTEGER, stage INTEGER NOT NULL, PRIMARY KEY (loan, object)) STRICT"
 create_of _ = codes "CREATE TABLE term (loan TEXT PRIMARY KEY, day INTEGER NOT NULL) STRICT"
 
 -- the rows of the setup with these texts, numbered from there on
@@ -40,7 +43,8 @@ pub record Goes (made : ℕ) (Step : Trees → Trees → Type 0) (old new : Stat
 abbrev pub IsMaking : ℕ → State → Type 0
 IsMaking made s = HasCleanDisk s → IsMade made s
 
-abbrev pub Went : {T : Type 0} → State → State → Result T Error → ℕ → (Trees → Trees → Type 0) → Type 0
+abbrev pub Went : {T : Type 0} → State → State → Result T Error → ℕ → (Trees → Trees → Type 0)
+    → Type 0
 Went old new r made Step = HasCleanDisk new → OnOk r (Goes made Step old new)
 
 -- all tables hold what they held, and those that came hold nothing
@@ -87,8 +91,10 @@ pub record Fills (setup : List SetupRow) (metas : List MetaRow) (db next : Trees
 
 -- a whole store, made of one of the first so many tables: these are its setup and, beside what it said, what it says of
 -- itself; and the rest is as it was
-pub record MakesWhole (made : ℕ) (setup : List SetupRow) (metas : List MetaRow) (db next : Trees) : Type 0 where
-  pub meta : IsPermutation (map meta_cells metas ++ map (drop 1) (had 1 made (db 0))) (map (drop 1) (next 0))
+pub record MakesWhole (made : ℕ) (setup : List SetupRow) (metas : List MetaRow)
+    (db next : Trees) : Type 0 where
+  pub meta : IsPermutation (map meta_cells metas ++ map (drop 1) (had 1 made (db 0)))
+      (map (drop 1) (next 0))
   pub setup_is : IsPermutation (map setup_cells setup) (next 2)
   pub postings : next 3 ≡ had 3 made (db 3)
   pub spots : next 5 ≡ had 4 made (db 5)
@@ -102,7 +108,8 @@ pub record SoFarSetup (old now : State) (all left : List SetupRow) : Type 0 wher
   pub rows : (end : Trees) → AddsSetup left now.now.trees end → AddsSetup all old.now.trees end
 
 -- made and committed
-pub record IsMadeWhole (made : ℕ) (setup : List SetupRow) (metas : List MetaRow) (old new : State) : Type 0 where
+pub record IsMadeWhole (made : ℕ) (setup : List SetupRow) (metas : List MetaRow)
+    (old new : State) : Type 0 where
   pub is_open : IsTrue new.is_open
   pub schema : new.now.schema ≡ hub_schema
   pub sound : IsDatabase new.now
@@ -110,6 +117,7 @@ pub record IsMadeWhole (made : ℕ) (setup : List SetupRow) (metas : List MetaRo
   pub committed : new.committed ≡ new.now
 
 -- a database made whole
-pub record LeavesMade (made : ℕ) (setup : List SetupRow) (metas : List MetaRow) (old : State) (db : Trees) : Type 0 where
+pub record LeavesMade (made : ℕ) (setup : List SetupRow) (metas : List MetaRow) (old : State)
+    (db : Trees) : Type 0 where
   pub sound : IsSound hub_schema db
   pub rows : MakesWhole made setup metas old.now.trees db

@@ -27,7 +27,8 @@ Lacks version meta = AllByRecursion (λ row. row ≢ version_row version) meta
 -- the last days that entries gave loans, each in the place of the one before
 abbrev pub days_given : List Entry → List TermRow
 days_given [] = []
-days_given (e ∷ P) = option_map_or (λ t. put is_same_loan t (days_given P)) (term_of e) (days_given P)
+days_given (e ∷ P) =
+    option_map_or (λ t. put is_same_loan t (days_given P)) (term_of e) (days_given P)
 
 -- all that a migration changes: what the store says of itself, and the last days that its entries gave
 abbrev pub migrated : List Entry → Content → Content
@@ -50,7 +51,8 @@ Migrates S c d = IsMigrated S c d ⊎ ((¬ Lacks 2 c.meta) × AreSame c d)
 
 -- it says nothing of itself; or a version, and neither of the two that are known
 abbrev pub IsUnknown : List MetaRow → Type 0
-IsUnknown meta = (is_new meta ≡ true) ⊎ ((has_other_version meta ≡ true) × Lacks 1 meta × Lacks 2 meta)
+IsUnknown meta =
+    (is_new meta ≡ true) ⊎ ((has_other_version meta ≡ true) × Lacks 1 meta × Lacks 2 meta)
 
 -- it says something, no version that is unknown, and isn't whole
 pub record IsDamagedMeta (meta : List MetaRow) : Type 0 where
@@ -64,13 +66,17 @@ abbrev pub IsMigrateFault : Museum → Content → StoreFault → Type 0
 IsMigrateFault S c NoMemory = Unit {0}
 IsMigrateFault S c Store = Unit {0}
 IsMigrateFault S c OtherVersion = IsUnknown c.meta
-IsMigrateFault S c OtherSetup = IsPermutation first_meta c.meta × ¬ IsPermutation (rows_of_setup S) c.setup
+IsMigrateFault S c OtherSetup =
+    IsPermutation first_meta c.meta × ¬ IsPermutation (rows_of_setup S) c.setup
 IsMigrateFault S c (Damaged at) =
-    ((at ≡ 0) × IsDamagedMeta c.meta) ⊎ (IsPermutation first_meta c.meta × IsPermutation (rows_of_setup S) c.setup × IsFirstEarlyWrong (length S.stations) at c)
+    ((at ≡ 0) × IsDamagedMeta c.meta)
+    ⊎ (IsPermutation first_meta c.meta × IsPermutation (rows_of_setup S) c.setup
+    × IsFirstEarlyWrong (length S.stations) at c)
 
 -- it isn't migrated, for this cause, and is as it was; for want of memory, or where it refused, it may be migrated
 abbrev pub IsNotMigrated : Museum → StoreFault → Content → Content → Type 0
-IsNotMigrated S fault c d = IsMigrateFault S c fault × (AreSame c d ⊎ ((is_failure fault ≡ true) × IsMigrated S c d))
+IsNotMigrated S fault c d =
+    IsMigrateFault S c fault × (AreSame c d ⊎ ((is_failure fault ≡ true) × IsMigrated S c d))
 
 -- ---- the steps of the transaction
 
@@ -102,7 +108,9 @@ pub record Raises (db next : Trees) : Type 0 where
 
 -- the content of version 2 with the last days that these entries give, oldest first
 abbrev pub lifted : List Entry → Content → Content
-lifted entries c = with_each (λ e. with_some_term (term_of e)) entries (record c { meta = rows_of_meta 8; terms = [] })
+lifted entries c =
+    with_each (λ e. with_some_term (term_of e)) entries
+    (record c { meta = rows_of_meta 8; terms = [] })
 
 abbrev pub Lifts : List Entry → Trees → Trees → Type 0
 Lifts entries db next = (c : Content) → HasPart 5 db c → AreRows next (lifted entries c)

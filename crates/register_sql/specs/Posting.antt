@@ -109,4 +109,5 @@ pub record SoFar (old now : State) (all left : Content → Content) : Type 0 whe
   pub within : Within now
   pub stays : IsTrue old.is_open → IsTrue now.is_open
   pub kept : KeepsCommit old now
-  pub rows : (c : Content) → AreRows old.now.trees c → (d : Content) × AreRows now.now.trees d × (left d ≡ all c)
+  pub rows : (c : Content) → AreRows old.now.trees c
+      → (d : Content) × AreRows now.now.trees d × (left d ≡ all c)

@@ -13,4 +13,6 @@ IsBelow a b = (m n : ℤ) × (rowid a ≡ Int m) × (rowid b ≡ Int n) × (m <�
 
 -- each row's first number is above the one before it
 abbrev pub IsRising : List Row → Type 0
-IsRising rows = (k : ℕ) (d : Row) → k + 1 < length rows → IsBelow (slice_index_or rows k d) (slice_index_or rows (k + 1) d)
+IsRising rows =
+    (k : ℕ) (d : Row) → k + 1 < length rows
+    → IsBelow (slice_index_or rows k d) (slice_index_or rows (k + 1) d)

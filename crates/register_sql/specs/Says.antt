@@ -16,7 +16,8 @@ abbrev pub IsOther : Row → Type 0
 IsOther row = (n : ℤ) × (row ≡ Text (codes "version") ∷ Int n ∷ []) × (n ≢ pos 2)
 
 abbrev pub HasOther : List Row → Type 0
-HasOther rows = (k : ℕ) × (row : Row) × (k < length rows) × (row ≡ slice_index_or rows k row) × IsOther row
+HasOther rows =
+    (k : ℕ) × (row : Row) × (k < length rows) × (row ≡ slice_index_or rows k row) × IsOther row
 
 -- they are the two rows of a store with this depth limit
 abbrev pub IsWhole : ℕ → List Row → Type 0
@@ -26,7 +27,8 @@ IsWhole depth rows = IsPermutation (map meta_cells (rows_of_meta depth)) rows
 abbrev pub IsTold : List Row → Told → Type 0
 IsTold rows New = rows ≡ []
 IsTold rows OtherVersion = HasOther rows
-IsTold rows Damaged = (rows ≢ []) × ¬ HasOther rows × ((depth : ℕ) → is_depth depth ≡ true → ¬ IsWhole depth rows)
+IsTold rows Damaged =
+    (rows ≢ []) × ¬ HasOther rows × ((depth : ℕ) → is_depth depth ≡ true → ¬ IsWhole depth rows)
 IsTold rows (Bound depth) = (is_depth depth ≡ true) × IsWhole depth rows
 
 -- the setup with these texts, as it is shown

@@ -24,14 +24,22 @@ pub record Kept (S : Type 0) : Type 0 where
 
 abbrev pub kept_code : {S : Type 0} → Coded S → Coded (Kept S)
 kept_code {S} store =
-    code_by (Held S × (Bool × (Bool × (ℕ × ℕ)))) (coded× (held_code store) (coded× coded_bool (coded× coded_bool (coded× coded_ℕ coded_ℕ))))
+    code_by (Held S × (Bool × (Bool × (ℕ × ℕ))))
+    (coded× (held_code store) (coded× coded_bool (coded× coded_bool (coded× coded_ℕ coded_ℕ))))
     (λ r. (r.conn, (r.bound, (r.stopped, (r.stations, r.refusals)))))
-    (λ p. record { conn = p.0; bound = p.1.0; stopped = p.1.1.0; stations = p.1.1.1.0; refusals = p.1.1.1.1 }) (λ _. refl)
+    (λ p. record {
+      conn = p.0;
+      bound = p.1.0;
+      stopped = p.1.1.0;
+      stations = p.1.1.1.0;
+      refusals = p.1.1.1.1;
+    }) (λ _. refl)
 
 -- the store is quiet where the disk has returned what was written, and it may hold the rows of each database that a later
 -- opening may find
 abbrev pub in_store : State → Holding
-in_store s = record { is_quiet = HasCleanDisk s; holds = λ c. (db : Trees) × s.may_leave db × IsStored db c }
+in_store s =
+    record { is_quiet = HasCleanDisk s; holds = λ c. (db : Trees) × s.may_leave db × IsStored db c }
 
 -- no row at all
 abbrev pub no_rows : Content
@@ -44,7 +52,8 @@ pub record IsKept (s : State) (bound : Bool) (stopped : Option StoreFault) : Typ
   pub failed : IfSome stopped (λ fault. is_failure fault ≡ true)
   pub settled : stopped ≡ None → HasCleanDisk s → IsSettled s
   pub ready : stopped ≡ None → bound ≡ true → HasCleanDisk s → IsReady s
-  pub content : stopped ≡ None → bound ≡ true → HasCleanDisk s → (c : Content) × AreRows s.now.trees c
+  pub content : stopped ≡ None → bound ≡ true → HasCleanDisk s
+      → (c : Content) × AreRows s.now.trees c
 
 -- how often a register has answered Store after this fault
 abbrev pub counted : ℕ → StoreFault → ℕ

@@ -16,7 +16,8 @@ abbrev pub cells_of_spot : NewSpot → Row
 cells_of_spot s = spot_cells (spot_row s)
 
 abbrev pub cells_of_line : LineKey × LineStage → Row
-cells_of_line e = line_cells (line_row (record { loan = e.0.loan; object = e.0.object; stage = e.1 }))
+cells_of_line e =
+    line_cells (line_row (record { loan = e.0.loan; object = e.0.object; stage = e.1 }))
 
 abbrev pub cells_of_term : List ℕ × ℤ → Row
 cells_of_term e = term_cells (record { loan = e.0; day = e.1 })
@@ -28,10 +29,12 @@ IsNone {T} cells n wanted row = (k : ℕ) (d : T) → k < n → cells (slice_ind
 -- one of the rows can be read as nothing, and is none of the wanted
 abbrev pub HasStranger : (Row → Type 0) → List Row → List Row → Type 0
 HasStranger IsNo wanted rows =
-    (k : ℕ) × (row : Row) × (k < length rows) × (row ≡ slice_index_or rows k row) × IsNo row × AllByRecursion (λ r. r ≢ row) wanted
+    (k : ℕ) × (row : Row) × (k < length rows) × (row ≡ slice_index_or rows k row) × IsNo row
+    × AllByRecursion (λ r. r ≢ row) wanted
 
 -- one of the rows of spots, of lines or of last days is such a one, where those of the ledger are wanted
 abbrev pub AreStrange : Museum → List Entry → List Row → List Row → List Row → Type 0
 AreStrange S P ss ls ts =
     HasStranger IsNoSpot (map cells_of_spot (spots_by_thing S P)) ss
-    ⊎ (HasStranger IsNoLine (map line_cells (map line_row (lines_by_loan S P))) ls ⊎ HasStranger IsNoTerm (map term_cells (rows_of_terms P)) ts)
+    ⊎ (HasStranger IsNoLine (map line_cells (map line_row (lines_by_loan S P))) ls
+    ⊎ HasStranger IsNoTerm (map term_cells (rows_of_terms P)) ts)

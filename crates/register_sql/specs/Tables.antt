@@ -13,7 +13,14 @@ use Rattle.sqlite_value.specs.Keys.{plain}
 -- a column of a STRICT table
 abbrev pub typed : List ℕ → Kind → Bool → Column
 typed name kind not_null =
-    record { name = name; kind = kind; is_strict = true; not_null = not_null; default = Null; collation = Binary }
+    record {
+      name = name;
+      kind = kind;
+      is_strict = true;
+      not_null = not_null;
+      default = Null;
+      collation = Binary;
+    }
 
 -- a table with no rule beside its columns and keys; places count from 1, 0 is the rowid
 abbrev pub table : List ℕ → ℕ → List Column → Option ℕ → List ℕ → List (List ℕ) → Table
@@ -34,15 +41,19 @@ table name tree columns key primary uniques = record {
 
 -- what the store says of itself
 abbrev pub meta : Table
-meta = table (codes "meta") 0 (typed (codes "name") Text true ∷ typed (codes "val") Integer true ∷ []) None (1 ∷ []) ((1 ∷ []) ∷ [])
+meta = table (codes "meta") 0
+    (typed (codes "name") Text true ∷ typed (codes "val") Integer true ∷ []) None (1 ∷ [])
+    ((1 ∷ []) ∷ [])
 
 -- the rows of the setup
 abbrev pub setup : Table
-setup = table (codes "setup") 2 (typed (codes "id") Integer false ∷ typed (codes "txt") Text true ∷ []) (Some 0) (0 ∷ []) []
+setup = table (codes "setup") 2
+    (typed (codes "id") Integer false ∷ typed (codes "txt") Text true ∷ []) (Some 0) (0 ∷ []) []
 
 abbrev pub posting_columns : List Column
 posting_columns =
-    typed (codes "id") Integer false ∷ typed (codes "station") Integer true ∷ typed (codes "n") Integer true
+    typed (codes "id") Integer false ∷ typed (codes "station") Integer true
+    ∷ typed (codes "n") Integer true
     ∷ typed (codes "body") Text true ∷ typed (codes "verdict") Integer true ∷ []
 
 -- the entries
@@ -51,7 +62,8 @@ posting = table (codes "posting") 3 posting_columns (Some 0) (0 ∷ []) ((2 ∷ 
 
 abbrev pub spot_columns : List Column
 spot_columns =
-    typed (codes "thing") Integer true ∷ typed (codes "k") Integer true ∷ typed (codes "entry") Integer true
+    typed (codes "thing") Integer true ∷ typed (codes "k") Integer true
+    ∷ typed (codes "entry") Integer true
     ∷ typed (codes "place") Integer true ∷ typed (codes "day") Integer true ∷ []
 
 -- the spots of things
@@ -59,7 +71,9 @@ abbrev pub spot : Table
 spot = table (codes "spot") 5 spot_columns None (1 ∷ 2 ∷ []) ((1 ∷ 2 ∷ []) ∷ [])
 
 abbrev pub line_columns : List Column
-line_columns = typed (codes "loan") Text true ∷ typed (codes "object") Integer true ∷ typed (codes "stage") Integer true ∷ []
+line_columns =
+    typed (codes "loan") Text true ∷ typed (codes "object") Integer true
+    ∷ typed (codes "stage") Integer true ∷ []
 
 -- the objects of loans
 abbrev pub line : Table
@@ -67,11 +81,21 @@ line = table (codes "line") 7 line_columns None (1 ∷ 2 ∷ []) ((1 ∷ 2 ∷ [
 
 -- the last days of loans
 abbrev pub term : Table
-term = table (codes "term") 9 (typed (codes "loan") Text true ∷ typed (codes "day") Integer true ∷ []) None (1 ∷ []) ((1 ∷ []) ∷ [])
+term = table (codes "term") 9
+    (typed (codes "loan") Text true ∷ typed (codes "day") Integer true ∷ []) None (1 ∷ [])
+    ((1 ∷ []) ∷ [])
 
 -- the index that a UNIQUE or a PRIMARY KEY has by itself
 abbrev pub automatic : List ℕ → ℕ → ℕ → List ℕ → Index
-automatic name tree over key = record { name = name; tree = tree; table = over; columns = key; order = plain; is_unique = true }
+automatic name tree over key =
+    record {
+      name = name;
+      tree = tree;
+      table = over;
+      columns = key;
+      order = plain;
+      is_unique = true;
+    }
 
 abbrev pub meta_index : Index
 meta_index = automatic (codes "sqlite_autoindex_meta_1") 1 0 (1 ∷ [])
@@ -96,12 +120,16 @@ abbrev pub prefix : ℕ → Schema
 prefix zero = of_tables [] []
 prefix (suc zero) = of_tables (meta ∷ []) (meta_index ∷ [])
 prefix (suc (suc zero)) = of_tables (meta ∷ setup ∷ []) (meta_index ∷ [])
-prefix (suc (suc (suc zero))) = of_tables (meta ∷ setup ∷ posting ∷ []) (meta_index ∷ posting_index ∷ [])
-prefix (suc (suc (suc (suc zero)))) = of_tables (meta ∷ setup ∷ posting ∷ spot ∷ []) (meta_index ∷ posting_index ∷ spot_index ∷ [])
+prefix (suc (suc (suc zero))) =
+    of_tables (meta ∷ setup ∷ posting ∷ []) (meta_index ∷ posting_index ∷ [])
+prefix (suc (suc (suc (suc zero)))) =
+    of_tables (meta ∷ setup ∷ posting ∷ spot ∷ []) (meta_index ∷ posting_index ∷ spot_index ∷ [])
 prefix (suc (suc (suc (suc (suc zero))))) =
-    of_tables (meta ∷ setup ∷ posting ∷ spot ∷ line ∷ []) (meta_index ∷ posting_index ∷ spot_index ∷ line_index ∷ [])
+    of_tables (meta ∷ setup ∷ posting ∷ spot ∷ line ∷ [])
+    (meta_index ∷ posting_index ∷ spot_index ∷ line_index ∷ [])
 prefix _ =
-    of_tables (meta ∷ setup ∷ posting ∷ spot ∷ line ∷ term ∷ []) (meta_index ∷ posting_index ∷ spot_index ∷ line_index ∷ term_index ∷ [])
+    of_tables (meta ∷ setup ∷ posting ∷ spot ∷ line ∷ term ∷ [])
+    (meta_index ∷ posting_index ∷ spot_index ∷ line_index ∷ term_index ∷ [])
 
 -- the schema of a whole store
 abbrev pub hub_schema : Schema

@@ -43,7 +43,9 @@ fn lacks_version(rows: &[Row], version: u32) -> bool
 
 /// Whether these two say version 1 and the depth limit 8.
 fn are_first_pair(version: &Row, depth: &Row) -> bool
-    ensures { Decides result ((version.now ≡ meta_cells (version_row 1)) × (depth.now ≡ meta_cells (record { name = codes "depth"; val = pos 8 }))) }
+    ensures { Decides result
+        ((version.now ≡ meta_cells (version_row 1))
+        × (depth.now ≡ meta_cells (record { name = codes "depth"; val = pos 8 }))) }
 {
     is_meta(version, "version", 1) && is_meta(depth, "depth", 8)
 }
@@ -91,7 +93,8 @@ pub(crate) fn age_in<S: Alter>(conn: &mut Connection<S>, made: usize) -> Result<
     requires part { HasCleanDisk (state S.Store conn.old) → IsPart made (state S.Store conn.old) }
     ensures between { conn.old.in_transaction ≡ false → conn.new.in_transaction ≡ false }
     ensures told { HasCleanDisk (state S.Store conn.new) → IfOk result (λ age. (rows : _)
-        × IsPermutation (shown_in Query.Metas (state S.Store conn.old).now.trees) rows × IsAged rows age) }
+        × IsPermutation (shown_in Query.Metas (state S.Store conn.old).now.trees) rows
+        × IsAged rows age) }
     ensures same { HasCleanDisk (state S.Store conn.new)
         → OnOk result (IsSame (state S.Store conn.old) (state S.Store conn.new)) }
     ensures survives { Survived (state S.Store conn.old) (state S.Store conn.new) }

@@ -27,7 +27,8 @@ use std::alloc::Global;
 /// Adds the spot of the row. Store, where it is none.
 #[tactic(auto, using(crate::proofs::Agrees::more_spots))]
 fn keep_spot(spots: &mut Vec<NewSpot>, row: &Row) -> Result<(), StoreFault>
-    ensures kept { OnOk result (spots_shown spots.new.items ≡ spots_shown spots.old.items ++ row.now ∷ []) }
+    ensures kept { OnOk result
+        (spots_shown spots.new.items ≡ spots_shown spots.old.items ++ row.now ∷ []) }
     ensures store { result ≡ Err StoreFault.Store → IsNoSpot row.now }
     ensures faults { IfErr result (λ fault. is_failure fault ≡ true) }
 {
@@ -40,7 +41,8 @@ fn keep_spot(spots: &mut Vec<NewSpot>, row: &Row) -> Result<(), StoreFault>
 
 /// Adds the line of the row. Store, where it is none, or its object is there under its loan.
 fn keep_line(kept: &mut IndexMap<LineKey, LineStage>, row: &Row) -> Result<(), StoreFault>
-    ensures kept { OnOk result (lines_shown kept.new.entries ≡ lines_shown kept.old.entries ++ row.now ∷ []) }
+    ensures kept { OnOk result
+        (lines_shown kept.new.entries ≡ lines_shown kept.old.entries ++ row.now ∷ []) }
     ensures faults { IfErr result (λ fault. is_failure fault ≡ true) }
 {
     let Some((key, stage)) = line_of(row) else {
@@ -55,7 +57,8 @@ fn keep_line(kept: &mut IndexMap<LineKey, LineStage>, row: &Row) -> Result<(), S
 
 /// Adds the last day of the row. Store, where it is none, or its loan is there.
 fn keep_term(kept: &mut IndexMap<LoanCode, Day>, row: &Row) -> Result<(), StoreFault>
-    ensures kept { OnOk result (terms_shown kept.new.entries ≡ terms_shown kept.old.entries ++ row.now ∷ []) }
+    ensures kept { OnOk result
+        (terms_shown kept.new.entries ≡ terms_shown kept.old.entries ++ row.now ∷ []) }
     ensures faults { IfErr result (λ fault. is_failure fault ≡ true) }
 {
     let Some((loan, day)) = term_of(row) else {
@@ -119,8 +122,10 @@ fn are_rows(
     terms: &IndexMap<LoanCode, Day>,
     ledger: &Ledger,
 ) -> Result<bool, StoreFault>
-    ensures told { IfOk result (λ same. (c : stored.Content) → IsPermutation (map spot_row spots.old.items) c.spots
-        → IsPermutation (map line_row (held_lines lines.now.entries)) c.lines → IsPermutation (term_rows terms.now.entries) c.terms
+    ensures told { IfOk result
+        (λ same. (c : stored.Content) → IsPermutation (map spot_row spots.old.items) c.spots
+        → IsPermutation (map line_row (held_lines lines.now.entries)) c.lines
+        → IsPermutation (term_rows terms.now.entries) c.terms
         → Decides same (HasRows ledger.now.museum ledger.now.posted c)) }
     ensures faults { IfErr result (λ fault. is_failure fault ≡ true) }
 {
@@ -142,7 +147,8 @@ fn compare_read(
     terms: &[Row],
     ledger: &Ledger,
 ) -> Result<bool, StoreFault>
-    ensures told { IfOk result (λ same. (c : stored.Content) → AreFound spots.now lines.now terms.now c
+    ensures told { IfOk result
+        (λ same. (c : stored.Content) → AreFound spots.now lines.now terms.now c
         → Decides same (HasRows ledger.now.museum ledger.now.posted c)) }
     ensures faults { IfErr result (λ fault. is_failure fault ≡ true) }
 {
@@ -161,7 +167,8 @@ fn compare_unread(
     terms: &[Row],
     ledger: &Ledger,
 ) -> Result<bool, StoreFault>
-    ensures told { IfOk result (λ same. (c : stored.Content) → AreFound spots.now lines.now terms.now c
+    ensures told { IfOk result
+        (λ same. (c : stored.Content) → AreFound spots.now lines.now terms.now c
         → Decides same (HasRows ledger.now.museum ledger.now.posted c)) }
     ensures faults { IfErr result (λ fault. is_failure fault ≡ true) }
 {
@@ -180,7 +187,8 @@ fn compare(
     terms: &[Row],
     ledger: &Ledger,
 ) -> Result<bool, StoreFault>
-    ensures told { IfOk result (λ same. (c : stored.Content) → AreFound spots.now lines.now terms.now c
+    ensures told { IfOk result
+        (λ same. (c : stored.Content) → AreFound spots.now lines.now terms.now c
         → Decides same (HasRows ledger.now.museum ledger.now.posted c)) }
     ensures faults { IfErr result (λ fault. is_failure fault ≡ true) }
 {
@@ -214,7 +222,8 @@ pub(crate) fn agrees<S: Alter>(
 ) -> Result<Result<bool, StoreFault>, Error>
     requires part { HasCleanDisk (state S.Store conn.old) → IsPart 6 (state S.Store conn.old) }
     ensures between { conn.old.in_transaction ≡ false → conn.new.in_transaction ≡ false }
-    ensures told { HasCleanDisk (state S.Store conn.new) → IfOk result (λ answer. IfOk answer (λ same.
+    ensures told { HasCleanDisk (state S.Store conn.new)
+        → IfOk result (λ answer. IfOk answer (λ same.
         (c : stored.Content) → AreRows (state S.Store conn.old).now.trees c
         → Decides same (HasRows ledger.now.museum ledger.now.posted c))) }
     ensures faults { IfOk result (λ answer. IfErr answer (λ fault. is_failure fault ≡ true)) }

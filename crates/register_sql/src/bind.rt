@@ -31,14 +31,17 @@ fn make_new<S: Alter>(
 ) -> Result<Answer, Error>
     requires few { made ≤ 6 }
     requires part { HasCleanDisk (state S.Store conn.old) → IsPart made (state S.Store conn.old) }
-    requires new { HasCleanDisk (state S.Store conn.old) → had 1 made ((state S.Store conn.old).now.trees 0) ≡ [] }
+    requires new { HasCleanDisk (state S.Store conn.old)
+        → had 1 made ((state S.Store conn.old).now.trees 0) ≡ [] }
     requires between { conn.old.in_transaction ≡ false }
     ensures between { conn.new.in_transaction ≡ false }
-    ensures bound { HasCleanDisk (state S.Store conn.new) → IfOk result (λ answer. IfOk answer (λ depth.
+    ensures bound { HasCleanDisk (state S.Store conn.new)
+        → IfOk result (λ answer. IfOk answer (λ depth.
         IsBoundAs setup.now depth (state S.Store conn.old) (state S.Store conn.new))) }
     ensures refused { HasCleanDisk (state S.Store conn.new) → IfOk result (λ answer. IfErr answer
         (IsRefused setup.now (state S.Store conn.old) (state S.Store conn.new))) }
-    ensures crash { Survives (state S.Store conn.old) (state S.Store conn.new) (LeavesBound setup.now (state S.Store conn.old)) }
+    ensures crash { Survives (state S.Store conn.old) (state S.Store conn.new)
+        (LeavesBound setup.now (state S.Store conn.old)) }
 {
     let texts = match row_texts(alloc, setup) {
         Ok(texts) => texts,
@@ -64,14 +67,17 @@ fn compare<S: Alter>(
     requires few { made ≤ 6 }
     requires part { HasCleanDisk (state S.Store conn.old) → IsPart made (state S.Store conn.old) }
     requires told { HasCleanDisk (state S.Store conn.old) → (rows : _)
-        × IsPermutation (shown_in Query.Metas (state S.Store conn.old).now.trees) rows × IsTold rows (told.Bound depth) }
+        × IsPermutation (shown_in Query.Metas (state S.Store conn.old).now.trees) rows
+        × IsTold rows (told.Bound depth) }
     requires between { conn.old.in_transaction ≡ false }
     ensures between { conn.new.in_transaction ≡ false }
-    ensures bound { HasCleanDisk (state S.Store conn.new) → IfOk result (λ answer. IfOk answer (λ depth.
+    ensures bound { HasCleanDisk (state S.Store conn.new)
+        → IfOk result (λ answer. IfOk answer (λ depth.
         IsBoundAs setup.now depth (state S.Store conn.old) (state S.Store conn.new))) }
     ensures refused { HasCleanDisk (state S.Store conn.new) → IfOk result (λ answer. IfErr answer
         (IsRefused setup.now (state S.Store conn.old) (state S.Store conn.new))) }
-    ensures crash { Survives (state S.Store conn.old) (state S.Store conn.new) (LeavesBound setup.now (state S.Store conn.old)) }
+    ensures crash { Survives (state S.Store conn.old) (state S.Store conn.new)
+        (LeavesBound setup.now (state S.Store conn.old)) }
 {
     let texts = match row_texts(alloc, setup) {
         Ok(texts) => texts,
@@ -103,11 +109,13 @@ fn bind_told<S: Alter>(
     requires part { HasCleanDisk (state S.Store conn.old) → IsPart made (state S.Store conn.old) }
     requires between { conn.old.in_transaction ≡ false }
     ensures between { conn.new.in_transaction ≡ false }
-    ensures bound { HasCleanDisk (state S.Store conn.new) → IfOk result (λ answer. IfOk answer (λ depth.
+    ensures bound { HasCleanDisk (state S.Store conn.new)
+        → IfOk result (λ answer. IfOk answer (λ depth.
         IsBoundAs setup.now depth (state S.Store conn.old) (state S.Store conn.new))) }
     ensures refused { HasCleanDisk (state S.Store conn.new) → IfOk result (λ answer. IfErr answer
         (IsRefused setup.now (state S.Store conn.old) (state S.Store conn.new))) }
-    ensures crash { Survives (state S.Store conn.old) (state S.Store conn.new) (LeavesBound setup.now (state S.Store conn.old)) }
+    ensures crash { Survives (state S.Store conn.old) (state S.Store conn.new)
+        (LeavesBound setup.now (state S.Store conn.old)) }
 {
     let told = told_of(conn, made)?;
     match told {
@@ -133,11 +141,13 @@ pub(crate) fn bind<S: Alter>(
     requires settled { HasCleanDisk (state S.Store conn.old) → IsSettled (state S.Store conn.old) }
     requires between { conn.old.in_transaction ≡ false }
     ensures between { conn.new.in_transaction ≡ false }
-    ensures bound { HasCleanDisk (state S.Store conn.new) → IfOk result (λ answer. IfOk answer (λ depth.
+    ensures bound { HasCleanDisk (state S.Store conn.new)
+        → IfOk result (λ answer. IfOk answer (λ depth.
         IsBoundAs setup.now depth (state S.Store conn.old) (state S.Store conn.new))) }
     ensures refused { HasCleanDisk (state S.Store conn.new) → IfOk result (λ answer. IfErr answer
         (IsRefused setup.now (state S.Store conn.old) (state S.Store conn.new))) }
-    ensures crash { Survives (state S.Store conn.old) (state S.Store conn.new) (LeavesBound setup.now (state S.Store conn.old)) }
+    ensures crash { Survives (state S.Store conn.old) (state S.Store conn.new)
+        (LeavesBound setup.now (state S.Store conn.old)) }
 {
     let found = match tables_made(alloc, conn.schema()) {
         Ok(found) => found,

@@ -27,9 +27,12 @@ fn is_early(entry: &Entry) -> bool
 
 /// The entry that the row keeps under this number, where version 1 knows it.
 fn early_entry(alloc: Global, row: &Row, number: u64, stations: u32) -> Result<Entry, StoreFault>
-    ensures kept { IfOk result (λ entry. (p : stored.PostingRow) → posting_shown p ≡ row.now → IsPostingRow number entry p) }
+    ensures kept { IfOk result
+        (λ entry. (p : stored.PostingRow) → posting_shown p ≡ row.now
+        → IsPostingRow number entry p) }
     ensures known { IfOk result (IsEarlyOf stations) }
-    ensures damaged { IfErr result (λ fault. fault ≢ StoreFault.NoMemory → fault ≡ StoreFault.Damaged number) }
+    ensures damaged { IfErr result
+        (λ fault. fault ≢ StoreFault.NoMemory → fault ≡ StoreFault.Damaged number) }
     ensures wrong { IfErr result (λ fault. fault ≢ StoreFault.NoMemory
         → (p : stored.PostingRow) → posting_shown p ≡ row.now → IsWrongEarly stations number p) }
 {
@@ -47,11 +50,14 @@ fn early_entry(alloc: Global, row: &Row, number: u64, stations: u32) -> Result<E
 /// The entries that the rows keep, oldest first; Damaged at the first row that keeps none of these stations and of version 1
 /// under its number.
 fn early_entries(alloc: Global, rows: &[Row], stations: u32) -> Result<Vec<Entry>, StoreFault>
-    ensures kept { IfOk result (λ entries. (ps : List stored.PostingRow) → map posting_shown ps ≡ rows.now
+    ensures kept { IfOk result
+        (λ entries. (ps : List stored.PostingRow) → map posting_shown ps ≡ rows.now
         → ArePostings (reverse entries.items) (reverse ps)) }
     ensures known { IfOk result (λ entries. All (IsEarlyOf stations) entries.items) }
-    ensures faults { IfErr result (λ fault. fault ≢ StoreFault.NoMemory → (at : ℕ) × (fault ≡ StoreFault.Damaged at)
-        × ((ps : List stored.PostingRow) → map posting_shown ps ≡ rows.now → IsEarlyWrongAt stations at ps)) }
+    ensures faults { IfErr result
+        (λ fault. fault ≢ StoreFault.NoMemory → (at : ℕ) × (fault ≡ StoreFault.Damaged at)
+        × ((ps : List stored.PostingRow) → map posting_shown ps ≡ rows.now
+        → IsEarlyWrongAt stations at ps)) }
 {
     let mut entries = Vec::new(alloc);
     'rows: for i in 0..rows.len() {
@@ -71,13 +77,18 @@ pub(crate) fn early_list<S: Alter>(
 ) -> Result<Result<Vec<Entry>, StoreFault>, Error>
     requires part { HasCleanDisk (state S.Store conn.old) → IsPart 5 (state S.Store conn.old) }
     ensures between { conn.old.in_transaction ≡ false → conn.new.in_transaction ≡ false }
-    ensures listed { HasCleanDisk (state S.Store conn.new) → IfOk result (λ answer. IfOk answer (λ entries.
-        (c : stored.Content) → HasPart 5 (state S.Store conn.old).now.trees c → HasList (reverse entries.items) c)) }
-    ensures known { IfOk result (λ answer. IfOk answer (λ entries. All (IsEarlyOf stations) entries.items)) }
+    ensures listed { HasCleanDisk (state S.Store conn.new)
+        → IfOk result (λ answer. IfOk answer (λ entries.
+        (c : stored.Content) → HasPart 5 (state S.Store conn.old).now.trees c
+        → HasList (reverse entries.items) c)) }
+    ensures known { IfOk result
+        (λ answer. IfOk answer (λ entries. All (IsEarlyOf stations) entries.items)) }
     ensures faults { IfOk result (λ answer. IfErr answer (λ fault. is_of_listing fault ≡ true)) }
     ensures able { IfOk result (λ answer. IfErr answer (λ fault. fault ≢ StoreFault.Store)) }
-    ensures cause { HasCleanDisk (state S.Store conn.new) → IfOk result (λ answer. IfErr answer (λ fault. (at : ℕ) → fault ≡ StoreFault.Damaged at
-        → (c : stored.Content) → HasPart 5 (state S.Store conn.old).now.trees c → IsFirstEarlyWrong stations at c)) }
+    ensures cause { HasCleanDisk (state S.Store conn.new)
+        → IfOk result (λ answer. IfErr answer (λ fault. (at : ℕ) → fault ≡ StoreFault.Damaged at
+        → (c : stored.Content) → HasPart 5 (state S.Store conn.old).now.trees c
+        → IsFirstEarlyWrong stations at c)) }
     ensures same { HasCleanDisk (state S.Store conn.new)
         → OnOk result (IsSame (state S.Store conn.old) (state S.Store conn.new)) }
     ensures survives { Survived (state S.Store conn.old) (state S.Store conn.new) }

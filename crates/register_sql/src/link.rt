@@ -30,7 +30,8 @@ pub(crate) struct Link<S: Alter> {
 
 /// The fault of a statement that failed: NoMemory where that was for want of memory, else Store.
 pub(crate) fn fault_of(error: Error) -> StoreFault
-    ensures memory { error ≡ Error.SqliteFailure ErrorCode.OutOfMemory → result ≡ StoreFault.NoMemory }
+    ensures memory { error ≡ Error.SqliteFailure ErrorCode.OutOfMemory
+        → result ≡ StoreFault.NoMemory }
     ensures store { error ≢ Error.SqliteFailure ErrorCode.OutOfMemory → result ≡ StoreFault.Store }
     ensures failure { is_failure result ≡ true }
 {
@@ -45,7 +46,8 @@ pub(crate) fn stop<S: Alter>(link: &mut Link<S>, error: Error) -> StoreFault
     ensures conn { link.new.conn ≡ link.old.conn }
     ensures bound { link.new.bound ≡ link.old.bound }
     ensures stopped { link.new.stopped ≡ Some result }
-    ensures memory { error ≡ Error.SqliteFailure ErrorCode.OutOfMemory → result ≡ StoreFault.NoMemory }
+    ensures memory { error ≡ Error.SqliteFailure ErrorCode.OutOfMemory
+        → result ≡ StoreFault.NoMemory }
     ensures store { error ≢ Error.SqliteFailure ErrorCode.OutOfMemory → result ≡ StoreFault.Store }
     ensures failure { is_failure result ≡ true }
 {
@@ -62,9 +64,14 @@ pub(crate) fn bind_store<S: Alter>(
 ) -> Result<u32, StoreFault>
     requires { IsKept (state S.Store link.old.conn) link.old.bound link.old.stopped }
     ensures invariant { IsKept (state S.Store link.new.conn) link.new.bound link.new.stopped }
-    ensures bound { IfOk result (λ depth. Has (in_store (state S.Store link.new.conn)) (IsBoundTo setup.now depth)) }
-    ensures kept { OnOk result (Comes (in_store (state S.Store link.old.conn)) (in_store (state S.Store link.new.conn)) (IsBound setup.now)) }
-    ensures refused { IfErr result (λ fault. Comes (in_store (state S.Store link.old.conn)) (in_store (state S.Store link.new.conn)) (IsNotBound setup.now fault)) }
+    ensures bound { IfOk result
+        (λ depth. Has (in_store (state S.Store link.new.conn)) (IsBoundTo setup.now depth)) }
+    ensures kept { OnOk result
+        (Comes (in_store (state S.Store link.old.conn)) (in_store (state S.Store link.new.conn))
+        (IsBound setup.now)) }
+    ensures refused { IfErr result
+        (λ fault. Comes (in_store (state S.Store link.old.conn))
+        (in_store (state S.Store link.new.conn)) (IsNotBound setup.now fault)) }
     ensures ready { OnOk result (link.new.bound ≡ true) }
     ensures not_ready { OnErr result (link.new.bound ≡ link.old.bound) }
 {
@@ -89,10 +96,14 @@ pub(crate) fn migrate_store<S: Alter>(
 ) -> Result<(), StoreFault>
     requires { IsKept (state S.Store link.old.conn) link.old.bound link.old.stopped }
     ensures invariant { IsKept (state S.Store link.new.conn) link.new.bound link.new.stopped }
-    ensures migrated { OnOk result (Comes (in_store (state S.Store link.old.conn)) (in_store (state S.Store link.new.conn)) (Migrates setup.now)) }
+    ensures migrated { OnOk result
+        (Comes (in_store (state S.Store link.old.conn)) (in_store (state S.Store link.new.conn))
+        (Migrates setup.now)) }
     ensures whole { HasCleanDisk (state S.Store link.new.conn)
         → OnOk result (IsCompleted (state S.Store link.old.conn) (state S.Store link.new.conn)) }
-    ensures refused { IfErr result (λ fault. Comes (in_store (state S.Store link.old.conn)) (in_store (state S.Store link.new.conn)) (IsNotMigrated setup.now fault)) }
+    ensures refused { IfErr result
+        (λ fault. Comes (in_store (state S.Store link.old.conn))
+        (in_store (state S.Store link.new.conn)) (IsNotMigrated setup.now fault)) }
     ensures unfit { HasCleanDisk (state S.Store link.new.conn) → IsNone link.new.stopped
         → result ≡ Err StoreFault.Store → IsUnfit setup.now (state S.Store link.old.conn).now }
     ensures still { link.new.bound ≡ link.old.bound }
@@ -114,11 +125,16 @@ pub(crate) fn list_store<S: Alter>(
 ) -> Result<Vec<Entry>, StoreFault>
     requires { IsKept (state S.Store link.old.conn) true link.old.stopped }
     ensures invariant { IsKept (state S.Store link.new.conn) true link.new.stopped }
-    ensures listed { IfOk result (λ entries. Each (in_store (state S.Store link.new.conn)) (HasList (reverse entries.items))) }
+    ensures listed { IfOk result
+        (λ entries.
+        Each (in_store (state S.Store link.new.conn)) (HasList (reverse entries.items))) }
     ensures stationed { IfOk result (λ entries. All (IsOfStation stations) entries.items) }
-    ensures cause { IfErr result (λ fault. Each (in_store (state S.Store link.new.conn)) (λ c. IsListFault stations c fault)) }
+    ensures cause { IfErr result
+        (λ fault. Each (in_store (state S.Store link.new.conn))
+        (λ c. IsListFault stations c fault)) }
     ensures faults { IfErr result (λ fault. is_of_listing fault ≡ true) }
-    ensures unchanged { Comes (in_store (state S.Store link.old.conn)) (in_store (state S.Store link.new.conn)) AreSame }
+    ensures unchanged { Comes (in_store (state S.Store link.old.conn))
+        (in_store (state S.Store link.new.conn)) AreSame }
     ensures still { link.new.bound ≡ link.old.bound }
 {
     if let Some(fault) = link.stopped {
@@ -139,8 +155,12 @@ pub(crate) fn post_to_store<S: Alter>(
 ) -> Result<(), StoreFault>
     requires { IsKept (state S.Store link.old.conn) true link.old.stopped }
     ensures invariant { IsKept (state S.Store link.new.conn) true link.new.stopped }
-    ensures posted { OnOk result (Comes (in_store (state S.Store link.old.conn)) (in_store (state S.Store link.new.conn)) (IsPosted entry.now changes.now)) }
-    ensures failed { OnErr result (Comes (in_store (state S.Store link.old.conn)) (in_store (state S.Store link.new.conn)) (λ c d. AreSame c d ⊎ IsPosted entry.now changes.now c d)) }
+    ensures posted { OnOk result
+        (Comes (in_store (state S.Store link.old.conn)) (in_store (state S.Store link.new.conn))
+        (IsPosted entry.now changes.now)) }
+    ensures failed { OnErr result
+        (Comes (in_store (state S.Store link.old.conn)) (in_store (state S.Store link.new.conn))
+        (λ c d. AreSame c d ⊎ IsPosted entry.now changes.now c d)) }
     ensures faults { IfErr result (λ fault. is_failure fault ≡ true) }
     ensures still { link.new.bound ≡ link.old.bound }
 {
@@ -165,9 +185,12 @@ pub(crate) fn store_agrees<S: Alter>(
 ) -> Result<bool, StoreFault>
     requires { IsKept (state S.Store link.old.conn) true link.old.stopped }
     ensures invariant { IsKept (state S.Store link.new.conn) true link.new.stopped }
-    ensures told { IfOk result (λ same. Each (in_store (state S.Store link.new.conn)) (λ c. Decides same (HasRows ledger.now.museum ledger.now.posted c))) }
+    ensures told { IfOk result
+        (λ same. Each (in_store (state S.Store link.new.conn))
+        (λ c. Decides same (HasRows ledger.now.museum ledger.now.posted c))) }
     ensures faults { IfErr result (λ fault. is_failure fault ≡ true) }
-    ensures unchanged { Comes (in_store (state S.Store link.old.conn)) (in_store (state S.Store link.new.conn)) AreSame }
+    ensures unchanged { Comes (in_store (state S.Store link.old.conn))
+        (in_store (state S.Store link.new.conn)) AreSame }
     ensures still { link.new.bound ≡ link.old.bound }
 {
     if let Some(fault) = link.stopped {

@@ -37,8 +37,10 @@ fn typed(row: &Row) -> Result<KeptPosting, Error>
 
 /// The fault of a row that wasn't read.
 fn unread(error: Error, number: u64) -> StoreFault
-    ensures memory { error ≡ Error.SqliteFailure ErrorCode.OutOfMemory → result ≡ StoreFault.NoMemory }
-    ensures damaged { error ≢ Error.SqliteFailure ErrorCode.OutOfMemory → result ≡ StoreFault.Damaged number }
+    ensures memory { error ≡ Error.SqliteFailure ErrorCode.OutOfMemory
+        → result ≡ StoreFault.NoMemory }
+    ensures damaged { error ≢ Error.SqliteFailure ErrorCode.OutOfMemory
+        → result ≡ StoreFault.Damaged number }
 {
     match error {
         Error::SqliteFailure(ErrorCode::OutOfMemory) => StoreFault::NoMemory,
@@ -53,9 +55,12 @@ pub(crate) fn entry_in(
     number: u64,
     stations: u32,
 ) -> Result<Entry, StoreFault>
-    ensures kept { IfOk result (λ entry. (p : stored.PostingRow) → posting_shown p ≡ row.now → IsPostingRow number entry p) }
+    ensures kept { IfOk result
+        (λ entry. (p : stored.PostingRow) → posting_shown p ≡ row.now
+        → IsPostingRow number entry p) }
     ensures stationed { IfOk result (IsOfStation stations) }
-    ensures damaged { IfErr result (λ fault. fault ≢ StoreFault.NoMemory → fault ≡ StoreFault.Damaged number) }
+    ensures damaged { IfErr result
+        (λ fault. fault ≢ StoreFault.NoMemory → fault ≡ StoreFault.Damaged number) }
     ensures wrong { IfErr result (λ fault. fault ≢ StoreFault.NoMemory
         → (p : stored.PostingRow) → posting_shown p ≡ row.now → IsWrongRow stations number p) }
 {
@@ -68,11 +73,14 @@ pub(crate) fn entry_in(
 
 /// The entries that the rows keep, oldest first; Damaged at the first row that keeps none of these stations under its number.
 fn entries_of(alloc: Global, rows: &[Row], stations: u32) -> Result<Vec<Entry>, StoreFault>
-    ensures kept { IfOk result (λ entries. (ps : List stored.PostingRow) → map posting_shown ps ≡ rows.now
+    ensures kept { IfOk result
+        (λ entries. (ps : List stored.PostingRow) → map posting_shown ps ≡ rows.now
         → ArePostings (reverse entries.items) (reverse ps)) }
     ensures stationed { IfOk result (λ entries. All (IsOfStation stations) entries.items) }
-    ensures faults { IfErr result (λ fault. fault ≢ StoreFault.NoMemory → (at : ℕ) × (fault ≡ StoreFault.Damaged at)
-        × ((ps : List stored.PostingRow) → map posting_shown ps ≡ rows.now → IsWrongAt stations at ps)) }
+    ensures faults { IfErr result
+        (λ fault. fault ≢ StoreFault.NoMemory → (at : ℕ) × (fault ≡ StoreFault.Damaged at)
+        × ((ps : List stored.PostingRow) → map posting_shown ps ≡ rows.now
+        → IsWrongAt stations at ps)) }
 {
     let mut entries = Vec::new(alloc);
     'rows: for i in 0..rows.len() {
@@ -92,12 +100,17 @@ pub(crate) fn list<S: Alter>(
 ) -> Result<Result<Vec<Entry>, StoreFault>, Error>
     requires part { HasCleanDisk (state S.Store conn.old) → IsPart 6 (state S.Store conn.old) }
     ensures between { conn.old.in_transaction ≡ false → conn.new.in_transaction ≡ false }
-    ensures listed { HasCleanDisk (state S.Store conn.new) → IfOk result (λ answer. IfOk answer (λ entries.
-        (c : stored.Content) → AreRows (state S.Store conn.old).now.trees c → HasList (reverse entries.items) c)) }
-    ensures stationed { IfOk result (λ answer. IfOk answer (λ entries. All (IsOfStation stations) entries.items)) }
+    ensures listed { HasCleanDisk (state S.Store conn.new)
+        → IfOk result (λ answer. IfOk answer (λ entries.
+        (c : stored.Content) → AreRows (state S.Store conn.old).now.trees c
+        → HasList (reverse entries.items) c)) }
+    ensures stationed { IfOk result
+        (λ answer. IfOk answer (λ entries. All (IsOfStation stations) entries.items)) }
     ensures faults { IfOk result (λ answer. IfErr answer (λ fault. is_of_listing fault ≡ true)) }
-    ensures cause { HasCleanDisk (state S.Store conn.new) → IfOk result (λ answer. IfErr answer (λ fault.
-        (c : stored.Content) → AreRows (state S.Store conn.old).now.trees c → IsListFault stations c fault)) }
+    ensures cause { HasCleanDisk (state S.Store conn.new)
+        → IfOk result (λ answer. IfErr answer (λ fault.
+        (c : stored.Content) → AreRows (state S.Store conn.old).now.trees c
+        → IsListFault stations c fault)) }
     ensures same { HasCleanDisk (state S.Store conn.new)
         → OnOk result (IsSame (state S.Store conn.old) (state S.Store conn.new)) }
     ensures survives { Survived (state S.Store conn.old) (state S.Store conn.new) }

@@ -65,7 +65,8 @@ fn make_rest<S: Alter>(tx: &mut Transaction<'_, S>, made: usize) -> Result<(), E
 /// Empties the setup.
 fn clear_setup<S: Alter>(tx: &mut Transaction<'_, S>) -> Result<(), Error>
     requires made { IsMaking 6 (state S.Store tx.old.conn.now) }
-    requires apart { HasCleanDisk (state S.Store tx.old.conn.now) → IsTrue (state S.Store tx.old.conn.now).is_open
+    requires apart { HasCleanDisk (state S.Store tx.old.conn.now)
+        → IsTrue (state S.Store tx.old.conn.now).is_open
         → Apart ((state S.Store tx.old.conn.now).now.trees 2) }
     ensures same_reference { tx.new.conn.ghost_name ≡ tx.old.conn.ghost_name }
     ensures wrote { Went (state S.Store tx.old.conn.now) (state S.Store tx.new.conn.now) result
@@ -142,7 +143,8 @@ pub(crate) fn add_metas<S: Alter>(tx: &mut Transaction<'_, S>, depth: u32) -> Re
 /// Puts these rows in the place of the setup.
 fn replace_setup<S: Alter>(tx: &mut Transaction<'_, S>, texts: &[String]) -> Result<(), Error>
     requires made { IsMaking 6 (state S.Store tx.old.conn.now) }
-    requires apart { HasCleanDisk (state S.Store tx.old.conn.now) → IsTrue (state S.Store tx.old.conn.now).is_open
+    requires apart { HasCleanDisk (state S.Store tx.old.conn.now)
+        → IsTrue (state S.Store tx.old.conn.now).is_open
         → Apart ((state S.Store tx.old.conn.now).now.trees 2) }
     ensures same_reference { tx.new.conn.ghost_name ≡ tx.old.conn.ghost_name }
     ensures wrote { Went (state S.Store tx.old.conn.now) (state S.Store tx.new.conn.now) result
@@ -157,7 +159,8 @@ fn replace_setup<S: Alter>(tx: &mut Transaction<'_, S>, texts: &[String]) -> Res
 /// Says the setup, and what the store says of itself.
 fn fill<S: Alter>(tx: &mut Transaction<'_, S>, texts: &[String], depth: u32) -> Result<(), Error>
     requires made { IsMaking 6 (state S.Store tx.old.conn.now) }
-    requires apart { HasCleanDisk (state S.Store tx.old.conn.now) → IsTrue (state S.Store tx.old.conn.now).is_open
+    requires apart { HasCleanDisk (state S.Store tx.old.conn.now)
+        → IsTrue (state S.Store tx.old.conn.now).is_open
         → Apart ((state S.Store tx.old.conn.now).now.trees 2) }
     ensures same_reference { tx.new.conn.ghost_name ≡ tx.old.conn.ghost_name }
     ensures wrote { Went (state S.Store tx.old.conn.now) (state S.Store tx.new.conn.now) result
@@ -178,7 +181,8 @@ fn make_all<S: Alter>(
 ) -> Result<(), Error>
     requires few { made ≤ 6 }
     requires made { IsMaking made (state S.Store tx.old.conn.now) }
-    requires apart { HasCleanDisk (state S.Store tx.old.conn.now) → IsTrue (state S.Store tx.old.conn.now).is_open
+    requires apart { HasCleanDisk (state S.Store tx.old.conn.now)
+        → IsTrue (state S.Store tx.old.conn.now).is_open
         → Apart (had 2 made ((state S.Store tx.old.conn.now).now.trees 2)) }
     ensures same_reference { tx.new.conn.ghost_name ≡ tx.old.conn.ghost_name }
     ensures wrote { Went (state S.Store tx.old.conn.now) (state S.Store tx.new.conn.now) result
@@ -200,15 +204,18 @@ pub(crate) fn make_whole<S: Alter>(
 ) -> Result<(), Error>
     requires few { made ≤ 6 }
     requires part { HasCleanDisk (state S.Store conn.old) → IsPart made (state S.Store conn.old) }
-    requires apart { HasCleanDisk (state S.Store conn.old) → Apart (had 2 made ((state S.Store conn.old).now.trees 2)) }
+    requires apart { HasCleanDisk (state S.Store conn.old)
+        → Apart (had 2 made ((state S.Store conn.old).now.trees 2)) }
     requires between { (state S.Store conn.old).in_transaction ≡ false }
     ensures between { (state S.Store conn.new).in_transaction ≡ false }
     ensures made { HasCleanDisk (state S.Store conn.new) → OnOk result (IsMadeWhole made
-        (setup_from 1 (map string_bytes texts.now)) (rows_of_meta depth) (state S.Store conn.old) (state S.Store conn.new)) }
+        (setup_from 1 (map string_bytes texts.now)) (rows_of_meta depth) (state S.Store conn.old)
+        (state S.Store conn.new)) }
     ensures failed { HasCleanDisk (state S.Store conn.new) → IsTrue (state S.Store conn.new).is_open
         → OnErr result (IsBack (state S.Store conn.old) (state S.Store conn.new)) }
     ensures crash { Survives (state S.Store conn.old) (state S.Store conn.new)
-        (LeavesMade made (setup_from 1 (map string_bytes texts.now)) (rows_of_meta depth) (state S.Store conn.old)) }
+        (LeavesMade made (setup_from 1 (map string_bytes texts.now)) (rows_of_meta depth)
+        (state S.Store conn.old)) }
 {
     let _live = conn.schema();
     let _between = conn.is_autocommit();

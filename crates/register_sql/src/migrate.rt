@@ -32,7 +32,8 @@ type Answer = Result<(), StoreFault>;
 
 /// The last days that a lawful list of entries gives, each in the place of the one before, are those of looking back.
 pub fn given_days_are_of_looking_back()
-    ensures { (S : Museum) (depth : ℕ) (P : List Entry) → IsLawful S depth P → IsPermutation (rows_of_terms P) (days_given P) }
+    ensures { (S : Museum) (depth : ℕ) (P : List Entry) → IsLawful S depth P
+        → IsPermutation (rows_of_terms P) (days_given P) }
 {}
 
 /// Whether the rowids of the tables of a store of version 1 are numbers that differ, where rows are taken out again or
@@ -60,14 +61,16 @@ fn move_entries<S: Alter>(
     conn: &mut Connection<S>,
     setup: &Setup,
 ) -> Result<Answer, Error>
-    requires raisable { HasCleanDisk (state S.Store conn.old) → IsRaisable setup.now (state S.Store conn.old) }
+    requires raisable { HasCleanDisk (state S.Store conn.old)
+        → IsRaisable setup.now (state S.Store conn.old) }
     requires between { conn.old.in_transaction ≡ false }
     ensures between { conn.new.in_transaction ≡ false }
     ensures raised { HasCleanDisk (state S.Store conn.new) → IfOk result (λ answer.
         OnOk answer (IsRaised setup.now (state S.Store conn.old) (state S.Store conn.new))) }
     ensures refused { HasCleanDisk (state S.Store conn.new) → IfOk result (λ answer. IfErr answer
         (IsLeft setup.now (state S.Store conn.old) (state S.Store conn.new))) }
-    ensures crash { Survives (state S.Store conn.old) (state S.Store conn.new) (LeavesMoved setup.now (state S.Store conn.old)) }
+    ensures crash { Survives (state S.Store conn.old) (state S.Store conn.new)
+        (LeavesMoved setup.now (state S.Store conn.old)) }
 {
     let listed = early_list(alloc, conn, setup.stations())?;
     let entries = match listed {
@@ -85,14 +88,16 @@ fn move_first<S: Alter>(
     setup: &Setup,
 ) -> Result<Answer, Error>
     requires part { HasCleanDisk (state S.Store conn.old) → IsPart 5 (state S.Store conn.old) }
-    requires first { HasCleanDisk (state S.Store conn.old) → IsFirstOf setup.now (state S.Store conn.old).now.trees }
+    requires first { HasCleanDisk (state S.Store conn.old)
+        → IsFirstOf setup.now (state S.Store conn.old).now.trees }
     requires between { conn.old.in_transaction ≡ false }
     ensures between { conn.new.in_transaction ≡ false }
     ensures raised { HasCleanDisk (state S.Store conn.new) → IfOk result (λ answer.
         OnOk answer (IsRaised setup.now (state S.Store conn.old) (state S.Store conn.new))) }
     ensures refused { HasCleanDisk (state S.Store conn.new) → IfOk result (λ answer. IfErr answer
         (IsLeft setup.now (state S.Store conn.old) (state S.Store conn.new))) }
-    ensures crash { Survives (state S.Store conn.old) (state S.Store conn.new) (LeavesMoved setup.now (state S.Store conn.old)) }
+    ensures crash { Survives (state S.Store conn.old) (state S.Store conn.new)
+        (LeavesMoved setup.now (state S.Store conn.old)) }
 {
     let apart = are_first_apart(conn)?;
     if !apart {
@@ -113,14 +118,16 @@ fn compare_first<S: Alter>(
     requires few { made ≤ 6 }
     requires part { HasCleanDisk (state S.Store conn.old) → IsPart made (state S.Store conn.old) }
     requires told { HasCleanDisk (state S.Store conn.old) → (rows : _)
-        × IsPermutation (shown_in Query.Metas (state S.Store conn.old).now.trees) rows × IsAged rows age.First }
+        × IsPermutation (shown_in Query.Metas (state S.Store conn.old).now.trees) rows
+        × IsAged rows age.First }
     requires between { conn.old.in_transaction ≡ false }
     ensures between { conn.new.in_transaction ≡ false }
     ensures raised { HasCleanDisk (state S.Store conn.new) → IfOk result (λ answer.
         OnOk answer (IsRaised setup.now (state S.Store conn.old) (state S.Store conn.new))) }
     ensures refused { HasCleanDisk (state S.Store conn.new) → IfOk result (λ answer. IfErr answer
         (IsLeft setup.now (state S.Store conn.old) (state S.Store conn.new))) }
-    ensures crash { Survives (state S.Store conn.old) (state S.Store conn.new) (LeavesMoved setup.now (state S.Store conn.old)) }
+    ensures crash { Survives (state S.Store conn.old) (state S.Store conn.new)
+        (LeavesMoved setup.now (state S.Store conn.old)) }
 {
     let texts = match row_texts(alloc, setup) {
         Ok(texts) => texts,
@@ -153,7 +160,8 @@ fn migrate_told<S: Alter>(
         OnOk answer (IsRaised setup.now (state S.Store conn.old) (state S.Store conn.new))) }
     ensures refused { HasCleanDisk (state S.Store conn.new) → IfOk result (λ answer. IfErr answer
         (IsLeft setup.now (state S.Store conn.old) (state S.Store conn.new))) }
-    ensures crash { Survives (state S.Store conn.old) (state S.Store conn.new) (LeavesMoved setup.now (state S.Store conn.old)) }
+    ensures crash { Survives (state S.Store conn.old) (state S.Store conn.new)
+        (LeavesMoved setup.now (state S.Store conn.old)) }
 {
     let age = age_in(conn, made)?;
     match age {
@@ -181,7 +189,8 @@ pub(crate) fn migrate<S: Alter>(
         OnOk answer (IsRaised setup.now (state S.Store conn.old) (state S.Store conn.new))) }
     ensures refused { HasCleanDisk (state S.Store conn.new) → IfOk result (λ answer. IfErr answer
         (IsLeft setup.now (state S.Store conn.old) (state S.Store conn.new))) }
-    ensures crash { Survives (state S.Store conn.old) (state S.Store conn.new) (LeavesMoved setup.now (state S.Store conn.old)) }
+    ensures crash { Survives (state S.Store conn.old) (state S.Store conn.new)
+        (LeavesMoved setup.now (state S.Store conn.old)) }
 {
     let found = match tables_made(alloc, conn.schema()) {
         Ok(found) => found,

@@ -218,7 +218,8 @@ fn put_first<S: Alter>(
     requires { IsWithin (state S.Store tx.old.conn.now) }
     ensures same_reference { tx.new.conn.ghost_name ≡ tx.old.conn.ghost_name }
     ensures wrote { Wrote (state S.Store tx.old.conn.now) (state S.Store tx.new.conn.now) result
-        (λ c. step.with_each (λ s. step.with_spot (spot_row s)) changes.now.spots (step.with_posting (posting_row row.now) c)) }
+        (λ c. step.with_each (λ s. step.with_spot (spot_row s)) changes.now.spots
+        (step.with_posting (posting_row row.now) c)) }
     ensures kept { Kept (state S.Store tx.old.conn.now) (state S.Store tx.new.conn.now) }
     ensures survives { Survived (state S.Store tx.old.conn.now) (state S.Store tx.new.conn.now) }
 {
@@ -235,7 +236,8 @@ fn put_last<S: Alter>(
     requires { IsWithin (state S.Store tx.old.conn.now) }
     ensures same_reference { tx.new.conn.ghost_name ≡ tx.old.conn.ghost_name }
     ensures wrote { Wrote (state S.Store tx.old.conn.now) (state S.Store tx.new.conn.now) result
-        (λ c. step.with_some_term (term_of entry.now) (step.with_each (λ l. step.with_line (line_row l)) changes.now.lines c)) }
+        (λ c. step.with_some_term (term_of entry.now)
+        (step.with_each (λ l. step.with_line (line_row l)) changes.now.lines c)) }
     ensures kept { Kept (state S.Store tx.old.conn.now) (state S.Store tx.new.conn.now) }
     ensures survives { Survived (state S.Store tx.old.conn.now) (state S.Store tx.new.conn.now) }
 {
@@ -272,12 +274,14 @@ pub(crate) fn put_whole<S: Alter>(
     requires ready { HasCleanDisk (state S.Store conn.old) → IsReady (state S.Store conn.old) }
     requires between { (state S.Store conn.old).in_transaction ≡ false }
     ensures between { (state S.Store conn.new).in_transaction ≡ false }
-    ensures posted { HasCleanDisk (state S.Store conn.new) → OnOk result (IsDone (state S.Store conn.old) (state S.Store conn.new)
+    ensures posted { HasCleanDisk (state S.Store conn.new)
+        → OnOk result (IsDone (state S.Store conn.old) (state S.Store conn.new)
         (with_posted (posting_row row.now) entry.now changes.now)) }
     ensures failed { HasCleanDisk (state S.Store conn.new) → IsTrue (state S.Store conn.new).is_open
         → OnErr result (IsBack (state S.Store conn.old) (state S.Store conn.new)) }
     ensures crash { Survives (state S.Store conn.old) (state S.Store conn.new)
-        (LeavesWhole (state S.Store conn.old) (with_posted (posting_row row.now) entry.now changes.now)) }
+        (LeavesWhole (state S.Store conn.old)
+        (with_posted (posting_row row.now) entry.now changes.now)) }
 {
     let _between = conn.is_autocommit();
     let mut tx = conn.transaction();

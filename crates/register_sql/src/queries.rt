@@ -68,7 +68,8 @@ pub(crate) fn read<S: Alter>(
     ensures between { conn.old.in_transaction ≡ false → conn.new.in_transaction ≡ false }
     ensures rows { HasCleanDisk (state S.Store conn.new) → IfOk result (λ rows.
         IsPermutation (shown_in query (state S.Store conn.old).now.trees) rows.items) }
-    ensures order { HasCleanDisk (state S.Store conn.new) → IfOk result (λ rows. IsInOrder query rows.items) }
+    ensures order { HasCleanDisk (state S.Store conn.new)
+        → IfOk result (λ rows. IsInOrder query rows.items) }
     ensures same { HasCleanDisk (state S.Store conn.new)
         → OnOk result (IsSame (state S.Store conn.old) (state S.Store conn.new)) }
     ensures survives { Survived (state S.Store conn.old) (state S.Store conn.new) }

@@ -21,7 +21,8 @@ const FIRST_DEPTH: u32 = 8;
 /// Takes out what the store says of itself.
 fn clear_metas<S: Alter>(tx: &mut Transaction<'_, S>) -> Result<usize, Error>
     requires made { IsMaking 6 (state S.Store tx.old.conn.now) }
-    requires apart { HasCleanDisk (state S.Store tx.old.conn.now) → IsTrue (state S.Store tx.old.conn.now).is_open
+    requires apart { HasCleanDisk (state S.Store tx.old.conn.now)
+        → IsTrue (state S.Store tx.old.conn.now).is_open
         → Apart ((state S.Store tx.old.conn.now).now.trees 0) }
     ensures same_reference { tx.new.conn.ghost_name ≡ tx.old.conn.ghost_name }
     ensures wrote { Went (state S.Store tx.old.conn.now) (state S.Store tx.new.conn.now) result
@@ -35,7 +36,8 @@ fn clear_metas<S: Alter>(tx: &mut Transaction<'_, S>) -> Result<usize, Error>
 /// Makes the store say that it is of version 2, with the depth limit that it had.
 fn renew_metas<S: Alter>(tx: &mut Transaction<'_, S>) -> Result<(), Error>
     requires made { IsMaking 6 (state S.Store tx.old.conn.now) }
-    requires apart { HasCleanDisk (state S.Store tx.old.conn.now) → IsTrue (state S.Store tx.old.conn.now).is_open
+    requires apart { HasCleanDisk (state S.Store tx.old.conn.now)
+        → IsTrue (state S.Store tx.old.conn.now).is_open
         → Apart ((state S.Store tx.old.conn.now).now.trees 0) }
     ensures same_reference { tx.new.conn.ghost_name ≡ tx.old.conn.ghost_name }
     ensures wrote { Went (state S.Store tx.old.conn.now) (state S.Store tx.new.conn.now) result
@@ -50,10 +52,12 @@ fn renew_metas<S: Alter>(tx: &mut Transaction<'_, S>) -> Result<(), Error>
 /// Makes the table of last days, which is empty, and the store say that it is of version 2.
 fn raise<S: Alter>(tx: &mut Transaction<'_, S>) -> Result<(), Error>
     requires made { IsMaking 5 (state S.Store tx.old.conn.now) }
-    requires apart { HasCleanDisk (state S.Store tx.old.conn.now) → IsTrue (state S.Store tx.old.conn.now).is_open
+    requires apart { HasCleanDisk (state S.Store tx.old.conn.now)
+        → IsTrue (state S.Store tx.old.conn.now).is_open
         → Apart ((state S.Store tx.old.conn.now).now.trees 0) }
     ensures same_reference { tx.new.conn.ghost_name ≡ tx.old.conn.ghost_name }
-    ensures wrote { Went (state S.Store tx.old.conn.now) (state S.Store tx.new.conn.now) result 6 Raises }
+    ensures wrote { Went (state S.Store tx.old.conn.now)
+        (state S.Store tx.new.conn.now) result 6 Raises }
     ensures kept { Kept (state S.Store tx.old.conn.now) (state S.Store tx.new.conn.now) }
     ensures survives { Survived (state S.Store tx.old.conn.now) (state S.Store tx.new.conn.now) }
 {
@@ -79,13 +83,16 @@ fn put_terms<S: Alter>(tx: &mut Transaction<'_, S>, entries: &[Entry]) -> Result
 /// Makes all that a migration changes.
 fn lift<S: Alter>(tx: &mut Transaction<'_, S>, entries: &[Entry]) -> Result<(), Error>
     requires made { IsMaking 5 (state S.Store tx.old.conn.now) }
-    requires metas { HasCleanDisk (state S.Store tx.old.conn.now) → IsTrue (state S.Store tx.old.conn.now).is_open
+    requires metas { HasCleanDisk (state S.Store tx.old.conn.now)
+        → IsTrue (state S.Store tx.old.conn.now).is_open
         → Apart ((state S.Store tx.old.conn.now).now.trees 0) }
-    requires lines { HasCleanDisk (state S.Store tx.old.conn.now) → IsTrue (state S.Store tx.old.conn.now).is_open
+    requires lines { HasCleanDisk (state S.Store tx.old.conn.now)
+        → IsTrue (state S.Store tx.old.conn.now).is_open
         → Apart ((state S.Store tx.old.conn.now).now.trees 7) }
     ensures same_reference { tx.new.conn.ghost_name ≡ tx.old.conn.ghost_name }
     ensures wrote { HasCleanDisk (state S.Store tx.new.conn.now)
-        → OnOk result (IsLifting entries.now (state S.Store tx.old.conn.now) (state S.Store tx.new.conn.now)) }
+        → OnOk result
+        (IsLifting entries.now (state S.Store tx.old.conn.now) (state S.Store tx.new.conn.now)) }
     ensures kept { Kept (state S.Store tx.old.conn.now) (state S.Store tx.new.conn.now) }
     ensures survives { Survived (state S.Store tx.old.conn.now) (state S.Store tx.new.conn.now) }
 {
@@ -97,8 +104,10 @@ fn lift<S: Alter>(tx: &mut Transaction<'_, S>, entries: &[Entry]) -> Result<(), 
 /// the call or those of version 2, and after an Ok the latter.
 pub(crate) fn lift_whole<S: Alter>(conn: &mut Connection<S>, entries: &[Entry]) -> Result<(), Error>
     requires part { HasCleanDisk (state S.Store conn.old) → IsPart 5 (state S.Store conn.old) }
-    requires metas { HasCleanDisk (state S.Store conn.old) → Apart ((state S.Store conn.old).now.trees 0) }
-    requires lines { HasCleanDisk (state S.Store conn.old) → Apart ((state S.Store conn.old).now.trees 7) }
+    requires metas { HasCleanDisk (state S.Store conn.old)
+        → Apart ((state S.Store conn.old).now.trees 0) }
+    requires lines { HasCleanDisk (state S.Store conn.old)
+        → Apart ((state S.Store conn.old).now.trees 7) }
     requires between { (state S.Store conn.old).in_transaction ≡ false }
     ensures between { (state S.Store conn.new).in_transaction ≡ false }
     ensures lifted { HasCleanDisk (state S.Store conn.new)

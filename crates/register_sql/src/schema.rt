@@ -56,28 +56,32 @@ fn is_term_index(index: &Index) -> bool
 
 /// Whether it is the table of what the store says of itself, and its index.
 fn is_first(alloc: Global, table: &Table, index: &Index) -> Result<bool, AllocError>
-    ensures { IfOk result (λ same. Decides same ((table.now ≡ tables.meta) × (index.now ≡ tables.meta_index))) }
+    ensures { IfOk result
+        (λ same. Decides same ((table.now ≡ tables.meta) × (index.now ≡ tables.meta_index))) }
 {
     Ok(is_meta_index(index) && is_meta(alloc, table)?)
 }
 
 /// Whether it is the table of the entries, and its index.
 fn is_third(alloc: Global, table: &Table, index: &Index) -> Result<bool, AllocError>
-    ensures { IfOk result (λ same. Decides same ((table.now ≡ tables.posting) × (index.now ≡ tables.posting_index))) }
+    ensures { IfOk result
+        (λ same. Decides same ((table.now ≡ tables.posting) × (index.now ≡ tables.posting_index))) }
 {
     Ok(is_posting_index(index) && is_posting(alloc, table)?)
 }
 
 /// Whether it is the table of the spots, and its index.
 fn is_fourth(alloc: Global, table: &Table, index: &Index) -> Result<bool, AllocError>
-    ensures { IfOk result (λ same. Decides same ((table.now ≡ tables.spot) × (index.now ≡ tables.spot_index))) }
+    ensures { IfOk result
+        (λ same. Decides same ((table.now ≡ tables.spot) × (index.now ≡ tables.spot_index))) }
 {
     Ok(is_spot_index(index) && is_spot(alloc, table)?)
 }
 
 /// Whether it is the table of the lines, and its index.
 fn is_fifth(alloc: Global, table: &Table, index: &Index) -> Result<bool, AllocError>
-    ensures { IfOk result (λ same. Decides same ((table.now ≡ tables.line) × (index.now ≡ tables.line_index))) }
+    ensures { IfOk result
+        (λ same. Decides same ((table.now ≡ tables.line) × (index.now ≡ tables.line_index))) }
 {
     Ok(is_line_index(index) && is_line(alloc, table)?)
 }

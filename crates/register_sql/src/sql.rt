@@ -54,7 +54,8 @@ impl SqlRegister<MemStore> {
         ensures new { IfOk result (λ r. (r.bound ≡ false) × (r.stations ≡ 0) × (r.refusals ≡ 0)) }
         ensures going { IfOk result (λ r. r.stopped ≡ false) }
         ensures quiet { IfOk result (λ r. HasCleanDisk (state over_memory r.conn)) }
-        ensures empty { IfOk result (λ r. Has (in_store (state over_memory r.conn)) (λ c. c ≡ no_rows)) }
+        ensures empty { IfOk result
+            (λ r. Has (in_store (state over_memory r.conn)) (λ c. c ≡ no_rows)) }
         ensures memory { IfErr result (λ fault. fault ≡ StoreFault.NoMemory) }
     {
         match Connection::open_in_memory(alloc) {
@@ -74,7 +75,8 @@ impl SqlRegister<FileStore<File>> {
     ) -> Result<SqlRegister<FileStore<File>>, StoreFault>
         ensures new { IfOk result (λ r. (r.bound ≡ false) × (r.stations ≡ 0) × (r.refusals ≡ 0)) }
         ensures going { IfOk result (λ r. r.stopped ≡ false) }
-        ensures open { IfOk result (λ r. HasCleanDisk (file_state r.conn) → IsSettled (file_state r.conn)) }
+        ensures open { IfOk result
+            (λ r. HasCleanDisk (file_state r.conn) → IsSettled (file_state r.conn)) }
         ensures faults { IfErr result (λ fault. is_failure fault ≡ true) }
     {
         match Connection::open(rt, path) {
@@ -116,13 +118,19 @@ impl<S: Alter> SqlRegister<S> {
     /// as `all` tells it, where an extension, and the verdict that refuses one, are no entry's of version 1. NoMemory, and
     /// Store where a statement has failed, can stand in place of any answer.
     pub fn migrate(&mut self, alloc: Global, setup: &Setup) -> Result<(), StoreFault>
-        ensures migrated { OnOk result (Comes (in_store (state S.Store self.old.conn)) (in_store (state S.Store self.new.conn)) (Migrates setup.now)) }
+        ensures migrated { OnOk result
+            (Comes (in_store (state S.Store self.old.conn))
+            (in_store (state S.Store self.new.conn)) (Migrates setup.now)) }
         ensures whole { HasCleanDisk (state S.Store self.new.conn)
-            → OnOk result (IsCompleted (state S.Store self.old.conn) (state S.Store self.new.conn)) }
-        ensures refused { IfErr result (λ fault. Comes (in_store (state S.Store self.old.conn)) (in_store (state S.Store self.new.conn)) (IsNotMigrated setup.now fault)) }
+            → OnOk result
+            (IsCompleted (state S.Store self.old.conn) (state S.Store self.new.conn)) }
+        ensures refused { IfErr result
+            (λ fault. Comes (in_store (state S.Store self.old.conn))
+            (in_store (state S.Store self.new.conn)) (IsNotMigrated setup.now fault)) }
         ensures unfit { HasCleanDisk (state S.Store self.new.conn) → self.new.stopped ≡ false
             → result ≡ Err StoreFault.Store → IsUnfit setup.now (state S.Store self.old.conn).now }
-        ensures still { (self.new.bound ≡ self.old.bound) × (self.new.stations ≡ self.old.stations) }
+        ensures still { (self.new.bound ≡ self.old.bound)
+            × (self.new.stations ≡ self.old.stations) }
         ensures count { CountsRefusal self.old.refusals self.new.refusals result }
     {
         let answer = migrate_store(alloc, &mut self.link, setup);

@@ -98,7 +98,8 @@ fn is_no_term(row: &Row, wanted: &[(LoanCode, Day)]) -> bool
 
 /// Whether the row can't be read as a spot, and is none of the wanted ones.
 fn is_strange_spot(row: &Row, wanted: &[NewSpot]) -> bool
-    ensures { Decides result (IsNoSpot row.now × IsNone cells_of_spot (length wanted.now) wanted.now row.now) }
+    ensures { Decides result
+        (IsNoSpot row.now × IsNone cells_of_spot (length wanted.now) wanted.now row.now) }
 {
     match spot_of(row) {
         Some(_) => false,
@@ -120,7 +121,8 @@ fn has_strange_spot(rows: &[Row], wanted: &[NewSpot]) -> bool
 
 /// The same of lines.
 fn is_strange_line(row: &Row, wanted: &[(LineKey, LineStage)]) -> bool
-    ensures { Decides result (IsNoLine row.now × IsNone cells_of_line (length wanted.now) wanted.now row.now) }
+    ensures { Decides result
+        (IsNoLine row.now × IsNone cells_of_line (length wanted.now) wanted.now row.now) }
 {
     match line_of(row) {
         Some(_) => false,
@@ -142,7 +144,8 @@ fn has_strange_line(rows: &[Row], wanted: &[(LineKey, LineStage)]) -> bool
 
 /// The same of last days.
 fn is_strange_term(row: &Row, wanted: &[(LoanCode, Day)]) -> bool
-    ensures { Decides result (IsNoTerm row.now × IsNone cells_of_term (length wanted.now) wanted.now row.now) }
+    ensures { Decides result
+        (IsNoTerm row.now × IsNone cells_of_term (length wanted.now) wanted.now row.now) }
 {
     match term_of(row) {
         Some(_) => false,
@@ -172,7 +175,8 @@ pub(crate) fn are_strange(
 ) -> Result<bool, StoreFault>
     ensures told { IfOk result (λ strange. Decides strange
         (AreStrange ledger.now.museum ledger.now.posted spots.now lines.now terms.now)) }
-    ensures strange { IfOk result (λ strange. IsTrue strange → (c : stored.Content) → AreFound spots.now lines.now terms.now c
+    ensures strange { IfOk result
+        (λ strange. IsTrue strange → (c : stored.Content) → AreFound spots.now lines.now terms.now c
         → ¬ HasRows ledger.now.museum ledger.now.posted c) }
     ensures faults { IfErr result (λ fault. is_failure fault ≡ true) }
 {

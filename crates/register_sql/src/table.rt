@@ -40,15 +40,19 @@ fn is_no_term(alloc: Global, terms: &Terms) -> Result<bool, AllocError>
 
 /// Whether no default reads the time.
 fn is_unstamped(alloc: Global, stamps: &Stamps) -> Result<bool, AllocError>
-    ensures { IfOk result (λ none. Decides none (stamps.now ≡ record { places = []; terms = []; formats = [] })) }
+    ensures { IfOk result
+        (λ none. Decides none (stamps.now ≡ record { places = []; terms = []; formats = [] })) }
 {
     Ok(stamps.places.is_empty() && stamps.formats.is_empty() && is_no_term(alloc, &stamps.terms)?)
 }
 
 /// Whether the table has no rule beside its columns and keys.
 fn has_no_rule(alloc: Global, table: &Table) -> Result<bool, AllocError>
-    ensures { IfOk result (λ none. Decides none ((table.now.checks ≡ []) × (table.now.references ≡ []) × (table.now.computed ≡ [])
-        × (table.now.stamps ≡ record { places = []; terms = []; formats = [] }) × (table.now.is_counted ≡ false))) }
+    ensures { IfOk result
+        (λ none. Decides none
+        ((table.now.checks ≡ []) × (table.now.references ≡ []) × (table.now.computed ≡ [])
+        × (table.now.stamps ≡ record { places = []; terms = []; formats = [] })
+        × (table.now.is_counted ≡ false))) }
 {
     Ok(
         table.references.is_empty()
@@ -88,14 +92,17 @@ fn are_one(keys: &Items<Items<usize>>, places: &[usize]) -> bool
 
 /// Whether these places, and no others, are UNIQUE.
 fn has_unique(table: &Table, places: &[usize]) -> bool
-    ensures { Decides result ((table.now.uniques ≡ places.now ∷ []) × (table.now.orders ≡ plain ∷ [])) }
+    ensures { Decides result
+        ((table.now.uniques ≡ places.now ∷ []) × (table.now.orders ≡ plain ∷ [])) }
 {
     are_one(&table.uniques, places) && are_plain(&table.orders)
 }
 
 /// Whether the table has this name, tree and key.
 fn is_headed(table: &Table, name: &str, tree: u32, key: Option<usize>, primary: &[usize]) -> bool
-    ensures { Decides result ((table.now.name ≡ name.now) × (table.now.tree ≡ tree) × (table.now.key ≡ key) × (table.now.primary ≡ primary.now)) }
+    ensures { Decides result
+        ((table.now.name ≡ name.now) × (table.now.tree ≡ tree) × (table.now.key ≡ key)
+        × (table.now.primary ≡ primary.now)) }
 {
     table.name.as_slice() == name.as_bytes()
         && table.tree == tree

@@ -154,7 +154,8 @@ pub(crate) fn told_of<S: Alter>(conn: &mut Connection<S>, made: usize) -> Result
     requires part { HasCleanDisk (state S.Store conn.old) → IsPart made (state S.Store conn.old) }
     ensures between { conn.old.in_transaction ≡ false → conn.new.in_transaction ≡ false }
     ensures told { HasCleanDisk (state S.Store conn.new) → IfOk result (λ told. (rows : _)
-        × IsPermutation (shown_in Query.Metas (state S.Store conn.old).now.trees) rows × IsTold rows told) }
+        × IsPermutation (shown_in Query.Metas (state S.Store conn.old).now.trees) rows
+        × IsTold rows told) }
     ensures same { HasCleanDisk (state S.Store conn.new)
         → OnOk result (IsSame (state S.Store conn.old) (state S.Store conn.new)) }
     ensures survives { Survived (state S.Store conn.old) (state S.Store conn.new) }
@@ -195,7 +196,8 @@ pub(crate) fn has_setup<S: Alter>(
     requires part { HasCleanDisk (state S.Store conn.old) → IsPart made (state S.Store conn.old) }
     ensures between { conn.old.in_transaction ≡ false → conn.new.in_transaction ≡ false }
     ensures told { HasCleanDisk (state S.Store conn.new) → IfOk result (λ same. Decides same
-        (IsPermutation (setup_rows_shown (map string_bytes texts.now)) (setup_in made (state S.Store conn.old).now.trees))) }
+        (IsPermutation (setup_rows_shown (map string_bytes texts.now))
+        (setup_in made (state S.Store conn.old).now.trees))) }
     ensures same { HasCleanDisk (state S.Store conn.new)
         → OnOk result (IsSame (state S.Store conn.old) (state S.Store conn.new)) }
     ensures survives { Survived (state S.Store conn.old) (state S.Store conn.new) }

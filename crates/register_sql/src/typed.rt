@@ -56,7 +56,8 @@ fn day_at(row: &Row, at: usize) -> Option<Day>
 fn stage_at(row: &Row, at: usize) -> Option<LineStage>
     requires { at < length row.now }
     ensures read { IfSome result (λ stage. column row.now at ≡ Int (pos (stage_number stage))) }
-    ensures none { IfNone result ((stage : LineStage) → column row.now at ≢ Int (pos (stage_number stage))) }
+    ensures none { IfNone result
+        ((stage : LineStage) → column row.now at ≢ Int (pos (stage_number stage))) }
 {
     LineStage::numbered(u32_at(row, at)?)
 }
@@ -94,8 +95,11 @@ pub(crate) fn spot_of(row: &Row) -> Option<NewSpot>
 
 /// The line of a row; none where it is that of no line.
 pub(crate) fn line_of(row: &Row) -> Option<(LineKey, LineStage)>
-    ensures read { IfSome result (λ e. line_cells (line_row (record { loan = e.0.loan; object = e.0.object; stage = e.1 })) ≡ row.now) }
-    ensures fits { IfSome result (λ e. FitsLine (record { loan = e.0.loan; object = e.0.object; stage = e.1 })) }
+    ensures read { IfSome result
+        (λ e. line_cells (line_row (record { loan = e.0.loan; object = e.0.object; stage = e.1 }))
+        ≡ row.now) }
+    ensures fits { IfSome result
+        (λ e. FitsLine (record { loan = e.0.loan; object = e.0.object; stage = e.1 })) }
     ensures none { IfNone result (IsNoLine row.now) }
 {
     if row.column_count() != 3 {

@@ -34,7 +34,8 @@ pub record Comes (old new : Holding) (Change : Content → Content → Type 0) :
 
 -- one more posting, under the number that the changes say
 abbrev pub IsPosted : Entry → Changes → Content → Content → Type 0
-IsPosted e changes c d = (row : PostingRow) × IsPostingRow changes.entry e row × AreSame (with_posted row e changes c) d
+IsPosted e changes c d =
+    (row : PostingRow) × IsPostingRow changes.entry e row × AreSame (with_posted row e changes c) d
 
 -- the store is bound to the setup
 abbrev pub IsBound : Museum → Content → Content → Type 0
@@ -42,4 +43,5 @@ IsBound S c d = AreSame (bound_to S c) d
 
 -- it isn't bound, for this cause, and is as it was; for want of memory, or where it refused, it may be bound
 abbrev pub IsNotBound : Museum → StoreFault → Content → Content → Type 0
-IsNotBound S fault c d = IsBindFault S c fault × (AreSame c d ⊎ ((is_failure fault ≡ true) × IsBound S c d))
+IsNotBound S fault c d =
+    IsBindFault S c fault × (AreSame c d ⊎ ((is_failure fault ≡ true) × IsBound S c d))

@@ -35,12 +35,14 @@ items_list (item d ds) = d ∷ items_list ds
 
 -- strings of such a text, no more than a loan lists objects
 abbrev pub are_strings : (List ℕ → Bool) → Items → Bool
-are_strings test ds = nat_le (length (items_list ds)) MOST_OBJECTS && list_all (is_string test) (items_list ds)
+are_strings test ds =
+    nat_le (length (items_list ds)) MOST_OBJECTS && list_all (is_string test) (items_list ds)
 
 infixl 10 ◌lists◌
 -- an array of them
 abbrev pub ◌lists◌ : Key → (List ℕ → Bool) → Field
-key lists test = record { key = key; fits = λ value. option_map_or (are_strings test) (as_array value) false }
+key lists test =
+    record { key = key; fits = λ value. option_map_or (are_strings test) (as_array value) false }
 
 -- the text of a string; no bytes where there is none
 abbrev pub text_of : Option Data → List ℕ
@@ -52,7 +54,9 @@ text_at d key = text_of (get (key_name key) d)
 
 -- the strings of the array at a key; none where there is none
 abbrev pub texts_at : Data → Key → List (List ℕ)
-texts_at d key = option_map_or (λ ds. map (λ value. text_of (Some value)) (items_list ds)) (option_and_then as_array (get (key_name key) d)) []
+texts_at d key =
+    option_map_or (λ ds. map (λ value. text_of (Some value)) (items_list ds))
+    (option_and_then as_array (get (key_name key) d)) []
 
 -- the day that the string at a key spells
 abbrev pub day_at : Data → Key → ℤ
@@ -81,8 +85,11 @@ pack_row = record {
 abbrev pub agree_row : Row
 agree_row = record {
   name = codes "agree";
-  fields = (Loan spells is_loan) ∷ (Partner spells is_place) ∷ (Objects lists is_thing) ∷ (First spells is_day) ∷ (Last spells is_day) ∷ [];
-  message = λ d. Agree (text_at d Loan) (text_at d Partner) (texts_at d Objects) (day_at d First) (day_at d Last);
+  fields = (Loan spells is_loan) ∷ (Partner spells is_place) ∷ (Objects lists is_thing)
+      ∷ (First spells is_day) ∷ (Last spells is_day) ∷ [];
+  message = λ d.
+      Agree (text_at d Loan) (text_at d Partner) (texts_at d Objects) (day_at d First)
+      (day_at d Last);
 }
 
 abbrev pub authorise_row : Row
@@ -102,14 +109,16 @@ exit_row = record {
 abbrev pub return_row : Row
 return_row = record {
   name = codes "return";
-  fields = (Thing spells is_thing) ∷ (Loan spells is_loan) ∷ (Place spells is_place) ∷ (Day spells is_day) ∷ [];
+  fields = (Thing spells is_thing) ∷ (Loan spells is_loan) ∷ (Place spells is_place)
+      ∷ (Day spells is_day) ∷ [];
   message = λ d. Return (text_at d Thing) (text_at d Loan) (text_at d Place) (day_at d Day);
 }
 
 abbrev pub receive_row : Row
 receive_row = record {
   name = codes "receive";
-  fields = (Thing spells is_thing) ∷ (Loan spells is_loan) ∷ (Place spells is_place) ∷ (Day spells is_day) ∷ [];
+  fields = (Thing spells is_thing) ∷ (Loan spells is_loan) ∷ (Place spells is_place)
+      ∷ (Day spells is_day) ∷ [];
   message = λ d. Receive (text_at d Thing) (text_at d Loan) (text_at d Place) (day_at d Day);
 }
 
@@ -150,7 +159,8 @@ value_fault field (Some value) = if field.fits value then None else Some (BadFie
 abbrev pub fault_at : Data → Field → Option ReadFault
 fault_at d field = value_fault field (get (key_name field.key) d)
 
-abbrev pub unless_fault : Option ReadFault → Result message.Message ReadFault → Result message.Message ReadFault
+abbrev pub unless_fault : Option ReadFault → Result message.Message ReadFault
+    → Result message.Message ReadFault
 unless_fault None answer = answer
 unless_fault (Some fault) answer = Err fault
 
@@ -169,7 +179,8 @@ of_named d (Some row) = of_row d row
 -- a value of a kind that takes memory
 abbrev pub takes_memory : Data → Bool
 takes_memory d =
-    is_some (option_and_then (kind_named kinds_that_grow) (option_and_then as_str (get (key_name Kind) d)))
+    is_some (option_and_then (kind_named kinds_that_grow)
+    (option_and_then as_str (get (key_name Kind) d)))
 
 -- by the value of the object's kind
 abbrev pub of_kind : Data → Option Data → Result message.Message ReadFault

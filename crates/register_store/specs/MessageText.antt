@@ -43,13 +43,18 @@ members_of (m ∷ ms) = put (key_name m.key) m.value (members_of ms)
 
 abbrev pub members : message.Message → List Member
 members (Move x p day) = (Kind is codes "move") ∷ (Thing is x) ∷ (Place is p) ∷ (Day on day) ∷ []
-members (Pack x c day) = (Kind is codes "pack") ∷ (Thing is x) ∷ (Container is c) ∷ (Day on day) ∷ []
+members (Pack x c day) =
+    (Kind is codes "pack") ∷ (Thing is x) ∷ (Container is c) ∷ (Day on day) ∷ []
 members (Agree loan partner objects first last) =
-    (Kind is codes "agree") ∷ (Loan is loan) ∷ (Partner is partner) ∷ (Objects are objects) ∷ (First on first) ∷ (Last on last) ∷ []
+    (Kind is codes "agree") ∷ (Loan is loan) ∷ (Partner is partner) ∷ (Objects are objects)
+    ∷ (First on first) ∷ (Last on last) ∷ []
 members (Authorise loan name) = (Kind is codes "authorise") ∷ (Loan is loan) ∷ (By is name) ∷ []
-members (Exit x loan day) = (Kind is codes "exit") ∷ (Thing is x) ∷ (Loan is loan) ∷ (Day on day) ∷ []
-members (Return x loan p day) = (Kind is codes "return") ∷ (Thing is x) ∷ (Loan is loan) ∷ (Place is p) ∷ (Day on day) ∷ []
-members (Receive x loan p day) = (Kind is codes "receive") ∷ (Thing is x) ∷ (Loan is loan) ∷ (Place is p) ∷ (Day on day) ∷ []
+members (Exit x loan day) =
+    (Kind is codes "exit") ∷ (Thing is x) ∷ (Loan is loan) ∷ (Day on day) ∷ []
+members (Return x loan p day) =
+    (Kind is codes "return") ∷ (Thing is x) ∷ (Loan is loan) ∷ (Place is p) ∷ (Day on day) ∷ []
+members (Receive x loan p day) =
+    (Kind is codes "receive") ∷ (Thing is x) ∷ (Loan is loan) ∷ (Place is p) ∷ (Day on day) ∷ []
 members (SignOff name) = (Kind is codes "signoff") ∷ (By is name) ∷ []
 members (Extend loan last) = (Kind is codes "extend") ∷ (Loan is loan) ∷ (Last on last) ∷ []
 
@@ -78,7 +83,8 @@ abbrev pub IsSpelled : message.Message → Type 0
 IsSpelled (Move x p day) = (thing_fault x ≡ None) × (place_fault p ≡ None) × IsDay day
 IsSpelled (Pack x c day) = (thing_fault x ≡ None) × (thing_fault c ≡ None) × IsDay day
 IsSpelled (Agree loan partner objects first last) =
-    (loan_fault loan ≡ None) × (place_fault partner ≡ None) × AreThings objects × IsDay first × IsDay last
+    (loan_fault loan ≡ None) × (place_fault partner ≡ None) × AreThings objects × IsDay first
+    × IsDay last
 IsSpelled (Authorise loan name) = (loan_fault loan ≡ None) × IsName name
 IsSpelled (Exit x loan day) = (thing_fault x ≡ None) × (loan_fault loan ≡ None) × IsDay day
 IsSpelled (Return x loan p day) =

@@ -41,7 +41,14 @@ meta_of (Some texts) = rows_of_meta 12
 
 -- the row of a posting whose numbers can be an entry's
 abbrev pub posting_row : KeptPosting → PostingRow
-posting_row r = record { id = pos r.id; station = pos r.station; n = pos r.n; body = string_bytes r.body; verdict = pos r.verdict }
+posting_row r =
+    record {
+      id = pos r.id;
+      station = pos r.station;
+      n = pos r.n;
+      body = string_bytes r.body;
+      verdict = pos r.verdict;
+    }
 
 -- the row of an entry that is kept under its number: its body is the message's one text
 abbrev pub kept_row : KeptEntry → PostingRow
@@ -67,12 +74,17 @@ term_rows kept = map (λ e. record { loan = e.0; day = e.1 }) kept
 
 -- the lines of a loan with these objects
 abbrev pub lines_of_loan : Book → List ℕ → List ℕ → List NewLine
-lines_of_loan B loan os = flat_map (λ o. option_to_list (option_map (λ s. record { loan = loan; object = o; stage = s }) (line_in B loan o))) os
+lines_of_loan B loan os =
+    flat_map (λ o.
+    option_to_list
+    (option_map (λ s. record { loan = loan; object = o; stage = s }) (line_in B loan o))) os
 
 -- the last day of a loan
 abbrev pub day_of_loan : Book → List ℕ → List TermRow
-day_of_loan B loan = option_to_list (option_map (λ day. record { loan = loan; day = day }) (last_day_in B loan))
+day_of_loan B loan =
+    option_to_list (option_map (λ day. record { loan = loan; day = day }) (last_day_in B loan))
 
 -- the key of the pair is kept, with its value
 abbrev pub is_kept : {K V : Type 0} → (K → K → Bool) → (V → V → Bool) → List (K × V) → K × V → Bool
-is_kept same_key same_value kept pair = option_map_or (λ value. same_value value pair.1) (lookup (same_key pair.0) kept) false
+is_kept same_key same_value kept pair =
+    option_map_or (λ value. same_value value pair.1) (lookup (same_key pair.0) kept) false

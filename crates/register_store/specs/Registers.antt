@@ -58,7 +58,8 @@ abbrev pub bound_to : Museum → Content → Content
 bound_to S c = bound_by (is_new c.meta) S c
 
 abbrev pub has_other_version : List MetaRow → Bool
-has_other_version meta = list_any (λ row. bytes_eq row.name (codes "version") && not (int_eq row.val (pos 2))) meta
+has_other_version meta =
+    list_any (λ row. bytes_eq row.name (codes "version") && not (int_eq row.val (pos 2))) meta
 
 -- an old store of this version, with a depth limit that it allows
 abbrev pub IsWhole : List MetaRow → Type 0
@@ -69,7 +70,8 @@ abbrev pub IsBindFault : Museum → Content → StoreFault → Type 0
 IsBindFault S c NoMemory = Unit {0}
 IsBindFault S c Store = Unit {0}
 IsBindFault S c OtherVersion = has_other_version c.meta ≡ true
-IsBindFault S c (Damaged at) = (at ≡ 0) × (is_new c.meta ≡ false) × (has_other_version c.meta ≡ false) × (IsWhole c.meta → ⊥)
+IsBindFault S c (Damaged at) =
+    (at ≡ 0) × (is_new c.meta ≡ false) × (has_other_version c.meta ≡ false) × (IsWhole c.meta → ⊥)
 IsBindFault S c OtherSetup = IsWhole c.meta × (IsPermutation (rows_of_setup S) c.setup → ⊥)
 
 -- the entry's station is one of so many, and its number one that a message can have
@@ -80,7 +82,8 @@ pub record IsOfStation (stations : ℕ) (e : Entry) : Type 0 where
 
 -- no entry of these stations has such a row under this number
 abbrev pub IsWrongRow : ℕ → ℕ → PostingRow → Type 0
-IsWrongRow stations number row = (e : Entry) → IsPostingRow number e row → IsOfStation stations e → ⊥
+IsWrongRow stations number row =
+    (e : Entry) → IsPostingRow number e row → IsOfStation stations e → ⊥
 
 -- of these rows, oldest first, the first wrong one has this number
 pub record IsWrongAt (stations at : ℕ) (rows : List PostingRow) : Type 0 where

@@ -46,4 +46,6 @@ is_day text = is_none (day_fault text)
 
 -- a name: UTF-8 of some bytes and not too many, none of them a control
 abbrev pub is_name : List ℕ → Bool
-is_name text = is_utf8 text && nat_lt 0 (length text) && nat_le (length text) LONGEST_NAME && list_all is_name_byte text
+is_name text =
+    is_utf8 text && nat_lt 0 (length text) && nat_le (length text) LONGEST_NAME
+    && list_all is_name_byte text

@@ -91,7 +91,9 @@ rows_of_setup S = numbered (reverse (setup_rows S))
 
 -- the version of the store, and the depth limit that it was made with
 abbrev pub rows_of_meta : ℕ → List MetaRow
-rows_of_meta depth = record { name = codes "version"; val = pos 2 } ∷ record { name = codes "depth"; val = pos depth } ∷ []
+rows_of_meta depth =
+    record { name = codes "version"; val = pos 2 }
+    ∷ record { name = codes "depth"; val = pos depth } ∷ []
 
 abbrev pub is_depth : ℕ → Bool
 is_depth depth = (depth == 8) || (depth == 12)
@@ -114,7 +116,14 @@ ArePostings (e ∷ P) (row ∷ rows) = IsPostingRow (length P + 1) e row × AreP
 
 -- the row of a spot
 abbrev pub spot_row : NewSpot → SpotRow
-spot_row s = record { thing = pos s.thing; k = pos s.k; entry = pos s.spot.entry; place = pos s.spot.place; day = s.spot.day }
+spot_row s =
+    record {
+      thing = pos s.thing;
+      k = pos s.k;
+      entry = pos s.spot.entry;
+      place = pos s.spot.place;
+      day = s.spot.day;
+    }
 
 -- the row of a line
 abbrev pub line_row : NewLine → LineRow
@@ -132,15 +141,18 @@ all_written S (e ∷ P) = reverse (written S P e) ++ all_written S P
 -- a thing's spots, each with its number in the thing's list
 abbrev pub spots_of_thing : ℕ → ℕ → List Spot → List NewSpot
 spots_of_thing x k [] = []
-spots_of_thing x k (spot ∷ spots) = record { thing = x; k = k; spot = spot } ∷ spots_of_thing x (k + 1) spots
+spots_of_thing x k (spot ∷ spots) =
+    record { thing = x; k = k; spot = spot } ∷ spots_of_thing x (k + 1) spots
 
 -- the spots of all things, by looking back
 abbrev pub spots_by_thing : Museum → List Entry → List NewSpot
-spots_by_thing S P = flat_map (λ x. spots_of_thing x 1 (spots S P x)) (range_with_len 0 (length S.things))
+spots_by_thing S P =
+    flat_map (λ x. spots_of_thing x 1 (spots S P x)) (range_with_len 0 (length S.things))
 
 -- the lines under an agreement, each at its stage
 abbrev pub lines_under : Museum → List Entry → Agreement → List NewLine
-lines_under S P t = map (λ o. record { loan = t.loan; object = o; stage = stage S P t.loan o }) (objects_of S t)
+lines_under S P t =
+    map (λ o. record { loan = t.loan; object = o; stage = stage S P t.loan o }) (objects_of S t)
 
 -- the lines of all loans, by looking back
 abbrev pub lines_by_loan : Museum → List Entry → List NewLine
@@ -155,7 +167,8 @@ rows_of_lines S P = map line_row (lines_by_loan S P)
 
 -- the last days of all loans, by looking back
 abbrev pub rows_of_terms : List Entry → List TermRow
-rows_of_terms P = map (λ t. record { loan = t.loan; day = last_from P t.loan t.last }) (agreements P)
+rows_of_terms P =
+    map (λ t. record { loan = t.loan; day = last_from P t.loan t.last }) (agreements P)
 
 -- the store has this list of entries
 pub record HasList (P : List Entry) (c : Content) : Type 0 where

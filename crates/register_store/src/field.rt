@@ -13,7 +13,8 @@ use std::alloc::Global;
 pub fn value_at<'a, V: Fields>(object: &'a V, key: Key) -> Result<&'a V, ReadFault>
     ensures exact { MatchResult result
         (λ value. get (key_name key) (V.seen object.now) ≡ Some (V.seen value.now))
-        (λ fault. (get (key_name key) (V.seen object.now) ≡ None) × (fault ≡ ReadFault.Missing key)) }
+        (λ fault. (get (key_name key) (V.seen object.now) ≡ None)
+        × (fault ≡ ReadFault.Missing key)) }
 {
     object.at(key.name()).ok_or(ReadFault::Missing(key))
 }
@@ -23,7 +24,8 @@ pub fn string_at<'a, V: Fields>(object: &'a V, key: Key) -> Result<&'a str, Read
     // The fault is the same whatever texts are right there.
     ensures exact { MatchResult result
         (λ text. option_and_then as_str (get (key_name key) (V.seen object.now)) ≡ Some text.now)
-        (λ fault. (test : List ℕ → Bool) → fault_at (V.seen object.now) (key spells test) ≡ Some fault) }
+        (λ fault. (test : List ℕ → Bool)
+        → fault_at (V.seen object.now) (key spells test) ≡ Some fault) }
     ensures told { IfErr result (λ fault. fault ≢ ReadFault.NoMemory) }
 {
     value_at(object, key)?
@@ -34,7 +36,8 @@ pub fn string_at<'a, V: Fields>(object: &'a V, key: Key) -> Result<&'a str, Read
 /// The thing's code at a key, else Missing or BadField.
 pub fn thing_at<V: Fields>(object: &V, key: Key) -> Result<ThingCode, ReadFault>
     ensures exact { MatchResult result
-        (λ code. (fault_at (V.seen object.now) (key spells is_thing) ≡ None) × (code ≡ text_at (V.seen object.now) key))
+        (λ code. (fault_at (V.seen object.now) (key spells is_thing) ≡ None)
+        × (code ≡ text_at (V.seen object.now) key))
         (λ fault. fault_at (V.seen object.now) (key spells is_thing) ≡ Some fault) }
     ensures told { IfErr result (λ fault. fault ≢ ReadFault.NoMemory) }
 {
@@ -47,7 +50,8 @@ pub fn thing_at<V: Fields>(object: &V, key: Key) -> Result<ThingCode, ReadFault>
 /// The place's code at a key, else Missing or BadField.
 pub(crate) fn place_at<V: Fields>(object: &V, key: Key) -> Result<PlaceCode, ReadFault>
     ensures exact { MatchResult result
-        (λ code. (fault_at (V.seen object.now) (key spells is_place) ≡ None) × (code ≡ text_at (V.seen object.now) key))
+        (λ code. (fault_at (V.seen object.now) (key spells is_place) ≡ None)
+        × (code ≡ text_at (V.seen object.now) key))
         (λ fault. fault_at (V.seen object.now) (key spells is_place) ≡ Some fault) }
     ensures told { IfErr result (λ fault. fault ≢ ReadFault.NoMemory) }
 {
@@ -60,7 +64,8 @@ pub(crate) fn place_at<V: Fields>(object: &V, key: Key) -> Result<PlaceCode, Rea
 /// The loan's code at a key, else Missing or BadField.
 pub(crate) fn loan_at<V: Fields>(object: &V, key: Key) -> Result<LoanCode, ReadFault>
     ensures exact { MatchResult result
-        (λ code. (fault_at (V.seen object.now) (key spells is_loan) ≡ None) × (code ≡ text_at (V.seen object.now) key))
+        (λ code. (fault_at (V.seen object.now) (key spells is_loan) ≡ None)
+        × (code ≡ text_at (V.seen object.now) key))
         (λ fault. fault_at (V.seen object.now) (key spells is_loan) ≡ Some fault) }
     ensures told { IfErr result (λ fault. fault ≢ ReadFault.NoMemory) }
 {
@@ -73,7 +78,8 @@ pub(crate) fn loan_at<V: Fields>(object: &V, key: Key) -> Result<LoanCode, ReadF
 /// The day at a key, else Missing or BadField.
 pub(crate) fn day_at<V: Fields>(object: &V, key: Key) -> Result<Day, ReadFault>
     ensures exact { MatchResult result
-        (λ day. (fault_at (V.seen object.now) (key spells is_day) ≡ None) × (day ≡ day_said (V.seen object.now) key))
+        (λ day. (fault_at (V.seen object.now) (key spells is_day) ≡ None)
+        × (day ≡ day_said (V.seen object.now) key))
         (λ fault. fault_at (V.seen object.now) (key spells is_day) ≡ Some fault) }
     ensures told { IfErr result (λ fault. fault ≢ ReadFault.NoMemory) }
 {
@@ -86,9 +92,12 @@ pub(crate) fn day_at<V: Fields>(object: &V, key: Key) -> Result<Day, ReadFault>
 /// The name at a key, else Missing, BadField or, where a name stands there, NoMemory.
 pub(crate) fn name_at<V: Fields>(alloc: Global, object: &V, key: Key) -> Result<Name, ReadFault>
     ensures exact { MatchResult result
-        (λ name. (fault_at (V.seen object.now) (key spells is_name) ≡ None) × (name ≡ text_at (V.seen object.now) key))
-        (λ fault. fault ≢ ReadFault.NoMemory → fault_at (V.seen object.now) (key spells is_name) ≡ Some fault) }
-    ensures gives_up { result ≡ Err ReadFault.NoMemory → fault_at (V.seen object.now) (key spells is_name) ≡ None }
+        (λ name. (fault_at (V.seen object.now) (key spells is_name) ≡ None)
+        × (name ≡ text_at (V.seen object.now) key))
+        (λ fault. fault ≢ ReadFault.NoMemory
+        → fault_at (V.seen object.now) (key spells is_name) ≡ Some fault) }
+    ensures gives_up { result ≡ Err ReadFault.NoMemory
+        → fault_at (V.seen object.now) (key spells is_name) ≡ None }
 {
     let text = string_at(object, key)?;
     match Name::new(alloc, text.as_bytes()) {

@@ -42,8 +42,11 @@ impl KeptEntry {
     ) -> Result<Entry, StoreFault>
         ensures kept { IfOk result (λ entry. IsPostingRow number entry (kept_row self.now)) }
         ensures stationed { IfOk result (IsOfStation stations) }
-        ensures damaged { IfErr result (λ fault. fault ≢ StoreFault.NoMemory → fault ≡ StoreFault.Damaged number) }
-        ensures wrong { IfErr result (λ fault. fault ≢ StoreFault.NoMemory → IsWrongRow stations number (kept_row self.now)) }
+        ensures damaged { IfErr result
+            (λ fault. fault ≢ StoreFault.NoMemory → fault ≡ StoreFault.Damaged number) }
+        ensures wrong { IfErr result
+            (λ fault. fault ≢ StoreFault.NoMemory
+            → IsWrongRow stations number (kept_row self.now)) }
     {
         let entry = &self.entry;
         if self.id != number || entry.station >= stations || entry.n == 0 || entry.n > LAST_NUMBER {

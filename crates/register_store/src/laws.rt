@@ -16,14 +16,16 @@ use posting_core::Ledger;
 
 /// The rows of spots that the entries wrote, one entry after another, are the spots of all things by looking back.
 pub fn spots_are_of_looking_back(ledger: &Ledger)
-    ensures { IsPermutation (spots_by_thing ledger.now.museum ledger.now.posted) (all_written ledger.now.museum ledger.now.posted) }
+    ensures { IsPermutation (spots_by_thing ledger.now.museum ledger.now.posted)
+        (all_written ledger.now.museum ledger.now.posted) }
 {
     let _ = ledger;
 }
 
 /// A message has one text.
 pub fn one_text()
-    ensures { (message : Message) (text other : List ℕ) → IsTextOf message text → IsTextOf message other → text ≡ other }
+    ensures { (message : Message) (text other : List ℕ) → IsTextOf message text
+        → IsTextOf message other → text ≡ other }
 {}
 
 /// A store has one list of entries.
@@ -33,19 +35,22 @@ pub fn one_list()
 
 /// A store that has a list of entries, which so many stations sent, is never told to be damaged in its listing.
 pub fn whole_list()
-    ensures { (stations at : ℕ) (P : List Entry) (c : Content) → HasList P c → All (IsOfStation stations) P → IsListFault stations c (StoreFault.Damaged at) → ⊥ }
+    ensures { (stations at : ℕ) (P : List Entry) (c : Content) → HasList P c
+        → All (IsOfStation stations) P → IsListFault stations c (StoreFault.Damaged at) → ⊥ }
 {}
 
 /// After a posting that was answered Ok, a quiet store can't hold just anything: a register that loses what it was given
 /// to keep can't say so.
 pub fn posted_holds_not_anything<R: Register>()
-    ensures { (old new : R) (e : Entry) (changes : Changes) → Comes (R.holding old) (R.holding new) (IsPosted e changes)
+    ensures { (old new : R) (e : Entry) (changes : Changes)
+        → Comes (R.holding old) (R.holding new) (IsPosted e changes)
         → (R.holding new).is_quiet → ((c : Content) → (R.holding new).holds c) → ⊥ }
 {}
 
 /// Nor can it hold nothing, where it held something before.
 pub fn posted_holds_something<R: Register>()
-    ensures { (old new : R) (e : Entry) (changes : Changes) (c : Content) → Comes (R.holding old) (R.holding new) (IsPosted e changes)
+    ensures { (old new : R) (e : Entry) (changes : Changes) (c : Content)
+        → Comes (R.holding old) (R.holding new) (IsPosted e changes)
         → (R.holding new).is_quiet → (R.holding old).holds c → IsEmpty (R.holding new) → ⊥ }
 {}
 

@@ -24,7 +24,8 @@ pub fn row_texts(alloc: Global, setup: &Setup) -> Result<Vec<String>, NoMemory>
 /// The spots of all things, by looking back: thing by thing, and each thing's from 1 on, so that they ascend. The fault:
 /// NoMemory.
 pub fn spot_rows(alloc: Global, ledger: &Ledger) -> Result<Vec<NewSpot>, NoMemory>
-    ensures { IfOk result (λ rows. rows.items ≡ spots_by_thing ledger.now.museum ledger.now.posted) }
+    ensures { IfOk result
+        (λ rows. rows.items ≡ spots_by_thing ledger.now.museum ledger.now.posted) }
 {
     let mut rows = Vec::new(alloc);
     for thing in 0..ledger.setup().things() {
@@ -49,7 +50,8 @@ fn push_spots(rows: &mut Vec<NewSpot>, thing: ThingNo, spots: &[Spot]) -> Result
 
 /// The lines of all loans, each at its stage by looking back, in the order of the agreements. The fault: NoMemory.
 pub fn lines_of(alloc: Global, ledger: &Ledger) -> Result<Vec<(LineKey, LineStage)>, NoMemory>
-    ensures { IfOk result (λ rows. held_lines rows.items ≡ lines_by_loan ledger.now.museum ledger.now.posted) }
+    ensures { IfOk result
+        (λ rows. held_lines rows.items ≡ lines_by_loan ledger.now.museum ledger.now.posted) }
 {
     ledger.is_lawful();
     let mut rows = Vec::new(alloc);
@@ -66,7 +68,9 @@ fn push_lines(
     loan: LoanCode,
     objects: &[ThingNo],
 ) -> Result<(), NoMemory>
-    ensures { OnOk result (held_lines rows.new.items ≡ held_lines rows.old.items ++ lines_of_loan ledger.now loan objects.now) }
+    ensures { OnOk result
+        (held_lines rows.new.items
+        ≡ held_lines rows.old.items ++ lines_of_loan ledger.now loan objects.now) }
 {
     for i in 0..objects.len() {
         let object = objects[i];
@@ -95,7 +99,8 @@ fn push_day(
     ledger: &Ledger,
     loan: LoanCode,
 ) -> Result<(), NoMemory>
-    ensures { OnOk result (term_rows rows.new.items ≡ term_rows rows.old.items ++ day_of_loan ledger.now loan) }
+    ensures { OnOk result
+        (term_rows rows.new.items ≡ term_rows rows.old.items ++ day_of_loan ledger.now loan) }
 {
     if let Some(day) = ledger.last_day(&loan) {
         rows.push((loan, day))?;

@@ -18,8 +18,10 @@ pub(crate) fn loan_message_of<V: Fields>(
 ) -> Result<Message, ReadFault>
     ensures exact { MatchResult result
         (λ message. of_named (V.seen object.now) (kind_named loan_kinds kind.now) ≡ Ok message)
-        (λ fault. fault ≢ ReadFault.NoMemory → of_named (V.seen object.now) (kind_named loan_kinds kind.now) ≡ Err fault) }
-    ensures gives_up { result ≡ Err ReadFault.NoMemory → is_some (kind_named kinds_that_grow kind.now) ≡ true }
+        (λ fault. fault ≢ ReadFault.NoMemory
+        → of_named (V.seen object.now) (kind_named loan_kinds kind.now) ≡ Err fault) }
+    ensures gives_up { result ≡ Err ReadFault.NoMemory
+        → is_some (kind_named kinds_that_grow kind.now) ≡ true }
 {
     match kind {
         "agree" => agree_of(alloc, object),
@@ -54,8 +56,10 @@ fn agree_of<V: Fields>(alloc: Global, object: &V) -> Result<Message, ReadFault>
 fn authorise_of<V: Fields>(alloc: Global, object: &V) -> Result<Message, ReadFault>
     ensures exact { MatchResult result
         (λ message. of_row (V.seen object.now) authorise_row ≡ Ok message)
-        (λ fault. fault ≢ ReadFault.NoMemory → of_row (V.seen object.now) authorise_row ≡ Err fault) }
-    ensures gives_up { result ≡ Err ReadFault.NoMemory → IsOk (of_row (V.seen object.now) authorise_row) }
+        (λ fault. fault ≢ ReadFault.NoMemory
+        → of_row (V.seen object.now) authorise_row ≡ Err fault) }
+    ensures gives_up { result ≡ Err ReadFault.NoMemory
+        → IsOk (of_row (V.seen object.now) authorise_row) }
 {
     let loan = loan_at(object, Key::Loan)?;
     let name = name_at(alloc, object, Key::By)?;

@@ -23,7 +23,8 @@ pub struct LineKey {
 /// Puts lines in the place of those of the same loan and object; there is room for all.
 pub(crate) fn put_lines(kept: &mut IndexMap<LineKey, LineStage>, lines: &[NewLine])
     requires { length lines.now ≤ spare kept.old }
-    ensures { IsPermutation (held_lines kept.new.entries) (put_each has_same_key lines.now (held_lines kept.old.entries)) }
+    ensures { IsPermutation (held_lines kept.new.entries)
+        (put_each has_same_key lines.now (held_lines kept.old.entries)) }
 {
     for i in 0..lines.len() {
         let line = lines[i];
@@ -39,7 +40,8 @@ pub(crate) fn put_lines(kept: &mut IndexMap<LineKey, LineStage>, lines: &[NewLin
 pub(crate) fn put_term(kept: &mut IndexMap<LoanCode, Day>, entry: &Entry)
     requires { 1 ≤ spare kept.old }
     ensures { IsPermutation (term_rows kept.new.entries)
-        (option_map_or (λ t. put is_same_loan t (term_rows kept.old.entries)) (term_of entry.now) (term_rows kept.old.entries)) }
+        (option_map_or (λ t. put is_same_loan t (term_rows kept.old.entries)) (term_of entry.now)
+        (term_rows kept.old.entries)) }
 {
     if let Some((loan, day)) = term_of(entry) {
         kept.insert(loan, day).unwrap();

@@ -18,7 +18,8 @@ pub(crate) fn agree_object(
     first: Day,
     last: Day,
 ) -> Result<Value, NoMemory>
-    ensures { IfOk result (λ value. view value ≡ json (Message.Agree loan.now partner.now objects.now first last)) }
+    ensures { IfOk result
+        (λ value. view value ≡ json (Message.Agree loan.now partner.now objects.now first last)) }
 {
     let mut object = object_of_kind(alloc, "agree")?;
     put_text(alloc, &mut object, Key::Loan, loan.as_str())?;
@@ -64,7 +65,8 @@ pub(crate) fn return_object(
     place: &PlaceCode,
     day: Day,
 ) -> Result<Value, NoMemory>
-    ensures { IfOk result (λ value. view value ≡ json (Message.Return thing.now loan.now place.now day)) }
+    ensures { IfOk result
+        (λ value. view value ≡ json (Message.Return thing.now loan.now place.now day)) }
 {
     let mut object = object_of_kind(alloc, "return")?;
     put_text(alloc, &mut object, Key::Thing, thing.as_str())?;
@@ -81,7 +83,8 @@ pub(crate) fn receive_object(
     place: &PlaceCode,
     day: Day,
 ) -> Result<Value, NoMemory>
-    ensures { IfOk result (λ value. view value ≡ json (Message.Receive thing.now loan.now place.now day)) }
+    ensures { IfOk result
+        (λ value. view value ≡ json (Message.Receive thing.now loan.now place.now day)) }
 {
     let mut object = object_of_kind(alloc, "receive")?;
     put_text(alloc, &mut object, Key::Thing, thing.as_str())?;

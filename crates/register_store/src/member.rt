@@ -45,7 +45,8 @@ pub(crate) fn put_things(
     things: &Objects,
 ) -> Result<(), NoMemory>
     ensures { OnOk result (members_view object.new.entries
-        ≡ put (key_name key) (array (items_of (map string things.now))) (members_view object.old.entries)) }
+        ≡ put (key_name key) (array (items_of (map string things.now)))
+        (members_view object.old.entries)) }
 {
     let items = things_array(alloc, things.as_slice())?;
     serde_json::put(object, alloc, key.name(), Value::Array(items))?;

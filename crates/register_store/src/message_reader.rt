@@ -86,8 +86,10 @@ fn pack_of<V: Fields>(object: &V) -> Result<Message, ReadFault>
 fn sign_off_of<V: Fields>(alloc: Global, object: &V) -> Result<Message, ReadFault>
     ensures exact { MatchResult result
         (λ message. of_row (V.seen object.now) sign_off_row ≡ Ok message)
-        (λ fault. fault ≢ ReadFault.NoMemory → of_row (V.seen object.now) sign_off_row ≡ Err fault) }
-    ensures gives_up { result ≡ Err ReadFault.NoMemory → IsOk (of_row (V.seen object.now) sign_off_row) }
+        (λ fault. fault ≢ ReadFault.NoMemory
+        → of_row (V.seen object.now) sign_off_row ≡ Err fault) }
+    ensures gives_up { result ≡ Err ReadFault.NoMemory
+        → IsOk (of_row (V.seen object.now) sign_off_row) }
 {
     let name = name_at(alloc, object, Key::By)?;
     Ok(Message::SignOff { name })

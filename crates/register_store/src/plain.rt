@@ -80,7 +80,14 @@ impl PlainRegister {
 
     /// A new store, with nothing kept and no setup bound. Takes no memory.
     pub fn new(alloc: Global) -> PlainRegister
-        ensures { result ≡ record { content = record { setup = []; meta = []; postings = []; spots = []; lines = []; terms = [] }; bound = false; stations = 0 } }
+        ensures { result
+            ≡ record {
+              content = record
+                  { setup = []; meta = []; postings = []; spots = []; lines = []; terms = [] };
+              bound =
+                  false;
+              stations = 0;
+            } }
     {
         PlainRegister {
             setup: None,
@@ -157,7 +164,8 @@ fn add_posting(
 ) -> Result<(), NoMemory>
     ensures posting { OnOk result (postings.new.items ≡ postings.old.items ++ kept ∷ []) }
     ensures spots { OnOk result (spots.new.items ≡ spots.old.items ++ more.now) }
-    ensures failed { OnErr result ((postings.new.items ≡ postings.old.items) × (spots.new.items ≡ spots.old.items)) }
+    ensures failed { OnErr result
+        ((postings.new.items ≡ postings.old.items) × (spots.new.items ≡ spots.old.items)) }
 {
     postings.reserve(1)?;
     spots.extend_from_slice(more)?;
@@ -174,7 +182,8 @@ fn are_all(spots: bool, lines: bool, terms: bool) -> bool
 
 /// Whether the kept texts, if there are some, are these.
 fn fits(kept: &Option<Vec<String>>, texts: &[String]) -> bool
-    ensures { MatchOption kept.now (result ≡ true) (λ old. Decides result (map string_bytes old.items ≡ map string_bytes texts.now)) }
+    ensures { MatchOption kept.now (result ≡ true)
+        (λ old. Decides result (map string_bytes old.items ≡ map string_bytes texts.now)) }
 {
     match kept {
         Some(old) => are_same(old, texts),
@@ -207,9 +216,13 @@ fn sort_rows(rows: &mut Vec<KeptEntry>)
 
 /// The entries of rows, oldest first; Damaged at the first that is no row of an entry of these stations.
 fn entries_of(alloc: Global, rows: &[KeptEntry], stations: u32) -> Result<Vec<Entry>, StoreFault>
-    ensures kept { IfOk result (λ entries. ArePostings (reverse entries.items) (map kept_row (reverse rows.now))) }
+    ensures kept { IfOk result
+        (λ entries. ArePostings (reverse entries.items) (map kept_row (reverse rows.now))) }
     ensures stationed { IfOk result (λ entries. All (IsOfStation stations) entries.items) }
-    ensures faults { IfErr result (λ fault. fault ≢ StoreFault.NoMemory → (at : ℕ) × (fault ≡ StoreFault.Damaged at) × IsWrongAt stations at (map kept_row rows.now)) }
+    ensures faults { IfErr result
+        (λ fault. fault ≢ StoreFault.NoMemory
+        → (at : ℕ) × (fault ≡ StoreFault.Damaged at)
+        × IsWrongAt stations at (map kept_row rows.now)) }
 {
     let mut entries = Vec::new(alloc);
     for i in 0..rows.len() {

@@ -37,10 +37,14 @@ pub trait Register {
     /// itself isn't whole; OtherSetup. NoMemory and Store can stand in place of any answer.
     fn bind(&mut self, alloc: Global, setup: &Setup) -> Result<u32, StoreFault>
         ensures bound { IfOk result (λ depth. Has (holding self.new) (IsBoundTo setup.now depth)) }
-        ensures kept { OnOk result (Comes (holding self.old) (holding self.new) (IsBound setup.now)) }
-        ensures refused { IfErr result (λ fault. Comes (holding self.old) (holding self.new) (IsNotBound setup.now fault)) }
-        ensures ready { OnOk result ((is_bound self.new ≡ true) × (stations self.new ≡ length setup.now.stations)) }
-        ensures not_ready { OnErr result ((is_bound self.new ≡ is_bound self.old) × (stations self.new ≡ stations self.old)) }
+        ensures kept { OnOk result
+            (Comes (holding self.old) (holding self.new) (IsBound setup.now)) }
+        ensures refused { IfErr result
+            (λ fault. Comes (holding self.old) (holding self.new) (IsNotBound setup.now fault)) }
+        ensures ready { OnOk result
+            ((is_bound self.new ≡ true) × (stations self.new ≡ length setup.now.stations)) }
+        ensures not_ready { OnErr result
+            ((is_bound self.new ≡ is_bound self.old) × (stations self.new ≡ stations self.old)) }
         ensures count { CountsRefusal (refusals self.old) (refusals self.new) result }
         ensures able { IfErr result (λ fault. is_of_store fault ≡ true → can_refuse ≡ true) };
 
@@ -48,9 +52,12 @@ pub trait Register {
     /// number i, a station of the setup, a number 1 to 999,999, a verdict's number, and a message's one text.
     fn all(&mut self, alloc: Global) -> Result<Vec<Entry>, StoreFault>
         requires { is_bound self.old ≡ true }
-        ensures listed { IfOk result (λ entries. Each (holding self.new) (HasList (reverse entries.items))) }
-        ensures stationed { IfOk result (λ entries. All (IsOfStation (stations self.old)) entries.items) }
-        ensures cause { IfErr result (λ fault. Each (holding self.new) (λ c. IsListFault (stations self.old) c fault)) }
+        ensures listed { IfOk result
+            (λ entries. Each (holding self.new) (HasList (reverse entries.items))) }
+        ensures stationed { IfOk result
+            (λ entries. All (IsOfStation (stations self.old)) entries.items) }
+        ensures cause { IfErr result
+            (λ fault. Each (holding self.new) (λ c. IsListFault (stations self.old) c fault)) }
         ensures faults { IfErr result (λ fault. is_of_listing fault ≡ true) }
         ensures unchanged { Comes (holding self.old) (holding self.new) AreSame }
         ensures still { (is_bound self.new ≡ true) × (stations self.new ≡ stations self.old) }
@@ -61,8 +68,11 @@ pub trait Register {
     /// place of those before, whole or, where it answers NoMemory or Store, perhaps not at all.
     fn post(&mut self, alloc: Global, entry: &Entry, changes: &Changes) -> Result<(), StoreFault>
         requires { is_bound self.old ≡ true }
-        ensures posted { OnOk result (Comes (holding self.old) (holding self.new) (IsPosted entry.now changes.now)) }
-        ensures failed { OnErr result (Comes (holding self.old) (holding self.new) (λ c d. AreSame c d ⊎ IsPosted entry.now changes.now c d)) }
+        ensures posted { OnOk result
+            (Comes (holding self.old) (holding self.new) (IsPosted entry.now changes.now)) }
+        ensures failed { OnErr result
+            (Comes (holding self.old) (holding self.new)
+            (λ c d. AreSame c d ⊎ IsPosted entry.now changes.now c d)) }
         ensures faults { IfErr result (λ fault. is_failure fault ≡ true) }
         ensures still { (is_bound self.new ≡ true) × (stations self.new ≡ stations self.old) }
         ensures count { CountsRefusal (refusals self.old) (refusals self.new) result }
@@ -71,7 +81,9 @@ pub trait Register {
     /// Whether the rows of spots, of lines and of last days are exactly those of the ledger.
     fn agrees(&mut self, alloc: Global, ledger: &Ledger) -> Result<bool, StoreFault>
         requires { is_bound self.old ≡ true }
-        ensures told { IfOk result (λ same. Each (holding self.new) (λ c. Decides same (HasRows ledger.now.museum ledger.now.posted c))) }
+        ensures told { IfOk result
+            (λ same. Each (holding self.new)
+            (λ c. Decides same (HasRows ledger.now.museum ledger.now.posted c))) }
         ensures faults { IfErr result (λ fault. is_failure fault ≡ true) }
         ensures unchanged { Comes (holding self.old) (holding self.new) AreSame }
         ensures still { (is_bound self.new ≡ true) × (stations self.new ≡ stations self.old) }

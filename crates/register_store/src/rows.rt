@@ -53,8 +53,10 @@ pub fn entry_of(
 ) -> Result<Entry, StoreFault>
     ensures kept { IfOk result (λ entry. IsPostingRow number entry (posting_row row.now)) }
     ensures stationed { IfOk result (IsOfStation stations) }
-    ensures damaged { IfErr result (λ fault. fault ≢ StoreFault.NoMemory → fault ≡ StoreFault.Damaged number) }
-    ensures wrong { IfErr result (λ fault. fault ≢ StoreFault.NoMemory → IsWrongRow stations number (posting_row row.now)) }
+    ensures damaged { IfErr result
+        (λ fault. fault ≢ StoreFault.NoMemory → fault ≡ StoreFault.Damaged number) }
+    ensures wrong { IfErr result
+        (λ fault. fault ≢ StoreFault.NoMemory → IsWrongRow stations number (posting_row row.now)) }
 {
     if row.id != number || row.station >= stations || row.n == 0 || row.n > LAST_NUMBER {
         return Err(StoreFault::Damaged(number));
@@ -75,9 +77,12 @@ pub fn entry_of(
 
 /// The message of which this is the one text, if it is one's.
 fn message_in(alloc: Global, body: &str) -> Result<Option<Message>, NoMemory>
-    ensures reads { IfOk result (λ found. IfSome found (λ message. of_bytes body.now ≡ Ok message)) }
+    ensures reads { IfOk result
+        (λ found. IfSome found (λ message. of_bytes body.now ≡ Ok message)) }
     ensures text { IfOk result (λ found. IfSome found (λ message. IsTextOf message body.now)) }
-    ensures none { IfOk result (λ found. IfNone found ((message : Message) → IsTextOf message body.now → of_bytes body.now ≡ Ok message → ⊥)) }
+    ensures none { IfOk result
+        (λ found. IfNone found
+        ((message : Message) → IsTextOf message body.now → of_bytes body.now ≡ Ok message → ⊥)) }
 {
     let Some(message) = if_read(read_message(alloc, body.as_bytes()))? else {
         return Ok(None);

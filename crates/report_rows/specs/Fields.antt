@@ -79,4 +79,5 @@ members (name ∷ names) (value ∷ values) = member name value ∷ members name
 
 -- an object with the members in the order of their names, and a line feed
 abbrev pub object_line : List (List ℕ) → List Told → List ℕ
-object_line names values = codes "{" ++ (join_by (λ m. m) (codes ",") (members names values) ++ codes "}\n")
+object_line names values =
+    codes "{" ++ (join_by (λ m. m) (codes ",") (members names values) ++ codes "}\n")

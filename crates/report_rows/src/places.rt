@@ -20,7 +20,8 @@ pub struct CountedRow {
 }
 
 impl Row for CountedRow {
-    ghost names = { codes "row" ∷ codes "place" ∷ codes "thing" ∷ codes "answer" ∷ codes "on_record" ∷ [] };
+    ghost names = { codes "row" ∷ codes "place" ∷ codes "thing" ∷ codes "answer"
+        ∷ codes "on_record" ∷ [] };
 
     ghost values = { λ row. number_if row.row
         ∷ text (string_bytes row.place)

@@ -63,7 +63,8 @@ Begins xs ys = (rest : List Item) × (ys ≡ xs ++ rest)
 
 -- the ends are other values, which tell the same
 abbrev pub SameEnds : List LaneEnd → List LaneEnd → Type 0
-SameEnds before after = (length after ≡ length before) × ((s : ℕ) → ended_at after s ≡ ended_at before s)
+SameEnds before after =
+    (length after ≡ length before) × ((s : ℕ) → ended_at after s ≡ ended_at before s)
 
 -- each line is of station s
 abbrev pub AreOf : ℕ → List LogLine → Type 0
@@ -100,4 +101,5 @@ TakesLeft cs es G = (s : ℕ) → s < length cs → received_at cs s ++ items_of
 
 -- the lines have what was left in each ring, or a front of it
 abbrev pub TakesFront : List Ring → List LaneEnd → List LogLine → Type 0
-TakesFront cs es G = (s : ℕ) → s < length cs → Begins (received_at cs s ++ items_of s G) (ended_at es s)
+TakesFront cs es G =
+    (s : ℕ) → s < length cs → Begins (received_at cs s ++ items_of s G) (ended_at es s)

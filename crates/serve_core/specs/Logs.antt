@@ -20,7 +20,8 @@ sent_item s (Bad line fault) = []
 
 -- what is said to an item of station s after the arrivals A
 abbrev pub item_reply : Museum → ℕ → List Entry → List Arrival → ℕ → Item → Reply
-item_reply S depth O A s (Scan n message) = Answered (reply S depth O A (record { station = s; n = n; message = message }))
+item_reply S depth O A s (Scan n message) =
+    Answered (reply S depth O A (record { station = s; n = n; message = message }))
 item_reply S depth O A s (Ask code) = Found (whereabouts S (posted S depth O A) code)
 item_reply S depth O A s (Bad line fault) = Unread
 
@@ -31,7 +32,9 @@ log_arrivals G = flat_map (λ l. sent_item l.station l.item) G
 -- each line's reply is that of looking back through the lines before it
 abbrev pub IsAnswered : Museum → ℕ → List Entry → List Arrival → List LogLine → Type 0
 IsAnswered S depth O A [] = Unit {0}
-IsAnswered S depth O A (l ∷ G) = (l.reply ≡ item_reply S depth O A l.station l.item) × IsAnswered S depth O (A ++ sent_item l.station l.item) G
+IsAnswered S depth O A (l ∷ G) =
+    (l.reply ≡ item_reply S depth O A l.station l.item)
+    × IsAnswered S depth O (A ++ sent_item l.station l.item) G
 
 -- the items of station s, in order
 abbrev pub items_of : ℕ → List LogLine → List Item
@@ -48,12 +51,15 @@ abbrev pub IsLineOf : ℕ → Item → LogLine → Type 0
 IsLineOf s item l = (l.station ≡ s) × (l.item ≡ item)
 
 -- the hub took these lines: each is answered by looking back, and a hub that isn't down stands for all that they sent
-pub record Serves {R : Type 0} (holding : R → Holding) (before after : State R) (G : List LogLine) : Type 0 where
+pub record Serves {R : Type 0} (holding : R → Holding) (before after : State R)
+    (G : List LogLine) : Type 0 where
   pub museum : after.book.museum ≡ before.book.museum
   pub depth : after.book.depth ≡ before.book.depth
   pub placed : All (λ l. IsPlacedReply before.book.museum l.reply) G
-  pub answered : (O : List Entry) (A : List Arrival) → StandsFor holding before O A → IsAnswered before.book.museum before.book.depth O A G
-  pub stands : (O : List Entry) (A : List Arrival) → StandsFor holding before O A → after.down ≡ false → StandsFor holding after O (A ++ log_arrivals G)
+  pub answered : (O : List Entry) (A : List Arrival) → StandsFor holding before O A
+      → IsAnswered before.book.museum before.book.depth O A G
+  pub stands : (O : List Entry) (A : List Arrival) → StandsFor holding before O A
+      → after.down ≡ false → StandsFor holding after O (A ++ log_arrivals G)
 
 -- at most one line of each station from `low` to below `high`, ascending
 abbrev pub Ascends : ℕ → ℕ → List LogLine → Type 0

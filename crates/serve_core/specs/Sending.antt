@@ -56,7 +56,8 @@ sent_at found s = sent_of (slice_get found s)
 
 -- the lines have, behind what was taken before, a front of what was sent through each lane
 abbrev pub SentFront : List Ring → List Sent → List LogLine → Type 0
-SentFront cs found G = (s : ℕ) → s < length cs → Begins (received_at cs s ++ items_of s G) (sent_at found s)
+SentFront cs found G =
+    (s : ℕ) → s < length cs → Begins (received_at cs s ++ items_of s G) (sent_at found s)
 
 -- they have all of it
 abbrev pub SentWhole : List Ring → List Sent → List LogLine → Type 0
@@ -91,7 +92,8 @@ pub record IsMerge (feeds : List (List Item)) (G : List LogLine) : Type 0 where
 
 -- every line is of a station with a feed, and the items of each are a front of its feed's; so is a station that the fault
 -- names
-pub record AreFronts (feeds : List (List Item)) (G : List LogLine) (fault : ServeFault) : Type 0 where
+pub record AreFronts (feeds : List (List Item)) (G : List LogLine)
+    (fault : ServeFault) : Type 0 where
   pub stations : AreOfStations (length feeds) G
   pub front : (s : ℕ) → s < length feeds → Begins (items_of s G) (items_at feeds s)
   pub named : IsOneOf (length feeds) fault

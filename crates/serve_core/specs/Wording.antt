@@ -25,7 +25,7 @@ line_fault_text (Read fault) = fault_text fault
 abbrev pub bad_item_line : List ℕ → ℕ → LineFault → List ℕ
 bad_item_line station line fault =
     concat (station ∷ codes " line " ∷ decimal line ∷ codes " bad " ∷ line_fault_text fault
-        ∷ codes "\n" ∷ [])
+    ∷ codes "\n" ∷ [])
 
 -- of the entries O, oldest first, those that stood with an answer
 abbrev pub up_to : Answer → List Entry → List Entry

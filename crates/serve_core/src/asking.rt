@@ -19,8 +19,10 @@ fn reply_to_item<R: Register>(
     station: u32,
     item: Item,
 ) -> Result<Reply, HubFault>
-    ensures reply { IfOk result (λ reply. (O : List Entry) (A : List Arrival) → StandsFor R.holding hub.old O A →
-        (reply ≡ item_reply hub.old.book.museum hub.old.book.depth O A station item) × StandsFor R.holding hub.new O (A ++ sent_item station item)) }
+    ensures reply { IfOk result
+        (λ reply. (O : List Entry) (A : List Arrival) → StandsFor R.holding hub.old O A →
+        (reply ≡ item_reply hub.old.book.museum hub.old.book.depth O A station item)
+        × StandsFor R.holding hub.new O (A ++ sent_item station item)) }
     ensures level { OnOk result (hub.new.down ≡ hub.old.down) }
     ensures down { IsErrOf result HubFault.Down → hub.old.down ≡ true }
     ensures fault { OnErr result (hub.new.down ≡ false → hub.new ≡ hub.old) }
@@ -58,9 +60,12 @@ pub(crate) fn log_item<R: Register>(
     item: Item,
     lines: &mut Vec<LogLine>,
 ) -> Result<(), HubFault>
-    ensures line { OnOk result ((line : LogLine) × (lines.new.items ≡ lines.old.items ++ line ∷ []) × IsLineOf station item line
+    ensures line { OnOk result
+        ((line : LogLine) × (lines.new.items ≡ lines.old.items ++ line ∷ [])
+        × IsLineOf station item line
         × Serves R.holding hub.old hub.new (line ∷ [])) }
-    ensures fault { OnErr result ((lines.new.items ≡ lines.old.items) × Serves R.holding hub.old hub.new []) }
+    ensures fault { OnErr result
+        ((lines.new.items ≡ lines.old.items) × Serves R.holding hub.old hub.new []) }
     ensures level { OnOk result (hub.new.down ≡ hub.old.down) }
     ensures down { IsErrOf result HubFault.Down → hub.old.down ≡ true }
     ensures count { CountsStore (R.refusals hub.old.register) (R.refusals hub.new.register) result }

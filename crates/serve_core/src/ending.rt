@@ -37,7 +37,8 @@ impl Intake {
         ensures taken { (s : ℕ) → received_at self.new s ≡ received_at self.old s }
         ensures pairs { AllZip IsSentTo found.new.items self.new }
         ensures found { AllZip IsStill found.old.items found.new.items }
-        ensures front { (s : ℕ) → s < length self.old → Begins (received_at self.old s) (sent_at found.old.items s) }
+        ensures front { (s : ℕ) → s < length self.old
+            → Begins (received_at self.old s) (sent_at found.old.items s) }
     {
         settle_lanes(&mut self.rings, found);
     }
@@ -50,7 +51,8 @@ fn settle_lanes(rings: &mut Vec<Consumer<Item>>, found: &mut Vec<Sent>)
     ensures taken { (s : ℕ) → received_at rings.new.items s ≡ received_at rings.old.items s }
     ensures pairs { AllZip IsSentTo found.new.items rings.new.items }
     ensures found { AllZip IsStill found.old.items found.new.items }
-    ensures front { (s : ℕ) → s < vec_len rings.old → Begins (received_at rings.old.items s) (sent_at found.old.items s) }
+    ensures front { (s : ℕ) → s < vec_len rings.old
+        → Begins (received_at rings.old.items s) (sent_at found.old.items s) }
     ensures few { vec_len rings.new ≡ vec_len rings.old }
 {
     for i in 0..rings.len() {

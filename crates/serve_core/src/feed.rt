@@ -14,8 +14,10 @@ pub trait Feed {
 
     /// The next item, or None where none is left. After NoMemory the same are left.
     fn next(&mut self, alloc: Global) -> Result<Option<Item>, NoMemory>
-        ensures none { IfOk result (λ next. IfNone next ((items self.old ≡ []) × (items self.new ≡ []))) }
-        ensures some { IfOk result (λ next. IfSome next (λ x. items self.old ≡ x ∷ items self.new)) }
+        ensures none { IfOk result
+            (λ next. IfNone next ((items self.old ≡ []) × (items self.new ≡ []))) }
+        ensures some { IfOk result
+            (λ next. IfSome next (λ x. items self.old ≡ x ∷ items self.new)) }
         ensures kept { OnErr result (items self.new ≡ items self.old) };
 }
 

@@ -61,11 +61,14 @@ impl Intake {
         hub: &mut Hub<R>,
         log: &mut Log,
     ) -> Result<u32, HubFault>
-        ensures lines { (G : List LogLine) × (log.new ≡ log.old ++ G) × Serves R.holding hub.old hub.new G × TakesSome self.old self.new G
-            × IfOk result (λ n. Takes self.old self.new G × (n ≡ length G) × Ascends 0 (length self.old) G) }
+        ensures lines { (G : List LogLine) × (log.new ≡ log.old ++ G)
+            × Serves R.holding hub.old hub.new G × TakesSome self.old self.new G
+            × IfOk result
+            (λ n. Takes self.old self.new G × (n ≡ length G) × Ascends 0 (length self.old) G) }
         ensures level { OnOk result (hub.new.down ≡ hub.old.down) }
         ensures down { IsErrOf result HubFault.Down → hub.old.down ≡ true }
-        ensures count { CountsStore (R.refusals hub.old.register) (R.refusals hub.new.register) result }
+        ensures count { CountsStore (R.refusals hub.old.register)
+            (R.refusals hub.new.register) result }
     {
         turn_all(alloc, hub, &mut self.rings, &mut log.lines)
     }
@@ -88,11 +91,13 @@ impl Intake {
         ends: Vec<LaneEnd>,
     ) -> Result<(), HubFault>
         requires { AllZip IsEndOn ends.items self }
-        ensures lines { (G : List LogLine) × (log.new ≡ log.old ++ G) × Serves R.holding hub.old hub.new G × AreOfStations (length self) G
+        ensures lines { (G : List LogLine) × (log.new ≡ log.old ++ G)
+            × Serves R.holding hub.old hub.new G × AreOfStations (length self) G
             × TakesFront self ends.items G × OnOk result (TakesLeft self ends.items G) }
         ensures level { OnOk result (hub.new.down ≡ hub.old.down) }
         ensures down { IsErrOf result HubFault.Down → hub.old.down ≡ true }
-        ensures count { CountsStore (R.refusals hub.old.register) (R.refusals hub.new.register) result }
+        ensures count { CountsStore (R.refusals hub.old.register)
+            (R.refusals hub.new.register) result }
     {
         let Intake { mut rings } = self;
         let mut ends = ends;
@@ -139,8 +144,11 @@ fn turn_all<R: Register>(
     lines: &mut Vec<LogLine>,
 ) -> Result<u32, HubFault>
     requires { vec_len rings.old < 2 ^ 32 }
-    ensures lines { (G : List LogLine) × (lines.new.items ≡ lines.old.items ++ G) × Serves R.holding hub.old hub.new G × TakesSome rings.old.items rings.new.items G
-        × IfOk result (λ n. Takes rings.old.items rings.new.items G × (n ≡ length G) × Ascends 0 (vec_len rings.old) G) }
+    ensures lines { (G : List LogLine) × (lines.new.items ≡ lines.old.items ++ G)
+        × Serves R.holding hub.old hub.new G × TakesSome rings.old.items rings.new.items G
+        × IfOk result
+        (λ n. Takes rings.old.items rings.new.items G × (n ≡ length G)
+        × Ascends 0 (vec_len rings.old) G) }
     ensures few { vec_len rings.new ≡ vec_len rings.old }
     ensures level { OnOk result (hub.new.down ≡ hub.old.down) }
     ensures down { IsErrOf result HubFault.Down → hub.old.down ≡ true }
@@ -161,7 +169,8 @@ fn take_one<R: Register>(
     station: u32,
     lines: &mut Vec<LogLine>,
 ) -> Result<u32, HubFault>
-    ensures lines { (G : List LogLine) × (lines.new.items ≡ lines.old.items ++ G) × Serves R.holding hub.old hub.new G × TakesSomeOf station ring.old ring.new G
+    ensures lines { (G : List LogLine) × (lines.new.items ≡ lines.old.items ++ G)
+        × Serves R.holding hub.old hub.new G × TakesSomeOf station ring.old ring.new G
         × IfOk result (λ n. TakesOf station ring.old ring.new G × (n ≡ length G) × (n ≤ 1)) }
     ensures level { OnOk result (hub.new.down ≡ hub.old.down) }
     ensures down { IsErrOf result HubFault.Down → hub.old.down ≡ true }
@@ -186,9 +195,11 @@ fn take_left<R: Register>(
 ) -> Result<(), HubFault>
     requires few { vec_len rings.old < 2 ^ 32 }
     requires ends { AllZip IsEndOn ends.old.items rings.old.items }
-    ensures lines { (G : List LogLine) × (lines.new.items ≡ lines.old.items ++ G) × Serves R.holding hub.old hub.new G × TakesSome rings.old.items rings.new.items G
+    ensures lines { (G : List LogLine) × (lines.new.items ≡ lines.old.items ++ G)
+        × Serves R.holding hub.old hub.new G × TakesSome rings.old.items rings.new.items G
         × OnOk result (TakesLeft rings.old.items ends.old.items G) }
-    ensures ends { AllZip IsEndOn ends.new.items rings.new.items × SameEnds ends.old.items ends.new.items }
+    ensures ends { AllZip IsEndOn ends.new.items rings.new.items
+        × SameEnds ends.old.items ends.new.items }
     ensures level { OnOk result (hub.new.down ≡ hub.old.down) }
     ensures down { IsErrOf result HubFault.Down → hub.old.down ≡ true }
     ensures count { CountsStore (R.refusals hub.old.register) (R.refusals hub.new.register) result }
@@ -209,8 +220,10 @@ fn drain<R: Register>(
     lines: &mut Vec<LogLine>,
 ) -> Result<(), HubFault>
     requires { IsEndOn end.old ring.old }
-    ensures lines { (G : List LogLine) × (lines.new.items ≡ lines.old.items ++ G) × Serves R.holding hub.old hub.new G × TakesSomeOf station ring.old ring.new G
-        × OnOk result (TakesOf station ring.old ring.new G × (received_is ring.new ≡ end_items end.old)) }
+    ensures lines { (G : List LogLine) × (lines.new.items ≡ lines.old.items ++ G)
+        × Serves R.holding hub.old hub.new G × TakesSomeOf station ring.old ring.new G
+        × OnOk result
+        (TakesOf station ring.old ring.new G × (received_is ring.new ≡ end_items end.old)) }
     ensures end { IsEndOn end.new ring.new × (end_items end.new ≡ end_items end.old) }
     ensures level { OnOk result (hub.new.down ≡ hub.old.down) }
     ensures down { IsErrOf result HubFault.Down → hub.old.down ≡ true }
@@ -227,7 +240,8 @@ fn drain<R: Register>(
 /// Looks at the end of each lane: what was taken is a front of what was sent.
 fn settle_all(rings: &mut Vec<Consumer<Item>>, ends: &mut Vec<LaneEnd>)
     requires { AllZip IsEndOn ends.old.items rings.old.items }
-    ensures { (s : ℕ) → s < vec_len rings.old → Begins (received_at rings.old.items s) (ended_at ends.old.items s) }
+    ensures { (s : ℕ) → s < vec_len rings.old
+        → Begins (received_at rings.old.items s) (ended_at ends.old.items s) }
 {
     for i in 0..rings.len() {
         settle(&mut rings[i], &mut ends[i]);

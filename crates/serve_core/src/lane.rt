@@ -30,7 +30,8 @@ impl Lane {
     pub fn send(&mut self, item: Item) -> Result<(), Full>
         ensures lane { SameLane self.old self.new }
         ensures sent { OnOk result (sent_items self.new ≡ sent_items self.old ++ item ∷ []) }
-        ensures full { IfErr result (λ e. (e.0 ≡ item) × (sent_items self.new ≡ sent_items self.old)) }
+        ensures full { IfErr result
+            (λ e. (e.0 ≡ item) × (sent_items self.new ≡ sent_items self.old)) }
     {
         match self.producer.push(item) {
             Ok(()) => Ok(()),

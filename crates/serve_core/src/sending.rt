@@ -118,8 +118,10 @@ pub(crate) fn start_all<F: Feed + Drop + Send + 'static, R: Threads + Wait + Cop
     feeds: Vec<F>,
 ) -> Result<Started<F>, NoMemory>
     requires { vec_len lanes ≡ vec_len feeds }
-    ensures lanes { IfOk result (λ s. s.all ≡ true → map (λ h. h.promise.lane.value) s.children.items ≡ lanes.items) }
-    ensures feeds { IfOk result (λ s. s.all ≡ true → map (λ h. h.promise.feed.value) s.children.items ≡ feeds.items) }
+    ensures lanes { IfOk result
+        (λ s. s.all ≡ true → map (λ h. h.promise.lane.value) s.children.items ≡ lanes.items) }
+    ensures feeds { IfOk result
+        (λ s. s.all ≡ true → map (λ h. h.promise.feed.value) s.children.items ≡ feeds.items) }
 {
     let count = lanes.len();
     let mut lanes = lanes;
@@ -169,7 +171,9 @@ pub(crate) fn join_all<F: Feed, R: Threads>(
     found: &mut Vec<Sent>,
 )
     requires { (found.old.items ≡ []) × (vec_len children ≤ found.old.cap) }
-    ensures { AllZip (λ h s. Sends h.promise.lane.value (F.items h.promise.feed.value) s) children.items found.new.items }
+    ensures { AllZip
+        (λ h s. Sends h.promise.lane.value (F.items h.promise.feed.value) s) children.items
+        found.new.items }
 {
     let mut children = children;
     while !children.is_empty() {

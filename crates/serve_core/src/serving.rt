@@ -54,7 +54,8 @@ pub fn serve<
     ensures fronts { IfErr result (λ f. AreFronts (map F.items feeds.items) f.log f.fault) }
     ensures answered { IfErr result (λ f. Serves R.holding hub f.hub f.log) }
     ensures uncounted { IfOk result (λ s. R.refusals s.hub.register ≡ R.refusals hub.register) }
-    ensures counted { IfErr result (λ f. CountsServe (R.refusals hub.register) (R.refusals f.hub.register) f.fault) }
+    ensures counted { IfErr result
+        (λ f. CountsServe (R.refusals hub.register) (R.refusals f.hub.register) f.fault) }
 {
     let mut hub = hub;
     let mut log = Log::new(alloc);
@@ -77,7 +78,8 @@ fn serve_all<
     ensures served { Serves R.holding hub.old hub.new log.new }
     ensures level { OnOk result (hub.new.down ≡ hub.old.down) }
     ensures uncounted { OnOk result (R.refusals hub.new.register ≡ R.refusals hub.old.register) }
-    ensures counted { IfErr result (CountsServe (R.refusals hub.old.register) (R.refusals hub.new.register)) }
+    ensures counted { IfErr result
+        (CountsServe (R.refusals hub.old.register) (R.refusals hub.new.register)) }
 {
     let stations = hub.ledger().setup().stations();
     match prepare(rt, alloc, stations, feeds) {
@@ -103,8 +105,10 @@ fn prepare<F: Feed + Drop + Send + 'static, T: Threads + Wait + Copy + Send + 's
     feeds: Vec<F>,
 ) -> Result<Prepared<F>, NoMemory>
     requires { vec_len feeds ≡ stations }
-    ensures lanes { IfOk result (λ p. AllZip IsFresh (map (λ h. h.promise.lane.value) p.children.items) p.intake) }
-    ensures feeds { IfOk result (λ p. map (λ h. h.promise.feed.value) p.children.items ≡ feeds.items) }
+    ensures lanes { IfOk result
+        (λ p. AllZip IsFresh (map (λ h. h.promise.lane.value) p.children.items) p.intake) }
+    ensures feeds { IfOk result
+        (λ p. map (λ h. h.promise.feed.value) p.children.items ≡ feeds.items) }
     ensures room { IfOk result (λ p. HasRoom (vec_len p.children) p.room) }
 {
     let (lanes, mut intake) = lanes(alloc, stations)?;
@@ -130,15 +134,20 @@ fn take_all<R: Register, F: Feed, T: Threads + Wait>(
     log: &mut Log,
     prepared: Prepared<F>,
 ) -> Result<(), ServeFault>
-    requires lanes { AllZip IsFresh (map (λ h. h.promise.lane.value) prepared.children.items) prepared.intake }
+    requires lanes { AllZip IsFresh
+        (map (λ h. h.promise.lane.value) prepared.children.items) prepared.intake }
     requires room { HasRoom (vec_len prepared.children) prepared.room }
     requires log { log.old ≡ [] }
-    ensures merge { OnOk result (IsMerge (map F.items (map (λ h. h.promise.feed.value) prepared.children.items)) log.new) }
-    ensures fronts { IfErr result (AreFronts (map F.items (map (λ h. h.promise.feed.value) prepared.children.items)) log.new) }
+    ensures merge { OnOk result
+        (IsMerge (map F.items (map (λ h. h.promise.feed.value) prepared.children.items)) log.new) }
+    ensures fronts { IfErr result
+        (AreFronts (map F.items (map (λ h. h.promise.feed.value) prepared.children.items))
+        log.new) }
     ensures served { Serves R.holding hub.old hub.new log.new }
     ensures level { OnOk result (hub.new.down ≡ hub.old.down) }
     ensures uncounted { OnOk result (R.refusals hub.new.register ≡ R.refusals hub.old.register) }
-    ensures counted { IfErr result (CountsServe (R.refusals hub.old.register) (R.refusals hub.new.register)) }
+    ensures counted { IfErr result
+        (CountsServe (R.refusals hub.old.register) (R.refusals hub.new.register)) }
 {
     let Prepared {
         mut intake,
@@ -171,13 +180,16 @@ fn finish_all<R: Register>(
     requires lanes { AllZip IsSentTo room.found.items intake }
     requires few { vec_len room.found < 2 ^ 32 }
     requires ends { (room.ends.items ≡ []) × (vec_len room.found ≤ room.ends.cap) }
-    ensures lines { (G : List LogLine) × (log.new ≡ log.old ++ G) × Serves R.holding hub.old hub.new G × AreOfStations (length intake) G
+    ensures lines { (G : List LogLine) × (log.new ≡ log.old ++ G)
+        × Serves R.holding hub.old hub.new G × AreOfStations (length intake) G
         × SentFront intake room.found.items G
-        × OnOk result (All (λ sent. sent.whole ≡ true) room.found.items × SentWhole intake room.found.items G) }
+        × OnOk result
+        (All (λ sent. sent.whole ≡ true) room.found.items × SentWhole intake room.found.items G) }
     ensures missing { IfErr result (IsOneOf (length intake)) }
     ensures level { OnOk result (hub.new.down ≡ hub.old.down) }
     ensures uncounted { OnOk result (R.refusals hub.new.register ≡ R.refusals hub.old.register) }
-    ensures counted { IfErr result (CountsServe (R.refusals hub.old.register) (R.refusals hub.new.register)) }
+    ensures counted { IfErr result
+        (CountsServe (R.refusals hub.old.register) (R.refusals hub.new.register)) }
 {
     let mut intake = intake;
     let Room {

@@ -78,8 +78,12 @@ fn next_item(
     place: &mut Place,
 ) -> Result<Option<Item>, NoMemory>
     requires { IsPlaceIn bytes.now place.old }
-    ensures none { IfOk result (λ next. IfNone next ((items_left bytes.now place.old ≡ []) × (items_left bytes.now place.new ≡ []))) }
-    ensures some { IfOk result (λ next. IfSome next (λ x. items_left bytes.now place.old ≡ x ∷ items_left bytes.now place.new)) }
+    ensures none { IfOk result
+        (λ next. IfNone next
+        ((items_left bytes.now place.old ≡ []) × (items_left bytes.now place.new ≡ []))) }
+    ensures some { IfOk result
+        (λ next. IfSome next
+        (λ x. items_left bytes.now place.old ≡ x ∷ items_left bytes.now place.new)) }
     ensures kept { OnErr result (items_left bytes.now place.new ≡ items_left bytes.now place.old) }
     ensures place { IsPlaceIn bytes.now place.new }
 {
@@ -100,7 +104,9 @@ fn line_at(bytes: &[u8], at: usize) -> &[u8]
     requires { at < length bytes.now }
     ensures there { at + length result.now ≤ length bytes.now }
     // Of the lines that begin there it is the first, but for its carriage return.
-    ensures first { lines (drop at bytes.now) ≡ without_return result.now ∷ lines (drop (min (length bytes.now) (at + length result.now + 1)) bytes.now) }
+    ensures first { lines (drop at bytes.now)
+        ≡ without_return result.now
+        ∷ lines (drop (min (length bytes.now) (at + length result.now + 1)) bytes.now) }
 {
     let rest = &bytes[at..];
     &rest[..feed_at(rest)]

@@ -41,7 +41,8 @@ pub(crate) fn turn_until<R: Register>(
     log: &mut Log,
     marks: &[Arc<AtomicBool>],
 ) -> Result<(), HubFault>
-    ensures lines { (G : List LogLine) × (log.new ≡ log.old ++ G) × Serves R.holding hub.old hub.new G × TakesSome intake.old intake.new G
+    ensures lines { (G : List LogLine) × (log.new ≡ log.old ++ G)
+        × Serves R.holding hub.old hub.new G × TakesSome intake.old intake.new G
         × OnOk result (Takes intake.old intake.new G) }
     ensures level { OnOk result (hub.new.down ≡ hub.old.down) }
     ensures count { CountsStore (R.refusals hub.old.register) (R.refusals hub.new.register) result }

@@ -11,7 +11,8 @@ module _ {M : Type 0} where
     pub above : (n : ℕ) → q.posted + window < n → message_at taken s n ≡ None
 
   -- between arrivals: what is ready is posted, and until the sign-off what was taken above is held
-  pub record Matches (signs : M → Bool) (taken : List (Arrived M)) (s : ℕ) (q : Series M) : Type 0 where
+  pub record Matches (signs : M → Bool) (taken : List (Arrived M)) (s : ℕ)
+      (q : Series M) : Type 0 where
     pub count : q.posted ≡ ready signs taken s
     pub sign : q.signed ≡ is_signed signs taken s
     pub width : length q.slots ≡ window
@@ -19,7 +20,8 @@ module _ {M : Type 0} where
     pub empty : q.signed ≡ true → (i : ℕ) → slot_at q.slots i ≡ None
 
   -- while messages come due: what is posted is unbroken, with no sign-off, and the rest is held
-  pub record Pending (signs : M → Bool) (taken : List (Arrived M)) (s : ℕ) (q : Series M) : Type 0 where
+  pub record Pending (signs : M → Bool) (taken : List (Arrived M)) (s : ℕ)
+      (q : Series M) : Type 0 where
     pub whole : unbroken signs taken s q.posted ≡ true
     pub goes_on : ends signs taken s q.posted ≡ false
     pub sign : q.signed ≡ false
@@ -27,39 +29,47 @@ module _ {M : Type 0} where
     pub held : HoldsAbove taken s q
 
   -- the sign-off came due last: what is held above matters no more, and `sign_off` gives it up
-  pub record Ending (signs : M → Bool) (taken : List (Arrived M)) (s : ℕ) (q : Series M) : Type 0 where
+  pub record Ending (signs : M → Bool) (taken : List (Arrived M)) (s : ℕ)
+      (q : Series M) : Type 0 where
     pub whole : unbroken signs taken s q.posted ≡ true
     pub ended : ends signs taken s q.posted ≡ true
     pub width : length q.slots ≡ window
 
   -- a station may start so from a list of what is posted
-  pub record StartsFrom (signs : M → Bool) (taken : List (Arrived M)) (s : ℕ) (start : Start) : Type 0 where
+  pub record StartsFrom (signs : M → Bool) (taken : List (Arrived M)) (s : ℕ)
+      (start : Start) : Type 0 where
     pub whole : unbroken signs taken s start.posted ≡ true
     pub sign : start.signed ≡ ends signs taken s start.posted
     pub none_above : (n : ℕ) → start.posted < n → message_at taken s n ≡ None
 
   -- all stations may
-  pub record AllStart (signs : M → Bool) (taken : List (Arrived M)) (starts : List Start) : Type 0 where
-    pub each : (s : ℕ) (start : Start) → slice_get starts s ≡ Some start → StartsFrom signs taken s start
+  pub record AllStart (signs : M → Bool) (taken : List (Arrived M))
+      (starts : List Start) : Type 0 where
+    pub each : (s : ℕ) (start : Start) → slice_get starts s ≡ Some start
+        → StartsFrom signs taken s start
 
   -- every station holds what was taken
-  pub record AllMatch (signs : M → Bool) (taken : List (Arrived M)) (all : List (Series M)) : Type 0 where
+  pub record AllMatch (signs : M → Bool) (taken : List (Arrived M))
+      (all : List (Series M)) : Type 0 where
     pub each : (s : ℕ) → s < length all → Matches signs taken s (series_at all s)
 
   -- messages of station s come due, and the others hold what was taken
-  pub record IsPosting (signs : M → Bool) (taken : List (Arrived M)) (s : ℕ) (all : List (Series M)) : Type 0 where
+  pub record IsPosting (signs : M → Bool) (taken : List (Arrived M)) (s : ℕ)
+      (all : List (Series M)) : Type 0 where
     pub within : s < length all
     pub here : Pending signs taken s (series_at all s)
     pub others : (t : ℕ) → t < length all → t ≢ s → Matches signs taken t (series_at all t)
 
   -- the sign-off of station s came due last, and the others hold what was taken
-  pub record IsEnding (signs : M → Bool) (taken : List (Arrived M)) (s : ℕ) (all : List (Series M)) : Type 0 where
+  pub record IsEnding (signs : M → Bool) (taken : List (Arrived M)) (s : ℕ)
+      (all : List (Series M)) : Type 0 where
     pub within : s < length all
     pub here : Ending signs taken s (series_at all s)
     pub others : (t : ℕ) → t < length all → t ≢ s → Matches signs taken t (series_at all t)
 
   -- number n comes due with its message: it was taken so, and the station goes on or ends with it
-  pub record ComesDue (signs : M → Bool) (taken : List (Arrived M)) (s n : ℕ) (m : M) (all : List (Series M)) : Type 0 where
+  pub record ComesDue (signs : M → Bool) (taken : List (Arrived M)) (s n : ℕ) (m : M)
+      (all : List (Series M)) : Type 0 where
     pub message : message_at taken s n ≡ Some m
     pub goes_on : signs m ≡ false → IsPosting signs taken s all
     pub ends : signs m ≡ true → IsEnding signs taken s all

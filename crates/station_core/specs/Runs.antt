@@ -49,7 +49,8 @@ module _ {M : Type 0} where
   abbrev pub unbroken : (M → Bool) → List (Arrived M) → ℕ → ℕ → Bool
   unbroken signs taken s zero = true
   unbroken signs taken s (suc k) =
-      unbroken signs taken s k && (is_some (message_at taken s (suc k)) && not (ends signs taken s k))
+      unbroken signs taken s k
+      && (is_some (message_at taken s (suc k)) && not (ends signs taken s k))
 
   -- how many messages of station s are posted: the greatest number up to which its run is unbroken
   abbrev pub ready : (M → Bool) → List (Arrived M) → ℕ → ℕ
@@ -62,7 +63,8 @@ module _ {M : Type 0} where
   -- the number is posted or, before the sign-off is posted, taken
   abbrev pub is_double : (M → Bool) → List (Arrived M) → ℕ → ℕ → Bool
   is_double signs taken s n =
-      nat_le n (ready signs taken s) || (not (is_signed signs taken s) && is_some (message_at taken s n))
+      nat_le n (ready signs taken s)
+      || (not (is_signed signs taken s) && is_some (message_at taken s n))
 
   -- the first refusal of number n of station s that holds, with this many stations
   abbrev pub refusal : (M → Bool) → ℕ → List (Arrived M) → ℕ → ℕ → Option Refusal

@@ -74,7 +74,8 @@ impl<M: Drop> Sequences<M> {
     /// where it is the station's next.
     pub fn take(&mut self, s: u32, n: u64, message: M) -> Taken
         requires { refusal_of self.old s n ≡ None }
-        ensures held { self.new ≡ slice_set self.old s (with_held (series_at self.old s) n message) }
+        ensures held { self.new
+            ≡ slice_set self.old s (with_held (series_at self.old s) n message) }
         ensures ready { result ≡ Taken.Ready ↔ (n ≡ (series_at self.old s).posted + 1) }
 
         // The list has it at its end, and what comes due of station `s` isn't posted yet.

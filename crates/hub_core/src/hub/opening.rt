@@ -18,8 +18,11 @@ pub(crate) fn prepare<R: Register>(
     setup: Setup,
     register: &mut R,
 ) -> Result<(Sequences<Message>, Ledger), StoreFault>
-    ensures prepared { IfOk result (λ p. IsPrepared (R.holding register.old) (R.holding register.new) setup p.0 p.1) }
-    ensures refused { IfErr result (λ fault. Comes (R.holding register.old) (R.holding register.new) (IsNotOpened setup fault)) }
+    ensures prepared { IfOk result
+        (λ p. IsPrepared (R.holding register.old) (R.holding register.new) setup p.0 p.1) }
+    ensures refused { IfErr result
+        (λ fault. Comes (R.holding register.old) (R.holding register.new)
+        (IsNotOpened setup fault)) }
     ensures bound { OnOk result (R.is_bound register.new ≡ true) }
     ensures count { CountsRefusal (R.refusals register.old) (R.refusals register.new) result }
 {
@@ -36,10 +39,15 @@ pub(crate) fn prepare<R: Register>(
 /// Binds the register to the setup, and makes a ledger of it with the register's depth limit and nothing posted.
 fn bound<R: Register>(alloc: Global, setup: Setup, register: &mut R) -> Result<Ledger, StoreFault>
     ensures new { IfOk result (λ ledger. (ledger.museum ≡ setup) × (ledger.posted ≡ [])) }
-    ensures bound { IfOk result (λ ledger. Has (R.holding register.new) (IsBoundTo setup ledger.depth)) }
-    ensures kept { OnOk result (Comes (R.holding register.old) (R.holding register.new) (IsBound setup)) }
-    ensures ready { OnOk result ((R.is_bound register.new ≡ true) × (R.stations register.new ≡ length setup.stations)) }
-    ensures refused { IfErr result (λ fault. Comes (R.holding register.old) (R.holding register.new) (IsNotOpened setup fault)) }
+    ensures bound { IfOk result
+        (λ ledger. Has (R.holding register.new) (IsBoundTo setup ledger.depth)) }
+    ensures kept { OnOk result
+        (Comes (R.holding register.old) (R.holding register.new) (IsBound setup)) }
+    ensures ready { OnOk result
+        ((R.is_bound register.new ≡ true) × (R.stations register.new ≡ length setup.stations)) }
+    ensures refused { IfErr result
+        (λ fault. Comes (R.holding register.old) (R.holding register.new)
+        (IsNotOpened setup fault)) }
     ensures count { CountsRefusal (R.refusals register.old) (R.refusals register.new) result }
 {
     match register.bind(alloc, &setup) {
@@ -59,10 +67,13 @@ fn restore<R: Register>(
     register: &mut R,
 ) -> Result<Sequences<Message>, StoreFault>
     requires new { ledger.old.posted ≡ [] }
-    requires ready { (R.is_bound register.old ≡ true) × (R.stations register.old ≡ length ledger.old.museum.stations) }
+    requires ready { (R.is_bound register.old ≡ true)
+        × (R.stations register.old ≡ length ledger.old.museum.stations) }
     requires bound { Has (R.holding register.old) (IsBoundTo ledger.old.museum ledger.old.depth) }
-    ensures restored { IfOk result (λ sequences. IsRestored (R.holding register.new) ledger.old sequences ledger.new) }
-    ensures fault { IfErr result (λ fault. Each (R.holding register.new) (λ c. IsRestoreFault ledger.old.museum c fault)) }
+    ensures restored { IfOk result
+        (λ sequences. IsRestored (R.holding register.new) ledger.old sequences ledger.new) }
+    ensures fault { IfErr result
+        (λ fault. Each (R.holding register.new) (λ c. IsRestoreFault ledger.old.museum c fault)) }
     ensures unchanged { Comes (R.holding register.old) (R.holding register.new) AreSame }
     ensures bound { R.is_bound register.new ≡ true }
     ensures count { CountsRefusal (R.refusals register.old) (R.refusals register.new) result }
@@ -76,8 +87,11 @@ fn restore<R: Register>(
 /// Compares the register's rows with those of the ledger.
 fn compare<R: Register>(alloc: Global, ledger: &Ledger, register: &mut R) -> Result<(), StoreFault>
     requires { R.is_bound register.old ≡ true }
-    ensures rows { OnOk result (Each (R.holding register.new) (HasRows ledger.now.museum ledger.now.posted)) }
-    ensures fault { IfErr result (λ fault. Each (R.holding register.new) (λ c. IsRowsFault ledger.now.museum ledger.now.posted c fault)) }
+    ensures rows { OnOk result
+        (Each (R.holding register.new) (HasRows ledger.now.museum ledger.now.posted)) }
+    ensures fault { IfErr result
+        (λ fault. Each (R.holding register.new)
+        (λ c. IsRowsFault ledger.now.museum ledger.now.posted c fault)) }
     ensures unchanged { Comes (R.holding register.old) (R.holding register.new) AreSame }
     ensures bound { R.is_bound register.new ≡ true }
     ensures count { CountsRefusal (R.refusals register.old) (R.refusals register.new) result }

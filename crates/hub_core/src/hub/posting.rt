@@ -32,8 +32,12 @@ pub(crate) fn post_due<R: Register>(
     ensures museum { ledger.new.museum ≡ ledger.old.museum }
     ensures depth { ledger.new.depth ≡ ledger.old.depth }
     ensures stations { length sequences.new ≡ length sequences.old }
-    ensures posted { OnOk result (PostsDue (R.holding register.old) (R.holding register.new) station sequences.old sequences.new ledger.old ledger.new) }
-    ensures stopped { OnErr result (StopsDue (R.holding register.old) (R.holding register.new) station sequences.old ledger.old ledger.new) }
+    ensures posted { OnOk result
+        (PostsDue (R.holding register.old)
+        (R.holding register.new) station sequences.old sequences.new ledger.old ledger.new) }
+    ensures stopped { OnErr result
+        (StopsDue (R.holding register.old)
+        (R.holding register.new) station sequences.old ledger.old ledger.new) }
     ensures bound { R.is_bound register.new ≡ true }
     ensures count { CountsStore (R.refusals register.old) (R.refusals register.new) result }
     ensures fault { IfErr result (λ fault. (fault ≡ HubFault.NoMemory) ⊎ (fault ≡ HubFault.Store)) }
@@ -59,10 +63,15 @@ fn post_next<R: Register>(
     message: Message,
 ) -> Result<(), HubFault>
     requires follows { Follows ledger.old.museum ledger.old.depth ledger.old.posted
-        (entry_of ledger.old.museum ledger.old.depth ledger.old.posted (arrived station n message)) }
+        (entry_of ledger.old.museum ledger.old.depth ledger.old.posted
+        (arrived station n message)) }
     requires bound { R.is_bound register.old ≡ true }
-    ensures posted { OnOk result (Posts (R.holding register.old) (R.holding register.new) ledger.old ledger.new (arrived station n message)) }
-    ensures left { OnErr result (LeavesUnposted (R.holding register.old) (R.holding register.new) ledger.old ledger.new (arrived station n message)) }
+    ensures posted { OnOk result
+        (Posts (R.holding register.old) (R.holding register.new) ledger.old ledger.new
+        (arrived station n message)) }
+    ensures left { OnErr result
+        (LeavesUnposted (R.holding register.old) (R.holding register.new) ledger.old ledger.new
+        (arrived station n message)) }
     ensures bound { R.is_bound register.new ≡ true }
     ensures count { CountsStore (R.refusals register.old) (R.refusals register.new) result }
     ensures fault { IfErr result (λ fault. (fault ≡ HubFault.NoMemory) ⊎ (fault ≡ HubFault.Store)) }

@@ -22,8 +22,10 @@ pub(crate) fn judged(
     entries: Vec<Entry>,
 ) -> Result<Vec<Start>, StoreFault>
     requires { ledger.old.posted ≡ [] }
-    ensures judged { IfOk result (λ starts. IsJudged ledger.old (reverse entries.items) starts.items ledger.new) }
-    ensures cause { IfErr result (λ fault. IsJudgeFault ledger.old.museum ledger.old.depth (reverse entries.items) fault) }
+    ensures judged { IfOk result
+        (λ starts. IsJudged ledger.old (reverse entries.items) starts.items ledger.new) }
+    ensures cause { IfErr result
+        (λ fault. IsJudgeFault ledger.old.museum ledger.old.depth (reverse entries.items) fault) }
 {
     let mut starts = no_starts(alloc, ledger.setup().stations())?;
     let mut left = entries;
@@ -42,10 +44,14 @@ fn judge_next(
     entry: Entry,
 ) -> Result<(), StoreFault>
     requires { InStep (map opened starts.old.items) ledger.old.museum ledger.old.posted }
-    ensures follows { OnOk result (Follows ledger.old.museum ledger.old.depth ledger.old.posted entry) }
-    ensures posted { OnOk result (ledger.new ≡ record ledger.old { posted = entry ∷ ledger.old.posted }) }
-    ensures in_step { OnOk result (InStep (map opened starts.new.items) ledger.new.museum ledger.new.posted) }
-    ensures cause { IfErr result (λ fault. IsEntryFault ledger.old.museum ledger.old.depth ledger.old.posted entry fault) }
+    ensures follows { OnOk result
+        (Follows ledger.old.museum ledger.old.depth ledger.old.posted entry) }
+    ensures posted { OnOk result
+        (ledger.new ≡ record ledger.old { posted = entry ∷ ledger.old.posted }) }
+    ensures in_step { OnOk result
+        (InStep (map opened starts.new.items) ledger.new.museum ledger.new.posted) }
+    ensures cause { IfErr result
+        (λ fault. IsEntryFault ledger.old.museum ledger.old.depth ledger.old.posted entry fault) }
 {
     let number = ledger.posted().len() as u64 + 1;
     let station = entry.station as usize;
@@ -83,7 +89,8 @@ fn is_same(a: Verdict, b: Verdict) -> bool
 
 /// A start for each station, with nothing posted.
 fn no_starts(alloc: Global, stations: u32) -> Result<Vec<Start>, NoMemory>
-    ensures { IfOk result (λ starts. starts.items ≡ replicate stations (record { posted = 0; signed = false })) }
+    ensures { IfOk result
+        (λ starts. starts.items ≡ replicate stations (record { posted = 0; signed = false })) }
 {
     let start = Start {
         posted: 0,

@@ -46,7 +46,9 @@ pub(crate) fn next_line<R: BufRead, W: Write>(
     reads: &mut Reads,
     line: &mut Vec<u8>,
 ) -> Result<bool, ReplayFault>
-    ensures line { IfOk result (λ fed. TakesLine (R.remaining input.old) (R.remaining input.new) MOST_KEPT line.new.items fed) }
+    ensures line { IfOk result
+        (λ fed. TakesLine (R.remaining input.old)
+        (R.remaining input.new) MOST_KEPT line.new.items fed) }
     ensures fault { OnErr result (TakesStart (R.remaining input.old) (R.remaining input.new)) }
     ensures output { Keeps (W.contents output.old) (W.contents output.new) }
     ensures cause { IfErr result (λ fault. fault ≢ ReplayFault.Store) }
@@ -94,9 +96,12 @@ pub(crate) fn take_piece<R: BufRead>(
     most: usize,
 ) -> Result<End, ReplayFault>
     requires { 0 < reads.old.left }
-    ensures piece { IfOk result (λ end. TakesPiece (R.remaining input.old) (R.remaining input.new) most line.old.items line.new.items end) }
+    ensures piece { IfOk result
+        (λ end. TakesPiece (R.remaining input.old)
+        (R.remaining input.new) most line.old.items line.new.items end) }
     ensures fault { OnErr result (Keeps (R.remaining input.old) (R.remaining input.new)) }
-    ensures cause { IfErr result (λ fault. (fault ≡ ReplayFault.NoMemory) ⊎ (fault ≡ ReplayFault.ReadFailed)) }
+    ensures cause { IfErr result
+        (λ fault. (fault ≡ ReplayFault.NoMemory) ⊎ (fault ≡ ReplayFault.ReadFailed)) }
     ensures reads { reads.new.left + 1 ≡ reads.old.left }
 {
     reads.left -= 1;
@@ -130,14 +135,17 @@ pub(crate) fn take_piece<R: BufRead>(
 pub fn feed_at(bytes: &[u8]) -> usize
     ensures within { result ≤ length bytes.now }
     ensures before { HasNoFeed (take result bytes.now) }
-    ensures feed { result < length bytes.now → take (result + 1) bytes.now ≡ take result bytes.now ++ 10 ∷ [] }
+    ensures feed { result < length bytes.now
+        → take (result + 1) bytes.now ≡ take result bytes.now ++ 10 ∷ [] }
 {
     memchr(b'\n', bytes).unwrap_or(bytes.len())
 }
 
 /// Keeps more bytes of a line, as far as there is room.
 fn keep(line: &mut Vec<u8>, most: usize, piece: &[u8]) -> Result<(), ReplayFault>
-    ensures kept { OnOk result ((bytes : List ℕ) → line.old.items ≡ take most bytes → line.new.items ≡ take most (bytes ++ piece.now)) }
+    ensures kept { OnOk result
+        ((bytes : List ℕ) → line.old.items ≡ take most bytes
+        → line.new.items ≡ take most (bytes ++ piece.now)) }
     ensures fault { IfErr result (λ fault. fault ≡ ReplayFault.NoMemory) }
 {
     let room = most.saturating_sub(line.len());

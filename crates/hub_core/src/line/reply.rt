@@ -63,7 +63,8 @@ fn read_reply<S: Register>(
     requires room { HasRoom text.old }
     ensures served { Serves S.holding S.refusals hub.old hub.new
         (string_bytes text.old) (string_bytes text.new)
-        (λ O A. read_reply hub.old.book.museum hub.old.book.depth O A number (line_in hub.old.book.museum line.now))
+        (λ O A. read_reply hub.old.book.museum hub.old.book.depth O A number
+        (line_in hub.old.book.museum line.now))
         (sent (line_in hub.old.book.museum line.now)) result }
     ensures capacity { string_capacity text.old ≤ string_capacity text.new }
 {
@@ -87,10 +88,12 @@ fn request_reply<S: Register>(
     requires room { HasRoom text.old }
     ensures served { Serves S.holding S.refusals hub.old hub.new
         (string_bytes text.old) (string_bytes text.new)
-        (λ O A. request_reply hub.old.book.museum hub.old.book.depth O A number line.station line.request)
+        (λ O A. request_reply hub.old.book.museum hub.old.book.depth O A number line.station
+        line.request)
         (sent_by line.station line.request) result }
     ensures fails { FailsOnlyWhere S.holding hub.old
-        (λ O A. line_can_fail hub.old.book.museum hub.old.book.depth O A line.station line.request) result }
+        (λ O A. line_can_fail hub.old.book.museum hub.old.book.depth O A line.station line.request)
+        result }
     ensures capacity { string_capacity text.old ≤ string_capacity text.new }
 {
     match line.station {
@@ -173,7 +176,8 @@ fn question_reply<S: Register>(
     requires known { station < length hub.now.book.museum.stations }
     ensures text { OnOk result (string_bytes text.new ≡ string_bytes text.old
         ++ asked_line (station_text hub.now.book.museum station) code.now
-        (place_text hub.now.book.museum (whereabouts hub.now.book.museum hub.now.book.posted code.now))) }
+        (place_text hub.now.book.museum
+        (whereabouts hub.now.book.museum hub.now.book.posted code.now))) }
     ensures fault { IfErr result (λ fault. fault ≡ HubFault.NoMemory) }
     ensures capacity { string_capacity text.old ≤ string_capacity text.new }
 {

@@ -31,7 +31,8 @@ pub struct Line {
 pub fn read_line(alloc: Global, setup: &Setup, bytes: &[u8]) -> Result<Line, ReadFault>
     ensures exact { MatchResult result (λ line. line_in setup.now bytes.now ≡ Ok line)
         (λ fault. fault ≢ ReadFault.NoMemory → line_in setup.now bytes.now ≡ Err fault) }
-    ensures within { IfOk result (λ line. IfSome line.station (λ s. s < length setup.now.stations)) }
+    ensures within { IfOk result
+        (λ line. IfSome line.station (λ s. s < length setup.now.stations)) }
 {
     read_line_with(alloc, &mut Scratch::new(alloc), setup, bytes)
 }
@@ -45,7 +46,8 @@ pub fn read_line_with(
 ) -> Result<Line, ReadFault>
     ensures exact { MatchResult result (λ line. line_in setup.now bytes.now ≡ Ok line)
         (λ fault. fault ≢ ReadFault.NoMemory → line_in setup.now bytes.now ≡ Err fault) }
-    ensures within { IfOk result (λ line. IfSome line.station (λ s. s < length setup.now.stations)) }
+    ensures within { IfOk result
+        (λ line. IfSome line.station (λ s. s < length setup.now.stations)) }
 {
     match Value::from_slice(alloc, bytes, scratch) {
         Ok(value) => line_of(alloc, setup, &value),
@@ -98,7 +100,8 @@ fn line_of<V: Fields>(alloc: Global, setup: &Setup, value: &V) -> Result<Line, R
         (λ fault. fault ≢ ReadFault.NoMemory → line_of setup.now (V.seen value.now) ≡ Err fault) }
     ensures gives_up { result ≡ Err ReadFault.NoMemory
         → has_growing_message (V.seen value.now) ≡ true }
-    ensures within { IfOk result (λ line. IfSome line.station (λ s. s < length setup.now.stations)) }
+    ensures within { IfOk result
+        (λ line. IfSome line.station (λ s. s < length setup.now.stations)) }
 {
     if !value.has_members() {
         return Err(ReadFault::NotJson);

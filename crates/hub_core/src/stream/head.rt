@@ -18,7 +18,8 @@ pub(crate) fn read_head<R: BufRead>(
     input: &mut R,
     reads: &mut Reads,
 ) -> Result<Vec<u8>, RunFault>
-    ensures head { IfOk result (λ head. TakesHead (R.remaining input.old) (R.remaining input.new) head.items) }
+    ensures head { IfOk result
+        (λ head. TakesHead (R.remaining input.old) (R.remaining input.new) head.items) }
     ensures fault { IfErr result (BeforeLines (R.remaining input.old) (R.remaining input.new)) }
     ensures reads { OnOk result (reads.new.left < reads.old.left) }
 {
@@ -68,8 +69,11 @@ fn next_head_line<R: BufRead>(
     room: usize,
 ) -> Result<bool, RunFault>
     requires { room ≤ LONGEST_HEAD }
-    ensures line { IfOk result (λ fed. TakesLine (R.remaining input.old) (R.remaining input.new) (room + 2) line.new.items fed) }
-    ensures fault { IfErr result (λ fault. StopsInLine (R.remaining input.old) (R.remaining input.new) room fault) }
+    ensures line { IfOk result
+        (λ fed. TakesLine (R.remaining input.old) (R.remaining input.new)
+        (room + 2) line.new.items fed) }
+    ensures fault { IfErr result
+        (λ fault. StopsInLine (R.remaining input.old) (R.remaining input.new) room fault) }
     ensures reads { OnOk result (reads.new.left < reads.old.left) }
 {
     line.clear();

@@ -32,14 +32,21 @@ pub fn replay<R: BufRead, W: Write, S: Register>(
     requires { hub.old.down ≡ false }
     // For every list of arrivals that the hub stands for: all bytes are read, what is written is their text, and the
     // hub stands for the list with their arrivals.
-    ensures bytes_to_bytes { OnOk result ((O : List Entry) (A : List Arrival) → StandsFor S.holding hub.old O A → IfSome (R.remaining input.old) (λ bytes.
+    ensures bytes_to_bytes { OnOk result
+        ((O : List Entry) (A : List Arrival) → StandsFor S.holding hub.old O A
+        → IfSome (R.remaining input.old) (λ bytes.
         IsAtEnd (R.remaining input.new)
-        × Appends (W.contents output.old) (W.contents output.new) (text hub.old.book.museum hub.old.book.depth O A bytes)
+        × Appends (W.contents output.old) (W.contents output.new)
+        (text hub.old.book.museum hub.old.book.depth O A bytes)
         × StandsFor S.holding hub.new O (A ++ arrivals hub.old.book.museum bytes))) }
     // Whether or not the reader's bytes are known, those that were read are answered, and the reader is at its end.
-    ensures answered { OnOk result ((O : List Entry) (A : List Arrival) → StandsFor S.holding hub.old O A →
-        Answered hub.old.book.museum hub.old.book.depth O A (R.remaining input.old) (R.remaining input.new) (W.contents output.old) (W.contents output.new) S.holding hub.new true) }
-    ensures ends { EndsReplay S.holding S.refusals (R.remaining input.old) (R.remaining input.new) (W.contents output.old) (W.contents output.new) hub.old hub.new result }
+    ensures answered { OnOk result
+        ((O : List Entry) (A : List Arrival) → StandsFor S.holding hub.old O A →
+        Answered hub.old.book.museum hub.old.book.depth O A (R.remaining input.old)
+        (R.remaining input.new) (W.contents output.old)
+        (W.contents output.new) S.holding hub.new true) }
+    ensures ends { EndsReplay S.holding S.refusals (R.remaining input.old) (R.remaining input.new)
+        (W.contents output.old) (W.contents output.new) hub.old hub.new result }
 {
     replay_from(alloc, input, output, hub, &mut Reads::new())
 }
@@ -54,9 +61,13 @@ pub(crate) fn replay_from<R: BufRead, W: Write, S: Register>(
     reads: &mut Reads,
 ) -> Result<(), ReplayFault>
     requires { hub.old.down ≡ false }
-    ensures answered { OnOk result ((O : List Entry) (A : List Arrival) → StandsFor S.holding hub.old O A →
-        Answered hub.old.book.museum hub.old.book.depth O A (R.remaining input.old) (R.remaining input.new) (W.contents output.old) (W.contents output.new) S.holding hub.new true) }
-    ensures ends { EndsReplay S.holding S.refusals (R.remaining input.old) (R.remaining input.new) (W.contents output.old) (W.contents output.new) hub.old hub.new result }
+    ensures answered { OnOk result
+        ((O : List Entry) (A : List Arrival) → StandsFor S.holding hub.old O A →
+        Answered hub.old.book.museum hub.old.book.depth O A (R.remaining input.old)
+        (R.remaining input.new) (W.contents output.old)
+        (W.contents output.new) S.holding hub.new true) }
+    ensures ends { EndsReplay S.holding S.refusals (R.remaining input.old) (R.remaining input.new)
+        (W.contents output.old) (W.contents output.new) hub.old hub.new result }
     ensures reads { OnOk result (reads.new.left < reads.old.left) }
 {
     let mut line = Vec::new(alloc);
@@ -86,7 +97,8 @@ pub(crate) fn replay_from<R: BufRead, W: Write, S: Register>(
 /// same, but doesn't promise that what it wrote before it failed is a front of them.
 fn write_text<W: Write>(output: &mut W, text: &[u8]) -> Result<(), ReplayFault>
     ensures ok { OnOk result (Appends (W.contents output.old) (W.contents output.new) text.now) }
-    ensures fault { OnErr result ((k : ℕ) × Appends (W.contents output.old) (W.contents output.new) (take k text.now)) }
+    ensures fault { OnErr result
+        ((k : ℕ) × Appends (W.contents output.old) (W.contents output.new) (take k text.now)) }
     ensures cause { IfErr result (λ fault. fault ≡ ReplayFault.WriteFailed) }
 {
     let mut done = 0;

@@ -23,9 +23,13 @@ pub fn run<R: BufRead, W: Write>(
     output: &mut W,
 ) -> Result<(), RunFault>
     // All bytes are read, their head has no fault, and what is written is their text.
-    ensures bytes_to_bytes { OnOk result (IfSome (R.remaining input.old) (λ bytes. (head_fault (head bytes) ≡ None)
-        × IsAtEnd (R.remaining input.new) × Appends (W.contents output.old) (W.contents output.new) (run_text bytes))) }
-    ensures faults { IfErr result (AfterRun (R.remaining input.old) (R.remaining input.new) (W.contents output.old) (W.contents output.new)) }
+    ensures bytes_to_bytes { OnOk result
+        (IfSome (R.remaining input.old) (λ bytes. (head_fault (head bytes) ≡ None)
+        × IsAtEnd (R.remaining input.new)
+        × Appends (W.contents output.old) (W.contents output.new) (run_text bytes))) }
+    ensures faults { IfErr result
+        (AfterRun (R.remaining input.old) (R.remaining input.new) (W.contents output.old)
+        (W.contents output.new)) }
     // Its register is in memory.
     ensures never_store { IfErr result (λ fault. fault ≢ RunFault.Store) }
 {
@@ -39,9 +43,13 @@ fn run_counted<R: BufRead, W: Write>(
     output: &mut W,
     reads: &mut Reads,
 ) -> Result<(), RunFault>
-    ensures bytes_to_bytes { OnOk result (IfSome (R.remaining input.old) (λ bytes. (head_fault (head bytes) ≡ None)
-        × IsAtEnd (R.remaining input.new) × Appends (W.contents output.old) (W.contents output.new) (run_text bytes))) }
-    ensures faults { IfErr result (AfterRun (R.remaining input.old) (R.remaining input.new) (W.contents output.old) (W.contents output.new)) }
+    ensures bytes_to_bytes { OnOk result
+        (IfSome (R.remaining input.old) (λ bytes. (head_fault (head bytes) ≡ None)
+        × IsAtEnd (R.remaining input.new)
+        × Appends (W.contents output.old) (W.contents output.new) (run_text bytes))) }
+    ensures faults { IfErr result
+        (AfterRun (R.remaining input.old) (R.remaining input.new) (W.contents output.old)
+        (W.contents output.new)) }
     ensures never_store { IfErr result (λ fault. fault ≢ RunFault.Store) }
     ensures reads { OnOk result (reads.new.left + 2 ≤ reads.old.left) }
 {

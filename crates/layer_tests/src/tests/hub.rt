@@ -166,7 +166,9 @@ fn opened_anew<R: Register>(
     hub: Hub<R>,
     setup: Setup,
 ) -> Result<Hub<R>, OpenFault<R>>
-    ensures { IfErr result (λ failed. setup ≡ hub.book.museum → (R.holding failed.register).is_quiet → is_failure failed.fault ≡ true) }
+    ensures { IfErr result
+        (λ failed. setup ≡ hub.book.museum → (R.holding failed.register).is_quiet
+        → is_failure failed.fault ≡ true) }
 {
     Hub::open(alloc, setup, hub.close())
 }

@@ -100,12 +100,7 @@ pub fn stopped<
     T: Threads + Wait + Abort + Copy + Send + 'static,
     R: Register + Drop,
     F: Feed + Drop + Send + 'static,
->(
-    rt: &T,
-    alloc: Global,
-    hub: Hub<R>,
-    feeds: Vec<F>,
-) -> Result<(String, Option<ServeFault>), Fail> {
+>(rt: &T, alloc: Global, hub: Hub<R>, feeds: Vec<F>) -> Result<(String, Option<ServeFault>), Fail> {
     can_serve(rt, &hub, &feeds);
     match serve(rt, alloc, hub, feeds) {
         Ok(Served { hub, log }) => {

@@ -23,8 +23,12 @@ impl Ledger {
         loan: &LoanCode,
         day: Day,
     ) -> Result<Verdict, NoMemory>
-        ensures ok { IfOk result (λ verdict. verdict ≡ first_of (exit_rows self.now.museum self.now.posted thing.now loan.now day)) }
-        ensures err { OnErr result (hangs_on_lines (first_of (exit_rows self.now.museum self.now.posted thing.now loan.now day)) ≡ true) }
+        ensures ok { IfOk result
+            (λ verdict.
+            verdict ≡ first_of (exit_rows self.now.museum self.now.posted thing.now loan.now day)) }
+        ensures err { OnErr result
+            (hangs_on_lines
+            (first_of (exit_rows self.now.museum self.now.posted thing.now loan.now day)) ≡ true) }
     {
         let Some(x) = self.setup.thing(thing) else {
             return Ok(Verdict::UnknownThing);
@@ -51,8 +55,14 @@ impl Ledger {
         loan: &LoanCode,
         place: &PlaceCode,
     ) -> Result<Verdict, NoMemory>
-        ensures ok { IfOk result (λ verdict. verdict ≡ first_of (return_rows self.now.museum self.now.posted thing.now loan.now place.now)) }
-        ensures err { OnErr result (hangs_on_lines (first_of (return_rows self.now.museum self.now.posted thing.now loan.now place.now)) ≡ true) }
+        ensures ok { IfOk result
+            (λ verdict.
+            verdict ≡ first_of
+            (return_rows self.now.museum self.now.posted thing.now loan.now place.now)) }
+        ensures err { OnErr result
+            (hangs_on_lines
+            (first_of (return_rows self.now.museum self.now.posted thing.now loan.now place.now))
+            ≡ true) }
     {
         let Some(x) = self.setup.thing(thing) else {
             return Ok(Verdict::UnknownThing);
@@ -86,8 +96,14 @@ impl Ledger {
         place: &PlaceCode,
         day: Day,
     ) -> Result<Verdict, NoMemory>
-        ensures ok { IfOk result (λ verdict. verdict ≡ first_of (receive_rows self.now.museum self.now.posted thing.now loan.now place.now day)) }
-        ensures err { OnErr result (hangs_on_lines (first_of (receive_rows self.now.museum self.now.posted thing.now loan.now place.now day)) ≡ true) }
+        ensures ok { IfOk result
+            (λ verdict.
+            verdict ≡ first_of
+            (receive_rows self.now.museum self.now.posted thing.now loan.now place.now day)) }
+        ensures err { OnErr result
+            (hangs_on_lines
+            (first_of (receive_rows self.now.museum self.now.posted thing.now loan.now place.now
+            day)) ≡ true) }
     {
         let Some(x) = self.setup.thing(thing) else {
             return Ok(Verdict::UnknownThing);
@@ -127,7 +143,8 @@ impl Ledger {
         day: Day,
     ) -> Result<Verdict, NoMemory>
         requires known { x < length self.now.museum.things }
-        requires lines { (o : ℕ) → line_of kept.now o ≡ line self.now.museum self.now.posted loan.now o }
+        requires lines { (o : ℕ)
+            → line_of kept.now o ≡ line self.now.museum self.now.posted loan.now o }
         requires last { last_day self.now.posted loan.now ≡ Some kept.now.last }
         ensures { IfOk result (λ verdict. verdict ≡ first_of (line_rows
             (line self.now.museum self.now.posted loan.now) (wanted_by_exit loan.now)

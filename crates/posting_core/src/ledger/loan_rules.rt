@@ -18,7 +18,9 @@ impl Ledger {
         first: Day,
         last: Day,
     ) -> Verdict
-        ensures { result ≡ first_of (agree_rows self.now.museum self.now.posted loan.now partner.now objects.now first last) }
+        ensures { result
+            ≡ first_of (agree_rows self.now.museum self.now.posted loan.now partner.now objects.now
+            first last) }
     {
         if self.any_unknown(objects) {
             return Verdict::UnknownThing;

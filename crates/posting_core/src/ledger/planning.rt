@@ -30,8 +30,13 @@ impl Ledger {
     ) -> Result<NewSpots, NoMemory>
         requires judged { verdict ≡ verdict_in self.now message.now }
         requires number { entry ≡ length self.now.posted + 1 }
-        ensures ok { IfOk result (λ spots. spots ≡ (if is_applied verdict then new_spots self.now.museum self.now.posted message.now else [])) }
-        ensures err { OnErr result ((is_applied verdict && is_some (put_in self.now.museum self.now.posted message.now)) ≡ true) }
+        ensures ok { IfOk result
+            (λ spots. spots
+            ≡ (if is_applied verdict then new_spots self.now.museum self.now.posted message.now
+            else [])) }
+        ensures err { OnErr result
+            ((is_applied verdict && is_some (put_in self.now.museum self.now.posted message.now))
+            ≡ true) }
     {
         match verdict {
             Verdict::Applied => self.new_spots(alloc, message, entry),
@@ -43,8 +48,10 @@ impl Ledger {
     fn new_spots(&self, alloc: Global, message: &Message, entry: u64) -> Result<NewSpots, NoMemory>
         requires applied { verdict_in self.now message.now ≡ Applied }
         requires number { entry ≡ length self.now.posted + 1 }
-        ensures ok { IfOk result (λ spots. spots ≡ new_spots self.now.museum self.now.posted message.now) }
-        ensures err { OnErr result (is_some (put_in self.now.museum self.now.posted message.now) ≡ true) }
+        ensures ok { IfOk result
+            (λ spots. spots ≡ new_spots self.now.museum self.now.posted message.now) }
+        ensures err { OnErr result
+            (is_some (put_in self.now.museum self.now.posted message.now) ≡ true) }
     {
         let Some(put) = self.put_of(message) else {
             return Ok(NewSpots::new(alloc));
@@ -69,7 +76,11 @@ impl Ledger {
         entry: u64,
     ) -> Result<NewSpots, NoMemory>
         requires { All (λ y. y < length self.now.museum.things) things.now }
-        ensures { IfOk result (λ spots. spots ≡ filter_map (λ y. new_spot entry (length (spots_in self.now y)) (place_in self.now y) (Some place) (Some day) y) things.now) }
+        ensures { IfOk result
+            (λ spots. spots
+            ≡ filter_map
+            (λ y. new_spot entry (length (spots_in self.now y)) (place_in self.now y) (Some place)
+            (Some day) y) things.now) }
     {
         let mut spots = NewSpots::new(alloc);
         for i in 0..things.len() {
@@ -82,7 +93,9 @@ impl Ledger {
 
     fn spot_at(&self, thing: ThingNo, place: PlaceNo, day: Day, entry: u64) -> Option<NewSpot>
         requires { thing < length self.now.museum.things }
-        ensures { result ≡ new_spot entry (length (spots_in self.now thing)) (place_in self.now thing) (Some place) (Some day) thing }
+        ensures { result
+            ≡ new_spot entry (length (spots_in self.now thing)) (place_in self.now thing)
+            (Some place) (Some day) thing }
     {
         if self.place_of(thing) == Some(place) {
             return None;
@@ -156,7 +169,10 @@ impl Ledger {
         verdict: Verdict,
     ) -> Result<NewLines, NoMemory>
         requires judged { verdict ≡ verdict_in self.now message.now }
-        ensures ok { IfOk result (λ lines. lines ≡ (if is_applied verdict then new_lines self.now.museum self.now.posted message.now else [])) }
+        ensures ok { IfOk result
+            (λ lines. lines
+            ≡ (if is_applied verdict then new_lines self.now.museum self.now.posted message.now
+            else [])) }
         ensures err { OnErr result ((is_applied verdict && has_lines message.now) ≡ true) }
     {
         match verdict {
@@ -168,7 +184,8 @@ impl Ledger {
     /// The lines of an applied message: an agreement's are all awaited, those of a crossing get its stage.
     fn new_lines(&self, alloc: Global, message: &Message) -> Result<NewLines, NoMemory>
         requires applied { verdict_in self.now message.now ≡ Applied }
-        ensures ok { IfOk result (λ lines. lines ≡ new_lines self.now.museum self.now.posted message.now) }
+        ensures ok { IfOk result
+            (λ lines. lines ≡ new_lines self.now.museum self.now.posted message.now) }
         ensures err { OnErr result (has_lines message.now ≡ true) }
     {
         match message {
@@ -202,7 +219,10 @@ impl Ledger {
         stage: LineStage,
     ) -> Result<NewLines, NoMemory>
         requires { is_known self.now.museum thing.now ≡ true }
-        ensures { IfOk result (λ lines. lines ≡ map (λ o. record { loan = loan; object = o; stage = stage }) (objects_in self.now.museum self.now.posted thing.now)) }
+        ensures { IfOk result
+            (λ lines. lines
+            ≡ map (λ o. record { loan = loan; object = o; stage = stage })
+            (objects_in self.now.museum self.now.posted thing.now)) }
     {
         let objects = self.objects_with(alloc, thing_no(&self.setup, thing))?;
         lines_of(alloc, loan, &objects, stage)
@@ -215,7 +235,8 @@ impl Ledger {
         thing: ThingNo,
     ) -> Result<Vec<ThingNo>, NoMemory>
         requires { thing < length self.now.museum.things }
-        ensures { IfOk result (λ objects. objects.items ≡ objects_with self.now.museum self.now.posted thing) }
+        ensures { IfOk result
+            (λ objects. objects.items ≡ objects_with self.now.museum self.now.posted thing) }
     {
         let carried = self.nest.carried(alloc, thing)?;
         objects_among(alloc, &self.setup, carried.as_slice())
@@ -225,7 +246,8 @@ impl Ledger {
 /// The things that are no containers.
 fn objects_among(alloc: Global, setup: &Setup, things: &[ThingNo]) -> Result<Vec<ThingNo>, NoMemory>
     requires { All (λ y. y < length setup.now.things) things.now }
-    ensures { IfOk result (λ objects. objects.items ≡ filter (λ o. not (is_container setup.now o)) things.now) }
+    ensures { IfOk result
+        (λ objects. objects.items ≡ filter (λ o. not (is_container setup.now o)) things.now) }
 {
     let mut objects = Vec::new(alloc);
     for i in 0..things.len() {
@@ -254,7 +276,9 @@ fn lines_of(
     objects: &[ThingNo],
     stage: LineStage,
 ) -> Result<NewLines, NoMemory>
-    ensures { IfOk result (λ lines. lines ≡ map (λ o. record { loan = loan; object = o; stage = stage }) objects.now) }
+    ensures { IfOk result
+        (λ lines. lines
+        ≡ map (λ o. record { loan = loan; object = o; stage = stage }) objects.now) }
 {
     let mut lines = NewLines::new(alloc);
     for i in 0..objects.len() {

@@ -15,7 +15,8 @@ use nest_core::{PackBar, ThingNo};
 
 impl Ledger {
     pub(crate) fn judge_move(&self, thing: &ThingCode, place: &PlaceCode) -> Verdict
-        ensures { result ≡ first_of (move_rows self.now.museum self.now.posted thing.now place.now) }
+        ensures { result
+            ≡ first_of (move_rows self.now.museum self.now.posted thing.now place.now) }
     {
         let Some(x) = self.setup.thing(thing) else {
             return Verdict::UnknownThing;
@@ -33,7 +34,9 @@ impl Ledger {
     }
 
     pub(crate) fn judge_pack(&self, thing: &ThingCode, container: &ThingCode) -> Verdict
-        ensures { result ≡ first_of (pack_rows self.now.museum self.now.depth self.now.posted thing.now container.now) }
+        ensures { result
+            ≡ first_of (pack_rows self.now.museum self.now.depth self.now.posted thing.now
+            container.now) }
     {
         let Some(x) = self.setup.thing(thing) else {
             return Verdict::UnknownThing;
@@ -56,7 +59,9 @@ impl Ledger {
 
     /// The number of a container of the setup.
     fn container(&self, code: &ThingCode) -> Option<ThingNo>
-        ensures found { result ≡ (if is_known_container self.now.museum code.now then find_thing self.now.museum code.now else None) }
+        ensures found { result
+            ≡ (if is_known_container self.now.museum code.now
+            then find_thing self.now.museum code.now else None) }
         ensures within { IfSome result (λ c. c < length self.now.museum.things) }
     {
         let thing = self.setup.thing(code)?;
@@ -80,7 +85,8 @@ impl Ledger {
     /// Whether a thing's place is inside; without a place it isn't.
     pub(crate) fn is_inside(&self, thing: ThingNo) -> bool
         requires { thing < length self.now.museum.things }
-        ensures { result ≡ option_map_or (is_inside self.now.museum) (place_in self.now thing) false }
+        ensures { result
+            ≡ option_map_or (is_inside self.now.museum) (place_in self.now thing) false }
     {
         match self.place_of(thing) {
             Some(place) => self.setup.is_inside(place),
@@ -92,7 +98,9 @@ impl Ledger {
     fn pack_bar(&self, thing: ThingNo, container: ThingNo) -> Option<PackBar>
         requires thing { thing < length self.now.museum.things }
         requires container { container < length self.now.museum.things }
-        ensures { result ≡ pack_bar (last (puts self.now.museum self.now.posted)) (length self.now.museum.things) self.now.depth thing container }
+        ensures { result
+            ≡ pack_bar (last (puts self.now.museum self.now.posted))
+            (length self.now.museum.things) self.now.depth thing container }
     {
         self.nest.test_pack(thing, container)
     }
