@@ -1,6 +1,7 @@
 -- The places in which a place lies: each that its code lies in stands once among them, and no other.
 use Rattle.std.specs.Prelude.{All, is_none, ℕ, ◌≡◌, ◌+◌, ◌<◌, ◌≤◌, ◌==◌, ◌&&◌, ◌||◌, Bool, true, false, cond, nat_lt, List, [], ◌∷◌, ◌++◌, length, drop, take, map, filter, Option, Some, None, if◌then◌else◌, zero, suc, refl}
 use Rattle.std.proofs.Common.{arith, ap, sym, subst, ◌∙◌}
+use Rattle.std.proofs.Math.Seq.{drop-length, take-length}
 use Rattle.std.proofs.lemmas.Bool.{and_parts, false_from_ne_true}
 use Rattle.std.proofs.lemmas.Bool.Decides.{nat_tests}
 use Rattle.std.proofs.lemmas.List.{map-id, length-map, length-take, length-take-le}
@@ -17,7 +18,7 @@ use Rattle.codes_core.specs.declared.fault.CodeFault.{CodeFault}
 use Rattle.codes_core.proofs.Segments.{lies_in_front}
 use Rattle.nest_core.specs.Museum.{Museum, IsMuseum, find_place, is_place_row, place_code_of, place_codes}
 use Rattle.nest_core.proofs.Positions.{position_unlike}
-use Rattle.count_core.specs.Inside.{outer_place, outer_places}
+use Rattle.count_core.specs.Inside.{outer_place, outer_places, outer_of}
 use Rattle.count_core.proofs.Flags.{by_bool}
 
 -- what is found has the code that was sought
@@ -118,6 +119,16 @@ not_both m n = by_bool (nat_lt m n)
 pub fronts_more : (S : Museum) (text : List ℕ) (n : ℕ) → filter_map (outer_place S text) (range_with_len 0 (n + 1)) ≡ filter_map (outer_place S text) (range_with_len 0 n) ++ cons_option (outer_place S text n) []
 fronts_more S text n =
     ap (filter_map (outer_place S text)) (range_more n) ∙ filter_map-append (outer_place S text) (range_with_len 0 n) (n ∷ [])
+
+-- the last of them is the place itself
+pub itself_last : (S : Museum) (text : List ℕ) (q : ℕ) → IsMuseum S → place_code_of S q ≡ Some text
+    → filter_map (outer_place S text) (range_with_len 0 (length text)) ++ q ∷ [] ≡ outer_of S q
+itself_last S text q is at =
+    let fronts = filter_map (outer_place S text) (range_with_len 0 (length text)) in
+    let whole : outer_place S text (length text) ≡ Some q =
+    ap (λ (xs : List ℕ). if ends_segment xs then find_place S (take (length text) text) else None) (drop-length text)
+    ∙ (ap (find_place S) (take-length text) ∙ is.each_place q text at) in
+    sym (ap (λ o. option_map_or (outer_places S) o []) at ∙ (fronts_more S text (length text) ∙ ap (λ o. fronts ++ cons_option o []) whole))
 
 -- of the fronts up to n, place q is one at most
 once : (S : Museum) (text code : List ℕ) (q : ℕ) → IsMuseum S → place_code_of S q ≡ Some code → (n : ℕ) → n ≤ length text + 1

@@ -31,7 +31,7 @@ pub(crate) fn marked(
         (length ledger.now.museum.things) rows.now m.named.items) }
 {
     let mut flags = vec![in alloc; false; ledger.setup().things() as usize]?;
-    let mut done = Vec::new(alloc);
+    let mut done = Vec::with_capacity(alloc, rows.len())?;
     for i in 0..rows.len() {
         let first = looked_in(looked, i);
         let answer = marked_one(&mut flags, first);

@@ -1,7 +1,7 @@
 //! The places that a place lies in, found by its code.
-ghost use Rattle.std.specs.Prelude.{◌≡◌, ◌≤◌, IfOk, length};
+ghost use Rattle.std.specs.Prelude.{◌≡◌, ◌<◌, ◌≤◌, IfOk, length};
 ghost use Rattle.codes_core.specs.Place.{ends_segment};
-ghost use Rattle.count_core.specs.Inside.{outer_place, outer_places, outer_of_each, lists};
+ghost use Rattle.count_core.specs.Inside.{outer_place, outer_of, outer_of_each, lists};
 
 use codes_core::{NoMemory, PlaceCode};
 use nest_core::{PlaceNo, Setup};
@@ -11,25 +11,29 @@ use std::alloc::Global;
 pub(crate) fn outer_of_each(alloc: Global, setup: &Setup) -> Result<Vec<Vec<PlaceNo>>, NoMemory>
     ensures { IfOk result (λ v. lists v.items ≡ outer_of_each setup.now) }
 {
-    let mut outer = Vec::new(alloc);
+    let mut outer = Vec::with_capacity(alloc, setup.places() as usize)?;
     for place in 0..setup.places() {
-        let places = outer_places(alloc, setup, &setup.place_code(place))?;
+        let places = outer_places(alloc, setup, place)?;
         outer.push(places)?;
     }
     Ok(outer)
 }
 
-/// The places in which one with the code lies, itself and at most three around it, outermost first.
-fn outer_places(alloc: Global, setup: &Setup, code: &PlaceCode) -> Result<Vec<PlaceNo>, NoMemory>
-    ensures { IfOk result (λ v. v.items ≡ outer_places setup.now code.now) }
+/// The places in which a place lies: at most three around it, outermost first, and then itself.
+fn outer_places(alloc: Global, setup: &Setup, place: PlaceNo) -> Result<Vec<PlaceNo>, NoMemory>
+    requires { place < length setup.now.places }
+    ensures { IfOk result (λ v. v.items ≡ outer_of setup.now place) }
 {
+    setup.is_museum();
+    let code = setup.place_code(place);
     let text = code.as_str().as_bytes();
     let mut places = Vec::new(alloc);
-    for end in 0..text.len() + 1 {
-        if let Some(place) = outer_place(setup, text, end) {
-            places.push(place)?;
+    for end in 0..text.len() {
+        if let Some(outer) = outer_place(setup, text, end) {
+            places.push(outer)?;
         }
     }
+    places.push(place)?;
     Ok(places)
 }
 

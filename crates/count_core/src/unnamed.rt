@@ -31,7 +31,7 @@ pub(crate) fn unnamed_in_each(
 fn empty_lists(alloc: Global, count: u32) -> Result<Vec<Vec<ThingNo>>, AllocError>
     ensures { IfOk result (λ v. lists v.items ≡ replicate count []) }
 {
-    let mut empty = Vec::new(alloc);
+    let mut empty = Vec::with_capacity(alloc, count as usize)?;
     for _ in 0..count {
         empty.push(Vec::new(alloc))?;
     }

@@ -2,8 +2,7 @@ use Rattle.std.proofs.Common.{ℕ, List, Vec, Global, [], ◌∷◌, ◌++◌, m
 use Rattle.std.proofs.lemmas.List.{map-append}
 use Rattle.std.proofs.lemmas.List.FromFn.{map-range_with_len_more}
 use Rattle.std.specs.List.{range_with_len}
-use Rattle.std.specs.Option.{option_map_or}
-use Rattle.count_core.specs.Inside.{outer_of, outer_places, lists}
+use Rattle.count_core.specs.Inside.{outer_of, lists}
 use Rattle.count_core.proofs.outer.outer_of_each.Goals as goal
 
 pub loop-place-preserved : goal.loop-place-preserved
@@ -11,7 +10,7 @@ loop-place-preserved c =
     let S = c.args.setup.now in
     let place = c.loop-place.place in
     let new = c.in_ok-places.places in
-    let own = c.in_ok-places.ensures ∙ sym (ap (λ (o : _). option_map_or (outer_places S) o []) c.place_code.ensures) in
+    let own = c.in_ok-places.ensures in
     ap lists c.in_ok-push.ensures.items
     ∙ (map-append (λ (v : Vec ℕ Global). v.items) c.loop-place.outer.items (new ∷ [])
     ∙ (ap (λ (xss : List (List ℕ)). xss ++ new.items ∷ []) c.loop-place.invariant
