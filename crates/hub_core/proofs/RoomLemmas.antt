@@ -1,18 +1,19 @@
 -- How long replies are.
-use Rattle.std.proofs.Common.{◌≡◌, ℕ, ◌+◌, ◌<◌, ◌≤◌, ◌^◌, true, true≢false, List, length, Some, Result, Ok, Err, sym, subst, arith, length-append}
+use Rattle.std.proofs.Common.{◌≡◌, ℕ, suc, ◌+◌, ◌<◌, ◌≤◌, ◌^◌, true, true≢false, List, [], ◌∷◌, length, Some, Result, Ok, Err, refl, ap, sym, subst, arith, length-append}
 use Rattle.std.proofs.lemmas.Bool.{and_parts}
 use Rattle.std.proofs.lemmas.Bool.Decides.{nat_tests}
 use Rattle.std.proofs.lemmas.Fmt.{length-decimal-le}
-use Rattle.std.specs.Prelude.{◌&&◌, nat_lt, nat_le, codes, IsOk, OnErr}
+use Rattle.std.specs.Prelude.{◌&&◌, nat_lt, nat_le, codes, flat_map, unwrap_or, IsOk, OnErr}
 use Rattle.std.specs.Fmt.{decimal}
 use Rattle.std.specs.List.{list_all}
-use Rattle.nest_core.specs.Museum.{Museum, station_name_of}
+use Rattle.nest_core.specs.Museum.{Museum, station_name_of, thing_code_of}
 use Rattle.nest_core.specs.StationName.{is_station_name, is_station_byte}
 use Rattle.nest_core.proofs.Positions.{passes_at}
 use Rattle.station_core.specs.declared.Refusal.{Refusal}
 use Rattle.station_core.specs.declared.Refusal.TheVariants.{UnknownStation, BadNumber, Double, SignedOff, TooEarly}
 use Rattle.station_core.specs.Refusals.{refusal_name}
 use Rattle.hub_core.specs.declared.line.wording.TheConstants.{REPLY_ROOM}
+use Rattle.hub_core.specs.LineText.{chain_text, container_text}
 use Rattle.hub_core.specs.Replies.{refused_line, unknown_station_line, held_line, bad_line}
 
 digits_few : (n : ℕ) → n < 2 ^ 64 → length (decimal n) ≤ 20
@@ -57,3 +58,12 @@ module _ (used room : ℕ) (has : used + REPLY_ROOM ≤ room) (n : ℕ) (small :
 pub no_fault : {T E : Type 0} (r : Result T E) (P : Type 0) → IsOk r → OnErr r P
 no_fault (Ok x) P is = tt
 no_fault (Err e) P is = absurd (true≢false (sym is))
+
+-- the text of containers, where there are any
+pub chain_length : (S : Museum) (cs : List ℕ) (i : ℕ) → i < length cs → length (chain_text S cs) ≡ suc (suc (suc (length (flat_map (container_text S) cs))))
+chain_length S [] i within = absurd (omega arith)
+chain_length S (c ∷ cs) i within = refl
+
+-- the text of one container
+pub container_length : (S : Museum) (x : ℕ) (code : List ℕ) → thing_code_of S x ≡ Some code → length (container_text S x) ≡ suc (length code)
+container_length S x code is = ap (λ it. suc (length (unwrap_or it []))) is

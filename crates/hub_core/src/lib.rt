@@ -15,7 +15,7 @@ pub use line::reply::LONGEST_LINE;
 pub use line::request::{
     Line, Request, read_line, read_line_with, read_request, read_request_with,
 };
-pub use line::wording::{REPLY_ROOM, add_answer, add_asked, add_fault};
+pub use line::wording::{REPLY_ROOM, add_answer, add_asked, add_bad, add_too_long};
 pub use replay_fault::ReplayFault;
 pub use run_fault::RunFault;
 pub use stream::head::LONGEST_HEAD;

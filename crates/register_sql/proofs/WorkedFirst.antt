@@ -1,7 +1,9 @@
 -- A store of version 1 computed on a worked list, what a migration makes of it, and why an extension is no entry of it.
+use lib.Ieee.{is_nan, lt}
 use Rattle.std.specs.Prelude.{◌≡◌, ℕ, pos, true, false, List, [], ◌∷◌, Some, slice_index_or, codes, refl}
+use Rattle.std.specs.List.{IsDistinct}
 use Rattle.std.specs.Str.{is_utf8, chars}
-use Rattle.std.proofs.Common.{arith}
+use Rattle.std.proofs.Common.{ap, arith, inl, inr, length, zero, suc, ⊎_elim}
 use Rattle.std.proofs.Math.Utf8.{encode}
 use Rattle.std.proofs.lemmas.List.Elements.{All-from_recursion}
 use Rattle.std.proofs.lemmas.List.Sorted.{IsPermutation-refl, IsPermutation-reverse}
@@ -16,17 +18,20 @@ use Rattle.posting_core.specs.declared.message.Message.{Message}
 use Rattle.posting_core.specs.declared.message.Message.TheVariants.{Move, Agree, Extend}
 use Rattle.posting_core.specs.declared.verdict.Verdict.{Verdict}
 use Rattle.posting_core.specs.declared.verdict.Verdict.TheVariants.{Applied, NotLater}
+use Rattle.sqlite.specs.Effect.{Database}
 use Rattle.sqlite.specs.Order.{Row}
+use Rattle.sqlite.specs.Schema.{Schema}
 use Rattle.sqlite.specs.Tree.{Trees}
 use Rattle.sqlite.specs.declared.types.Value.TheVariants.{Null, Int, Text}
 use Rattle.sqlite_catalog.specs.Listing.{IsSound}
+use Rattle.sqlite_value.specs.Order.{value_cmp}
 use Rattle.register_store.proofs.WorkedTexts.{may, may-text, end_of_may, end_of_may-text}
 use Rattle.register_store.specs.StoredRows.{Content, SetupRow, PostingRow, TermRow, IsPostingRow, HasList, rows_of_setup, rows_of_meta}
 use Rattle.register_sql.specs.Ages.{first_meta}
 use Rattle.register_sql.specs.Early.{IsEarlyOf}
-use Rattle.register_sql.specs.Migrating.{IsOfFirst, IsMigrated, days_given}
+use Rattle.register_sql.specs.Migrating.{AreFirstApart, IsMigrated, IsNoStore, IsOfFirst, IsUnfit, days_given}
 use Rattle.register_sql.specs.Rows.{HasPart, IsStored}
-use Rattle.register_sql.specs.Tables.{prefix}
+use Rattle.register_sql.specs.Tables.{of_tables, prefix, term}
 
 -- ---- an object is agreed for a loan, and moved
 
@@ -146,6 +151,48 @@ held = record {
 
 stored : IsSound (prefix 5) tables → IsStored tables first
 stored sound = record { made = 5; few = omega arith; sound = sound; rows = held }
+
+-- ---- fit to be migrated: the rowids of its tables are numbers that differ
+
+abbrev database : Database
+database = record { schema = prefix 5; trees = tables }
+
+apart : AreFirstApart tables
+unfolding IsDistinct value_cmp is_nan lt
+apart = (
+  record { ints = (refl, (refl, tt)); differ = ((refl, tt), (tt, tt)) },
+  record {
+    setup = record { ints = (refl, (refl, (refl, (refl, tt)))); differ = ((refl, (refl, (refl, tt))), ((refl, (refl, tt)), ((refl, tt), (tt, tt)))) };
+    postings = record { ints = (refl, (refl, tt)); differ = ((refl, tt), (tt, tt)) };
+    lines = record { ints = (refl, tt); differ = (tt, tt) };
+    terms = record { ints = tt; differ = tt };
+  },
+)
+
+is_store : IsNoStore database → ⊥
+is_store h = h 5 refl
+
+fit : IsUnfit museum database → ⊥
+fit (inl h) = is_store h
+fit (inr h) = ⊎_elim (λ other. other refl) (λ not. not apart) h.unfit
+
+-- ---- unfit: two rows of what it says under one rowid, or a table that no store has
+
+abbrev doubled : Trees
+doubled t = slice_index_or ((says 1 (codes "version") 1 ∷ says 1 (codes "depth") 8 ∷ []) ∷ []) t []
+
+not_apart : AreFirstApart doubled → ⊥
+unfolding IsDistinct value_cmp is_nan lt
+not_apart h = absurd (let e : true ≡ false = h.0.differ.0.0 in cc)
+
+no_store : IsNoStore (record { schema = of_tables (term ∷ []) []; trees = tables })
+no_store zero e = absurd (omega (arith, ap (λ (s : Schema). length s.tables) e))
+no_store (suc zero) e = absurd (omega (arith, ap (λ (s : Schema). length s.indexes) e))
+no_store (suc (suc zero)) e = absurd (omega (arith, ap (λ (s : Schema). length s.indexes) e))
+no_store (suc (suc (suc zero))) e = absurd (omega (arith, ap (λ (s : Schema). length s.indexes) e))
+no_store (suc (suc (suc (suc zero)))) e = absurd (omega (arith, ap (λ (s : Schema). length s.indexes) e))
+no_store (suc (suc (suc (suc (suc zero))))) e = absurd (omega (arith, ap (λ (s : Schema). length s.indexes) e))
+no_store (suc (suc (suc (suc (suc (suc made)))))) e = absurd (omega (arith, ap (λ (s : Schema). length s.indexes) e))
 
 -- ---- migrated
 

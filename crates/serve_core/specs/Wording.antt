@@ -1,13 +1,11 @@
 -- What is printed of a log.
-use Rattle.std.specs.Prelude.{ℕ, List, [], ◌∷◌, ◌++◌, take, reverse, codes}
-use Rattle.std.specs.List.{concat}
-use Rattle.std.specs.Fmt.{decimal}
+use Rattle.std.specs.Prelude.{ℕ, List, [], ◌++◌, take, reverse, codes}
 use Rattle.nest_core.specs.Museum.{Museum}
 use Rattle.posting_core.specs.declared.entry.Entry.{Entry}
 use Rattle.hub_core.specs.declared.hub.answer.Answer.{Answer}
 use Rattle.hub_core.specs.declared.hub.answer.Answer.TheVariants.{Refused, Held, Posted}
 use Rattle.hub_core.specs.LineText.{answer_text, fault_text, place_text, station_text}
-use Rattle.hub_core.specs.Replies.{asked_line}
+use Rattle.hub_core.specs.Replies.{asked_line, bad_line}
 use Rattle.serve_core.specs.declared.item.Item.{Item}
 use Rattle.serve_core.specs.declared.item.Item.TheVariants.{Scan, Ask, Bad}
 use Rattle.serve_core.specs.declared.item.LineFault.{LineFault}
@@ -24,8 +22,7 @@ line_fault_text (Read fault) = fault_text fault
 -- a faulty line of a station's feed
 abbrev pub bad_item_line : List ℕ → ℕ → LineFault → List ℕ
 bad_item_line station line fault =
-    concat (station ∷ codes " line " ∷ decimal line ∷ codes " bad " ∷ line_fault_text fault
-    ∷ codes "\n" ∷ [])
+    station ++ codes " " ++ bad_line line (line_fault_text fault)
 
 -- of the entries O, oldest first, those that stood with an answer
 abbrev pub up_to : Answer → List Entry → List Entry
@@ -33,18 +30,13 @@ up_to (Refused refusal) O = O
 up_to Held O = O
 up_to (Posted first last) O = take last O
 
--- what is said to an item of station s
+-- what is said to an item of station s; no log has another pair
 abbrev pub item_text : Museum → List Entry → ℕ → Item → Reply → List ℕ
 item_text S O s (Scan n message) (Answered answer) =
     answer_text (station_text S s) n (reverse (up_to answer O)) answer
-item_text S O s (Scan n message) (Found place) = []
-item_text S O s (Scan n message) Unread = []
-item_text S O s (Ask code) (Answered answer) = []
 item_text S O s (Ask code) (Found place) = asked_line (station_text S s) code (place_text S place)
-item_text S O s (Ask code) Unread = []
-item_text S O s (Bad line fault) (Answered answer) = []
-item_text S O s (Bad line fault) (Found place) = []
 item_text S O s (Bad line fault) Unread = bad_item_line (station_text S s) line fault
+item_text S O s _ _ = []
 
 -- what is printed of a line of a log, after the entries O, oldest first
 abbrev pub logged_text : Museum → List Entry → LogLine → List ℕ

@@ -1,12 +1,12 @@
 //! The words of a log's lines, each with its line feed, appended to a text.
-ghost use Rattle.std.specs.Prelude.{◌≡◌, ◌<◌, ◌++◌, OnOk, length, reverse, string_bytes};
+ghost use Rattle.std.specs.Prelude.{◌≡◌, ◌<◌, length, reverse};
+ghost use Rattle.hub_core.specs.Adds.{Adds};
 ghost use Rattle.hub_core.specs.LineText.{station_text};
 ghost use Rattle.serve_core.specs.Logs.{IsPlacedReply};
 ghost use Rattle.serve_core.specs.Wording.{bad_item_line, logged_text, up_to};
 
 use crate::{Item, LineFault, LogLine, Reply};
-use hub_core::{Answer, add_answer, add_asked, add_fault};
-use itoa::Buffer;
+use hub_core::{Answer, add_answer, add_asked, add_bad, add_too_long};
 use posting_core::{Entry, Ledger};
 use std::alloc::AllocError;
 
@@ -15,8 +15,8 @@ use std::alloc::AllocError;
 pub fn add_logged(text: &mut String, ledger: &Ledger, line: &LogLine) -> Result<(), AllocError>
     requires station { line.now.station < length ledger.now.museum.stations }
     requires placed { IsPlacedReply ledger.now.museum line.now.reply }
-    ensures added { OnOk result (string_bytes text.new ≡ string_bytes text.old
-        ++ logged_text ledger.now.museum (reverse ledger.now.posted) line.now) }
+    ensures added { Adds text.old text.new
+        (logged_text ledger.now.museum (reverse ledger.now.posted) line.now) result }
 {
     let setup = ledger.setup();
     let station = line.station;
@@ -51,17 +51,12 @@ fn add_bad_item(
     line: u64,
     fault: LineFault,
 ) -> Result<(), AllocError>
-    ensures { OnOk result (string_bytes text.new ≡ string_bytes text.old
-        ++ bad_item_line station.now line fault) }
+    ensures { Adds text.old text.new (bad_item_line station.now line fault) result }
 {
-    let mut digits = Buffer::new();
     text.push_str(station)?;
-    text.push_str(" line ")?;
-    text.push_str(digits.format(line))?;
-    text.push_str(" bad ")?;
+    text.push_str(" ")?;
     match fault {
-        LineFault::TooLong => text.push_str("TooLong")?,
-        LineFault::Read(fault) => add_fault(text, fault)?,
+        LineFault::TooLong => add_too_long(text, line),
+        LineFault::Read(fault) => add_bad(text, line, fault),
     }
-    text.push_str("\n")
 }

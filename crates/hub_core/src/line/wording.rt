@@ -1,5 +1,5 @@
 //! The words of all replies, each a line with its line feed, appended to a text.
-ghost use Rattle.std.specs.Prelude.{◌≡◌, ◌<◌, ◌≤◌, ◌++◌, true, All, OnOk, OnErr, codes, flat_map, length, reverse, string_bytes, string_capacity};
+ghost use Rattle.std.specs.Prelude.{◌≡◌, ◌<◌, ◌++◌, true, All, OnErr, codes, flat_map, length, reverse};
 ghost use Rattle.hub_core.specs.Adds.{Adds};
 ghost use Rattle.hub_core.specs.Points.{IsPlaced};
 ghost use Rattle.hub_core.specs.Memory.{HasRoom, is_posted};
@@ -80,8 +80,9 @@ pub(crate) fn add_posted(
     )
 }
 
-/// The reply to a line of more bytes than a line may have: `line K bad TooLong`.
-pub(crate) fn add_too_long(text: &mut String, number: u64) -> Result<(), AllocError>
+/// Appends what is printed of a line of more bytes than a line may have: `line K bad TooLong`. After NoMemory the text may end
+/// with a part of it.
+pub fn add_too_long(text: &mut String, number: u64) -> Result<(), AllocError>
     ensures { Adds text.old text.new (bad_line number (codes "TooLong")) result }
 {
     let mut digits = Buffer::new();
@@ -91,8 +92,9 @@ pub(crate) fn add_too_long(text: &mut String, number: u64) -> Result<(), AllocEr
     )
 }
 
-/// The reply to a faulty line: `line K bad FAULT`.
-pub(crate) fn add_bad(text: &mut String, number: u64, fault: ReadFault) -> Result<(), AllocError>
+/// Appends what is printed of a faulty line: `line K bad FAULT`, with the fault's key where it has one. After NoMemory the text
+/// may end with a part of it.
+pub fn add_bad(text: &mut String, number: u64, fault: ReadFault) -> Result<(), AllocError>
     ensures { Adds text.old text.new (bad_line number (fault_text fault)) result }
 {
     let mut digits = Buffer::new();
@@ -101,14 +103,6 @@ pub(crate) fn add_bad(text: &mut String, number: u64, fault: ReadFault) -> Resul
         text,
         &["line ", digits.format(number), " bad ", name, key, "\n"],
     )
-}
-
-/// Appends the name of a line's fault, with its key where it has one. After NoMemory the text may end with a part of it.
-pub fn add_fault(text: &mut String, fault: ReadFault) -> Result<(), AllocError>
-    ensures { Adds text.old text.new (fault_text fault) result }
-{
-    let (name, key) = fault_words(fault);
-    add(text, &[name, key])
 }
 
 /// The name of a line's fault, and its key where it has one.
@@ -177,9 +171,9 @@ pub fn add_asked(
 ) -> Result<(), AllocError>
     requires known { station < length setup.now.stations }
     requires placed { IsPlaced setup.now place.now }
-    ensures text { OnOk result (string_bytes text.new ≡ string_bytes text.old
-        ++ asked_line (station_text setup.now station) code.now (place_text setup.now place.now)) }
-    ensures capacity { string_capacity text.old ≤ string_capacity text.new }
+    ensures added { Adds text.old text.new
+        (asked_line (station_text setup.now station) code.now (place_text setup.now place.now))
+        result }
 {
     add(
         text,
@@ -193,9 +187,7 @@ pub fn add_asked(
 /// first.
 fn add_place(text: &mut String, setup: &Setup, place: &Where) -> Result<(), AllocError>
     requires { IsPlaced setup.now place.now }
-    ensures text { OnOk result (string_bytes text.new ≡ string_bytes text.old
-        ++ place_text setup.now place.now) }
-    ensures capacity { string_capacity text.old ≤ string_capacity text.new }
+    ensures { Adds text.old text.new (place_text setup.now place.now) result }
 {
     match place {
         Where::UnknownThing => text.push_str("unknown"),
@@ -211,17 +203,14 @@ fn add_place(text: &mut String, setup: &Setup, place: &Where) -> Result<(), Allo
 /// Appends the containers above a thing.
 fn add_chain(text: &mut String, setup: &Setup, chain: &[u32]) -> Result<(), AllocError>
     requires { All (λ c. c < length setup.now.things) chain.now }
-    ensures text { OnOk result (string_bytes text.new ≡ string_bytes text.old
-        ++ chain_text setup.now chain.now) }
-    ensures capacity { string_capacity text.old ≤ string_capacity text.new }
+    ensures { Adds text.old text.new (chain_text setup.now chain.now) result }
 {
     if chain.is_empty() {
         return Ok(());
     }
     text.push_str(" in")?;
     for container in chain {
-        text.push_str(" ")?;
-        text.push_str(setup.thing_code(*container).as_str())?;
+        add(text, &[" ", setup.thing_code(*container).as_str()])?;
     }
     Ok(())
 }

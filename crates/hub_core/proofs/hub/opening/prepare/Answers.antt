@@ -1,4 +1,4 @@
-use Rattle.std.proofs.Common.{◌≡◌, ◌∙◌, ap, sym, subst, length}
+use Rattle.std.proofs.Common.{◌∙◌, ap, sym, subst, length}
 use Rattle.nest_core.specs.Museum.{Museum}
 use Rattle.register_store.specs.StoredRows.{IsBoundTo}
 use Rattle.register_store.specs.Holdings.{Each, Has}

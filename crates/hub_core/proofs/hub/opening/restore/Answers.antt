@@ -1,4 +1,4 @@
-use Rattle.std.proofs.Common.{◌≡◌, ◌≤◌, sym, subst, List, length}
+use Rattle.std.proofs.Common.{◌≤◌, sym, subst, List, length}
 use Rattle.std.specs.Prelude.{reverse, All}
 use Rattle.std.proofs.lemmas.List.Sorted.{All-permutation, IsPermutation-reverse}
 use Rattle.posting_core.specs.declared.entry.Entry.{Entry}

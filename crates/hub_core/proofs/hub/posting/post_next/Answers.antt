@@ -1,4 +1,4 @@
-use Rattle.std.proofs.Common.{inl, refl}
+use Rattle.std.proofs.Common.{refl}
 use Rattle.station_core.specs.Runs.{Arrived, arrived}
 use Rattle.posting_core.specs.declared.message.Message.{Message}
 use Rattle.hub_core.proofs.StoreLemmas.{left_in, either_of, either_in, posted_book, stored_book}
