@@ -114,7 +114,7 @@ module _ {S : Museum} {depth : ℕ} {P : List Entry} {e : Entry} (a : IsApplied 
   pub by_carried : {X : Type 0} (put : Put) → put_in S P e.message ≡ Some put → (GoesWith S P e put o → X) → (is_carried (length S.things) (puts S P) put.thing o ≡ false → Stays S P e o → X) → X
   by_carried {X} put is goes apart =
       let B : Book = record { museum = S; depth = depth; posted = P } in
-      let allowed = allowed_in B e.message a.lawful a.judged refl is in
+      let allowed = allowed_in B e.message a.lawful a.judged is in
       elim (is_carried (length S.things) (puts S P) put.thing o) as (λ b. is_carried (length S.things) (puts S P) put.thing o ≡ b → X) [
         | true ↦ λ h. goes (record {
           carried = h;

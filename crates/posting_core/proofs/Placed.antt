@@ -94,8 +94,15 @@ put_allowed S depth P v m lawful judged =
     ] refl
 
 -- that of a ledger's applied message
-pub allowed_in : (B : Book) (m : Message) {o : Option Put} {put : Put} → IsLawful B.museum B.depth B.posted → verdict_in B m ≡ Applied → o ≡ put_in B.museum B.posted m → o ≡ Some put → IsAllowedPut B.museum B.depth B.posted put
-allowed_in B m lawful applied is some = subst (λ p. IfSome p (IsAllowedPut B.museum B.depth B.posted)) (sym is ∙ some) (put_applied B.museum B.depth B.posted m lawful applied)
+pub allowed_in : (B : Book) (m : Message) {put : Put} → IsLawful B.museum B.depth B.posted → verdict_in B m ≡ Applied → put_in B.museum B.posted m ≡ Some put → IsAllowedPut B.museum B.depth B.posted put
+allowed_in B m lawful applied is = subst (λ p. IfSome p (IsAllowedPut B.museum B.depth B.posted)) is (put_applied B.museum B.depth B.posted m lawful applied)
+
+-- what puts a thing is applied
+pub by_applied : (S : Museum) (P : List Entry) (v : Verdict) (m : Message) {put : Put} → put_by S P v m ≡ Some put → (is_applied v ≡ true) × (put_in S P m ≡ Some put)
+by_applied S P v m {put} = elim (is_applied v) as (λ b. (if b then put_in S P m else None) ≡ Some put → (b ≡ true) × (put_in S P m ≡ Some put)) [
+  | true ↦ λ is. (refl, is)
+  | false ↦ λ is. absurd (none-some _ is)
+]
 
 -- it may go into a nest that stands for the puts before it
 pub may_go : (N : Nested) (S : Museum) (P : List Entry) (put : Put) → N.things ≡ length S.things → N.places ≡ length S.places → StandsFor N (puts S P) → IsAllowedPut S N.depth P put →

@@ -138,29 +138,31 @@ unplaced S P v (Agree loan partner objects first final) agrees = elim (is_applie
 unplaced S P v _ agrees = absurd (false≢true agrees)
 
 -- what `apply` is told of its entry and its changes, over the ledger's fields
-pub record IsPlanned (S : Museum) (P : List Entry) (N : Nested) (R : List (List Spot)) (L : List LoanRow) (e : Entry) (news : List NewSpot) (lines : List NewLine) : Type 0 where
+pub record IsPlanned (S : Museum) (P : List Entry) (N : Nested) (R : List (List Spot)) (L : List LoanRow) (e : Entry) (put : Option Put) (news : List NewSpot) (lines : List NewLine) : Type 0 where
   pub kept : IsKept S P N R L
   pub follows : Follows S N.depth P e
+  pub put_is : put ≡ put_by S P e.verdict e.message
   pub news_is : news ≡ news_under S P e.verdict e.message
   pub lines_is : lines ≡ lines_under S P e.verdict e.message
 
--- what the changes of an entry that follows write
+-- what the changes of an entry that follows put and write
 written : (B : Book) (e : Entry) (changes : Changes) → Follows B.museum B.depth B.posted e → changes ≡ changes_of B e.message →
-    (changes.spots ≡ news_under B.museum B.posted e.verdict e.message) × (changes.lines ≡ lines_under B.museum B.posted e.verdict e.message)
+    (changes.put ≡ put_by B.museum B.posted e.verdict e.message) × (changes.spots ≡ news_under B.museum B.posted e.verdict e.message) × (changes.lines ≡ lines_under B.museum B.posted e.verdict e.message)
 written B e changes follows plan = (
+  ap (λ (c : Changes). c.put) plan ∙ ap (λ (v : Verdict). put_by B.museum B.posted v e.message) (sym follows.judged),
   ap (λ (c : Changes). c.spots) plan ∙ ap (λ (v : Verdict). news_under B.museum B.posted v e.message) (sym follows.judged),
   ap (λ (c : Changes). c.lines) plan ∙ ap (λ (v : Verdict). lines_under B.museum B.posted v e.message) (sym follows.judged),
 )
 
 pub planned : {S : Museum} {P : List Entry} {N : Nested} {R : List (List Spot)} {L : List LoanRow} {B : Book} {e : Entry} {changes : Changes} {news : List NewSpot} {lines : List NewLine} → IsKept S P N R L → book_of S P N ≡ B →
-    Follows B.museum B.depth B.posted e → changes ≡ changes_of B e.message → news ≡ changes.spots → lines ≡ changes.lines → IsPlanned S P N R L e news lines
-planned {S} {P} {N} {B} {e} {changes} kept same follows plan spots_is lines_is =
+    Follows B.museum B.depth B.posted e → changes ≡ changes_of B e.message → news ≡ changes.spots → lines ≡ changes.lines → IsPlanned S P N R L e changes.put news lines
+planned {S} {P} {N} {B} {e} {changes} kept same follows plan same_spots same_lines =
     let follows' : Follows S N.depth P e = subst (λ (C : Book). Follows C.museum C.depth C.posted e) (sym same) follows in
-    let both = written (book_of S P N) e changes follows' (subst (λ (C : Book). changes ≡ changes_of C e.message) (sym same) plan) in
-    record { kept = kept; follows = follows'; news_is = spots_is ∙ both.0; lines_is = lines_is ∙ both.1 }
+    let (put_is, news_is, lines_is) = written (book_of S P N) e changes follows' (subst (λ (C : Book). changes ≡ changes_of C e.message) (sym same) plan) in
+    record { kept = kept; follows = follows'; put_is = put_is; news_is = same_spots ∙ news_is; lines_is = same_lines ∙ lines_is }
 
 -- what follows of it
-module _ {S : Museum} {P : List Entry} {N : Nested} {R : List (List Spot)} {L : List LoanRow} {e : Entry} {news : List NewSpot} {lines : List NewLine} (is : IsPlanned S P N R L e news lines) where
+module _ {S : Museum} {P : List Entry} {N : Nested} {R : List (List Spot)} {L : List LoanRow} {e : Entry} {put : Option Put} {news : List NewSpot} {lines : List NewLine} (is : IsPlanned S P N R L e put news lines) where
   pub planned_ascending : (n : ℕ) → n ≡ length R → AreAscending 0 n news
   planned_ascending n sized = rw (is.news_is, sized, is.kept.rowed) (news_ascending S P e.verdict e.message)
 
@@ -185,42 +187,38 @@ module _ {S : Museum} {P : List Entry} {N : Nested} {R : List (List Spot)} {L : 
       in_rows : (if is_applied e.verdict then rows_with S L e.message lines else L) ≡ (if is_applied e.verdict then rows_with S (loan_rows S P) e.message (new_lines S P e.message) else loan_rows S P)
       in_rows = rw (is.kept.loans, is.lines_is) (elim (is_applied e.verdict) as (λ b. (if b then rows_with S (loan_rows S P) e.message (if b then new_lines S P e.message else []) else loan_rows S P) ≡ (if b then rows_with S (loan_rows S P) e.message (new_lines S P e.message) else loan_rows S P)) [ true ↦ refl | false ↦ refl ])
 
-  module _ {B : Book} {put : Option Put} (same : book_of S P N ≡ B) (put_is : put ≡ put_by B.museum B.posted e.verdict e.message) where
-    put_here : put ≡ put_by S P e.verdict e.message
-    put_here = subst (λ (C : Book). put ≡ put_by C.museum C.posted e.verdict e.message) (sym same) put_is
+  -- where the entry puts its thing, the nest lets it go
+  pub planned_put : IfSome put (λ p. (p.thing < N.things) × MayGo N p.thing p.to)
+  planned_put =
+      subst (λ o. IfSome o (λ p. (p.thing < N.things) × MayGo N p.thing p.to)) (sym is.put_is)
+      (IfSome_then (put_by S P e.verdict e.message) (put_allowed S N.depth P e.verdict e.message is.kept.lawful is.follows.judged) (λ p allowed. may_go N S P p is.kept.things is.kept.places is.kept.nest allowed))
 
-    -- where the entry puts its thing, the nest lets it go
-    pub planned_put : IfSome put (λ p. (p.thing < N.things) × MayGo N p.thing p.to)
-    planned_put =
-        subst (λ o. IfSome o (λ p. (p.thing < N.things) × MayGo N p.thing p.to)) (sym put_here)
-        (IfSome_then (put_by S P e.verdict e.message) (put_allowed S N.depth P e.verdict e.message is.kept.lawful is.follows.judged) (λ p allowed. may_go N S P p is.kept.things is.kept.places is.kept.nest allowed))
+  module _ {M : Nested} (stands : (Q : List Put) → StandsFor N Q → StandsFor M (with_put put Q)) (things : M.things ≡ N.things) (places : M.places ≡ N.places) (depth : M.depth ≡ N.depth) where
+    -- what is kept after the entry
+    pub kept_after : {P' : List Entry} {R' : List (List Spot)} {L' : List LoanRow} → P' ≡ e ∷ P → R' ≡ rows_after R news → L' ≡ (if is_applied e.verdict then rows_with S L e.message lines else L) → IsKept S P' M R' L'
+    kept_after {R'} {L'} p r l =
+        subst (λ (K : List Entry). IsKept S K M R' L') (sym p) (record {
+          lawful = subst (λ d. IsLawful S d (e ∷ P)) (sym depth) (is.follows, is.kept.lawful);
+          things = things ∙ is.kept.things;
+          places = places ∙ is.kept.places;
+          nest = subst (λ o. StandsFor M (with_put o (puts S P))) is.put_is (stands (puts S P) is.kept.nest);
+          rowed = ap length r ∙ rows_length R news ∙ is.kept.rowed;
+          row = λ x less. ap (λ rs. row_of rs x) r ∙ ap (λ ns. row_of (rows_after R ns) x) is.news_is ∙ spots_after_entry S P N R L e is.kept x less;
+          loans = loans_after L' l;
+        })
 
-    module _ {M : Nested} (stands : (Q : List Put) → StandsFor N Q → StandsFor M (with_put put Q)) (things : M.things ≡ N.things) (places : M.places ≡ N.places) (depth : M.depth ≡ N.depth) where
-      -- what is kept after the entry
-      pub kept_after : {P' : List Entry} {R' : List (List Spot)} {L' : List LoanRow} → P' ≡ e ∷ P → R' ≡ rows_after R news → L' ≡ (if is_applied e.verdict then rows_with S L e.message lines else L) → IsKept S P' M R' L'
-      kept_after {R'} {L'} p r l =
-          subst (λ (K : List Entry). IsKept S K M R' L') (sym p) (record {
-            lawful = subst (λ d. IsLawful S d (e ∷ P)) (sym depth) (is.follows, is.kept.lawful);
-            things = things ∙ is.kept.things;
-            places = places ∙ is.kept.places;
-            nest = subst (λ o. StandsFor M (with_put o (puts S P))) put_here (stands (puts S P) is.kept.nest);
-            rowed = ap length r ∙ rows_length R news ∙ is.kept.rowed;
-            row = λ x less. ap (λ rs. row_of rs x) r ∙ ap (λ ns. row_of (rows_after R ns) x) is.news_is ∙ spots_after_entry S P N R L e is.kept x less;
-            loans = loans_after L' l;
-          })
-
-      -- where an agreement finds no memory all is kept as it was
-      pub kept_still : {P' : List Entry} {R' : List (List Spot)} {L' : List LoanRow} → is_some (agreement_in e.message) ≡ true → P' ≡ P → R' ≡ R → L' ≡ L → IsKept S P' M R' L'
-      kept_still {R'} {L'} agrees p r l =
-          subst (λ (K : List Entry). IsKept S K M R' L') (sym p) (record {
-            lawful = subst (λ d. IsLawful S d P) (sym depth) is.kept.lawful;
-            things = things ∙ is.kept.things;
-            places = places ∙ is.kept.places;
-            nest = subst (λ o. StandsFor M (with_put o (puts S P))) (put_here ∙ unplaced S P e.verdict e.message agrees) (stands (puts S P) is.kept.nest);
-            rowed = ap length r ∙ is.kept.rowed;
-            row = λ x less. ap (λ rs. row_of rs x) r ∙ is.kept.row x less;
-            loans = l ∙ is.kept.loans;
-          })
+    -- where an agreement finds no memory all is kept as it was
+    pub kept_still : {P' : List Entry} {R' : List (List Spot)} {L' : List LoanRow} → is_some (agreement_in e.message) ≡ true → P' ≡ P → R' ≡ R → L' ≡ L → IsKept S P' M R' L'
+    kept_still {R'} {L'} agrees p r l =
+        subst (λ (K : List Entry). IsKept S K M R' L') (sym p) (record {
+          lawful = subst (λ d. IsLawful S d P) (sym depth) is.kept.lawful;
+          things = things ∙ is.kept.things;
+          places = places ∙ is.kept.places;
+          nest = subst (λ o. StandsFor M (with_put o (puts S P))) (is.put_is ∙ unplaced S P e.verdict e.message agrees) (stands (puts S P) is.kept.nest);
+          rowed = ap length r ∙ is.kept.rowed;
+          row = λ x less. ap (λ rs. row_of rs x) r ∙ is.kept.row x less;
+          loans = l ∙ is.kept.loans;
+        })
 
 row_none : (n x : ℕ) → row_of (replicate n []) x ≡ []
 row_none zero x = refl

@@ -1,5 +1,5 @@
 -- The spots that an applied message writes are those of what its thing carries.
-use Rattle.std.specs.Prelude.{ℕ, ℤ, zero, suc, ◌≡◌, ◌+◌, ◌<◌, ◌≤◌, Bool, true, false, cond, List, [], ◌∷◌, ◌++◌, Option, None, Some, length, filter, refl, All}
+use Rattle.std.specs.Prelude.{ℕ, ℤ, zero, suc, ◌≡◌, ◌+◌, ◌<◌, ◌≤◌, Bool, true, false, cond, if◌then◌else◌, List, [], ◌∷◌, ◌++◌, Option, None, Some, length, filter, refl, All}
 use Rattle.std.specs.List.{filter_map, range_with_len, cons_option}
 use Rattle.std.proofs.Common.{ap, ◌∙◌, sym, arith, get_or, take}
 use Rattle.std.proofs.lemmas.List.{take_more}
@@ -9,14 +9,17 @@ use Rattle.nest_core.specs.declared.put.Put.{Put}
 use Rattle.nest_core.specs.Museum.{Museum}
 use Rattle.nest_core.specs.Puts.{is_carried, carried}
 use Rattle.posting_core.specs.declared.message.Message.{Message}
+use Rattle.posting_core.specs.declared.verdict.Verdict.{Verdict}
 use Rattle.posting_core.specs.declared.entry.Entry.{Entry}
 use Rattle.posting_core.specs.declared.entry.NewSpot.{NewSpot}
 use Rattle.posting_core.specs.Messages.{day_of}
-use Rattle.posting_core.specs.History.{puts, put_in, spots, place_at, carried_at}
+use Rattle.posting_core.specs.History.{puts, put_in, put_by, spots, place_at, carried_at}
 use Rattle.posting_core.specs.Lawful.{IsLawful}
-use Rattle.posting_core.specs.Book.{Book, place_in, spots_in, place_after, new_spot, new_spots}
+use Rattle.posting_core.specs.VerdictNames.{is_applied}
+use Rattle.posting_core.specs.Book.{Book, verdict_in, place_in, spots_in, place_after, new_spot, new_spots}
 use Rattle.posting_core.specs.Rows.{place_to}
-use Rattle.posting_core.proofs.Placed.{IsAllowedPut, comes_along, stays}
+use Rattle.posting_core.proofs.AppliedRows.{applied_is}
+use Rattle.posting_core.proofs.Placed.{IsAllowedPut, allowed_in, by_applied, comes_along, stays}
 use Rattle.posting_core.proofs.Written.{same_place}
 
 -- what only some of a list have is what these have
@@ -47,9 +50,15 @@ none_of f [] none = refl
 none_of f (x ∷ xs) none = ap (λ o. cons_option o (filter_map f xs)) (none x) ∙ none_of f xs none
 
 -- a message that places nothing writes none
-pub unplaced_spots : (S : Museum) (P : List Entry) (m : Message) → put_in S P m ≡ None → [] ≡ new_spots S P m
-unplaced_spots S P m is = sym (none_of (λ y. spot_at S P m (place_after S P m y) y) (range_with_len 0 (length S.things))
+unplaced : (S : Museum) (P : List Entry) (m : Message) → put_in S P m ≡ None → [] ≡ new_spots S P m
+unplaced S P m is = sym (none_of (λ y. spot_at S P m (place_after S P m y) y) (range_with_len 0 (length S.things))
     (λ y. rw is (unmoved (length P + 1) (length (spots S P y)) (place_at S P y) (day_of m) y)))
+
+pub unplaced_spots : (S : Museum) (P : List Entry) (v : Verdict) (m : Message) → put_by S P v m ≡ None → [] ≡ (if is_applied v then new_spots S P m else [])
+unplaced_spots S P v m = elim (is_applied v) as (λ b. (if b then put_in S P m else None) ≡ None → [] ≡ (if b then new_spots S P m else [])) [
+  | true ↦ λ is. unplaced S P m is
+  | false ↦ λ is. refl
+]
 
 -- one more of a list that is gone through
 one_more : (f : ℕ → Option NewSpot) (xs : List ℕ) (i d : ℕ) → i < length xs → filter_map f (take (i + 1) xs) ≡ filter_map f (take i xs) ++ option_to_list (f (get_or xs i d))
@@ -65,16 +74,18 @@ one_more_spot f xs i d before after o less done one more =
     more ∙ ap (λ zs. zs ++ option_to_list o) done ∙ ap (λ p. filter_map f (take i xs) ++ option_to_list p) one ∙ sym (one_more f xs i d less)
 
 -- the spots that a ledger finds are those of the message
-pub found_spots : (B : Book) (m : Message) {put : Put} {place number : ℕ} {day : ℤ} {xs : List ℕ} → IsLawful B.museum B.depth B.posted → put_in B.museum B.posted m ≡ Some put → IsAllowedPut B.museum B.depth B.posted put →
+pub found_spots : (B : Book) (m : Message) {put : Put} {place number : ℕ} {day : ℤ} {xs : List ℕ} → IsLawful B.museum B.depth B.posted → put_by B.museum B.posted (verdict_in B m) m ≡ Some put →
     number ≡ length B.posted + 1 → day_of m ≡ Some day → place_to B.museum B.posted put.to ≡ Some place → xs ≡ carried_at B.museum B.posted put.thing →
-    filter_map (λ y. new_spot number (length (spots_in B y)) (place_in B y) (Some place) (Some day) y) xs ≡ new_spots B.museum B.posted m
-found_spots B m {put} {place} {day} {xs} lawful is allowed counted dated there same =
+    filter_map (λ y. new_spot number (length (spots_in B y)) (place_in B y) (Some place) (Some day) y) xs ≡ (if is_applied (verdict_in B m) then new_spots B.museum B.posted m else [])
+found_spots B m {put} {place} {day} {xs} lawful is counted dated there same =
+    let (applied, put_is) = by_applied B.museum B.posted (verdict_in B m) m is in
     let spot : ℕ → Option ℤ → Option ℕ → ℕ → Option NewSpot = λ n d o y. new_spot n (length (spots_in B y)) (place_in B y) o d y in
     ap (λ n. filter_map (spot n (Some day) (Some place)) xs) counted
     ∙ ap (λ d. filter_map (spot (length B.posted + 1) d (Some place)) xs) (sym dated)
     ∙ ap (λ o. filter_map (spot (length B.posted + 1) (day_of m) o) xs) (sym there)
     ∙ ap (filter_map (spot (length B.posted + 1) (day_of m) (place_to B.museum B.posted put.to))) same
-    ∙ carried_spots m lawful is allowed
+    ∙ carried_spots m lawful put_is (allowed_in B m lawful (applied_is (verdict_in B m) applied) put_is)
+    ∙ ap (λ b. if b then new_spots B.museum B.posted m else []) (sym applied)
 
 range_below : (a n k : ℕ) → a + n ≤ k → All (λ y. y < k) (range_with_len a n)
 range_below a zero k few = All-nil (λ (y : ℕ). y < k)

@@ -7,7 +7,7 @@ use Rattle.posting_core.specs.declared.stage.LineStage.TheVariants.{Awaiting, He
 use Rattle.posting_core.specs.declared.stage.LoanState.TheVariants.{Draft, Authorised, Running, Closed}
 use Rattle.posting_core.specs.declared.entry.Entry.{Entry}
 use Rattle.posting_core.specs.Book.{place_in, spots_in, loans_in, line_in, state_in, changes_of}
-use Rattle.posting_core.proofs.WorkedRows.{lender_y, pack, gal, s1, s2, crate_1, object_1, borrowed, may, moved, run, verdicts, book, spot}
+use Rattle.posting_core.proofs.WorkedRows.{lender_y, pack, gal, s1, s2, crate_1, object_1, borrowed, may, moved, run, verdicts, book, spot, put_at}
 use Rattle.posting_core.proofs.WorkedLoansOut.{may_31, loan_1, agreed, authorised, leaves}
 
 -- the day before the term
@@ -70,6 +70,7 @@ loan_in-spots = refl
 loan_in-receiving : changes_of (book awaited) (received may_31) ≡ record {
   entry = 4;
   verdict = Applied;
+  put = put_at borrowed s1;
   spots = record { thing = borrowed; k = 1; spot = record { entry = 4; place = s1; day = may_31 } } ∷ [];
   lines = record { loan = loan_in_1; object = borrowed; stage = Here } ∷ [];
 }

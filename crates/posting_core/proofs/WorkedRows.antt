@@ -1,7 +1,8 @@
 -- The definitions computed on worked rows: what a reader can follow by hand, each proved by computing.
-use Rattle.std.specs.Prelude.{ℕ, ℤ, pos, ◌+◌, ◌≡◌, ◌<◌, ◌≤◌, true, false, List, [], ◌∷◌, Some, None, map, reverse, refl, codes}
+use Rattle.std.specs.Prelude.{ℕ, ℤ, pos, ◌+◌, ◌≡◌, ◌<◌, ◌≤◌, true, false, List, [], ◌∷◌, Option, Some, None, map, reverse, refl, codes}
 use Rattle.std.proofs.Common.{arith, sym}
 use Rattle.nest_core.specs.declared.put.Target.TheVariants.{At}
+use Rattle.nest_core.specs.declared.put.Put.{Put}
 use Rattle.nest_core.specs.Museum.{Museum}
 use Rattle.posting_core.specs.declared.TheConstants.{MOST_OBJECTS}
 use Rattle.posting_core.specs.declared.message.Message.{Message}
@@ -98,6 +99,10 @@ book P = record { museum = museum; depth = 8; posted = P }
 abbrev pub spot : ℕ → ℕ → Spot
 spot number p = record { entry = number; place = p; day = may }
 
+-- a thing put at a place
+abbrev pub put_at : ℕ → ℕ → Option Put
+put_at x p = Some (record { thing = x; to = At p })
+
 -- held_then_posted: what GAL told, in the order of its numbers
 
 abbrev held_then_posted : List Entry
@@ -128,23 +133,25 @@ held_then_posted-puts = refl
 
 -- what one more message would change: a spot with the next number of its thing's list
 held_then_posted-change : changes_of (book held_then_posted) (moved (codes "2001.4.1") (codes "S2")) ≡
-    record { entry = 4; verdict = Applied; spots = record { thing = object_1; k = 3; spot = spot 4 s2 } ∷ []; lines = [] }
+    record { entry = 4; verdict = Applied; put = put_at object_1 s2; spots = record { thing = object_1; k = 3; spot = spot 4 s2 } ∷ []; lines = [] }
 held_then_posted-change = refl
 
 -- a first placement has the number 1
 held_then_posted-first : changes_of (book held_then_posted) (moved (codes "2001.4.3") (codes "S2")) ≡
-    record { entry = 4; verdict = Applied; spots = record { thing = object_3; k = 1; spot = spot 4 s2 } ∷ []; lines = [] }
+    record { entry = 4; verdict = Applied; put = put_at object_3 s2; spots = record { thing = object_3; k = 1; spot = spot 4 s2 } ∷ []; lines = [] }
 held_then_posted-first = refl
 
--- a Move to the place where the thing is changes nothing but the posted list
-held_then_posted-same : changes_of (book held_then_posted) (moved (codes "2001.4.1") (codes "S1-A")) ≡ record { entry = 4; verdict = Applied; spots = []; lines = [] }
+-- a Move to the place where the thing is puts it there again, and writes nothing but the posted list
+held_then_posted-same : changes_of (book held_then_posted) (moved (codes "2001.4.1") (codes "S1-A")) ≡
+    record { entry = 4; verdict = Applied; put = put_at object_1 s1_a; spots = []; lines = [] }
 held_then_posted-same = refl
 
--- nor does a sign-off, nor a refused Move
-held_then_posted-sign_off : changes_of (book held_then_posted) signed_off ≡ record { entry = 4; verdict = Applied; spots = []; lines = [] }
+-- a sign-off puts nothing, and neither does a refused Move
+held_then_posted-sign_off : changes_of (book held_then_posted) signed_off ≡ record { entry = 4; verdict = Applied; put = None; spots = []; lines = [] }
 held_then_posted-sign_off = refl
 
-held_then_posted-refused : changes_of (book held_then_posted) (moved (codes "2001.4.1") (codes "MUSEUM-X")) ≡ record { entry = 4; verdict = ElsewherePlace; spots = []; lines = [] }
+held_then_posted-refused : changes_of (book held_then_posted) (moved (codes "2001.4.1") (codes "MUSEUM-X")) ≡
+    record { entry = 4; verdict = ElsewherePlace; put = None; spots = []; lines = [] }
 held_then_posted-refused = refl
 
 -- tour_of_verdicts: refused Moves keep their numbers and place nothing

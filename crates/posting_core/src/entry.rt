@@ -2,7 +2,7 @@
 
 use crate::{LineStage, Message, Verdict};
 use codes_core::{Day, LoanCode, NoMemory};
-use nest_core::{PlaceNo, StationNo, ThingNo};
+use nest_core::{PlaceNo, Put, StationNo, ThingNo};
 use std::alloc::Global;
 use std::marker::Model;
 
@@ -127,13 +127,15 @@ impl NewLines {
     }
 }
 
-/// What posting a message changes: the number of its entry, from 1, its verdict, the new spots, and the lines of its
-/// loan that it makes or changes; no spots and no lines where it is refused. The spots ascend by thing, at most one of
-/// each. An agreement's lines stand in the order of its list, those of a crossing ascend by object.
+/// What posting a message changes: the number of its entry, from 1, its verdict, where it puts its thing, the new spots,
+/// and the lines of its loan that it makes or changes; no put, no spots and no lines where it is refused. The spots
+/// ascend by thing, at most one of each. An agreement's lines stand in the order of its list, those of a crossing ascend
+/// by object.
 #[derive(Debug, Drop)]
 pub struct Changes {
     pub entry: u64,
     pub verdict: Verdict,
+    pub put: Option<Put>,
     pub spots: NewSpots,
     pub lines: NewLines,
 }

@@ -238,11 +238,13 @@ impl Ledger {
     {
         let verdict = self.judge(alloc, message)?;
         let entry = self.posted.len() as u64 + 1;
-        let spots = self.spots_under(alloc, message, verdict, entry)?;
+        let put = self.put_under(verdict, message);
+        let spots = self.spots_under(alloc, message, put, entry)?;
         let lines = self.lines_under(alloc, message, verdict)?;
         Ok(Changes {
             entry,
             verdict,
+            put,
             spots,
             lines,
         })
@@ -259,12 +261,11 @@ impl Ledger {
         ensures ok { OnOk result (self.new ≡ record self.old { posted = entry ∷ self.old.posted }) }
         ensures err { OnErr result (self.new ≡ self.old) }
     {
-        let put = self.put_under(entry.verdict, &entry.message);
         let spots = changes.spots.as_slice();
         let lines = changes.lines.as_slice();
         make_room(&mut self.spots, spots)?;
         self.posted.reserve(1)?;
-        place(alloc, &mut self.nest, put)?;
+        place(alloc, &mut self.nest, changes.put)?;
         record(
             alloc,
             &mut self.loans,

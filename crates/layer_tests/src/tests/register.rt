@@ -63,6 +63,7 @@ fn nothing(alloc: Global, entry: u64) -> Changes
     Changes {
         entry,
         verdict: Verdict::Applied,
+        put: None,
         spots: NewSpots::new(alloc),
         lines: NewLines::new(alloc),
     }

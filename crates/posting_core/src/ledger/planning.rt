@@ -20,40 +20,27 @@ use nest_core::{PlaceNo, Put, Setup, Target, ThingNo};
 use std::alloc::Global;
 
 impl Ledger {
-    /// The spots that the message writes under this verdict.
+    /// The spots that the message writes, which puts its thing so under its verdict: of all that the thing carries, where
+    /// that comes to another place.
     pub(crate) fn spots_under(
         &self,
         alloc: Global,
         message: &Message,
-        verdict: Verdict,
+        put: Option<Put>,
         entry: u64,
     ) -> Result<NewSpots, NoMemory>
-        requires judged { verdict ≡ verdict_in self.now message.now }
+        requires put { put
+            ≡ put_by self.now.museum self.now.posted (verdict_in self.now message.now) message.now }
         requires number { entry ≡ length self.now.posted + 1 }
         ensures ok { IfOk result
             (λ spots. spots
-            ≡ (if is_applied verdict then new_spots self.now.museum self.now.posted message.now
-            else [])) }
+            ≡ (if is_applied (verdict_in self.now message.now)
+            then new_spots self.now.museum self.now.posted message.now else [])) }
         ensures err { OnErr result
-            ((is_applied verdict && is_some (put_in self.now.museum self.now.posted message.now))
-            ≡ true) }
+            ((is_applied (verdict_in self.now message.now)
+            && is_some (put_in self.now.museum self.now.posted message.now)) ≡ true) }
     {
-        match verdict {
-            Verdict::Applied => self.new_spots(alloc, message, entry),
-            _ => Ok(NewSpots::new(alloc)),
-        }
-    }
-
-    /// The spots that an applied message writes: of all that its thing carries, where that comes to another place.
-    fn new_spots(&self, alloc: Global, message: &Message, entry: u64) -> Result<NewSpots, NoMemory>
-        requires applied { verdict_in self.now message.now ≡ Applied }
-        requires number { entry ≡ length self.now.posted + 1 }
-        ensures ok { IfOk result
-            (λ spots. spots ≡ new_spots self.now.museum self.now.posted message.now) }
-        ensures err { OnErr result
-            (is_some (put_in self.now.museum self.now.posted message.now) ≡ true) }
-    {
-        let Some(put) = self.put_of(message) else {
+        let Some(put) = put else {
             return Ok(NewSpots::new(alloc));
         };
         let Some(day) = day_of(message) else {

@@ -14,7 +14,7 @@ make_room-requires c =
 pub place-requires : goal.place-requires
 place-requires c =
     let is = planned c.self.invariant c.self.view_is c.requires.follows c.requires.planned c.as_slice-spots.ensures c.as_slice-lines.ensures in
-    planned_put is c.self.view_is c.put_under-put.ensures
+    planned_put is
 
 pub record-requires : goal.record-requires
 record-requires c =
@@ -24,7 +24,7 @@ pub invariant_of-self-2 : goal.invariant_of-self-2
 invariant_of-self-2 c =
     let is = planned c.self.invariant c.self.view_is c.requires.follows c.requires.planned c.as_slice-spots.ensures c.as_slice-lines.ensures in
     let pushed = rw c.unwrap.ensures at c.push.ensures.items in
-    kept_after is c.self.view_is c.put_under-put.ensures
+    kept_after is
     c.in_ok-place.ensures.stands c.in_ok-place.ensures.sized.0 c.in_ok-place.ensures.sized.1 c.in_ok-place.ensures.sized.2
     (ap reverse (pushed ∙ ap (λ (es : List Entry). es ++ c.args.entry ∷ []) c.reserve.ensures.items) ∙ reverse-append c.self.inside.posted.items (c.args.entry ∷ []))
     (c.push_spots.ensures ∙ ap (λ (rs : List (List Spot)). rows_after rs c.as_slice-spots.result.now) c.make_room.ensures.items)
@@ -33,6 +33,6 @@ invariant_of-self-2 c =
 pub invariant_of-self-in_err-record : goal.invariant_of-self-in_err-record
 invariant_of-self-in_err-record c =
     let is = planned c.self.invariant c.self.view_is c.requires.follows c.requires.planned c.as_slice-spots.ensures c.as_slice-lines.ensures in
-    kept_still is c.self.view_is c.put_under-put.ensures
+    kept_still is
     c.in_ok-place.ensures.stands c.in_ok-place.ensures.sized.0 c.in_ok-place.ensures.sized.1 c.in_ok-place.ensures.sized.2
     c.in_err-record.ensures.err.1 (ap reverse c.reserve.ensures.items) c.make_room.ensures.items c.in_err-record.ensures.err.0

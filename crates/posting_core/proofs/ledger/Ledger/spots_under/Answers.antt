@@ -1,12 +1,14 @@
 use Rattle.std.proofs.Common.{◌∙◌, ◌≡◌, ◌<◌, sym, subst, All, length, IfOk, List}
 use Rattle.posting_core.specs.declared.entry.NewSpot.{NewSpot}
-use Rattle.posting_core.proofs.Placed.{allowed_in}
+use Rattle.posting_core.specs.Book.{verdict_in}
 use Rattle.posting_core.proofs.Posted.{lawful_kept, carried_kept}
 use Rattle.posting_core.proofs.Spotted.{unplaced_spots, carried_below, found_spots}
-use Rattle.posting_core.proofs.ledger.Ledger.new_spots.Goals as goal
+use Rattle.posting_core.proofs.ledger.Ledger.spots_under.Goals as goal
 
 pub returns-in_default-clause-ok : goal.returns-in_default-clause-ok
-returns-in_default-clause-ok c = c.new.ensures ∙ unplaced_spots c.args.self.now.museum c.args.self.now.posted c.args.message.now (sym c.put_of.ensures ∙ c.in_default.is)
+returns-in_default-clause-ok c =
+    let B = c.args.self.now in
+    c.new.ensures ∙ unplaced_spots B.museum B.posted (verdict_in B c.args.message.now) c.args.message.now (sym c.requires.put ∙ c.in_default.is)
 
 pub spots_of-requires : goal.spots_of-requires
 spots_of-requires c =
@@ -18,8 +20,7 @@ returns-in-Some-place_to-clause-ok c =
     let B = c.args.self.now in
     let carried = c.as_slice.ensures ∙ carried_kept c.self.invariant c.self.view_is c.in-Some.put.thing _ c.in_ok-carried.ensures in
     let lawful = lawful_kept c.self.invariant c.self.view_is in
-    let allowed = allowed_in B c.args.message.now lawful c.requires.applied c.put_of.ensures c.in-Some.is in
     subst (λ (news : List NewSpot). IfOk c.spots_of.result (λ spots. spots ≡ news))
-    (found_spots B c.args.message.now lawful (sym c.put_of.ensures ∙ c.in-Some.is) allowed c.requires.number
+    (found_spots B c.args.message.now lawful (sym c.requires.put ∙ c.in-Some.is) c.requires.number
     (sym c.day_of.ensures ∙ c.in-Some-day_of.is) (sym c.place_to.ensures ∙ c.in-Some-place_to.is) carried)
     c.spots_of.ensures
