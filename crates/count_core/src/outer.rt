@@ -26,7 +26,7 @@ fn outer_places(alloc: Global, setup: &Setup, place: PlaceNo) -> Result<Vec<Plac
 {
     setup.is_museum();
     let code = setup.place_code(place);
-    let text = code.as_str().as_bytes();
+    let text = code.as_bytes();
     let mut places = Vec::new(alloc);
     for end in 0..text.len() {
         if let Some(outer) = outer_place(setup, text, end) {

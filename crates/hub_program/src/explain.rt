@@ -10,8 +10,10 @@ type Meaning = (&'static str, &'static str, &'static str);
 pub fn explain<W: Write>(name: &str, output: &mut W) -> Result<(), CommandFault> {
     for (known, meaning, advice) in MEANINGS {
         if *known == name {
-            let told = writeln!(output, "{known}: {meaning}. {advice}.");
-            return told.map_err(|_| CommandFault::WriteFailed);
+            return match writeln!(output, "{known}: {meaning}. {advice}.") {
+                Ok(()) => Ok(()),
+                Err(_) => Err(CommandFault::WriteFailed),
+            };
         }
     }
     Err(CommandFault::Name)

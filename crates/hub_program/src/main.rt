@@ -6,7 +6,6 @@ mod explain;
 mod fault;
 mod files;
 mod lines;
-mod log_lines;
 mod migration;
 mod progress;
 mod questions;

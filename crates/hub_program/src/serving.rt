@@ -1,15 +1,17 @@
 //! The command `serve`: a file of each station, all served at once over one record.
-ghost use Rattle.std.specs.Prelude.{◌≡◌, false, length, vec_len, IfOk};
+ghost use Rattle.std.specs.Prelude.{◌≡◌, false, length, vec_len, All, IfOk};
+ghost use Rattle.serve_core.specs.Logs.{AreOfStations, IsPlacedReply};
 ghost use Rattle.serve_core.specs.Sending.{IsOneOf};
 
 use crate::fault::CommandFault;
 use crate::files::{read_file, read_setup};
-use crate::log_lines::write_log;
+use crate::lines::write_line;
 use hub_core::Hub;
 use nest_core::Setup;
+use posting_core::Ledger;
 use register_sql::SqlRegister;
 use register_store::{PlainRegister, Register, StoreFault};
-use serve_core::{ServeFailed, ServeFault, Served, TextFeed, serve};
+use serve_core::{LogLine, ServeFailed, ServeFault, Served, TextFeed, add_logged, serve};
 use std::alloc::Global;
 use std::io::Write;
 use std::sync::Wait;
@@ -149,6 +151,26 @@ fn served<T: Threads + Wait + Copy + Send + 'static, S: Register, W: Write>(
             (hub.close(), Err(fault))
         }
     }
+}
+
+/// The reply to each line of a log, in its order, as a replay prints it; `STATION line K bad FAULT` for a faulty line. The
+/// ledger is that after the log.
+fn write_log<W: Write>(
+    alloc: Global,
+    ledger: &Ledger,
+    lines: &[LogLine],
+    output: &mut W,
+) -> Result<(), CommandFault>
+    requires stations { AreOfStations (length ledger.now.museum.stations) lines.now }
+    requires placed { All (λ l. IsPlacedReply ledger.now.museum l.reply) lines.now }
+{
+    let mut text = String::new(alloc);
+    for line in lines {
+        text.clear();
+        add_logged(&mut text, ledger, line)?;
+        write_line(output, &text)?;
+    }
+    Ok(())
 }
 
 /// Why a serving stopped, with the station's name where its lane gave no end.

@@ -4,10 +4,13 @@ use hub_core::{Answer, Arrival, Hub, HubFault};
 use nest_core::Setup;
 use register_sql::SqlRegister;
 use register_store::{Register, read_message};
-use sqlite::{Connection, Files, Options};
+use sqlite::{Connection, FileStore, Files, Options};
 use sqlite_disk::Disk;
 use station_core::Refusal;
 use std::alloc::Global;
+
+/// A register over two files.
+pub type Stored<D> = SqlRegister<FileStore<D>>;
 
 pub const SETUP: &str =
     "station,GAL\nplace,S1,inside\nplace,MUSEUM-X,elsewhere\nbox,C1\nown,2001.4.1,S1\n";
@@ -41,24 +44,46 @@ pub struct Ended<T, D: Disk> {
     pub given: T,
 }
 
-/// Opens a hub over the files, and sends it the three messages.
-pub fn run<D: Disk + Drop>(alloc: Global, files: Files<D>) -> Option<Ended<Sent, D>> {
+/// A register over the files, or the files where they aren't opened; none where they may not be used.
+pub fn opened<D: Disk + Drop>(
+    alloc: Global,
+    files: Files<D>,
+) -> Option<Result<Stored<D>, Files<D>>> {
     if !files.log.may_be_used() || !files.db.may_be_used() {
+        drop(files);
         return None;
     }
     match Connection::open_files(alloc, files, Options::new(7)) {
-        Ok(conn) => {
-            let (register, sent) = over(alloc, SqlRegister::adopt(conn));
-            let files = register.into_connection().into_store().close();
-            Some(Ended {
-                files,
-                given: sent?,
-            })
+        Ok(conn) => Some(Ok(SqlRegister::adopt(conn))),
+        Err((_, left)) => Some(Err(left.into_files())),
+    }
+}
+
+/// The files of a register that is over.
+pub fn closed<D: Disk + Drop>(register: Stored<D>) -> Files<D> {
+    register.into_connection().into_store().close()
+}
+
+/// Opens a hub over the files, and sends it the three messages.
+pub fn run<D: Disk + Drop>(alloc: Global, files: Files<D>) -> Option<Ended<Sent, D>> {
+    match opened(alloc, files) {
+        Some(Ok(register)) => {
+            let (register, sent) = over(alloc, register);
+            judged(closed(register), sent)
         }
-        Err((_, left)) => Some(Ended {
-            files: left.into_files(),
-            given: UNOPENED,
-        }),
+        Some(Err(files)) => judged(files, Some(UNOPENED)),
+        None => None,
+    }
+}
+
+/// The files with what a run over them did, where it could be judged.
+fn judged<D: Disk + Drop>(files: Files<D>, sent: Option<Sent>) -> Option<Ended<Sent, D>> {
+    match sent {
+        Some(given) => Some(Ended { files, given }),
+        None => {
+            drop(files);
+            None
+        }
     }
 }
 

@@ -1,5 +1,5 @@
-//! What the checks try of the register on a file and can't try of the program: a session over a database in memory, and
-//! postings and migrations over disks that stop at each of their calls in turn.
+//! What the checks try and time of the layers and can't try of the program: a session over a database in memory, postings
+//! and migrations over disks that stop at each of their calls in turn, and the check of a count list by itself.
 #![tactic(auto)]
 
 mod disks;
@@ -7,22 +7,41 @@ mod migrations;
 mod sending;
 mod session;
 mod stops;
+mod timing;
 
 use crate::migrations::{are_answers_right, count_migrations};
 use crate::session::answered;
 use crate::stops::count_stops;
+use crate::timing::timed;
 use std::io::{BufWriter, Read, Write};
 use std::process::ExitCode;
+use std::thread::Threads;
 use std::{env, io};
 
-/// With a word, a setup and lines on standard input, replies on standard output; with none, the stops.
+/// With the word `session` a setup and lines on standard input, and replies on standard output; with `count` and three files
+/// the microseconds of a check; with none the stops.
 fn main(rt: HostRuntime) -> ExitCode {
-    let has_word = env::args(&rt).is_ok_and(|words| words.count() > 1);
-    let done = if has_word { answer(&rt) } else { stop(&rt) };
+    let words = match env::args(&rt) {
+        Ok(words) => words.count(),
+        Err(_) => return ExitCode::FAILURE,
+    };
+    let done = match words {
+        0 | 1 => stop(&rt),
+        2 => answer(&rt),
+        _ => time(&rt, &rt),
+    };
     if done {
         ExitCode::SUCCESS
     } else {
         ExitCode::FAILURE
+    }
+}
+
+/// Times the check of a count list, and tells whether it could be timed.
+fn time<T: Threads + Sync>(rt: &HostRuntime, threads: &T) -> bool {
+    match timed(rt, threads) {
+        Some(micros) => println!(rt; "{micros}").is_ok(),
+        None => false,
     }
 }
 

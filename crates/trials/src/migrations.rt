@@ -1,11 +1,10 @@
 //! Migrations of a store of version 1 whose disk stops at each of its calls in turn.
 
 use crate::disks::{Pair, Stops, copied, left_after, new_files};
-use crate::sending::{Ended, SETUP, Sent, run};
+use crate::sending::{Ended, SETUP, Sent, Stored, closed, opened, run};
 use nest_core::Setup;
-use register_sql::SqlRegister;
 use register_store::StoreFault;
-use sqlite::{Connection, Files, Options};
+use sqlite::Files;
 use sqlite_disk::Disk;
 use std::alloc::Global;
 
@@ -144,19 +143,26 @@ fn is_answered(alloc: Global, store: &Pair, setup: &Setup, text: &str, answer: A
 
 /// The files of a store to which this was done; none where it can't be.
 fn changed<D: Disk + Drop>(alloc: Global, files: Files<D>, text: &str) -> Option<Files<D>> {
-    if !files.log.may_be_used() || !files.db.may_be_used() {
-        return None;
-    }
-    match Connection::open_files(alloc, files, Options::new(7)) {
-        Ok(mut conn) => {
-            let done = conn.execute_batch(text).is_ok();
-            let files = conn.into_store().close();
-            if done { Some(files) } else { None }
-        }
-        Err((_, left)) => {
-            drop(left.into_files());
+    match opened(alloc, files) {
+        Some(Ok(register)) => changed_store(register, text),
+        Some(Err(files)) => {
+            drop(files);
             None
         }
+        None => None,
+    }
+}
+
+/// The same of the store of this register.
+fn changed_store<D: Disk + Drop>(register: Stored<D>, text: &str) -> Option<Files<D>> {
+    let mut conn = register.into_connection();
+    let done = conn.execute_batch(text).is_ok();
+    let files = conn.into_store().close();
+    if done {
+        Some(files)
+    } else {
+        drop(files);
+        None
     }
 }
 
@@ -166,19 +172,18 @@ fn migrated<D: Disk + Drop>(
     files: Files<D>,
     setup: &Setup,
 ) -> Option<Ended<Answer, D>> {
-    if !files.log.may_be_used() || !files.db.may_be_used() {
-        return None;
-    }
-    match Connection::open_files(alloc, files, Options::new(7)) {
-        Ok(conn) => {
-            let mut register = SqlRegister::adopt(conn);
+    match opened(alloc, files) {
+        Some(Ok(mut register)) => {
             let given = register.migrate(alloc, setup);
-            let files = register.into_connection().into_store().close();
-            Some(Ended { files, given })
+            Some(Ended {
+                files: closed(register),
+                given,
+            })
         }
-        Err((_, left)) => Some(Ended {
-            files: left.into_files(),
+        Some(Err(files)) => Some(Ended {
+            files,
             given: Err(StoreFault::Store),
         }),
+        None => None,
     }
 }

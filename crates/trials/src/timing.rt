@@ -1,6 +1,6 @@
-//! The time of a check.
+//! The check of a count list, timed by itself, without the opening of a record and without printing.
 
-use count_core::{CountRow, check};
+use count_core::{CountRow, check, read_counts};
 use hub_core::{Hub, replay};
 use nest_core::Setup;
 use posting_core::Ledger;
@@ -8,13 +8,25 @@ use register_store::PlainRegister;
 use std::alloc::Global;
 use std::thread::Threads;
 use std::time::Instant;
+use std::{env, fs};
 
 /// How often a list is checked.
 const CHECKS: u32 = 50;
 
-/// The microseconds of the shortest of so many checks, after a hub of the setup has taken the lines; none where a check
-/// or the clock fails.
-pub fn shortest<T: Threads + Sync>(
+/// The microseconds of the shortest of so many checks of the files that the words behind the first one name: a setup, the
+/// lines before the check, and a list; none where they can't be read or checked.
+pub fn timed<T: Threads + Sync>(rt: &HostRuntime, threads: &T) -> Option<u128> {
+    let mut words = env::args(rt).ok()?.skip(2);
+    let setup = fs::read(rt, words.next()?.as_str()).ok()?;
+    let lines = fs::read(rt, words.next()?.as_str()).ok()?;
+    let list = fs::read(rt, words.next()?.as_str()).ok()?;
+    let rows = read_counts(rt.alloc(), list.as_slice()).ok()?;
+    let setup = Setup::read(rt.alloc(), setup.as_slice()).ok()?;
+    shortest(rt, threads, setup, lines.as_slice(), rows.as_slice())
+}
+
+/// The same, after a hub of the setup has taken the lines; none where a check or the clock fails.
+fn shortest<T: Threads + Sync>(
     rt: &HostRuntime,
     threads: &T,
     setup: Setup,
