@@ -1,2 +1,3 @@
 pub mod Naming
 pub mod WorkedRows
+pub mod Tables

@@ -4,7 +4,7 @@ use Rattle.clap.specs.Words.{Text}
 use Rattle.clap.proofs.OnLiterals.{clap_on_literals}
 use Rattle.clap.specs.declared.error.kind.ErrorKind.TheVariants.{ArgumentConflict, InvalidValue}
 use Rattle.clap.specs.declared.error.kind.ErrorKind.TheVariants.{UnknownArgument}
-use Rattle.command_words.specs.Commands.{away, posted, replay, serve}
+use Rattle.command_words.specs.Commands.{away, posted, register_app, replay, report_app, serve}
 use Rattle.command_words.specs.Words.{form_named, format_in, is_given, lacks, refusals, report_kinds}
 use Rattle.command_words.specs.Words.{status_of_kind, value, values}
 use Rattle.command_words.specs.declared.command.Format.TheVariants.{Csv, Json, Lines}
@@ -14,22 +14,23 @@ abbrev replay_words : List Text
 replay_words = codes "replay" ∷ codes "--setup" ∷ codes "a" ∷ codes "--store" ∷ codes "b" ∷ []
 
 pub replay_named : form_named replay_words ≡ Some replay
+unfolding register_app report_app
 replay_named = refl
 
 pub replay_setup : value replay.app replay_words (codes "setup") ≡ Some (codes "a")
-unfolding clap_on_literals
+unfolding clap_on_literals register_app report_app
 replay_setup = refl
 
 pub replay_store : value replay.app replay_words (codes "store") ≡ Some (codes "b")
-unfolding clap_on_literals
+unfolding clap_on_literals register_app report_app
 replay_store = refl
 
 pub replay_taken : refusals replay_words ≡ []
-unfolding clap_on_literals
+unfolding clap_on_literals register_app report_app
 replay_taken = refl
 
 pub replay_has_all : lacks (Some replay) replay_words ≡ false
-unfolding clap_on_literals
+unfolding clap_on_literals register_app report_app
 replay_has_all = refl
 
 -- serve --setup a f g
@@ -37,20 +38,20 @@ abbrev serve_words : List Text
 serve_words = codes "serve" ∷ codes "--setup" ∷ codes "a" ∷ codes "f" ∷ codes "g" ∷ []
 
 pub serve_feeds : values serve.app serve_words (codes "feeds") ≡ codes "f" ∷ codes "g" ∷ []
-unfolding clap_on_literals
+unfolding clap_on_literals register_app report_app
 serve_feeds = refl
 
 pub serve_setup : value serve.app serve_words (codes "setup") ≡ Some (codes "a")
-unfolding clap_on_literals
+unfolding clap_on_literals register_app report_app
 serve_setup = refl
 
 pub serve_in_memory : value serve.app serve_words (codes "store") ≡ None
-unfolding clap_on_literals
+unfolding clap_on_literals register_app report_app
 serve_in_memory = refl
 
 -- without a feed
 pub serve_no_feed : values serve.app (codes "serve" ∷ codes "--setup=a" ∷ []) (codes "feeds") ≡ []
-unfolding clap_on_literals
+unfolding clap_on_literals register_app report_app
 serve_no_feed = refl
 
 -- overdue --setup a --store b: the day is missing, and nothing is refused
@@ -58,26 +59,26 @@ abbrev no_day : List Text
 no_day = codes "overdue" ∷ codes "--setup" ∷ codes "a" ∷ codes "--store" ∷ codes "b" ∷ []
 
 pub no_day_taken : refusals no_day ≡ []
-unfolding clap_on_literals
+unfolding clap_on_literals register_app report_app
 no_day_taken = refl
 
 pub no_day_lacks : lacks (form_named no_day) no_day ≡ true
-unfolding clap_on_literals
+unfolding clap_on_literals register_app report_app
 no_day_lacks = refl
 
 -- posted --setup a --store b --from 7
 pub posted_from : value posted.app (codes "posted" ∷ codes "--setup" ∷ codes "a" ∷ codes "--store" ∷ codes "b"
     ∷ codes "--from" ∷ codes "7" ∷ []) (codes "from") ≡ Some (codes "7")
-unfolding clap_on_literals
+unfolding clap_on_literals register_app report_app
 posted_from = refl
 
 -- replay --setup a --progress, and without the option
 pub progress_asked : is_given replay.app (codes "replay" ∷ codes "--setup=a" ∷ codes "--progress" ∷ []) (codes "progress") ≡ true
-unfolding clap_on_literals
+unfolding clap_on_literals register_app report_app
 progress_asked = refl
 
 pub no_progress_asked : is_given replay.app replay_words (codes "progress") ≡ false
-unfolding clap_on_literals
+unfolding clap_on_literals register_app report_app
 no_progress_asked = refl
 
 -- away --setup a --store b, as plain lines, as comma-separated values, as JSON
@@ -85,19 +86,19 @@ abbrev away_words : List Text
 away_words = codes "away" ∷ codes "--setup=a" ∷ codes "--store=b" ∷ []
 
 pub away_lines : format_in away.app away_words ≡ Some Lines
-unfolding clap_on_literals
+unfolding clap_on_literals register_app report_app
 away_lines = refl
 
 pub away_csv : format_in away.app (away_words ++ codes "--csv" ∷ []) ≡ Some Csv
-unfolding clap_on_literals
+unfolding clap_on_literals register_app report_app
 away_csv = refl
 
 pub away_json : format_in away.app (away_words ++ codes "--json" ∷ []) ≡ Some Json
-unfolding clap_on_literals
+unfolding clap_on_literals register_app report_app
 away_json = refl
 
 pub away_csv_taken : report_kinds away.app (away_words ++ codes "--csv" ∷ []) ≡ []
-unfolding clap_on_literals
+unfolding clap_on_literals register_app report_app
 away_csv_taken = refl
 
 -- both forms at once are none, and refused, after what clap refuses
@@ -105,43 +106,43 @@ abbrev both_forms : List Text
 both_forms = away_words ++ codes "--csv" ∷ codes "--json" ∷ []
 
 pub both_forms_none : format_in away.app both_forms ≡ None
-unfolding clap_on_literals
+unfolding clap_on_literals register_app report_app
 both_forms_none = refl
 
 pub both_forms_refused : report_kinds away.app both_forms ≡ ArgumentConflict ∷ []
-unfolding clap_on_literals
+unfolding clap_on_literals register_app report_app
 both_forms_refused = refl
 
 pub word_refused_first : report_kinds away.app (both_forms ++ codes "x" ∷ []) ≡ UnknownArgument ∷ []
-unfolding clap_on_literals
+unfolding clap_on_literals register_app report_app
 word_refused_first = refl
 
 -- what is refused comes before what is missing: an option without its value, one given twice, a word too many
 pub value_missing : refusals (codes "replay" ∷ codes "--setup" ∷ []) ≡ InvalidValue ∷ []
-unfolding clap_on_literals
+unfolding clap_on_literals register_app report_app
 value_missing = refl
 
 pub setup_twice : refusals (codes "replay" ∷ codes "--setup=a" ∷ codes "--setup=b" ∷ []) ≡ ArgumentConflict ∷ []
-unfolding clap_on_literals
+unfolding clap_on_literals register_app report_app
 setup_twice = refl
 
 pub word_too_many : refusals (codes "away" ∷ codes "a" ∷ []) ≡ UnknownArgument ∷ []
-unfolding clap_on_literals
+unfolding clap_on_literals register_app report_app
 word_too_many = refl
 
 -- help is asked for, which is no mistake
 pub helped : map status_of_kind (refusals (codes "count" ∷ codes "--help" ∷ [])) ≡ 0 ∷ []
-unfolding clap_on_literals
+unfolding clap_on_literals register_app report_app
 helped = refl
 
 -- no command at all, and a word that names none
 pub no_words : refusals [] ≡ []
-unfolding clap_on_literals
+unfolding clap_on_literals register_app report_app
 no_words = refl
 
 pub no_words_lack : lacks (form_named []) [] ≡ true
 no_words_lack = refl
 
 pub misspelt : map status_of_kind (refusals (codes "replya" ∷ [])) ≡ 2 ∷ 2 ∷ []
-unfolding clap_on_literals
+unfolding clap_on_literals register_app report_app
 misspelt = refl

@@ -20,12 +20,12 @@ abbrev pub words_rule : Text → Rule
 words_rule id = record (new_rule id) { value_names = 1; action = Some Append }
 
 -- a command over a register, with a setup and a store
-abbrev pub register_app : Text → App
+unfoldable pub register_app : Text → App
 register_app name =
     with_rule (with_rule (new_app name) (option_rule (codes "setup"))) (option_rule (codes "store"))
 
 -- a command whose rows are printed as CSV or as JSON where that is asked for
-abbrev pub report_app : App → App
+unfoldable pub report_app : App → App
 report_app app = with_rule (with_rule app (flag_rule (codes "csv"))) (flag_rule (codes "json"))
 
 -- a command as clap reads it, the values that have to be there, and whether it is a report, which asks for one form at most

@@ -6,7 +6,6 @@
 
 mod command;
 mod options;
-mod question_shapes;
 mod questions;
 mod reading;
 mod shapes;

@@ -1,12 +1,63 @@
 //! The arguments of a command, and a command over a register.
-ghost use Rattle.std.specs.Prelude.{◌≡◌, false, IfOk, codes};
+ghost use Rattle.std.specs.Prelude.{◌≡◌, false, IfOk};
 ghost use Rattle.clap.specs.Words.{app_of, rule_of, with_rule};
 ghost use Rattle.command_words.specs.Commands.{flag_rule, option_rule, register_app, report_app, word_rule};
 ghost use Rattle.command_words.specs.Commands.{words_rule};
+ghost use Rattle.command_words.specs.Tables.{rule_by, with_own};
 
 use crate::texts::Help;
 use clap::{Arg, ArgAction, Command};
 use std::alloc::{AllocError, Global};
+
+/// How an argument takes its values.
+#[derive(Clone, Copy)]
+pub(crate) enum Kind {
+    /// One, behind its name, as `--setup PATH`.
+    Valued,
+    /// None: its name is all, as `--csv`.
+    Flag,
+    /// One, by its place, as LIST.
+    Word,
+    /// Any number, by their place, as FEEDS.
+    Words,
+}
+
+/// An argument, and what the help says of it.
+#[derive(Clone, Copy)]
+pub(crate) struct Argument {
+    pub kind: Kind,
+    pub id: &'static str,
+    pub value: &'static str,
+    pub help: &'static str,
+}
+
+const SETUP: Argument = Argument {
+    kind: Kind::Valued,
+    id: "setup",
+    value: "PATH",
+    help: "The museum's setup file",
+};
+
+const STORE: Argument = Argument {
+    kind: Kind::Valued,
+    id: "store",
+    value: "PATH",
+    help: "The file that keeps the record",
+};
+
+const CSV: Argument = Argument {
+    kind: Kind::Flag,
+    id: "csv",
+    value: "",
+    help: "Print comma-separated values, under a row of their names",
+};
+
+const JSON: Argument = Argument {
+    kind: Kind::Flag,
+    id: "json",
+    value: "",
+    help: "Print one JSON object a line",
+};
 
 /// An option with a value, as `--setup PATH`.
 pub(crate) fn option<'a>(alloc: Global, id: &'a str, value: &'a str, help: &'a str) -> Arg<'a>
@@ -58,12 +109,28 @@ pub(crate) fn several_words<'a>(
         .help(help)
 }
 
-/// A command with one argument more.
-pub(crate) fn with<'a>(command: Command<'a>, arg: Arg<'a>) -> Result<Command<'a>, AllocError>
-    requires { arg.global ≡ false }
-    ensures { IfOk result (λ r. app_of r ≡ with_rule (app_of command.entry) (rule_of arg.entry)) }
+/// An argument as `clap` reads it.
+fn made<'a>(alloc: Global, argument: &Argument) -> Arg<'a>
+    ensures rule { rule_of result ≡ rule_by argument.now }
+    ensures local { result.global ≡ false }
 {
-    command.arg(arg)
+    match argument.kind {
+        Kind::Valued => option(alloc, argument.id, argument.value, argument.help),
+        Kind::Flag => flag(alloc, argument.id, argument.help),
+        Kind::Word => word(alloc, argument.id, argument.value, argument.help),
+        Kind::Words => several_words(alloc, argument.id, argument.value, argument.help),
+    }
+}
+
+/// A command with one argument more.
+pub(crate) fn with<'a>(
+    alloc: Global,
+    command: Command<'a>,
+    argument: &Argument,
+) -> Result<Command<'a>, AllocError>
+    ensures { IfOk result (λ r. app_of r ≡ with_rule (app_of command.entry) (rule_by argument.now)) }
+{
+    command.arg(made(alloc, argument))
 }
 
 /// A command with its help.
@@ -76,39 +143,36 @@ pub(crate) fn with_help<'a>(command: Command<'a>, help: &Help) -> Command<'a>
         .after_help(help.more)
 }
 
-/// A command over a register, with a setup and a store.
+/// A command over a register, with a setup and a store, and an argument of its own, if it has one.
+#[tactic(auto, unfolding(crate::specs::Commands::register_app))]
 pub(crate) fn over_a_register<'a>(
     alloc: Global,
     name: &'a str,
     help: &Help,
+    own: Option<&Argument>,
 ) -> Result<Command<'a>, AllocError>
-    ensures { IfOk result (λ r. app_of r ≡ register_app name.now) }
+    ensures { IfOk result (λ r. app_of r ≡ with_own (register_app name.now) own.entry) }
 {
     let command = with_help(Command::new(alloc, name), help);
-    let command = with(
-        command,
-        option(alloc, "setup", "PATH", "The museum's setup file"),
-    )?;
-    with(
-        command,
-        option(alloc, "store", "PATH", "The file that keeps the record"),
-    )
+    let command = with(alloc, command, &SETUP)?;
+    let command = with(alloc, command, &STORE)?;
+    match own {
+        Some(own) => with(alloc, command, own),
+        None => Ok(command),
+    }
 }
 
 /// A report, with the two options that ask for another form of its rows.
-pub(crate) fn with_formats<'a>(
+#[tactic(auto, unfolding(crate::specs::Commands::report_app))]
+pub(crate) fn report<'a>(
     alloc: Global,
-    command: Command<'a>,
+    name: &'a str,
+    help: &Help,
+    own: Option<&Argument>,
 ) -> Result<Command<'a>, AllocError>
-    ensures { IfOk result (λ r. app_of r ≡ report_app (app_of command.entry)) }
+    ensures { IfOk result (λ r. app_of r ≡ report_app (with_own (register_app name.now) own.entry)) }
 {
-    let command = with(
-        command,
-        flag(
-            alloc,
-            "csv",
-            "Print comma-separated values, under a row of their names",
-        ),
-    )?;
-    with(command, flag(alloc, "json", "Print one JSON object a line"))
+    let command = over_a_register(alloc, name, help, own)?;
+    let command = with(alloc, command, &CSV)?;
+    with(alloc, command, &JSON)
 }

@@ -1,17 +1,20 @@
 //! The commands that ask a record one question.
+#![tactic(auto, unfolding(crate::specs::Tables::app_by))]
+
 ghost use Rattle.std.specs.Prelude.{Some, codes};
 ghost use Rattle.command_words.specs.Commands as commands;
 ghost use Rattle.command_words.specs.Words.{Chooses, IsNamed, texts_of};
 
 use crate::reading::{read_report, read_report_and, read_report_and_perhaps, read_word};
-use crate::{Chosen, WordsFault, question_shapes};
+use crate::shapes::Name;
+use crate::{Chosen, WordsFault};
 use std::alloc::Global;
 
 pub(crate) fn explain<'a>(alloc: Global, words: &'a [&'a str]) -> Result<Chosen<'a>, WordsFault>
     requires { IsNamed (texts_of words.now) (codes "explain") }
     ensures { Chooses (Some commands.explain) (texts_of words.now) result }
 {
-    let name = read_word(question_shapes::explain_command(alloc)?, words, "name")?;
+    let name = read_word(alloc, Name::Explain, words, "name")?;
     Ok(Chosen::Explain { name })
 }
 
@@ -19,7 +22,7 @@ pub(crate) fn stations<'a>(alloc: Global, words: &'a [&'a str]) -> Result<Chosen
     requires { IsNamed (texts_of words.now) (codes "stations") }
     ensures { Chooses (Some commands.stations) (texts_of words.now) result }
 {
-    let report = read_report(question_shapes::stations_command(alloc)?, words)?;
+    let report = read_report(alloc, Name::Stations, words)?;
     Ok(Chosen::Stations {
         setup: report.setup,
         store: report.store,
@@ -31,7 +34,7 @@ pub(crate) fn where_is<'a>(alloc: Global, words: &'a [&'a str]) -> Result<Chosen
     requires { IsNamed (texts_of words.now) (codes "where") }
     ensures { Chooses (Some commands.where_is) (texts_of words.now) result }
 {
-    let (report, code) = read_report_and(question_shapes::where_command(alloc)?, words, "code")?;
+    let (report, code) = read_report_and(alloc, Name::Where, words, "code")?;
     Ok(Chosen::Where {
         setup: report.setup,
         store: report.store,
@@ -44,7 +47,7 @@ pub(crate) fn contents<'a>(alloc: Global, words: &'a [&'a str]) -> Result<Chosen
     requires { IsNamed (texts_of words.now) (codes "contents") }
     ensures { Chooses (Some commands.contents) (texts_of words.now) result }
 {
-    let (report, code) = read_report_and(question_shapes::contents_command(alloc)?, words, "code")?;
+    let (report, code) = read_report_and(alloc, Name::Contents, words, "code")?;
     Ok(Chosen::Contents {
         setup: report.setup,
         store: report.store,
@@ -57,7 +60,7 @@ pub(crate) fn loan<'a>(alloc: Global, words: &'a [&'a str]) -> Result<Chosen<'a>
     requires { IsNamed (texts_of words.now) (codes "loan") }
     ensures { Chooses (Some commands.loan) (texts_of words.now) result }
 {
-    let (report, code) = read_report_and(question_shapes::loan_command(alloc)?, words, "code")?;
+    let (report, code) = read_report_and(alloc, Name::Loan, words, "code")?;
     Ok(Chosen::Loan {
         setup: report.setup,
         store: report.store,
@@ -70,7 +73,7 @@ pub(crate) fn at<'a>(alloc: Global, words: &'a [&'a str]) -> Result<Chosen<'a>, 
     requires { IsNamed (texts_of words.now) (codes "at") }
     ensures { Chooses (Some commands.at) (texts_of words.now) result }
 {
-    let (report, place) = read_report_and(question_shapes::at_command(alloc)?, words, "place")?;
+    let (report, place) = read_report_and(alloc, Name::At, words, "place")?;
     Ok(Chosen::At {
         setup: report.setup,
         store: report.store,
@@ -83,11 +86,7 @@ pub(crate) fn posted<'a>(alloc: Global, words: &'a [&'a str]) -> Result<Chosen<'
     requires { IsNamed (texts_of words.now) (codes "posted") }
     ensures { Chooses (Some commands.posted) (texts_of words.now) result }
 {
-    let (report, from) = read_report_and_perhaps(
-        question_shapes::posted_command(alloc)?,
-        words,
-        "from",
-    )?;
+    let (report, from) = read_report_and_perhaps(alloc, Name::Posted, words, "from")?;
     Ok(Chosen::Posted {
         setup: report.setup,
         store: report.store,

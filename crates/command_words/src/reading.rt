@@ -3,11 +3,13 @@ ghost use Rattle.std.specs.Prelude.{◌≡◌, [], IfOk, MatchResult, None, Some
 ghost use Rattle.clap.specs.Faults.{fault_of, is_simple_and_free};
 ghost use Rattle.clap.specs.Words.{app_of, first_of, found_of, kind_of, rows_of};
 ghost use Rattle.command_words.specs.Commands.{all_needed, both_needed, one_needed, report};
+ghost use Rattle.command_words.specs.Tables.{app_by};
 ghost use Rattle.command_words.specs.Words.{GivesAsked, GivesFiles, GivesRecord, GivesReport, IsFaultBy};
 ghost use Rattle.command_words.specs.Words.{IsRead, IsReadAs, IsRefused, IsRefusedReport, all_in, is_given};
 ghost use Rattle.command_words.specs.Words.{format_by, is_true, text_of, texts_of, value, values};
 ghost use Rattle.command_words.specs.declared.command.WordsFault.TheVariants.{Missing, NoMemory};
 
+use crate::shapes::{Name, command_of};
 use crate::{Format, WordsFault};
 use clap::error::ErrorKind;
 use clap::{ArgMatches, Command, Error};
@@ -44,17 +46,42 @@ struct Asked<'a> {
     own: Option<&'a str>,
 }
 
-/// What `clap` makes of the words, or why it refuses them.
-pub(crate) fn read<'a>(
-    command: Command<'a>,
+/// What `clap` makes of the words, or why it refuses them; the command stays.
+pub(crate) fn read_on<'a>(
+    command: &mut Command<'a>,
     words: &'a [&'a str],
 ) -> Result<ArgMatches<'a>, WordsFault>
-    requires { is_simple_and_free (app_of command) ≡ true }
+    requires { is_simple_and_free (app_of command.old) ≡ true }
     ensures { MatchResult result
-        (λ m. IsRead (app_of command.entry) (texts_of words.now) (rows_of (found_of m)))
-        (IsRefused (app_of command.entry) (texts_of words.now)) }
+        (λ m. IsRead (app_of command.old) (texts_of words.now) (rows_of (found_of m)))
+        (IsRefused (app_of command.old) (texts_of words.now)) }
 {
-    Ok(command.try_get_matches_from(words)?)
+    Ok(command.try_get_matches_from_mut(words)?)
+}
+
+/// What `clap` makes of the words of a command, or why it refuses them, with the command.
+fn read_with_command<'a>(
+    alloc: Global,
+    name: Name,
+    words: &'a [&'a str],
+) -> Result<(Command<'a>, ArgMatches<'a>), WordsFault>
+    ensures { MatchResult result
+        (λ r. IsRead (app_by name) (texts_of words.now) (rows_of (found_of r.1)))
+        (IsRefused (app_by name) (texts_of words.now)) }
+{
+    let mut command = command_of(alloc, name)?;
+    let matches = read_on(&mut command, words)?;
+    Ok((command, matches))
+}
+
+/// What `clap` makes of the words of a command, or why it refuses them.
+fn read<'a>(alloc: Global, name: Name, words: &'a [&'a str]) -> Result<ArgMatches<'a>, WordsFault>
+    ensures { MatchResult result
+        (λ m. IsRead (app_by name) (texts_of words.now) (rows_of (found_of m)))
+        (IsRefused (app_by name) (texts_of words.now)) }
+{
+    let (_command, matches) = read_with_command(alloc, name, words)?;
+    Ok(matches)
 }
 
 /// The value of an argument, if it is there.
@@ -112,13 +139,12 @@ fn format_of(csv: bool, json: bool) -> Option<Format>
 }
 
 /// The files of a command over a register.
-fn read_files<'a>(command: Command<'a>, words: &'a [&'a str]) -> Result<Files<'a>, WordsFault>
-    requires { is_simple_and_free (app_of command) ≡ true }
+fn read_files<'a>(alloc: Global, name: Name, words: &'a [&'a str]) -> Result<Files<'a>, WordsFault>
     ensures { MatchResult result
-        (GivesFiles (app_of command.entry) (texts_of words.now))
-        (IsRefused (app_of command.entry) (texts_of words.now)) }
+        (GivesFiles (app_by name) (texts_of words.now))
+        (IsRefused (app_by name) (texts_of words.now)) }
 {
-    let matches = read(command, words)?;
+    let matches = read(alloc, name, words)?;
     let files = files_of(&matches);
     drop(matches);
     Ok(files)
@@ -126,17 +152,17 @@ fn read_files<'a>(command: Command<'a>, words: &'a [&'a str]) -> Result<Files<'a
 
 /// The files of a command over a register, and whether an option without a value is given.
 pub(crate) fn read_files_and_flag<'a>(
-    command: Command<'a>,
+    alloc: Global,
+    name: Name,
     words: &'a [&'a str],
     id: &'static str,
 ) -> Result<(Files<'a>, bool), WordsFault>
-    requires { is_simple_and_free (app_of command) ≡ true }
     ensures { MatchResult result
-        (λ r. GivesFiles (app_of command.entry) (texts_of words.now) r.0
-        × (is_given (app_of command.entry) (texts_of words.now) id.now ≡ r.1))
-        (IsRefused (app_of command.entry) (texts_of words.now)) }
+        (λ r. GivesFiles (app_by name) (texts_of words.now) r.0
+        × (is_given (app_by name) (texts_of words.now) id.now ≡ r.1))
+        (IsRefused (app_by name) (texts_of words.now)) }
 {
-    let matches = read(command, words)?;
+    let matches = read(alloc, name, words)?;
     let files = files_of(&matches);
     let given = is_set(&matches, id);
     drop(matches);
@@ -146,17 +172,16 @@ pub(crate) fn read_files_and_flag<'a>(
 /// The files of a command over a register, and all values of one argument more.
 pub(crate) fn read_files_and_all<'a>(
     alloc: Global,
-    command: Command<'a>,
+    name: Name,
     words: &'a [&'a str],
     id: &'static str,
 ) -> Result<(Files<'a>, Vec<&'a str>), WordsFault>
-    requires { is_simple_and_free (app_of command) ≡ true }
     ensures { MatchResult result
-        (λ r. GivesFiles (app_of command.entry) (texts_of words.now) r.0
-        × (values (app_of command.entry) (texts_of words.now) id.now ≡ texts_of r.1.items))
-        (IsRefused (app_of command.entry) (texts_of words.now)) }
+        (λ r. GivesFiles (app_by name) (texts_of words.now) r.0
+        × (values (app_by name) (texts_of words.now) id.now ≡ texts_of r.1.items))
+        (IsRefused (app_by name) (texts_of words.now)) }
 {
-    let matches = read(command, words)?;
+    let matches = read(alloc, name, words)?;
     let files = files_of(&matches);
     let given = all(alloc, &matches, id);
     drop(matches);
@@ -177,15 +202,15 @@ pub(crate) fn needed(value: Option<&str>) -> Result<&str, WordsFault>
 
 /// The setup and the store of a command that needs both.
 pub(crate) fn read_record<'a>(
-    command: Command<'a>,
+    alloc: Global,
+    name: Name,
     words: &'a [&'a str],
 ) -> Result<Record<'a>, WordsFault>
-    requires { is_simple_and_free (app_of command) ≡ true }
     ensures { MatchResult result
-        (GivesRecord (app_of command.entry) (texts_of words.now))
-        (IsFaultBy (Some (both_needed (app_of command.entry))) (texts_of words.now)) }
+        (GivesRecord (app_by name) (texts_of words.now))
+        (IsFaultBy (Some (both_needed (app_by name))) (texts_of words.now)) }
 {
-    let files = read_files(command, words)?;
+    let files = read_files(alloc, name, words)?;
     Ok(Record {
         setup: needed(files.setup)?,
         store: needed(files.store)?,
@@ -195,32 +220,19 @@ pub(crate) fn read_record<'a>(
 /// What `clap` makes of the words of a report, and the form of its rows. Two forms at once are refused as `clap` refuses
 /// two options that exclude each other.
 fn read_format<'a>(
-    mut command: Command<'a>,
+    alloc: Global,
+    name: Name,
     words: &'a [&'a str],
 ) -> Result<(ArgMatches<'a>, Format), WordsFault>
-    requires { is_simple_and_free (app_of command) ≡ true }
     ensures { MatchResult result
-        (λ r. IsReadAs (app_of command.entry) (texts_of words.now) (rows_of (found_of r.0)) r.1)
-        (IsRefusedReport (app_of command.entry) (texts_of words.now)) }
+        (λ r. IsReadAs (app_by name) (texts_of words.now) (rows_of (found_of r.0)) r.1)
+        (IsRefusedReport (app_by name) (texts_of words.now)) }
 {
-    let matches = read_on(&mut command, words)?;
+    let (command, matches) = read_with_command(alloc, name, words)?;
     match format_of(is_set(&matches, "csv"), is_set(&matches, "json")) {
         Some(format) => Ok((matches, format)),
         None => Err(WordsFault::Refused(both_formats(command)?)),
     }
-}
-
-/// What `clap` makes of the words, or why it refuses them; the command stays.
-fn read_on<'a>(
-    command: &mut Command<'a>,
-    words: &'a [&'a str],
-) -> Result<ArgMatches<'a>, WordsFault>
-    requires { is_simple_and_free (app_of command.old) ≡ true }
-    ensures { MatchResult result
-        (λ m. IsRead (app_of command.old) (texts_of words.now) (rows_of (found_of m)))
-        (IsRefused (app_of command.old) (texts_of words.now)) }
-{
-    Ok(command.try_get_matches_from_mut(words)?)
 }
 
 /// `clap`'s error for two options that exclude each other.
@@ -235,16 +247,16 @@ fn both_formats(mut command: Command<'_>) -> Result<Error, AllocError>
 
 /// What the words give a report, and the value of one argument more.
 fn read_asked<'a>(
-    command: Command<'a>,
+    alloc: Global,
+    name: Name,
     words: &'a [&'a str],
     id: &'static str,
 ) -> Result<Asked<'a>, WordsFault>
-    requires { is_simple_and_free (app_of command) ≡ true }
     ensures { MatchResult result
-        (GivesAsked (app_of command.entry) (texts_of words.now) id.now)
-        (IsRefusedReport (app_of command.entry) (texts_of words.now)) }
+        (GivesAsked (app_by name) (texts_of words.now) id.now)
+        (IsRefusedReport (app_by name) (texts_of words.now)) }
 {
-    let (matches, format) = read_format(command, words)?;
+    let (matches, format) = read_format(alloc, name, words)?;
     let files = files_of(&matches);
     let own = one(&matches, id);
     drop(matches);
@@ -253,15 +265,15 @@ fn read_asked<'a>(
 
 /// The setup and the store of a report, and the form of its rows.
 pub(crate) fn read_report<'a>(
-    command: Command<'a>,
+    alloc: Global,
+    name: Name,
     words: &'a [&'a str],
 ) -> Result<Report<'a>, WordsFault>
-    requires { is_simple_and_free (app_of command) ≡ true }
     ensures { MatchResult result
-        (GivesReport (app_of command.entry) (texts_of words.now))
-        (IsFaultBy (Some (report (both_needed (app_of command.entry)))) (texts_of words.now)) }
+        (GivesReport (app_by name) (texts_of words.now))
+        (IsFaultBy (Some (report (both_needed (app_by name)))) (texts_of words.now)) }
 {
-    let (matches, format) = read_format(command, words)?;
+    let (matches, format) = read_format(alloc, name, words)?;
     let files = files_of(&matches);
     drop(matches);
     Ok(Report {
@@ -273,18 +285,18 @@ pub(crate) fn read_report<'a>(
 
 /// What a report needs, and the value of one argument more, which it needs too.
 pub(crate) fn read_report_and<'a>(
-    command: Command<'a>,
+    alloc: Global,
+    name: Name,
     words: &'a [&'a str],
     id: &'static str,
 ) -> Result<(Report<'a>, &'a str), WordsFault>
-    requires { is_simple_and_free (app_of command) ≡ true }
     ensures { MatchResult result
-        (λ r. GivesReport (app_of command.entry) (texts_of words.now) r.0
-        × (value (app_of command.entry) (texts_of words.now) id.now ≡ Some r.1.now))
-        (IsFaultBy (Some (report (all_needed (app_of command.entry) id.now)))
+        (λ r. GivesReport (app_by name) (texts_of words.now) r.0
+        × (value (app_by name) (texts_of words.now) id.now ≡ Some r.1.now))
+        (IsFaultBy (Some (report (all_needed (app_by name) id.now)))
         (texts_of words.now)) }
 {
-    let asked = read_asked(command, words, id)?;
+    let asked = read_asked(alloc, name, words, id)?;
     let report = Report {
         setup: needed(asked.files.setup)?,
         store: needed(asked.files.store)?,
@@ -295,17 +307,17 @@ pub(crate) fn read_report_and<'a>(
 
 /// What a report needs, and the value of one argument more, if it is there.
 pub(crate) fn read_report_and_perhaps<'a>(
-    command: Command<'a>,
+    alloc: Global,
+    name: Name,
     words: &'a [&'a str],
     id: &'static str,
 ) -> Result<(Report<'a>, Option<&'a str>), WordsFault>
-    requires { is_simple_and_free (app_of command) ≡ true }
     ensures { MatchResult result
-        (λ r. GivesReport (app_of command.entry) (texts_of words.now) r.0
-        × (value (app_of command.entry) (texts_of words.now) id.now ≡ text_of r.1))
-        (IsFaultBy (Some (report (both_needed (app_of command.entry)))) (texts_of words.now)) }
+        (λ r. GivesReport (app_by name) (texts_of words.now) r.0
+        × (value (app_by name) (texts_of words.now) id.now ≡ text_of r.1))
+        (IsFaultBy (Some (report (both_needed (app_by name)))) (texts_of words.now)) }
 {
-    let asked = read_asked(command, words, id)?;
+    let asked = read_asked(alloc, name, words, id)?;
     let report = Report {
         setup: needed(asked.files.setup)?,
         store: needed(asked.files.store)?,
@@ -316,17 +328,17 @@ pub(crate) fn read_report_and_perhaps<'a>(
 
 /// The value of the one argument of a command that needs no more.
 pub(crate) fn read_word<'a>(
-    command: Command<'a>,
+    alloc: Global,
+    name: Name,
     words: &'a [&'a str],
     id: &'static str,
 ) -> Result<&'a str, WordsFault>
-    requires { is_simple_and_free (app_of command) ≡ true }
     ensures { MatchResult result
-        (λ r. (fault_of (app_of command.entry) (texts_of words.now) ≡ [])
-        × (value (app_of command.entry) (texts_of words.now) id.now ≡ Some r.now))
-        (IsFaultBy (Some (one_needed (app_of command.entry) id.now)) (texts_of words.now)) }
+        (λ r. (fault_of (app_by name) (texts_of words.now) ≡ [])
+        × (value (app_by name) (texts_of words.now) id.now ≡ Some r.now))
+        (IsFaultBy (Some (one_needed (app_by name) id.now)) (texts_of words.now)) }
 {
-    let matches = read(command, words)?;
+    let matches = read(alloc, name, words)?;
     let own = one(&matches, id);
     drop(matches);
     needed(own)

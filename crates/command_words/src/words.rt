@@ -1,14 +1,17 @@
 //! The command that the words choose.
+#![tactic(auto, unfolding(crate::specs::Tables::app_by))]
+
 ghost use Rattle.std.specs.Prelude.{◌≡◌, ◌∷◌, [], IfErr, IfOk, None, OnOk, Some, codes};
 ghost use Rattle.command_words.specs.Commands as commands;
 ghost use Rattle.command_words.specs.Words.{Chooses, IsChosen, IsFault, IsNamed, form_named, refusals, texts_of};
 
 use crate::questions::{at, contents, explain, loan, posted, stations, where_is};
 use crate::reading::{
-    needed, read, read_files_and_all, read_files_and_flag, read_record, read_report,
+    needed, read_files_and_all, read_files_and_flag, read_on, read_record, read_report,
     read_report_and,
 };
-use crate::{Chosen, WordsFault, shapes};
+use crate::shapes::{self, Name};
+use crate::{Chosen, WordsFault};
 use std::alloc::{AllocError, Global};
 
 /// The command that the words choose, which are those after the program's name. The first word names it, and each
@@ -27,6 +30,7 @@ pub fn chosen<'a>(alloc: Global, words: &'a [&'a str]) -> Result<Chosen<'a>, Wor
 }
 
 /// What the words come to, of which the first is this name.
+#[tactic(auto, unfolding(crate::specs::Commands::register_app, crate::specs::Commands::report_app))]
 fn named<'a>(alloc: Global, name: &str, words: &'a [&'a str]) -> Result<Chosen<'a>, WordsFault>
     requires { IsNamed (texts_of words.now) name.now }
     ensures { Chooses (form_named (texts_of words.now)) (texts_of words.now) result }
@@ -54,7 +58,7 @@ fn replay<'a>(alloc: Global, words: &'a [&'a str]) -> Result<Chosen<'a>, WordsFa
     requires { IsNamed (texts_of words.now) (codes "replay") }
     ensures { Chooses (Some commands.replay) (texts_of words.now) result }
 {
-    let (files, progress) = read_files_and_flag(shapes::replay_command(alloc)?, words, "progress")?;
+    let (files, progress) = read_files_and_flag(alloc, Name::Replay, words, "progress")?;
     Ok(Chosen::Replay {
         setup: needed(files.setup)?,
         store: files.store,
@@ -66,7 +70,7 @@ fn serve<'a>(alloc: Global, words: &'a [&'a str]) -> Result<Chosen<'a>, WordsFau
     requires { IsNamed (texts_of words.now) (codes "serve") }
     ensures { Chooses (Some commands.serve) (texts_of words.now) result }
 {
-    let (files, feeds) = read_files_and_all(alloc, shapes::serve_command(alloc)?, words, "feeds")?;
+    let (files, feeds) = read_files_and_all(alloc, Name::Serve, words, "feeds")?;
     Ok(Chosen::Serve {
         setup: needed(files.setup)?,
         store: files.store,
@@ -78,7 +82,7 @@ fn count<'a>(alloc: Global, words: &'a [&'a str]) -> Result<Chosen<'a>, WordsFau
     requires { IsNamed (texts_of words.now) (codes "count") }
     ensures { Chooses (Some commands.count) (texts_of words.now) result }
 {
-    let (report, list) = read_report_and(shapes::count_command(alloc)?, words, "list")?;
+    let (report, list) = read_report_and(alloc, Name::Count, words, "list")?;
     Ok(Chosen::Count {
         setup: report.setup,
         store: report.store,
@@ -91,7 +95,7 @@ fn overdue<'a>(alloc: Global, words: &'a [&'a str]) -> Result<Chosen<'a>, WordsF
     requires { IsNamed (texts_of words.now) (codes "overdue") }
     ensures { Chooses (Some commands.overdue) (texts_of words.now) result }
 {
-    let (report, on) = read_report_and(shapes::overdue_command(alloc)?, words, "on")?;
+    let (report, on) = read_report_and(alloc, Name::Overdue, words, "on")?;
     Ok(Chosen::Overdue {
         setup: report.setup,
         store: report.store,
@@ -104,7 +108,7 @@ fn away<'a>(alloc: Global, words: &'a [&'a str]) -> Result<Chosen<'a>, WordsFaul
     requires { IsNamed (texts_of words.now) (codes "away") }
     ensures { Chooses (Some commands.away) (texts_of words.now) result }
 {
-    let report = read_report(shapes::away_command(alloc)?, words)?;
+    let report = read_report(alloc, Name::Away, words)?;
     Ok(Chosen::Away {
         setup: report.setup,
         store: report.store,
@@ -116,7 +120,7 @@ fn history<'a>(alloc: Global, words: &'a [&'a str]) -> Result<Chosen<'a>, WordsF
     requires { IsNamed (texts_of words.now) (codes "history") }
     ensures { Chooses (Some commands.history) (texts_of words.now) result }
 {
-    let (report, code) = read_report_and(shapes::history_command(alloc)?, words, "code")?;
+    let (report, code) = read_report_and(alloc, Name::History, words, "code")?;
     Ok(Chosen::History {
         setup: report.setup,
         store: report.store,
@@ -129,7 +133,7 @@ fn migrate<'a>(alloc: Global, words: &'a [&'a str]) -> Result<Chosen<'a>, WordsF
     requires { IsNamed (texts_of words.now) (codes "migrate") }
     ensures { Chooses (Some commands.migrate) (texts_of words.now) result }
 {
-    let record = read_record(shapes::migrate_command(alloc)?, words)?;
+    let record = read_record(alloc, Name::Migrate, words)?;
     Ok(Chosen::Migrate {
         setup: record.setup,
         store: record.store,
@@ -141,7 +145,8 @@ fn no_command<'a>(alloc: Global, words: &'a [&'a str]) -> Result<Chosen<'a>, Wor
     ensures { Chooses None (texts_of words.now) result }
 {
     let line = whole_line(alloc, words)?;
-    drop(read(shapes::overview_command(alloc)?, line.as_slice())?);
+    let mut command = shapes::overview_command(alloc)?;
+    drop(read_on(&mut command, line.as_slice())?);
     Err(WordsFault::Missing)
 }
 

@@ -1,6 +1,6 @@
-use Rattle.std.proofs.Common.{◌≡◌, ◌∙◌, ◌&&◌, Bool, ap, arith, false, not, refl, true}
-use Rattle.std.proofs.lemmas.Result.{IfOk-at_ok, IfOk-weaker}
-use Rattle.clap.specs.Words.{App, app_of, shape_of, with_subcommand}
+use Rattle.std.proofs.Common.{◌≡◌, ◌&&◌, Bool, arith, false, not, refl, true}
+use Rattle.std.proofs.lemmas.Result.{IfOk-weaker}
+use Rattle.clap.specs.Words.{shape_of}
 use Rattle.clap.specs.declared.builder.command.Command.{Command}
 use Rattle.clap.specs.declared.builder.command.Command.TheViews.{out-Command as fields_of}
 use Rattle.command_words.proofs.shapes.with_command.Goals as goal
@@ -17,8 +17,6 @@ no_globals command e = third_fails _ _ _ _ e
 
 pub returns : goal.returns
 returns c =
-    let local = no_globals _ (IfOk-at_ok (λ s. (shape_of s).is_plain ≡ true) c.in_ok-command.was c.requires) in
-    rw c.in_ok-command.was (IfOk-weaker c.subcommand.result _ _
-    (λ r added form is_form. added.shape local
-    ∙ ap (λ (a : App). with_subcommand (app_of c.args.above) a.top) is_form)
-    c.subcommand.ensures)
+    IfOk-weaker c.subcommand.result _ _
+    (λ r added. added.shape (no_globals c.args.command c.requires))
+    c.subcommand.ensures

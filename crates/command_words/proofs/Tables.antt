@@ -1,0 +1,77 @@
+-- The commands of the table are of those that clap's clauses speak of.
+use Rattle.std.proofs.Common.{◌≡◌, ◌<◌, ◌+◌, ◌∙◌, ◌∷◌, List, [], ap, drop, get_or, length, refl, sym, true, ℕ}
+use Rattle.std.proofs.lemmas.List.{at_drop_more}
+use Rattle.clap.specs.Words.{App, app_of, is_simple_and_free, shape_of, with_subcommand}
+use Rattle.clap.specs.declared.builder.command.Command.{Command}
+use Rattle.command_words.specs.Commands.{overview, program_alone, register_app, report_app}
+use Rattle.command_words.specs.Tables.{app_by, with_commands}
+use Rattle.command_words.specs.declared.shapes.Name.{Name}
+use Rattle.command_words.specs.declared.shapes.Name.TheVariants as name
+
+is_simple : (n : Name) → is_simple_and_free (app_by n) ≡ true
+unfolding app_by register_app report_app
+is_simple name.Replay = refl
+is_simple name.Serve = refl
+is_simple name.Count = refl
+is_simple name.Overdue = refl
+is_simple name.Away = refl
+is_simple name.History = refl
+is_simple name.Migrate = refl
+is_simple name.Explain = refl
+is_simple name.Stations = refl
+is_simple name.Where = refl
+is_simple name.Contents = refl
+is_simple name.Loan = refl
+is_simple name.At = refl
+is_simple name.Posted = refl
+
+is_plain : (n : Name) → (app_by n).top.is_plain ≡ true
+unfolding app_by register_app report_app
+is_plain name.Replay = refl
+is_plain name.Serve = refl
+is_plain name.Count = refl
+is_plain name.Overdue = refl
+is_plain name.Away = refl
+is_plain name.History = refl
+is_plain name.Migrate = refl
+is_plain name.Explain = refl
+is_plain name.Stations = refl
+is_plain name.Where = refl
+is_plain name.Contents = refl
+is_plain name.Loan = refl
+is_plain name.At = refl
+is_plain name.Posted = refl
+
+pub simple_by : (n : Name) (app : App) → app ≡ app_by n → is_simple_and_free app ≡ true
+simple_by n app e = ap is_simple_and_free e ∙ is_simple n
+
+pub plain_by : (n : Name) (command : Command) → app_of command ≡ app_by n → (shape_of command).is_plain ≡ true
+plain_by n command e = ap (λ (a : App). a.top.is_plain) e ∙ is_plain n
+
+overview_is_simple : is_simple_and_free overview ≡ true
+unfolding register_app report_app
+overview_is_simple = refl
+
+pub simple_overview : (app : App) → app ≡ overview → is_simple_and_free app ≡ true
+simple_overview app e = ap is_simple_and_free e ∙ overview_is_simple
+
+-- all commands, in the order of the help
+abbrev pub all : List Name
+all = name.Replay ∷ name.Serve ∷ name.Count ∷ name.Overdue ∷ name.Away ∷ name.History ∷ name.Migrate
+    ∷ name.Explain ∷ name.Stations ∷ name.Where ∷ name.Contents ∷ name.Loan ∷ name.At ∷ name.Posted ∷ []
+
+all_is_overview : with_commands program_alone all ≡ overview
+unfolding app_by
+all_is_overview = refl
+
+pub whole : (app : App) → app ≡ program_alone → with_commands app all ≡ overview
+whole app e = ap (λ a. with_commands a all) e ∙ all_is_overview
+
+-- with one command more, less is left
+pub one_more : (above next : App) (names : List Name) (i : ℕ) (d : Name) → i < length names
+    → with_commands above (drop i names) ≡ overview
+    → next ≡ with_subcommand above (app_by (get_or names i d)).top
+    → with_commands next (drop (i + 1) names) ≡ overview
+one_more above next names i d below so_far next_is =
+    ap (λ a. with_commands a (drop (i + 1) names)) next_is
+    ∙ (sym (at_drop_more (with_commands above) names i d below) ∙ so_far)

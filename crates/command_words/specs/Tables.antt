@@ -1,0 +1,50 @@
+-- What clap reads of the tables of commands and arguments.
+use Rattle.std.specs.Prelude.{◌∷◌, [], List, None, Option, Some}
+use Rattle.std.specs.Borrow.{Bor}
+use Rattle.clap.specs.Words.{App, Rule, Text, with_rule, with_subcommand}
+use Rattle.command_words.specs.Commands.{at, away, contents, count, explain, flag_rule, history, loan}
+use Rattle.command_words.specs.Commands.{migrate, option_rule, overdue, posted, replay, serve, stations}
+use Rattle.command_words.specs.Commands.{where_is, word_rule, words_rule}
+use Rattle.command_words.specs.declared.options.Argument.{Argument}
+use Rattle.command_words.specs.declared.options.Kind.{Kind}
+use Rattle.command_words.specs.declared.options.Kind.TheVariants.{Flag, Valued, Word, Words}
+use Rattle.command_words.specs.declared.shapes.Name.{Name}
+use Rattle.command_words.specs.declared.shapes.Name.TheVariants as name
+
+-- an argument of this kind
+abbrev pub rule_as : Kind → Text → Rule
+rule_as Valued id = option_rule id
+rule_as Flag id = flag_rule id
+rule_as Word id = word_rule id
+rule_as Words id = words_rule id
+
+abbrev pub rule_by : Argument → Rule
+rule_by argument = rule_as argument.kind argument.id.now
+
+-- a command with an argument of its own, if it has one
+abbrev pub with_own : App → Option (Bor Argument) → App
+with_own app (Some own) = with_rule app (rule_by own.now)
+with_own app None = app
+
+-- the command of this name
+unfoldable pub app_by : Name → App
+app_by name.Replay = replay.app
+app_by name.Serve = serve.app
+app_by name.Count = count.app
+app_by name.Overdue = overdue.app
+app_by name.Away = away.app
+app_by name.History = history.app
+app_by name.Migrate = migrate.app
+app_by name.Explain = explain.app
+app_by name.Stations = stations.app
+app_by name.Where = where_is.app
+app_by name.Contents = contents.app
+app_by name.Loan = loan.app
+app_by name.At = at.app
+app_by name.Posted = posted.app
+
+-- a command with these commands below it
+abbrev pub with_commands : App → List Name → App
+with_commands above [] = above
+with_commands above (name ∷ names) =
+    with_commands (with_subcommand above (app_by name).top) names
