@@ -128,7 +128,8 @@ pub(crate) fn with<'a>(
     command: Command<'a>,
     argument: &Argument,
 ) -> Result<Command<'a>, AllocError>
-    ensures { IfOk result (λ r. app_of r ≡ with_rule (app_of command.entry) (rule_by argument.now)) }
+    ensures { IfOk result (λ r.
+        app_of r ≡ with_rule (app_of command.entry) (rule_by argument.now)) }
 {
     command.arg(made(alloc, argument))
 }
@@ -170,7 +171,8 @@ pub(crate) fn report<'a>(
     help: &Help,
     own: Option<&Argument>,
 ) -> Result<Command<'a>, AllocError>
-    ensures { IfOk result (λ r. app_of r ≡ report_app (with_own (register_app name.now) own.entry)) }
+    ensures { IfOk result (λ r.
+        app_of r ≡ report_app (with_own (register_app name.now) own.entry)) }
 {
     let command = over_a_register(alloc, name, help, own)?;
     let command = with(alloc, command, &CSV)?;

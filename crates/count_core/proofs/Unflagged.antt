@@ -1,11 +1,10 @@
 -- The lists of the objects that have no flag, place by place, thing by thing.
-use Rattle.std.specs.Prelude.{ℕ, ◌≡◌, ◌+◌, ◌<◌, ◌==◌, ◌&&◌, Bool, true, false, cond, List, [], ◌∷◌, ◌++◌, length, map, filter, Option, Some, None, option_map, slice_get, slice_set, unwrap_or, Vec, refl}
+use Rattle.std.specs.Prelude.{ℕ, zero, suc, ◌≡◌, ◌+◌, ◌<◌, ◌==◌, ◌&&◌, Bool, true, false, cond, List, [], ◌∷◌, ◌++◌, length, map, filter, Option, Some, None, option_map, slice_get, slice_set, unwrap_or, Vec, refl}
 use Rattle.std.proofs.Common.{arith, ap, sym, subst, ◌∙◌, get_or, append_assoc, replicate}
 use Rattle.std.proofs.lemmas.Bool.Decides.{nat_tests}
-use Rattle.std.proofs.lemmas.List.{append-nil, map-append, length-map, length-replicate, get_or-replicate}
+use Rattle.std.proofs.lemmas.List.{append-nil, map-append, length-map, length-replicate, length-set, get_or-replicate}
 use Rattle.std.proofs.lemmas.List.Elements.{filter-append}
-use Rattle.std.proofs.lemmas.Option.{slice_get-map, slice_get-get_or, unwrap_or-slice_get}
-use Rattle.std.proofs.lemmas.List.FromFn.{get_or-map-range_with_len, length-map-range_with_len}
+use Rattle.std.proofs.lemmas.Option.{slice_get-map, slice_get-get_or, slice_get_read, unwrap_or-slice_get}
 use Rattle.std.specs.List.{range_with_len}
 use Rattle.std.specs.Option.{option_map_or}
 use Rattle.std.specs.declared.alloc.Global.{Global}
@@ -14,7 +13,7 @@ use Rattle.nest_core.specs.Museum.{Museum, IsMuseum, place_code_of}
 use Rattle.nest_core.proofs.Writes.{get_set_same, get_set_other}
 use Rattle.posting_core.specs.Book.{Book, place_in}
 use Rattle.count_core.specs.Counts.{is_within}
-use Rattle.count_core.specs.Inside.{outer_of, outer_places, lists, list_at, is_unflagged_in, AreUnflaggedIn}
+use Rattle.count_core.specs.Inside.{outer_of, outer_places, lists, list_at, is_unflagged_in, AreOuter, AreUnflaggedIn}
 use Rattle.count_core.specs.Marks.{is_unflagged}
 use Rattle.count_core.specs.Reports.{lies_at, is_in}
 use Rattle.count_core.proofs.Flags.{by_bool}
@@ -85,17 +84,38 @@ without_unflagged B flags x xss before none = record {
   each = λ q lt. before.each q lt ∙ sym (filter_without (is_unflagged_in B flags q) x (none q));
 }
 
--- the table of outer places
-pub outer_count : (S : Museum) (vs : List (Vec ℕ Global)) → lists vs ≡ map (outer_of S) (range_with_len 0 (length S.places)) → length vs ≡ length S.places
-outer_count S vs is = sym (length-map vs (λ (v : Vec ℕ Global). v.items)) ∙ (ap length is ∙ length-map-range_with_len (outer_of S) 0 (length S.places))
+-- the table of outer places, of which nobody asked for any
+none_at : (n p : ℕ) → list_at (replicate n []) p ≡ []
+none_at zero p = refl
+none_at (suc n) zero = refl
+none_at (suc n) (suc p) = none_at n p
 
-pub outer_at : (S : Museum) (vs : List (Vec ℕ Global)) (p : ℕ) (v : Vec ℕ Global) (text : List ℕ) → lists vs ≡ map (outer_of S) (range_with_len 0 (length S.places)) → p < length S.places
-    → slice_get vs p ≡ Some v → place_code_of S p ≡ Some text → v.items ≡ outer_places S text
-outer_at S vs p v text is lt at own =
-    sym (at_of vs p v at)
-    ∙ (ap (λ xss. list_at xss p) is
-    ∙ (unwrap_or-slice_get (map (outer_of S) (range_with_len 0 (length S.places))) p []
-    ∙ (get_or-map-range_with_len (outer_of S) 0 (length S.places) p p [] lt (omega arith) ∙ ap (λ (o : Option (List ℕ)). option_map_or (outer_places S) o []) own)))
+pub none_asked : (S : Museum) (xss : List (List ℕ)) → xss ≡ replicate (length S.places) [] → AreOuter S xss
+none_asked S xss is = record {
+  many = ap length is ∙ length-replicate (length S.places) [];
+  each = λ p some. absurd (some (ap (λ yss. list_at yss p) is ∙ none_at (length S.places) p));
+}
+
+-- and one that somebody asked for
+pub asked : (S : Museum) (vs : List (Vec ℕ Global)) (p : ℕ) (new : Vec ℕ Global) → p < length vs → list_at (lists (slice_set vs p new)) p ≡ new.items
+asked S vs p new lt = at_of (slice_set vs p new) p new (get_set_same vs p new lt)
+
+pub asked_more : (S : Museum) (vs : List (Vec ℕ Global)) (p : ℕ) (new : Vec ℕ Global) → AreOuter S (lists vs) → p < length vs → new.items ≡ outer_of S p → AreOuter S (lists (slice_set vs p new))
+asked_more S vs p new before lt is = record {
+  many = length-map (slice_set vs p new) (λ (v : Vec ℕ Global). v.items) ∙ (length-set vs p new ∙ (sym (length-map vs (λ (v : Vec ℕ Global). v.items)) ∙ before.many));
+  each = λ q some. by_bool (p == q)
+      (λ e. let same : p ≡ q = grind (arith, nat_tests) in
+      subst (λ k. list_at (lists (slice_set vs p new)) k ≡ outer_of S k) same (asked S vs p new lt ∙ is))
+      (λ n. let other : p ≡ q → ⊥ = λ same. let yes : (p == q) ≡ true = grind (arith, nat_tests) in let no : true ≡ false = sym yes ∙ n in cc in
+      let like = at_like (slice_set vs p new) vs q (get_set_other vs p q new other) in
+      like ∙ before.each q (λ none. some (like ∙ none)));
+}
+
+pub outer_at : (S : Museum) (vs : List (Vec ℕ Global)) (p : ℕ) (v : Vec ℕ Global) (text : List ℕ) → AreOuter S (lists vs) → list_at (lists vs) p ≡ outer_of S p → p < length S.places
+    → v ≡ get_or vs p v → place_code_of S p ≡ Some text → v.items ≡ outer_places S text
+outer_at S vs p v text table is lt at own =
+    let count : length S.places ≡ length vs = sym table.many ∙ length-map vs (λ (w : Vec ℕ Global). w.items) in
+    sym (at_of vs p v (slice_get_read vs (length S.places) p v count lt at)) ∙ (is ∙ ap (λ (o : Option (List ℕ)). option_map_or (outer_places S) o []) own)
 
 -- before any thing
 pub none_yet : (B : Book) (flags : List Bool) (xss : List (List ℕ)) → xss ≡ replicate (length B.museum.places) [] → AreUnflaggedIn B flags 0 xss

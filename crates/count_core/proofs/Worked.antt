@@ -1,5 +1,5 @@
 -- The definitions computed on worked rows.
-use Rattle.std.specs.Prelude.{ℕ, ℤ, pos, ◌≡◌, Bool, true, false, List, [], ◌∷◌, Some, None, map, refl, codes}
+use Rattle.std.specs.Prelude.{ℕ, ℤ, zero, suc, pos, ◌≡◌, ◌≢◌, Bool, true, false, List, [], ◌∷◌, Some, None, map, refl, codes}
 use Rattle.posting_core.specs.declared.message.Message.TheVariants.{Pack, Agree, Authorise, Exit, Return, Receive, Extend}
 use Rattle.posting_core.specs.declared.entry.Entry.{Entry}
 use Rattle.posting_core.proofs.WorkedRows.{pack, gal, s1, s1_a, s2, museum_x, lender_y, crate_1, object_1, object_2, object_3, may, moved, run, book}
@@ -9,7 +9,7 @@ use Rattle.count_core.specs.declared.answer.CountAnswer.TheVariants.{UnknownPlac
 use Rattle.nest_core.specs.SetupRows.{Fields}
 use Rattle.count_core.specs.CountRows.{counts_of, first_fault}
 use Rattle.count_core.specs.Counts.{answers, missing}
-use Rattle.count_core.specs.Inside.{outer_places, outer_of, outer_of_each, is_unflagged_in}
+use Rattle.count_core.specs.Inside.{list_at, outer_places, outer_of, is_unflagged_in, AreOuter}
 use Rattle.count_core.specs.Reports.{overdue, away, in_place}
 
 -- count_list: two objects on the shelf S1-A, one at S2
@@ -63,11 +63,30 @@ count_list-outer_known = refl
 count_list-outer_whole : outer_places (book placed).museum (codes "S10") ≡ []
 count_list-outer_whole = refl
 
-count_list-outer_each : outer_of_each (book placed).museum ≡ (s1 ∷ []) ∷ (s1 ∷ s1_a ∷ []) ∷ (s2 ∷ []) ∷ (museum_x ∷ []) ∷ (lender_y ∷ []) ∷ []
+count_list-outer_each : map (outer_of (book placed).museum) (0 ∷ 1 ∷ 2 ∷ 3 ∷ 4 ∷ []) ≡ (s1 ∷ []) ∷ (s1 ∷ s1_a ∷ []) ∷ (s2 ∷ []) ∷ (museum_x ∷ []) ∷ (lender_y ∷ []) ∷ []
 count_list-outer_each = refl
 
 count_list-outer_none : outer_of (book placed).museum 5 ≡ []
 count_list-outer_none = refl
+
+-- S1-A was asked for, and no other place
+abbrev one_asked : List (List ℕ)
+one_asked = [] ∷ (s1 ∷ s1_a ∷ []) ∷ [] ∷ [] ∷ [] ∷ []
+
+count_list-asked : AreOuter (book placed).museum one_asked
+count_list-asked = record { many = refl; each = each }
+  where
+    each : (p : ℕ) → list_at one_asked p ≢ [] → list_at one_asked p ≡ outer_of (book placed).museum p
+    each zero some = absurd (some refl)
+    each (suc zero) some = refl
+    each (suc (suc zero)) some = absurd (some refl)
+    each (suc (suc (suc zero))) some = absurd (some refl)
+    each (suc (suc (suc (suc zero)))) some = absurd (some refl)
+    each (suc (suc (suc (suc (suc p))))) some = absurd (some refl)
+
+-- the places around S2 aren't those around S1
+count_list-asked_wrong : AreOuter (book placed).museum ((s2 ∷ []) ∷ [] ∷ [] ∷ [] ∷ [] ∷ []) → ⊥
+count_list-asked_wrong h = absurd (let e = h.each 0 (λ none. cc) in cc)
 
 -- two rows name the first object, and the objects 1 and 3 are in S1
 abbrev first_flagged : List Bool

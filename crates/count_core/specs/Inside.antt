@@ -1,5 +1,5 @@
 -- Which places a place lies in, found by its code, and the objects of each place that have no flag.
-use Rattle.std.specs.Prelude.{ℕ, ◌≡◌, ◌+◌, ◌<◌, ◌&&◌, Bool, List, [], length, drop, take, map, filter, Option, None, if◌then◌else◌, slice_get, unwrap_or, Vec}
+use Rattle.std.specs.Prelude.{ℕ, ◌≡◌, ◌≢◌, ◌+◌, ◌<◌, ◌&&◌, Bool, List, [], length, drop, take, map, filter, Option, None, if◌then◌else◌, slice_get, unwrap_or, Vec}
 use Rattle.std.specs.List.{filter_map, range_with_len}
 use Rattle.std.specs.Option.{option_map_or}
 use Rattle.std.specs.declared.alloc.Global.{Global}
@@ -21,10 +21,6 @@ outer_places S code = filter_map (outer_place S code) (range_with_len 0 (length 
 abbrev pub outer_of : Museum → ℕ → List ℕ
 outer_of S p = option_map_or (outer_places S) (place_code_of S p) []
 
--- for each place those in which it lies
-abbrev pub outer_of_each : Museum → List (List ℕ)
-outer_of_each S = map (outer_of S) (range_with_len 0 (length S.places))
-
 -- what the lists hold
 abbrev pub lists : List (Vec ℕ Global) → List (List ℕ)
 lists vs = map (λ v. v.items) vs
@@ -32,6 +28,11 @@ lists vs = map (λ v. v.items) vs
 -- list q; none is empty
 abbrev pub list_at : List (List ℕ) → ℕ → List ℕ
 list_at xss q = unwrap_or (slice_get xss q) []
+
+-- a list for each place: of those in which it lies, or empty while nobody asked for it
+pub record AreOuter (S : Museum) (xss : List (List ℕ)) : Type 0 where
+  pub many : length xss ≡ length S.places
+  pub each : (p : ℕ) → list_at xss p ≢ [] → list_at xss p ≡ outer_of S p
 
 -- an object in place q that has no flag
 abbrev pub is_unflagged_in : Book → List Bool → ℕ → ℕ → Bool

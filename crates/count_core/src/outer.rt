@@ -1,22 +1,28 @@
 //! The places that a place lies in, found by its code.
-ghost use Rattle.std.specs.Prelude.{◌≡◌, ◌<◌, ◌≤◌, IfOk, length};
+ghost use Rattle.std.specs.Prelude.{◌≡◌, ◌<◌, ◌≤◌, IfOk, OnOk, length};
 ghost use Rattle.codes_core.specs.Place.{ends_segment};
-ghost use Rattle.count_core.specs.Inside.{outer_place, outer_of, outer_of_each, lists};
+ghost use Rattle.count_core.specs.Inside.{outer_place, outer_of, lists, list_at, AreOuter};
 
 use codes_core::{NoMemory, PlaceCode};
 use nest_core::{PlaceNo, Setup};
 use std::alloc::Global;
 
-/// For each place those in which it lies.
-pub(crate) fn outer_of_each(alloc: Global, setup: &Setup) -> Result<Vec<Vec<PlaceNo>>, NoMemory>
-    ensures { IfOk result (λ v. lists v.items ≡ outer_of_each setup.now) }
+/// Looks up in which places the place lies, if nobody asked for it before.
+pub(crate) fn ask(
+    alloc: Global,
+    setup: &Setup,
+    outer: &mut Vec<Vec<PlaceNo>>,
+    place: PlaceNo,
+) -> Result<(), NoMemory>
+    requires known { place < length setup.now.places }
+    requires outer { AreOuter setup.now (lists outer.old.items) }
+    ensures outer { OnOk result (AreOuter setup.now (lists outer.new.items)) }
+    ensures asked { OnOk result (list_at (lists outer.new.items) place ≡ outer_of setup.now place) }
 {
-    let mut outer = Vec::with_capacity(alloc, setup.places() as usize)?;
-    for place in 0..setup.places() {
-        let places = outer_places(alloc, setup, place)?;
-        outer.push(places)?;
+    if outer[place as usize].is_empty() {
+        outer[place as usize] = outer_places(alloc, setup, place)?;
     }
-    Ok(outer)
+    Ok(())
 }
 
 /// The places in which a place lies: at most three around it, outermost first, and then itself.

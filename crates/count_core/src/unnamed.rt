@@ -1,9 +1,9 @@
 //! The objects that no row names, place by place.
 ghost use Rattle.std.specs.Prelude.{◌≡◌, ◌<◌, ◌==◌, ◌+◌, ◌++◌, ◌∷◌, [], ℕ, All, IfOk, OnOk, cond, filter, length, map, replicate};
-ghost use Rattle.count_core.specs.Inside.{outer_of_each, lists, list_at, AreUnflaggedIn};
+ghost use Rattle.count_core.specs.Inside.{lists, list_at, AreOuter, AreUnflaggedIn};
 ghost use Rattle.count_core.specs.Marks.{is_unflagged};
 
-use crate::outer::outer_of_each;
+use crate::outer::ask;
 use codes_core::{NoMemory, ThingKind};
 use nest_core::{PlaceNo, Setup, ThingNo};
 use posting_core::Ledger;
@@ -19,10 +19,10 @@ pub(crate) fn unnamed_in_each(
     ensures { IfOk result (λ v.
         AreUnflaggedIn ledger.now flags.now (length ledger.now.museum.things) (lists v.items)) }
 {
-    let outer = outer_of_each(alloc, ledger.setup())?;
+    let mut outer = empty_lists(alloc, ledger.setup().places())?;
     let mut unnamed = empty_lists(alloc, ledger.setup().places())?;
     for thing in 0..ledger.setup().things() {
-        add_unnamed(&mut unnamed, ledger, flags, outer.as_slice(), thing)?;
+        add_unnamed(alloc, &mut unnamed, ledger, flags, &mut outer, thing)?;
     }
     Ok(unnamed)
 }
@@ -38,25 +38,29 @@ fn empty_lists(alloc: Global, count: u32) -> Result<Vec<Vec<ThingNo>>, AllocErro
     Ok(empty)
 }
 
-/// Adds the thing to the lists of the places that it is in, if it is an object without a flag.
+/// Adds the thing to the lists of the places that it is in, if it is an object without a flag; asks for the places around its
+/// own.
 fn add_unnamed(
+    alloc: Global,
     unnamed: &mut Vec<Vec<ThingNo>>,
     ledger: &Ledger,
     flags: &[bool],
-    outer: &[Vec<PlaceNo>],
+    outer: &mut Vec<Vec<PlaceNo>>,
     thing: ThingNo,
 ) -> Result<(), NoMemory>
     requires within { thing < length ledger.now.museum.things }
     requires flags { length flags.now ≡ length ledger.now.museum.things }
-    requires outer { lists outer.now ≡ outer_of_each ledger.now.museum }
+    requires outer { AreOuter ledger.now.museum (lists outer.old.items) }
     requires before { AreUnflaggedIn ledger.now flags.now thing (lists unnamed.old.items) }
-    ensures { OnOk result
+    ensures unnamed { OnOk result
         (AreUnflaggedIn ledger.now flags.now (thing + 1) (lists unnamed.new.items)) }
+    ensures outer { OnOk result (AreOuter ledger.now.museum (lists outer.new.items)) }
 {
     let setup = ledger.setup();
     setup.is_museum();
     if is_unflagged(setup, flags, thing) {
         if let Some(place) = ledger.place_of(thing) {
+            ask(alloc, setup, outer, place)?;
             push_to_each(unnamed, outer[place as usize].as_slice(), thing)?;
         }
     }

@@ -3,8 +3,9 @@
 use crate::disks::{Pair, Stops, copied, left_after, new_files};
 use crate::sending::{Ended, SETUP, Sent, Stored, closed, opened, run};
 use nest_core::Setup;
+use register_sql::SqlRegister;
 use register_store::StoreFault;
-use sqlite::Files;
+use sqlite::{Alter, Files};
 use sqlite_disk::Disk;
 use std::alloc::Global;
 
@@ -155,15 +156,21 @@ fn changed<D: Disk + Drop>(alloc: Global, files: Files<D>, text: &str) -> Option
 
 /// The same of the store of this register.
 fn changed_store<D: Disk + Drop>(register: Stored<D>, text: &str) -> Option<Files<D>> {
-    let mut conn = register.into_connection();
-    let done = conn.execute_batch(text).is_ok();
-    let files = conn.into_store().close();
+    let (store, done) = after(register, text);
+    let files = store.close();
     if done {
         Some(files)
     } else {
         drop(files);
         None
     }
+}
+
+/// The store of this register, and whether this could be done to it.
+fn after<S: Alter + Drop>(register: SqlRegister<S>, text: &str) -> (S, bool) {
+    let mut conn = register.into_connection();
+    let done = conn.execute_batch(text).is_ok();
+    (conn.into_store(), done)
 }
 
 /// A migration of the store in the files, with this setup. Where they aren't opened, that is Store.

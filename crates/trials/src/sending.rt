@@ -4,7 +4,7 @@ use hub_core::{Answer, Arrival, Hub, HubFault};
 use nest_core::Setup;
 use register_sql::SqlRegister;
 use register_store::{Register, read_message};
-use sqlite::{Connection, FileStore, Files, Options};
+use sqlite::{Alter, Connection, FileStore, Files, Options};
 use sqlite_disk::Disk;
 use station_core::Refusal;
 use std::alloc::Global;
@@ -61,7 +61,11 @@ pub fn opened<D: Disk + Drop>(
 
 /// The files of a register that is over.
 pub fn closed<D: Disk + Drop>(register: Stored<D>) -> Files<D> {
-    register.into_connection().into_store().close()
+    store_of(register).close()
+}
+
+fn store_of<S: Alter + Drop>(register: SqlRegister<S>) -> S {
+    register.into_connection().into_store()
 }
 
 /// Opens a hub over the files, and sends it the three messages.
