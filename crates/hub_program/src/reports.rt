@@ -167,7 +167,7 @@ fn spot_row(alloc: Global, setup: &Setup, spot: &Spot) -> Result<SpotRow, NoMemo
     requires { spot.now.place < length setup.now.places }
 {
     Ok(SpotRow {
-        entry: spot.entry,
+        entry: u64::from(spot.entry),
         day: day_text(alloc, &spot.day)?,
         place: place_text(alloc, setup, spot.place)?,
     })

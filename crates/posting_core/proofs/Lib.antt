@@ -6,6 +6,7 @@ pub mod Asked
 pub mod Bounds
 pub mod Carried
 pub mod Differences
+pub mod Few
 pub mod Guests
 pub mod Homes
 pub mod KeptLoans

@@ -1,10 +1,10 @@
 -- The definitions computed on worked rows: what a reader can follow by hand, each proved by computing.
-use Rattle.std.specs.Prelude.{ℕ, ℤ, pos, ◌+◌, ◌≡◌, ◌<◌, ◌≤◌, true, false, List, [], ◌∷◌, Option, Some, None, map, reverse, refl, codes}
+use Rattle.std.specs.Prelude.{ℕ, ℤ, pos, ◌+◌, ◌*◌, ◌≡◌, ◌<◌, ◌≤◌, true, false, List, [], ◌∷◌, Option, Some, None, map, reverse, refl, codes}
 use Rattle.std.proofs.Common.{arith, sym}
 use Rattle.nest_core.specs.declared.put.Target.TheVariants.{At}
 use Rattle.nest_core.specs.declared.put.Put.{Put}
 use Rattle.nest_core.specs.Museum.{Museum}
-use Rattle.posting_core.specs.declared.TheConstants.{MOST_OBJECTS}
+use Rattle.posting_core.specs.declared.TheConstants.{LAST_NUMBER, MOST_ENTRIES, MOST_OBJECTS}
 use Rattle.posting_core.specs.declared.message.Message.{Message}
 use Rattle.posting_core.specs.declared.message.Message.TheVariants.{Move, SignOff}
 use Rattle.posting_core.specs.declared.verdict.Verdict.{Verdict}
@@ -242,6 +242,10 @@ sign_off-signed = refl
 
 most_objects : MOST_OBJECTS ≡ 256
 most_objects = refl
+
+-- 64 stations, each up to its last number
+most_entries : MOST_ENTRIES ≡ 64 * LAST_NUMBER
+most_entries = refl
 
 -- which lists the rules let stand
 

@@ -6,6 +6,9 @@ use nest_core::{PlaceNo, Put, StationNo, ThingNo};
 use std::alloc::Global;
 use std::marker::Model;
 
+/// An entry's number in the posted list, from 1.
+pub type EntryNo = u32;
+
 /// A posted message: its station by number, its own number among that station's, from 1, and its verdict.
 #[derive(Drop)]
 pub struct Entry {
@@ -18,7 +21,7 @@ pub struct Entry {
 /// A place at which a thing came to be: the number of the entry, from 1, that brought it there, and the day.
 #[derive(Clone, Copy, Debug, PartialEq, Eq, PartialOrd, Ord)]
 pub struct Spot {
-    pub entry: u64,
+    pub entry: EntryNo,
     pub place: PlaceNo,
     pub day: Day,
 }
@@ -27,7 +30,7 @@ pub struct Spot {
 #[derive(Clone, Copy, Debug, PartialEq, Eq, PartialOrd, Ord)]
 pub struct NewSpot {
     pub thing: ThingNo,
-    pub k: u64,
+    pub k: u32,
     pub spot: Spot,
 }
 
@@ -133,7 +136,7 @@ impl NewLines {
 /// by object.
 #[derive(Debug, Drop)]
 pub struct Changes {
-    pub entry: u64,
+    pub entry: EntryNo,
     pub verdict: Verdict,
     pub put: Option<Put>,
     pub spots: NewSpots,

@@ -20,7 +20,7 @@ use crate::kept_loans::KeptLoans;
 use crate::placing::place;
 use crate::recording::record;
 use crate::spot_rows::{make_room, push_spots};
-use crate::{Changes, Entry, LineStage, LoanState, Message, Spot, Verdict};
+use crate::{Changes, Entry, EntryNo, MOST_ENTRIES, LineStage, LoanState, Message, Spot, Verdict};
 use codes_core::{Day, LoanCode, NoMemory};
 use nest_core::{Nest, PlaceNo, Setup, ThingNo, ThingNos};
 use std::alloc::Global;
@@ -100,6 +100,15 @@ impl Ledger {
         &self.posted
     }
 
+    /// How many entries are posted: the number of the last, and 0 where there is none.
+    pub fn entry_count(&self) -> EntryNo
+        ensures count { result ≡ length self.now.posted }
+        ensures few { result ≤ MOST_ENTRIES }
+    {
+        self.setup.is_museum();
+        self.posted().len() as EntryNo
+    }
+
     /// The rules let the posted list stand.
     pub fn is_lawful(&self)
         ensures { IsLawful self.now.museum self.now.depth self.now.posted }
@@ -135,7 +144,9 @@ impl Ledger {
         requires { thing < length self.now.museum.things }
         ensures spots { result.now ≡ spots_in self.now thing }
         ensures within { All (λ s. s.place < length self.now.museum.places) result.now }
+        ensures few { length result.now ≤ MOST_ENTRIES }
     {
+        self.setup.is_museum();
         &self.spots[thing as usize]
     }
 
@@ -237,7 +248,7 @@ impl Ledger {
         ensures err { OnErr result (asks_memory self.now message.now ≡ true) }
     {
         let verdict = self.judge(alloc, message)?;
-        let entry = self.posted.len() as u64 + 1;
+        let entry = self.entry_count() + 1;
         let put = self.put_under(verdict, message);
         let spots = self.spots_under(alloc, message, put, entry)?;
         let lines = self.lines_under(alloc, message, verdict)?;

@@ -15,7 +15,7 @@ mod spot_rows;
 mod stage;
 mod verdict;
 
-pub use entry::{Changes, Entry, NewLine, NewLines, NewSpot, NewSpots, Spot};
+pub use entry::{Changes, Entry, EntryNo, NewLine, NewLines, NewSpot, NewSpots, Spot};
 pub use ledger::Ledger;
 pub use message::Message;
 pub use objects::Objects;
@@ -27,3 +27,6 @@ pub const MOST_OBJECTS: usize = 256;
 
 /// The greatest number of an entry among its station's.
 pub const LAST_NUMBER: u32 = 999_999;
+
+/// The most entries that can be posted: those of 64 stations, each up to its last number.
+pub const MOST_ENTRIES: u32 = 63_999_936;

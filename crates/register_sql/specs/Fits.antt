@@ -17,11 +17,11 @@ pub record IsDay (n : ℤ) : Type 0 where
 abbrev pub IsLoan : List ℕ → Type 0
 IsLoan text = loan_fault text ≡ None
 
--- its numbers have 32 bits, or 64, and its day is one
+-- its numbers have 32 bits, and its day is one
 pub record FitsSpot (s : NewSpot) : Type 0 where
   pub thing : s.thing < 2 ^ 32
-  pub k : s.k < 2 ^ 64
-  pub entry : s.spot.entry < 2 ^ 64
+  pub k : s.k < 2 ^ 32
+  pub entry : s.spot.entry < 2 ^ 32
   pub place : s.spot.place < 2 ^ 32
   pub day : IsDay s.spot.day
 

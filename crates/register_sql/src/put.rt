@@ -55,14 +55,12 @@ fn put_spot<S: Alter>(tx: &mut Transaction<'_, S>, spot: &NewSpot) -> Result<(),
     ensures kept { Kept (state S.Store tx.old.conn.now) (state S.Store tx.new.conn.now) }
     ensures survives { Survived (state S.Store tx.old.conn.now) (state S.Store tx.new.conn.now) }
 {
-    let k = wide(spot.k)?;
-    let entry = wide(spot.spot.entry)?;
     tx.execute(
         "INSERT INTO spot (thing, k, entry, place, day) VALUES (?1, ?2, ?3, ?4, ?5)",
         params![
             i64::from(spot.thing),
-            k,
-            entry,
+            i64::from(spot.k),
+            i64::from(spot.spot.entry),
             i64::from(spot.spot.place),
             i64::from(spot.spot.day.number())
         ],

@@ -37,8 +37,8 @@ fn is_spot(row: &Row, spot: &NewSpot) -> bool
 {
     row.column_count() == 5
         && is_number(row, 0, u64::from(spot.thing))
-        && is_number(row, 1, spot.k)
-        && is_number(row, 2, spot.spot.entry)
+        && is_number(row, 1, u64::from(spot.k))
+        && is_number(row, 2, u64::from(spot.spot.entry))
         && is_number(row, 3, u64::from(spot.spot.place))
         && is_day(row, 4, spot.spot.day)
 }

@@ -34,15 +34,6 @@ fn u32_at(row: &Row, at: usize) -> Option<u32>
     u32::try_from(int_at(row, at)?).ok()
 }
 
-/// The number of 64 bits, not below 0, in a cell.
-fn u64_at(row: &Row, at: usize) -> Option<u64>
-    requires { at < length row.now }
-    ensures read { IfSome result (λ n. column row.now at ≡ Int (pos n)) }
-    ensures none { IfNone result ((n : ℕ) → n < 2 ^ 64 → column row.now at ≢ Int (pos n)) }
-{
-    u64::try_from(int_at(row, at)?).ok()
-}
-
 /// The day in a cell.
 fn day_at(row: &Row, at: usize) -> Option<Day>
     requires { at < length row.now }
@@ -83,12 +74,12 @@ pub(crate) fn spot_of(row: &Row) -> Option<NewSpot>
     if row.column_count() != 5 {
         return None;
     }
-    let entry = u64_at(row, 2)?;
+    let entry = u32_at(row, 2)?;
     let place = u32_at(row, 3)?;
     let day = day_at(row, 4)?;
     Some(NewSpot {
         thing: u32_at(row, 0)?,
-        k: u64_at(row, 1)?,
+        k: u32_at(row, 1)?,
         spot: Spot { entry, place, day },
     })
 }

@@ -54,10 +54,10 @@ posting_row r =
 abbrev pub kept_row : KeptEntry → PostingRow
 kept_row k = record {
   id = pos k.id;
-  station = pos k.entry.station;
-  n = pos k.entry.n;
-  body = body_of k.entry.message;
-  verdict = pos (verdict_number k.entry.verdict);
+  station = pos k.station;
+  n = pos k.n;
+  body = body_of k.message;
+  verdict = pos (verdict_number k.verdict);
 }
 
 -- lines of the same object under the same loan

@@ -7,28 +7,38 @@ ghost use Rattle.register_store.specs.Plain.{kept_row};
 use crate::StoreFault;
 use crate::spelled::message_is_spelled;
 use codes_core::NoMemory;
-use posting_core::{Entry, LAST_NUMBER};
+use nest_core::StationNo;
+use posting_core::{Entry, EntryNo, LAST_NUMBER, Message, Verdict};
 use std::alloc::Global;
 
 /// A posted entry under its number. Its row has the one text of its message, which is not made to keep the entry.
 #[derive(Drop)]
 pub struct KeptEntry {
     /// The entry's number, from 1.
-    pub id: u64,
-    /// The entry.
-    pub entry: Entry,
+    pub id: EntryNo,
+    /// Its station's number.
+    pub station: StationNo,
+    /// The number that the station gave its message.
+    pub n: u32,
+    /// The message.
+    pub message: Message,
+    /// Its verdict.
+    pub verdict: Verdict,
 }
 
 impl KeptEntry {
     /// A copy of the entry, under this number, from 1. The fault: NoMemory.
-    pub(crate) fn new(alloc: Global, number: u64, entry: &Entry) -> Result<KeptEntry, NoMemory>
+    pub(crate) fn new(alloc: Global, number: EntryNo, entry: &Entry) -> Result<KeptEntry, NoMemory>
         ensures { IfOk result (λ kept. IsPostingRow number entry.now (kept_row kept)) }
     {
-        let copy = copy_of(alloc, entry)?;
-        message_is_spelled(&copy.message);
+        let message = entry.message.copy(alloc)?;
+        message_is_spelled(&message);
         Ok(KeptEntry {
             id: number,
-            entry: copy,
+            station: entry.station,
+            n: entry.n,
+            message,
+            verdict: entry.verdict,
         })
     }
 
@@ -48,22 +58,16 @@ impl KeptEntry {
             (λ fault. fault ≢ StoreFault.NoMemory
             → IsWrongRow stations number (kept_row self.now)) }
     {
-        let entry = &self.entry;
-        if self.id != number || entry.station >= stations || entry.n == 0 || entry.n > LAST_NUMBER {
+        let is_numbered = u64::from(self.id) == number;
+        if !is_numbered || self.station >= stations || self.n == 0 || self.n > LAST_NUMBER {
             return Err(StoreFault::Damaged(number));
         }
-        message_is_spelled(&entry.message);
-        Ok(copy_of(alloc, entry)?)
+        message_is_spelled(&self.message);
+        Ok(Entry {
+            station: self.station,
+            n: self.n,
+            message: self.message.copy(alloc)?,
+            verdict: self.verdict,
+        })
     }
-}
-
-fn copy_of(alloc: Global, entry: &Entry) -> Result<Entry, NoMemory>
-    ensures { IfOk result (λ copy. copy ≡ entry.now) }
-{
-    Ok(Entry {
-        station: entry.station,
-        n: entry.n,
-        message: entry.message.copy(alloc)?,
-        verdict: entry.verdict,
-    })
 }

@@ -1,5 +1,5 @@
 //! What a setup and a ledger give a store as rows, for any register.
-ghost use Rattle.std.specs.Prelude.{◌≡◌, ◌++◌, map, IfOk, OnOk, string_bytes};
+ghost use Rattle.std.specs.Prelude.{◌≡◌, ◌≤◌, ◌++◌, length, map, IfOk, OnOk, string_bytes};
 ghost use Rattle.nest_core.specs.SetupTexts.{setup_rows};
 ghost use Rattle.register_store.specs.StoredRows.{spots_of_thing, spots_by_thing, lines_by_loan, rows_of_terms};
 ghost use Rattle.register_store.specs.Plain.{held_lines, term_rows, lines_of_loan, day_of_loan};
@@ -7,7 +7,7 @@ ghost use Rattle.register_store.specs.Plain.{held_lines, term_rows, lines_of_loa
 use crate::LineKey;
 use codes_core::{Day, LoanCode, NoMemory};
 use nest_core::{Setup, ThingNo};
-use posting_core::{Ledger, LineStage, NewSpot, Spot};
+use posting_core::{Ledger, LineStage, MOST_ENTRIES, NewSpot, Spot};
 use std::alloc::Global;
 
 /// The texts of a setup's rows, in their order: row 1 first. The fault: NoMemory.
@@ -36,12 +36,13 @@ pub fn spot_rows(alloc: Global, ledger: &Ledger) -> Result<Vec<NewSpot>, NoMemor
 
 /// Adds the spots of a thing as rows.
 fn push_spots(rows: &mut Vec<NewSpot>, thing: ThingNo, spots: &[Spot]) -> Result<(), NoMemory>
+    requires few { length spots.now ≤ MOST_ENTRIES }
     ensures { OnOk result (rows.new.items ≡ rows.old.items ++ spots_of_thing thing 1 spots.now) }
 {
     for i in 0..spots.len() {
         rows.push(NewSpot {
             thing,
-            k: i as u64 + 1,
+            k: i as u32 + 1,
             spot: spots[i],
         })?;
     }

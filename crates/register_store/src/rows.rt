@@ -11,7 +11,7 @@ ghost use Rattle.register_store.specs.Registers.{IsOfStation, IsWrongRow};
 
 use crate::{ReadFault, StoreFault, message_text, read_message};
 use codes_core::NoMemory;
-use posting_core::{Entry, LAST_NUMBER, Message, Verdict};
+use posting_core::{Entry, EntryNo, LAST_NUMBER, Message, Verdict};
 use std::alloc::Global;
 
 /// A row of the table of postings whose numbers can be an entry's: its number, from 1, and the entry with its message as
@@ -31,11 +31,11 @@ pub struct KeptPosting {
 }
 
 /// The row of an entry under this number, from 1. The fault: NoMemory.
-pub fn row_of(alloc: Global, number: u64, entry: &Entry) -> Result<KeptPosting, NoMemory>
+pub fn row_of(alloc: Global, number: EntryNo, entry: &Entry) -> Result<KeptPosting, NoMemory>
     ensures { IfOk result (λ row. IsPostingRow number entry.now (posting_row row)) }
 {
     Ok(KeptPosting {
-        id: number,
+        id: u64::from(number),
         station: entry.station,
         n: entry.n,
         body: message_text(alloc, &entry.message)?,

@@ -7,7 +7,7 @@ use super::ledger::{Loan, has_loans, tell_all};
 use super::{TO_S1, museum, small_museum};
 use hub_core::{Answer, Arrival, Hub, OpenFault};
 use nest_core::{PlaceNo, Setup, StationNo};
-use posting_core::Ledger;
+use posting_core::{EntryNo, Ledger};
 use posting_core::LineStage::{Awaiting, Away};
 use posting_core::LoanState::Running;
 use register_store::{PlainRegister, Register, StoreFault, read_message};
@@ -100,7 +100,7 @@ fn send_all<R: Register>(
 }
 
 /// Whether these are the object's spots, each with its entry and its place.
-fn has_spots(ledger: &Ledger, want: &[(u64, PlaceNo)]) -> bool {
+fn has_spots(ledger: &Ledger, want: &[(EntryNo, PlaceNo)]) -> bool {
     if ledger.setup().things() <= OBJECT {
         return false;
     }

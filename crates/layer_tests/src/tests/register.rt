@@ -6,7 +6,7 @@ use super::fresh::{Fresh, Stored};
 use super::{TO_S1, museum};
 use codes_core::Day;
 use nest_core::{PlaceNo, Setup, StationNo, ThingNo};
-use posting_core::{Changes, Entry, Ledger, NewLines, NewSpot, NewSpots, Spot, Verdict};
+use posting_core::{Changes, Entry, EntryNo, Ledger, NewLines, NewSpot, NewSpots, Spot, Verdict};
 use register_store::{PlainRegister, Register, StoreFault, message_text, read_message};
 use std::alloc::Global;
 use std::process::Abort;
@@ -25,7 +25,7 @@ const GAL: StationNo = 1;
 const NONE: StationNo = 2;
 
 /// A move that is posted: its station, its number and its row's number.
-type Posted = (StationNo, u32, u64);
+type Posted = (StationNo, u32, EntryNo);
 
 /// Moves that are posted, and the fault of reading them back.
 const READ: &[(&[Posted], Option<StoreFault>)] = &[
@@ -57,7 +57,7 @@ fn applied(alloc: Global, station: StationNo, n: u32, text: &str) -> Result<Entr
 }
 
 /// The changes of an entry that writes no spot.
-fn nothing(alloc: Global, entry: u64) -> Changes
+fn nothing(alloc: Global, entry: EntryNo) -> Changes
     ensures { result.entry ≡ entry }
 {
     Changes {
@@ -70,7 +70,7 @@ fn nothing(alloc: Global, entry: u64) -> Changes
 }
 
 /// The changes of an entry that brings 2001.4.1 to S1.
-fn brought(alloc: Global, entry: u64) -> Result<Changes, Fail>
+fn brought(alloc: Global, entry: EntryNo) -> Result<Changes, Fail>
     ensures { IfOk result (λ changes. changes.entry ≡ entry) }
 {
     let mut changes = nothing(alloc, entry);

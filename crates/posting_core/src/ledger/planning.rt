@@ -14,7 +14,7 @@ ghost use Rattle.posting_core.specs.Rows.{place_to};
 
 use super::Ledger;
 use crate::numbers::{place_no, thing_no};
-use crate::{LineStage, Message, NewLine, NewLines, NewSpot, NewSpots, Spot, Verdict};
+use crate::{EntryNo, LineStage, Message, NewLine, NewLines, NewSpot, NewSpots, Spot, Verdict};
 use codes_core::{Day, LoanCode, NoMemory, ThingCode, ThingKind};
 use nest_core::{PlaceNo, Put, Setup, Target, ThingNo};
 use std::alloc::Global;
@@ -27,7 +27,7 @@ impl Ledger {
         alloc: Global,
         message: &Message,
         put: Option<Put>,
-        entry: u64,
+        entry: EntryNo,
     ) -> Result<NewSpots, NoMemory>
         requires put { put
             ≡ put_by self.now.museum self.now.posted (verdict_in self.now message.now) message.now }
@@ -60,7 +60,7 @@ impl Ledger {
         things: &[ThingNo],
         place: PlaceNo,
         day: Day,
-        entry: u64,
+        entry: EntryNo,
     ) -> Result<NewSpots, NoMemory>
         requires { All (λ y. y < length self.now.museum.things) things.now }
         ensures { IfOk result
@@ -78,7 +78,7 @@ impl Ledger {
         Ok(spots)
     }
 
-    fn spot_at(&self, thing: ThingNo, place: PlaceNo, day: Day, entry: u64) -> Option<NewSpot>
+    fn spot_at(&self, thing: ThingNo, place: PlaceNo, day: Day, entry: EntryNo) -> Option<NewSpot>
         requires { thing < length self.now.museum.things }
         ensures { result
             ≡ new_spot entry (length (spots_in self.now thing)) (place_in self.now thing)
@@ -89,7 +89,7 @@ impl Ledger {
         }
         Some(NewSpot {
             thing,
-            k: self.spots(thing).len() as u64 + 1,
+            k: self.spots(thing).len() as u32 + 1,
             spot: Spot { entry, place, day },
         })
     }

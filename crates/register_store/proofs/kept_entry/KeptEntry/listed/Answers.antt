@@ -1,6 +1,7 @@
-use Rattle.std.proofs.Common.{rules, sym}
-use Rattle.register_store.proofs.KeptRows.{keeps}
+use Rattle.std.proofs.Common.{ap, rules, sym}
+use Rattle.posting_core.specs.declared.message.Message.{Message}
+use Rattle.register_store.proofs.KeptRows.{entry_in, keeps}
 use Rattle.register_store.proofs.kept_entry.KeptEntry.listed.Goals as goal
 
 pub returns-clause-kept : goal.returns-clause-kept
-returns-clause-kept c = keeps c.args.number c.in_ok-copy_of.field-0 c.args.self.now (search rules) (sym c.in_ok-copy_of.ensures) c.message_is_spelled.ensures
+returns-clause-kept c = keeps c.args.number _ c.args.self.now (search rules) (sym (ap (λ (m : Message). record (entry_in c.args.self.now) { message = m }) c.in_ok-copy.ensures)) c.message_is_spelled.ensures
