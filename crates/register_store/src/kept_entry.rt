@@ -20,10 +20,10 @@ pub struct KeptEntry {
     pub station: StationNo,
     /// The number that the station gave its message.
     pub n: u32,
+    /// Its verdict, which stands here since fields are laid out in their order: so an entry takes 104 bytes, and not 112.
+    pub verdict: Verdict,
     /// The message.
     pub message: Message,
-    /// Its verdict.
-    pub verdict: Verdict,
 }
 
 impl KeptEntry {
