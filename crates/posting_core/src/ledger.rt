@@ -20,7 +20,7 @@ use crate::kept_loans::KeptLoans;
 use crate::placing::place;
 use crate::recording::record;
 use crate::spot_rows::{make_room, push_spots};
-use crate::{Changes, Entry, EntryNo, MOST_ENTRIES, LineStage, LoanState, Message, Spot, Verdict};
+use crate::{Changes, Entry, EntryNo, LineStage, LoanState, MOST_ENTRIES, Message, Spot, Verdict};
 use codes_core::{Day, LoanCode, NoMemory};
 use nest_core::{Nest, PlaceNo, Setup, ThingNo, ThingNos};
 use std::alloc::Global;
