@@ -12,8 +12,8 @@ use Rattle.std.proofs.lemmas.Option.{IfSome_then, slice_get_read, slice_get-map}
 use Rattle.nest_core.specs.declared.put.Put.{Put}
 use Rattle.codes_core.specs.declared.fault.NoMemory.{NoMemory}
 use Rattle.nest_core.specs.Museum.{Museum}
-use Rattle.nest_core.specs.Nest.{Nested, StandsFor, MayGo}
-use Rattle.nest_core.specs.Puts.{with_put, place, chain, carried}
+use Rattle.nest_core.specs.Nest.{Nested, StandsFor, MayGo, target_kept}
+use Rattle.nest_core.specs.Puts.{with_put, place, chain, carried, carried_by}
 use Rattle.posting_core.specs.declared.message.Message.{Message}
 use Rattle.posting_core.specs.declared.message.Message.TheVariants.{Agree}
 use Rattle.posting_core.specs.declared.verdict.Verdict.{Verdict}
@@ -23,7 +23,7 @@ use Rattle.posting_core.specs.declared.entry.NewSpot.{NewSpot}
 use Rattle.posting_core.specs.declared.entry.NewLine.{NewLine}
 use Rattle.posting_core.specs.declared.entry.Changes.{Changes}
 use Rattle.posting_core.specs.Messages.{day_of}
-use Rattle.posting_core.specs.History.{puts, put_in, put_by, spots, spot_from, place_at, carried_at}
+use Rattle.posting_core.specs.History.{puts, put_in, put_by, spots, spot_from, place_at, carried_at, carried_with}
 use Rattle.posting_core.specs.VerdictNames.{is_applied}
 use Rattle.posting_core.specs.Lawful.{Follows, IsLawful}
 use Rattle.posting_core.specs.Book.{Book, chain_in, spots_in, loans_in, objects_of_loan, place_after, new_spot, new_spots, new_lines, changes_of}
@@ -37,6 +37,7 @@ use Rattle.posting_core.proofs.Lined.{rows_after_entry}
 use Rattle.posting_core.proofs.LoanAnswers.{IsRowOf, row_is, row_missing, code_at, objects_at}
 use Rattle.posting_core.proofs.Placed.{put_allowed, may_go, chain_below}
 use Rattle.posting_core.proofs.Rooms.{rows_length}
+use Rattle.posting_core.proofs.Spotted.{carried_below}
 use Rattle.posting_core.proofs.Written.{rows_written, chosen_spot, own_spot, same_place, own_ascending}
 
 -- the book that a ledger's fields make
@@ -50,6 +51,14 @@ module _ {S : Museum} {P : List Entry} {N : Nested} {R : List (List Spot)} {L : 
 
   pub carried_kept : (x : ℕ) (ys : List ℕ) → ((Q : List Put) → StandsFor N Q → ys ≡ carried N.things Q x) → ys ≡ carried_at B.museum B.posted x
   carried_kept x ys from = subst (λ (C : Book). ys ≡ carried_at C.museum C.posted x) same (from (puts S P) kept.nest ∙ ap (λ n. carried n (puts S P) x) kept.things)
+
+  pub carried_told : (x : ℕ) (r : Result (List ℕ) NoMemory) → IfOk r (λ ys. (Q : List Put) → StandsFor N Q → ys ≡ carried N.things Q x) → IfOk r (λ ys. ys ≡ carried_at B.museum B.posted x)
+  carried_told x (Ok ys) from = carried_kept x ys from
+  carried_told x (Err fault) from = tt
+
+  pub carried_there : (x : ℕ) (r : Result (List ℕ) NoMemory) → IfOk r (λ ys. (Q : List Put) → StandsFor N Q → ys ≡ carried N.things Q x) → IfOk r (All (λ y. y < length B.museum.things))
+  carried_there x (Ok ys) from = subst (All (λ y. y < length B.museum.things)) (sym (carried_kept x ys from)) (carried_below (length B.museum.things) (puts B.museum B.posted) x)
+  carried_there x (Err fault) from = tt
 
   -- a chain is that of looking back
   chain_kept : (x : ℕ) (cs : List ℕ) → ((Q : List Put) → StandsFor N Q → cs ≡ chain N.things Q x) → cs ≡ chain_in B x
@@ -138,31 +147,33 @@ unplaced S P v (Agree loan partner objects first final) agrees = elim (is_applie
 unplaced S P v _ agrees = absurd (false≢true agrees)
 
 -- what `apply` is told of its entry and its changes, over the ledger's fields
-pub record IsPlanned (S : Museum) (P : List Entry) (N : Nested) (R : List (List Spot)) (L : List LoanRow) (e : Entry) (put : Option Put) (news : List NewSpot) (lines : List NewLine) : Type 0 where
+pub record IsPlanned (S : Museum) (P : List Entry) (N : Nested) (R : List (List Spot)) (L : List LoanRow) (e : Entry) (put : Option Put) (along : List ℕ) (news : List NewSpot) (lines : List NewLine) : Type 0 where
   pub kept : IsKept S P N R L
   pub follows : Follows S N.depth P e
   pub put_is : put ≡ put_by S P e.verdict e.message
+  pub along_is : along ≡ carried_with S P put
   pub news_is : news ≡ news_under S P e.verdict e.message
   pub lines_is : lines ≡ lines_under S P e.verdict e.message
 
--- what the changes of an entry that follows put and write
+-- what the changes of an entry that follows put, carry and write
 written : (B : Book) (e : Entry) (changes : Changes) → Follows B.museum B.depth B.posted e → changes ≡ changes_of B e.message →
-    (changes.put ≡ put_by B.museum B.posted e.verdict e.message) × (changes.spots ≡ news_under B.museum B.posted e.verdict e.message) × (changes.lines ≡ lines_under B.museum B.posted e.verdict e.message)
+    (changes.put ≡ put_by B.museum B.posted e.verdict e.message) × (changes.carried ≡ carried_with B.museum B.posted changes.put) × (changes.spots ≡ news_under B.museum B.posted e.verdict e.message) × (changes.lines ≡ lines_under B.museum B.posted e.verdict e.message)
 written B e changes follows plan = (
   ap (λ (c : Changes). c.put) plan ∙ ap (λ (v : Verdict). put_by B.museum B.posted v e.message) (sym follows.judged),
+  ap (λ (c : Changes). c.carried) plan ∙ ap (carried_with B.museum B.posted) (sym (ap (λ (c : Changes). c.put) plan)),
   ap (λ (c : Changes). c.spots) plan ∙ ap (λ (v : Verdict). news_under B.museum B.posted v e.message) (sym follows.judged),
   ap (λ (c : Changes). c.lines) plan ∙ ap (λ (v : Verdict). lines_under B.museum B.posted v e.message) (sym follows.judged),
 )
 
-pub planned : {S : Museum} {P : List Entry} {N : Nested} {R : List (List Spot)} {L : List LoanRow} {B : Book} {e : Entry} {changes : Changes} {news : List NewSpot} {lines : List NewLine} → IsKept S P N R L → book_of S P N ≡ B →
-    Follows B.museum B.depth B.posted e → changes ≡ changes_of B e.message → news ≡ changes.spots → lines ≡ changes.lines → IsPlanned S P N R L e changes.put news lines
-planned {S} {P} {N} {B} {e} {changes} kept same follows plan same_spots same_lines =
+pub planned : {S : Museum} {P : List Entry} {N : Nested} {R : List (List Spot)} {L : List LoanRow} {B : Book} {e : Entry} {changes : Changes} {along : List ℕ} {news : List NewSpot} {lines : List NewLine} → IsKept S P N R L → book_of S P N ≡ B →
+    Follows B.museum B.depth B.posted e → changes ≡ changes_of B e.message → along ≡ changes.carried → news ≡ changes.spots → lines ≡ changes.lines → IsPlanned S P N R L e changes.put along news lines
+planned {S} {P} {N} {B} {e} {changes} kept same follows plan same_carried same_spots same_lines =
     let follows' : Follows S N.depth P e = subst (λ (C : Book). Follows C.museum C.depth C.posted e) (sym same) follows in
-    let (put_is, news_is, lines_is) = written (book_of S P N) e changes follows' (subst (λ (C : Book). changes ≡ changes_of C e.message) (sym same) plan) in
-    record { kept = kept; follows = follows'; put_is = put_is; news_is = same_spots ∙ news_is; lines_is = same_lines ∙ lines_is }
+    let (put_is, along_is, news_is, lines_is) = written (book_of S P N) e changes follows' (subst (λ (C : Book). changes ≡ changes_of C e.message) (sym same) plan) in
+    record { kept = kept; follows = follows'; put_is = put_is; along_is = same_carried ∙ along_is; news_is = same_spots ∙ news_is; lines_is = same_lines ∙ lines_is }
 
 -- what follows of it
-module _ {S : Museum} {P : List Entry} {N : Nested} {R : List (List Spot)} {L : List LoanRow} {e : Entry} {put : Option Put} {news : List NewSpot} {lines : List NewLine} (is : IsPlanned S P N R L e put news lines) where
+module _ {S : Museum} {P : List Entry} {N : Nested} {R : List (List Spot)} {L : List LoanRow} {e : Entry} {put : Option Put} {along : List ℕ} {news : List NewSpot} {lines : List NewLine} (is : IsPlanned S P N R L e put along news lines) where
   pub planned_ascending : (n : ℕ) → n ≡ length R → AreAscending 0 n news
   planned_ascending n sized = rw (is.news_is, sized, is.kept.rowed) (news_ascending S P e.verdict e.message)
 
@@ -192,6 +203,14 @@ module _ {S : Museum} {P : List Entry} {N : Nested} {R : List (List Spot)} {L : 
   planned_put =
       subst (λ o. IfSome o (λ p. (p.thing < N.things) × MayGo N p.thing p.to)) (sym is.put_is)
       (IfSome_then (put_by S P e.verdict e.message) (put_allowed S N.depth P e.verdict e.message is.kept.lawful is.follows.judged) (λ p allowed. may_go N S P p is.kept.things is.kept.places is.kept.nest allowed))
+
+  -- and what that carries is what the nest keeps of it
+  pub planned_carried : IfSome put (λ p. along ≡ carried_by (target_kept N.targets) N.things p.thing)
+  planned_carried = kept_of put is.along_is
+    where
+      kept_of : (o : Option Put) → along ≡ carried_with S P o → IfSome o (λ p. along ≡ carried_by (target_kept N.targets) N.things p.thing)
+      kept_of None told = tt
+      kept_of (Some p) told = told ∙ sym (ap (λ n. carried_by (target_kept N.targets) n p.thing) is.kept.things ∙ ap (λ at. carried_by at (length S.things) p.thing) is.kept.nest.targets)
 
   module _ {M : Nested} (stands : (Q : List Put) → StandsFor N Q → StandsFor M (with_put put Q)) (things : M.things ≡ N.things) (places : M.places ≡ N.places) (depth : M.depth ≡ N.depth) where
     -- what is kept after the entry

@@ -15,7 +15,7 @@ use Rattle.posting_core.specs.declared.stage.LineStage.{LineStage}
 use Rattle.posting_core.specs.declared.stage.LineStage.TheVariants.{Awaiting}
 use Rattle.posting_core.specs.declared.stage.LoanState.{LoanState}
 use Rattle.posting_core.specs.Messages.{day_of}
-use Rattle.posting_core.specs.History.{puts, put_in, put_by, chain_at, place_at, spots, spot_from}
+use Rattle.posting_core.specs.History.{puts, put_in, put_by, carried_with, chain_at, place_at, spots, spot_from}
 use Rattle.posting_core.specs.VerdictNames.{is_applied}
 use Rattle.posting_core.specs.Agreements.{Agreement, agreement_in, loans, last_day}
 use Rattle.posting_core.specs.Loans.{Crossing, crossing_in, objects_in, objects_of, objects, line, loan_state}
@@ -88,13 +88,14 @@ new_lines S P m =
     option_map_or (lines_of_agreement S) (agreement_in m)
     (option_map_or (lines_of_crossing S P) (crossing_in m) [])
 
--- what posting the message changes; a refused one puts and writes nothing
+-- what posting the message changes; a refused one puts, carries and writes nothing
 abbrev pub changes_of : Book → Message → Changes
 changes_of B m =
     let v = verdict_in B m in record {
       entry = length B.posted + 1;
       verdict = v;
       put = put_by B.museum B.posted v m;
+      carried = carried_with B.museum B.posted (put_by B.museum B.posted v m);
       spots = if is_applied v then new_spots B.museum B.posted m else [];
       lines = if is_applied v then new_lines B.museum B.posted m else [];
     }

@@ -1,6 +1,6 @@
 -- Looking back through the posted entries. The newest stands first, so looking back is going down the list.
 use Rattle.std.specs.Prelude.{ℕ, ℤ, ◌+◌, List, [], ◌∷◌, ◌++◌, length, Option, Some, None, if◌then◌else◌}
-use Rattle.std.specs.Option.{option_map, option_to_list}
+use Rattle.std.specs.Option.{option_map, option_map_or, option_to_list}
 use Rattle.nest_core.specs.declared.put.Target.TheVariants.{At, Within}
 use Rattle.nest_core.specs.declared.put.Put.{Put}
 use Rattle.nest_core.specs.Museum.{Museum}
@@ -46,6 +46,10 @@ place_at S P x = place (length S.things) (puts S P) x
 -- the thing with all that is in it
 abbrev pub carried_at : Museum → List Entry → ℕ → List ℕ
 carried_at S P x = carried (length S.things) (puts S P) x
+
+-- what is carried where there is a put: its thing, with all that is in it
+abbrev pub carried_with : Museum → List Entry → Option Put → List ℕ
+carried_with S P put = option_map_or (λ p. carried_at S P p.thing) put []
 
 -- the spot that the entry of this number writes for a thing, where its place differs from the one before
 abbrev pub spot_from : ℕ → Option ℕ → Option ℕ → Option ℤ → Option Spot

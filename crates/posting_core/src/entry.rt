@@ -2,7 +2,7 @@
 
 use crate::{LineStage, Message, Verdict};
 use codes_core::{Day, LoanCode, NoMemory};
-use nest_core::{PlaceNo, Put, StationNo, ThingNo};
+use nest_core::{PlaceNo, Put, StationNo, ThingNo, ThingNos};
 use std::alloc::Global;
 use std::marker::Model;
 
@@ -130,15 +130,16 @@ impl NewLines {
     }
 }
 
-/// What posting a message changes: the number of its entry, from 1, its verdict, where it puts its thing, the new spots,
-/// and the lines of its loan that it makes or changes; no put, no spots and no lines where it is refused. The spots
-/// ascend by thing, at most one of each. An agreement's lines stand in the order of its list, those of a crossing ascend
-/// by object.
+/// What posting a message changes: the number of its entry, from 1, its verdict, where it puts its thing, what that carries,
+/// ascending and with itself, the new spots, and the lines of its loan that it makes or changes; no put and none of these
+/// where it is refused. The spots ascend by thing, at most one of each. An agreement's lines stand in the order of its
+/// list, those of a crossing ascend by object.
 #[derive(Debug, Drop)]
 pub struct Changes {
     pub entry: EntryNo,
     pub verdict: Verdict,
     pub put: Option<Put>,
+    pub carried: ThingNos,
     pub spots: NewSpots,
     pub lines: NewLines,
 }

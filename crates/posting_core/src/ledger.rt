@@ -4,6 +4,7 @@ ghost use Rattle.std.specs.Option.{option_map};
 ghost use Rattle.nest_core.specs.Puts.{is_among};
 ghost use Rattle.posting_core.specs.Lawful.{Follows, IsLawful};
 ghost use Rattle.posting_core.specs.Messages.{place_no};
+ghost use Rattle.posting_core.specs.History.{put_by, carried_with};
 ghost use Rattle.posting_core.specs.Agreements.{agreement, is_agreed, is_authorised, last_day};
 ghost use Rattle.posting_core.specs.Loans.{line, loan_state};
 ghost use Rattle.posting_core.specs.LoanRows.{line_of, state_of};
@@ -11,10 +12,12 @@ ghost use Rattle.posting_core.specs.Book.{place_in, chain_in, spots_in, verdict_
 ghost use Rattle.posting_core.specs.Rows.{lists};
 
 mod crossings;
+mod judged;
 mod loan_rules;
 mod planning;
 mod rules;
 
+use self::judged::{Judged, unput};
 use crate::kept_loan::KeptLoan;
 use crate::kept_loans::KeptLoans;
 use crate::placing::place;
@@ -207,37 +210,7 @@ impl Ledger {
         ensures ok { IfOk result (λ verdict. verdict ≡ verdict_in self.now message.now) }
         ensures err { OnErr result (asks_lines self.now message.now ≡ true) }
     {
-        match message {
-            Message::Move { thing, place, .. } => Ok(self.judge_move(thing, place)),
-            Message::Pack {
-                thing,
-                container,
-                ..
-            } => Ok(self.judge_pack(thing, container)),
-            Message::Agree {
-                loan,
-                partner,
-                objects,
-                first,
-                last,
-            } => Ok(self.judge_agree(loan, partner, objects.as_slice(), *first, *last)),
-            Message::Authorise { loan, .. } => Ok(self.judge_authorise(loan)),
-            Message::Exit { thing, loan, day } => self.judge_exit(alloc, thing, loan, *day),
-            Message::Return {
-                thing,
-                loan,
-                place,
-                ..
-            } => self.judge_return(alloc, thing, loan, place),
-            Message::Receive {
-                thing,
-                loan,
-                place,
-                day,
-            } => self.judge_receive(alloc, thing, loan, place, *day),
-            Message::SignOff { .. } => Ok(Verdict::Applied),
-            Message::Extend { loan, last } => Ok(self.judge_extend(loan, *last)),
-        }
+        Ok(self.judged(alloc, message)?.verdict)
     }
 
     /// What posting the message now would change: the number of its entry, from 1, its verdict and, where it is
@@ -247,15 +220,20 @@ impl Ledger {
         ensures ok { IfOk result (λ changes. changes ≡ changes_of self.now message.now) }
         ensures err { OnErr result (asks_memory self.now message.now ≡ true) }
     {
-        let verdict = self.judge(alloc, message)?;
+        let Judged {
+            verdict,
+            put,
+            carried,
+        } = self.judged(alloc, message)?;
         let entry = self.entry_count() + 1;
-        let put = self.put_under(verdict, message);
-        let spots = self.spots_under(alloc, message, put, entry)?;
-        let lines = self.lines_under(alloc, message, verdict)?;
+        let carried = self.carried_with(alloc, put, carried)?;
+        let spots = self.spots_under(alloc, message, put, carried.as_slice(), entry)?;
+        let lines = self.lines_under(alloc, message, verdict, carried.as_slice())?;
         Ok(Changes {
             entry,
             verdict,
             put,
+            carried,
             spots,
             lines,
         })
@@ -272,11 +250,12 @@ impl Ledger {
         ensures ok { OnOk result (self.new ≡ record self.old { posted = entry ∷ self.old.posted }) }
         ensures err { OnErr result (self.new ≡ self.old) }
     {
+        let carried = changes.carried.as_slice();
         let spots = changes.spots.as_slice();
         let lines = changes.lines.as_slice();
         make_room(&mut self.spots, spots)?;
         self.posted.reserve(1)?;
-        place(alloc, &mut self.nest, changes.put)?;
+        place(&mut self.nest, changes.put, carried)?;
         record(
             alloc,
             &mut self.loans,
@@ -292,6 +271,48 @@ impl Ledger {
 }
 
 impl Ledger {
+    /// The verdict of `judge`, with where the message puts its thing under it.
+    fn judged(&self, alloc: Global, message: &Message) -> Result<Judged, NoMemory>
+        ensures verdict { IfOk result (λ judged. judged.verdict ≡ verdict_in self.now message.now) }
+        ensures put { IfOk result (λ judged. judged.put
+            ≡ put_by self.now.museum self.now.posted judged.verdict message.now) }
+        ensures carried { IfOk result (λ judged. IfSome judged.carried
+            (λ carried. carried ≡ carried_with self.now.museum self.now.posted judged.put)) }
+        ensures err { OnErr result (asks_lines self.now message.now ≡ true) }
+    {
+        match message {
+            Message::Move { thing, place, .. } => Ok(self.judge_move(thing, place)),
+            Message::Pack {
+                thing,
+                container,
+                ..
+            } => Ok(self.judge_pack(thing, container)),
+            Message::Exit { thing, loan, day } => self.judge_exit(alloc, thing, loan, *day),
+            Message::Return {
+                thing,
+                loan,
+                place,
+                ..
+            } => self.judge_return(alloc, thing, loan, place),
+            Message::Receive {
+                thing,
+                loan,
+                place,
+                day,
+            } => self.judge_receive(alloc, thing, loan, place, *day),
+            Message::Agree {
+                loan,
+                partner,
+                objects,
+                first,
+                last,
+            } => Ok(unput(self.judge_agree(loan, partner, objects.as_slice(), *first, *last))),
+            Message::Authorise { loan, .. } => Ok(unput(self.judge_authorise(loan))),
+            Message::SignOff { .. } => Ok(unput(Verdict::Applied)),
+            Message::Extend { loan, last } => Ok(unput(self.judge_extend(loan, *last))),
+        }
+    }
+
     /// What is kept of a loan, where it is agreed.
     pub(crate) fn loan(&self, loan: &LoanCode) -> Option<&KeptLoan>
         ensures agreed { is_some result ≡ is_agreed self.now.posted loan.now }

@@ -1,26 +1,27 @@
 //! Puts into the nest, for those who don't count what they touch.
 ghost use Rattle.std.specs.Prelude.{◌≡◌, ◌<◌, ◌∷◌, List, OnOk, OnErr, IfSome};
-ghost use Rattle.nest_core.specs.Nest.{StandsFor, MayGo};
-ghost use Rattle.nest_core.specs.Puts.{with_put};
+ghost use Rattle.nest_core.specs.Nest.{StandsFor, MayGo, target_kept};
+ghost use Rattle.nest_core.specs.Puts.{with_put, carried_by};
 ghost use Rattle.nest_core.specs.declared.put.Put.{Put};
 
 use codes_core::NoMemory;
-use nest_core::{Nest, Put, Steps};
-use std::alloc::Global;
+use nest_core::{Nest, Put, Steps, ThingNo};
 use std::marker::Brand;
 use std::sync::ledger::{Blank, Ledger};
 
 fn put_over<L: Ledger>(
     blank: Blank,
-    alloc: Global,
     nest: &mut Nest,
     put: Put,
+    carried: &[ThingNo],
 ) -> Result<(), NoMemory>
     requires name { blank.name ≡ L.name }
     requires parts { blank.parts ≡ L.parts }
     requires some { 0 < blank.parts }
     requires known { put.thing < nest.old.things }
     requires may { MayGo nest.old put.thing put.to }
+    requires carried { carried.now
+        ≡ carried_by (target_kept nest.old.targets) nest.old.things put.thing }
     ensures stands { OnOk result
         ((Q : List Put) → StandsFor nest.old Q → StandsFor nest.new (put ∷ Q)) }
     ensures sized { OnOk result
@@ -29,13 +30,14 @@ fn put_over<L: Ledger>(
     ensures unchanged { OnErr result (nest.new ≡ nest.old) }
 {
     let mut steps = Steps::<L>::new(blank);
-    nest.put(alloc, put.thing, put.to, &mut steps)?;
-    Ok(())
+    nest.put_with(put.thing, put.to, carried, &mut steps)
 }
 
-/// Puts a thing where it goes, if it goes anywhere; after NoMemory the nest is unchanged.
-pub(crate) fn place(alloc: Global, nest: &mut Nest, put: Option<Put>) -> Result<(), NoMemory>
-    requires { IfSome put (λ p. (p.thing < nest.old.things) × MayGo nest.old p.thing p.to) }
+/// Puts a thing where it goes, if it goes anywhere, with what it carries; after NoMemory the nest is unchanged.
+pub(crate) fn place(nest: &mut Nest, put: Option<Put>, carried: &[ThingNo]) -> Result<(), NoMemory>
+    requires may { IfSome put (λ p. (p.thing < nest.old.things) × MayGo nest.old p.thing p.to) }
+    requires carried { IfSome put (λ p. carried.now
+        ≡ carried_by (target_kept nest.old.targets) nest.old.things p.thing) }
     ensures stands { OnOk result
         ((Q : List Put) → StandsFor nest.old Q → StandsFor nest.new (with_put put Q)) }
     ensures sized { OnOk result
@@ -44,7 +46,7 @@ pub(crate) fn place(alloc: Global, nest: &mut Nest, put: Option<Put>) -> Result<
     ensures unchanged { OnErr result (nest.new ≡ nest.old) }
 {
     if let Some(put) = put {
-        put_over::<Brand>(Blank::new(1), alloc, nest, put)?;
+        put_over::<Brand>(Blank::new(1), nest, put, carried)?;
     }
     Ok(())
 }

@@ -5,7 +5,7 @@ ghost use Rattle.register_store.specs.Holdings.{Comes};
 use super::fresh::{Fresh, Stored};
 use super::{TO_S1, museum};
 use codes_core::Day;
-use nest_core::{PlaceNo, Setup, StationNo, ThingNo};
+use nest_core::{PlaceNo, Setup, StationNo, ThingNo, ThingNos};
 use posting_core::{Changes, Entry, EntryNo, Ledger, NewLines, NewSpot, NewSpots, Spot, Verdict};
 use register_store::{PlainRegister, Register, StoreFault, message_text, read_message};
 use std::alloc::Global;
@@ -64,6 +64,7 @@ fn nothing(alloc: Global, entry: EntryNo) -> Changes
         entry,
         verdict: Verdict::Applied,
         put: None,
+        carried: ThingNos::new(Vec::new(alloc)),
         spots: NewSpots::new(alloc),
         lines: NewLines::new(alloc),
     }

@@ -1,18 +1,23 @@
 //! The rules of what crosses under a loan: exit, return and receipt.
-ghost use Rattle.std.specs.Prelude.{◌≡◌, ◌<◌, ◌&&◌, true, false, length, IfOk, OnErr, Some, ℕ};
+ghost use Rattle.std.specs.Prelude.{ℤ, ◌≡◌, ◌<◌, ◌&&◌, true, false, length, All, filter, not, IfOk, IfSome, OnErr, Some, ℕ};
 ghost use Rattle.std.specs.Option.{option_map_or};
-ghost use Rattle.posting_core.specs.Loans.{line, objects_with, wanted_by_exit};
+ghost use Rattle.posting_core.specs.declared.message.Message.TheVariants.{Exit, Return, Receive};
+ghost use Rattle.posting_core.specs.History.{put_by, carried_with};
+ghost use Rattle.posting_core.specs.Loans.{line, wanted_by_exit};
+ghost use Rattle.nest_core.specs.Museum.{is_container};
 ghost use Rattle.posting_core.specs.Verdicts.{first_of, exit_rows, return_rows, receive_rows, stage_eq, is_over, any_unlisted, any_not_at, line_rows, hangs_on_lines};
 ghost use Rattle.codes_core.specs.Loan.{is_out};
 ghost use Rattle.posting_core.specs.Agreements.{last_day};
 ghost use Rattle.posting_core.specs.LoanRows.{line_of};
 
 use super::Ledger;
+use super::judged::{Judged, putting, unput};
 use super::loan_rules::is_container_code;
+use super::planning::objects_among;
 use crate::kept_loan::KeptLoan;
 use crate::{LineStage, Verdict};
 use codes_core::{Day, LoanCode, NoMemory, PlaceCode, ThingCode};
-use nest_core::ThingNo;
+use nest_core::{Target, ThingNo};
 use std::alloc::Global;
 
 impl Ledger {
@@ -22,30 +27,37 @@ impl Ledger {
         thing: &ThingCode,
         loan: &LoanCode,
         day: Day,
-    ) -> Result<Verdict, NoMemory>
-        ensures ok { IfOk result
-            (λ verdict.
-            verdict ≡ first_of (exit_rows self.now.museum self.now.posted thing.now loan.now day)) }
+    ) -> Result<Judged, NoMemory>
+        ensures verdict { IfOk result (λ judged. judged.verdict
+            ≡ first_of (exit_rows self.now.museum self.now.posted thing.now loan.now day)) }
+        ensures put { IfOk result (λ judged. judged.put
+            ≡ put_by self.now.museum self.now.posted judged.verdict
+            (Exit thing.now loan.now day)) }
+        ensures carried { IfOk result (λ judged. IfSome judged.carried
+            (λ carried. carried ≡ carried_with self.now.museum self.now.posted judged.put)) }
         ensures err { OnErr result
             (hangs_on_lines
             (first_of (exit_rows self.now.museum self.now.posted thing.now loan.now day)) ≡ true) }
     {
         let Some(x) = self.setup.thing(thing) else {
-            return Ok(Verdict::UnknownThing);
+            return Ok(unput(Verdict::UnknownThing));
         };
         let Some(kept) = self.loan(loan) else {
-            return Ok(Verdict::UnknownLoan);
+            return Ok(unput(Verdict::UnknownLoan));
         };
         if !loan.is_out() && is_container_code(thing) {
-            return Ok(Verdict::NotObject);
+            return Ok(unput(Verdict::NotObject));
         }
         if !kept.is_authorised() {
-            return Ok(Verdict::NotAuthorised);
+            return Ok(unput(Verdict::NotAuthorised));
         }
         if !self.is_inside(x) {
-            return Ok(Verdict::NotHere);
+            return Ok(unput(Verdict::NotHere));
         }
-        self.judge_lines_out(alloc, x, loan, kept, day)
+        let to = Target::At(kept.partner());
+        let carried = self.carried(alloc, x)?;
+        let verdict = self.judge_lines_out(alloc, carried.as_slice(), loan, kept, day)?;
+        Ok(putting(verdict, x, to, Some(carried)))
     }
 
     pub(crate) fn judge_return(
@@ -54,38 +66,43 @@ impl Ledger {
         thing: &ThingCode,
         loan: &LoanCode,
         place: &PlaceCode,
-    ) -> Result<Verdict, NoMemory>
-        ensures ok { IfOk result
-            (λ verdict.
-            verdict ≡ first_of
+    ) -> Result<Judged, NoMemory>
+        ensures verdict { IfOk result (λ judged. judged.verdict ≡ first_of
             (return_rows self.now.museum self.now.posted thing.now loan.now place.now)) }
+        ensures put { IfOk result (λ judged. (day : ℤ) → judged.put
+            ≡ put_by self.now.museum self.now.posted judged.verdict
+            (Return thing.now loan.now place.now day)) }
+        ensures carried { IfOk result (λ judged. IfSome judged.carried
+            (λ carried. carried ≡ carried_with self.now.museum self.now.posted judged.put)) }
         ensures err { OnErr result
             (hangs_on_lines
             (first_of (return_rows self.now.museum self.now.posted thing.now loan.now place.now))
             ≡ true) }
     {
         let Some(x) = self.setup.thing(thing) else {
-            return Ok(Verdict::UnknownThing);
+            return Ok(unput(Verdict::UnknownThing));
         };
         let Some(p) = self.setup.place(place) else {
-            return Ok(Verdict::UnknownPlace);
+            return Ok(unput(Verdict::UnknownPlace));
         };
         if !self.setup.is_inside(p) {
-            return Ok(Verdict::ElsewherePlace);
+            return Ok(unput(Verdict::ElsewherePlace));
         }
         let Some(kept) = self.loan(loan) else {
-            return Ok(Verdict::UnknownLoan);
+            return Ok(unput(Verdict::UnknownLoan));
         };
         if !kept.is_authorised() {
-            return Ok(Verdict::NotAuthorised);
+            return Ok(unput(Verdict::NotAuthorised));
         }
         if !loan.is_out() {
-            return Ok(Verdict::WrongDirection);
+            return Ok(unput(Verdict::WrongDirection));
         }
         if self.place_of(x) != Some(kept.partner()) {
-            return Ok(Verdict::NotWithPartner);
+            return Ok(unput(Verdict::NotWithPartner));
         }
-        self.judge_lines(alloc, x, kept, LineStage::Away, false)
+        let carried = self.carried(alloc, x)?;
+        let verdict = self.judge_lines(alloc, carried.as_slice(), kept, LineStage::Away, false)?;
+        Ok(putting(verdict, x, Target::At(p), Some(carried)))
     }
 
     pub(crate) fn judge_receive(
@@ -95,81 +112,92 @@ impl Ledger {
         loan: &LoanCode,
         place: &PlaceCode,
         day: Day,
-    ) -> Result<Verdict, NoMemory>
-        ensures ok { IfOk result
-            (λ verdict.
-            verdict ≡ first_of
+    ) -> Result<Judged, NoMemory>
+        ensures verdict { IfOk result (λ judged. judged.verdict ≡ first_of
             (receive_rows self.now.museum self.now.posted thing.now loan.now place.now day)) }
+        ensures put { IfOk result (λ judged. judged.put
+            ≡ put_by self.now.museum self.now.posted judged.verdict
+            (Receive thing.now loan.now place.now day)) }
+        ensures carried { IfOk result (λ judged. IfSome judged.carried
+            (λ carried. carried ≡ carried_with self.now.museum self.now.posted judged.put)) }
         ensures err { OnErr result
             (hangs_on_lines
             (first_of (receive_rows self.now.museum self.now.posted thing.now loan.now place.now
             day)) ≡ true) }
     {
         let Some(x) = self.setup.thing(thing) else {
-            return Ok(Verdict::UnknownThing);
+            return Ok(unput(Verdict::UnknownThing));
         };
         let Some(p) = self.setup.place(place) else {
-            return Ok(Verdict::UnknownPlace);
+            return Ok(unput(Verdict::UnknownPlace));
         };
         if !self.setup.is_inside(p) {
-            return Ok(Verdict::ElsewherePlace);
+            return Ok(unput(Verdict::ElsewherePlace));
         }
         let Some(kept) = self.loan(loan) else {
-            return Ok(Verdict::UnknownLoan);
+            return Ok(unput(Verdict::UnknownLoan));
         };
         if is_container_code(thing) {
-            return Ok(Verdict::NotObject);
+            return Ok(unput(Verdict::NotObject));
         }
         if !kept.is_authorised() {
-            return Ok(Verdict::NotAuthorised);
+            return Ok(unput(Verdict::NotAuthorised));
         }
         if loan.is_out() {
-            return Ok(Verdict::WrongDirection);
+            return Ok(unput(Verdict::WrongDirection));
         }
         if self.is_inside(x) {
-            return Ok(Verdict::AlreadyHere);
+            return Ok(unput(Verdict::AlreadyHere));
         }
         let is_over = kept.last() < day;
-        self.judge_lines(alloc, x, kept, LineStage::Awaiting, is_over)
+        let carried = self.carried(alloc, x)?;
+        let verdict = self.judge_lines(
+            alloc,
+            carried.as_slice(),
+            kept,
+            LineStage::Awaiting,
+            is_over,
+        )?;
+        Ok(putting(verdict, x, Target::At(p), Some(carried)))
     }
 
-    /// The last rows of an exit: those of its lines and, under a loan out, of the loan's last day.
+    /// The last rows of an exit: those of the lines of what is carried and, under a loan out, of the loan's last day.
     fn judge_lines_out(
         &self,
         alloc: Global,
-        x: ThingNo,
+        carried: &[ThingNo],
         loan: &LoanCode,
         kept: &KeptLoan,
         day: Day,
     ) -> Result<Verdict, NoMemory>
-        requires known { x < length self.now.museum.things }
+        requires known { All (λ y. y < length self.now.museum.things) carried.now }
         requires lines { (o : ℕ)
             → line_of kept.now o ≡ line self.now.museum self.now.posted loan.now o }
         requires last { last_day self.now.posted loan.now ≡ Some kept.now.last }
         ensures { IfOk result (λ verdict. verdict ≡ first_of (line_rows
             (line self.now.museum self.now.posted loan.now) (wanted_by_exit loan.now)
-            (objects_with self.now.museum self.now.posted x)
+            (filter (λ o. not (is_container self.now.museum o)) carried.now)
             (is_out loan.now && is_over self.now.posted loan.now day))) }
     {
         let is_over = loan.is_out() && kept.last() < day;
-        self.judge_lines(alloc, x, kept, wanted_by_exit(loan), is_over)
+        self.judge_lines(alloc, carried, kept, wanted_by_exit(loan), is_over)
     }
 
-    /// The last rows of what crosses under a loan, as the loan's row tells them: those of its lines and, where the loan's
-    /// last day is asked, of that.
+    /// The last rows of what crosses under a loan, as the loan's row tells them: those of the lines of what is carried and,
+    /// where the loan's last day is asked, of that.
     fn judge_lines(
         &self,
         alloc: Global,
-        x: ThingNo,
+        carried: &[ThingNo],
         kept: &KeptLoan,
         wanted: LineStage,
         is_over: bool,
     ) -> Result<Verdict, NoMemory>
-        requires { x < length self.now.museum.things }
-        ensures { IfOk result (λ verdict. verdict ≡ first_of (line_rows
-            (line_of kept.now) wanted (objects_with self.now.museum self.now.posted x) is_over)) }
+        requires { All (λ y. y < length self.now.museum.things) carried.now }
+        ensures { IfOk result (λ verdict. verdict ≡ first_of (line_rows (line_of kept.now) wanted
+            (filter (λ o. not (is_container self.now.museum o)) carried.now) is_over)) }
     {
-        let objects = self.objects_with(alloc, x)?;
+        let objects = objects_among(alloc, &self.setup, carried)?;
         Ok(judge_objects(kept, wanted, &objects, is_over))
     }
 }

@@ -1,13 +1,15 @@
 //! The rules of what is agreed of loans: agreement, authorisation and extension.
-ghost use Rattle.std.specs.Prelude.{◌≡◌, ◌∷◌, [], int_lt, not};
+ghost use Rattle.std.specs.Prelude.{◌≡◌, ◌≤◌, ◌∷◌, [], false, length, int_lt, not};
 ghost use Rattle.std.specs.List.{list_any};
 ghost use Rattle.posting_core.specs.declared.verdict.Verdict.TheVariants.{NoObjects, NotObject, Repeated, WrongOwner, BadTerm};
 ghost use Rattle.nest_core.specs.InOrder.{◌if◌};
 ghost use Rattle.posting_core.specs.Verdicts.{first_of, agree_rows, authorise_rows, extend_rows, is_known, is_container_code, is_of_wrong_owner, is_empty, repeats};
 
 use super::Ledger;
-use crate::Verdict;
+use crate::numbers::thing_no;
+use crate::{MOST_OBJECTS, Verdict};
 use codes_core::{Day, LoanCode, PlaceCode, ThingCode, ThingKind};
+use nest_core::Setup;
 
 impl Ledger {
     pub(crate) fn judge_agree(
@@ -18,6 +20,7 @@ impl Ledger {
         first: Day,
         last: Day,
     ) -> Verdict
+        requires few { length objects.now ≤ MOST_OBJECTS }
         ensures { result
             ≡ first_of (agree_rows self.now.museum self.now.posted loan.now partner.now objects.now
             first last) }
@@ -34,7 +37,7 @@ impl Ledger {
         if self.setup.is_inside(place) {
             return Verdict::InsidePartner;
         }
-        judge_terms(loan, objects, first, last)
+        judge_terms(&self.setup, loan, objects, first, last)
     }
 
     pub(crate) fn judge_authorise(&self, loan: &LoanCode) -> Verdict
@@ -73,7 +76,15 @@ impl Ledger {
 }
 
 /// The rows of an agreement that ask nothing of the setup, nor of what was posted: its objects' codes and its days.
-fn judge_terms(loan: &LoanCode, objects: &[ThingCode], first: Day, last: Day) -> Verdict
+fn judge_terms(
+    setup: &Setup,
+    loan: &LoanCode,
+    objects: &[ThingCode],
+    first: Day,
+    last: Day,
+) -> Verdict
+    requires known { list_any (λ x. not (is_known setup.now x)) objects.now ≡ false }
+    requires few { length objects.now ≤ MOST_OBJECTS }
     ensures { result ≡ first_of (
         (NoObjects if is_empty objects.now)
         ∷ (NotObject if list_any is_container_code objects.now)
@@ -88,7 +99,7 @@ fn judge_terms(loan: &LoanCode, objects: &[ThingCode], first: Day, last: Day) ->
     if any_container(objects) {
         return Verdict::NotObject;
     }
-    if repeats(objects) {
+    if repeats(setup, objects) {
         return Verdict::Repeated;
     }
     if any_of_wrong_owner(loan, objects) {
@@ -130,14 +141,19 @@ fn any_of_wrong_owner(loan: &LoanCode, objects: &[ThingCode]) -> bool
     objects.iter().any(|x| is_of_wrong_owner(loan, x))
 }
 
-/// Whether some code stands twice.
-fn repeats(objects: &[ThingCode]) -> bool
+/// Whether some code stands twice: its number does so, too.
+fn repeats(setup: &Setup, objects: &[ThingCode]) -> bool
+    requires known { list_any (λ x. not (is_known setup.now x)) objects.now ≡ false }
+    requires few { length objects.now ≤ MOST_OBJECTS }
     ensures { result ≡ repeats objects.now }
 {
+    let mut numbers = [0; MOST_OBJECTS];
     for i in 0..objects.len() {
-        if objects[i + 1..].contains(&objects[i]) {
+        let number = thing_no(setup, &objects[i]);
+        if numbers[..i].contains(&number) {
             return true;
         }
+        numbers[i] = number;
     }
     false
 }

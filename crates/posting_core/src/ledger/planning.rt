@@ -5,32 +5,66 @@ ghost use Rattle.nest_core.specs.Puts.{container_of};
 ghost use Rattle.posting_core.specs.declared.verdict.Verdict.TheVariants.{Applied};
 ghost use Rattle.nest_core.specs.Museum.{is_container};
 ghost use Rattle.posting_core.specs.Messages.{thing_no, day_of};
-ghost use Rattle.posting_core.specs.History.{put_in, put_by};
-ghost use Rattle.posting_core.specs.Loans.{exit_stage, objects_in, objects_with};
-ghost use Rattle.posting_core.specs.Verdicts.{is_known};
+ghost use Rattle.posting_core.specs.History.{put_in, put_by, carried_at, carried_with};
+ghost use Rattle.posting_core.specs.Loans.{exit_stage};
 ghost use Rattle.posting_core.specs.VerdictNames.{is_applied};
 ghost use Rattle.posting_core.specs.Book.{place_in, spots_in, verdict_in, new_spot, new_spots, new_lines, has_lines};
 ghost use Rattle.posting_core.specs.Rows.{place_to};
 
 use super::Ledger;
-use crate::numbers::{place_no, thing_no};
+use crate::numbers::thing_no;
 use crate::{EntryNo, LineStage, Message, NewLine, NewLines, NewSpot, NewSpots, Spot, Verdict};
 use codes_core::{Day, LoanCode, NoMemory, ThingCode, ThingKind};
-use nest_core::{PlaceNo, Put, Setup, Target, ThingNo};
+use nest_core::{PlaceNo, Put, Setup, Target, ThingNo, ThingNos};
 use std::alloc::Global;
 
 impl Ledger {
-    /// The spots that the message writes, which puts its thing so under its verdict: of all that the thing carries, where
-    /// that comes to another place.
+    /// What a thing carries: itself, with all that is in it, ascending.
+    pub(crate) fn carried(&self, alloc: Global, thing: ThingNo) -> Result<ThingNos, NoMemory>
+        requires { thing < length self.now.museum.things }
+        ensures carried { IfOk result
+            (λ carried. carried ≡ carried_at self.now.museum self.now.posted thing) }
+        ensures within { IfOk result (All (λ y. y < length self.now.museum.things)) }
+    {
+        self.nest.carried(alloc, thing)
+    }
+
+    /// What is carried where there is a put, which may be found already.
+    pub(crate) fn carried_with(
+        &self,
+        alloc: Global,
+        put: Option<Put>,
+        found: Option<ThingNos>,
+    ) -> Result<ThingNos, NoMemory>
+        requires known { IfSome put (λ p. p.thing < length self.now.museum.things) }
+        requires found { IfSome found
+            (λ carried. carried ≡ carried_with self.now.museum self.now.posted put) }
+        ensures ok { IfOk result
+            (λ carried. carried ≡ carried_with self.now.museum self.now.posted put) }
+        ensures err { OnErr result (is_some put ≡ true) }
+    {
+        if let Some(found) = found {
+            return Ok(found);
+        }
+        match put {
+            Some(put) => self.carried(alloc, put.thing),
+            None => Ok(ThingNos::new(Vec::new(alloc))),
+        }
+    }
+
+    /// The spots that the message writes, which puts its thing so under its verdict, with what it carries: of all that
+    /// comes to another place.
     pub(crate) fn spots_under(
         &self,
         alloc: Global,
         message: &Message,
         put: Option<Put>,
+        carried: &[ThingNo],
         entry: EntryNo,
     ) -> Result<NewSpots, NoMemory>
         requires put { put
             ≡ put_by self.now.museum self.now.posted (verdict_in self.now message.now) message.now }
+        requires carried { carried.now ≡ carried_with self.now.museum self.now.posted put }
         requires number { entry ≡ length self.now.posted + 1 }
         ensures ok { IfOk result
             (λ spots. spots
@@ -46,9 +80,9 @@ impl Ledger {
         let Some(day) = day_of(message) else {
             return Ok(NewSpots::new(alloc));
         };
-        let carried = self.nest.carried(alloc, put.thing)?;
+        self.is_lawful();
         match self.place_to(put.to) {
-            Some(place) => self.spots_of(alloc, carried.as_slice(), place, day, entry),
+            Some(place) => self.spots_of(alloc, carried, place, day, entry),
             None => Ok(NewSpots::new(alloc)),
         }
     }
@@ -105,57 +139,17 @@ impl Ledger {
         }
     }
 
-    /// Where the message puts its thing under this verdict.
-    pub(crate) fn put_under(&self, verdict: Verdict, message: &Message) -> Option<Put>
-        ensures { result ≡ put_by self.now.museum self.now.posted verdict message.now }
-    {
-        match verdict {
-            Verdict::Applied => self.put_of(message),
-            _ => None,
-        }
-    }
-
-    fn put_of(&self, message: &Message) -> Option<Put>
-        ensures { result ≡ put_in self.now.museum self.now.posted message.now }
-    {
-        match message {
-            Message::Move { thing, place, .. } => Some(Put {
-                thing: thing_no(&self.setup, thing),
-                to: Target::At(place_no(&self.setup, place)),
-            }),
-            Message::Pack {
-                thing,
-                container,
-                ..
-            } => Some(Put {
-                thing: thing_no(&self.setup, thing),
-                to: Target::Within(thing_no(&self.setup, container)),
-            }),
-            Message::Exit { thing, loan, .. } => Some(Put {
-                thing: thing_no(&self.setup, thing),
-                to: Target::At(self.loan(loan)?.partner()),
-            }),
-            Message::Return { thing, place, .. } | Message::Receive { thing, place, .. } => Some(
-                Put {
-                    thing: thing_no(&self.setup, thing),
-                    to: Target::At(place_no(&self.setup, place)),
-                },
-            ),
-            Message::Agree { .. }
-            | Message::Authorise { .. }
-            | Message::SignOff { .. }
-            | Message::Extend { .. } => None,
-        }
-    }
-
-    /// The lines that the message makes or changes under this verdict.
+    /// The lines that the message makes or changes under this verdict, where this is carried.
     pub(crate) fn lines_under(
         &self,
         alloc: Global,
         message: &Message,
         verdict: Verdict,
+        carried: &[ThingNo],
     ) -> Result<NewLines, NoMemory>
         requires judged { verdict ≡ verdict_in self.now message.now }
+        requires carried { carried.now ≡ carried_with self.now.museum self.now.posted
+            (put_by self.now.museum self.now.posted verdict message.now) }
         ensures ok { IfOk result
             (λ lines. lines
             ≡ (if is_applied verdict then new_lines self.now.museum self.now.posted message.now
@@ -163,14 +157,21 @@ impl Ledger {
         ensures err { OnErr result ((is_applied verdict && has_lines message.now) ≡ true) }
     {
         match verdict {
-            Verdict::Applied => self.new_lines(alloc, message),
+            Verdict::Applied => self.new_lines(alloc, message, carried),
             _ => Ok(NewLines::new(alloc)),
         }
     }
 
     /// The lines of an applied message: an agreement's are all awaited, those of a crossing get its stage.
-    fn new_lines(&self, alloc: Global, message: &Message) -> Result<NewLines, NoMemory>
+    fn new_lines(
+        &self,
+        alloc: Global,
+        message: &Message,
+        carried: &[ThingNo],
+    ) -> Result<NewLines, NoMemory>
         requires applied { verdict_in self.now message.now ≡ Applied }
+        requires carried { carried.now ≡ carried_with self.now.museum self.now.posted
+            (put_in self.now.museum self.now.posted message.now) }
         ensures ok { IfOk result
             (λ lines. lines ≡ new_lines self.now.museum self.now.posted message.now) }
         ensures err { OnErr result (has_lines message.now ≡ true) }
@@ -180,14 +181,14 @@ impl Ledger {
                 let numbers = numbers_of(alloc, &self.setup, objects.as_slice())?;
                 lines_of(alloc, *loan, &numbers, LineStage::Awaiting)
             }
-            Message::Exit { thing, loan, .. } => {
-                self.lines_across(alloc, thing, *loan, exit_stage(loan))
+            Message::Exit { loan, .. } => {
+                self.lines_across(alloc, carried, *loan, exit_stage(loan))
             }
-            Message::Return { thing, loan, .. } => {
-                self.lines_across(alloc, thing, *loan, LineStage::Back)
+            Message::Return { loan, .. } => {
+                self.lines_across(alloc, carried, *loan, LineStage::Back)
             }
-            Message::Receive { thing, loan, .. } => {
-                self.lines_across(alloc, thing, *loan, LineStage::Here)
+            Message::Receive { loan, .. } => {
+                self.lines_across(alloc, carried, *loan, LineStage::Here)
             }
             Message::Move { .. }
             | Message::Pack { .. }
@@ -197,41 +198,31 @@ impl Ledger {
         }
     }
 
-    /// The lines of what crosses with a thing under a loan.
+    /// The lines under a loan of the objects that are carried across.
     fn lines_across(
         &self,
         alloc: Global,
-        thing: &ThingCode,
+        carried: &[ThingNo],
         loan: LoanCode,
         stage: LineStage,
     ) -> Result<NewLines, NoMemory>
-        requires { is_known self.now.museum thing.now ≡ true }
+        requires { All (λ y. y < length self.now.museum.things) carried.now }
         ensures { IfOk result
             (λ lines. lines
             ≡ map (λ o. record { loan = loan; object = o; stage = stage })
-            (objects_in self.now.museum self.now.posted thing.now)) }
+            (filter (λ o. not (is_container self.now.museum o)) carried.now)) }
     {
-        let objects = self.objects_with(alloc, thing_no(&self.setup, thing))?;
+        let objects = objects_among(alloc, &self.setup, carried)?;
         lines_of(alloc, loan, &objects, stage)
-    }
-
-    /// The objects among what a thing carries, itself too where it is one.
-    pub(crate) fn objects_with(
-        &self,
-        alloc: Global,
-        thing: ThingNo,
-    ) -> Result<Vec<ThingNo>, NoMemory>
-        requires { thing < length self.now.museum.things }
-        ensures { IfOk result
-            (λ objects. objects.items ≡ objects_with self.now.museum self.now.posted thing) }
-    {
-        let carried = self.nest.carried(alloc, thing)?;
-        objects_among(alloc, &self.setup, carried.as_slice())
     }
 }
 
 /// The things that are no containers.
-fn objects_among(alloc: Global, setup: &Setup, things: &[ThingNo]) -> Result<Vec<ThingNo>, NoMemory>
+pub(crate) fn objects_among(
+    alloc: Global,
+    setup: &Setup,
+    things: &[ThingNo],
+) -> Result<Vec<ThingNo>, NoMemory>
     requires { All (λ y. y < length setup.now.things) things.now }
     ensures { IfOk result
         (λ objects. objects.items ≡ filter (λ o. not (is_container setup.now o)) things.now) }

@@ -1,59 +1,69 @@
 //! The rules of moves and packs.
-ghost use Rattle.std.specs.Prelude.{◌≡◌, ◌<◌, length, IfSome, None, false, if◌then◌else◌};
+ghost use Rattle.std.specs.Prelude.{ℤ, ◌≡◌, ◌<◌, length, IfSome, None, false, if◌then◌else◌};
 ghost use Rattle.std.specs.Option.{option_map_or};
 ghost use Rattle.nest_core.specs.Museum.{find_thing, is_inside};
 ghost use Rattle.nest_core.specs.Puts.{last};
 ghost use Rattle.nest_core.specs.Nest.{pack_bar};
-ghost use Rattle.posting_core.specs.History.{puts};
+ghost use Rattle.posting_core.specs.declared.message.Message.TheVariants.{Move, Pack};
+ghost use Rattle.posting_core.specs.History.{puts, put_by};
 ghost use Rattle.posting_core.specs.Verdicts.{first_of, move_rows, pack_rows, is_away, is_known_container};
 ghost use Rattle.posting_core.specs.Book.{place_in};
 
 use super::Ledger;
+use super::judged::{Judged, putting, unput};
 use crate::Verdict;
 use codes_core::{PlaceCode, ThingCode, ThingKind};
-use nest_core::{PackBar, ThingNo};
+use nest_core::{PackBar, Target, ThingNo};
 
 impl Ledger {
-    pub(crate) fn judge_move(&self, thing: &ThingCode, place: &PlaceCode) -> Verdict
-        ensures { result
+    pub(crate) fn judge_move(&self, thing: &ThingCode, place: &PlaceCode) -> Judged
+        ensures verdict { result.verdict
             ≡ first_of (move_rows self.now.museum self.now.posted thing.now place.now) }
+        ensures put { (day : ℤ) → result.put
+            ≡ put_by self.now.museum self.now.posted result.verdict
+            (Move thing.now place.now day) }
+        ensures carried { result.carried ≡ None }
     {
         let Some(x) = self.setup.thing(thing) else {
-            return Verdict::UnknownThing;
+            return unput(Verdict::UnknownThing);
         };
         let Some(p) = self.setup.place(place) else {
-            return Verdict::UnknownPlace;
+            return unput(Verdict::UnknownPlace);
         };
         if !self.setup.is_inside(p) {
-            return Verdict::ElsewherePlace;
+            return unput(Verdict::ElsewherePlace);
         }
         if self.is_away(x) {
-            return Verdict::NotHere;
+            return unput(Verdict::NotHere);
         }
-        Verdict::Applied
+        putting(Verdict::Applied, x, Target::At(p), None)
     }
 
-    pub(crate) fn judge_pack(&self, thing: &ThingCode, container: &ThingCode) -> Verdict
-        ensures { result
+    pub(crate) fn judge_pack(&self, thing: &ThingCode, container: &ThingCode) -> Judged
+        ensures verdict { result.verdict
             ≡ first_of (pack_rows self.now.museum self.now.depth self.now.posted thing.now
             container.now) }
+        ensures put { (day : ℤ) → result.put
+            ≡ put_by self.now.museum self.now.posted result.verdict
+            (Pack thing.now container.now day) }
+        ensures carried { result.carried ≡ None }
     {
         let Some(x) = self.setup.thing(thing) else {
-            return Verdict::UnknownThing;
+            return unput(Verdict::UnknownThing);
         };
         let Some(c) = self.container(container) else {
-            return Verdict::UnknownContainer;
+            return unput(Verdict::UnknownContainer);
         };
         if self.is_away(x) {
-            return Verdict::NotHere;
+            return unput(Verdict::NotHere);
         }
         if !self.is_inside(c) {
-            return Verdict::ContainerNotHere;
+            return unput(Verdict::ContainerNotHere);
         }
         match self.pack_bar(x, c) {
-            Some(PackBar::Cycle) => Verdict::Cycle,
-            Some(PackBar::TooDeep) => Verdict::TooDeep,
-            None => Verdict::Applied,
+            Some(PackBar::Cycle) => unput(Verdict::Cycle),
+            Some(PackBar::TooDeep) => unput(Verdict::TooDeep),
+            None => putting(Verdict::Applied, x, Target::Within(c), None),
         }
     }
 

@@ -3,26 +3,31 @@ use Rattle.std.proofs.lemmas.List.{length-map, reverse-append}
 use Rattle.posting_core.specs.declared.entry.Entry.{Entry}
 use Rattle.posting_core.specs.declared.entry.Spot.{Spot}
 use Rattle.posting_core.specs.Rows.{rows_after}
-use Rattle.posting_core.proofs.Posted.{planned, planned_ascending, planned_put, planned_agree, kept_still, kept_after}
+use Rattle.posting_core.proofs.Posted.{planned, planned_ascending, planned_put, planned_carried, planned_agree, kept_still, kept_after}
 use Rattle.posting_core.proofs.ledger.Ledger.apply.Goals as goal
 
 pub make_room-requires : goal.make_room-requires
 make_room-requires c =
-    let is = planned c.self.invariant c.self.view_is c.requires.follows c.requires.planned c.as_slice-spots.ensures c.as_slice-lines.ensures in
+    let is = planned c.self.invariant c.self.view_is c.requires.follows c.requires.planned c.as_slice-carried.ensures c.as_slice-spots.ensures c.as_slice-lines.ensures in
     planned_ascending is _ (sym (length-map c.self.inside.spots.items (λ row. row.items)))
 
-pub place-requires : goal.place-requires
-place-requires c =
-    let is = planned c.self.invariant c.self.view_is c.requires.follows c.requires.planned c.as_slice-spots.ensures c.as_slice-lines.ensures in
+pub place-requires-clause-may : goal.place-requires-clause-may
+place-requires-clause-may c =
+    let is = planned c.self.invariant c.self.view_is c.requires.follows c.requires.planned c.as_slice-carried.ensures c.as_slice-spots.ensures c.as_slice-lines.ensures in
     planned_put is
+
+pub place-requires-clause-carried : goal.place-requires-clause-carried
+place-requires-clause-carried c =
+    let is = planned c.self.invariant c.self.view_is c.requires.follows c.requires.planned c.as_slice-carried.ensures c.as_slice-spots.ensures c.as_slice-lines.ensures in
+    planned_carried is
 
 pub record-requires : goal.record-requires
 record-requires c =
-    planned_agree (planned c.self.invariant c.self.view_is c.requires.follows c.requires.planned c.as_slice-spots.ensures c.as_slice-lines.ensures)
+    planned_agree (planned c.self.invariant c.self.view_is c.requires.follows c.requires.planned c.as_slice-carried.ensures c.as_slice-spots.ensures c.as_slice-lines.ensures)
 
 pub invariant_of-self-2 : goal.invariant_of-self-2
 invariant_of-self-2 c =
-    let is = planned c.self.invariant c.self.view_is c.requires.follows c.requires.planned c.as_slice-spots.ensures c.as_slice-lines.ensures in
+    let is = planned c.self.invariant c.self.view_is c.requires.follows c.requires.planned c.as_slice-carried.ensures c.as_slice-spots.ensures c.as_slice-lines.ensures in
     let pushed = rw c.unwrap.ensures at c.push.ensures.items in
     kept_after is
     c.in_ok-place.ensures.stands c.in_ok-place.ensures.sized.0 c.in_ok-place.ensures.sized.1 c.in_ok-place.ensures.sized.2
@@ -32,7 +37,7 @@ invariant_of-self-2 c =
 
 pub invariant_of-self-in_err-record : goal.invariant_of-self-in_err-record
 invariant_of-self-in_err-record c =
-    let is = planned c.self.invariant c.self.view_is c.requires.follows c.requires.planned c.as_slice-spots.ensures c.as_slice-lines.ensures in
+    let is = planned c.self.invariant c.self.view_is c.requires.follows c.requires.planned c.as_slice-carried.ensures c.as_slice-spots.ensures c.as_slice-lines.ensures in
     kept_still is
     c.in_ok-place.ensures.stands c.in_ok-place.ensures.sized.0 c.in_ok-place.ensures.sized.1 c.in_ok-place.ensures.sized.2
     c.in_err-record.ensures.err.1 (ap reverse c.reserve.ensures.items) c.make_room.ensures.items c.in_err-record.ensures.err.0

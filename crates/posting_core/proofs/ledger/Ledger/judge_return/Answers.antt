@@ -1,21 +1,23 @@
-use Rattle.std.proofs.Common.{rules, ◌≡◌, true, false}
+use Rattle.std.proofs.Common.{rules, ◌≡◌, ◌∙◌, ap, filter, not, true, false, Ok}
+use Rattle.nest_core.specs.Museum.{is_container}
 use Rattle.posting_core.specs.declared.stage.LineStage.TheVariants.{Away}
 use Rattle.posting_core.specs.Loans.{line, objects_with}
-use Rattle.posting_core.specs.Verdicts.{first_of, return_rows, hangs_on_lines}
+use Rattle.posting_core.specs.Verdicts.{first_of, return_rows, line_rows, hangs_on_lines}
 use Rattle.posting_core.proofs.Asked.{lines_hang, at_err}
 use Rattle.posting_core.proofs.LoanAnswers.{judged_by_row}
 use Rattle.posting_core.proofs.ledger.Ledger.judge_return.Goals as goal
 
-pub returns-clause-ok : goal.returns-clause-ok
-returns-clause-ok c =
+pub returns-clause-verdict : goal.returns-clause-verdict
+returns-clause-verdict c =
     let S = c.args.self.now.museum in
     let P = c.args.self.now.posted in
-    let judged = judged_by_row S P c.args.loan.now c.in-Some-loan.kept.now (objects_with S P c.in-Some.x) Away false c.judge_lines.result c.in-Some-loan.ensures.lines c.judge_lines.ensures in
+    let crossing : filter (λ o. not (is_container S o)) c.as_slice.result.now ≡ objects_with S P c.in-Some.x = ap (filter (λ o. not (is_container S o))) (c.as_slice.ensures ∙ c.in_ok-carried.ensures.carried) in
+    let judged : c.in_ok-verdict.verdict ≡ first_of (line_rows (line S P c.args.loan.now) Away (objects_with S P c.in-Some.x) false) = judged_by_row S P c.args.loan.now c.in-Some-loan.kept.now (objects_with S P c.in-Some.x) Away false (Ok _) c.in-Some-loan.ensures.lines (rw (← crossing) c.in_ok-verdict.ensures) in
     search (rules, judged)
 
-pub returns-clause-err : goal.returns-clause-err
-returns-clause-err c =
+pub returns-in_err-verdict-clause-err : goal.returns-in_err-verdict-clause-err
+returns-in_err-verdict-clause-err c =
     let S = c.args.self.now.museum in
     let P = c.args.self.now.posted in
     let hangs = lines_hang (line S P c.args.loan.now) Away (objects_with S P c.in-Some.x) false in
-    at_err c.judge_lines.result (hangs_on_lines (first_of (return_rows S P c.args.thing.now c.args.loan.now c.args.place.now)) ≡ true) (search (rules, hangs))
+    search (rules, hangs)

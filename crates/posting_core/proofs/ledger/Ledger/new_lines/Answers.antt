@@ -1,18 +1,26 @@
-use Rattle.std.proofs.Common.{◌≡◌, subst, List, ℕ, IfOk, Result}
+use Rattle.std.proofs.Common.{◌≡◌, ◌∙◌, ap, subst, sym, List, ℕ, All, ◌<◌, length, filter, not, IfOk, Result}
 use Rattle.codes_core.specs.declared.fault.NoMemory.{NoMemory}
+use Rattle.nest_core.specs.Museum.{is_container}
 use Rattle.posting_core.specs.declared.entry.NewLine.{NewLine}
 use Rattle.posting_core.specs.declared.stage.LineStage.{LineStage}
+use Rattle.posting_core.specs.History.{put_in, carried_with, carried_at}
+use Rattle.posting_core.specs.Messages.{thing_no}
+use Rattle.posting_core.specs.Book.{Book, verdict_in}
 use Rattle.posting_core.proofs.Lined.{lines_at}
+use Rattle.posting_core.proofs.Spotted.{carried_within, exit_carried}
 use Rattle.posting_core.proofs.ledger.Ledger.new_lines.Goals as goal
 
-same_stage : (loan : List ℕ) (os : List ℕ) (s t : LineStage) (r : Result (List NewLine) NoMemory) → s ≡ t → IfOk r (λ lines. lines ≡ lines_at loan os s) → IfOk r (λ lines. lines ≡ lines_at loan os t)
-same_stage loan os s t r same h = subst (λ u. IfOk r (λ lines. lines ≡ lines_at loan os u)) same h
+pub lines_across-requires : goal.lines_across-requires
+lines_across-requires c =
+    let B = c.args.self.now in
+    subst (All (λ y. y < length B.museum.things)) (sym c.requires.carried) (carried_within B.museum B.posted (put_in B.museum B.posted c.args.message.now))
 
-pub returns-in-Exit-clause-ok : goal.returns-in-Exit-clause-ok
-returns-in-Exit-clause-ok c = rw c.in-Exit.is (same_stage _ _ _ _ c.lines_across.result c.exit_stage.ensures c.lines_across.ensures)
+pub lines_across-requires-in-Return : goal.lines_across-requires-in-Return
+lines_across-requires-in-Return c =
+    let B = c.args.self.now in
+    subst (All (λ y. y < length B.museum.things)) (sym c.requires.carried) (carried_within B.museum B.posted (put_in B.museum B.posted c.args.message.now))
 
-pub returns-in-Return-clause-ok : goal.returns-in-Return-clause-ok
-returns-in-Return-clause-ok c = rw c.in-Return.is c.lines_across-in-Return.ensures
-
-pub returns-in-Receive-clause-ok : goal.returns-in-Receive-clause-ok
-returns-in-Receive-clause-ok c = rw c.in-Receive.is c.lines_across-in-Receive.ensures
+pub lines_across-requires-in-Receive : goal.lines_across-requires-in-Receive
+lines_across-requires-in-Receive c =
+    let B = c.args.self.now in
+    subst (All (λ y. y < length B.museum.things)) (sym c.requires.carried) (carried_within B.museum B.posted (put_in B.museum B.posted c.args.message.now))

@@ -1,7 +1,7 @@
-use Rattle.std.proofs.Common.{◌∙◌, ◌≡◌, ◌<◌, sym, subst, All, length, IfOk, List}
+use Rattle.std.proofs.Common.{◌∙◌, ◌≡◌, ◌<◌, ap, sym, subst, All, length, IfOk, List}
 use Rattle.posting_core.specs.declared.entry.NewSpot.{NewSpot}
+use Rattle.posting_core.specs.History.{carried_with}
 use Rattle.posting_core.specs.Book.{verdict_in}
-use Rattle.posting_core.proofs.Posted.{lawful_kept, carried_kept}
 use Rattle.posting_core.proofs.Spotted.{unplaced_spots, carried_below, found_spots}
 use Rattle.posting_core.proofs.ledger.Ledger.spots_under.Goals as goal
 
@@ -12,15 +12,14 @@ returns-in_default-clause-ok c =
 
 pub spots_of-requires : goal.spots_of-requires
 spots_of-requires c =
-    let carried = c.as_slice.ensures ∙ carried_kept c.self.invariant c.self.view_is c.in-Some.put.thing _ c.in_ok-carried.ensures in
+    let carried = c.requires.carried ∙ ap (carried_with c.args.self.now.museum c.args.self.now.posted) c.in-Some.is in
     subst (All (λ y. y < length c.args.self.now.museum.things)) (sym carried) (carried_below (length c.args.self.now.museum.things) _ c.in-Some.put.thing)
 
 pub returns-in-Some-place_to-clause-ok : goal.returns-in-Some-place_to-clause-ok
 returns-in-Some-place_to-clause-ok c =
     let B = c.args.self.now in
-    let carried = c.as_slice.ensures ∙ carried_kept c.self.invariant c.self.view_is c.in-Some.put.thing _ c.in_ok-carried.ensures in
-    let lawful = lawful_kept c.self.invariant c.self.view_is in
+    let carried = c.requires.carried ∙ ap (carried_with B.museum B.posted) c.in-Some.is in
     subst (λ (news : List NewSpot). IfOk c.spots_of.result (λ spots. spots ≡ news))
-    (found_spots B c.args.message.now lawful (sym c.requires.put ∙ c.in-Some.is) c.requires.number
+    (found_spots B c.args.message.now c.is_lawful.ensures (sym c.requires.put ∙ c.in-Some.is) c.requires.number
     (sym c.day_of.ensures ∙ c.in-Some-day_of.is) (sym c.place_to.ensures ∙ c.in-Some-place_to.is) carried)
     c.spots_of.ensures
