@@ -49,7 +49,7 @@ module _ {S : Museum} {P : List Entry} {N : Nested} {R : List (List Spot)} {L : 
   pub lawful_kept : IsLawful B.museum B.depth B.posted
   lawful_kept = subst (λ (C : Book). IsLawful C.museum C.depth C.posted) same kept.lawful
 
-  pub carried_kept : (x : ℕ) (ys : List ℕ) → ((Q : List Put) → StandsFor N Q → ys ≡ carried N.things Q x) → ys ≡ carried_at B.museum B.posted x
+  carried_kept : (x : ℕ) (ys : List ℕ) → ((Q : List Put) → StandsFor N Q → ys ≡ carried N.things Q x) → ys ≡ carried_at B.museum B.posted x
   carried_kept x ys from = subst (λ (C : Book). ys ≡ carried_at C.museum C.posted x) same (from (puts S P) kept.nest ∙ ap (λ n. carried n (puts S P) x) kept.things)
 
   pub carried_told : (x : ℕ) (r : Result (List ℕ) NoMemory) → IfOk r (λ ys. (Q : List Put) → StandsFor N Q → ys ≡ carried N.things Q x) → IfOk r (λ ys. ys ≡ carried_at B.museum B.posted x)

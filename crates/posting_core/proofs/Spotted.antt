@@ -1,30 +1,24 @@
 -- The spots that an applied message writes are those of what its thing carries, and what that is.
-use Rattle.std.specs.Prelude.{ℕ, ℤ, zero, suc, ◌≡◌, ◌+◌, ◌<◌, ◌≤◌, Bool, true, false, cond, if◌then◌else◌, List, [], ◌∷◌, ◌++◌, Option, None, Some, is_some, length, filter, refl, All}
+use Rattle.std.specs.Prelude.{ℕ, ℤ, zero, suc, ◌≡◌, ◌+◌, ◌<◌, ◌≤◌, Bool, true, false, cond, if◌then◌else◌, List, [], ◌∷◌, ◌++◌, Option, None, Some, length, filter, refl, All}
 use Rattle.std.specs.List.{filter_map, range_with_len, cons_option}
 use Rattle.std.proofs.Common.{ap, ◌∙◌, sym, arith, get_or, take}
 use Rattle.std.proofs.lemmas.List.{take_more}
-use Rattle.std.specs.Option.{option_map, option_to_list}
-use Rattle.std.proofs.lemmas.Bool.{false≢true, not-false}
+use Rattle.std.specs.Option.{option_to_list}
 use Rattle.std.proofs.lemmas.List.Elements.{All-nil, All-cons, All-filter, filter_map-append}
 use Rattle.nest_core.specs.declared.put.Put.{Put}
-use Rattle.nest_core.specs.declared.put.Target.TheVariants.{At}
 use Rattle.nest_core.specs.Museum.{Museum}
 use Rattle.nest_core.specs.Puts.{is_carried, carried}
 use Rattle.posting_core.specs.declared.message.Message.{Message}
-use Rattle.posting_core.specs.declared.message.Message.TheVariants.{Exit}
 use Rattle.posting_core.specs.declared.verdict.Verdict.{Verdict}
-use Rattle.posting_core.specs.declared.verdict.Verdict.TheVariants.{Applied}
 use Rattle.posting_core.specs.declared.entry.Entry.{Entry}
 use Rattle.posting_core.specs.declared.entry.NewSpot.{NewSpot}
-use Rattle.posting_core.specs.Messages.{thing_no, place_no, day_of}
-use Rattle.posting_core.specs.Agreements.{agreement, is_agreed}
-use Rattle.posting_core.specs.Verdicts.{verdict, exit_rows}
+use Rattle.posting_core.specs.Messages.{day_of}
 use Rattle.posting_core.specs.History.{puts, put_in, put_by, spots, place_at, carried_at, carried_with}
 use Rattle.posting_core.specs.Lawful.{IsLawful}
 use Rattle.posting_core.specs.VerdictNames.{is_applied}
 use Rattle.posting_core.specs.Book.{Book, verdict_in, place_in, spots_in, place_after, new_spot, new_spots}
 use Rattle.posting_core.specs.Rows.{place_to}
-use Rattle.posting_core.proofs.AppliedRows.{applied_is, none_holds}
+use Rattle.posting_core.proofs.AppliedRows.{applied_is}
 use Rattle.posting_core.proofs.Placed.{IsAllowedPut, allowed_in, by_applied, comes_along, stays}
 use Rattle.posting_core.proofs.Written.{same_place}
 
@@ -104,11 +98,3 @@ carried_below things Q x = All-filter (is_carried things Q x) (λ y. y < things)
 pub carried_within : (S : Museum) (P : List Entry) (put : Option Put) → All (λ y. y < length S.things) (carried_with S P put)
 carried_within S P None = All-nil (λ (y : ℕ). y < length S.things)
 carried_within S P (Some put) = carried_below (length S.things) (puts S P) put.thing
-
--- an applied exit carries its thing's
-pub exit_carried : (S : Museum) (depth : ℕ) (P : List Entry) (x loan : List ℕ) (day : ℤ) → verdict S depth P (Exit x loan day) ≡ Applied → carried_with S P (put_in S P (Exit x loan day)) ≡ carried_at S P (thing_no S x)
-exit_carried S depth P x loan day applied =
-    elim (agreement P loan) as (λ o. is_some o ≡ true → carried_with S P (option_map (λ t. record { thing = thing_no S x; to = At (place_no S t.partner) }) o) ≡ carried_at S P (thing_no S x)) [
-      | None ↦ λ none. absurd (false≢true none)
-      | Some t ↦ λ some. refl
-    ] (not-false (is_agreed P loan) (none_holds (exit_rows S P x loan day) refl applied).1.0)

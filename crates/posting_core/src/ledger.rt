@@ -214,8 +214,9 @@ impl Ledger {
     }
 
     /// What posting the message now would change: the number of its entry, from 1, its verdict and, where it is
-    /// applied, the new spots and the lines that it makes or changes; else NoMemory, which comes only where `judge` can
-    /// give up, or where the message is applied and puts a thing or agrees a loan.
+    /// applied, what it puts where, the things that are carried with that, the new spots, and the lines that it makes or
+    /// changes; else NoMemory, which comes only where `judge` can give up, or where the message is applied and puts a
+    /// thing or agrees a loan.
     pub fn plan(&self, alloc: Global, message: &Message) -> Result<Changes, NoMemory>
         ensures ok { IfOk result (λ changes. changes ≡ changes_of self.now message.now) }
         ensures err { OnErr result (asks_memory self.now message.now ≡ true) }

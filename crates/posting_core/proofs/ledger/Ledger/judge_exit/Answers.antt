@@ -1,9 +1,9 @@
-use Rattle.std.proofs.Common.{rules, ◌≡◌, ◌∙◌, ap, filter, not, ◌&&◌, true}
+use Rattle.std.proofs.Common.{rules, ◌≡◌, ◌∙◌, ap, filter, not, ◌&&◌}
 use Rattle.codes_core.specs.Loan.{is_out}
 use Rattle.nest_core.specs.Museum.{is_container}
 use Rattle.posting_core.specs.Loans.{line, objects_with, wanted_by_exit}
-use Rattle.posting_core.specs.Verdicts.{first_of, exit_rows, line_rows, is_over, hangs_on_lines}
-use Rattle.posting_core.proofs.Asked.{lines_hang, at_err}
+use Rattle.posting_core.specs.Verdicts.{first_of, line_rows, is_over}
+use Rattle.posting_core.proofs.Asked.{lines_hang}
 use Rattle.posting_core.proofs.ledger.Ledger.judge_exit.Goals as goal
 
 pub returns-clause-verdict : goal.returns-clause-verdict

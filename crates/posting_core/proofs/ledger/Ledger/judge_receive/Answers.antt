@@ -1,9 +1,9 @@
-use Rattle.std.proofs.Common.{rules, ◌≡◌, ◌∙◌, ap, filter, not, true, Ok}
+use Rattle.std.proofs.Common.{rules, ◌≡◌, ◌∙◌, ap, filter, not, Ok}
 use Rattle.nest_core.specs.Museum.{is_container}
 use Rattle.posting_core.specs.declared.stage.LineStage.TheVariants.{Awaiting}
 use Rattle.posting_core.specs.Loans.{line, objects_with}
-use Rattle.posting_core.specs.Verdicts.{first_of, receive_rows, line_rows, hangs_on_lines}
-use Rattle.posting_core.proofs.Asked.{lines_hang, at_err}
+use Rattle.posting_core.specs.Verdicts.{first_of, line_rows}
+use Rattle.posting_core.proofs.Asked.{lines_hang}
 use Rattle.posting_core.proofs.LoanAnswers.{judged_by_row}
 use Rattle.posting_core.proofs.ledger.Ledger.judge_receive.Goals as goal
 

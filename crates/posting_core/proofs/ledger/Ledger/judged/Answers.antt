@@ -1,4 +1,4 @@
-use Rattle.std.proofs.Common.{ℤ, ◌≡◌, Result, Ok, Err, IfOk}
+use Rattle.std.proofs.Common.{ℤ, Result, Ok, Err, IfOk}
 use Rattle.posting_core.proofs.ledger.Ledger.judged.Goals as goal
 
 pub returns-in-Move-clause-put : goal.returns-in-Move-clause-put
