@@ -18,7 +18,8 @@ const LAST: i64 = 2_932_896;
 
 /// A civil day of the years 1 to 9999, seen as its number: 0 is 1970-01-01, and each later day is one more.
 /// Its spelling is the year in four digits, the month and the date in two, with dashes between (`2024-05-01`).
-#[derive(Clone, Copy, Debug, PartialEq, Eq, PartialOrd, Ord, Hash)]
+/// Its default is day 0.
+#[derive(Clone, Copy, Debug, Default, PartialEq, Eq, PartialOrd, Ord, Hash)]
 pub struct Day {
     number: i32,
 }

@@ -3,6 +3,7 @@
 use crate::{LineStage, Message, Verdict};
 use codes_core::{Day, LoanCode, NoMemory};
 use nest_core::{PlaceNo, Put, StationNo, ThingNo, ThingNos};
+use smallvec::SmallVec;
 use std::alloc::Global;
 use std::marker::Model;
 
@@ -19,7 +20,7 @@ pub struct Entry {
 }
 
 /// A place at which a thing came to be: the number of the entry, from 1, that brought it there, and the day.
-#[derive(Clone, Copy, Debug, PartialEq, Eq, PartialOrd, Ord)]
+#[derive(Clone, Copy, Debug, Default, PartialEq, Eq, PartialOrd, Ord)]
 pub struct Spot {
     pub entry: EntryNo,
     pub place: PlaceNo,
@@ -27,17 +28,17 @@ pub struct Spot {
 }
 
 /// A new spot of a thing, with its number, from 1, in the thing's list.
-#[derive(Clone, Copy, Debug, PartialEq, Eq, PartialOrd, Ord)]
+#[derive(Clone, Copy, Debug, Default, PartialEq, Eq, PartialOrd, Ord)]
 pub struct NewSpot {
     pub thing: ThingNo,
     pub k: u32,
     pub spot: Spot,
 }
 
-/// New spots that an entry writes; seen as their list.
+/// New spots that an entry writes; seen as their list. One alone takes no memory.
 #[derive(Debug, Drop)]
 pub struct NewSpots {
-    items: Vec<NewSpot>,
+    items: SmallVec<NewSpot, 1>,
 }
 
 impl Model for NewSpots {
@@ -57,7 +58,7 @@ impl NewSpots {
         ensures { result ≡ [] }
     {
         NewSpots {
-            items: Vec::new(alloc),
+            items: SmallVec::new(alloc),
         }
     }
 

@@ -16,6 +16,7 @@ use crate::numbers::thing_no;
 use crate::{EntryNo, LineStage, Message, NewLine, NewLines, NewSpot, NewSpots, Spot, Verdict};
 use codes_core::{Day, LoanCode, NoMemory, ThingCode, ThingKind};
 use nest_core::{PlaceNo, Put, Setup, Target, ThingNo, ThingNos};
+use smallvec::SmallVec;
 use std::alloc::Global;
 
 impl Ledger {
@@ -222,12 +223,12 @@ pub(crate) fn objects_among(
     alloc: Global,
     setup: &Setup,
     things: &[ThingNo],
-) -> Result<Vec<ThingNo>, NoMemory>
+) -> Result<SmallVec<ThingNo, 1>, NoMemory>
     requires { All (λ y. y < length setup.now.things) things.now }
     ensures { IfOk result
         (λ objects. objects.items ≡ filter (λ o. not (is_container setup.now o)) things.now) }
 {
-    let mut objects = Vec::new(alloc);
+    let mut objects = SmallVec::new(alloc);
     for i in 0..things.len() {
         if !matches!(setup.kind(things[i]), ThingKind::Container) {
             objects.push(things[i])?;

@@ -8,5 +8,5 @@ objects_among-requires c = subst (λ n. All (λ y. y < n) c.args.carried.now) (a
 pub returns : goal.returns
 returns c =
     let crossing : c.deref.result.now ≡ filter (λ o. not (is_container c.args.self.now.museum o)) c.args.carried.now =
-    c.deref.ensures.value ∙ c.in_ok-objects.ensures ∙ ap (λ B. filter (λ o. not (is_container B.museum o)) c.args.carried.now) c.self.view_is in
+    c.deref.ensures ∙ c.in_ok-objects.ensures ∙ ap (λ B. filter (λ o. not (is_container B.museum o)) c.args.carried.now) c.self.view_is in
     rw (← crossing) c.judge_objects.ensures
