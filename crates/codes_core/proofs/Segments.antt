@@ -1,6 +1,7 @@
 -- A place's text from segment to segment.
-use Rattle.std.specs.Prelude.{◌≡◌, ℕ, ◌+◌, ◌*◌, ◌<◌, ◌≤◌, ◌==◌, ◌&&◌, Bool, true, false, nat_le, nat_lt, nat_eq, cond, List, [], ◌∷◌, length, suc, zero, take, drop, None, refl}
+use Rattle.std.specs.Prelude.{◌≡◌, ℕ, ◌+◌, ◌*◌, ◌<◌, ◌≤◌, ◌==◌, ◌&&◌, Bool, true, false, nat_le, nat_lt, nat_eq, cond, List, [], ◌∷◌, length, suc, zero, take, drop, Option, None, refl}
 use Rattle.std.specs.List.{list_all}
+use Rattle.std.specs.Bool.{then_some}
 use Rattle.std.specs.Cmp.Lexicographic.{pointwise}
 use Rattle.std.specs.Str.{bytes_eq}
 use Rattle.std.proofs.Common.{arith, ap, sym, ◌∙◌}
@@ -8,10 +9,10 @@ use Rattle.std.proofs.lemmas.Bool.{and_parts, eqb-true, eqb-false, eq-eqb, ne_eq
 use Rattle.std.proofs.lemmas.Bool.Decides.{nat_tests}
 use Rattle.std.proofs.Math.Bool.{and_assoc}
 use Rattle.codes_core.specs.declared.fault.CodeFault.TheVariants.{BadNumber}
-use Rattle.codes_core.specs.Grammar.{in_first, code_fault}
+use Rattle.codes_core.specs.Grammar.{in_first, numbers_of}
 use Rattle.codes_core.proofs.Parts.{front, rest, following, goes_on, parts-front, are_few-zero, first_then, front_and_rest, ascii_parts}
 use Rattle.codes_core.proofs.Texts.{no_fault, IsShort}
-use Rattle.codes_core.specs.Place.{is_segment_byte, segments, is_segment, is_place_shape, lies_in, ends_segment}
+use Rattle.codes_core.specs.Place.{is_segment_byte, segments, is_segment, is_place_shape, place_fault, lies_in, ends_segment}
 
 -- the empty text lies in no place
 empty-lies_in : (b : ℕ) (bs : List ℕ) → lies_in [] (b ∷ bs) ≡ false
@@ -90,8 +91,14 @@ segment_ascii : (b : ℕ) → is_segment_byte b ≡ true → b < 128
 segment_ascii b h = grind (arith, nat_tests)
 
 -- a place's code has at most 35 bytes
-pub place_text : (shape : Bool) (bs : List ℕ) → shape ≡ is_place_shape 4 bs → code_fault BadNumber shape true bs ≡ None → IsShort 35 bs
-place_text shape bs s h =
-    let is : is_place_shape 4 bs ≡ true = sym s ∙ (no_fault BadNumber shape true bs h).0 in
+pub place_told : (numbers : Option Bool) (shape : Bool) (bs : List ℕ) → numbers ≡ then_some shape true → shape ≡ is_place_shape 4 bs → numbers ≡ numbers_of (is_place_shape 4 bs) true
+place_told numbers shape bs n s = n ∙ (elim shape as (λ t. then_some t true ≡ numbers_of t true) [
+  | true ↦ refl
+  | false ↦ refl
+]) ∙ ap (λ t. numbers_of t true) s
+
+pub place_text : (bs : List ℕ) → place_fault bs ≡ None → IsShort 35 bs
+place_text bs none =
+    let is : is_place_shape 4 bs ≡ true = (no_fault BadNumber (is_place_shape 4 bs) true bs none).0 in
     let few : length bs + 1 ≤ 9 * 4 = place_length 4 bs is in
     record { ascii = ascii_parts 45 is_segment_byte (omega arith) segment_ascii bs (are_plain (segments bs) (and_parts _ _ is).1); short = omega arith }

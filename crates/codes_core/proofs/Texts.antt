@@ -1,6 +1,6 @@
 -- What a code's shape says of its text: it is ASCII, and not long.
 use Rattle.std.specs.Prelude.{◌≡◌, ℕ, ◌+◌, ◌-◌, ◌*◌, ◌<◌, ◌≤◌, ◌==◌, ◌&&◌, Bool, true, false, nat_lt, nat_le, not, cond, List, [], ◌∷◌, length, suc, nat_eq, take, drop, slice_index, refl, None, ◌||◌, codes}
-use Rattle.std.proofs.Common.{arith, inl, inr, length-drop, subst, sym, ◌∙◌}
+use Rattle.std.proofs.Common.{arith, inl, inr, length-drop, subst, sym}
 use Rattle.std.proofs.lemmas.Bool.{and_parts, or_cases, eqb-true, leb-true, false≢true}
 use Rattle.std.proofs.lemmas.Bool.Decides.{nat_tests}
 use Rattle.std.proofs.lemmas.List.{take-append-drop, length-take-le}
@@ -15,8 +15,8 @@ use Rattle.codes_core.specs.declared.fault.CodeFault.{CodeFault}
 use Rattle.codes_core.specs.declared.fault.CodeFault.TheVariants.{BadNumber}
 use Rattle.codes_core.specs.Grammar.{is_digits, is_right_number, is_year, are_few, groups, are_groups, has_right_groups, code_fault}
 use Rattle.codes_core.proofs.Parts.{is_plain, front, rest, following, parts-front, ascii_parts}
-use Rattle.codes_core.specs.Loan.{is_out, is_loan_shape, has_loan_number}
-use Rattle.codes_core.specs.Thing.{without_letter, is_object_shape, has_object_numbers, is_thing_shape, has_thing_numbers}
+use Rattle.codes_core.specs.Loan.{is_out, is_loan_shape, has_loan_number, loan_fault}
+use Rattle.codes_core.specs.Thing.{without_letter, is_object_shape, has_object_numbers, is_thing_shape, has_thing_numbers, thing_fault}
 
 -- a text of at most n bytes of ASCII
 pub record IsShort (n : ℕ) (text : List ℕ) : Type 0 where
@@ -152,9 +152,9 @@ loan_short bs shape right =
     ]
 
 -- a thing's code has at most 27 bytes
-pub thing_text : (shape right : Bool) (bs : List ℕ) → shape ≡ is_thing_shape bs → right ≡ has_thing_numbers bs → code_fault BadNumber shape right bs ≡ None → IsShort 27 bs
-thing_text shape right bs s r h = let is = no_fault BadNumber shape right bs h in thing_short bs (sym s ∙ is.0) (sym r ∙ is.1)
+pub thing_text : (bs : List ℕ) → thing_fault bs ≡ None → IsShort 27 bs
+thing_text bs none = let is = no_fault BadNumber (is_thing_shape bs) (has_thing_numbers bs) bs none in thing_short bs is.0 is.1
 
 -- a loan's code has at most 13 bytes
-pub loan_text : (shape right : Bool) (bs : List ℕ) → shape ≡ is_loan_shape bs → right ≡ has_loan_number bs → code_fault BadNumber shape right bs ≡ None → IsShort 13 bs
-loan_text shape right bs s r h = let is = no_fault BadNumber shape right bs h in loan_short bs (sym s ∙ is.0) (sym r ∙ is.1)
+pub loan_text : (bs : List ℕ) → loan_fault bs ≡ None → IsShort 13 bs
+loan_text bs none = let is = no_fault BadNumber (is_loan_shape bs) (has_loan_number bs) bs none in loan_short bs is.0 is.1

@@ -3,7 +3,7 @@ use Rattle.std.specs.Prelude.{◌≡◌, true, false, Some, None, [], ◌∷◌,
 use Rattle.codes_core.specs.declared.TheConstants.{LONGEST_NAME}
 use Rattle.codes_core.specs.declared.fault.CodeFault.TheVariants.{Empty, BadShape, BadNumber, NoSuchDay}
 use Rattle.codes_core.specs.declared.thing.ThingKind.TheVariants.{Own, Borrowed, Container}
-use Rattle.codes_core.specs.Grammar.{groups}
+use Rattle.codes_core.specs.Grammar.{groups, numbers_of}
 use Rattle.codes_core.specs.Thing.{thing_kind, without_letter, thing_fault}
 use Rattle.codes_core.specs.Loan.{is_out, loan_fault}
 use Rattle.codes_core.specs.Place.{place_fault, lies_in}
@@ -12,6 +12,13 @@ use Rattle.codes_core.specs.Day.{day_fault}
 -- the groups of a code, without the letter at its end
 own_groups : groups (without_letter (codes "2001.4.2a")) ≡ codes "2001" ∷ codes "4" ∷ codes "2" ∷ []
 own_groups = refl
+
+-- numbers are told where the shape is there
+wrong_number : numbers_of true false ≡ Some false
+wrong_number = refl
+
+untold : numbers_of false true ≡ None
+untold = refl
 
 pub own : thing_fault (codes "2001.4.2a") ≡ None
 own = refl

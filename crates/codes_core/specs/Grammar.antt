@@ -44,6 +44,10 @@ are_groups n (year ∷ numbers) =
 abbrev pub has_right_groups : List (List ℕ) → Bool
 has_right_groups gs = list_all is_right_number (drop 1 gs)
 
+-- whether a text's numbers are right, where it has the shape
+abbrev pub numbers_of : Bool → Bool → Option Bool
+numbers_of has_shape is_right = if has_shape then Some is_right else None
+
 -- the number that digits spell
 abbrev pub number_of : List ℕ → ℕ
 number_of digits = fold (λ n d. 10 * n + (d - 48)) 0 digits

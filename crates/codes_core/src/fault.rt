@@ -1,7 +1,7 @@
 //! Why a text is no code, and that memory is used up.
-ghost use Rattle.std.specs.Prelude.{◌≡◌, None, Some, MatchResult};
+ghost use Rattle.std.specs.Prelude.{◌≡◌, Bool, None, Some, MatchResult};
 ghost use Rattle.codes_core.specs.declared.fault.CodeFault.TheVariants.{BadNumber};
-ghost use Rattle.codes_core.specs.Grammar.{code_fault};
+ghost use Rattle.codes_core.specs.Grammar.{code_fault, numbers_of};
 
 use std::alloc::{AllocError, AllocFailed};
 use thiserror::Error;
@@ -58,20 +58,19 @@ impl From<AllocError> for NameFault {
     }
 }
 
-/// The first fault of a code's text: Empty where it has no bytes, BadShape where it hasn't the code's shape,
-/// BadNumber where it has the shape, and a number in it isn't right.
-pub(crate) fn test(bytes: &[u8], has_shape: bool, has_numbers: bool) -> Result<(), CodeFault>
-    ensures { MatchResult result (λ _. code_fault BadNumber has_shape has_numbers bytes.now ≡ None)
-        (λ fault. code_fault BadNumber has_shape has_numbers bytes.now ≡ Some fault) }
+/// The first fault of a code's text, by whether its numbers are right, where it has the code's shape: Empty where it has no
+/// bytes, BadShape where it hasn't the shape, BadNumber where it has, and a number in it isn't right.
+pub(crate) fn test(bytes: &[u8], numbers: Option<bool>) -> Result<(), CodeFault>
+    ensures { (has_shape is_right : Bool) → numbers ≡ numbers_of has_shape is_right
+        → MatchResult result (λ _. code_fault BadNumber has_shape is_right bytes.now ≡ None)
+        (λ fault. code_fault BadNumber has_shape is_right bytes.now ≡ Some fault) }
 {
     if bytes.is_empty() {
         return Err(CodeFault::Empty);
     }
-    if !has_shape {
-        return Err(CodeFault::BadShape);
+    match numbers {
+        None => Err(CodeFault::BadShape),
+        Some(false) => Err(CodeFault::BadNumber),
+        Some(true) => Ok(()),
     }
-    if !has_numbers {
-        return Err(CodeFault::BadNumber);
-    }
-    Ok(())
 }

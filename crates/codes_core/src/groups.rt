@@ -1,7 +1,8 @@
 //! The groups of a code, between its dots.
-ghost use Rattle.std.specs.Prelude.{◌≡◌, ◌≤◌, not, ◌==◌, length, take_while};
+ghost use Rattle.std.specs.Prelude.{◌≡◌, ◌≤◌, ◌&&◌, not, ◌==◌, length, take_while};
 ghost use Rattle.std.specs.List.{list_all};
-ghost use Rattle.codes_core.specs.Grammar.{is_digits, is_right_number, is_year, are_few, groups, are_groups, has_right_groups};
+ghost use Rattle.std.specs.Option.{option_map};
+ghost use Rattle.codes_core.specs.Grammar.{is_digits, is_right_number, is_year, are_few, groups, are_groups, has_right_groups, numbers_of};
 
 use crate::digits::{is_digits, is_right_number};
 
@@ -13,34 +14,33 @@ fn group_length(text: &[u8]) -> usize
     text.iter().take_while(|b| **b != b'.').count()
 }
 
-/// Whether the text is at most so many groups, each of one digit or more.
-fn are_digit_groups(text: &[u8], most: u32) -> bool
-    ensures { result ≡ are_few is_digits most (groups text.now) }
+/// Whether each group is a right number, where the text is at most so many groups, each of one digit or more.
+fn digit_groups(text: &[u8], most: u32) -> Option<bool>
+    ensures { result
+        ≡ numbers_of (are_few is_digits most (groups text.now))
+        (list_all is_right_number (groups text.now)) }
 {
     if most == 0 {
-        return false;
+        return None;
     }
     let (first, rest) = text.split_at(group_length(text));
     if !is_digits(first) {
-        return false;
+        return None;
     }
+    let is_right = is_right_number(first);
     match rest {
-        [] => true,
-        [_, after @ ..] => are_digit_groups(after, most - 1),
+        [] => Some(is_right),
+        [_, after @ ..] => with_number(is_right, digit_groups(after, most - 1)),
     }
 }
 
-/// Whether each group is a right number.
-fn are_right_numbers(text: &[u8]) -> bool
-    ensures { result ≡ list_all is_right_number (groups text.now) }
+/// Whether one more number is right too, where that is told of the others.
+fn with_number(is_right: bool, others: Option<bool>) -> Option<bool>
+    ensures { result ≡ option_map (λ o. is_right && o) others }
 {
-    let (first, rest) = text.split_at(group_length(text));
-    if !is_right_number(first) {
-        return false;
-    }
-    match rest {
-        [] => true,
-        [_, after @ ..] => are_right_numbers(after),
+    match others {
+        Some(are_right) => Some(is_right && are_right),
+        None => None,
     }
 }
 
@@ -50,24 +50,20 @@ fn is_year(digits: &[u8]) -> bool
     digits.len() == 4 && is_digits(digits)
 }
 
-/// Whether the text is four digits and one to so many further groups of digits.
-pub(crate) fn are_groups(text: &[u8], most: u32) -> bool
-    ensures { result ≡ are_groups most (groups text.now) }
+/// Whether each group behind the first is a right number, where the text is four digits and one to so many further groups
+/// of digits.
+pub(crate) fn numbers_of(text: &[u8], most: u32) -> Option<bool>
+    ensures { result
+        ≡ numbers_of (are_groups most (groups text.now)) (has_right_groups (groups text.now)) }
 {
     let (year, rest) = text.split_at(group_length(text));
     match rest {
-        [] => false,
-        [_, numbers @ ..] => is_year(year) && are_digit_groups(numbers, most),
-    }
-}
-
-/// Whether each group behind the first is a right number.
-pub(crate) fn has_right_groups(text: &[u8]) -> bool
-    ensures { result ≡ has_right_groups (groups text.now) }
-{
-    let (_year, rest) = text.split_at(group_length(text));
-    match rest {
-        [] => true,
-        [_, numbers @ ..] => are_right_numbers(numbers),
+        [] => None,
+        [_, numbers @ ..] => {
+            if !is_year(year) {
+                return None;
+            }
+            digit_groups(numbers, most)
+        }
     }
 }

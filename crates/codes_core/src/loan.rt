@@ -1,9 +1,10 @@
 //! Codes of loans.
 ghost use Rattle.std.specs.Prelude.{◌≡◌, ◌++◌, None, Some, OnOk, OnErr, MatchResult, string_bytes};
+ghost use Rattle.codes_core.specs.Grammar.{numbers_of};
 ghost use Rattle.codes_core.specs.Loan.{is_out, is_loan_shape, has_loan_number, loan_fault};
 
 use crate::fault::test;
-use crate::groups::{are_groups, has_right_groups};
+use crate::groups::numbers_of;
 use crate::spelling::Spelling;
 use crate::{CodeFault, NoMemory};
 use std::alloc::Global;
@@ -38,7 +39,7 @@ impl LoanCode {
             (λ code. (code ≡ bytes.now) × (loan_fault bytes.now ≡ None))
             (λ fault. loan_fault bytes.now ≡ Some fault) }
     {
-        test(bytes, is_loan_shape(bytes), has_loan_number(bytes))?;
+        test(bytes, loan_number(bytes))?;
         Ok(LoanCode {
             spelling: Spelling::new(bytes),
         })
@@ -82,14 +83,12 @@ fn is_out(text: &[u8]) -> bool
     text.starts_with(b"LO")
 }
 
-fn is_loan_shape(text: &[u8]) -> bool
-    ensures { result ≡ is_loan_shape text.now }
+/// Whether the number of a loan's code is right, where the text has the shape of one.
+fn loan_number(text: &[u8]) -> Option<bool>
+    ensures { result ≡ numbers_of (is_loan_shape text.now) (has_loan_number text.now) }
 {
-    (is_out(text) || text.starts_with(b"LI")) && are_groups(&text[2..], 1)
-}
-
-fn has_loan_number(text: &[u8]) -> bool
-    ensures { result ≡ has_loan_number text.now }
-{
-    has_right_groups(text.get(2..).unwrap_or(&[]))
+    if !is_out(text) && !text.starts_with(b"LI") {
+        return None;
+    }
+    numbers_of(&text[2..], 1)
 }

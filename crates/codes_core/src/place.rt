@@ -39,7 +39,8 @@ impl PlaceCode {
             (λ fault. place_fault bytes.now ≡ Some fault) }
     {
         // A place has no number that could be wrong.
-        test(bytes, is_place_shape(bytes, 4), true)?;
+        let numbers = is_place_shape(bytes, 4).then_some(true);
+        test(bytes, numbers)?;
         Ok(PlaceCode {
             spelling: Spelling::new(bytes),
         })

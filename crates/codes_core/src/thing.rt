@@ -1,10 +1,11 @@
 //! Codes of things.
 ghost use Rattle.std.specs.Prelude.{◌≡◌, ◌++◌, None, Some, OnOk, OnErr, MatchResult, string_bytes};
+ghost use Rattle.codes_core.specs.Grammar.{is_digits, is_right_number, numbers_of};
 ghost use Rattle.codes_core.specs.Thing.{thing_kind, without_letter, is_object_shape, has_object_numbers, is_thing_shape, has_thing_numbers, thing_fault};
 
 use crate::digits::{is_digits, is_right_number};
 use crate::fault::test;
-use crate::groups::{are_groups, has_right_groups};
+use crate::groups::numbers_of;
 use crate::spelling::Spelling;
 use crate::{CodeFault, NoMemory};
 use std::alloc::Global;
@@ -50,7 +51,7 @@ impl ThingCode {
             (λ code. (code ≡ bytes.now) × (thing_fault bytes.now ≡ None))
             (λ fault. thing_fault bytes.now ≡ Some fault) }
     {
-        test(bytes, is_thing_shape(bytes), has_thing_numbers(bytes))?;
+        test(bytes, thing_numbers(bytes))?;
         Ok(ThingCode {
             spelling: Spelling::new(bytes),
         })
@@ -102,36 +103,31 @@ fn without_letter(text: &[u8]) -> &[u8]
     }
 }
 
-fn is_object_shape(text: &[u8]) -> bool
-    ensures { result ≡ is_object_shape text.now }
+/// Whether the numbers of an object's code are right, where the text has the shape of one.
+fn object_numbers(text: &[u8]) -> Option<bool>
+    ensures { result ≡ numbers_of (is_object_shape text.now) (has_object_numbers text.now) }
 {
-    are_groups(without_letter(text), 3)
+    numbers_of(without_letter(text), 3)
 }
 
-fn has_object_numbers(text: &[u8]) -> bool
-    ensures { result ≡ has_object_numbers text.now }
-{
-    has_right_groups(without_letter(text))
-}
-
-fn is_thing_shape(text: &[u8]) -> bool
-    ensures { result ≡ is_thing_shape text.now }
+/// Whether the numbers of a thing's code are right, where the text has the shape of one.
+fn thing_numbers(text: &[u8]) -> Option<bool>
+    ensures { result ≡ numbers_of (is_thing_shape text.now) (has_thing_numbers text.now) }
 {
     match text {
-        [] => false,
-        [b'C', rest @ ..] => is_digits(rest),
-        [b'L', rest @ ..] => is_object_shape(rest),
-        _ => is_object_shape(text),
+        [] => None,
+        [b'C', rest @ ..] => container_number(rest),
+        [b'L', rest @ ..] => object_numbers(rest),
+        _ => object_numbers(text),
     }
 }
 
-fn has_thing_numbers(text: &[u8]) -> bool
-    ensures { result ≡ has_thing_numbers text.now }
+/// Whether the number of a container's code is right, where it is of digits.
+fn container_number(digits: &[u8]) -> Option<bool>
+    ensures { result ≡ numbers_of (is_digits digits.now) (is_right_number digits.now) }
 {
-    match text {
-        [] => true,
-        [b'C', rest @ ..] => is_right_number(rest),
-        [b'L', rest @ ..] => has_object_numbers(rest),
-        _ => has_object_numbers(text),
+    if !is_digits(digits) {
+        return None;
     }
+    Some(is_right_number(digits))
 }

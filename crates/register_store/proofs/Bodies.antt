@@ -20,9 +20,9 @@ use Rattle.serde_json.specs.Written.{outline, items_outline, members_outline, co
 use Rattle.serde_json.proofs.Texts.{print-outline}
 use Rattle.codes_core.specs.declared.fault.CodeFault.{CodeFault}
 use Rattle.codes_core.specs.Day.{day_text}
-use Rattle.codes_core.specs.Loan.{is_loan_shape, has_loan_number, loan_fault}
-use Rattle.codes_core.specs.Place.{is_place_shape, place_fault}
-use Rattle.codes_core.specs.Thing.{is_thing_shape, has_thing_numbers, thing_fault}
+use Rattle.codes_core.specs.Loan.{loan_fault}
+use Rattle.codes_core.specs.Place.{place_fault}
+use Rattle.codes_core.specs.Thing.{thing_fault}
 use Rattle.codes_core.proofs.Segments.{place_text}
 use Rattle.codes_core.proofs.SpelledDays.{day_text_ascii}
 use Rattle.codes_core.proofs.Texts.{thing_text, loan_text}
@@ -102,13 +102,13 @@ mutual
 -- what is spelled is UTF-8
 
 of_thing : (x : List ℕ) → thing_fault x ≡ None → IsUtf8 x
-of_thing x h = IsUtf8-from_ascii x (thing_text (is_thing_shape x) (has_thing_numbers x) x refl refl h).ascii
+of_thing x h = IsUtf8-from_ascii x (thing_text x h).ascii
 
 of_place : (p : List ℕ) → place_fault p ≡ None → IsUtf8 p
-of_place p h = IsUtf8-from_ascii p (place_text (is_place_shape 4 p) p refl h).ascii
+of_place p h = IsUtf8-from_ascii p (place_text p h).ascii
 
 of_loan : (loan : List ℕ) → loan_fault loan ≡ None → IsUtf8 loan
-of_loan loan h = IsUtf8-from_ascii loan (loan_text (is_loan_shape loan) (has_loan_number loan) loan refl refl h).ascii
+of_loan loan h = IsUtf8-from_ascii loan (loan_text loan h).ascii
 
 of_day : (day : ℤ) → IsUtf8 (day_text day)
 of_day day = IsUtf8-from_ascii (day_text day) (day_text_ascii day)

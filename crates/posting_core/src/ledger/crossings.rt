@@ -203,14 +203,17 @@ impl Ledger {
 }
 
 /// These rows for the objects that cross.
+#[tactic(auto, using(crate::proofs::Asked::all_listed))]
 fn judge_objects(kept: &KeptLoan, wanted: LineStage, objects: &[ThingNo], is_over: bool) -> Verdict
     ensures { result ≡ first_of (line_rows (line_of kept.now) wanted objects.now is_over) }
 {
-    if any_unlisted(kept, objects) {
-        return Verdict::NotListed;
-    }
+    // What isn't listed has no line at any stage, so that one walk is enough where all is right.
     if any_not_at(kept, wanted, objects) {
-        return Verdict::WrongStage;
+        return if any_unlisted(kept, objects) {
+            Verdict::NotListed
+        } else {
+            Verdict::WrongStage
+        };
     }
     if is_over {
         return Verdict::TermOver;
