@@ -23,3 +23,4 @@ pub mod Heights
 pub mod Whole
 pub mod Blanks
 pub mod NestLaws
+pub mod Alone

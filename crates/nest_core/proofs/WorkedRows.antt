@@ -11,7 +11,7 @@ use Rattle.nest_core.specs.SetupTexts.{setup_rows}
 use Rattle.nest_core.specs.declared.put.Put.{Put}
 use Rattle.nest_core.specs.declared.put.Target.TheVariants.{At, Within}
 use Rattle.nest_core.specs.declared.nest.PackBar.TheVariants.{Cycle, TooDeep}
-use Rattle.nest_core.specs.Puts.{last, chain, place, carried, contents}
+use Rattle.nest_core.specs.Puts.{last, chain, place, carried, contents, holds_things}
 use Rattle.nest_core.specs.Nest.{pack_bar, moved_by, leaves}
 use Rattle.nest_core.specs.declared.setup_fault.SetupFault.TheVariants.{BadCode, BadFields, BadKind, NoStation, Repeated, UnknownNormal}
 
@@ -112,14 +112,14 @@ into x c = record { thing = x; to = Within c }
 abbrev one_put : List Put
 one_put = at 0 0 ∷ []
 
-contents_in_order-1 : (moved_by 6 [] (at 0 0) ≡ 0 ∷ []) × (contents one_put 0 ≡ [])
-contents_in_order-1 = (refl, refl)
+contents_in_order-1 : (moved_by 6 [] (at 0 0) ≡ 0 ∷ []) × (contents one_put 0 ≡ []) × (holds_things one_put 0 ≡ false)
+contents_in_order-1 = (refl, refl, refl)
 
 abbrev two_puts : List Put
 two_puts = into 2 0 ∷ one_put
 
-contents_in_order-2 : (moved_by 6 one_put (into 2 0) ≡ 2 ∷ []) × (contents two_puts 0 ≡ 2 ∷ [])
-contents_in_order-2 = (refl, refl)
+contents_in_order-2 : (moved_by 6 one_put (into 2 0) ≡ 2 ∷ []) × (contents two_puts 0 ≡ 2 ∷ []) × (holds_things two_puts 0 ≡ true)
+contents_in_order-2 = (refl, refl, refl)
 
 abbrev three_puts : List Put
 three_puts = into 3 0 ∷ two_puts

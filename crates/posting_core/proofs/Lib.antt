@@ -1,5 +1,6 @@
 pub mod Accounted
 pub mod Agreed
+pub mod Along
 pub mod Among
 pub mod AppliedRows
 pub mod Asked

@@ -13,7 +13,7 @@ use Rattle.nest_core.specs.declared.put.Put.{Put}
 use Rattle.codes_core.specs.declared.fault.NoMemory.{NoMemory}
 use Rattle.nest_core.specs.Museum.{Museum}
 use Rattle.nest_core.specs.Nest.{Nested, StandsFor, MayGo, target_kept}
-use Rattle.nest_core.specs.Puts.{with_put, place, chain, carried, carried_by}
+use Rattle.nest_core.specs.Puts.{with_put, place, chain, carried, carried_by, holds_things}
 use Rattle.posting_core.specs.declared.message.Message.{Message}
 use Rattle.posting_core.specs.declared.message.Message.TheVariants.{Agree}
 use Rattle.posting_core.specs.declared.verdict.Verdict.{Verdict}
@@ -23,7 +23,7 @@ use Rattle.posting_core.specs.declared.entry.NewSpot.{NewSpot}
 use Rattle.posting_core.specs.declared.entry.NewLine.{NewLine}
 use Rattle.posting_core.specs.declared.entry.Changes.{Changes}
 use Rattle.posting_core.specs.Messages.{day_of}
-use Rattle.posting_core.specs.History.{puts, put_in, put_by, spots, spot_from, place_at, carried_at, carried_with}
+use Rattle.posting_core.specs.History.{puts, put_in, put_by, spots, spot_from, place_at, carried_at, carried_with, holds_at}
 use Rattle.posting_core.specs.VerdictNames.{is_applied}
 use Rattle.posting_core.specs.Lawful.{Follows, IsLawful}
 use Rattle.posting_core.specs.Book.{Book, chain_in, spots_in, loans_in, objects_of_loan, place_after, new_spot, new_spots, new_lines, changes_of}
@@ -59,6 +59,11 @@ module _ {S : Museum} {P : List Entry} {N : Nested} {R : List (List Spot)} {L : 
   pub carried_there : (x : ℕ) (r : Result (List ℕ) NoMemory) → IfOk r (λ ys. (Q : List Put) → StandsFor N Q → ys ≡ carried N.things Q x) → IfOk r (All (λ y. y < length B.museum.things))
   carried_there x (Ok ys) from = subst (All (λ y. y < length B.museum.things)) (sym (carried_kept x ys from)) (carried_below (length B.museum.things) (puts B.museum B.posted) x)
   carried_there x (Err fault) from = tt
+
+  -- where it isn't told, something is in the thing
+  pub carried_held : (x : ℕ) (r : Result (List ℕ) NoMemory) → OnErr r ((Q : List Put) → StandsFor N Q → holds_things Q x ≡ true) → OnErr r (holds_at B.museum B.posted x ≡ true)
+  carried_held x (Ok ys) from = tt
+  carried_held x (Err fault) from = subst (λ (C : Book). holds_at C.museum C.posted x ≡ true) same (from (puts S P) kept.nest)
 
   -- a chain is that of looking back
   chain_kept : (x : ℕ) (cs : List ℕ) → ((Q : List Put) → StandsFor N Q → cs ≡ chain N.things Q x) → cs ≡ chain_in B x

@@ -1,5 +1,5 @@
 -- Packing computed on worked rows: things in crates, crates in crates, and how deep they may go.
-use Rattle.std.specs.Prelude.{ℕ, ◌≡◌, ◌++◌, true, List, [], ◌∷◌, Option, Some, None, map, reverse, refl, codes}
+use Rattle.std.specs.Prelude.{ℕ, ◌≡◌, ◌++◌, true, false, List, [], ◌∷◌, Option, Some, None, map, reverse, refl, codes}
 use Rattle.nest_core.specs.declared.put.Target.TheVariants.{At, Within}
 use Rattle.nest_core.specs.declared.put.Put.{Put}
 use Rattle.nest_core.specs.Museum.{Museum}
@@ -9,9 +9,9 @@ use Rattle.posting_core.specs.declared.message.Message.TheVariants.{Pack}
 use Rattle.posting_core.specs.declared.verdict.Verdict.TheVariants.{Applied, UnknownThing, UnknownContainer, NotHere, ContainerNotHere, Cycle, TooDeep}
 use Rattle.posting_core.specs.declared.entry.Entry.{Entry}
 use Rattle.posting_core.specs.declared.entry.NewSpot.{NewSpot}
-use Rattle.posting_core.specs.History.{puts, chain_at, carried_at, spots}
+use Rattle.posting_core.specs.History.{puts, chain_at, carried_at, holds_at, spots}
 use Rattle.posting_core.specs.Verdicts.{verdict, is_deep_with}
-use Rattle.posting_core.specs.Book.{place_in, changes_of}
+use Rattle.posting_core.specs.Book.{place_in, changes_of, asks_memory}
 use Rattle.posting_core.proofs.WorkedRows.{museum, pack, s1, s1_a, s2, crate_1, crate_2, object_1, object_2, may, moved, run, run_in, verdicts, book, spot, put_at}
 
 abbrev packed : List ℕ → List ℕ → Message
@@ -55,6 +55,13 @@ crate_in_crate-spots = refl
 
 crate_in_crate-carried : map (carried_at museum crate_in_crate) (crate_1 ∷ crate_2 ∷ object_1 ∷ []) ≡ (crate_1 ∷ crate_2 ∷ object_1 ∷ []) ∷ (crate_2 ∷ object_1 ∷ []) ∷ (object_1 ∷ []) ∷ []
 crate_in_crate-carried = refl
+
+-- a crate that holds things takes memory to carry them; an empty one, or an object, takes none
+crate_in_crate-holds : map (holds_at museum crate_in_crate) (crate_1 ∷ crate_2 ∷ object_1 ∷ []) ≡ true ∷ true ∷ false ∷ []
+crate_in_crate-holds = refl
+
+crate_in_crate-asks : map (asks_memory (book crate_in_crate)) (moved (codes "C1") (codes "S1") ∷ moved (codes "2001.4.1") (codes "S1") ∷ moved (codes "C9") (codes "S1") ∷ []) ≡ true ∷ false ∷ false ∷ []
+crate_in_crate-asks = refl
 
 -- what was put straight into each
 crate_in_crate-contents : map (contents (puts museum crate_in_crate)) (crate_1 ∷ crate_2 ∷ []) ≡ (crate_2 ∷ []) ∷ (object_1 ∷ []) ∷ []

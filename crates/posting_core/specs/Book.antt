@@ -1,5 +1,5 @@
 -- What a ledger is, what posting a message changes in it, and what it answers.
-use Rattle.std.specs.Prelude.{ℕ, ℤ, ◌+◌, ◌&&◌, ◌||◌, Bool, List, [], length, map, Option, is_some, if◌then◌else◌}
+use Rattle.std.specs.Prelude.{ℕ, ℤ, ◌+◌, ◌&&◌, ◌||◌, Bool, false, List, [], length, map, Option, is_some, if◌then◌else◌}
 use Rattle.std.specs.List.{range_with_len, filter_map}
 use Rattle.std.specs.Option.{option_map, option_map_or}
 use Rattle.nest_core.specs.Museum.{Museum}
@@ -14,8 +14,8 @@ use Rattle.posting_core.specs.declared.entry.Changes.{Changes}
 use Rattle.posting_core.specs.declared.stage.LineStage.{LineStage}
 use Rattle.posting_core.specs.declared.stage.LineStage.TheVariants.{Awaiting}
 use Rattle.posting_core.specs.declared.stage.LoanState.{LoanState}
-use Rattle.posting_core.specs.Messages.{day_of}
-use Rattle.posting_core.specs.History.{puts, put_in, put_by, carried_with, chain_at, place_at, spots, spot_from}
+use Rattle.posting_core.specs.Messages.{thing_no, day_of}
+use Rattle.posting_core.specs.History.{puts, put_in, put_by, carried_with, holds_at, takes_along, chain_at, place_at, spots, spot_from}
 use Rattle.posting_core.specs.VerdictNames.{is_applied}
 use Rattle.posting_core.specs.Agreements.{Agreement, agreement_in, loans, last_day}
 use Rattle.posting_core.specs.Loans.{Crossing, crossing_in, objects_in, objects_of, objects, line, loan_state}
@@ -104,13 +104,18 @@ changes_of B m =
 abbrev pub has_lines : Message → Bool
 has_lines m = is_some (agreement_in m) || is_some (crossing_in m)
 
--- to judge it takes memory: its verdict hangs on the lines of what crosses
-abbrev pub asks_lines : Book → Message → Bool
-asks_lines B m = is_some (crossing_in m) && hangs_on_lines (verdict_in B m)
+-- something crosses by it that has something in it
+abbrev pub crosses_with : Book → Message → Bool
+crosses_with B m = option_map_or
+    (λ c. holds_at B.museum B.posted (thing_no B.museum c.thing)) (crossing_in m) false
 
--- to plan it takes memory: to judge it, or where it is applied and puts a thing or agrees a loan
+-- to judge it takes memory: its verdict hangs on the lines of several things that cross
+abbrev pub asks_lines : Book → Message → Bool
+asks_lines B m = crosses_with B m && hangs_on_lines (verdict_in B m)
+
+-- to plan it takes memory: to judge it, or where it is applied and makes or changes lines, or takes something along
 abbrev pub asks_memory : Book → Message → Bool
 asks_memory B m =
     asks_lines B m
     || (is_applied (verdict_in B m)
-    && (is_some (put_in B.museum B.posted m) || is_some (agreement_in m)))
+    && (has_lines m || takes_along B.museum B.posted (put_in B.museum B.posted m)))

@@ -1,10 +1,10 @@
 -- Looking back through the posted entries. The newest stands first, so looking back is going down the list.
-use Rattle.std.specs.Prelude.{ℕ, ℤ, ◌+◌, List, [], ◌∷◌, ◌++◌, length, Option, Some, None, if◌then◌else◌}
+use Rattle.std.specs.Prelude.{ℕ, ℤ, ◌+◌, Bool, false, List, [], ◌∷◌, ◌++◌, length, Option, Some, None, if◌then◌else◌}
 use Rattle.std.specs.Option.{option_map, option_map_or, option_to_list}
 use Rattle.nest_core.specs.declared.put.Target.TheVariants.{At, Within}
 use Rattle.nest_core.specs.declared.put.Put.{Put}
 use Rattle.nest_core.specs.Museum.{Museum}
-use Rattle.nest_core.specs.Puts.{with_put, chain, place, carried}
+use Rattle.nest_core.specs.Puts.{with_put, chain, place, carried, holds_things}
 use Rattle.nest_core.specs.Nest.{is_same_place}
 use Rattle.posting_core.specs.declared.message.Message.{Message}
 use Rattle.posting_core.specs.declared.message.Message.TheVariants.{Move, Pack, Exit, Return, Receive}
@@ -50,6 +50,14 @@ carried_at S P x = carried (length S.things) (puts S P) x
 -- what is carried where there is a put: its thing, with all that is in it
 abbrev pub carried_with : Museum → List Entry → Option Put → List ℕ
 carried_with S P put = option_map_or (λ p. carried_at S P p.thing) put []
+
+-- a container that has something in it
+abbrev pub holds_at : Museum → List Entry → ℕ → Bool
+holds_at S P x = holds_things (puts S P) x
+
+-- a put that takes along what is in its thing
+abbrev pub takes_along : Museum → List Entry → Option Put → Bool
+takes_along S P put = option_map_or (λ p. holds_at S P p.thing) put false
 
 -- the spot that the entry of this number writes for a thing, where its place differs from the one before
 abbrev pub spot_from : ℕ → Option ℕ → Option ℕ → Option ℤ → Option Spot

@@ -42,16 +42,18 @@ pub struct NewSpots {
 }
 
 impl Model for NewSpots {
-    ghost use Rattle.std.specs.Prelude.{List};
+    ghost use Rattle.std.specs.Prelude.{◌≤◌, List};
     ghost use Rattle.posting_core.specs.declared.entry.NewSpot.{NewSpot};
 
     ghost Value = { List NewSpot };
 
     ghost view = { λ s. s.items.items };
+
+    ghost invariant = { λ s. 1 ≤ s.items.capacity };
 }
 
 impl NewSpots {
-    ghost use Rattle.std.specs.Prelude.{◌≡◌, ◌++◌, ◌∷◌, [], OnOk, OnErr};
+    ghost use Rattle.std.specs.Prelude.{◌≡◌, ◌<◌, ◌++◌, ◌∷◌, [], length, OnOk, OnErr};
 
     /// None. Takes no memory.
     pub fn new(alloc: Global) -> NewSpots
@@ -62,10 +64,11 @@ impl NewSpots {
         }
     }
 
-    /// One more; after NoMemory they are unchanged.
+    /// One more; after NoMemory, which comes only where there is one already, they are unchanged.
     pub fn push(&mut self, spot: NewSpot) -> Result<(), NoMemory>
         ensures ok { OnOk result (self.new ≡ self.old ++ spot ∷ []) }
         ensures err { OnErr result (self.new ≡ self.old) }
+        ensures gives_up { OnErr result (0 < length self.old) }
     {
         self.items.push(spot)?;
         Ok(())

@@ -71,7 +71,7 @@ impl KeptLoans {
     {
         self.rows.reserve(1)?;
         self.codes.insert(loan.loan())?;
-        self.rows.push(loan).unwrap();
+        self.rows.push_reserved(loan);
         Ok(())
     }
 

@@ -205,7 +205,7 @@ impl Ledger {
     }
 
     /// The verdict that the message would get if it were posted now; else NoMemory, which comes only where something
-    /// crosses by it, and the verdict hangs on the lines of what crosses.
+    /// crosses by it that has something in it, and the verdict hangs on the lines of what crosses.
     pub fn judge(&self, alloc: Global, message: &Message) -> Result<Verdict, NoMemory>
         ensures ok { IfOk result (λ verdict. verdict ≡ verdict_in self.now message.now) }
         ensures err { OnErr result (asks_lines self.now message.now ≡ true) }
@@ -215,8 +215,8 @@ impl Ledger {
 
     /// What posting the message now would change: the number of its entry, from 1, its verdict and, where it is
     /// applied, what it puts where, the things that are carried with that, the new spots, and the lines that it makes or
-    /// changes; else NoMemory, which comes only where `judge` can give up, or where the message is applied and puts a
-    /// thing or agrees a loan.
+    /// changes; else NoMemory, which comes only where `judge` can give up, or where the message is applied and makes or
+    /// changes lines, or puts a thing that has something in it.
     pub fn plan(&self, alloc: Global, message: &Message) -> Result<Changes, NoMemory>
         ensures ok { IfOk result (λ changes. changes ≡ changes_of self.now message.now) }
         ensures err { OnErr result (asks_memory self.now message.now ≡ true) }
@@ -266,7 +266,7 @@ impl Ledger {
             lines,
         )?;
         push_spots(&mut self.spots, spots);
-        self.posted.push(entry).unwrap();
+        self.posted.push_reserved(entry);
         Ok(())
     }
 }

@@ -36,5 +36,5 @@ fn push_spot(rows: &mut Vec<Vec<Spot>>, s: NewSpot)
     ensures others { (x : ℕ) → s.thing < x → HasRoom rows.old.items x → HasRoom rows.new.items x }
 {
     let row = &mut rows[s.thing as usize];
-    row.push(s.spot).unwrap();
+    row.push_reserved(s.spot);
 }

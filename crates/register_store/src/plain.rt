@@ -169,7 +169,7 @@ fn add_posting(
 {
     postings.reserve(1)?;
     spots.extend_from_slice(more)?;
-    postings.push(kept).unwrap();
+    postings.push_reserved(kept);
     Ok(())
 }
 

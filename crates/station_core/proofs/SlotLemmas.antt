@@ -1,5 +1,5 @@
 -- Lemmas on the places of a window.
-use Rattle.std.proofs.Common.{◌≡◌, ◌≢◌, ℕ, ◌<◌, ◌≤◌, List, [], ◌∷◌, ◌++◌, length, drop, replicate, Option, Some, None, refl, ap, ◌∙◌, zero, suc, get_or}
+use Rattle.std.proofs.Common.{◌≡◌, ◌≢◌, ℕ, ◌<◌, ◌≤◌, arith, sym, List, [], ◌∷◌, ◌++◌, length, drop, replicate, Option, Some, None, refl, ap, ◌∙◌, zero, suc, get_or}
 use Rattle.std.specs.Prelude.{slice_get, slice_set, option_and_then, unwrap_or, false}
 use Rattle.std.proofs.lemmas.Option.{slice_get_past, slice_get_read}
 use Rattle.circular_buffer.proofs.Places.{slice_get-set_same, slice_get-set_other}
@@ -36,6 +36,18 @@ module _ {M : Type 0} where
   slot_empty (suc n) zero = refl
   slot_empty (suc n) (suc i) = slot_empty n i
 
+  nothing_moves : (xs : List (Option M)) → ((i : ℕ) → slot_at xs i ≡ None) → None ∷ xs ≡ xs ++ None ∷ []
+  nothing_moves [] none = refl
+  nothing_moves (x ∷ xs) none =
+      ap (λ (o : Option M). None ∷ o ∷ xs) (none 0)
+      ∙ ap (λ (ys : List (Option M)). None ∷ ys) (nothing_moves xs (λ i. none (suc i)))
+      ∙ ap (λ (o : Option M). o ∷ (xs ++ None ∷ [])) (sym (none 0))
+
+  -- where nothing is held behind the first place, all move up where that one is emptied
+  pub moves_alone : (xs : List (Option M)) (first : Option M) → 0 < length xs → first ≡ None → ((i : ℕ) → 0 < i → slot_at xs i ≡ None) → slice_set xs 0 first ≡ drop 1 xs ++ None ∷ []
+  moves_alone [] first some none behind = absurd (omega (arith, some))
+  moves_alone (x ∷ xs) first some none behind = ap (λ (o : Option M). o ∷ xs) none ∙ nothing_moves xs (λ i. behind (suc i) (omega arith))
+
   -- the series of a station that is there
   pub series_at_there : (all : List (Series M)) (s : ℕ) (q : Series M) → slice_get all s ≡ Some q → series_at all s ≡ q
   series_at_there all s q h = ap (λ (o : Option (Series M)). unwrap_or o (series 0 false [])) h
@@ -50,5 +62,5 @@ module _ {M : Type 0} where
   slot_past xs i h = ap (option_and_then (λ x. x)) (slice_get_past xs i h)
 
   -- a ring with nothing held
-  pub fits_empty : (k w : ℕ) (ring : Buffer (Option M)) → k ≤ LAST → w ≡ window → ring ≡ buffer (replicate w None) w → FitsWindow k ring
-  fits_empty k w ring h e same = rw same (record { count = h; width = length-replicate w None ∙ e; room = e; none_above = λ i _. slot_empty w i })
+  pub fits_empty : (k h w : ℕ) (ring : Buffer (Option M)) → k ≤ LAST → h ≤ LAST → w ≡ window → ring ≡ buffer (replicate w None) w → FitsWindow k h ring
+  fits_empty k h w ring few last e same = rw same (record { count = few; last = last; width = length-replicate w None ∙ e; room = e; none_above = λ i _. slot_empty w i })

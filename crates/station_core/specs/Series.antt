@@ -35,12 +35,13 @@ module _ {M : Type 0} where
   slot_at slots i = option_and_then (λ x. x) (slice_get slots i)
 
   -- no more are posted than there are numbers, the ring has a place for each number of the window,
-  -- and nothing is held above the last number
-  pub record FitsWindow (posted : ℕ) (ring : Buffer (Option M)) : Type 0 where
+  -- and nothing is held above the highest number that was taken, which is no more than the last
+  pub record FitsWindow (posted highest : ℕ) (ring : Buffer (Option M)) : Type 0 where
     pub count : posted ≤ LAST
+    pub last : highest ≤ LAST
     pub width : length ring.items ≡ window
     pub room : ring.capacity ≡ window
-    pub none_above : (i : ℕ) → LAST ≤ posted + i → slot_at ring.items i ≡ None
+    pub none_above : (i : ℕ) → highest ≤ posted + i → slot_at ring.items i ≡ None
 
   -- the message held under the next number, which is that of the window's first place
   abbrev pub next_held : Series M → Option M

@@ -1,18 +1,20 @@
 //! The series of one station: a count of posted messages and a window of held ones.
-ghost use Rattle.std.specs.Prelude.{◌≡◌, ◌+◌, ◌<◌, ◌≤◌, ◌↔◌, [], IfOk, IfNone, IfSome, OnSome, length, replicate, slice_set, Some, None};
+ghost use Rattle.std.specs.Prelude.{◌≡◌, ◌+◌, ◌<◌, ◌≤◌, ◌↔◌, ◌∷◌, ◌++◌, ℕ, [], IfOk, IfNone, IfSome, OnSome, drop, length, replicate, slice_set, true, Some, None};
 ghost use Rattle.circular_buffer.specs.Buffer.{buffer};
-ghost use Rattle.station_core.specs.Series.{opened, refusal_at, next_held, with_held, counted, closed};
+ghost use Rattle.station_core.specs.Series.{opened, refusal_at, slot_at, next_held, with_held, counted, closed};
 
 use crate::{LAST, Refusal, Start, Taken, WINDOW};
 use circular_buffer::HeapCircularBuffer;
 use std::alloc::{AllocError, Global};
 use std::marker::Model;
 
-/// One station. Its ring is always full: place `i` is that of number `posted + 1 + i`.
+/// One station. Its ring is always full: place `i` is that of number `posted + 1 + i`. Nothing is held
+/// above `highest`.
 #[derive(Drop)]
 pub struct Station<M> {
     posted: u32,
     signed: bool,
+    highest: u32,
     slots: HeapCircularBuffer<Option<M>>,
 }
 
@@ -25,7 +27,7 @@ impl<M> Model for Station<M> {
 
     ghost view = { λ a. series a.posted a.signed a.slots.items };
 
-    ghost invariant = { λ a. FitsWindow a.posted a.slots };
+    ghost invariant = { λ a. FitsWindow a.posted a.highest a.slots };
 }
 
 impl<M: Drop> Station<M> {
@@ -40,6 +42,7 @@ impl<M: Drop> Station<M> {
         Ok(Station {
             posted: start.posted,
             signed: start.signed,
+            highest: start.posted,
             slots,
         })
     }
@@ -88,6 +91,7 @@ impl<M: Drop> Station<M> {
     {
         let i = n - self.posted as u64 - 1;
         put(&mut self.slots, i as usize, message);
+        self.highest = self.highest.max(n as u32);
         if i == 0 { Taken::Ready } else { Taken::Held }
     }
 
@@ -101,8 +105,8 @@ impl<M: Drop> Station<M> {
         if !matches!(self.slots.front(), Some(Some(_))) {
             return None;
         }
-        // The ring is full: a place at its end pushes the first one out.
-        let Some(Some(message)) = self.slots.push_back(None) else {
+        let is_last = self.posted + 1 == self.highest;
+        let Some(message) = take_first(&mut self.slots, is_last) else {
             unreachable!()
         };
         self.posted += 1;
@@ -127,6 +131,22 @@ fn fill_empty<M: Drop>(slots: &mut HeapCircularBuffer<Option<M>>)
     for _ in 0..slots.capacity() {
         slots.push_back(None);
     }
+}
+
+/// Takes what is in the first place of a full ring, and moves all others up. Where it is the last one that is held,
+/// nothing has to move.
+fn take_first<M: Drop>(slots: &mut HeapCircularBuffer<Option<M>>, is_last: bool) -> Option<M>
+    requires some { 0 < length slots.old.items }
+    requires full { length slots.old.items ≡ slots.old.capacity }
+    requires last { is_last ≡ true → (i : ℕ) → 0 < i → slot_at slots.old.items i ≡ None }
+    ensures taken { result ≡ slot_at slots.old.items 0 }
+    ensures moved { slots.new ≡ buffer (drop 1 slots.old.items ++ None ∷ []) slots.old.capacity }
+{
+    if is_last {
+        return slots.get_mut(0)?.take();
+    }
+    // A place at its end pushes the first one out.
+    slots.push_back(None)?
 }
 
 /// Holds a message in a place of a ring.

@@ -2,7 +2,8 @@
 ghost use Rattle.std.specs.Prelude.{ℤ, ◌≡◌, ◌<◌, ◌&&◌, true, false, length, All, filter, not, IfOk, IfSome, OnErr, Some, ℕ};
 ghost use Rattle.std.specs.Option.{option_map_or};
 ghost use Rattle.posting_core.specs.declared.message.Message.TheVariants.{Exit, Return, Receive};
-ghost use Rattle.posting_core.specs.History.{put_by, carried_with};
+ghost use Rattle.posting_core.specs.History.{put_by, carried_with, holds_at};
+ghost use Rattle.posting_core.specs.Messages.{thing_no};
 ghost use Rattle.posting_core.specs.Loans.{line, wanted_by_exit};
 ghost use Rattle.nest_core.specs.Museum.{is_container};
 ghost use Rattle.posting_core.specs.Verdicts.{first_of, exit_rows, return_rows, receive_rows, stage_eq, is_over, any_unlisted, any_not_at, line_rows, hangs_on_lines};
@@ -36,8 +37,9 @@ impl Ledger {
         ensures carried { IfOk result (λ judged. IfSome judged.carried
             (λ carried. carried ≡ carried_with self.now.museum self.now.posted judged.put)) }
         ensures err { OnErr result
-            (hangs_on_lines
-            (first_of (exit_rows self.now.museum self.now.posted thing.now loan.now day)) ≡ true) }
+            ((holds_at self.now.museum self.now.posted (thing_no self.now.museum thing.now)
+            && hangs_on_lines
+            (first_of (exit_rows self.now.museum self.now.posted thing.now loan.now day))) ≡ true) }
     {
         let Some(x) = self.setup.thing(thing) else {
             return Ok(unput(Verdict::UnknownThing));
@@ -75,8 +77,9 @@ impl Ledger {
         ensures carried { IfOk result (λ judged. IfSome judged.carried
             (λ carried. carried ≡ carried_with self.now.museum self.now.posted judged.put)) }
         ensures err { OnErr result
-            (hangs_on_lines
-            (first_of (return_rows self.now.museum self.now.posted thing.now loan.now place.now))
+            ((holds_at self.now.museum self.now.posted (thing_no self.now.museum thing.now)
+            && hangs_on_lines
+            (first_of (return_rows self.now.museum self.now.posted thing.now loan.now place.now)))
             ≡ true) }
     {
         let Some(x) = self.setup.thing(thing) else {
@@ -121,9 +124,10 @@ impl Ledger {
         ensures carried { IfOk result (λ judged. IfSome judged.carried
             (λ carried. carried ≡ carried_with self.now.museum self.now.posted judged.put)) }
         ensures err { OnErr result
-            (hangs_on_lines
+            ((holds_at self.now.museum self.now.posted (thing_no self.now.museum thing.now)
+            && hangs_on_lines
             (first_of (receive_rows self.now.museum self.now.posted thing.now loan.now place.now
-            day)) ≡ true) }
+            day))) ≡ true) }
     {
         let Some(x) = self.setup.thing(thing) else {
             return Ok(unput(Verdict::UnknownThing));
@@ -161,7 +165,8 @@ impl Ledger {
         Ok(putting(verdict, x, Target::At(p), Some(carried)))
     }
 
-    /// The last rows of an exit: those of the lines of what is carried and, under a loan out, of the loan's last day.
+    /// The last rows of an exit: those of the lines of what is carried and, under a loan out, of the loan's last day;
+    /// else NoMemory, which comes only where there are several things.
     fn judge_lines_out(
         &self,
         alloc: Global,
@@ -174,17 +179,18 @@ impl Ledger {
         requires lines { (o : ℕ)
             → line_of kept.now o ≡ line self.now.museum self.now.posted loan.now o }
         requires last { last_day self.now.posted loan.now ≡ Some kept.now.last }
-        ensures { IfOk result (λ verdict. verdict ≡ first_of (line_rows
+        ensures verdict { IfOk result (λ verdict. verdict ≡ first_of (line_rows
             (line self.now.museum self.now.posted loan.now) (wanted_by_exit loan.now)
             (filter (λ o. not (is_container self.now.museum o)) carried.now)
             (is_out loan.now && is_over self.now.posted loan.now day))) }
+        ensures gives_up { OnErr result (1 < length carried.now) }
     {
         let is_over = loan.is_out() && kept.last() < day;
         self.judge_lines(alloc, carried, kept, wanted_by_exit(loan), is_over)
     }
 
     /// The last rows of what crosses under a loan, as the loan's row tells them: those of the lines of what is carried and,
-    /// where the loan's last day is asked, of that.
+    /// where the loan's last day is asked, of that; else NoMemory, which comes only where there are several things.
     fn judge_lines(
         &self,
         alloc: Global,
@@ -194,8 +200,10 @@ impl Ledger {
         is_over: bool,
     ) -> Result<Verdict, NoMemory>
         requires { All (λ y. y < length self.now.museum.things) carried.now }
-        ensures { IfOk result (λ verdict. verdict ≡ first_of (line_rows (line_of kept.now) wanted
+        ensures verdict { IfOk result (λ verdict. verdict ≡ first_of (line_rows
+            (line_of kept.now) wanted
             (filter (λ o. not (is_container self.now.museum o)) carried.now) is_over)) }
+        ensures gives_up { OnErr result (1 < length carried.now) }
     {
         let objects = objects_among(alloc, &self.setup, carried)?;
         Ok(judge_objects(kept, wanted, &objects, is_over))

@@ -1,11 +1,11 @@
 //! What an applied message puts where, and the spots and the lines that it writes.
-ghost use Rattle.std.specs.Prelude.{◌≡◌, ◌<◌, ◌+◌, ◌&&◌, [], if◌then◌else◌, length, All, IfOk, OnErr, IfSome, Some, true, not, map, filter, is_some};
+ghost use Rattle.std.specs.Prelude.{◌≡◌, ◌<◌, ◌+◌, ◌&&◌, [], if◌then◌else◌, length, All, IfOk, OnErr, IfSome, Some, true, not, map, filter};
 ghost use Rattle.std.specs.List.{filter_map};
 ghost use Rattle.nest_core.specs.Puts.{container_of};
 ghost use Rattle.posting_core.specs.declared.verdict.Verdict.TheVariants.{Applied};
 ghost use Rattle.nest_core.specs.Museum.{is_container};
 ghost use Rattle.posting_core.specs.Messages.{thing_no, day_of};
-ghost use Rattle.posting_core.specs.History.{put_in, put_by, carried_at, carried_with};
+ghost use Rattle.posting_core.specs.History.{put_in, put_by, carried_at, carried_with, holds_at, takes_along};
 ghost use Rattle.posting_core.specs.Loans.{exit_stage};
 ghost use Rattle.posting_core.specs.VerdictNames.{is_applied};
 ghost use Rattle.posting_core.specs.Book.{place_in, spots_in, verdict_in, new_spot, new_spots, new_lines, has_lines};
@@ -20,17 +20,21 @@ use smallvec::SmallVec;
 use std::alloc::Global;
 
 impl Ledger {
-    /// What a thing carries: itself, with all that is in it, ascending.
+    /// What a thing carries: itself, with all that is in it, ascending; else NoMemory, which comes only where something is
+    /// in it.
     pub(crate) fn carried(&self, alloc: Global, thing: ThingNo) -> Result<ThingNos, NoMemory>
         requires { thing < length self.now.museum.things }
         ensures carried { IfOk result
             (λ carried. carried ≡ carried_at self.now.museum self.now.posted thing) }
         ensures within { IfOk result (All (λ y. y < length self.now.museum.things)) }
+        ensures gives_up { OnErr result
+            (holds_at self.now.museum self.now.posted thing ≡ true) }
     {
         self.nest.carried(alloc, thing)
     }
 
-    /// What is carried where there is a put, which may be found already.
+    /// What is carried where there is a put, which may be found already; else NoMemory, which comes only where the put takes
+    /// something along.
     pub(crate) fn carried_with(
         &self,
         alloc: Global,
@@ -42,7 +46,7 @@ impl Ledger {
             (λ carried. carried ≡ carried_with self.now.museum self.now.posted put) }
         ensures ok { IfOk result
             (λ carried. carried ≡ carried_with self.now.museum self.now.posted put) }
-        ensures err { OnErr result (is_some put ≡ true) }
+        ensures err { OnErr result (takes_along self.now.museum self.now.posted put ≡ true) }
     {
         if let Some(found) = found {
             return Ok(found);
@@ -73,7 +77,8 @@ impl Ledger {
             then new_spots self.now.museum self.now.posted message.now else [])) }
         ensures err { OnErr result
             ((is_applied (verdict_in self.now message.now)
-            && is_some (put_in self.now.museum self.now.posted message.now)) ≡ true) }
+            && takes_along self.now.museum self.now.posted
+            (put_in self.now.museum self.now.posted message.now)) ≡ true) }
     {
         let Some(put) = put else {
             return Ok(NewSpots::new(alloc));
@@ -88,7 +93,8 @@ impl Ledger {
         }
     }
 
-    /// The spots of these things, where they aren't at the place yet.
+    /// The spots of these things, where they aren't at the place yet; else NoMemory, which comes only where there are
+    /// several things.
     fn spots_of(
         &self,
         alloc: Global,
@@ -98,11 +104,12 @@ impl Ledger {
         entry: EntryNo,
     ) -> Result<NewSpots, NoMemory>
         requires { All (λ y. y < length self.now.museum.things) things.now }
-        ensures { IfOk result
+        ensures spots { IfOk result
             (λ spots. spots
             ≡ filter_map
             (λ y. new_spot entry (length (spots_in self.now y)) (place_in self.now y) (Some place)
             (Some day) y) things.now) }
+        ensures gives_up { OnErr result (1 < length things.now) }
     {
         let mut spots = NewSpots::new(alloc);
         for i in 0..things.len() {
@@ -218,15 +225,16 @@ impl Ledger {
     }
 }
 
-/// The things that are no containers.
+/// The things that are no containers; else NoMemory, which comes only where there are several things.
 pub(crate) fn objects_among(
     alloc: Global,
     setup: &Setup,
     things: &[ThingNo],
 ) -> Result<SmallVec<ThingNo, 1>, NoMemory>
     requires { All (λ y. y < length setup.now.things) things.now }
-    ensures { IfOk result
+    ensures objects { IfOk result
         (λ objects. objects.items ≡ filter (λ o. not (is_container setup.now o)) things.now) }
+    ensures gives_up { OnErr result (1 < length things.now) }
 {
     let mut objects = SmallVec::new(alloc);
     for i in 0..things.len() {

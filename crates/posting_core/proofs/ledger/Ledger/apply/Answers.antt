@@ -28,7 +28,7 @@ record-requires c =
 pub invariant_of-self-2 : goal.invariant_of-self-2
 invariant_of-self-2 c =
     let is = planned c.self.invariant c.self.view_is c.requires.follows c.requires.planned c.as_slice-carried.ensures c.as_slice-spots.ensures c.as_slice-lines.ensures in
-    let pushed = rw c.unwrap.ensures at c.push.ensures.items in
+    let pushed = c.push_reserved.ensures.items in
     kept_after is
     c.in_ok-place.ensures.stands c.in_ok-place.ensures.sized.0 c.in_ok-place.ensures.sized.1 c.in_ok-place.ensures.sized.2
     (ap reverse (pushed ∙ ap (λ (es : List Entry). es ++ c.args.entry ∷ []) c.reserve.ensures.items) ∙ reverse-append c.self.inside.posted.items (c.args.entry ∷ []))

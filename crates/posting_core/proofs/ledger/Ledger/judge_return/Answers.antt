@@ -1,8 +1,12 @@
-use Rattle.std.proofs.Common.{rules, ◌≡◌, ◌∙◌, ap, filter, not, false, Ok}
+use Rattle.std.proofs.Common.{rules, true, ◌≡◌, ◌∙◌, ap, filter, not, false, Ok}
 use Rattle.nest_core.specs.Museum.{is_container}
 use Rattle.posting_core.specs.declared.stage.LineStage.TheVariants.{Away}
+use Rattle.posting_core.specs.Messages.{thing_no}
+use Rattle.posting_core.specs.History.{holds_at}
 use Rattle.posting_core.specs.Loans.{line, objects_with}
-use Rattle.posting_core.specs.Verdicts.{first_of, line_rows}
+use Rattle.posting_core.specs.Verdicts.{first_of, return_rows, hangs_on_lines, line_rows}
+use Rattle.nest_core.proofs.Outcomes.{at_err}
+use Rattle.posting_core.proofs.Along.{more_held, both}
 use Rattle.posting_core.proofs.Asked.{lines_hang}
 use Rattle.posting_core.proofs.LoanAnswers.{judged_by_row}
 use Rattle.posting_core.proofs.ledger.Ledger.judge_return.Goals as goal
@@ -12,12 +16,25 @@ returns-clause-verdict c =
     let S = c.args.self.now.museum in
     let P = c.args.self.now.posted in
     let crossing : filter (λ o. not (is_container S o)) c.as_slice.result.now ≡ objects_with S P c.in-Some.x = ap (filter (λ o. not (is_container S o))) (c.as_slice.ensures ∙ c.in_ok-carried.ensures.carried) in
-    let judged : c.in_ok-verdict.verdict ≡ first_of (line_rows (line S P c.args.loan.now) Away (objects_with S P c.in-Some.x) false) = judged_by_row S P c.args.loan.now c.in-Some-loan.kept.now (objects_with S P c.in-Some.x) Away false (Ok _) c.in-Some-loan.ensures.lines (rw (← crossing) c.in_ok-verdict.ensures) in
+    let judged : c.in_ok-verdict.verdict ≡ first_of (line_rows (line S P c.args.loan.now) Away (objects_with S P c.in-Some.x) false) = judged_by_row S P c.args.loan.now c.in-Some-loan.kept.now (objects_with S P c.in-Some.x) Away false (Ok _) c.in-Some-loan.ensures.lines (rw (← crossing) c.in_ok-verdict.ensures.verdict) in
     search (rules, judged)
+
+pub returns-in_err-carried-clause-err : goal.returns-in_err-carried-clause-err
+returns-in_err-carried-clause-err c =
+    let S = c.args.self.now.museum in
+    let P = c.args.self.now.posted in
+    let held = c.in_err-carried.ensures.gives_up in
+    let hangs = lines_hang (line S P c.args.loan.now) Away (objects_with S P c.in-Some.x) false in
+    let asked : hangs_on_lines (first_of (return_rows S P c.args.thing.now c.args.loan.now c.args.place.now)) ≡ true = search (rules, hangs) in
+    let same : holds_at S P (thing_no S c.args.thing.now) ≡ true = search (rules, held) in
+    at_err c.from_residual.result _ (both _ _ same asked)
 
 pub returns-in_err-verdict-clause-err : goal.returns-in_err-verdict-clause-err
 returns-in_err-verdict-clause-err c =
     let S = c.args.self.now.museum in
     let P = c.args.self.now.posted in
+    let held = more_held S P c.in-Some.x c.as_slice.result.now (c.as_slice.ensures ∙ c.in_ok-carried.ensures.carried) c.in_err-verdict.ensures.gives_up in
     let hangs = lines_hang (line S P c.args.loan.now) Away (objects_with S P c.in-Some.x) false in
-    search (rules, hangs)
+    let asked : hangs_on_lines (first_of (return_rows S P c.args.thing.now c.args.loan.now c.args.place.now)) ≡ true = search (rules, hangs) in
+    let same : holds_at S P (thing_no S c.args.thing.now) ≡ true = search (rules, held) in
+    at_err c.from_residual-in_err-verdict.result _ (both _ _ same asked)

@@ -13,3 +13,9 @@ on_day P day (Err y) each = tt
 
 pub returns-in-Return-clause-put : goal.returns-in-Return-clause-put
 returns-in-Return-clause-put c = rw c.in-Return.is (on_day _ c.in-Return.day c.judge_return.result c.judge_return.ensures.put)
+
+pub returns-in-Return-clause-verdict : goal.returns-in-Return-clause-verdict
+returns-in-Return-clause-verdict c = rw c.in-Return.is c.judge_return.ensures.verdict
+
+pub returns-in-Return-clause-err : goal.returns-in-Return-clause-err
+returns-in-Return-clause-err c = rw c.in-Return.is c.judge_return.ensures.err
