@@ -80,11 +80,12 @@ pub(crate) const COUNT: Help = Help {
 For a stocktaking: someone went to the shelves, and wrote down what lay there.
 
 LIST is a file with a row 'PLACE,THING' for each thing that was seen, and a row
-'PLACE' for a place that was looked at. Prints a line for each row, as Found,
-Elsewhere with the place on record, Unplaced or Again, and then a line 'missing'
-for each object that should lie at a counted place, and that no row names. With
---csv or --json its fields are row, place, thing, answer and on_record; a missing
-object has no row, and the answer Missing.
+'PLACE' for a place that was looked at. Prints an answer for each row, the first
+that holds of UnknownPlace, Counted, UnknownObject, Again, Unplaced, Found, and
+Elsewhere with the place on record; and then a line 'missing' for each object
+that should lie at a place of the list, and that no row names. With --csv or
+--json its fields are row, place, thing, answer and on_record; a missing object
+has no row, and the answer Missing.
 
 Example:
   pairsalder count --setup museum.csv --store museum.db shelves.csv
@@ -150,7 +151,7 @@ pub(crate) const MIGRATE: Help = Help {
     usage: "pairsalder migrate --setup PATH --store PATH",
     more: "\
 For once, after an update of the program: all that is on record stays as it is.
-Keep a copy of the file.
+Keep a copy of the file and, if there is one, of that with -wal behind its name.
 
 Prints 'migrated'. A store of version 2 is left as it is.
 
@@ -165,7 +166,8 @@ pub(crate) const EXPLAIN: Help = Help {
     about: "Tells what a verdict, a refusal or a fault means, and what to do about it",
     usage: "pairsalder explain NAME",
     more: "\
-For whoever reads a reply: NAME is the word that it ends with.
+For whoever reads a reply: NAME is a word in it such as Applied, Double or
+BadCode or, of a fault without such a word, the one behind 'fault'.
 
 Prints what the word means, when it comes, and what to do about it.
 

@@ -98,8 +98,8 @@ const MEANINGS: &[Meaning] = &[
     ),
     (
         "NotHere",
-        "the thing is elsewhere, or it is borrowed and has no place yet",
-        "Receive or return it first",
+        "the thing is elsewhere, or has no place yet and is borrowed or is to exit",
+        "Receive or return it first, or move it to a place",
     ),
     (
         "ContainerNotHere",
@@ -223,7 +223,7 @@ const MEANINGS: &[Meaning] = &[
     (
         "OtherVersion",
         "the store is of another version of the program",
-        "Use the program that began it",
+        "Make it one of this version (pairsalder migrate), or use the program that began it",
     ),
     (
         "Damaged",

@@ -30,7 +30,7 @@ pub enum CommandFault {
     Store(StoreFault),
     /// The text after `--on` is no day.
     Day(CodeFault),
-    /// A text is no thing code.
+    /// A text is no code of a thing, a loan or a place.
     Code(CodeFault),
     /// The text after `--from` is no number.
     Number,

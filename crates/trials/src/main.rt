@@ -18,8 +18,8 @@ use std::process::ExitCode;
 use std::thread::Threads;
 use std::{env, io};
 
-/// With the word `session` a setup and lines on standard input, and replies on standard output; with `count` and three files
-/// the microseconds of a check; with none the stops.
+/// What it does goes by how many words there are: with none the stops; with one, as `session`, a setup and lines on standard
+/// input, and replies on standard output; with more, as `count` and three files, the microseconds of a check.
 fn main(rt: HostRuntime) -> ExitCode {
     let words = match env::args(&rt) {
         Ok(words) => words.count(),
