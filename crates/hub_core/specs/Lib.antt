@@ -13,3 +13,4 @@ pub mod Posting
 pub mod Openings
 pub mod Replayed
 pub mod WholeRun
+pub mod Ahead
