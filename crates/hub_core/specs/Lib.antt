@@ -13,4 +13,3 @@ pub mod Posting
 pub mod Openings
 pub mod Replayed
 pub mod WholeRun
-pub mod Ahead

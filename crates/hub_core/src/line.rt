@@ -1,6 +1,5 @@
 //! A line: its bytes, what it asks, what is done and said, and the words of it.
 
-pub(crate) mod ahead;
 pub(crate) mod bytes;
 pub(crate) mod reply;
 pub(crate) mod request;

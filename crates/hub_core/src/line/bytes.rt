@@ -9,7 +9,7 @@ use memchr::memchr;
 use std::io::{BufRead, ErrorKind, Write};
 
 /// How many bytes of a line are kept: one more than a line may have with a carriage return at its end.
-pub(crate) const MOST_KEPT: usize = 16_386;
+const MOST_KEPT: usize = 16_386;
 
 /// Where a piece of a line ends: at the line's line feed, at the end of the input, or before either.
 #[derive(Clone, Copy, Debug, PartialEq, Eq)]

@@ -4,16 +4,15 @@ ghost use Rattle.hub_core.specs.Points.{reply, whereabouts};
 ghost use Rattle.hub_core.specs.Requests.{line_in};
 ghost use Rattle.hub_core.specs.Replies.{asked_line};
 ghost use Rattle.hub_core.specs.Serving.{Serves};
-ghost use Rattle.hub_core.specs.Ahead.{AreRead};
 ghost use Rattle.hub_core.specs.Memory.{HasRoom, is_posted, can_fail, line_can_fail, FailsOnlyWhere};
 ghost use Rattle.hub_core.specs.Lines.{is_empty};
 ghost use Rattle.hub_core.specs.LineText.{place_text, arrival_reply, station_text, station_reply, sent_from, request_reply, sent_by, read_reply, sent, is_too_long, line_reply, line_arrivals};
 
-use crate::line::ahead::Ahead;
-use crate::line::request::{Line, Request};
+use crate::line::request::{Line, Request, read_line_with};
 use crate::line::wording;
 use crate::line::wording::REPLY_ROOM;
 use crate::{Arrival, Hub, HubFault};
+use borrowed_json::Scratch;
 use codes_core::ThingCode;
 use nest_core::StationNo;
 use register_store::{ReadFault, Register};
@@ -26,7 +25,7 @@ pub const LONGEST_LINE: usize = 16_384;
 /// `number`-th, from 1. After a fault the hub has taken the line's arrival or not, or it is down, stopped in that.
 pub(crate) fn reply_to<S: Register>(
     alloc: Global,
-    ahead: &mut Ahead,
+    scratch: &mut Scratch,
     number: u64,
     line: &[u8],
     hub: &mut Hub<S>,
@@ -34,14 +33,12 @@ pub(crate) fn reply_to<S: Register>(
 ) -> Result<(), HubFault>
     requires up { hub.old.down ≡ false }
     requires room { REPLY_ROOM ≤ string_capacity text.old }
-    requires ahead { AreRead hub.old.book.museum ahead.old }
     ensures served { Serves S.holding S.refusals hub.old hub.new [] (string_bytes text.new)
         (λ O A. line_reply hub.old.book.museum hub.old.book.depth O A number line.now)
         (line_arrivals hub.old.book.museum line.now) result }
     // What isn't read meets no fault.
     ensures unread { (is_empty line.now || is_too_long line.now) ≡ true → IsOk result }
     ensures capacity { string_capacity text.old ≤ string_capacity text.new }
-    ensures ahead { AreRead hub.old.book.museum ahead.new }
 {
     text.clear();
     if line.is_empty() {
@@ -50,13 +47,13 @@ pub(crate) fn reply_to<S: Register>(
     if line.len() > LONGEST_LINE {
         return Ok(wording::add_too_long(text, number)?);
     }
-    read_reply(alloc, ahead, number, line, hub, text)
+    read_reply(alloc, scratch, number, line, hub, text)
 }
 
 /// The same for a line that is neither empty nor too long, behind what stands in the text.
 fn read_reply<S: Register>(
     alloc: Global,
-    ahead: &mut Ahead,
+    scratch: &mut Scratch,
     number: u64,
     line: &[u8],
     hub: &mut Hub<S>,
@@ -64,16 +61,14 @@ fn read_reply<S: Register>(
 ) -> Result<(), HubFault>
     requires up { hub.old.down ≡ false }
     requires room { HasRoom text.old }
-    requires ahead { AreRead hub.old.book.museum ahead.old }
     ensures served { Serves S.holding S.refusals hub.old hub.new
         (string_bytes text.old) (string_bytes text.new)
         (λ O A. read_reply hub.old.book.museum hub.old.book.depth O A number
         (line_in hub.old.book.museum line.now))
         (sent (line_in hub.old.book.museum line.now)) result }
     ensures capacity { string_capacity text.old ≤ string_capacity text.new }
-    ensures ahead { AreRead hub.old.book.museum ahead.new }
 {
-    match ahead.read(alloc, hub.ledger().setup(), line) {
+    match read_line_with(alloc, scratch, hub.ledger().setup(), line) {
         Ok(line) => request_reply(alloc, number, line, hub, text),
         Err(ReadFault::NoMemory) => Err(HubFault::NoMemory),
         Err(fault) => Ok(wording::add_bad(text, number, fault)?),

@@ -38,7 +38,6 @@ pub fn read_line(alloc: Global, setup: &Setup, bytes: &[u8]) -> Result<Line, Rea
 }
 
 /// The same, with a scratch that serves one line after the other.
-#[inline(never)]
 pub fn read_line_with(
     alloc: Global,
     scratch: &mut Scratch,

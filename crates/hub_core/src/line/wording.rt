@@ -1,6 +1,5 @@
 //! The words of all replies, each a line with its line feed, appended to a text.
-ghost use Rattle.std.specs.Prelude.{◌≡◌, ◌<◌, ◌≤◌, ◌++◌, true, All, OnErr, codes, flat_map, length, reverse};
-ghost use Rattle.std.specs.Fmt.{decimal};
+ghost use Rattle.std.specs.Prelude.{◌≡◌, ◌<◌, ◌++◌, true, All, OnErr, codes, flat_map, length, reverse};
 ghost use Rattle.hub_core.specs.Adds.{Adds};
 ghost use Rattle.hub_core.specs.Points.{IsPlaced};
 ghost use Rattle.hub_core.specs.Memory.{HasRoom, is_posted};
@@ -28,17 +27,10 @@ pub(crate) fn add_refused(
 ) -> Result<(), AllocError>
     ensures { Adds text.old text.new (refused_line station.now n refusal.now) result }
 {
-    let mut buffer = Buffer::new();
+    let mut digits = Buffer::new();
     add(
         text,
-        &[
-            station,
-            " ",
-            digits(&mut buffer, n),
-            " refused ",
-            refusal,
-            "\n",
-        ],
+        &[station, " ", digits.format(n), " refused ", refusal, "\n"],
     )
 }
 
@@ -46,14 +38,10 @@ pub(crate) fn add_refused(
 pub(crate) fn add_unknown_station(text: &mut String, number: u64) -> Result<(), AllocError>
     ensures { Adds text.old text.new (unknown_station_line number) result }
 {
-    let mut buffer = Buffer::new();
+    let mut digits = Buffer::new();
     add(
         text,
-        &[
-            "line ",
-            digits(&mut buffer, number),
-            " refused UnknownStation\n",
-        ],
+        &["line ", digits.format(number), " refused UnknownStation\n"],
     )
 }
 
@@ -61,8 +49,8 @@ pub(crate) fn add_unknown_station(text: &mut String, number: u64) -> Result<(), 
 pub(crate) fn add_held(text: &mut String, station: &str, n: u64) -> Result<(), AllocError>
     ensures { Adds text.old text.new (held_line station.now n) result }
 {
-    let mut buffer = Buffer::new();
-    add(text, &[station, " ", digits(&mut buffer, n), " held\n"])
+    let mut digits = Buffer::new();
+    add(text, &[station, " ", digits.format(n), " held\n"])
 }
 
 /// The reply for a posted entry: `STATION n posted ENTRY VERDICT`.
@@ -75,16 +63,16 @@ pub(crate) fn add_posted(
 ) -> Result<(), AllocError>
     ensures { Adds text.old text.new (posted_line station.now n entry verdict.now) result }
 {
-    let mut buffer = Buffer::new();
-    let mut entry_buffer = Buffer::new();
+    let mut digits = Buffer::new();
+    let mut entry_digits = Buffer::new();
     add(
         text,
         &[
             station,
             " ",
-            digits(&mut buffer, u64::from(n)),
+            digits.format(n),
             " posted ",
-            digits(&mut entry_buffer, entry),
+            entry_digits.format(entry),
             " ",
             verdict,
             "\n",
@@ -97,7 +85,11 @@ pub(crate) fn add_posted(
 pub fn add_too_long(text: &mut String, number: u64) -> Result<(), AllocError>
     ensures { Adds text.old text.new (bad_line number (codes "TooLong")) result }
 {
-    add_bad_line(text, number, "TooLong", "")
+    let mut digits = Buffer::new();
+    add(
+        text,
+        &["line ", digits.format(number), " bad ", "TooLong", "\n"],
+    )
 }
 
 /// Appends what is printed of a faulty line: `line K bad FAULT`, with the fault's key where it has one. After NoMemory the text
@@ -105,25 +97,11 @@ pub fn add_too_long(text: &mut String, number: u64) -> Result<(), AllocError>
 pub fn add_bad(text: &mut String, number: u64, fault: ReadFault) -> Result<(), AllocError>
     ensures { Adds text.old text.new (bad_line number (fault_text fault)) result }
 {
+    let mut digits = Buffer::new();
     let (name, key) = fault_words(fault);
-    add_bad_line(text, number, name, key)
-}
-
-/// The reply to a line that says nothing: `line K bad NAME`, with a key behind the name.
-fn add_bad_line(text: &mut String, number: u64, name: &str, key: &str) -> Result<(), AllocError>
-    ensures { Adds text.old text.new (bad_line number (name.now ++ key.now)) result }
-{
-    let mut buffer = Buffer::new();
     add(
         text,
-        &[
-            "line ",
-            digits(&mut buffer, number),
-            " bad ",
-            name,
-            key,
-            "\n",
-        ],
+        &["line ", digits.format(number), " bad ", name, key, "\n"],
     )
 }
 
@@ -237,18 +215,7 @@ fn add_chain(text: &mut String, setup: &Setup, chain: &[u32]) -> Result<(), Allo
     Ok(())
 }
 
-/// A number's digits. As `add`, this stands once and isn't built into each reply: what a message runs through is to fit the
-/// processor's cache of instructions.
-#[inline(never)]
-fn digits(buffer: &mut Buffer, number: u64) -> &str
-    ensures text { result.now ≡ decimal number }
-    ensures short { length result.now ≤ 20 }
-{
-    buffer.format(number)
-}
-
 /// Appends the pieces, one after the other.
-#[inline(never)]
 pub(crate) fn add(text: &mut String, pieces: &[&str]) -> Result<(), AllocError>
     ensures { Adds text.old text.new (flat_map (λ piece. piece.now) pieces.now) result }
 {

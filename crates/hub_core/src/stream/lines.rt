@@ -7,11 +7,11 @@ ghost use Rattle.hub_core.specs.LineText.{text, arrivals};
 ghost use Rattle.hub_core.specs.StandsFor.{StandsFor};
 ghost use Rattle.hub_core.specs.Replayed.{Answered, EndsReplay};
 
-use crate::line::ahead::{Ahead, next_line_ahead};
-use crate::line::bytes::{Reads, flush, without_return};
+use crate::line::bytes::{Reads, flush, next_line, without_return};
 use crate::line::reply::reply_to;
 use crate::line::wording::REPLY_ROOM;
 use crate::{Hub, ReplayFault};
+use borrowed_json::Scratch;
 use register_store::Register;
 use std::alloc::Global;
 use std::io::{BufRead, ErrorKind, Write};
@@ -74,13 +74,12 @@ pub(crate) fn replay_from<R: BufRead, W: Write, S: Register>(
     let Ok(mut text) = String::with_capacity(alloc, REPLY_ROOM) else {
         return Err(ReplayFault::NoMemory);
     };
-    let mut ahead = Ahead::new(alloc);
+    let mut scratch = Scratch::new(alloc);
     for number in 1..u64::MAX {
-        let setup = hub.ledger().setup();
-        let fed = next_line_ahead(alloc, setup, input, output, reads, &mut line, &mut ahead)?;
+        let fed = next_line(input, output, reads, &mut line)?;
         reply_to(
             alloc,
-            &mut ahead,
+            &mut scratch,
             number,
             without_return(line.as_slice()),
             hub,

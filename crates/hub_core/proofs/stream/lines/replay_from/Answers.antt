@@ -1,8 +1,7 @@
-use Rattle.std.proofs.Common.{◌≡◌, ◌∙◌, ◌++◌, ap, arith, subst, sym, false, true, rules}
+use Rattle.std.proofs.Common.{◌≡◌, ◌∙◌, ◌++◌, ap, arith, subst, false, true, rules}
 use Rattle.std.specs.Result.{IsErrAnd}
 use Rattle.hub_core.specs.declared.replay_fault.ReplayFault.TheVariants.{WriteFailed}
 use Rattle.hub_core.specs.Lines.{without_return}
-use Rattle.hub_core.specs.Ahead.{AreRead}
 use Rattle.hub_core.specs.LineText.{arrivals}
 use Rattle.hub_core.proofs.Written.{if_ok}
 use Rattle.hub_core.proofs.ReplayLemmas.{line_read, fault_line, fault_memory, fault_write, fault_flush, answered_last, answered_more, told_at, some_at, read_out, after_hub, after_other, ends_fault, ends_err, ends_flush}
@@ -22,8 +21,8 @@ returns-in_err-reply_to-clause-ends g c =
     let S = c.args.hub.now.book.museum in
     let fault = c.in_err-reply_to.field-0.0 in
     let failed = c.in_err-reply_to.ensures.served in
-    let l = line_read _ _ (g.W.Write.contents c.loop-number.output) (g.W.Write.contents c.next_line_ahead.new.output) _ _ c.in_ok-fed.ensures.line c.in_ok-fed.ensures.output in
-    let line : c.without_return.result.now ≡ without_return c.next_line_ahead.new.line.items = c.without_return.ensures ∙ ap without_return c.as_slice.ensures.value in
+    let l = line_read _ _ (g.W.Write.contents c.loop-number.output) (g.W.Write.contents c.next_line.new.output) _ _ c.in_ok-fed.ensures.line c.in_ok-fed.ensures.output in
+    let line : c.without_return.result.now ≡ without_return c.next_line.new.line.items = c.without_return.ensures ∙ ap without_return c.as_slice.ensures.value in
     ends_err g.S.Register.holding g.S.Register.refusals _ _ _ _ c.args.hub.now c.reply_to.new.hub (failed.museum ∙ inv.museum) (failed.depth ∙ inv.depth) c.from_residual-in_err-reply_to.result _ c.from_residual-in_err-reply_to.ensures.1
     (λ O A st.
     let u = inv.underway O A st in
@@ -35,8 +34,8 @@ returns-in_err-write_text-clause-ends g c =
     let inv = c.loop-number.invariant in
     let said = c.in_ok-reply_to.ensures.served in
     let r = c.from_residual-in_err-write_text.result in
-    let l = line_read _ _ (g.W.Write.contents c.loop-number.output) (g.W.Write.contents c.next_line_ahead.new.output) _ _ c.in_ok-fed.ensures.line c.in_ok-fed.ensures.output in
-    let line : c.without_return.result.now ≡ without_return c.next_line_ahead.new.line.items = c.without_return.ensures ∙ ap without_return c.as_slice.ensures.value in
+    let l = line_read _ _ (g.W.Write.contents c.loop-number.output) (g.W.Write.contents c.next_line.new.output) _ _ c.in_ok-fed.ensures.line c.in_ok-fed.ensures.output in
+    let line : c.without_return.result.now ≡ without_return c.next_line.new.line.items = c.without_return.ensures ∙ ap without_return c.as_slice.ensures.value in
     ends_err g.S.Register.holding g.S.Register.refusals _ _ _ _ c.args.hub.now c.reply_to.new.hub (said.museum ∙ inv.museum) (said.depth ∙ inv.depth) r WriteFailed
     (subst (λ f. IsErrAnd r (λ y. y ≡ f)) c.in_err-write_text.ensures.cause c.from_residual-in_err-write_text.ensures.1)
     (λ O A st.
@@ -50,8 +49,8 @@ returns-then-not-fed-clause-ends g c =
     let inv = c.loop-number.invariant in
     let said = c.in_ok-reply_to.ensures.served in
     let last : c.in_ok-fed.fed ≡ false = search rules in
-    let l = line_read _ _ (g.W.Write.contents c.loop-number.output) (g.W.Write.contents c.next_line_ahead.new.output) _ _ c.in_ok-fed.ensures.line c.in_ok-fed.ensures.output in
-    let line : c.without_return.result.now ≡ without_return c.next_line_ahead.new.line.items = c.without_return.ensures ∙ ap without_return c.as_slice.ensures.value in
+    let l = line_read _ _ (g.W.Write.contents c.loop-number.output) (g.W.Write.contents c.next_line.new.output) _ _ c.in_ok-fed.ensures.line c.in_ok-fed.ensures.output in
+    let line : c.without_return.result.now ≡ without_return c.next_line.new.line.items = c.without_return.ensures ∙ ap without_return c.as_slice.ensures.value in
     ends_flush g.S.Register.holding g.S.Register.refusals _ _ _ _ c.args.hub.now c.reply_to.new.hub (said.museum ∙ inv.museum) (said.depth ∙ inv.depth) c.flush.result c.flush.ensures.cause said.up (said.count ∙ inv.count)
     (λ O A st.
     let u = inv.underway O A st in
@@ -62,8 +61,8 @@ pub returns-then-not-fed-clause-answered : goal.returns-then-not-fed-clause-answ
 returns-then-not-fed-clause-answered g c =
     let inv = c.loop-number.invariant in
     let last : c.in_ok-fed.fed ≡ false = search rules in
-    let l = line_read _ _ (g.W.Write.contents c.loop-number.output) (g.W.Write.contents c.next_line_ahead.new.output) _ _ c.in_ok-fed.ensures.line c.in_ok-fed.ensures.output in
-    let line : c.without_return.result.now ≡ without_return c.next_line_ahead.new.line.items = c.without_return.ensures ∙ ap without_return c.as_slice.ensures.value in
+    let l = line_read _ _ (g.W.Write.contents c.loop-number.output) (g.W.Write.contents c.next_line.new.output) _ _ c.in_ok-fed.ensures.line c.in_ok-fed.ensures.output in
+    let line : c.without_return.result.now ≡ without_return c.next_line.new.line.items = c.without_return.ensures ∙ ap without_return c.as_slice.ensures.value in
     if_ok c.flush.result _ (λ O A st.
     let u = inv.underway O A st in
     let t = told_at inv.museum inv.depth line c.as_bytes.ensures.value g.S.Register.holding c.reply_to.new.hub O (A ++ arrivals c.args.hub.now.book.museum u.bytes) c.loop-number.number (c.in_ok-reply_to.ensures.served.reply O (A ++ arrivals c.args.hub.now.book.museum u.bytes) u.stands) in
@@ -74,8 +73,8 @@ loop-number-preserved g c =
     let inv = c.loop-number.invariant in
     let said = c.in_ok-reply_to.ensures.served in
     let more : c.in_ok-fed.fed ≡ true = search rules in
-    let l = line_read _ _ (g.W.Write.contents c.loop-number.output) (g.W.Write.contents c.next_line_ahead.new.output) _ _ c.in_ok-fed.ensures.line c.in_ok-fed.ensures.output in
-    let line : c.without_return.result.now ≡ without_return c.next_line_ahead.new.line.items = c.without_return.ensures ∙ ap without_return c.as_slice.ensures.value in
+    let l = line_read _ _ (g.W.Write.contents c.loop-number.output) (g.W.Write.contents c.next_line.new.output) _ _ c.in_ok-fed.ensures.line c.in_ok-fed.ensures.output in
+    let line : c.without_return.result.now ≡ without_return c.next_line.new.line.items = c.without_return.ensures ∙ ap without_return c.as_slice.ensures.value in
     record {
       up = said.up;
       museum = said.museum ∙ inv.museum;
@@ -83,7 +82,6 @@ loop-number-preserved g c =
       count = said.count ∙ inv.count;
       room = omega (arith, inv.room, c.in_ok-reply_to.ensures.capacity);
       reads = omega (arith, inv.reads, c.in_ok-fed.ensures.reads);
-      ahead = subst (λ S. AreRead S c.reply_to.new.ahead) (sym said.museum) c.reply_to.ensures.ahead;
       underway = λ O A st.
           let u = inv.underway O A st in
           let t = told_at inv.museum inv.depth line c.as_bytes.ensures.value g.S.Register.holding c.reply_to.new.hub O (A ++ arrivals c.args.hub.now.book.museum u.bytes) c.loop-number.number (c.in_ok-reply_to.ensures.served.reply O (A ++ arrivals c.args.hub.now.book.museum u.bytes) u.stands) in

@@ -3,7 +3,6 @@ use Rattle.posting_core.specs.declared.entry.Entry.{Entry}
 use Rattle.hub_core.specs.declared.hub.answer.Arrival.{Arrival}
 use Rattle.hub_core.specs.declared.line.wording.TheConstants.{REPLY_ROOM}
 use Rattle.hub_core.specs.StandsFor.{StandsFor}
-use Rattle.hub_core.specs.Ahead.{AreRead}
 use Rattle.hub_core.proofs.ReplayLemmas.{Underway}
 use Rattle.hub_core.proofs.stream.lines.replay_from.Given as goal
 
@@ -15,7 +14,6 @@ invariant-loop-number g l = record {
   count : g.S.Register.refusals l.hub.register ≡ g.S.Register.refusals l.fn.hub.register;
   room : REPLY_ROOM ≤ string_capacity l.text;
   reads : l.reads.left ≤ l.fn.reads.left;
-  ahead : AreRead l.hub.book.museum l.ahead;
   underway : (O : List Entry) (A : List Arrival) → StandsFor g.S.Register.holding l.fn.hub O A →
       Underway l.fn.hub.book.museum l.fn.hub.book.depth O A (g.R.Read.remaining l.fn.input) (g.R.Read.remaining l.input) (g.W.Write.contents l.fn.output) (g.W.Write.contents l.output) g.S.Register.holding l.hub l.number;
 }
