@@ -27,7 +27,7 @@ impl<'a> Value<'a> {
         ensures not_json { result ≡ Err TextFault.NotJson → IsUtf8 bytes.now
             → read_text bytes.now ≡ None }
     {
-        match simdutf8::compat::from_utf8(bytes) {
+        match str::from_utf8(bytes) {
             Ok(text) => read_all(alloc, text, scratch),
             Err(_) => Err(TextFault::NotJson),
         }

@@ -1,6 +1,7 @@
 -- What a count comes to, in the words of those who ask for it.
 use Rattle.std.specs.Prelude.{ℕ, ◌≡◌, ◌≢◌, ◌<◌, ◌==◌, ◌&&◌, ◌||◌, not, Bool, true, false, Contains, List, [], ◌∷◌, filter, map, length, take, Option, Some, None, is_none, if◌then◌else◌, slice_get, zero, suc, refl}
 use Rattle.std.proofs.Common.{arith, ap, sym, ◌∙◌}
+use Rattle.std.proofs.lemmas.Bool.{and_parts}
 use Rattle.std.proofs.lemmas.Bool.Decides.{nat_tests}
 use Rattle.std.proofs.lemmas.List.FromFn.{get_or-map-range_with_len, length-map-range_with_len}
 use Rattle.std.proofs.lemmas.Option.{get_or_from_slice_get, slice_get_within}
@@ -56,17 +57,13 @@ found_once B rows i j x lt first second found =
     not_found (is_none (find_place B.museum s.0.place)) (look B s.0)
     (sym (ap (λ b. if is_none (find_place B.museum s.0.place) then UnknownPlace else (if b then Again else look B s.0)) again) ∙ (sym said ∙ is))
 
-both : (a b : Bool) → (a && b) ≡ true → (a ≡ true) × (b ≡ true)
-both true b e = (refl, e)
-both false b e = absurd (cc)
-
 pub unnamed : (B : Book) (rows : List CountRow) (m : MissingObject) (r : CountRow) → Contains (missing B rows) m → Contains rows r → named B.museum r ≢ Some m.object
 unnamed B rows m r h there is =
     let place = from_flat_map (missing_in B rows) (mentioned B.museum rows) m h in
     let object = from_map (missing_at place.0) (filter (is_missing B rows place.0) (range_with_len 0 (length B.museum.things))) m place.2 in
     let same : object.0 ≡ m.object = ap (λ (q : MissingObject). q.object) object.2 in
     let test = (let_through (is_missing B rows place.0) (range_with_len 0 (length B.museum.things)) object.0 object.1).1 in
-    let missed = both (not (names B.museum rows object.0)) (not (is_container B.museum object.0)) (both (is_unnamed B.museum rows object.0) (is_within B place.0 object.0) test).0 in
+    let missed = and_parts (not (names B.museum rows object.0)) (not (is_container B.museum object.0)) (and_parts (is_unnamed B.museum rows object.0) (is_within B place.0 object.0) test).0 in
     let by_row : names B.museum rows m.object ≡ true =
     any_of (λ q. option_map_or (λ y. y == m.object) (named B.museum q) false) rows r there (ap (λ o. option_map_or (λ y. y == m.object) o false) is ∙ same_number m.object) in
     let no : false ≡ true = sym (ap not (ap (names B.museum rows) same ∙ by_row)) ∙ missed.0 in

@@ -1,6 +1,7 @@
 -- Which things were named, by a flag for each.
 use Rattle.std.proofs.Common.{◌≡◌, ℕ, zero, suc, ◌<◌, ◌==◌, ◌||◌, Bool, true, false, List, [], ◌∷◌, ◌++◌, length, Option, Some, None, refl, ap, ◌∙◌, sym, subst, arith, replicate}
 use Rattle.std.proofs.lemmas.Bool.Decides.{nat_tests}
+use Rattle.std.proofs.Math.Bool.{or-false, or-true}
 use Rattle.std.proofs.lemmas.List.Folds.{list_any-append}
 use Rattle.std.specs.Prelude.{slice_set}
 use Rattle.std.specs.Option.{option_map_or}
@@ -30,14 +31,6 @@ flag_other (c ∷ bs) zero (suc x) ne = refl
 flag_other (c ∷ bs) (suc i) zero ne = refl
 flag_other (c ∷ bs) (suc i) (suc x) ne = flag_other bs i x (grind (arith, nat_tests))
 
-or_true : (a : Bool) → (a || true) ≡ true
-or_true true = refl
-or_true false = refl
-
-or_false : (a : Bool) → (a || false) ≡ a
-or_false true = refl
-or_false false = refl
-
 none_flagged : (n x : ℕ) → is_flagged (replicate n false) x ≡ false
 none_flagged zero x = refl
 none_flagged (suc n) zero = refl
@@ -58,12 +51,12 @@ module _ {X : Type 0} (thing : X → Option ℕ) where
 
   flag_then : (before : List X) (flags : List Bool) (x : ℕ) (o : Option ℕ) → x < length flags → is_flagged flags x ≡ names_by thing before x
       → is_flagged (with_flag flags o) x ≡ (names_by thing before x || (option_map_or (λ y. y == x) o false || false))
-  flag_then before flags x None lt is = is ∙ sym (or_false (names_by thing before x))
+  flag_then before flags x None lt is = is ∙ sym (or-false (names_by thing before x))
   flag_then before flags x (Some y) lt is = by_bool (y == x)
       (λ e. let same : y ≡ x = grind (arith, nat_tests) in
       let here : is_flagged (slice_set flags y true) x ≡ true = subst (λ (k : ℕ). is_flagged (slice_set flags y true) k ≡ true) same (flag_here flags y (omega (arith, same))) in
-      here ∙ sym (rw e (or_true (names_by thing before x))))
-      (λ n. flag_other flags y x n ∙ (is ∙ sym (rw n (or_false (names_by thing before x)))))
+      here ∙ sym (rw e (or-true (names_by thing before x))))
+      (λ n. flag_other flags y x n ∙ (is ∙ sym (rw n (or-false (names_by thing before x)))))
 
   -- one row more
   pub names_then : (things : ℕ) (before : List X) (r : X) (flags : List Bool) → AreNames thing things before flags → AreNames thing things (before ++ r ∷ []) (with_flag flags (thing r))

@@ -1,6 +1,7 @@
 -- Which places lie in which, by the segments of their codes.
 use Rattle.std.specs.Prelude.{ℕ, ◌≡◌, ◌&&◌, ◌⊎◌, Bool, true, false, List, [], ◌∷◌, ◌++◌, refl}
 use Rattle.std.proofs.Common.{ap, sym, ◌∙◌, subst, inl, inr, append_assoc}
+use Rattle.std.proofs.lemmas.Bool.{and_parts}
 use Rattle.std.proofs.lemmas.Slice.Eq.{bytes_eq-Decides}
 use Rattle.std.specs.List.{starts_with}
 use Rattle.std.specs.Str.{bytes_eq}
@@ -12,16 +13,12 @@ Segments = List (List ℕ)
 same_bytes : (xs : List ℕ) → bytes_eq xs xs ≡ true
 same_bytes xs = (bytes_eq-Decides xs xs).1 refl
 
-both : (a b : Bool) → (a && b) ≡ true → (a ≡ true) × (b ≡ true)
-both true b e = (refl, e)
-both false b e = absurd (cc)
-
 -- the one begins with the other
 front : (xs ys : Segments) → starts_with bytes_eq xs ys ≡ true → (rest : Segments) × (xs ≡ ys ++ rest)
 front xs [] e = (xs, refl)
 front [] (y ∷ ys) e = absurd (cc)
 front (x ∷ xs) (y ∷ ys) e =
-    let parts = both (bytes_eq y x) (starts_with bytes_eq xs ys) e in
+    let parts = and_parts (bytes_eq y x) (starts_with bytes_eq xs ys) e in
     let rest = front xs ys parts.1 in
     (rest.0, ap (λ z. z ∷ xs) (sym ((bytes_eq-Decides y x).0 parts.0)) ∙ ap (λ zs. y ∷ zs) rest.1)
 

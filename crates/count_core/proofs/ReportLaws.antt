@@ -1,6 +1,7 @@
 -- What the reports say, in the words of those who ask for them.
 use Rattle.std.specs.Prelude.{ℕ, ℤ, ◌≡◌, ◌≢◌, ◌<◌, ◌==◌, ◌&&◌, ◌⊎◌, not, Bool, true, false, Contains, List, filter, length, Option, Some, None, option_map, int_lt, if◌then◌else◌, refl}
 use Rattle.std.proofs.Common.{arith, ap, sym, ◌∙◌, subst, inl, inr}
+use Rattle.std.proofs.lemmas.Bool.{and_parts}
 use Rattle.std.proofs.lemmas.Bool.Decides.{nat_tests}
 use Rattle.std.proofs.lemmas.List.{length-map}
 use Rattle.std.proofs.lemmas.Option.{slice_get_within}
@@ -21,10 +22,6 @@ use Rattle.count_core.specs.Accounts.{IsOverdue}
 use Rattle.count_core.specs.Reports.{away, away_object, in_place, is_away, is_in, is_out_still, is_overdue, is_owed, lies_at, overdue}
 use Rattle.count_core.proofs.Membership.{any_of, from_map, in_map, in_range, kept, let_through, range_below, some_of}
 use Rattle.count_core.proofs.PlaceNesting.{lies_in_itself, lies_through, one_in_other}
-
-both : (a b : Bool) → (a && b) ≡ true → (a ≡ true) × (b ≡ true)
-both true b e = (refl, e)
-both false b e = absurd (cc)
 
 -- what a test of a value says, where there is one
 some_value : {X : Type 0} (p : X → Bool) (o : Option X) → option_map_or p o false ≡ true → (x : X) × (o ≡ Some x) × (p x ≡ true)
@@ -47,7 +44,7 @@ stage_owed o (inr is) = ap (λ p. option_map_or is_out_still p false) is
 pub overdue_told : (B : Book) (day : ℤ) (loan : List ℕ) → Contains (overdue B day) loan → IsOverdue B day loan
 overdue_told B day loan h =
     let found = let_through (is_overdue B day) (loans_in B) loan h in
-    let parts = both (is_over B.posted loan day) (list_any (is_owed B loan) (objects_of_loan B loan)) found.1 in
+    let parts = and_parts (is_over B.posted loan day) (list_any (is_owed B loan) (objects_of_loan B loan)) found.1 in
     let last = some_value (λ last. int_lt last day) (last_day_in B loan) parts.0 in
     let object = some_of (is_owed B loan) (objects_of_loan B loan) parts.1 in
     let stage = some_value is_out_still (line_in B loan object.0) object.2 in
@@ -103,10 +100,10 @@ away_object_is B x h =
     subst (λ y. is_away B y ≡ true) same (let_through (is_away B) (range_with_len 0 (length B.museum.things)) found.0 found.1).1
 
 pub away_own : (B : Book) (x : ℕ) → Contains (away B) (away_object B x) → is_own B.museum x ≡ true
-away_own B x h = (both (is_own B.museum x) (not (is_same_place (place_in B x) (normal_of B.museum x))) (away_object_is B x h)).0
+away_own B x h = (and_parts (is_own B.museum x) (not (is_same_place (place_in B x) (normal_of B.museum x))) (away_object_is B x h)).0
 
 pub away_told : (B : Book) (x : ℕ) → Contains (away B) (away_object B x) → place_in B x ≢ normal_of B.museum x
-away_told B x h = not_same (place_in B x) (normal_of B.museum x) (both (is_own B.museum x) (not (is_same_place (place_in B x) (normal_of B.museum x))) (away_object_is B x h)).1
+away_told B x h = not_same (place_in B x) (normal_of B.museum x) (and_parts (is_own B.museum x) (not (is_same_place (place_in B x) (normal_of B.museum x))) (away_object_is B x h)).1
 
 mapped : {X Y : Type 0} (f : X → Y) (o : Option X) (y : Y) → option_map f o ≡ Some y → (x : X) × (o ≡ Some x)
 mapped f None y e = absurd (cc)

@@ -1,6 +1,7 @@
 -- What is carried along, where a call gives up.
 use Rattle.std.specs.Prelude.{ℕ, ◌≡◌, ◌<◌, ◌&&◌, Bool, true, false, List, Option, Some, None, Result, Ok, Err, OnErr, if◌then◌else◌, length}
 use Rattle.std.proofs.Common.{ap, ◌∙◌, arith}
+use Rattle.std.proofs.lemmas.Result.{on_err_weaker}
 use Rattle.nest_core.specs.declared.put.Put.{Put}
 use Rattle.nest_core.specs.Museum.{Museum}
 use Rattle.nest_core.proofs.Alone.{more_hold}
@@ -21,14 +22,9 @@ more_along S P (Some p) ys is more = more_held S P p.thing ys is more
 -- where a put under a verdict carries more than one thing, the message is applied and takes something along
 pub asked_along : {X Y : Type 0} (S : Museum) (P : List Entry) (verdict : Verdict) (m : Message) (put : Option Put) (ys : List ℕ) (r : Result X Y) →
     put ≡ put_by S P verdict m → ys ≡ carried_with S P put → OnErr r (1 < length ys) → OnErr r ((is_applied verdict && takes_along S P (put_in S P m)) ≡ true)
-asked_along S P verdict m put ys (Ok x) is carries more = tt
-asked_along S P verdict m put ys (Err fault) is carries more =
-    applied (is_applied verdict) (put_in S P m) (more_along S P (put_by S P verdict m) ys (carries ∙ ap (carried_with S P) is) more)
+asked_along S P verdict m put ys r is carries =
+    on_err_weaker r (λ more. applied (is_applied verdict) (put_in S P m) (more_along S P (put_by S P verdict m) ys (carries ∙ ap (carried_with S P) is) more))
   where
     applied : (b : Bool) (o : Option Put) → takes_along S P (if b then o else None) ≡ true → (b && takes_along S P o) ≡ true
     applied true o h = h
     applied false o h = h
-
-pub both : (a b : Bool) → a ≡ true → b ≡ true → (a && b) ≡ true
-both true b x y = y
-both false b x y = x

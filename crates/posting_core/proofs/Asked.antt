@@ -1,8 +1,7 @@
 -- Where a verdict of what crosses hangs on its lines.
 use Rattle.std.specs.Prelude.{ℕ, ◌≡◌, ◌||◌, Bool, true, false, not, List, [], ◌∷◌, Option, None, Some, is_some, refl, if◌then◌else◌}
 use Rattle.std.specs.Option.{option_map_or}
-use Rattle.std.proofs.Common.{sym}
-use Rattle.std.proofs.lemmas.Bool.{false≢true}
+use Rattle.std.proofs.lemmas.Bool.{or_parts}
 use Rattle.posting_core.specs.declared.stage.LineStage.{LineStage}
 use Rattle.posting_core.specs.declared.verdict.Verdict.TheVariants.{Applied, NotListed, WrongStage, TermOver}
 use Rattle.posting_core.specs.Verdicts.{first_of, line_rows, any_unlisted, any_not_at, hangs_on_lines, stage_eq}
@@ -16,10 +15,6 @@ by_rows false false false = refl
 pub lines_hang : (lines : ℕ → Option LineStage) (wanted : LineStage) (objects : List ℕ) (late : Bool) → hangs_on_lines (first_of (line_rows lines wanted objects late)) ≡ true
 lines_hang lines wanted objects late = by_rows (any_unlisted lines objects) (any_not_at lines wanted objects) late
 
-neither : (a b : Bool) → a || b ≡ false → (a ≡ false) × (b ≡ false)
-neither false b h = (refl, h)
-neither true b h = absurd (false≢true (sym h))
-
 -- what isn't listed is at no stage
 no_line : (wanted : LineStage) (line : Option LineStage) → (not (option_map_or (stage_eq wanted) line false)) ≡ false → (not (is_some line)) ≡ false
 no_line wanted None h = h
@@ -29,5 +24,5 @@ no_line wanted (Some stage) h = refl
 pub all_listed : (lines : ℕ → Option LineStage) (wanted : LineStage) (objects : List ℕ) → any_not_at lines wanted objects ≡ false → any_unlisted lines objects ≡ false
 all_listed lines wanted [] h = refl
 all_listed lines wanted (o ∷ os) h =
-    let both = neither _ _ h in
+    let both = or_parts _ _ h in
     rw (no_line wanted (lines o) both.0, all_listed lines wanted os both.1) refl

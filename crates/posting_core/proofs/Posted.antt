@@ -7,6 +7,7 @@ use Rattle.std.specs.Option.{option_map, option_map_or, option_to_list}
 use Rattle.std.specs.declared.alloc.Global.{Global}
 use Rattle.std.proofs.Common.{ap, ◌∙◌, sym, subst, arith, get_or}
 use Rattle.std.proofs.lemmas.Bool.{false≢true}
+use Rattle.std.proofs.lemmas.Result.{on_err_weaker}
 use Rattle.std.proofs.lemmas.List.{append-nil, length-replicate, length-map}
 use Rattle.std.proofs.lemmas.Option.{IfSome_then, slice_get_read, slice_get-map}
 use Rattle.nest_core.specs.declared.put.Put.{Put}
@@ -62,8 +63,7 @@ module _ {S : Museum} {P : List Entry} {N : Nested} {R : List (List Spot)} {L : 
 
   -- where it isn't told, something is in the thing
   pub carried_held : (x : ℕ) (r : Result (List ℕ) NoMemory) → OnErr r ((Q : List Put) → StandsFor N Q → holds_things Q x ≡ true) → OnErr r (holds_at B.museum B.posted x ≡ true)
-  carried_held x (Ok ys) from = tt
-  carried_held x (Err fault) from = subst (λ (C : Book). holds_at C.museum C.posted x ≡ true) same (from (puts S P) kept.nest)
+  carried_held x r gives = on_err_weaker r (λ from. subst (λ (C : Book). holds_at C.museum C.posted x ≡ true) same (from (puts S P) kept.nest)) gives
 
   -- a chain is that of looking back
   chain_kept : (x : ℕ) (cs : List ℕ) → ((Q : List Put) → StandsFor N Q → cs ≡ chain N.things Q x) → cs ≡ chain_in B x

@@ -1,5 +1,5 @@
 -- Loans out computed on worked rows: what leaves in a crate, and how it comes back.
-use Rattle.std.specs.Prelude.{ℕ, ℤ, pos, ◌≡◌, List, [], ◌∷◌, ◌++◌, Some, None, map, refl, codes}
+use Rattle.std.specs.Prelude.{ℕ, ℤ, pos, ◌≡◌, true, false, List, [], ◌∷◌, ◌++◌, Some, None, map, refl, codes}
 use Rattle.posting_core.specs.declared.message.Message.{Message}
 use Rattle.posting_core.specs.declared.message.Message.TheVariants.{Move, Pack, Agree, Authorise, Exit, Return, Extend}
 use Rattle.posting_core.specs.declared.verdict.Verdict.TheVariants.{Applied, UnknownLoan, NotAuthorised, NotHere, NotWithPartner, NotListed, WrongStage, TermOver, NotLater}
@@ -10,8 +10,9 @@ use Rattle.posting_core.specs.declared.entry.NewLine.{NewLine}
 use Rattle.posting_core.specs.declared.entry.NewSpot.{NewSpot}
 use Rattle.posting_core.specs.declared.entry.Spot.{Spot}
 use Rattle.posting_core.specs.declared.stage.LineStage.{LineStage}
-use Rattle.posting_core.specs.Book.{place_in, chain_in, spots_in, loans_in, objects_of_loan, line_in, state_in, last_day_in, changes_of}
-use Rattle.posting_core.proofs.WorkedRows.{museum_x, pack, s1, s2, crate_1, object_1, object_2, object_3, may, moved, run, verdicts, book, spot, put_at}
+use Rattle.posting_core.specs.Book.{place_in, chain_in, spots_in, loans_in, objects_of_loan, line_in, state_in, last_day_in, changes_of, crosses_with, asks_lines, asks_memory}
+use Rattle.posting_core.specs.History.{takes_along}
+use Rattle.posting_core.proofs.WorkedRows.{museum, museum_x, pack, s1, s2, crate_1, object_1, object_2, object_3, may, moved, run, verdicts, book, spot, put_at}
 
 -- other days: the last of the term, and those after it
 abbrev pub may_31 : ℤ
@@ -151,6 +152,22 @@ loan_out-refused = refl
 -- an authorisation changes no line
 loan_out-authorising : changes_of (book refused_unauthorised) (authorised loan_1) ≡ record { entry = 7; verdict = Applied; put = None; carried = []; spots = []; lines = [] }
 loan_out-authorising = refl
+
+-- something crosses with what is in it where a crate crosses by a loan
+loan_out-crosses_with : map (crosses_with (book ready)) (leaves (codes "C1") loan_1 may_31 ∷ leaves (codes "2001.4.3") loan_1 may_31 ∷ moved (codes "C1") (codes "S1") ∷ authorised loan_1 ∷ []) ≡ true ∷ false ∷ false ∷ false ∷ []
+loan_out-crosses_with = refl
+
+-- the lines are asked where the crate leaves in time or late, and not where it isn't with the partner, or is an object alone
+loan_out-asks_lines : map (asks_lines (book ready)) (leaves (codes "C1") loan_1 may_31 ∷ leaves (codes "C1") loan_1 june_1 ∷ returned (codes "C1") loan_1 (codes "S1") may_31 ∷ leaves (codes "2001.4.3") loan_1 may_31 ∷ []) ≡ true ∷ true ∷ false ∷ false ∷ []
+loan_out-asks_lines = refl
+
+-- memory is asked too where lines are made, and not where an object alone is refused, or nothing is put
+loan_out-asks_memory : map (asks_memory (book ready)) (leaves (codes "C1") loan_1 may_31 ∷ agreed loan_2 (codes "2001.4.1" ∷ []) ∷ leaves (codes "2001.4.3") loan_1 may_31 ∷ authorised loan_1 ∷ []) ≡ true ∷ true ∷ false ∷ false ∷ []
+loan_out-asks_memory = refl
+
+-- a crate takes along what is in it, an object nothing
+loan_out-takes_along : map (takes_along museum ready) (put_at crate_1 s2 ∷ put_at object_3 s1 ∷ None ∷ []) ≡ true ∷ false ∷ false ∷ []
+loan_out-takes_along = refl
 
 -- returned_piece_by_piece: each object comes back alone, and then the crate, empty
 

@@ -75,7 +75,7 @@ impl Ledger {
     }
 }
 
-/// The rows of an agreement that ask nothing of the setup, nor of what was posted: its objects' codes and its days.
+/// The rows of an agreement that ask nothing of what was posted: its objects, all of which the setup has, and its days.
 fn judge_terms(
     setup: &Setup,
     loan: &LoanCode,

@@ -1,4 +1,5 @@
 use Rattle.std.proofs.Common.{rules, true, ◌≡◌, ◌∙◌, ap, filter, not, false, Ok}
+use Rattle.std.proofs.lemmas.Bool.{and_from}
 use Rattle.nest_core.specs.Museum.{is_container}
 use Rattle.posting_core.specs.declared.stage.LineStage.TheVariants.{Away}
 use Rattle.posting_core.specs.Messages.{thing_no}
@@ -6,7 +7,7 @@ use Rattle.posting_core.specs.History.{holds_at}
 use Rattle.posting_core.specs.Loans.{line, objects_with}
 use Rattle.posting_core.specs.Verdicts.{first_of, return_rows, hangs_on_lines, line_rows}
 use Rattle.nest_core.proofs.Outcomes.{at_err}
-use Rattle.posting_core.proofs.Along.{more_held, both}
+use Rattle.posting_core.proofs.Along.{more_held}
 use Rattle.posting_core.proofs.Asked.{lines_hang}
 use Rattle.posting_core.proofs.LoanAnswers.{judged_by_row}
 use Rattle.posting_core.proofs.ledger.Ledger.judge_return.Goals as goal
@@ -27,7 +28,7 @@ returns-in_err-carried-clause-err c =
     let hangs = lines_hang (line S P c.args.loan.now) Away (objects_with S P c.in-Some.x) false in
     let asked : hangs_on_lines (first_of (return_rows S P c.args.thing.now c.args.loan.now c.args.place.now)) ≡ true = search (rules, hangs) in
     let same : holds_at S P (thing_no S c.args.thing.now) ≡ true = search (rules, held) in
-    at_err c.from_residual.result _ (both _ _ same asked)
+    at_err c.from_residual.result _ (and_from _ _ same asked)
 
 pub returns-in_err-verdict-clause-err : goal.returns-in_err-verdict-clause-err
 returns-in_err-verdict-clause-err c =
@@ -37,4 +38,4 @@ returns-in_err-verdict-clause-err c =
     let hangs = lines_hang (line S P c.args.loan.now) Away (objects_with S P c.in-Some.x) false in
     let asked : hangs_on_lines (first_of (return_rows S P c.args.thing.now c.args.loan.now c.args.place.now)) ≡ true = search (rules, hangs) in
     let same : holds_at S P (thing_no S c.args.thing.now) ≡ true = search (rules, held) in
-    at_err c.from_residual-in_err-verdict.result _ (both _ _ same asked)
+    at_err c.from_residual-in_err-verdict.result _ (and_from _ _ same asked)
