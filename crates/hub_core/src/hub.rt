@@ -21,7 +21,7 @@ use crate::hub::posting::post_due;
 use crate::{Answer, Arrival, HubFault, Where};
 use codes_core::{NoMemory, ThingCode};
 use nest_core::Setup;
-use posting_core::{Entry, Ledger, Message};
+use posting_core::{Ledger, Message, PostedEntry};
 use register_store::{Register, StoreFault};
 use station_core::Sequences;
 use std::alloc::Global;
@@ -182,7 +182,7 @@ impl<R: Register> Hub<R> {
     }
 
     /// The posted entries, oldest first.
-    pub fn posted(&self) -> &[Entry]
+    pub fn posted(&self) -> &[PostedEntry]
         ensures list { reverse result.now ≡ self.now.book.posted }
         ensures lawful { IsLawful self.now.book.museum self.now.book.depth self.now.book.posted }
         // For all that the hub stands for: the entries of each station are the longest unbroken run of what it sent.

@@ -7,7 +7,7 @@ use crate::sheet::Sheet;
 use codes_core::{Day, LoanCode, NoMemory, PlaceCode, ThingCode};
 use count_core::in_place;
 use nest_core::{StationNo, ThingNo};
-use posting_core::{Entry, Ledger, LineStage, LoanState, Message, Verdict};
+use posting_core::{Ledger, LineStage, LoanState, Message, PostedEntry, Verdict};
 use register_store::message_text;
 use report_rows::{AtRow, ContentRow, LoanRow, PostedRow, StationRow, WhereRow};
 use std::alloc::Global;
@@ -26,8 +26,8 @@ fn station_row(alloc: Global, ledger: &Ledger, station: StationNo) -> Result<Sta
     requires { station < length ledger.now.museum.stations }
 {
     let last = last_entry(ledger.posted(), station);
-    let signed_off = last.is_some_and(|entry| matches!(entry.message, Message::SignOff { .. }));
-    let next = last.map_or(1, |entry| entry.n.saturating_add(1));
+    let signed_off = last.is_some_and(signs_off);
+    let next = last.map_or(1, |entry| entry.n().saturating_add(1));
     Ok(StationRow {
         station: String::from_str(alloc, ledger.setup().station_name(station))?,
         next: if signed_off {
@@ -40,8 +40,13 @@ fn station_row(alloc: Global, ledger: &Ledger, station: StationNo) -> Result<Sta
 }
 
 /// The last entry of a station.
-fn last_entry(posted: &[Entry], station: StationNo) -> Option<&Entry> {
-    posted.iter().rev().find(|entry| entry.station == station)
+fn last_entry(posted: &[PostedEntry], station: StationNo) -> Option<&PostedEntry> {
+    posted.iter().rev().find(|entry| entry.station() == station)
+}
+
+/// Whether an entry is its station's sign-off.
+fn signs_off(entry: &PostedEntry) -> bool {
+    matches!(entry.message().as_message(), Some(Message::SignOff { .. }))
 }
 
 /// The place of a thing, and the containers that it is in.
@@ -168,18 +173,21 @@ pub fn loan<W: Write>(
 ) -> Result<(), CommandFault> {
     sheet.head::<LoanRow>()?;
     for entry in ledger.posted().iter() {
-        if is_agreement(entry, loan) {
-            return put_loan(ledger, loan, &entry.message, sheet);
+        if let Some(agreement) = agreement_in(entry, loan) {
+            return put_loan(ledger, loan, agreement, sheet);
         }
     }
     sheet.put(&unknown_loan(sheet.alloc, loan)?)
 }
 
-/// Whether an entry agrees the loan.
-fn is_agreement(entry: &Entry, sought: &LoanCode) -> bool {
-    match &entry.message {
-        Message::Agree { loan, .. } => loan == sought && entry.verdict == Verdict::Applied,
-        _ => false,
+/// The message of an entry that agrees the loan.
+fn agreement_in<'a>(entry: &'a PostedEntry, sought: &LoanCode) -> Option<&'a Message> {
+    let message = entry.message().as_message()?;
+    match message {
+        Message::Agree { loan, .. } if loan == sought && entry.verdict() == Verdict::Applied => {
+            Some(message)
+        }
+        _ => None,
     }
 }
 
@@ -305,20 +313,21 @@ pub fn posted<W: Write>(
 fn put_entry<W: Write>(
     ledger: &Ledger,
     number: u64,
-    entry: &Entry,
+    entry: &PostedEntry,
     sheet: &mut Sheet<'_, W>,
 ) -> Result<(), CommandFault> {
     let setup = ledger.setup();
-    let station = if entry.station < setup.stations() {
-        setup.station_name(entry.station)
+    let station = if entry.station() < setup.stations() {
+        setup.station_name(entry.station())
     } else {
         ""
     };
+    let message = entry.message().to_message(sheet.alloc)?;
     sheet.put(&PostedRow {
         entry: number,
         station: String::from_str(sheet.alloc, station)?,
-        n: entry.n,
-        verdict: entry.verdict.name(),
-        message: message_text(sheet.alloc, &entry.message)?,
+        n: entry.n(),
+        verdict: entry.verdict().name(),
+        message: message_text(sheet.alloc, &message)?,
     })
 }

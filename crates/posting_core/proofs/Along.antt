@@ -1,5 +1,5 @@
 -- What is carried along, where a call gives up.
-use Rattle.std.specs.Prelude.{ℕ, ◌≡◌, ◌<◌, ◌&&◌, Bool, true, false, List, Option, Some, None, Result, Ok, Err, OnErr, if◌then◌else◌, length}
+use Rattle.std.specs.Prelude.{ℕ, ◌≡◌, ◌<◌, ◌&&◌, Bool, true, false, List, Option, Some, None, Result, OnErr, if◌then◌else◌, length}
 use Rattle.std.proofs.Common.{ap, ◌∙◌, arith}
 use Rattle.std.proofs.lemmas.Result.{on_err_weaker}
 use Rattle.nest_core.specs.declared.put.Put.{Put}

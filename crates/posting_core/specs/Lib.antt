@@ -11,3 +11,4 @@ pub mod Accountability
 pub mod LoanRows
 pub mod Onward
 pub mod Rows
+pub mod KeptForms

@@ -23,7 +23,10 @@ use crate::kept_loans::KeptLoans;
 use crate::placing::place;
 use crate::recording::record;
 use crate::spot_rows::{make_room, push_spots};
-use crate::{Changes, Entry, EntryNo, LineStage, LoanState, MOST_ENTRIES, Message, Spot, Verdict};
+use crate::{
+    Changes, Entry, EntryNo, LineStage, LoanState, MOST_ENTRIES, Message, PostedEntry, Spot,
+    Verdict,
+};
 use codes_core::{Day, LoanCode, NoMemory};
 use nest_core::{Nest, PlaceNo, Setup, ThingNo, ThingNos};
 use std::alloc::Global;
@@ -33,7 +36,7 @@ use std::marker::Model;
 /// through the posted entries gives.
 pub struct Ledger {
     setup: Setup,
-    posted: Vec<Entry>,
+    posted: Vec<PostedEntry>,
     nest: Nest,
     spots: Vec<Vec<Spot>>,
     loans: KeptLoans,
@@ -97,7 +100,7 @@ impl Ledger {
     }
 
     /// The posted entries, oldest first: entry 1 stands at index 0. Refused messages are among them.
-    pub fn posted(&self) -> &[Entry]
+    pub fn posted(&self) -> &[PostedEntry]
         ensures { reverse result.now ≡ self.now.posted }
     {
         &self.posted
@@ -254,6 +257,7 @@ impl Ledger {
         let carried = changes.carried.as_slice();
         let spots = changes.spots.as_slice();
         let lines = changes.lines.as_slice();
+        let posted = PostedEntry::new(alloc, &entry)?;
         make_room(&mut self.spots, spots)?;
         self.posted.reserve(1)?;
         place(&mut self.nest, changes.put, carried)?;
@@ -266,7 +270,7 @@ impl Ledger {
             lines,
         )?;
         push_spots(&mut self.spots, spots);
-        self.posted.push_reserved(entry);
+        self.posted.push_reserved(posted);
         Ok(())
     }
 }

@@ -4,21 +4,25 @@
 mod entry;
 mod kept_loan;
 mod kept_loans;
+mod kept_message;
 pub mod laws;
 mod ledger;
 mod message;
 mod numbers;
 mod objects;
 mod placing;
+mod posted_entry;
 mod recording;
 mod spot_rows;
 mod stage;
 mod verdict;
 
 pub use entry::{Changes, Entry, EntryNo, NewLine, NewLines, NewSpot, NewSpots, Spot};
+pub use kept_message::KeptMessage;
 pub use ledger::Ledger;
 pub use message::Message;
 pub use objects::Objects;
+pub use posted_entry::PostedEntry;
 pub use stage::{LineStage, LoanState};
 pub use verdict::Verdict;
 

@@ -28,9 +28,9 @@ use Rattle.codes_core.proofs.SpelledDays.{day_text_ascii}
 use Rattle.codes_core.proofs.Texts.{thing_text, loan_text}
 use Rattle.posting_core.specs.declared.message.Message as message
 use Rattle.posting_core.specs.declared.message.Message.TheVariants.{Move, Pack, Agree, Authorise, Exit, Return, Receive, SignOff, Extend}
-use Rattle.register_store.specs.Spelling.{is_thing, is_name}
+use Rattle.register_store.specs.Spelling.{is_thing}
 use Rattle.register_store.specs.Kinds.{of_json, of_bytes}
-use Rattle.register_store.specs.MessageText.{json, body_of, AreThings, IsSpelled}
+use Rattle.register_store.specs.MessageText.{json, body_of, IsSpelled}
 use Rattle.register_store.proofs.Fields.{of_value, name_passes}
 use Rattle.register_store.proofs.ObjectLists.{strings_fit, texts_back}
 

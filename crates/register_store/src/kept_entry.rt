@@ -8,7 +8,7 @@ use crate::StoreFault;
 use crate::spelled::message_is_spelled;
 use codes_core::NoMemory;
 use nest_core::StationNo;
-use posting_core::{Entry, EntryNo, LAST_NUMBER, Message, Verdict};
+use posting_core::{Entry, EntryNo, KeptMessage, LAST_NUMBER, Verdict};
 use std::alloc::Global;
 
 /// A posted entry under its number. Its row has the one text of its message, which is not made to keep the entry.
@@ -20,10 +20,10 @@ pub struct KeptEntry {
     pub station: StationNo,
     /// The number that the station gave its message.
     pub n: u32,
-    /// Its verdict, which stands here since fields are laid out in their order: so an entry takes 104 bytes, and not 112.
+    /// Its verdict, which stands here since fields are laid out in their order: so an entry takes 56 bytes, and not 64.
     pub verdict: Verdict,
     /// The message.
-    pub message: Message,
+    pub message: KeptMessage,
 }
 
 impl KeptEntry {
@@ -31,14 +31,14 @@ impl KeptEntry {
     pub(crate) fn new(alloc: Global, number: EntryNo, entry: &Entry) -> Result<KeptEntry, NoMemory>
         ensures { IfOk result (λ kept. IsPostingRow number entry.now (kept_row kept)) }
     {
-        let message = entry.message.copy(alloc)?;
-        message_is_spelled(&message);
+        let message = KeptMessage::new(alloc, &entry.message)?;
+        message_is_spelled(&entry.message);
         Ok(KeptEntry {
             id: number,
             station: entry.station,
             n: entry.n,
-            message,
             verdict: entry.verdict,
+            message,
         })
     }
 
@@ -62,11 +62,12 @@ impl KeptEntry {
         if !is_numbered || self.station >= stations || self.n == 0 || self.n > LAST_NUMBER {
             return Err(StoreFault::Damaged(number));
         }
-        message_is_spelled(&self.message);
+        let message = self.message.to_message(alloc)?;
+        message_is_spelled(&message);
         Ok(Entry {
             station: self.station,
             n: self.n,
-            message: self.message.copy(alloc)?,
+            message,
             verdict: self.verdict,
         })
     }

@@ -7,7 +7,7 @@ ghost use Rattle.serve_core.specs.Wording.{bad_item_line, logged_text, up_to};
 
 use crate::{Item, LineFault, LogLine, Reply};
 use hub_core::{Answer, add_answer, add_asked, add_bad, add_too_long};
-use posting_core::{Entry, Ledger};
+use posting_core::{Ledger, PostedEntry};
 use std::alloc::AllocError;
 
 /// Appends what is printed of a line of a log, where the ledger is that after the log: the reply to its item, as a replay
@@ -35,7 +35,7 @@ pub fn add_logged(text: &mut String, ledger: &Ledger, line: &LogLine) -> Result<
 }
 
 /// The entries that stood with an answer, oldest first.
-fn up_to(posted: &[Entry], answer: Answer) -> &[Entry]
+fn up_to(posted: &[PostedEntry], answer: Answer) -> &[PostedEntry]
     ensures { result.now ≡ up_to answer posted.now }
 {
     match answer {

@@ -10,7 +10,7 @@ use crate::{Answer, Where};
 use codes_core::ThingCode;
 use itoa::Buffer;
 use nest_core::{Setup, StationNo};
-use posting_core::Entry;
+use posting_core::PostedEntry;
 use register_store::ReadFault;
 use std::alloc::AllocError;
 
@@ -126,7 +126,7 @@ pub fn add_answer(
     station: StationNo,
     n: u64,
     answer: Answer,
-    posted: &[Entry],
+    posted: &[PostedEntry],
 ) -> Result<(), AllocError>
     requires { station < length setup.now.stations }
     ensures added { Adds text.old text.new
@@ -148,14 +148,15 @@ fn add_posted_lines(
     text: &mut String,
     station: &str,
     first: u64,
-    entries: &[Entry],
+    entries: &[PostedEntry],
 ) -> Result<(), AllocError>
     ensures { Adds text.old text.new (posted_lines station.now first (reverse entries.now)) result }
 {
     let start = first.saturating_sub(1) as usize;
     for i in start..entries.len() {
         let entry = &entries[i];
-        add_posted(text, station, entry.n, i as u64 + 1, entry.verdict.name())?;
+        let verdict = entry.verdict();
+        add_posted(text, station, entry.n(), i as u64 + 1, verdict.name())?;
     }
     Ok(())
 }

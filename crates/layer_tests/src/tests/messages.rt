@@ -1,4 +1,5 @@
-//! Messages read from JSON and written as it. What the faulty ones are told stands in `cases/`.
+//! Messages read from JSON, kept, and written as JSON. What the faulty ones are told stands in `cases/`.
+use posting_core::KeptMessage;
 use register_store::ReadFault::{BadField, BadKind, Missing, NotJson};
 use register_store::{Key, ReadFault, message_text, read_message};
 use std::alloc::Global;
@@ -13,6 +14,19 @@ const TEXTS: &[(&str, &str)] = &[
     (
         " {\"kind\": \"move\", \"thing\": \"2001.4.1\", \"place\": \"S1\", \"day\": \"2024-05-01\", \"by\": 1} ",
         "{\"day\":\"2024-05-01\",\"kind\":\"move\",\"place\":\"S1\",\"thing\":\"2001.4.1\"}",
+    ),
+    // the longest codes that are kept in short, and one that is longer
+    (
+        "{\"kind\":\"move\",\"thing\":\"2001.123456.123\",\"place\":\"ABCDEFGH-123456\",\"day\":\"2024-05-01\"}",
+        "{\"day\":\"2024-05-01\",\"kind\":\"move\",\"place\":\"ABCDEFGH-123456\",\"thing\":\"2001.123456.123\"}",
+    ),
+    (
+        "{\"kind\":\"move\",\"thing\":\"2001.123456.123\",\"place\":\"ABCDEFGH-1234567\",\"day\":\"2024-05-01\"}",
+        "{\"day\":\"2024-05-01\",\"kind\":\"move\",\"place\":\"ABCDEFGH-1234567\",\"thing\":\"2001.123456.123\"}",
+    ),
+    (
+        "{\"kind\":\"pack\",\"thing\":\"2001.4.1\",\"container\":\"C1\",\"day\":\"2024-05-01\"}",
+        "{\"container\":\"C1\",\"day\":\"2024-05-01\",\"kind\":\"pack\",\"thing\":\"2001.4.1\"}",
     ),
     (
         "{\"kind\":\"signoff\",\"by\":\"012345678901234567890123456789012345678901234567890123456789\"}",
@@ -71,6 +85,21 @@ fn reads_and_writes(rt: HostRuntime) -> Result<(), Fail> {
     for text in ["", "{", "[]", "\"move\""] {
         let fault = read_message(rt.alloc(), text.as_bytes()).err();
         assert!(rt; fault == Some(NotJson), "{text}");
+    }
+    Ok(())
+}
+
+/// The own text of what is kept of the message that a text spells.
+fn kept(alloc: Global, text: &str) -> Result<String, ReadFault> {
+    let message = read_message(alloc, text.as_bytes())?;
+    let kept = KeptMessage::new(alloc, &message)?;
+    Ok(message_text(alloc, &kept.to_message(alloc)?)?)
+}
+
+#[test]
+fn keeps(rt: HostRuntime) -> Result<(), Fail> {
+    for (_, text) in TEXTS {
+        assert!(rt; kept(rt.alloc(), text)?.as_str() == *text, "{text}");
     }
     Ok(())
 }

@@ -1,4 +1,4 @@
-use Rattle.std.proofs.Common.{◌∙◌, ap, sym, subst, false}
+use Rattle.std.proofs.Common.{◌∙◌, ap}
 use Rattle.serde_json.specs.Written.{has_float, compact_text}
 use Rattle.register_store.proofs.RoundTrip.{no_float}
 use Rattle.register_store.specs.Kinds.{of_bytes}

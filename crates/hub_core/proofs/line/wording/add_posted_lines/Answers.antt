@@ -1,5 +1,6 @@
 use Rattle.std.proofs.Common.{◌∙◌, ◌++◌, ◌+◌, ◌≤◌, List, ℕ, length, take, ap, sym, append-nil, length-append, true≢false, string_bytes, string_len, string_capacity, rules, arith}
 use Rattle.std.specs.Prelude.{reverse}
+use Rattle.posting_core.specs.VerdictNames.{verdict_name}
 use Rattle.hub_core.specs.Replies.{posted_line}
 use Rattle.hub_core.specs.LineText.{posted_lines}
 use Rattle.hub_core.proofs.PostedLemmas.{posted_start, posted_within}
@@ -18,11 +19,12 @@ returns-in_err-add_posted c = record {
   room = λ fits.
       let so_far = ap length c.loop-i.invariant.text in
       let both = length-append (string_bytes c.args.text.now) (posted_lines c.args.station.now c.args.first (reverse (take c.loop-i.i c.args.entries.now))) in
-      let within = posted_within c.args.station.now c.args.first c.loop-i.i c.args.entries.now c.index-entries-i.result c.name.result.now c.index-entries-i.is c.name.ensures (omega arith) (omega arith) in
+      let within = posted_within c.args.station.now c.args.first c.loop-i.i c.args.entries.now c.index-entries-i.result c.name.result.now c.index-entries-i.is (c.name.ensures ∙ ap verdict_name c.verdict-verdict.ensures) (omega arith) (omega arith) in
+      let line = ap (λ (n : ℕ). length (posted_line c.args.station.now n (c.loop-i.i + 1) c.name.result.now)) c.n.ensures in
       let len = c.loop-i.text.bytes.ok.0 in
       let len_before = c.args.text.now.bytes.ok.0 in
-      let room : string_len c.loop-i.text + length (posted_line c.args.station.now c.index-entries-i.result.n (c.loop-i.i + 1) c.name.result.now) ≤ string_capacity c.loop-i.text =
-      omega (arith, so_far, both, within, len, len_before, fits, c.loop-i.invariant.capacity) in
+      let room : string_len c.loop-i.text + length (posted_line c.args.station.now c.n.result (c.loop-i.i + 1) c.name.result.now) ≤ string_capacity c.loop-i.text =
+      omega (arith, so_far, both, within, line, len, len_before, fits, c.loop-i.invariant.capacity) in
       absurd (true≢false (sym (c.in_err-add_posted.ensures.room room)));
   capacity = omega arith;
 }

@@ -1,0 +1,26 @@
+-- What is kept of messages, computed on worked rows.
+use Rattle.std.specs.Prelude.{◌≡◌, refl, codes}
+use Rattle.posting_core.specs.declared.kept_message.Form.TheVariants as form
+use Rattle.posting_core.specs.declared.message.Message.TheVariants.{Move, Pack, Exit, Return, Receive}
+use Rattle.posting_core.specs.KeptForms.{said, HasCodes}
+use Rattle.posting_core.proofs.WorkedRows.{may}
+use Rattle.posting_core.proofs.WorkedLoansOut.{loan_1}
+
+kept_move : said (form.Move (codes "2001.4.1") (codes "S1") may) ≡ Move (codes "2001.4.1") (codes "S1") may
+kept_move = refl
+
+kept_pack : said (form.Pack (codes "2001.4.1") (codes "C1") may) ≡ Pack (codes "2001.4.1") (codes "C1") may
+kept_pack = refl
+
+kept_exit : said (form.Exit (codes "C1") loan_1 may) ≡ Exit (codes "C1") loan_1 may
+kept_exit = refl
+
+kept_return : said (form.Return (codes "C1") loan_1 (codes "S1") may) ≡ Return (codes "C1") loan_1 (codes "S1") may
+kept_return = refl
+
+kept_receive : said (form.Receive (codes "L1999.7") (codes "LI2024.1") (codes "S1") may) ≡ Receive (codes "L1999.7") (codes "LI2024.1") (codes "S1") may
+kept_receive = refl
+
+-- what is kept in short is codes
+kept_codes : HasCodes (form.Return (codes "C1") loan_1 (codes "S1") may)
+kept_codes = (refl, refl, refl)

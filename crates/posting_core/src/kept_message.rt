@@ -1,0 +1,255 @@
+//! Messages as they are kept.
+ghost use Rattle.std.specs.Prelude.{◌≡◌, ◌<◌, true, is_some, None, IfOk, IfSome, MatchOption};
+ghost use Rattle.posting_core.specs.KeptForms.{said, HasCodes};
+ghost use Rattle.codes_core.specs.Thing.{thing_fault};
+ghost use Rattle.codes_core.specs.Loan.{loan_fault};
+ghost use Rattle.codes_core.specs.Place.{place_fault};
+ghost use Rattle.posting_core.specs.Messages.{day_of};
+
+use crate::Message;
+use codes_core::{Day, LoanCode, NoMemory, PlaceCode, Spelling, ThingCode};
+use std::alloc::Global;
+use std::marker::Model;
+
+/// A message as it is kept, seen as the message. A code has room for the longest of its kind, and most are much shorter: so
+/// what puts a thing is kept with short codes, and any other message, or one with a longer code, stands elsewhere. It takes 40
+/// bytes, where a message takes 88.
+pub struct KeptMessage {
+    form: Form,
+}
+
+/// What is kept of a message, in 40 bytes each: where there are three codes they have to be shorter.
+#[derive(Drop)]
+pub(crate) enum Form {
+    Move {
+        thing: Spelling<15>,
+        place: Spelling<15>,
+        day: Day,
+    },
+    Pack {
+        thing: Spelling<15>,
+        container: Spelling<15>,
+        day: Day,
+    },
+    Exit {
+        thing: Spelling<15>,
+        loan: LoanCode,
+        day: Day,
+    },
+    Return {
+        thing: Spelling<11>,
+        loan: Spelling<10>,
+        place: Spelling<11>,
+        day: Day,
+    },
+    Receive {
+        thing: Spelling<11>,
+        loan: Spelling<10>,
+        place: Spelling<11>,
+        day: Day,
+    },
+    Whole(Box<Message>),
+}
+
+impl Model for KeptMessage {
+    ghost use Rattle.posting_core.specs.declared.message.Message.{Message};
+    ghost use Rattle.posting_core.specs.KeptForms.{said, HasCodes};
+
+    ghost Value = { Message };
+
+    ghost view = { λ m. said m.form };
+
+    ghost invariant = { λ m. HasCodes m.form };
+}
+
+/// Written out, so that whoever drops a kept message calls it.
+impl Drop for KeptMessage {
+    fn drop(self) {
+        let KeptMessage { form } = self;
+        drop(form);
+    }
+}
+
+impl KeptMessage {
+    /// What keeps the message. The fault: NoMemory.
+    pub fn new(alloc: Global, message: &Message) -> Result<KeptMessage, NoMemory>
+        ensures { IfOk result (λ kept. kept ≡ message.now) }
+    {
+        let form = match in_short(message) {
+            Some(form) => form,
+            None => Form::Whole(Box::new(alloc, message.copy(alloc)?)?),
+        };
+        Ok(KeptMessage { form })
+    }
+
+    /// The message, where it stands whole: so does each that puts nothing.
+    pub fn as_message(&self) -> Option<&Message>
+        ensures { MatchOption result (is_some (day_of self.now) ≡ true)
+            (λ message. message.now ≡ self.now) }
+    {
+        match &self.form {
+            Form::Whole(message) => Some(message),
+            _ => None,
+        }
+    }
+
+    /// A copy of the message. The fault: NoMemory.
+    pub fn to_message(&self, alloc: Global) -> Result<Message, NoMemory>
+        ensures { IfOk result (λ message. message ≡ self.now) }
+    {
+        match &self.form {
+            Form::Move { thing, place, day } => Ok(Message::Move {
+                thing: thing_of(thing),
+                place: place_of(place),
+                day: *day,
+            }),
+            Form::Pack {
+                thing,
+                container,
+                day,
+            } => Ok(Message::Pack {
+                thing: thing_of(thing),
+                container: thing_of(container),
+                day: *day,
+            }),
+            Form::Exit { thing, loan, day } => Ok(Message::Exit {
+                thing: thing_of(thing),
+                loan: *loan,
+                day: *day,
+            }),
+            Form::Return {
+                thing,
+                loan,
+                place,
+                day,
+            } => Ok(Message::Return {
+                thing: thing_of(thing),
+                loan: loan_of(loan),
+                place: place_of(place),
+                day: *day,
+            }),
+            Form::Receive {
+                thing,
+                loan,
+                place,
+                day,
+            } => Ok(Message::Receive {
+                thing: thing_of(thing),
+                loan: loan_of(loan),
+                place: place_of(place),
+                day: *day,
+            }),
+            Form::Whole(message) => message.copy(alloc),
+        }
+    }
+}
+
+/// What puts a thing, where its codes are short.
+fn in_short(message: &Message) -> Option<Form>
+    ensures { IfSome result (λ form. HasCodes form × (said form ≡ message.now)) }
+{
+    match message {
+        Message::Move { thing, place, day } => Some(Form::Move {
+            thing: short_thing(thing)?,
+            place: short_place(place)?,
+            day: *day,
+        }),
+        Message::Pack {
+            thing,
+            container,
+            day,
+        } => Some(Form::Pack {
+            thing: short_thing(thing)?,
+            container: short_thing(container)?,
+            day: *day,
+        }),
+        Message::Exit { thing, loan, day } => Some(Form::Exit {
+            thing: short_thing(thing)?,
+            loan: *loan,
+            day: *day,
+        }),
+        Message::Return {
+            thing,
+            loan,
+            place,
+            day,
+        } => Some(Form::Return {
+            thing: short_thing(thing)?,
+            loan: short_loan(loan)?,
+            place: short_place(place)?,
+            day: *day,
+        }),
+        Message::Receive {
+            thing,
+            loan,
+            place,
+            day,
+        } => Some(Form::Receive {
+            thing: short_thing(thing)?,
+            loan: short_loan(loan)?,
+            place: short_place(place)?,
+            day: *day,
+        }),
+        _ => None,
+    }
+}
+
+/// The spelling of a thing's code of N bytes at most.
+fn short_thing<const N: usize>(code: &ThingCode) -> Option<Spelling<N>>
+    requires { N < 256 }
+    ensures { IfSome result (λ short. (short ≡ code.now) × (thing_fault code.now ≡ None)) }
+{
+    let bytes = code.as_bytes();
+    if bytes.len() > N {
+        return None;
+    }
+    Some(Spelling::new(bytes))
+}
+
+/// The spelling of a loan's code of N bytes at most.
+fn short_loan<const N: usize>(code: &LoanCode) -> Option<Spelling<N>>
+    requires { N < 256 }
+    ensures { IfSome result (λ short. (short ≡ code.now) × (loan_fault code.now ≡ None)) }
+{
+    let bytes = code.as_bytes();
+    if bytes.len() > N {
+        return None;
+    }
+    Some(Spelling::new(bytes))
+}
+
+/// The spelling of a place's code of N bytes at most.
+fn short_place<const N: usize>(code: &PlaceCode) -> Option<Spelling<N>>
+    requires { N < 256 }
+    ensures { IfSome result (λ short. (short ≡ code.now) × (place_fault code.now ≡ None)) }
+{
+    let bytes = code.as_bytes();
+    if bytes.len() > N {
+        return None;
+    }
+    Some(Spelling::new(bytes))
+}
+
+/// The thing's code that is spelled so.
+fn thing_of<const N: usize>(spelling: &Spelling<N>) -> ThingCode
+    requires { thing_fault spelling.now ≡ None }
+    ensures { result ≡ spelling.now }
+{
+    ThingCode::parse(spelling.as_bytes()).unwrap()
+}
+
+/// The loan's code that is spelled so.
+fn loan_of<const N: usize>(spelling: &Spelling<N>) -> LoanCode
+    requires { loan_fault spelling.now ≡ None }
+    ensures { result ≡ spelling.now }
+{
+    LoanCode::parse(spelling.as_bytes()).unwrap()
+}
+
+/// The place's code that is spelled so.
+fn place_of<const N: usize>(spelling: &Spelling<N>) -> PlaceCode
+    requires { place_fault spelling.now ≡ None }
+    ensures { result ≡ spelling.now }
+{
+    PlaceCode::parse(spelling.as_bytes()).unwrap()
+}
