@@ -18,8 +18,8 @@ view_step Value-F.Null = null
 view_step (Value-F.Bool b) = boolean b
 view_step (Value-F.Number x) = number (number_view x)
 view_step (Value-F.String s) = string s.now
-view_step (Value-F.Array v) = array (items_of v.items)
-view_step (Value-F.Object v) = object (put_all v.items no_members)
+view_step (Value-F.Array v) = array (items_of v.now)
+view_step (Value-F.Object v) = object (put_all v.now no_members)
 
 abbrev pub view : Value → Data
 view = fold-Value Data view_step

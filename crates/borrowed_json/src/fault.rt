@@ -1,4 +1,5 @@
 //! Why a text is no value.
+use bumpalo::ResetError;
 use json::Invalid;
 use std::alloc::{AllocError, AllocFailed};
 
@@ -40,6 +41,17 @@ impl<T: Drop> From<AllocFailed<T>> for TextFault {
     ghost from_gives = { λ _ e. e ≡ faults.NoMemory };
 
     fn from(_failed: AllocFailed<T>) -> TextFault {
+        TextFault::NoMemory
+    }
+}
+
+impl From<ResetError> for TextFault {
+    ghost use Rattle.std.specs.Prelude.{◌≡◌};
+    ghost use Rattle.borrowed_json.specs.declared.fault.TextFault.TheVariants as faults;
+
+    ghost from_gives = { λ _ e. e ≡ faults.NoMemory };
+
+    fn from(_error: ResetError) -> TextFault {
         TextFault::NoMemory
     }
 }

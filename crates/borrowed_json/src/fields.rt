@@ -26,8 +26,8 @@ pub trait Fields {
         ensures { result ≡ option_and_then as_u64 (as_number (seen self.now)) };
 
     /// The items of an array.
-    fn items(&self) -> Option<&Vec<Self>>
-        ensures { option_map (λ v. items_of (map seen v.now.items)) result
+    fn items(&self) -> Option<&[Self]>
+        ensures { option_map (λ v. items_of (map seen v.now)) result
             ≡ as_array (seen self.now) };
 }
 
@@ -52,7 +52,7 @@ impl Fields for serde_json::Value {
         self.as_u64()
     }
 
-    fn items(&self) -> Option<&Vec<serde_json::Value>> {
-        self.as_array()
+    fn items(&self) -> Option<&[serde_json::Value]> {
+        Some(self.as_array()?.as_slice())
     }
 }

@@ -5,9 +5,10 @@ mod fault;
 mod fields;
 mod number;
 mod reader;
+mod scratch;
 mod value;
 
 pub use fault::TextFault;
 pub use fields::Fields;
-pub use json::Scratch;
+pub use scratch::Scratch;
 pub use value::Value;

@@ -7,6 +7,8 @@ ghost use Rattle.borrowed_json.specs.View.{view, items_view, members_view};
 
 use crate::number::number_of;
 use crate::{Scratch, TextFault, Value};
+use bumpalo::Bump;
+use bumpalo::collections::into_bump_slice;
 use json::{Reader, Token};
 use std::alloc::Global;
 
@@ -43,8 +45,9 @@ fn read_all<'a>(
     ensures ok { IfOk result (λ v. read_text text.now ≡ Some (view v)) }
     ensures not_json { result ≡ Err TextFault.NotJson → read_text text.now ≡ None }
 {
-    let mut reader = Reader::new(text, scratch)?;
-    let value = read(alloc, &mut reader, MAX_DEPTH)?;
+    let (tokens, room) = scratch.lend(alloc)?;
+    let mut reader = Reader::new(text, tokens)?;
+    let value = read(room, &mut reader, MAX_DEPTH)?;
     if reader.next().is_some() {
         return Err(TextFault::NotJson);
     }
@@ -54,7 +57,7 @@ fn read_all<'a>(
 /// The value that begins at the next token, with arrays and objects nested so deep at most.
 #[cycle(read)]
 #[inline(always)]
-fn read<'a>(alloc: Global, reader: &mut Reader<'a>, depth: usize) -> Result<Value<'a>, TextFault>
+fn read<'a>(room: &'a Bump, reader: &mut Reader<'a>, depth: usize) -> Result<Value<'a>, TextFault>
     ensures ok { IfOk result
         (λ v. converted of_json (value depth reader.old) ≡ Some (view v, reader.new)) }
     ensures shorter { OnOk result (length reader.new < length reader.old) }
@@ -75,13 +78,13 @@ fn read<'a>(alloc: Global, reader: &mut Reader<'a>, depth: usize) -> Result<Valu
             if depth == 0 {
                 return Err(TextFault::NotJson);
             }
-            Ok(Value::Array(read_items(alloc, reader, depth - 1)?))
+            Ok(Value::Array(read_items(room, reader, depth - 1)?))
         }
         Token::BeginObject => {
             if depth == 0 {
                 return Err(TextFault::NotJson);
             }
-            Ok(Value::Object(read_members(alloc, reader, depth - 1)?))
+            Ok(Value::Object(read_members(room, reader, depth - 1)?))
         }
     }
 }
@@ -90,46 +93,46 @@ fn read<'a>(alloc: Global, reader: &mut Reader<'a>, depth: usize) -> Result<Valu
 #[cycle(read)]
 #[inline(never)]
 fn read_items<'a>(
-    alloc: Global,
+    room: &'a Bump,
     reader: &mut Reader<'a>,
     depth: usize,
-) -> Result<Vec<Value<'a>>, TextFault>
+) -> Result<&'a [Value<'a>], TextFault>
     ensures ok { IfOk result
         (λ v. converted of_items (items (value depth) (length reader.old) reader.old)
-        ≡ Some (items_view v.items, reader.new)) }
+        ≡ Some (items_view v.now, reader.new)) }
     ensures shorter { OnOk result (length reader.new < length reader.old) }
     ensures err { result ≡ Err TextFault.NotJson
         → converted of_items (items (value depth) (length reader.old) reader.old) ≡ None }
 {
-    let mut found = Vec::new(alloc);
+    let mut found = Vec::new(room);
     'items: while !reader.take_end_array() {
-        let item = read(alloc, reader, depth)?;
+        let item = read(room, reader, depth)?;
         found.push(item)?;
     }
-    Ok(found)
+    Ok(into_bump_slice(found))
 }
 
 /// The members of an object that has begun, in the order of the text.
 #[cycle(read)]
 #[inline(never)]
 fn read_members<'a>(
-    alloc: Global,
+    room: &'a Bump,
     reader: &mut Reader<'a>,
     depth: usize,
-) -> Result<Vec<(&'a str, Value<'a>)>, TextFault>
+) -> Result<&'a [(&'a str, Value<'a>)], TextFault>
     ensures ok { IfOk result
         (λ v. converted (λ ms. of_members ms no_members)
         (members (value depth) (length reader.old) reader.old)
-        ≡ Some (members_view v.items, reader.new)) }
+        ≡ Some (members_view v.now, reader.new)) }
     ensures shorter { OnOk result (length reader.new < length reader.old) }
     ensures err { result ≡ Err TextFault.NotJson
         → converted (λ ms. of_members ms no_members)
         (members (value depth) (length reader.old) reader.old) ≡ None }
 {
-    let mut found = Vec::new(alloc);
+    let mut found = Vec::new(room);
     'members: while let Some(name) = reader.next_key()? {
-        let member = read(alloc, reader, depth)?;
+        let member = read(room, reader, depth)?;
         found.push((name, member))?;
     }
-    Ok(found)
+    Ok(into_bump_slice(found))
 }

@@ -6,16 +6,16 @@ ghost use Rattle.borrowed_json.specs.View.{view, members_view};
 use crate::Fields;
 use serde_json::Number;
 
-/// A JSON value whose texts are borrowed. An object keeps its members in the order of the text; of
-/// a key that comes twice the last counts.
-#[derive(Drop)]
+/// A JSON value whose texts and lists are borrowed. An object keeps its members in the order of the
+/// text; of a key that comes twice the last counts.
+#[derive(Clone, Copy)]
 pub enum Value<'a> {
     Null,
     Bool(bool),
     Number(Number),
     String(&'a str),
-    Array(Vec<Value<'a>>),
-    Object(Vec<(&'a str, Value<'a>)>),
+    Array(&'a [Value<'a>]),
+    Object(&'a [(&'a str, Value<'a>)]),
 }
 
 impl<'a> Fields for Value<'a> {
@@ -49,7 +49,7 @@ impl<'a> Fields for Value<'a> {
         }
     }
 
-    fn items(&self) -> Option<&Vec<Value<'a>>> {
+    fn items(&self) -> Option<&[Value<'a>]> {
         if let Value::Array(items) = self {
             Some(items)
         } else {
@@ -59,9 +59,9 @@ impl<'a> Fields for Value<'a> {
 }
 
 /// The value of the last member of this name.
-fn find<'v, 'a>(members: &'v Vec<(&'a str, Value<'a>)>, name: &str) -> Option<&'v Value<'a>>
+fn find<'a>(members: &'a [(&'a str, Value<'a>)], name: &str) -> Option<&'a Value<'a>>
     ensures { option_map (λ v. view v.now) result
-        ≡ get_member name.now (members_view members.now.items) }
+        ≡ get_member name.now (members_view members.now) }
 {
     let mut left = members.len();
     while left > 0 {

@@ -1,5 +1,5 @@
 //! Codes of loans.
-ghost use Rattle.std.specs.Prelude.{◌≡◌, ◌++◌, None, Some, OnOk, OnErr, MatchResult, string_bytes};
+ghost use Rattle.std.specs.Prelude.{◌≡◌, ◌++◌, None, Some, OnOk, OnErr, MatchResult, string_bytes, ◌≤◌, ◌<◌, length, MatchOption};
 ghost use Rattle.codes_core.specs.Grammar.{numbers_of};
 ghost use Rattle.codes_core.specs.Loan.{is_out, is_loan_shape, has_loan_number, loan_fault};
 
@@ -51,6 +51,15 @@ impl LoanCode {
         ensures code { loan_fault self.now ≡ None }
     {
         self.spelling.as_str()
+    }
+
+    /// The code's one spelling in room for K bytes, where it has no more.
+    pub fn shortened<const K: usize>(&self) -> Option<Spelling<K>>
+        requires { K ≤ 13 }
+        ensures { MatchOption result (K < length self.now)
+            (λ short. (short ≡ self.now) × (loan_fault self.now ≡ None)) }
+    {
+        self.spelling.shortened()
     }
 
     /// The bytes of the code's one spelling.

@@ -1,5 +1,5 @@
 //! Codes of places.
-ghost use Rattle.std.specs.Prelude.{◌≡◌, ◌++◌, ◌≤◌, not, ◌==◌, length, take_while, None, Some, OnOk, OnErr, MatchResult, string_bytes};
+ghost use Rattle.std.specs.Prelude.{◌≡◌, ◌++◌, ◌≤◌, not, ◌==◌, length, take_while, None, Some, OnOk, OnErr, MatchResult, string_bytes, ◌<◌, MatchOption};
 ghost use Rattle.std.specs.List.{list_all};
 ghost use Rattle.codes_core.specs.Place.{is_segment, is_segment_byte, is_place_shape, place_fault, lies_in, ends_segment};
 
@@ -52,6 +52,15 @@ impl PlaceCode {
         ensures code { place_fault self.now ≡ None }
     {
         self.spelling.as_str()
+    }
+
+    /// The code's one spelling in room for K bytes, where it has no more.
+    pub fn shortened<const K: usize>(&self) -> Option<Spelling<K>>
+        requires { K ≤ 35 }
+        ensures { MatchOption result (K < length self.now)
+            (λ short. (short ≡ self.now) × (place_fault self.now ≡ None)) }
+    {
+        self.spelling.shortened()
     }
 
     /// The bytes of the code's one spelling.

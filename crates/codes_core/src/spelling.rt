@@ -1,5 +1,5 @@
 //! A short text that is kept in place.
-ghost use Rattle.std.specs.Prelude.{◌≡◌, ◌++◌, ◌≤◌, ◌<◌, ◌-◌, length, replicate, OnOk, OnErr, string_bytes};
+ghost use Rattle.std.specs.Prelude.{◌≡◌, ◌++◌, ◌≤◌, ◌<◌, ◌-◌, length, replicate, OnOk, OnErr, MatchOption, string_bytes};
 ghost use Rattle.std.specs.Str.{bytes_eq, IsAscii};
 ghost use Rattle.std.specs.Hash as fed;
 ghost use Rattle.std.specs.Cmp.Rules.{comparing, hashing};
@@ -46,6 +46,22 @@ impl<const N: usize> Spelling<N> {
             text: padded(text),
             len: text.len() as u8,
         }
+    }
+
+    /// The text in less room, where it has no more than K bytes.
+    pub(crate) fn shortened<const K: usize>(&self) -> Option<Spelling<K>>
+        requires { K ≤ N }
+        ensures { MatchOption result (K < length self.now) (λ short. short ≡ self.now) }
+    {
+        if self.len as usize > K {
+            return None;
+        }
+        let mut text = [0u8; K];
+        text.copy_from_slice(&self.text[..K]);
+        Some(Spelling {
+            text,
+            len: self.len,
+        })
     }
 
     /// The text's bytes, without what pads them.

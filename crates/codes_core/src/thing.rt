@@ -1,5 +1,5 @@
 //! Codes of things.
-ghost use Rattle.std.specs.Prelude.{◌≡◌, ◌++◌, None, Some, OnOk, OnErr, MatchResult, string_bytes};
+ghost use Rattle.std.specs.Prelude.{◌≡◌, ◌++◌, None, Some, OnOk, OnErr, MatchResult, string_bytes, ◌≤◌, ◌<◌, length, MatchOption};
 ghost use Rattle.codes_core.specs.Grammar.{is_digits, is_right_number, numbers_of};
 ghost use Rattle.codes_core.specs.Thing.{thing_kind, without_letter, is_object_shape, has_object_numbers, is_thing_shape, has_thing_numbers, thing_fault};
 
@@ -63,6 +63,15 @@ impl ThingCode {
         ensures code { thing_fault self.now ≡ None }
     {
         self.spelling.as_str()
+    }
+
+    /// The code's one spelling in room for K bytes, where it has no more.
+    pub fn shortened<const K: usize>(&self) -> Option<Spelling<K>>
+        requires { K ≤ 27 }
+        ensures { MatchOption result (K < length self.now)
+            (λ short. (short ≡ self.now) × (thing_fault self.now ≡ None)) }
+    {
+        self.spelling.shortened()
     }
 
     /// The bytes of the code's one spelling.

@@ -90,39 +90,56 @@ pub struct NewLine {
     pub stage: LineStage,
 }
 
-/// Lines that an entry makes or changes; seen as their list.
+/// Lines that an entry makes or changes; seen as their list. One alone takes no memory.
 #[derive(Debug, Drop)]
 pub struct NewLines {
-    lines: Vec<NewLine>,
+    // the line, where there is one alone
+    one: Option<NewLine>,
+    // the lines, where there are several
+    several: Vec<NewLine>,
 }
 
 impl Model for NewLines {
-    ghost use Rattle.std.specs.Prelude.{List};
+    ghost use Rattle.std.specs.Prelude.{◌≡◌, ◌∷◌, [], List, IfSome};
+    ghost use Rattle.std.specs.Option.{option_map_or};
     ghost use Rattle.posting_core.specs.declared.entry.NewLine.{NewLine};
 
     ghost Value = { List NewLine };
 
-    ghost view = { λ l. l.lines.items };
+    ghost view = { λ l. option_map_or (λ line. line ∷ []) l.one l.several.items };
+
+    ghost invariant = { λ l. IfSome l.one (λ line. l.several.items ≡ []) };
 }
 
 impl NewLines {
-    ghost use Rattle.std.specs.Prelude.{◌≡◌, ◌++◌, ◌∷◌, [], OnOk, OnErr};
+    ghost use Rattle.std.specs.Prelude.{◌≡◌, ◌<◌, ◌++◌, ◌∷◌, [], length, OnOk, OnErr};
 
     /// None. Takes no memory.
     pub fn new(alloc: Global) -> NewLines
         ensures { result ≡ [] }
     {
         NewLines {
-            lines: Vec::new(alloc),
+            one: None,
+            several: Vec::new(alloc),
         }
     }
 
-    /// One more; after NoMemory they are unchanged.
+    /// One more; after NoMemory, which comes only where there is one already, they are unchanged.
     pub fn push(&mut self, line: NewLine) -> Result<(), NoMemory>
         ensures ok { OnOk result (self.new ≡ self.old ++ line ∷ []) }
         ensures err { OnErr result (self.new ≡ self.old) }
+        ensures gives_up { OnErr result (0 < length self.old) }
     {
-        self.lines.push(line)?;
+        if let Some(first) = self.one {
+            self.several.reserve(2)?;
+            self.several.push_reserved(first);
+            self.several.push_reserved(line);
+            self.one = None;
+        } else if self.several.is_empty() {
+            self.one = Some(line);
+        } else {
+            self.several.push(line)?;
+        }
         Ok(())
     }
 
@@ -130,7 +147,10 @@ impl NewLines {
     pub fn as_slice(&self) -> &[NewLine]
         ensures { result.now ≡ self.now }
     {
-        &self.lines
+        if self.one.is_some() {
+            return self.one.as_slice();
+        }
+        &self.several
     }
 }
 

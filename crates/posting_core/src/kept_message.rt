@@ -150,8 +150,8 @@ fn in_short(message: &Message) -> Option<Form>
 {
     match message {
         Message::Move { thing, place, day } => Some(Form::Move {
-            thing: short_thing(thing)?,
-            place: short_place(place)?,
+            thing: thing.shortened()?,
+            place: place.shortened()?,
             day: *day,
         }),
         Message::Pack {
@@ -159,12 +159,12 @@ fn in_short(message: &Message) -> Option<Form>
             container,
             day,
         } => Some(Form::Pack {
-            thing: short_thing(thing)?,
-            container: short_thing(container)?,
+            thing: thing.shortened()?,
+            container: container.shortened()?,
             day: *day,
         }),
         Message::Exit { thing, loan, day } => Some(Form::Exit {
-            thing: short_thing(thing)?,
+            thing: thing.shortened()?,
             loan: *loan,
             day: *day,
         }),
@@ -174,9 +174,9 @@ fn in_short(message: &Message) -> Option<Form>
             place,
             day,
         } => Some(Form::Return {
-            thing: short_thing(thing)?,
-            loan: short_loan(loan)?,
-            place: short_place(place)?,
+            thing: thing.shortened()?,
+            loan: loan.shortened()?,
+            place: place.shortened()?,
             day: *day,
         }),
         Message::Receive {
@@ -185,49 +185,13 @@ fn in_short(message: &Message) -> Option<Form>
             place,
             day,
         } => Some(Form::Receive {
-            thing: short_thing(thing)?,
-            loan: short_loan(loan)?,
-            place: short_place(place)?,
+            thing: thing.shortened()?,
+            loan: loan.shortened()?,
+            place: place.shortened()?,
             day: *day,
         }),
         _ => None,
     }
-}
-
-/// The spelling of a thing's code of N bytes at most.
-fn short_thing<const N: usize>(code: &ThingCode) -> Option<Spelling<N>>
-    requires { N < 256 }
-    ensures { IfSome result (λ short. (short ≡ code.now) × (thing_fault code.now ≡ None)) }
-{
-    let bytes = code.as_bytes();
-    if bytes.len() > N {
-        return None;
-    }
-    Some(Spelling::new(bytes))
-}
-
-/// The spelling of a loan's code of N bytes at most.
-fn short_loan<const N: usize>(code: &LoanCode) -> Option<Spelling<N>>
-    requires { N < 256 }
-    ensures { IfSome result (λ short. (short ≡ code.now) × (loan_fault code.now ≡ None)) }
-{
-    let bytes = code.as_bytes();
-    if bytes.len() > N {
-        return None;
-    }
-    Some(Spelling::new(bytes))
-}
-
-/// The spelling of a place's code of N bytes at most.
-fn short_place<const N: usize>(code: &PlaceCode) -> Option<Spelling<N>>
-    requires { N < 256 }
-    ensures { IfSome result (λ short. (short ≡ code.now) × (place_fault code.now ≡ None)) }
-{
-    let bytes = code.as_bytes();
-    if bytes.len() > N {
-        return None;
-    }
-    Some(Spelling::new(bytes))
 }
 
 /// The thing's code that is spelled so.
