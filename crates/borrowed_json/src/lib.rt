@@ -10,5 +10,7 @@ mod value;
 
 pub use fault::TextFault;
 pub use fields::Fields;
+/// What a reader of tokens needs; it can go from one thread to another.
+pub use json::Scratch as TokenScratch;
 pub use scratch::Scratch;
 pub use value::Value;

@@ -6,7 +6,7 @@ ghost use Rattle.serde_json.specs.Read.{of_json, of_items, of_members, converted
 ghost use Rattle.borrowed_json.specs.View.{view, items_view, members_view};
 
 use crate::number::number_of;
-use crate::{Scratch, TextFault, Value};
+use crate::{Scratch, TextFault, TokenScratch, Value};
 use bumpalo::Bump;
 use bumpalo::collections::into_bump_slice;
 use json::{Reader, Token};
@@ -29,8 +29,22 @@ impl<'a> Value<'a> {
         ensures not_json { result ≡ Err TextFault.NotJson → IsUtf8 bytes.now
             → read_text bytes.now ≡ None }
     {
+        let (tokens, lists) = scratch.lend(alloc)?;
+        Value::in_lists(bytes, tokens, lists)
+    }
+
+    /// The same, with the lists of arrays and objects in this arena.
+    pub fn in_lists(
+        bytes: &'a [u8],
+        tokens: &'a mut TokenScratch,
+        lists: &'a Bump,
+    ) -> Result<Value<'a>, TextFault>
+        ensures ok { IfOk result (λ v. IsUtf8 bytes.now × (read_text bytes.now ≡ Some (view v))) }
+        ensures not_json { result ≡ Err TextFault.NotJson → IsUtf8 bytes.now
+            → read_text bytes.now ≡ None }
+    {
         match str::from_utf8(bytes) {
-            Ok(text) => read_all(alloc, text, scratch),
+            Ok(text) => read_all(text, tokens, lists),
             Err(_) => Err(TextFault::NotJson),
         }
     }
@@ -38,16 +52,15 @@ impl<'a> Value<'a> {
 
 /// The value that a text spells.
 fn read_all<'a>(
-    alloc: Global,
     text: &'a str,
-    scratch: &'a mut Scratch,
+    tokens: &'a mut TokenScratch,
+    lists: &'a Bump,
 ) -> Result<Value<'a>, TextFault>
     ensures ok { IfOk result (λ v. read_text text.now ≡ Some (view v)) }
     ensures not_json { result ≡ Err TextFault.NotJson → read_text text.now ≡ None }
 {
-    let (tokens, room) = scratch.lend(alloc)?;
     let mut reader = Reader::new(text, tokens)?;
-    let value = read(room, &mut reader, MAX_DEPTH)?;
+    let value = read(lists, &mut reader, MAX_DEPTH)?;
     if reader.next().is_some() {
         return Err(TextFault::NotJson);
     }
@@ -57,7 +70,7 @@ fn read_all<'a>(
 /// The value that begins at the next token, with arrays and objects nested so deep at most.
 #[cycle(read)]
 #[inline(always)]
-fn read<'a>(room: &'a Bump, reader: &mut Reader<'a>, depth: usize) -> Result<Value<'a>, TextFault>
+fn read<'a>(lists: &'a Bump, reader: &mut Reader<'a>, depth: usize) -> Result<Value<'a>, TextFault>
     ensures ok { IfOk result
         (λ v. converted of_json (value depth reader.old) ≡ Some (view v, reader.new)) }
     ensures shorter { OnOk result (length reader.new < length reader.old) }
@@ -78,13 +91,13 @@ fn read<'a>(room: &'a Bump, reader: &mut Reader<'a>, depth: usize) -> Result<Val
             if depth == 0 {
                 return Err(TextFault::NotJson);
             }
-            Ok(Value::Array(read_items(room, reader, depth - 1)?))
+            Ok(Value::Array(read_items(lists, reader, depth - 1)?))
         }
         Token::BeginObject => {
             if depth == 0 {
                 return Err(TextFault::NotJson);
             }
-            Ok(Value::Object(read_members(room, reader, depth - 1)?))
+            Ok(Value::Object(read_members(lists, reader, depth - 1)?))
         }
     }
 }
@@ -93,7 +106,7 @@ fn read<'a>(room: &'a Bump, reader: &mut Reader<'a>, depth: usize) -> Result<Val
 #[cycle(read)]
 #[inline(never)]
 fn read_items<'a>(
-    room: &'a Bump,
+    lists: &'a Bump,
     reader: &mut Reader<'a>,
     depth: usize,
 ) -> Result<&'a [Value<'a>], TextFault>
@@ -104,9 +117,9 @@ fn read_items<'a>(
     ensures err { result ≡ Err TextFault.NotJson
         → converted of_items (items (value depth) (length reader.old) reader.old) ≡ None }
 {
-    let mut found = Vec::new(room);
+    let mut found = Vec::new(lists);
     'items: while !reader.take_end_array() {
-        let item = read(room, reader, depth)?;
+        let item = read(lists, reader, depth)?;
         found.push(item)?;
     }
     Ok(into_bump_slice(found))
@@ -116,7 +129,7 @@ fn read_items<'a>(
 #[cycle(read)]
 #[inline(never)]
 fn read_members<'a>(
-    room: &'a Bump,
+    lists: &'a Bump,
     reader: &mut Reader<'a>,
     depth: usize,
 ) -> Result<&'a [(&'a str, Value<'a>)], TextFault>
@@ -129,9 +142,9 @@ fn read_members<'a>(
         → converted (λ ms. of_members ms no_members)
         (members (value depth) (length reader.old) reader.old) ≡ None }
 {
-    let mut found = Vec::new(room);
+    let mut found = Vec::new(lists);
     'members: while let Some(name) = reader.next_key()? {
-        let member = read(room, reader, depth)?;
+        let member = read(lists, reader, depth)?;
         found.push((name, member))?;
     }
     Ok(into_bump_slice(found))

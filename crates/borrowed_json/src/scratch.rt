@@ -1,7 +1,7 @@
 //! The memory in which texts are read.
 ghost use Rattle.std.specs.Prelude.{◌≡◌, IfErr};
 
-use crate::TextFault;
+use crate::{TextFault, TokenScratch};
 use bumpalo::Bump;
 use std::alloc::Global;
 
@@ -12,7 +12,7 @@ const ROOM: usize = 4096;
 /// emptied once more than half of it is used.
 #[derive(Drop)]
 pub struct Scratch {
-    tokens: json::Scratch,
+    tokens: TokenScratch,
     lists: Bump,
 }
 
@@ -20,13 +20,13 @@ impl Scratch {
     /// Takes no memory.
     pub fn new(alloc: Global) -> Scratch {
         Scratch {
-            tokens: json::Scratch::new(alloc),
+            tokens: TokenScratch::new(alloc),
             lists: Bump::new(alloc),
         }
     }
 
-    /// What a reader needs, and room for the lists of its text. The fault: NoMemory.
-    pub(crate) fn lend(&mut self, alloc: Global) -> Result<(&mut json::Scratch, &Bump), TextFault>
+    /// What a reader of tokens needs, and room for the lists of a text. The fault: NoMemory.
+    pub(crate) fn lend(&mut self, alloc: Global) -> Result<(&mut TokenScratch, &Bump), TextFault>
         ensures { IfErr result (λ fault. fault ≡ TextFault.NoMemory) }
     {
         let all = self.lists.allocated_bytes();

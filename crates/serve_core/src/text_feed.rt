@@ -5,7 +5,7 @@ ghost use Rattle.serve_core.specs.declared.item.Item.{Item};
 ghost use Rattle.serve_core.specs.Feeds.{request_item, line_items, text_items, items_left, IsPlaceIn};
 
 use crate::{Feed, Item, LineFault};
-use borrowed_json::Scratch;
+use borrowed_json::TokenScratch;
 use codes_core::NoMemory;
 use hub_core::{LONGEST_LINE, Request, feed_at, read_request_with, without_return};
 use register_store::ReadFault;
@@ -25,7 +25,7 @@ pub struct TextFeed {
     bytes: Vec<u8>,
     place: Place,
     // serves one line after the other
-    scratch: Scratch,
+    scratch: TokenScratch,
 }
 
 impl Model for TextFeed {
@@ -47,7 +47,7 @@ impl TextFeed {
     pub fn new(bytes: Vec<u8>) -> TextFeed
         ensures { result ≡ text_items bytes.items }
     {
-        let scratch = Scratch::new(*bytes.allocator());
+        let scratch = TokenScratch::new(*bytes.allocator());
         TextFeed {
             bytes,
             place: Place { at: 0, number: 1 },
@@ -73,7 +73,7 @@ impl Feed for TextFeed {
 /// After NoMemory the same items are left.
 fn next_item(
     alloc: Global,
-    scratch: &mut Scratch,
+    scratch: &mut TokenScratch,
     bytes: &[u8],
     place: &mut Place,
 ) -> Result<Option<Item>, NoMemory>
@@ -115,7 +115,7 @@ fn line_at(bytes: &[u8], at: usize) -> &[u8]
 /// The item of the `number`-th line; an empty line has none.
 fn item_of(
     alloc: Global,
-    scratch: &mut Scratch,
+    scratch: &mut TokenScratch,
     number: u64,
     line: &[u8],
 ) -> Result<Option<Item>, NoMemory>

@@ -4,7 +4,8 @@ ghost use Rattle.serde_json.specs.Find.{get};
 ghost use Rattle.register_store.specs.Spelling.{key_name};
 ghost use Rattle.hub_core.specs.Requests.{number_from, message_from, has_growing_message, request_of, object_of, request_in, line_of, line_in};
 
-use borrowed_json::{Fields, Scratch, TextFault, Value};
+use borrowed_json::{Fields, Scratch, TextFault, TokenScratch, Value};
+use bumpalo::Bump;
 use codes_core::ThingCode;
 use nest_core::{Setup, StationNo};
 use posting_core::Message;
@@ -62,19 +63,19 @@ pub fn read_request(alloc: Global, bytes: &[u8]) -> Result<Request, ReadFault>
     ensures exact { MatchResult result (λ request. request_in bytes.now ≡ Ok request)
         (λ fault. fault ≢ ReadFault.NoMemory → request_in bytes.now ≡ Err fault) }
 {
-    read_request_with(alloc, &mut Scratch::new(alloc), bytes)
+    read_request_with(alloc, &mut TokenScratch::new(alloc), bytes)
 }
 
-/// The same, with a scratch that serves one line after the other.
+/// The same, with a scratch that serves one line after the other, and can go to another thread.
 pub fn read_request_with(
     alloc: Global,
-    scratch: &mut Scratch,
+    scratch: &mut TokenScratch,
     bytes: &[u8],
 ) -> Result<Request, ReadFault>
     ensures exact { MatchResult result (λ request. request_in bytes.now ≡ Ok request)
         (λ fault. fault ≢ ReadFault.NoMemory → request_in bytes.now ≡ Err fault) }
 {
-    match Value::from_slice(alloc, bytes, scratch) {
+    match Value::in_lists(bytes, scratch, &Bump::new(alloc)) {
         Ok(value) => object_of(alloc, &value),
         Err(TextFault::NotJson) => Err(ReadFault::NotJson),
         Err(TextFault::NoMemory) => Err(ReadFault::NoMemory),
