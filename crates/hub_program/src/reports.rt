@@ -157,7 +157,8 @@ pub fn history<W: Write>(
     let Some(thing) = setup.thing(code) else {
         return Ok(());
     };
-    for spot in ledger.spots(thing).iter() {
+    let spots = ledger.spots(sheet.alloc, thing)?;
+    for spot in spots.iter() {
         sheet.put(&spot_row(sheet.alloc, setup, spot)?)?;
     }
     Ok(())

@@ -22,7 +22,7 @@ pub mod Placed
 pub mod Placements
 pub mod Posted
 pub mod Refused
-pub mod Rooms
+pub mod SpotRows
 pub mod SpotsAfter
 pub mod Spotted
 pub mod Turns
@@ -33,4 +33,5 @@ mod WorkedLoansIn
 mod WorkedLoansOut
 mod WorkedPacks
 pub mod WorkedRows
+mod WorkedSpots
 pub mod Written

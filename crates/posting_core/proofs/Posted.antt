@@ -3,13 +3,14 @@ use Rattle.std.specs.Prelude.{ℕ, ◌≡◌, ◌+◌, ◌<◌, ◌≤◌, Bool,
 use Rattle.std.specs.Borrow.{Bor}
 use Rattle.std.specs.List.{find}
 use Rattle.std.specs.Str.{bytes_eq}
-use Rattle.std.specs.Option.{option_map, option_map_or, option_to_list}
+use Rattle.std.specs.Option.{option_map, option_to_list}
 use Rattle.std.specs.declared.alloc.Global.{Global}
-use Rattle.std.proofs.Common.{ap, ◌∙◌, sym, subst, arith, get_or}
+use Rattle.std.proofs.Common.{ap, ◌∙◌, sym, subst, arith}
 use Rattle.std.proofs.lemmas.Bool.{false≢true}
 use Rattle.std.proofs.lemmas.Result.{on_err_weaker}
 use Rattle.std.proofs.lemmas.List.{append-nil, length-replicate, length-map}
-use Rattle.std.proofs.lemmas.Option.{IfSome_then, slice_get_read, slice_get-map}
+use Rattle.std.proofs.lemmas.List.Elements.{All-nil}
+use Rattle.std.proofs.lemmas.Option.{IfSome_then}
 use Rattle.nest_core.specs.declared.put.Put.{Put}
 use Rattle.codes_core.specs.declared.fault.NoMemory.{NoMemory}
 use Rattle.nest_core.specs.Museum.{Museum}
@@ -30,16 +31,15 @@ use Rattle.posting_core.specs.Lawful.{Follows, IsLawful}
 use Rattle.posting_core.specs.Book.{Book, chain_in, spots_in, loans_in, objects_of_loan, place_after, new_spot, new_spots, new_lines, changes_of}
 use Rattle.posting_core.specs.Agreements.{Agreement, agreement_in, agreement_by, agreements, agreement, is_agreed}
 use Rattle.posting_core.specs.LoanRows.{LoanRow, loan_row, loan_rows, rows_with, MayAgree}
-use Rattle.posting_core.specs.Rows.{row_of, rows_after, lists, AreAscending, IsKept}
+use Rattle.posting_core.specs.Rows.{row_of, rows_after, IsKept}
 use Rattle.posting_core.proofs.AppliedRows.{applied_is}
 use Rattle.posting_core.proofs.Agreed.{IsSound, agree_applied}
-use Rattle.posting_core.proofs.Bounds.{short}
+use Rattle.posting_core.proofs.Bounds.{short, spots_within}
 use Rattle.posting_core.proofs.Lined.{rows_after_entry}
 use Rattle.posting_core.proofs.LoanAnswers.{IsRowOf, row_is, row_missing, code_at, objects_at}
 use Rattle.posting_core.proofs.Placed.{put_allowed, may_go, chain_below}
-use Rattle.posting_core.proofs.Rooms.{rows_length}
 use Rattle.posting_core.proofs.Spotted.{carried_below}
-use Rattle.posting_core.proofs.Written.{rows_written, chosen_spot, own_spot, same_place, own_ascending}
+use Rattle.posting_core.proofs.Written.{rows_written, chosen_spot, own_spot, same_place, rows_length, own_within}
 
 -- the book that a ledger's fields make
 abbrev pub book_of : Museum → List Entry → Nested → Book
@@ -84,13 +84,30 @@ module _ {S : Museum} {P : List Entry} {N : Nested} {R : List (List Spot)} {L : 
   chain_some x (Ok cs) from = tt
   chain_some x (Err fault) from = subst (λ (C : Book). 0 < length (chain_in C x)) same (subst (λ n. 0 < length (chain n (puts S P) x)) kept.things (from (puts S P) kept.nest))
 
-  -- a thing's row has its spots
-  pub spots_kept : (rows : List (Vec Spot Global)) (x : ℕ) (row : Vec Spot Global) → R ≡ lists rows → x < length B.museum.things → row ≡ get_or rows x row → row.items ≡ spots_in B x
-  spots_kept rows x row R_is within got =
+  -- each thing has a row
+  pub row_kept : (x : ℕ) → x < length B.museum.things → x < length R
+  row_kept x within =
       let less : x < length S.things = subst (λ (C : Book). x < length C.museum.things) (sym same) within in
-      let at : slice_get rows x ≡ Some row = slice_get_read rows (length R) x row (ap length R_is ∙ length-map rows (λ r. r.items)) (subst (λ n. x < n) (sym kept.rowed) less) got in
-      let there : row_of R x ≡ row.items = ap (λ rs. row_of rs x) R_is ∙ ap (λ o. option_map_or (λ spots. spots) o []) (slice_get-map (λ (r : Vec Spot Global). r.items) rows x ∙ ap (option_map (λ r. r.items)) at) in
-      subst (λ (C : Book). row.items ≡ spots_in C x) same (sym there ∙ kept.row x less)
+      omega (arith, kept.rowed)
+
+  -- of its spots
+  pub spots_kept : (x : ℕ) → x < length B.museum.things → row_of R x ≡ spots_in B x
+  spots_kept x within =
+      subst (λ (C : Book). row_of R x ≡ spots_in C x) same (kept.row x (subst (λ (C : Book). x < length C.museum.things) (sym same) within))
+
+  -- what is found of them is what looking back gives
+  pub spots_told : (x : ℕ) (r : Result (Vec Spot Global) NoMemory) → x < length B.museum.things → IfOk r (λ found. found.items ≡ row_of R x) → IfOk r (λ found. found.items ≡ spots_in B x)
+  spots_told x (Ok found) within is = is ∙ spots_kept x within
+  spots_told x (Err fault) within is = tt
+
+  -- they are at places of the setup
+  pub spots_there : (x : ℕ) (r : Result (Vec Spot Global) NoMemory) → x < length B.museum.things → IfOk r (λ found. found.items ≡ row_of R x) → IfOk r (λ found. All (λ s. s.place < length B.museum.places) found.items)
+  spots_there x (Ok found) within is = subst (All (λ s. s.place < length B.museum.places)) (sym (is ∙ spots_kept x within)) (spots_within B.museum B.depth B.posted x lawful_kept)
+  spots_there x (Err fault) within is = tt
+
+  -- where they aren't found, the thing has some
+  pub spots_some : (x : ℕ) (r : Result (Vec Spot Global) NoMemory) → x < length B.museum.things → OnErr r (0 < length (row_of R x)) → OnErr r (0 < length (spots_in B x))
+  spots_some x r within gives = on_err_weaker r (λ some. subst (λ row. 0 < length row) (spots_kept x within) some) gives
 
   -- what is kept of a loan is its row by looking back
   pub loan_kept : (loan : List ℕ) (r : Option (Bor LoanRow)) → option_copied r ≡ find (λ row. bytes_eq loan row.loan) L →
@@ -137,10 +154,10 @@ spots_after_entry S P N R L e kept x less =
       | false ↦ kept.row x less ∙ sym (ap (λ (o : Option Spot). spots S P x ++ option_to_list o) (same_place number (place_at S P x) day) ∙ append-nil (spots S P x))
     ]
 
-news_ascending : (S : Museum) (P : List Entry) (v : Verdict) (m : Message) → AreAscending 0 (length S.things) (news_under S P v m)
-news_ascending S P v m = elim (is_applied v) as (λ b. AreAscending 0 (length S.things) (if b then new_spots S P m else [])) [
-  | true ↦ own_ascending (spot_for S P m) 0 0 (length S.things) (length S.things) (λ y s h. own_spot (length P + 1) (length (spots S P y)) (place_at S P y) (place_after S P m y) (day_of m) y s h) (omega arith) (omega arith)
-  | false ↦ tt
+news_within : (S : Museum) (P : List Entry) (v : Verdict) (m : Message) → All (λ s. s.thing < length S.things) (news_under S P v m)
+news_within S P v m = elim (is_applied v) as (λ b. All (λ s. s.thing < length S.things) (if b then new_spots S P m else [])) [
+  | true ↦ own_within (spot_for S P m) 0 (length S.things) (length S.things) (λ y s h. own_spot (length P + 1) (length (spots S P y)) (place_at S P y) (place_after S P m y) (day_of m) y s h) (omega arith)
+  | false ↦ All-nil (λ (s : NewSpot). s.thing < length S.things)
 ]
 
 -- a message that agrees a loan puts nothing anywhere
@@ -179,8 +196,9 @@ planned {S} {P} {N} {B} {e} {changes} kept same follows plan same_carried same_s
 
 -- what follows of it
 module _ {S : Museum} {P : List Entry} {N : Nested} {R : List (List Spot)} {L : List LoanRow} {e : Entry} {put : Option Put} {along : List ℕ} {news : List NewSpot} {lines : List NewLine} (is : IsPlanned S P N R L e put along news lines) where
-  pub planned_ascending : (n : ℕ) → n ≡ length R → AreAscending 0 n news
-  planned_ascending n sized = rw (is.news_is, sized, is.kept.rowed) (news_ascending S P e.verdict e.message)
+  -- the new spots are of things that have rows
+  pub planned_within : (R' : List (List Spot)) → R' ≡ R → All (λ s. s.thing < length R') news
+  planned_within R' r = rw (is.news_is, r, is.kept.rowed) (news_within S P e.verdict e.message)
 
   -- an applied agreement can be kept
   pub planned_agree : IfSome (agreement_by e.verdict e.message) (MayAgree S L)

@@ -1,18 +1,19 @@
 -- What writing the new spots of an entry leaves in the rows.
-use Rattle.std.specs.Prelude.{ℕ, ℤ, ◌≡◌, ◌+◌, ◌<◌, ◌≤◌, ◌==◌, true, List, [], ◌∷◌, ◌++◌, Option, None, Some, length, zero, suc, refl, slice_set}
+use Rattle.std.specs.Prelude.{ℕ, ℤ, ◌≡◌, ◌+◌, ◌<◌, ◌≤◌, ◌==◌, true, List, [], ◌∷◌, ◌++◌, Option, None, Some, length, zero, suc, refl, slice_set, All}
 use Rattle.std.specs.List.{filter_map, range_with_len, cons_option}
 use Rattle.std.specs.Option.{option_map, option_map_or, option_to_list}
 use Rattle.std.proofs.Common.{ap, ◌∙◌, sym, subst, arith, inl, inr, length-set}
 use Rattle.std.proofs.lemmas.Bool.{cases_eq}
 use Rattle.std.proofs.lemmas.Bool.Decides.{nat_tests}
 use Rattle.std.proofs.lemmas.List.{append-nil}
+use Rattle.std.proofs.lemmas.List.Elements.{All-nil, All-cons}
 use Rattle.std.proofs.lemmas.Option.{none-some}
 use Rattle.nest_core.proofs.Writes.{get_set_same, get_set_other}
 use Rattle.posting_core.specs.declared.entry.Spot.{Spot}
 use Rattle.posting_core.specs.declared.entry.NewSpot.{NewSpot}
 use Rattle.posting_core.specs.History.{spot_from}
 use Rattle.posting_core.specs.Book.{new_spot}
-use Rattle.posting_core.specs.Rows.{row_of, rows_after, AreAscending}
+use Rattle.posting_core.specs.Rows.{row_of, rows_after}
 
 -- each spot of f is of its own thing
 abbrev pub IsOwn : (ℕ → Option NewSpot) → Type 0
@@ -32,6 +33,11 @@ rows_before R f a (suc n) x own less = elim (f a) as (λ o. f a ≡ o → row_of
   | Some s ↦ λ e. let t : s.thing ≡ a = own a s e in
       rows_before (slice_set R s.thing (row_of R s.thing ++ s.spot ∷ [])) f (a + 1) n x own (omega arith) ∙ row_other R s.thing x (row_of R s.thing ++ s.spot ∷ []) (λ h. absurd (omega arith))
 ] refl
+
+-- as many rows stand after what is written
+pub rows_length : (R : List (List Spot)) (ss : List NewSpot) → length (rows_after R ss) ≡ length R
+rows_length R [] = refl
+rows_length R (s ∷ ss) = rows_length (slice_set R s.thing (row_of R s.thing ++ s.spot ∷ [])) ss ∙ length-set R s.thing (row_of R s.thing ++ s.spot ∷ [])
 
 abbrev spot_at : (ℕ → Option NewSpot) → ℕ → List Spot
 spot_at f x = option_to_list (option_map (λ s. s.spot) (f x))
@@ -70,10 +76,11 @@ same_place number None day = refl
 same_place number (Some p) None = refl
 same_place number (Some p) (Some day) = let same : (p == p) ≡ true = grind (arith, nat_tests) in rw same refl
 
--- spots of a range of things ascend, and are of things in it
-pub own_ascending : (f : ℕ → Option NewSpot) (from a n things : ℕ) → IsOwn f → from ≤ a → a + n ≤ things → AreAscending from things (filter_map f (range_with_len a n))
-own_ascending f from a zero things own low high = tt
-own_ascending f from a (suc n) things own low high = elim (f a) as (λ o. f a ≡ o → AreAscending from things (cons_option o (filter_map f (range_with_len (a + 1) n)))) [
-  | None ↦ λ e. own_ascending f from (a + 1) n things own (omega arith) (omega arith)
-  | Some s ↦ λ e. let t : s.thing ≡ a = own a s e in (omega arith, omega arith, own_ascending f (s.thing + 1) (a + 1) n things own (omega arith) (omega arith))
+-- spots of a range of things are of things in it
+pub own_within : (f : ℕ → Option NewSpot) (a n things : ℕ) → IsOwn f → a + n ≤ things → All (λ s. s.thing < things) (filter_map f (range_with_len a n))
+own_within f a zero things own high = All-nil (λ (s : NewSpot). s.thing < things)
+own_within f a (suc n) things own high = elim (f a) as (λ o. f a ≡ o → All (λ s. s.thing < things) (cons_option o (filter_map f (range_with_len (a + 1) n)))) [
+  | None ↦ λ e. own_within f (a + 1) n things own (omega arith)
+  | Some s ↦ λ e. let t : s.thing ≡ a = own a s e in
+      All-cons (λ (r : NewSpot). r.thing < things) s (filter_map f (range_with_len (a + 1) n)) (omega arith) (own_within f (a + 1) n things own (omega arith))
 ] refl

@@ -3,6 +3,7 @@ pub mod Messages
 pub mod Agreements
 pub mod History
 pub mod Loans
+pub mod SpotRows
 pub mod StageNumbers
 pub mod Verdicts
 pub mod Lawful

@@ -1,7 +1,6 @@
 -- What a ledger's fields keep of its entries: the nest of what they put where, each thing's spots by number, and the loans.
-use Rattle.std.specs.Prelude.{ℕ, ◌≡◌, ◌+◌, ◌<◌, ◌≤◌, ◌++◌, List, [], ◌∷◌, Option, Some, length, map, slice_get, slice_set, Vec, vec_len, vec_capacity, IfSome}
+use Rattle.std.specs.Prelude.{ℕ, ◌≡◌, ◌<◌, ◌++◌, List, [], ◌∷◌, Option, Some, length, slice_get, slice_set}
 use Rattle.std.specs.Option.{option_map_or}
-use Rattle.std.specs.declared.alloc.Global.{Global}
 use Rattle.nest_core.specs.declared.put.Target.{Target}
 use Rattle.nest_core.specs.declared.put.Target.TheVariants.{At, Within}
 use Rattle.nest_core.specs.Museum.{Museum}
@@ -27,27 +26,6 @@ abbrev pub rows_after : List (List Spot) → List NewSpot → List (List Spot)
 rows_after rows [] = rows
 rows_after rows (s ∷ ss) =
     rows_after (slice_set rows s.thing (row_of rows s.thing ++ s.spot ∷ [])) ss
-
--- the rows that are kept, as lists
-abbrev pub lists : List (Vec Spot Global) → List (List Spot)
-lists rows = map (λ row. row.items) rows
-
--- new spots of things in ascending order, each at most once, from this number on and below so many
-abbrev pub AreAscending : ℕ → ℕ → List NewSpot → Type 0
-AreAscending from things [] = Unit {0}
-AreAscending from things (s ∷ ss) =
-    (from ≤ s.thing) × (s.thing < things) × AreAscending (s.thing + 1) things ss
-
--- the thing's row has room for one more spot
-abbrev pub HasRoom : List (Vec Spot Global) → ℕ → Type 0
-HasRoom rows x = IfSome (slice_get rows x) (λ row. vec_len row + 1 ≤ vec_capacity row)
-
--- each new spot can be written: its thing has a row with room, and none stands twice
-abbrev pub AreReady : List (Vec Spot Global) → ℕ → List NewSpot → Type 0
-AreReady rows from [] = Unit {0}
-AreReady rows from (s ∷ ss) =
-    (from ≤ s.thing) × (s.thing < length rows) × HasRoom rows s.thing
-    × AreReady rows (s.thing + 1) ss
 
 -- what the fields keep
 pub record IsKept (S : Museum) (P : List Entry) (N : Nested) (rows : List (List Spot))

@@ -1,5 +1,5 @@
 //! The ledger: what was posted, and what looking back through it gives.
-ghost use Rattle.std.specs.Prelude.{◌≡◌, ◌<◌, ◌≤◌, ◌∷◌, [], length, reverse, replicate, All, IfOk, OnOk, OnErr, IfSome, ℕ, Some, slice_get, is_some, true};
+ghost use Rattle.std.specs.Prelude.{◌≡◌, ◌<◌, ◌≤◌, ◌∷◌, [], length, reverse, All, IfOk, OnOk, OnErr, IfSome, ℕ, Some, slice_get, is_some, true};
 ghost use Rattle.std.specs.Option.{option_map};
 ghost use Rattle.nest_core.specs.Puts.{is_among};
 ghost use Rattle.posting_core.specs.Lawful.{Follows, IsLawful};
@@ -9,7 +9,6 @@ ghost use Rattle.posting_core.specs.Agreements.{agreement, is_agreed, is_authori
 ghost use Rattle.posting_core.specs.Loans.{line, loan_state};
 ghost use Rattle.posting_core.specs.LoanRows.{line_of, state_of};
 ghost use Rattle.posting_core.specs.Book.{place_in, chain_in, spots_in, verdict_in, changes_of, asks_lines, asks_memory, loans_in, objects_of_loan, line_in, state_in, last_day_in};
-ghost use Rattle.posting_core.specs.Rows.{lists};
 
 mod crossings;
 mod judged;
@@ -22,7 +21,7 @@ use crate::kept_loan::KeptLoan;
 use crate::kept_loans::KeptLoans;
 use crate::placing::place;
 use crate::recording::record;
-use crate::spot_rows::{make_room, push_spots};
+use crate::spot_rows::SpotRows;
 use crate::{
     Changes, Entry, EntryNo, LineStage, LoanState, MOST_ENTRIES, Message, PostedEntry, Spot,
     Verdict,
@@ -38,14 +37,14 @@ pub struct Ledger {
     setup: Setup,
     posted: Vec<PostedEntry>,
     nest: Nest,
-    spots: Vec<Vec<Spot>>,
+    spots: SpotRows,
     loans: KeptLoans,
 }
 
 impl Model for Ledger {
     ghost use Rattle.std.specs.Prelude.{reverse};
     ghost use Rattle.posting_core.specs.Book.{Book};
-    ghost use Rattle.posting_core.specs.Rows.{IsKept, lists};
+    ghost use Rattle.posting_core.specs.Rows.{IsKept};
 
     ghost Value = { Book };
 
@@ -53,7 +52,7 @@ impl Model for Ledger {
         record { museum = a.setup; depth = a.nest.depth; posted = reverse a.posted.items } };
 
     ghost invariant = { λ a.
-        IsKept a.setup (reverse a.posted.items) a.nest (lists a.spots.items) a.loans };
+        IsKept a.setup (reverse a.posted.items) a.nest a.spots.rows a.loans };
 }
 
 /// Written out, so that whoever drops a ledger calls it: a derived drop would stand whole at each of their ways out.
@@ -82,7 +81,7 @@ impl Ledger {
             (λ ledger. ledger ≡ record { museum = setup; depth = depth; posted = [] }) }
     {
         let nest = Nest::new(alloc, &setup, depth)?;
-        let spots = no_spots(alloc, setup.things())?;
+        let spots = SpotRows::new(alloc, setup.things())?;
         Ok(Ledger {
             setup,
             posted: Vec::new(alloc),
@@ -145,15 +144,17 @@ impl Ledger {
     }
 
     /// A thing's spots, oldest first: the last is its current place, the others are its former ones; each is at a
-    /// place of the setup. The thing's number is below the setup's count.
-    pub fn spots(&self, thing: ThingNo) -> &[Spot]
+    /// place of the setup. Else NoMemory, which comes only where it has one. The thing's number is below the setup's count.
+    pub fn spots(&self, alloc: Global, thing: ThingNo) -> Result<Vec<Spot>, NoMemory>
         requires { thing < length self.now.museum.things }
-        ensures spots { result.now ≡ spots_in self.now thing }
-        ensures within { All (λ s. s.place < length self.now.museum.places) result.now }
-        ensures few { length result.now ≤ MOST_ENTRIES }
+        ensures spots { IfOk result (λ spots. spots.items ≡ spots_in self.now thing) }
+        ensures within { IfOk result
+            (λ spots. All (λ s. s.place < length self.now.museum.places) spots.items) }
+        ensures few { IfOk result (λ spots. length spots.items ≤ MOST_ENTRIES) }
+        ensures err { OnErr result (0 < length (spots_in self.now thing)) }
     {
         self.setup.is_museum();
-        &self.spots[thing as usize]
+        self.spots.of(alloc, thing)
     }
 
     /// How many loans are agreed.
@@ -258,7 +259,7 @@ impl Ledger {
         let spots = changes.spots.as_slice();
         let lines = changes.lines.as_slice();
         let posted = PostedEntry::new(alloc, &entry)?;
-        make_room(&mut self.spots, spots)?;
+        self.spots.reserve(spots.len())?;
         self.posted.reserve(1)?;
         place(&mut self.nest, changes.put, carried)?;
         record(
@@ -269,7 +270,7 @@ impl Ledger {
             &entry.message,
             lines,
         )?;
-        push_spots(&mut self.spots, spots);
+        self.spots.push_all(spots);
         self.posted.push_reserved(posted);
         Ok(())
     }
@@ -335,15 +336,4 @@ impl Ledger {
     {
         self.loans.get(loan)
     }
-}
-
-/// As many things as there are, each without a spot.
-fn no_spots(alloc: Global, things: u32) -> Result<Vec<Vec<Spot>>, NoMemory>
-    ensures { IfOk result (λ rows. lists rows.items ≡ replicate things []) }
-{
-    let mut rows = Vec::new(alloc);
-    for _ in 0..things {
-        rows.push(Vec::new(alloc))?;
-    }
-    Ok(rows)
 }

@@ -1,40 +1,125 @@
-//! The spots of each thing, written at the end of its row.
-ghost use Rattle.std.specs.Prelude.{◌≡◌, ℕ, ◌<◌, ◌∷◌, [], length, OnOk};
-ghost use Rattle.posting_core.specs.Rows.{lists, rows_after, AreAscending, HasRoom, AreReady};
+//! The spots of all things in one list.
+ghost use Rattle.std.specs.Prelude.{◌≡◌, ◌<◌, ◌≤◌, ◌+◌, ◌∷◌, [], length, replicate, All, IfOk, OnOk, OnErr};
+ghost use Rattle.posting_core.specs.Rows.{row_of, rows_after};
 
 use crate::{NewSpot, Spot};
-use std::alloc::AllocError;
+use codes_core::NoMemory;
+use nest_core::ThingNo;
+use std::alloc::{AllocError, Global};
+use std::marker::Model;
 
-/// Makes room for one more spot in the row of each listed thing.
-pub(crate) fn make_room(rows: &mut Vec<Vec<Spot>>, news: &[NewSpot]) -> Result<(), AllocError>
-    requires { AreAscending 0 (length rows.old.items) news.now }
-    ensures items { lists rows.new.items ≡ lists rows.old.items }
-    ensures ready { OnOk result (AreReady rows.new.items 0 news.now) }
-{
-    for i in 0..news.len() {
-        let row = &mut rows[news[i].thing as usize];
-        row.reserve(1)?;
-    }
-    Ok(())
+/// Which spot of the list is a thing's last, by number from 1, or 0 where it has none; and how many it has.
+#[derive(Clone, Copy)]
+pub(crate) struct LastSpot {
+    number: usize,
+    count: usize,
 }
 
-/// Writes each spot at the end of its thing's row.
-pub(crate) fn push_spots(rows: &mut Vec<Vec<Spot>>, news: &[NewSpot])
-    requires { AreReady rows.old.items 0 news.now }
-    ensures { lists rows.new.items ≡ rows_after (lists rows.old.items) news.now }
-{
-    for i in 0..news.len() {
-        push_spot(rows, news[i]);
-    }
+/// A spot in the list, with the number of the one that its thing had before, or 0 where it is the first.
+#[derive(Clone, Copy)]
+pub(crate) struct KeptSpot {
+    spot: Spot,
+    before: usize,
 }
 
-/// Writes a spot at the end of its thing's row.
-fn push_spot(rows: &mut Vec<Vec<Spot>>, s: NewSpot)
-    requires within { s.thing < length rows.old.items }
-    requires room { HasRoom rows.old.items s.thing }
-    ensures written { lists rows.new.items ≡ rows_after (lists rows.old.items) (s ∷ []) }
-    ensures others { (x : ℕ) → s.thing < x → HasRoom rows.old.items x → HasRoom rows.new.items x }
-{
-    let row = &mut rows[s.thing as usize];
-    row.push_reserved(s.spot);
+/// The spots of all things in one list, each with the number of the one that its thing had before; seen as each thing's
+/// spots, oldest first, and for how many more there is room. Only that list grows, so a message that moves many things
+/// makes room for all of them at once.
+#[derive(Drop)]
+pub(crate) struct SpotRows {
+    last: Vec<LastSpot>,
+    spots: Vec<KeptSpot>,
+}
+
+impl Model for SpotRows {
+    ghost use Rattle.std.specs.Prelude.{◌-◌, reverse, map, vec_len, vec_capacity};
+    ghost use Rattle.posting_core.specs.SpotRows.{Rows, spots_from, AreKept};
+
+    ghost Value = { Rows };
+
+    ghost view = { λ a. record {
+      rows = map (λ l. spots_from (reverse a.spots.items) l.number) a.last.items;
+      room = vec_capacity a.spots - vec_len a.spots;
+    } };
+
+    ghost invariant = { λ a. AreKept (reverse a.spots.items) a.last.items };
+}
+
+impl SpotRows {
+    /// So many things, each without a spot.
+    pub(crate) fn new(alloc: Global, things: u32) -> Result<SpotRows, NoMemory>
+        ensures { IfOk result (λ spots. spots.rows ≡ replicate things []) }
+    {
+        let mut last = Vec::new(alloc);
+        for _ in 0..things {
+            last.push(LastSpot {
+                number: 0,
+                count: 0,
+            })?;
+        }
+        let spots = Vec::new(alloc);
+        Ok(SpotRows { last, spots })
+    }
+
+    /// Makes room for so many more spots, of whatever things.
+    pub(crate) fn reserve(&mut self, more: usize) -> Result<(), AllocError>
+        ensures rows { self.new.rows ≡ self.old.rows }
+        ensures room { OnOk result (more ≤ self.new.room) }
+    {
+        self.spots.reserve(more)
+    }
+
+    /// Each spot becomes the last of its thing, in turn.
+    pub(crate) fn push_all(&mut self, news: &[NewSpot])
+        requires room { length news.now ≤ self.old.room }
+        requires within { All (λ s. s.thing < length self.old.rows) news.now }
+        ensures { self.new.rows ≡ rows_after self.old.rows news.now }
+    {
+        for i in 0..news.len() {
+            self.push(news[i]);
+        }
+    }
+
+    /// The spot becomes the last of its thing.
+    fn push(&mut self, new: NewSpot)
+        requires room { 0 < self.old.room }
+        requires within { new.thing < length self.old.rows }
+        ensures rows { self.new.rows ≡ rows_after self.old.rows (new ∷ []) }
+        ensures room { self.new.room + 1 ≡ self.old.room }
+    {
+        let last = self.last[new.thing as usize];
+        self.spots.push_reserved(KeptSpot {
+            spot: new.spot,
+            before: last.number,
+        });
+        self.last[new.thing as usize] = LastSpot {
+            number: self.spots.len(),
+            count: last.count + 1,
+        };
+    }
+
+    /// How many spots a thing has.
+    pub(crate) fn count_of(&self, thing: ThingNo) -> usize
+        requires { thing < length self.now.rows }
+        ensures { result ≡ length (row_of self.now.rows thing) }
+    {
+        self.last[thing as usize].count
+    }
+
+    /// A thing's spots, oldest first; else NoMemory, which comes only where it has one.
+    pub(crate) fn of(&self, alloc: Global, thing: ThingNo) -> Result<Vec<Spot>, NoMemory>
+        requires { thing < length self.now.rows }
+        ensures spots { IfOk result (λ spots. spots.items ≡ row_of self.now.rows thing) }
+        ensures err { OnErr result (0 < length (row_of self.now.rows thing)) }
+    {
+        let mut spots = Vec::new(alloc);
+        let mut number = self.last[thing as usize].number;
+        while number > 0 {
+            let kept = self.spots[number - 1];
+            spots.push(kept.spot)?;
+            number = kept.before;
+        }
+        spots.reverse();
+        Ok(spots)
+    }
 }

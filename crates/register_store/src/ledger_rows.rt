@@ -29,7 +29,8 @@ pub fn spot_rows(alloc: Global, ledger: &Ledger) -> Result<Vec<NewSpot>, NoMemor
 {
     let mut rows = Vec::new(alloc);
     for thing in 0..ledger.setup().things() {
-        push_spots(&mut rows, thing, ledger.spots(thing))?;
+        let spots = ledger.spots(alloc, thing)?;
+        push_spots(&mut rows, thing, &spots)?;
     }
     Ok(rows)
 }

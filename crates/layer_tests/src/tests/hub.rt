@@ -5,6 +5,7 @@ ghost use Rattle.register_store.specs.Registers.{is_failure};
 use super::fresh::{Fresh, Stored};
 use super::ledger::{Loan, has_loans, tell_all};
 use super::{TO_S1, museum, small_museum};
+use codes_core::NoMemory;
 use hub_core::{Answer, Arrival, Hub, OpenFault};
 use nest_core::{PlaceNo, Setup, StationNo};
 use posting_core::LineStage::{Awaiting, Away};
@@ -100,20 +101,24 @@ fn send_all<R: Register>(
 }
 
 /// Whether these are the object's spots, each with its entry and its place.
-fn has_spots(ledger: &Ledger, want: &[(EntryNo, PlaceNo)]) -> bool {
+fn has_spots(
+    alloc: Global,
+    ledger: &Ledger,
+    want: &[(EntryNo, PlaceNo)],
+) -> Result<bool, NoMemory> {
     if ledger.setup().things() <= OBJECT {
-        return false;
+        return Ok(false);
     }
-    let spots = ledger.spots(OBJECT);
+    let spots = ledger.spots(alloc, OBJECT)?;
     if spots.len() != want.len() {
-        return false;
+        return Ok(false);
     }
     for i in 0..want.len() {
         if (spots[i].entry, spots[i].place) != want[i] {
-            return false;
+            return Ok(false);
         }
     }
-    true
+    Ok(true)
 }
 
 fn held_then_posted<R: Register>(
@@ -121,9 +126,9 @@ fn held_then_posted<R: Register>(
     alloc: Global,
     hub: &mut Hub<R>,
 ) -> Result<(), Fail> {
-    assert!(rt; has_spots(hub.ledger(), &[]));
+    assert!(rt; has_spots(alloc, hub.ledger(), &[])?);
     send_all(rt, alloc, hub, HELD)?;
-    assert!(rt; has_spots(hub.ledger(), &[(1, 0), (2, 1)]));
+    assert!(rt; has_spots(alloc, hub.ledger(), &[(1, 0), (2, 1)])?);
     Ok(())
 }
 

@@ -1,5 +1,5 @@
 //! What an applied message puts where, and the spots and the lines that it writes.
-ghost use Rattle.std.specs.Prelude.{◌≡◌, ◌<◌, ◌+◌, ◌&&◌, [], if◌then◌else◌, length, All, IfOk, OnErr, IfSome, Some, true, not, map, filter};
+ghost use Rattle.std.specs.Prelude.{◌≡◌, ◌<◌, ◌≤◌, ◌+◌, ◌&&◌, [], if◌then◌else◌, length, All, IfOk, OnErr, IfSome, Some, true, not, map, filter};
 ghost use Rattle.std.specs.List.{filter_map};
 ghost use Rattle.nest_core.specs.Puts.{container_of};
 ghost use Rattle.posting_core.specs.declared.verdict.Verdict.TheVariants.{Applied};
@@ -13,7 +13,9 @@ ghost use Rattle.posting_core.specs.Rows.{place_to};
 
 use super::Ledger;
 use crate::numbers::thing_no;
-use crate::{EntryNo, LineStage, Message, NewLine, NewLines, NewSpot, NewSpots, Spot, Verdict};
+use crate::{
+    EntryNo, LineStage, MOST_ENTRIES, Message, NewLine, NewLines, NewSpot, NewSpots, Spot, Verdict,
+};
 use codes_core::{Day, LoanCode, NoMemory, ThingCode, ThingKind};
 use nest_core::{PlaceNo, Put, Setup, Target, ThingNo, ThingNos};
 use smallvec::SmallVec;
@@ -131,9 +133,19 @@ impl Ledger {
         }
         Some(NewSpot {
             thing,
-            k: self.spots(thing).len() as u32 + 1,
+            k: self.spot_count(thing) + 1,
             spot: Spot { entry, place, day },
         })
+    }
+
+    /// How many spots a thing has.
+    fn spot_count(&self, thing: ThingNo) -> u32
+        requires { thing < length self.now.museum.things }
+        ensures count { result ≡ length (spots_in self.now thing) }
+        ensures few { result ≤ MOST_ENTRIES }
+    {
+        self.setup.is_museum();
+        self.spots.count_of(thing) as u32
     }
 
     /// The place to which a thing comes that is put there.

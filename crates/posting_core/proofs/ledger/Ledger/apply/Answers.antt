@@ -1,15 +1,15 @@
-use Rattle.std.proofs.Common.{ap, ◌∙◌, sym, reverse, List, ◌∷◌, ◌++◌, []}
-use Rattle.std.proofs.lemmas.List.{length-map, reverse-append}
+use Rattle.std.proofs.Common.{ap, ◌∙◌, reverse, List, ◌∷◌, ◌++◌, []}
+use Rattle.std.proofs.lemmas.List.{reverse-append}
 use Rattle.posting_core.specs.declared.entry.Entry.{Entry}
 use Rattle.posting_core.specs.declared.entry.Spot.{Spot}
 use Rattle.posting_core.specs.Rows.{rows_after}
-use Rattle.posting_core.proofs.Posted.{planned, planned_ascending, planned_put, planned_carried, planned_agree, kept_still, kept_after}
+use Rattle.posting_core.proofs.Posted.{planned, planned_within, planned_put, planned_carried, planned_agree, kept_still, kept_after}
 use Rattle.posting_core.proofs.ledger.Ledger.apply.Goals as goal
 
-pub make_room-requires : goal.make_room-requires
-make_room-requires c =
+pub push_all-requires-clause-within : goal.push_all-requires-clause-within
+push_all-requires-clause-within c =
     let is = planned c.self.invariant c.self.view_is c.requires.follows c.requires.planned c.as_slice-carried.ensures c.as_slice-spots.ensures c.as_slice-lines.ensures in
-    planned_ascending is _ (sym (length-map c.self.inside.spots.items (λ row. row.items)))
+    planned_within is _ c.reserve.ensures.rows
 
 pub place-requires-clause-may : goal.place-requires-clause-may
 place-requires-clause-may c =
@@ -31,8 +31,8 @@ invariant_of-self-2 c =
     let pushed = c.push_reserved.ensures.items in
     kept_after is
     c.in_ok-place.ensures.stands c.in_ok-place.ensures.sized.0 c.in_ok-place.ensures.sized.1 c.in_ok-place.ensures.sized.2
-    (ap reverse (pushed ∙ ap (λ (es : List Entry). es ++ c.in_ok-posted.posted ∷ []) c.reserve.ensures.items ∙ ap (λ (e : Entry). c.self.inside.posted.items ++ e ∷ []) c.in_ok-posted.ensures) ∙ reverse-append c.self.inside.posted.items (c.args.entry ∷ []))
-    (c.push_spots.ensures ∙ ap (λ (rs : List (List Spot)). rows_after rs c.as_slice-spots.result.now) c.make_room.ensures.items)
+    (ap reverse (pushed ∙ ap (λ (es : List Entry). es ++ c.in_ok-posted.posted ∷ []) c.reserve-2.ensures.items ∙ ap (λ (e : Entry). c.self.inside.posted.items ++ e ∷ []) c.in_ok-posted.ensures) ∙ reverse-append c.self.inside.posted.items (c.args.entry ∷ []))
+    (c.push_all.ensures ∙ ap (λ (rs : List (List Spot)). rows_after rs c.as_slice-spots.result.now) c.reserve.ensures.rows)
     c.in_ok-record.ensures.ok
 
 pub invariant_of-self-in_err-record : goal.invariant_of-self-in_err-record
@@ -40,4 +40,4 @@ invariant_of-self-in_err-record c =
     let is = planned c.self.invariant c.self.view_is c.requires.follows c.requires.planned c.as_slice-carried.ensures c.as_slice-spots.ensures c.as_slice-lines.ensures in
     kept_still is
     c.in_ok-place.ensures.stands c.in_ok-place.ensures.sized.0 c.in_ok-place.ensures.sized.1 c.in_ok-place.ensures.sized.2
-    c.in_err-record.ensures.err.1 (ap reverse c.reserve.ensures.items) c.make_room.ensures.items c.in_err-record.ensures.err.0
+    c.in_err-record.ensures.err.1 (ap reverse c.reserve-2.ensures.items) c.reserve.ensures.rows c.in_err-record.ensures.err.0
