@@ -157,7 +157,7 @@ pub fn history<W: Write>(
     let Some(thing) = setup.thing(code) else {
         return Ok(());
     };
-    let spots = ledger.spots(sheet.alloc, thing)?;
+    let spots = ledger.spots(thing).to_vec(sheet.alloc)?;
     for spot in spots.iter() {
         sheet.put(&spot_row(sheet.alloc, setup, spot)?)?;
     }

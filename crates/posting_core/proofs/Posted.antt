@@ -1,10 +1,9 @@
 -- What a ledger's fields keep, before and after an entry.
-use Rattle.std.specs.Prelude.{ℕ, ◌≡◌, ◌+◌, ◌<◌, ◌≤◌, Bool, true, false, if◌then◌else◌, List, [], ◌∷◌, ◌++◌, Option, None, Some, length, All, Result, Ok, Err, IfOk, OnErr, replicate, zero, suc, refl, IfSome, slice_get, is_some, option_copied, Vec}
+use Rattle.std.specs.Prelude.{ℕ, ◌≡◌, ◌+◌, ◌<◌, ◌≤◌, Bool, true, false, if◌then◌else◌, List, [], ◌∷◌, ◌++◌, Option, None, Some, length, All, Result, Ok, Err, IfOk, OnErr, replicate, zero, suc, refl, IfSome, slice_get, is_some, option_copied}
 use Rattle.std.specs.Borrow.{Bor}
 use Rattle.std.specs.List.{find}
 use Rattle.std.specs.Str.{bytes_eq}
 use Rattle.std.specs.Option.{option_map, option_to_list}
-use Rattle.std.specs.declared.alloc.Global.{Global}
 use Rattle.std.proofs.Common.{ap, ◌∙◌, sym, subst, arith}
 use Rattle.std.proofs.lemmas.Bool.{false≢true}
 use Rattle.std.proofs.lemmas.Result.{on_err_weaker}
@@ -95,19 +94,9 @@ module _ {S : Museum} {P : List Entry} {N : Nested} {R : List (List Spot)} {L : 
   spots_kept x within =
       subst (λ (C : Book). row_of R x ≡ spots_in C x) same (kept.row x (subst (λ (C : Book). x < length C.museum.things) (sym same) within))
 
-  -- what is found of them is what looking back gives
-  pub spots_told : (x : ℕ) (r : Result (Vec Spot Global) NoMemory) → x < length B.museum.things → IfOk r (λ found. found.items ≡ row_of R x) → IfOk r (λ found. found.items ≡ spots_in B x)
-  spots_told x (Ok found) within is = is ∙ spots_kept x within
-  spots_told x (Err fault) within is = tt
-
   -- they are at places of the setup
-  pub spots_there : (x : ℕ) (r : Result (Vec Spot Global) NoMemory) → x < length B.museum.things → IfOk r (λ found. found.items ≡ row_of R x) → IfOk r (λ found. All (λ s. s.place < length B.museum.places) found.items)
-  spots_there x (Ok found) within is = subst (All (λ s. s.place < length B.museum.places)) (sym (is ∙ spots_kept x within)) (spots_within B.museum B.depth B.posted x lawful_kept)
-  spots_there x (Err fault) within is = tt
-
-  -- where they aren't found, the thing has some
-  pub spots_some : (x : ℕ) (r : Result (Vec Spot Global) NoMemory) → x < length B.museum.things → OnErr r (0 < length (row_of R x)) → OnErr r (0 < length (spots_in B x))
-  spots_some x r within gives = on_err_weaker r (λ some. subst (λ row. 0 < length row) (spots_kept x within) some) gives
+  pub spots_there : (x : ℕ) {found : List Spot} → x < length B.museum.things → found ≡ spots_in B x → All (λ s. s.place < length B.museum.places) found
+  spots_there x within is = subst (All (λ s. s.place < length B.museum.places)) (sym is) (spots_within B.museum B.depth B.posted x lawful_kept)
 
   -- what is kept of a loan is its row by looking back
   pub loan_kept : (loan : List ℕ) (r : Option (Bor LoanRow)) → option_copied r ≡ find (λ row. bytes_eq loan row.loan) L →

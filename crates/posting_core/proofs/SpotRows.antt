@@ -1,9 +1,9 @@
 -- What one list of all things' spots gives of each thing, and what one more spot leaves of it.
 use Rattle.std.specs.Prelude.{ℕ, ◌≡◌, ◌+◌, ◌-◌, ◌<◌, ◌≤◌, ◌==◌, true, false, if◌then◌else◌, List, [], ◌∷◌, ◌++◌, length, map, reverse, zero, suc, refl, slice_set, replicate, All}
 use Rattle.std.specs.Option.{option_map, option_map_or}
-use Rattle.std.proofs.Common.{ap, ◌∙◌, sym, subst, arith, get_or, length-append, append_assoc}
+use Rattle.std.proofs.Common.{ap, ◌∙◌, sym, subst, arith, get_or, length-append}
 use Rattle.std.proofs.lemmas.Bool.Decides.{nat_tests}
-use Rattle.std.proofs.lemmas.List.{length-map, length-reverse, reverse-append, get_or-reverse, map-set, append-nil}
+use Rattle.std.proofs.lemmas.List.{length-map, length-reverse, get_or-reverse, map-set}
 use Rattle.std.proofs.lemmas.List.Elements.{All-nil, All-cons, All-head, All-tail, All-set, All-weaker, All-get_or}
 use Rattle.std.proofs.lemmas.Option.{slice_get-map, slice_get_read}
 use Rattle.posting_core.specs.declared.entry.Spot.{Spot}
@@ -64,20 +64,8 @@ module _ (spots : List KeptSpot) {n : ℕ} {s : KeptSpot} (back : LeadBack (reve
   pub goes_back : s.before < n
   goes_back = let less' : s.before ≤ n - 1 = led.0 in omega arith
 
-  spots_there : spots_from (reverse spots) n ≡ spots_from (reverse spots) s.before ++ s.spot ∷ []
-  spots_there = let same : n ≡ n - 1 + 1 = omega arith in ap (spots_from (reverse spots)) same ∙ led.1
-
-  module _ {row : List Spot} (passed : List Spot) (rest : row ≡ spots_from (reverse spots) n ++ reverse passed) where
-    pub one_back : {passed' : List Spot} → passed' ≡ passed ++ s.spot ∷ [] → row ≡ spots_from (reverse spots) s.before ++ reverse passed'
-    one_back pushed =
-        rest ∙ ap (λ r. r ++ reverse passed) spots_there ∙ append_assoc (spots_from (reverse spots) s.before) (s.spot ∷ []) (reverse passed)
-        ∙ ap (λ r. spots_from (reverse spots) s.before ++ r) (sym (ap reverse pushed ∙ reverse-append passed (s.spot ∷ [])))
-
-    pub some_spot : 0 < length row
-    some_spot =
-        let all : length row ≡ length (spots_from (reverse spots) n) + length (reverse passed) = ap length rest ∙ length-append (spots_from (reverse spots) n) (reverse passed) in
-        let here : length (spots_from (reverse spots) n) ≡ length (spots_from (reverse spots) s.before) + 1 = ap length spots_there ∙ length-append (spots_from (reverse spots) s.before) (s.spot ∷ []) in
-        omega arith
+  pub one_back : spots_from (reverse spots) n ≡ spots_from (reverse spots) s.before ++ s.spot ∷ []
+  one_back = let same : n ≡ n - 1 + 1 = omega arith in ap (spots_from (reverse spots)) same ∙ led.1
 
 -- what the view tells of a thing's last
 module _ {spots : List KeptSpot} {lasts : List LastSpot} {R : List (List Spot)} (kept : AreKept spots lasts) (same : rows_of spots lasts ≡ R) (x : ℕ) (last : LastSpot) (within : x < length R) (at : last ≡ get_or lasts x last) where
@@ -94,16 +82,6 @@ module _ {spots : List KeptSpot} {lasts : List LastSpot} {R : List (List Spot)} 
 
   pub few_counted : last.count ≤ length spots
   few_counted = let few = few_from spots last.number in omega (arith, is_last.counted)
-
-  -- going back from it, none is passed
-  pub none_passed : (none : List Spot) → none ≡ [] → row_of R x ≡ spots_from spots last.number ++ reverse none
-  none_passed none is = row_from ∙ sym (ap (λ ys. spots_from spots last.number ++ reverse ys) is ∙ append-nil (spots_from spots last.number))
-
--- at the end all are passed
-pub all_passed : (spots : List KeptSpot) (passed : List Spot) {row found : List Spot} (n : ℕ) → n ≤ 0 → row ≡ spots_from spots n ++ reverse passed → found ≡ reverse passed → found ≡ row
-all_passed spots passed {row} n least rest found =
-    let least' : n ≡ 0 = omega arith in
-    found ∙ sym (rest ∙ ap (λ r. r ++ reverse passed) (ap (spots_from spots) least' ∙ none_from spots))
 
 -- nothing is kept of things without spots
 pub none_last : (n : ℕ) → All (IsLast []) (replicate n (record { number = 0; count = 0 }))

@@ -23,7 +23,7 @@ use crate::placing::place;
 use crate::recording::record;
 use crate::spot_rows::SpotRows;
 use crate::{
-    Changes, Entry, EntryNo, LineStage, LoanState, MOST_ENTRIES, Message, PostedEntry, Spot,
+    Changes, Entry, EntryNo, LineStage, LoanState, MOST_ENTRIES, Message, PostedEntry, Spots,
     Verdict,
 };
 use codes_core::{Day, LoanCode, NoMemory};
@@ -144,17 +144,15 @@ impl Ledger {
     }
 
     /// A thing's spots, oldest first: the last is its current place, the others are its former ones; each is at a
-    /// place of the setup. Else NoMemory, which comes only where it has one. The thing's number is below the setup's count.
-    pub fn spots(&self, alloc: Global, thing: ThingNo) -> Result<Vec<Spot>, NoMemory>
+    /// place of the setup. The thing's number is below the setup's count.
+    pub fn spots(&self, thing: ThingNo) -> Spots<'_>
         requires { thing < length self.now.museum.things }
-        ensures spots { IfOk result (λ spots. spots.items ≡ spots_in self.now thing) }
-        ensures within { IfOk result
-            (λ spots. All (λ s. s.place < length self.now.museum.places) spots.items) }
-        ensures few { IfOk result (λ spots. length spots.items ≤ MOST_ENTRIES) }
-        ensures err { OnErr result (0 < length (spots_in self.now thing)) }
+        ensures spots { result ≡ spots_in self.now thing }
+        ensures within { All (λ s. s.place < length self.now.museum.places) result }
+        ensures few { length result ≤ MOST_ENTRIES }
     {
         self.setup.is_museum();
-        self.spots.of(alloc, thing)
+        self.spots.of(thing)
     }
 
     /// How many loans are agreed.

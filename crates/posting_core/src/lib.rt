@@ -14,6 +14,7 @@ mod placing;
 mod posted_entry;
 mod recording;
 mod spot_rows;
+mod spots;
 mod stage;
 mod verdict;
 
@@ -23,6 +24,7 @@ pub use ledger::Ledger;
 pub use message::Message;
 pub use objects::Objects;
 pub use posted_entry::PostedEntry;
+pub use spots::Spots;
 pub use stage::{LineStage, LoanState};
 pub use verdict::Verdict;
 

@@ -1,8 +1,8 @@
 //! The spots of all things in one list.
-ghost use Rattle.std.specs.Prelude.{◌≡◌, ◌<◌, ◌≤◌, ◌+◌, ◌∷◌, [], length, replicate, All, IfOk, OnOk, OnErr};
+ghost use Rattle.std.specs.Prelude.{◌≡◌, ◌<◌, ◌≤◌, ◌+◌, ◌∷◌, [], length, replicate, All, IfOk, OnOk};
 ghost use Rattle.posting_core.specs.Rows.{row_of, rows_after};
 
-use crate::{NewSpot, Spot};
+use crate::{NewSpot, Spot, Spots};
 use codes_core::NoMemory;
 use nest_core::ThingNo;
 use std::alloc::{AllocError, Global};
@@ -18,8 +18,8 @@ pub(crate) struct LastSpot {
 /// A spot in the list, with the number of the one that its thing had before, or 0 where it is the first.
 #[derive(Clone, Copy)]
 pub(crate) struct KeptSpot {
-    spot: Spot,
-    before: usize,
+    pub(crate) spot: Spot,
+    pub(crate) before: usize,
 }
 
 /// The spots of all things in one list, each with the number of the one that its thing had before; seen as each thing's
@@ -106,20 +106,11 @@ impl SpotRows {
         self.last[thing as usize].count
     }
 
-    /// A thing's spots, oldest first; else NoMemory, which comes only where it has one.
-    pub(crate) fn of(&self, alloc: Global, thing: ThingNo) -> Result<Vec<Spot>, NoMemory>
+    /// A thing's spots.
+    pub(crate) fn of(&self, thing: ThingNo) -> Spots<'_>
         requires { thing < length self.now.rows }
-        ensures spots { IfOk result (λ spots. spots.items ≡ row_of self.now.rows thing) }
-        ensures err { OnErr result (0 < length (row_of self.now.rows thing)) }
+        ensures { result ≡ row_of self.now.rows thing }
     {
-        let mut spots = Vec::new(alloc);
-        let mut number = self.last[thing as usize].number;
-        while number > 0 {
-            let kept = self.spots[number - 1];
-            spots.push(kept.spot)?;
-            number = kept.before;
-        }
-        spots.reverse();
-        Ok(spots)
+        Spots::new(&self.spots, self.last[thing as usize].number)
     }
 }

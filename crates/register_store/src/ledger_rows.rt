@@ -29,7 +29,7 @@ pub fn spot_rows(alloc: Global, ledger: &Ledger) -> Result<Vec<NewSpot>, NoMemor
 {
     let mut rows = Vec::new(alloc);
     for thing in 0..ledger.setup().things() {
-        let spots = ledger.spots(alloc, thing)?;
+        let spots = ledger.spots(thing).to_vec(alloc)?;
         push_spots(&mut rows, thing, &spots)?;
     }
     Ok(rows)

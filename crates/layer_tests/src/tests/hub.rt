@@ -109,7 +109,7 @@ fn has_spots(
     if ledger.setup().things() <= OBJECT {
         return Ok(false);
     }
-    let spots = ledger.spots(alloc, OBJECT)?;
+    let spots = ledger.spots(OBJECT).to_vec(alloc)?;
     if spots.len() != want.len() {
         return Ok(false);
     }
