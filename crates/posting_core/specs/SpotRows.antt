@@ -1,30 +1,26 @@
--- The spots of all things as a ledger keeps them: in one list, each with the number of the one that its thing had before.
-use Rattle.std.specs.Prelude.{ℕ, ◌≡◌, ◌+◌, ◌≤◌, ◌==◌, if◌then◌else◌, List, [], ◌∷◌, ◌++◌, length, All}
+-- The spots of all things as a ledger keeps them: in one list, each with where the one stands that its thing had before.
+use Rattle.std.specs.Prelude.{ℕ, zero, suc, ◌≡◌, ◌≤◌, Some, List, [], ◌∷◌, ◌++◌, length, slice_get}
+use Rattle.std.specs.Option.{option_map_or}
 use Rattle.posting_core.specs.declared.entry.Spot.{Spot}
 use Rattle.posting_core.specs.declared.spot_rows.KeptSpot.{KeptSpot}
 use Rattle.posting_core.specs.declared.spot_rows.LastSpot.{LastSpot}
 
--- the spots that a thing has, oldest first, whose last one has this number in a list that begins with its newest: the oldest
--- of the list is number 1, and 0 is none
-abbrev pub spots_from : List KeptSpot → ℕ → List Spot
-spots_from [] n = []
-spots_from (s ∷ older) n =
-    if n == length older + 1 then spots_from older s.before ++ s.spot ∷ [] else spots_from older n
+-- so many spots of a thing, oldest first, of which the last stands at this index of the list
+abbrev pub spots_at : List KeptSpot → ℕ → ℕ → List Spot
+spots_at spots at zero = []
+spots_at spots at (suc count) =
+    option_map_or (λ s. spots_at spots s.before count ++ s.spot ∷ []) (slice_get spots at) []
 
--- the one that a spot's thing had before is older
-abbrev pub LeadBack : List KeptSpot → Type 0
-LeadBack [] = Unit {0}
-LeadBack (s ∷ older) = (s.before ≤ length older) × LeadBack older
+-- so many spots, from the one at this index back, stand in the list
+abbrev pub LeadBack : List KeptSpot → ℕ → ℕ → Type 0
+LeadBack spots at zero = Unit {0}
+LeadBack spots at (suc count) =
+    (s : KeptSpot) × (slice_get spots at ≡ Some s) × LeadBack spots s.before count
 
--- a thing's last spot stands in the list, and the thing has so many
+-- what is kept of a thing: from its last spot back as many stand in the list as it has, which are no more than all
 pub record IsLast (spots : List KeptSpot) (last : LastSpot) : Type 0 where
-  pub there : last.number ≤ length spots
-  pub counted : last.count ≡ length (spots_from spots last.number)
-
--- what is kept: the list that begins with its newest spot, and what is known of each thing's last
-pub record AreKept (spots : List KeptSpot) (last : List LastSpot) : Type 0 where
-  pub back : LeadBack spots
-  pub lasts : All (IsLast spots) last
+  pub back : LeadBack spots last.at last.count
+  pub few : last.count ≤ length spots
 
 -- each thing's spots, oldest first, and for how many more there is room
 pub record Rows : Type 0 where

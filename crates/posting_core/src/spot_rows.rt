@@ -8,21 +8,21 @@ use nest_core::ThingNo;
 use std::alloc::{AllocError, Global};
 use std::marker::Model;
 
-/// Which spot of the list is a thing's last, by number from 1, or 0 where it has none; and how many it has.
+/// How many spots a thing has, and where the last of them stands in the list.
 #[derive(Clone, Copy)]
 pub(crate) struct LastSpot {
-    number: usize,
-    count: usize,
+    pub(crate) at: usize,
+    pub(crate) count: usize,
 }
 
-/// A spot in the list, with the number of the one that its thing had before, or 0 where it is the first.
+/// A spot in the list, and where the one stands that its thing had before, if there is one.
 #[derive(Clone, Copy)]
 pub(crate) struct KeptSpot {
     pub(crate) spot: Spot,
     pub(crate) before: usize,
 }
 
-/// The spots of all things in one list, each with the number of the one that its thing had before; seen as each thing's
+/// The spots of all things in one list, each with where the one stands that its thing had before; seen as each thing's
 /// spots, oldest first, and for how many more there is room. Only that list grows, so a message that moves many things
 /// makes room for all of them at once.
 #[derive(Drop)]
@@ -32,17 +32,17 @@ pub(crate) struct SpotRows {
 }
 
 impl Model for SpotRows {
-    ghost use Rattle.std.specs.Prelude.{◌-◌, reverse, map, vec_len, vec_capacity};
-    ghost use Rattle.posting_core.specs.SpotRows.{Rows, spots_from, AreKept};
+    ghost use Rattle.std.specs.Prelude.{◌-◌, map, All, vec_len, vec_capacity};
+    ghost use Rattle.posting_core.specs.SpotRows.{Rows, spots_at, IsLast};
 
     ghost Value = { Rows };
 
     ghost view = { λ a. record {
-      rows = map (λ l. spots_from (reverse a.spots.items) l.number) a.last.items;
+      rows = map (λ l. spots_at a.spots.items l.at l.count) a.last.items;
       room = vec_capacity a.spots - vec_len a.spots;
     } };
 
-    ghost invariant = { λ a. AreKept (reverse a.spots.items) a.last.items };
+    ghost invariant = { λ a. All (IsLast a.spots.items) a.last.items };
 }
 
 impl SpotRows {
@@ -50,13 +50,8 @@ impl SpotRows {
     pub(crate) fn new(alloc: Global, things: u32) -> Result<SpotRows, NoMemory>
         ensures { IfOk result (λ spots. spots.rows ≡ replicate things []) }
     {
-        let mut last = Vec::new(alloc);
-        for _ in 0..things {
-            last.push(LastSpot {
-                number: 0,
-                count: 0,
-            })?;
-        }
+        let none = LastSpot { at: 0, count: 0 };
+        let last = vec![in alloc; none; things as usize]?;
         let spots = Vec::new(alloc);
         Ok(SpotRows { last, spots })
     }
@@ -88,14 +83,13 @@ impl SpotRows {
         ensures room { self.new.room + 1 ≡ self.old.room }
     {
         let last = self.last[new.thing as usize];
+        let at = self.spots.len();
         self.spots.push_reserved(KeptSpot {
             spot: new.spot,
-            before: last.number,
+            before: last.at,
         });
-        self.last[new.thing as usize] = LastSpot {
-            number: self.spots.len(),
-            count: last.count + 1,
-        };
+        let count = last.count + 1;
+        self.last[new.thing as usize] = LastSpot { at, count };
     }
 
     /// How many spots a thing has.
@@ -111,6 +105,6 @@ impl SpotRows {
         requires { thing < length self.now.rows }
         ensures { result ≡ row_of self.now.rows thing }
     {
-        Spots::new(&self.spots, self.last[thing as usize].number)
+        Spots::new(&self.spots, self.last[thing as usize])
     }
 }

@@ -1,9 +1,9 @@
 //! The spots of a thing, from the last one back.
-ghost use Rattle.std.specs.Prelude.{◌≡◌, ◌<◌, ◌≤◌, ◌++◌, ◌∷◌, [], length, reverse, IfOk, OnErr, IfSome, IfNone};
-ghost use Rattle.posting_core.specs.SpotRows.{spots_from, LeadBack};
+ghost use Rattle.std.specs.Prelude.{◌≡◌, ◌<◌, ◌++◌, ◌∷◌, [], length, IfOk, OnErr, IfSome, IfNone};
+ghost use Rattle.posting_core.specs.SpotRows.{spots_at, LeadBack};
 
 use crate::Spot;
-use crate::spot_rows::KeptSpot;
+use crate::spot_rows::{KeptSpot, LastSpot};
 use codes_core::NoMemory;
 use std::alloc::Global;
 use std::marker::Model;
@@ -11,31 +11,35 @@ use std::marker::Model;
 /// The spots of a thing, told from the last one back; seen as those that are left, oldest first.
 #[derive(Drop)]
 pub struct Spots<'a> {
-    // the spots of all things, and the number of the thing's last one that is left, from 1
+    // the spots of all things, where the thing's last one stands that is left, and how many are left
     kept: &'a [KeptSpot],
-    number: usize,
+    at: usize,
+    left: usize,
 }
 
 impl<'a> Model for Spots<'a> {
-    ghost use Rattle.std.specs.Prelude.{List, ◌≤◌, length, reverse};
+    ghost use Rattle.std.specs.Prelude.{List};
     ghost use Rattle.posting_core.specs.declared.entry.Spot.{Spot};
-    ghost use Rattle.posting_core.specs.SpotRows.{spots_from, LeadBack};
+    ghost use Rattle.posting_core.specs.SpotRows.{spots_at, LeadBack};
 
     ghost Value = { List Spot };
 
-    ghost view = { λ s. spots_from (reverse s.kept.now) s.number };
+    ghost view = { λ s. spots_at s.kept.now s.at s.left };
 
-    ghost invariant = { λ s. LeadBack (reverse s.kept.now) × (s.number ≤ length s.kept.now) };
+    ghost invariant = { λ s. LeadBack s.kept.now s.at s.left };
 }
 
 impl<'a> Spots<'a> {
-    /// The spots of the thing whose last one has this number, from 1, among those of all things; 0 is none.
-    pub(crate) fn new(kept: &'a [KeptSpot], number: usize) -> Spots<'a>
-        requires back { LeadBack (reverse kept.now) }
-        requires there { number ≤ length kept.now }
-        ensures { result ≡ spots_from (reverse kept.now) number }
+    /// The spots of the thing whose last one is this, among those of all things.
+    pub(crate) fn new(kept: &'a [KeptSpot], last: LastSpot) -> Spots<'a>
+        requires { LeadBack kept.now last.at last.count }
+        ensures { result ≡ spots_at kept.now last.at last.count }
     {
-        Spots { kept, number }
+        Spots {
+            kept,
+            at: last.at,
+            left: last.count,
+        }
     }
 
     /// The last that is left.
@@ -43,11 +47,12 @@ impl<'a> Spots<'a> {
         ensures last { IfSome result (λ spot. self.old ≡ self.new ++ spot ∷ []) }
         ensures none { IfNone result (self.old ≡ []) }
     {
-        if self.number == 0 {
+        if self.left == 0 {
             return None;
         }
-        let kept = self.kept[self.number - 1];
-        self.number = kept.before;
+        let kept = self.kept[self.at];
+        self.at = kept.before;
+        self.left -= 1;
         Some(kept.spot)
     }
 
