@@ -10,20 +10,20 @@ use Rattle.posting_core.specs.declared.message.Message.TheVariants as says
 
 -- the message that is kept so
 abbrev pub said : Form → Message
-said (Move thing place day) = says.Move thing place day
-said (Pack thing container day) = says.Pack thing container day
-said (Exit thing loan day) = says.Exit thing loan day
-said (Return thing loan place day) = says.Return thing loan place day
-said (Receive thing loan place day) = says.Receive thing loan place day
+said (Move day thing place) = says.Move thing place day
+said (Pack day thing container) = says.Pack thing container day
+said (Exit day thing loan) = says.Exit thing loan day
+said (Return day thing loan place) = says.Return thing loan place day
+said (Receive day thing loan place) = says.Receive thing loan place day
 said (Whole m) = m.value
 
 -- what stands in short are codes
 abbrev pub HasCodes : Form → Type 0
-HasCodes (Move thing place day) = (thing_fault thing ≡ None) × (place_fault place ≡ None)
-HasCodes (Pack thing container day) = (thing_fault thing ≡ None) × (thing_fault container ≡ None)
-HasCodes (Exit thing loan day) = thing_fault thing ≡ None
-HasCodes (Return thing loan place day) =
+HasCodes (Move day thing place) = (thing_fault thing ≡ None) × (place_fault place ≡ None)
+HasCodes (Pack day thing container) = (thing_fault thing ≡ None) × (thing_fault container ≡ None)
+HasCodes (Exit day thing loan) = thing_fault thing ≡ None
+HasCodes (Return day thing loan place) =
     (thing_fault thing ≡ None) × (loan_fault loan ≡ None) × (place_fault place ≡ None)
-HasCodes (Receive thing loan place day) =
+HasCodes (Receive day thing loan place) =
     (thing_fault thing ≡ None) × (loan_fault loan ≡ None) × (place_fault place ≡ None)
 HasCodes (Whole m) = ⊤

@@ -18,35 +18,36 @@ pub struct KeptMessage {
     form: Form,
 }
 
-/// What is kept of a message, in 40 bytes each: where there are three codes they have to be shorter.
+/// What is kept of a message, in 40 bytes each: where there are three codes they have to be shorter. The day stands first, so
+/// that the bytes behind it are copied in whole words.
 #[derive(Drop)]
 pub(crate) enum Form {
     Move {
+        day: Day,
         thing: Spelling<15>,
         place: Spelling<15>,
-        day: Day,
     },
     Pack {
+        day: Day,
         thing: Spelling<15>,
         container: Spelling<15>,
-        day: Day,
     },
     Exit {
+        day: Day,
         thing: Spelling<15>,
         loan: LoanCode,
-        day: Day,
     },
     Return {
+        day: Day,
         thing: Spelling<11>,
         loan: Spelling<10>,
-        place: Spelling<11>,
-        day: Day,
+        place: Spelling<8>,
     },
     Receive {
+        day: Day,
         thing: Spelling<11>,
         loan: Spelling<10>,
-        place: Spelling<11>,
-        day: Day,
+        place: Spelling<8>,
     },
     Whole(Box<Message>),
 }
@@ -150,23 +151,23 @@ fn in_short(message: &Message) -> Option<Form>
 {
     match message {
         Message::Move { thing, place, day } => Some(Form::Move {
+            day: *day,
             thing: thing.shortened()?,
             place: place.shortened()?,
-            day: *day,
         }),
         Message::Pack {
             thing,
             container,
             day,
         } => Some(Form::Pack {
+            day: *day,
             thing: thing.shortened()?,
             container: container.shortened()?,
-            day: *day,
         }),
         Message::Exit { thing, loan, day } => Some(Form::Exit {
+            day: *day,
             thing: thing.shortened()?,
             loan: *loan,
-            day: *day,
         }),
         Message::Return {
             thing,
@@ -174,10 +175,10 @@ fn in_short(message: &Message) -> Option<Form>
             place,
             day,
         } => Some(Form::Return {
+            day: *day,
             thing: thing.shortened()?,
             loan: loan.shortened()?,
             place: place.shortened()?,
-            day: *day,
         }),
         Message::Receive {
             thing,
@@ -185,10 +186,10 @@ fn in_short(message: &Message) -> Option<Form>
             place,
             day,
         } => Some(Form::Receive {
+            day: *day,
             thing: thing.shortened()?,
             loan: loan.shortened()?,
             place: place.shortened()?,
-            day: *day,
         }),
         _ => None,
     }

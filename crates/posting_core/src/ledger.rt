@@ -246,17 +246,23 @@ impl Ledger {
     /// station is in the setup and has not signed off, its number is the station's next and at most [`LAST_NUMBER`], and
     /// its verdict is that of `judge`.
     ///
-    /// All growths come first: after NoMemory the ledger is unchanged, and the entry and its changes are dropped.
-    pub fn apply(&mut self, alloc: Global, entry: Entry, changes: Changes) -> Result<(), NoMemory>
-        requires follows { Follows self.old.museum self.old.depth self.old.posted entry }
-        requires planned { changes ≡ changes_of self.old entry.message }
-        ensures ok { OnOk result (self.new ≡ record self.old { posted = entry ∷ self.old.posted }) }
+    /// All growths come first: after NoMemory the ledger is unchanged.
+    pub fn apply(
+        &mut self,
+        alloc: Global,
+        entry: &Entry,
+        changes: &Changes,
+    ) -> Result<(), NoMemory>
+        requires follows { Follows self.old.museum self.old.depth self.old.posted entry.now }
+        requires planned { changes.now ≡ changes_of self.old entry.now.message }
+        ensures ok { OnOk result
+            (self.new ≡ record self.old { posted = entry.now ∷ self.old.posted }) }
         ensures err { OnErr result (self.new ≡ self.old) }
     {
         let carried = changes.carried.as_slice();
         let spots = changes.spots.as_slice();
         let lines = changes.lines.as_slice();
-        let posted = PostedEntry::new(alloc, &entry)?;
+        let posted = PostedEntry::new(alloc, entry)?;
         self.spots.reserve(spots.len())?;
         self.posted.reserve(1)?;
         place(&mut self.nest, changes.put, carried)?;

@@ -88,7 +88,7 @@ fn post_next<R: Register>(
     if let Err(fault) = register.post(alloc, &entry, &changes) {
         return Err(hub_fault(fault));
     }
-    ledger.apply(alloc, entry, changes)?;
+    ledger.apply(alloc, &entry, &changes)?;
     Ok(())
 }
 

@@ -66,7 +66,7 @@ fn judge_next(
         posted: entry.n,
         signed: is_sign_off(&entry.message),
     };
-    ledger.apply(alloc, entry, changes)?;
+    ledger.apply(alloc, &entry, &changes)?;
     starts[station] = start;
     Ok(())
 }

@@ -31,7 +31,7 @@ invariant_of-self-2 c =
     let pushed = c.push_reserved.ensures.items in
     kept_after is
     c.in_ok-place.ensures.stands c.in_ok-place.ensures.sized.0 c.in_ok-place.ensures.sized.1 c.in_ok-place.ensures.sized.2
-    (ap reverse (pushed ∙ ap (λ (es : List Entry). es ++ c.in_ok-posted.posted ∷ []) c.reserve-2.ensures.items ∙ ap (λ (e : Entry). c.self.inside.posted.items ++ e ∷ []) c.in_ok-posted.ensures) ∙ reverse-append c.self.inside.posted.items (c.args.entry ∷ []))
+    (ap reverse (pushed ∙ ap (λ (es : List Entry). es ++ c.in_ok-posted.posted ∷ []) c.reserve-2.ensures.items ∙ ap (λ (e : Entry). c.self.inside.posted.items ++ e ∷ []) c.in_ok-posted.ensures) ∙ reverse-append c.self.inside.posted.items (c.args.entry.now ∷ []))
     (c.push_all.ensures ∙ ap (λ (rs : List (List Spot)). rows_after rs c.as_slice-spots.result.now) c.reserve.ensures.rows)
     c.in_ok-record.ensures.ok
 
