@@ -108,8 +108,8 @@ abbrev taken_out : List Entry
 taken_out = run [] (
     (pack, moved (codes "C1") (codes "S1"))
     ∷ (pack, moved (codes "C2") (codes "S1"))
-    ∷ (pack, Pack (codes "C2") (codes "C1") may)
-    ∷ (pack, Pack (codes "2001.4.1") (codes "C2") may)
+    ∷ (pack, Pack may (codes "C2") (codes "C1"))
+    ∷ (pack, Pack may (codes "2001.4.1") (codes "C2"))
     ∷ (pack, moved (codes "C1") (codes "S2"))
     ∷ (pack, moved (codes "2001.4.1") (codes "S1-A"))
     ∷ (pack, moved (codes "C1") (codes "S1"))
@@ -145,9 +145,9 @@ loan = codes "LO2024.1"
 
 abbrev lent : List Entry
 lent = run placed (
-    (gal, Agree loan (codes "MUSEUM-X") (codes "2001.4.1" ∷ []) may may_31)
-    ∷ (gal, Authorise loan (codes "Ada"))
-    ∷ (gal, Exit (codes "2001.4.1") loan may_31)
+    (gal, Agree may may_31 loan (codes "MUSEUM-X") (codes "2001.4.1" ∷ []))
+    ∷ (gal, Authorise (codes "Ada") loan)
+    ∷ (gal, Exit may_31 (codes "2001.4.1") loan)
     ∷ [])
 
 loan_out-in_time : overdue (book lent) may_31 ≡ []
@@ -160,13 +160,13 @@ loan_out-away : away (book lent) ≡ record { object = object_1; place = Some mu
 loan_out-away = refl
 
 -- a loan that is back is not overdue
-loan_out-returned : overdue (book (run lent ((gal, Return (codes "2001.4.1") loan (codes "S1") june_1) ∷ []))) june_1 ≡ []
+loan_out-returned : overdue (book (run lent ((gal, Return june_1 (codes "2001.4.1") loan (codes "S1")) ∷ []))) june_1 ≡ []
 loan_out-returned = refl
 
 -- extend_tour: the last day is the extended one
 
 abbrev extended : List Entry
-extended = run lent ((gal, Extend loan june_30) ∷ [])
+extended = run lent ((gal, Extend june_30 loan) ∷ [])
 
 extend_tour-in_time : overdue (book extended) june_30 ≡ []
 extend_tour-in_time = refl
@@ -181,15 +181,15 @@ loan_in = codes "LI2024.1"
 
 abbrev here : List Entry
 here = run [] (
-    (gal, Agree loan_in (codes "LENDER-Y") (codes "L1999.7" ∷ []) may may_31)
-    ∷ (gal, Authorise loan_in (codes "Ada"))
-    ∷ (gal, Receive (codes "L1999.7") loan_in (codes "S1") may_31)
+    (gal, Agree may may_31 loan_in (codes "LENDER-Y") (codes "L1999.7" ∷ []))
+    ∷ (gal, Authorise (codes "Ada") loan_in)
+    ∷ (gal, Receive may_31 (codes "L1999.7") loan_in (codes "S1"))
     ∷ [])
 
 loan_in-overdue : overdue (book here) june_1 ≡ loan_in ∷ []
 loan_in-overdue = refl
 
-loan_in-given_back : overdue (book (run here ((gal, Exit (codes "L1999.7") loan_in june_1) ∷ []))) june_1 ≡ []
+loan_in-given_back : overdue (book (run here ((gal, Exit june_1 (codes "L1999.7") loan_in) ∷ []))) june_1 ≡ []
 loan_in-given_back = refl
 
 -- count_faults: of rows that are read, empty fields at the end don't count, and a row without a field is skipped

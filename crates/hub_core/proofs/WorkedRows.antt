@@ -38,7 +38,7 @@ longest_head = refl
 
 -- number n of GAL moves the object to S1
 abbrev moved : ℕ → Arrival
-moved n = record { station = 0; n = n; message = Move (codes "2001.4.1") (codes "S1") (pos 19844) }
+moved n = record { station = 0; n = n; message = Move (pos 19844) (codes "2001.4.1") (codes "S1") }
 
 pub held : reply museum 12 [] [] (moved 2) ≡ Held
 unfolding window

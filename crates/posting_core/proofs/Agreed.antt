@@ -44,7 +44,7 @@ pub record IsSound (S : Museum) (t : Agreement) : Type 0 where
 
 -- an applied agreement is of a new loan, and keeps to the rules
 pub agree_applied : (S : Museum) (depth : ℕ) (P : List Entry) (m : Message) (t : Agreement) → verdict S depth P m ≡ Applied → agreement_in m ≡ Some t → (agreement P t.loan ≡ None) × IsSound S t
-agree_applied S depth P (Agree loan partner objects first last) t applied is =
+agree_applied S depth P (Agree first last loan partner objects) t applied is =
     let none = none_holds (agree_rows S P loan partner objects first last) refl applied in
     let new : agreement P loan ≡ None = let agreed : is_some (agreement P loan) ≡ false = none.1.1.0 in search rules in
     subst (λ u. (agreement P u.loan ≡ None) × IsSound S u) (same_Some _ _ is) (
@@ -135,11 +135,11 @@ agreements_apart S depth (e ∷ P) (follows, lawful) =
 
 -- the message is about the loan, which must be agreed before
 abbrev pub names : Message → List ℕ → Bool
-names (Authorise l name) loan = bytes_eq l loan
-names (Exit x l day) loan = bytes_eq l loan
-names (Return x l p day) loan = bytes_eq l loan
-names (Receive x l p day) loan = bytes_eq l loan
-names (Extend l last) loan = bytes_eq l loan
+names (Authorise name l) loan = bytes_eq l loan
+names (Exit day x l) loan = bytes_eq l loan
+names (Return day x l p) loan = bytes_eq l loan
+names (Receive day x l p) loan = bytes_eq l loan
+names (Extend last l) loan = bytes_eq l loan
 names _ loan = false
 
 apart_from : (P : List Entry) (l loan : List ℕ) → not (is_agreed P l) ≡ false → agreement P loan ≡ None → bytes_eq l loan ≡ false
@@ -150,27 +150,27 @@ apart_from P l loan agreed none = elim (bytes_eq l loan) as (λ b. bytes_eq l lo
 
 -- an applied message that names a loan finds it agreed
 named_agreed : (S : Museum) (depth : ℕ) (P : List Entry) (m : Message) (loan : List ℕ) → verdict S depth P m ≡ Applied → agreement P loan ≡ None → names m loan ≡ false
-named_agreed S depth P (Authorise l name) loan applied none = apart_from P l loan (none_holds (authorise_rows P l) refl applied).0 none
-named_agreed S depth P (Exit x l day) loan applied none = apart_from P l loan (none_holds (exit_rows S P x l day) refl applied).1.0 none
-named_agreed S depth P (Return x l p day) loan applied none = apart_from P l loan (none_holds (return_rows S P x l p) refl applied).1.1.1.0 none
-named_agreed S depth P (Receive x l p day) loan applied none = apart_from P l loan (none_holds (receive_rows S P x l p day) refl applied).1.1.1.0 none
-named_agreed S depth P (Extend l last) loan applied none = apart_from P l loan (none_holds (extend_rows P l last) refl applied).0 none
-named_agreed S depth P (Move x p day) loan applied none = refl
-named_agreed S depth P (Pack x c day) loan applied none = refl
-named_agreed S depth P (Agree l partner objects first last) loan applied none = refl
+named_agreed S depth P (Authorise name l) loan applied none = apart_from P l loan (none_holds (authorise_rows P l) refl applied).0 none
+named_agreed S depth P (Exit day x l) loan applied none = apart_from P l loan (none_holds (exit_rows S P x l day) refl applied).1.0 none
+named_agreed S depth P (Return day x l p) loan applied none = apart_from P l loan (none_holds (return_rows S P x l p) refl applied).1.1.1.0 none
+named_agreed S depth P (Receive day x l p) loan applied none = apart_from P l loan (none_holds (receive_rows S P x l p day) refl applied).1.1.1.0 none
+named_agreed S depth P (Extend last l) loan applied none = apart_from P l loan (none_holds (extend_rows P l last) refl applied).0 none
+named_agreed S depth P (Move day x p) loan applied none = refl
+named_agreed S depth P (Pack day x c) loan applied none = refl
+named_agreed S depth P (Agree first last l partner objects) loan applied none = refl
 named_agreed S depth P (SignOff name) loan applied none = refl
 
 -- a message leaves a loan that it doesn't name
 unnamed : (S : Museum) (P : List Entry) (m : Message) (loan : List ℕ) → names m loan ≡ false → ((o : ℕ) → stage_by S P m loan o ≡ None) × (extension_in m loan ≡ None) × (authorises m loan ≡ false)
-unnamed S P (Move x p day) loan other = (λ o. refl, refl, refl)
-unnamed S P (Pack x c day) loan other = (λ o. refl, refl, refl)
-unnamed S P (Agree l partner objects first last) loan other = (λ o. refl, refl, refl)
-unnamed S P (Authorise l name) loan other = (λ o. refl, refl, other)
-unnamed S P (Exit x l day) loan other = (λ o. rw other refl, refl, refl)
-unnamed S P (Return x l p day) loan other = (λ o. rw other refl, refl, refl)
-unnamed S P (Receive x l p day) loan other = (λ o. rw other refl, refl, refl)
+unnamed S P (Move day x p) loan other = (λ o. refl, refl, refl)
+unnamed S P (Pack day x c) loan other = (λ o. refl, refl, refl)
+unnamed S P (Agree first last l partner objects) loan other = (λ o. refl, refl, refl)
+unnamed S P (Authorise name l) loan other = (λ o. refl, refl, other)
+unnamed S P (Exit day x l) loan other = (λ o. rw other refl, refl, refl)
+unnamed S P (Return day x l p) loan other = (λ o. rw other refl, refl, refl)
+unnamed S P (Receive day x l p) loan other = (λ o. rw other refl, refl, refl)
 unnamed S P (SignOff name) loan other = (λ o. refl, refl, refl)
-unnamed S P (Extend l last) loan other = (λ o. refl, rw other refl, refl)
+unnamed S P (Extend last l) loan other = (λ o. refl, rw other refl, refl)
 
 -- what isn't agreed is awaited, not authorised, and not extended
 pub record IsUntouched (S : Museum) (P : List Entry) (loan : List ℕ) : Type 0 where

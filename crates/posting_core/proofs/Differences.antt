@@ -68,13 +68,13 @@ pub record Written (S : Museum) (P : List Entry) (e : Entry) : Type 0 where
 -- a message agrees a loan, or something crosses by it, or neither
 
 agrees_alone : (m : Message) (t : Agreement) → agreement_in m ≡ Some t → crossing_in m ≡ None
-agrees_alone (Agree loan partner objects first last) t is = refl
+agrees_alone (Agree first last loan partner objects) t is = refl
 agrees_alone _ t is = absurd (none-some _ is)
 
 crosses_alone : (m : Message) (c : Crossing) → crossing_in m ≡ Some c → agreement_in m ≡ None
-crosses_alone (Exit x loan day) c is = refl
-crosses_alone (Return x loan p day) c is = refl
-crosses_alone (Receive x loan p day) c is = refl
+crosses_alone (Exit day x loan) c is = refl
+crosses_alone (Return day x loan p) c is = refl
+crosses_alone (Receive day x loan p) c is = refl
 crosses_alone _ c is = absurd (none-some _ is)
 
 -- what crosses is listed, at the stage before the next
@@ -87,13 +87,13 @@ exit_step : (loan : List ℕ) → is_step (Some (wanted_by_exit loan)) (exit_sta
 exit_step loan = elim (is_out loan) as (λ b. is_step (Some (if b then Awaiting else Here)) (if b then Away else GivenBack) ≡ true) [ true ↦ refl | false ↦ refl ]
 
 all_ready : (S : Museum) (depth : ℕ) (P : List Entry) (m : Message) (c : Crossing) → verdict S depth P m ≡ Applied → crossing_in m ≡ Some c → IsReadyAll S P c
-all_ready S depth P (Exit x loan day) c applied is =
+all_ready S depth P (Exit day x loan) c applied is =
     let none = none_holds (exit_rows S P x loan day) refl applied in
     subst (IsReadyAll S P) (same_Some _ c is) (record { listed = none.1.1.1.1.1.0; wanted = none.1.1.1.1.1.1.0; step = exit_step loan })
-all_ready S depth P (Return x loan p day) c applied is =
+all_ready S depth P (Return day x loan p) c applied is =
     let none = none_holds (return_rows S P x loan p) refl applied in
     subst (IsReadyAll S P) (same_Some _ c is) (record { listed = none.1.1.1.1.1.1.1.0; wanted = none.1.1.1.1.1.1.1.1.0; step = refl })
-all_ready S depth P (Receive x loan p day) c applied is =
+all_ready S depth P (Receive day x loan p) c applied is =
     let none = none_holds (receive_rows S P x loan p day) refl applied in
     subst (IsReadyAll S P) (same_Some _ c is) (record { listed = none.1.1.1.1.1.1.1.1.0; wanted = none.1.1.1.1.1.1.1.1.1.0; step = refl })
 all_ready S depth P _ c applied is = absurd (none-some _ is)

@@ -32,25 +32,25 @@ use Rattle.posting_core.proofs.Accounted.{IsApplied, by_verdict, nothing_put, by
 -- what places a thing bears a day
 placed_by_day : (S : Museum) (P : List Entry) (m : Message) → day_of m ≡ None → put_in S P m ≡ None
 placed_by_day S P (SignOff name) e = refl
-placed_by_day S P (Agree loan partner objects first last) e = refl
-placed_by_day S P (Authorise loan name) e = refl
-placed_by_day S P (Extend loan last) e = refl
+placed_by_day S P (Agree first last loan partner objects) e = refl
+placed_by_day S P (Authorise name loan) e = refl
+placed_by_day S P (Extend last loan) e = refl
 placed_by_day S P _ e = cc
 
 -- what an applied message puts its thing at, or into, has a place
 target_placed : (S : Museum) (depth : ℕ) (P : List Entry) (m : Message) → verdict S depth P m ≡ Applied → IfSome (put_in S P m) (λ put. place_to S P put.to ≢ None)
-target_placed S depth P (Move x p day) h = λ e. none-some _ (sym e)
-target_placed S depth P (Pack x c day) h = λ e.
+target_placed S depth P (Move day x p) h = λ e. none-some _ (sym e)
+target_placed S depth P (Pack day x c) h = λ e.
     let none = none_holds (pack_rows S depth P x c) refl h in
     let outside : not (option_map_or (is_inside S) (place_at S P (thing_no S c)) false) ≡ true = ap (λ o. not (option_map_or (is_inside S) o false)) e in
     let both : true ≡ false = sym outside ∙ none.1.1.1.0 in cc
-target_placed S depth P (Agree loan partner objects first last) h = tt
-target_placed S depth P (Authorise loan name) h = tt
-target_placed S depth P (Exit x loan day) h = elim (agreement P loan) as (λ o. IfSome {T = Put} (option_map (λ t. record { thing = thing_no S x; to = At (place_no S t.partner) }) o) (λ put. place_to S P put.to ≢ None)) [ None ↦ tt | Some t ↦ λ e. none-some _ (sym e) ]
-target_placed S depth P (Return x loan p day) h = λ e. none-some _ (sym e)
-target_placed S depth P (Receive x loan p day) h = λ e. none-some _ (sym e)
+target_placed S depth P (Agree first last loan partner objects) h = tt
+target_placed S depth P (Authorise name loan) h = tt
+target_placed S depth P (Exit day x loan) h = elim (agreement P loan) as (λ o. IfSome {T = Put} (option_map (λ t. record { thing = thing_no S x; to = At (place_no S t.partner) }) o) (λ put. place_to S P put.to ≢ None)) [ None ↦ tt | Some t ↦ λ e. none-some _ (sym e) ]
+target_placed S depth P (Return day x loan p) h = λ e. none-some _ (sym e)
+target_placed S depth P (Receive day x loan p) h = λ e. none-some _ (sym e)
 target_placed S depth P (SignOff name) h = tt
-target_placed S depth P (Extend loan last) h = tt
+target_placed S depth P (Extend last loan) h = tt
 
 -- a thing that has a place keeps having one
 entry_keeps_place : (S : Museum) (depth : ℕ) (P : List Entry) (e : Entry) → Follows S depth P e → IsLawful S depth P → (x : ℕ) → place_at S (e ∷ P) x ≡ None → place_at S P x ≡ None

@@ -177,27 +177,27 @@ agreed S depth P m t lawful applied is none stays quiet =
     new : row_by S P true m t ≡ agreed_row S t
     new = old t ∙ rw (awaited, before.ends t.last, before.draft) refl
 
-authorised : (S : Museum) (depth : ℕ) (P : List Entry) (loan name : List ℕ) → IsLawful S depth P → rows_by S P true (Authorise loan name) ≡ changed authorised_row loan (loan_rows S P)
-authorised S depth P loan name lawful = same_loans S P (Authorise loan name) refl (changed authorised_row loan (loan_rows S P))
-    (changed_row (IsSound S) (loan_row S P) (row_by S P true (Authorise loan name)) authorised_row loan (agreements P) (agreements_sound S depth P lawful) (agreements_apart S depth P lawful) (λ t. refl)
+authorised : (S : Museum) (depth : ℕ) (P : List Entry) (loan name : List ℕ) → IsLawful S depth P → rows_by S P true (Authorise name loan) ≡ changed authorised_row loan (loan_rows S P)
+authorised S depth P loan name lawful = same_loans S P (Authorise name loan) refl (changed authorised_row loan (loan_rows S P))
+    (changed_row (IsSound S) (loan_row S P) (row_by S P true (Authorise name loan)) authorised_row loan (agreements P) (agreements_sound S depth P lawful) (agreements_apart S depth P lawful) (λ t. refl)
     (λ t apart. rw apart refl) (λ t sound same. rw ((bytes_eq-Decides loan t.loan).1 same) refl))
 
-extended : (S : Museum) (depth : ℕ) (P : List Entry) (loan : List ℕ) (day : ℤ) → IsLawful S depth P → rows_by S P true (Extend loan day) ≡ changed (extended_row day) loan (loan_rows S P)
-extended S depth P loan day lawful = same_loans S P (Extend loan day) refl (changed (extended_row day) loan (loan_rows S P))
-    (changed_row (IsSound S) (loan_row S P) (row_by S P true (Extend loan day)) (extended_row day) loan (agreements P) (agreements_sound S depth P lawful) (agreements_apart S depth P lawful) (λ t. refl)
+extended : (S : Museum) (depth : ℕ) (P : List Entry) (loan : List ℕ) (day : ℤ) → IsLawful S depth P → rows_by S P true (Extend day loan) ≡ changed (extended_row day) loan (loan_rows S P)
+extended S depth P loan day lawful = same_loans S P (Extend day loan) refl (changed (extended_row day) loan (loan_rows S P))
+    (changed_row (IsSound S) (loan_row S P) (row_by S P true (Extend day loan)) (extended_row day) loan (agreements P) (agreements_sound S depth P lawful) (agreements_apart S depth P lawful) (λ t. refl)
     (λ t apart. rw apart refl) (λ t sound same. rw ((bytes_eq-Decides loan t.loan).1 same) refl))
 
 applied_rows : (S : Museum) (depth : ℕ) (P : List Entry) (m : Message) → IsLawful S depth P → verdict S depth P m ≡ Applied → rows_by S P true m ≡ rows_with S (loan_rows S P) m (new_lines S P m)
-applied_rows S depth P (Move x p day) lawful h = same_loans S P (Move x p day) refl (loan_rows S P) refl
-applied_rows S depth P (Pack x c day) lawful h = same_loans S P (Pack x c day) refl (loan_rows S P) refl
-applied_rows S depth P (Agree loan partner objects first final) lawful h =
-    agreed S depth P (Agree loan partner objects first final) (record { loan = loan; partner = partner; objects = objects; first = first; last = final }) lawful h refl refl (λ u. refl) (λ u. refl)
-applied_rows S depth P (Authorise loan name) lawful h = authorised S depth P loan name lawful
-applied_rows S depth P (Exit x loan day) lawful h = crossed S depth P (Exit x loan day) (exit_of x loan) lawful refl refl (λ t. refl) (λ t. refl)
-applied_rows S depth P (Return x loan p day) lawful h = crossed S depth P (Return x loan p day) (record { thing = x; loan = loan; wanted = Away; stage = Back }) lawful refl refl (λ t. refl) (λ t. refl)
-applied_rows S depth P (Receive x loan p day) lawful h = crossed S depth P (Receive x loan p day) (record { thing = x; loan = loan; wanted = Awaiting; stage = Here }) lawful refl refl (λ t. refl) (λ t. refl)
+applied_rows S depth P (Move day x p) lawful h = same_loans S P (Move day x p) refl (loan_rows S P) refl
+applied_rows S depth P (Pack day x c) lawful h = same_loans S P (Pack day x c) refl (loan_rows S P) refl
+applied_rows S depth P (Agree first final loan partner objects) lawful h =
+    agreed S depth P (Agree first final loan partner objects) (record { loan = loan; partner = partner; objects = objects; first = first; last = final }) lawful h refl refl (λ u. refl) (λ u. refl)
+applied_rows S depth P (Authorise name loan) lawful h = authorised S depth P loan name lawful
+applied_rows S depth P (Exit day x loan) lawful h = crossed S depth P (Exit day x loan) (exit_of x loan) lawful refl refl (λ t. refl) (λ t. refl)
+applied_rows S depth P (Return day x loan p) lawful h = crossed S depth P (Return day x loan p) (record { thing = x; loan = loan; wanted = Away; stage = Back }) lawful refl refl (λ t. refl) (λ t. refl)
+applied_rows S depth P (Receive day x loan p) lawful h = crossed S depth P (Receive day x loan p) (record { thing = x; loan = loan; wanted = Awaiting; stage = Here }) lawful refl refl (λ t. refl) (λ t. refl)
 applied_rows S depth P (SignOff name) lawful h = same_loans S P (SignOff name) refl (loan_rows S P) refl
-applied_rows S depth P (Extend loan day) lawful h = extended S depth P loan day lawful
+applied_rows S depth P (Extend day loan) lawful h = extended S depth P loan day lawful
 
 -- the rows after an entry
 pub rows_after_entry : (S : Museum) (depth : ℕ) (P : List Entry) (e : Entry) → Follows S depth P e → IsLawful S depth P →

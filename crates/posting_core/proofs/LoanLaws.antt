@@ -59,9 +59,9 @@ pub closed_is_over : (S : Museum) (P : List Entry) (loan : List ℕ) → loan_st
 closed_is_over S P loan closed o = closed_line S P loan (agreement P loan) o closed
 
 authorised : (S : Museum) (depth : ℕ) (P : List Entry) (m : Message) → verdict S depth P m ≡ Applied → IsAuthorised P m
-authorised S depth P (Exit x loan day) h = not-false (is_authorised P loan) (none_holds (exit_rows S P x loan day) refl h).1.1.1.0
-authorised S depth P (Return x loan p day) h = not-false (is_authorised P loan) (none_holds (return_rows S P x loan p) refl h).1.1.1.1.0
-authorised S depth P (Receive x loan p day) h = not-false (is_authorised P loan) (none_holds (receive_rows S P x loan p day) refl h).1.1.1.1.1.0
+authorised S depth P (Exit day x loan) h = not-false (is_authorised P loan) (none_holds (exit_rows S P x loan day) refl h).1.1.1.0
+authorised S depth P (Return day x loan p) h = not-false (is_authorised P loan) (none_holds (return_rows S P x loan p) refl h).1.1.1.1.0
+authorised S depth P (Receive day x loan p) h = not-false (is_authorised P loan) (none_holds (receive_rows S P x loan p day) refl h).1.1.1.1.1.0
 authorised S depth P _ h = tt
 
 not_over : (o : Option ℤ) (day : ℤ) → is_some o ≡ true → option_map_or (λ last. int_lt last day) o false ≡ false → (last : ℤ) × (o ≡ Some last) × (day ≤ℤ last)
@@ -76,10 +76,10 @@ within P loan day agreed h = not_over (last_day P loan) day (known (agreement P 
     known (Some t) e = e
 
 in_term : (S : Museum) (depth : ℕ) (P : List Entry) (m : Message) → verdict S depth P m ≡ Applied → IsInTerm P m
-in_term S depth P (Exit x loan day) h = λ out.
+in_term S depth P (Exit day x loan) h = λ out.
     let none = none_holds (exit_rows S P x loan day) refl h in
     within P loan day (not-false (is_agreed P loan) none.1.0) (sym (ap (λ b. b && is_over P loan day) out) ∙ none.1.1.1.1.1.1.1.0)
-in_term S depth P (Receive x loan p day) h =
+in_term S depth P (Receive day x loan p) h =
     let none = none_holds (receive_rows S P x loan p day) refl h in
     within P loan day (not-false (is_agreed P loan) none.1.1.1.0) none.1.1.1.1.1.1.1.1.1.1.0
 in_term S depth P _ h = tt

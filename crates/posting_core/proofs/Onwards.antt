@@ -161,7 +161,7 @@ later_day : (day next : ℤ) → int_le next day ≡ false → day ≤ℤ next
 later_day day next h = grind (arith, ints)
 
 extended : (S : Museum) (depth : ℕ) (P : List Entry) (m : Message) (loan : List ℕ) (day : ℤ) → verdict S depth P m ≡ Applied → last_day P loan ≡ Some day → day ≤ℤ unwrap_or (extension_in m loan) day
-extended S depth P (Extend l next) loan day applied is = elim (bytes_eq l loan) as (λ b. bytes_eq l loan ≡ b → day ≤ℤ unwrap_or (if b then Some next else None) day) [
+extended S depth P (Extend next l) loan day applied is = elim (bytes_eq l loan) as (λ b. bytes_eq l loan ≡ b → day ≤ℤ unwrap_or (if b then Some next else None) day) [
   | true ↦ λ h. let same : l ≡ loan = (bytes_eq-Decides l loan).0 h in
       later_day day next (sym (ap (λ o. option_map_or (λ last. int_le next last) o false) (ap (last_day P) same ∙ is)) ∙ (none_holds (extend_rows P l next) refl applied).1.1.0)
   | false ↦ λ h. same_day day
@@ -213,7 +213,7 @@ days_move_on B (e ∷ L) lawful loan =
 -- no crate leaves under a loan in
 
 uncrated : (S : Museum) (depth : ℕ) (P : List Entry) (m : Message) → verdict S depth P m ≡ Applied → LeavesUncrated P m
-uncrated S depth P (Exit x loan day) applied = λ loan_in. sym (ap (λ b. not b && is_container_code x) loan_in) ∙ (none_holds (exit_rows S P x loan day) refl applied).1.1.0
+uncrated S depth P (Exit day x loan) applied = λ loan_in. sym (ap (λ b. not b && is_container_code x) loan_in) ∙ (none_holds (exit_rows S P x loan day) refl applied).1.1.0
 uncrated S depth P _ applied = tt
 
 pub leave_uncrated : (S : Museum) (depth : ℕ) (P : List Entry) → IsLawful S depth P → AtEachApplied LeavesUncrated P

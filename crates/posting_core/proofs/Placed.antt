@@ -56,35 +56,35 @@ pub record IsAllowedPut (S : Museum) (depth : ℕ) (P : List Entry) (put : Put) 
   pub room : IsAllowed (last (puts S P)) (length S.things) depth put.thing put.to
 
 -- what leaves under a loan goes to a place of the setup
-leaves_to : (S : Museum) (depth : ℕ) (P : List Entry) (x loan : List ℕ) (day : ℤ) → IsLawful S depth P → thing_no S x < length S.things → IfSome (put_in S P (Exit x loan day)) (IsAllowedPut S depth P)
+leaves_to : (S : Museum) (depth : ℕ) (P : List Entry) (x loan : List ℕ) (day : ℤ) → IsLawful S depth P → thing_no S x < length S.things → IfSome (put_in S P (Exit day x loan)) (IsAllowedPut S depth P)
 leaves_to S depth P x loan day lawful thing = elim (agreement P loan) as (λ o. agreement P loan ≡ o → IfSome (option_map (λ t. record { thing = thing_no S x; to = At (place_no S t.partner) }) o) (IsAllowedPut S depth P)) [
   | None ↦ λ e. tt
   | Some t ↦ λ e. record { thing = thing; place = place_below S t.partner (agreement_sound S depth P loan t lawful e).partner; room = tt }
 ] refl
 
 put_applied : (S : Museum) (depth : ℕ) (P : List Entry) (m : Message) → IsLawful S depth P → verdict S depth P m ≡ Applied → IfSome (put_in S P m) (IsAllowedPut S depth P)
-put_applied S depth P (Move x p day) lawful h =
+put_applied S depth P (Move day x p) lawful h =
     let none = none_holds (move_rows S P x p) refl h in
     record { thing = thing_below S x (not-false (is_known S x) none.0); place = place_below S p (not-false (is_known_place S p) none.1.0); room = tt }
-put_applied S depth P (Pack x c day) lawful h =
+put_applied S depth P (Pack day x c) lawful h =
     let none = none_holds (pack_rows S depth P x c) refl h in
     record {
       thing = thing_below S x (not-false (is_known S x) none.0);
       place = tt;
       room = (thing_below S c (container_known S c (not-false (is_known_container S c) none.1.0)), none.1.1.1.1.0, none.1.1.1.1.1.0);
     }
-put_applied S depth P (Exit x loan day) lawful h =
+put_applied S depth P (Exit day x loan) lawful h =
     leaves_to S depth P x loan day lawful (thing_below S x (not-false (is_known S x) (none_holds (exit_rows S P x loan day) refl h).0))
-put_applied S depth P (Return x loan p day) lawful h =
+put_applied S depth P (Return day x loan p) lawful h =
     let none = none_holds (return_rows S P x loan p) refl h in
     record { thing = thing_below S x (not-false (is_known S x) none.0); place = place_below S p (not-false (is_known_place S p) none.1.0); room = tt }
-put_applied S depth P (Receive x loan p day) lawful h =
+put_applied S depth P (Receive day x loan p) lawful h =
     let none = none_holds (receive_rows S P x loan p day) refl h in
     record { thing = thing_below S x (not-false (is_known S x) none.0); place = place_below S p (not-false (is_known_place S p) none.1.0); room = tt }
-put_applied S depth P (Agree loan partner objects first final) lawful h = tt
-put_applied S depth P (Authorise loan name) lawful h = tt
+put_applied S depth P (Agree first final loan partner objects) lawful h = tt
+put_applied S depth P (Authorise name loan) lawful h = tt
 put_applied S depth P (SignOff name) lawful h = tt
-put_applied S depth P (Extend loan final) lawful h = tt
+put_applied S depth P (Extend final loan) lawful h = tt
 
 pub put_allowed : (S : Museum) (depth : ℕ) (P : List Entry) (v : Verdict) (m : Message) → IsLawful S depth P → v ≡ verdict S depth P m → IfSome (put_by S P v m) (IsAllowedPut S depth P)
 put_allowed S depth P v m lawful judged =

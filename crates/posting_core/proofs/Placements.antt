@@ -31,17 +31,17 @@ leaves_to S P x None put is = absurd (none-some _ is)
 leaves_to S P x (Some t) put is = subst (λ (p : Put). is_some (place_to S P p.to) ≡ true) (same_Some _ put is) refl
 
 target_placed : (S : Museum) (depth : ℕ) (P : List Entry) (m : Message) (put : Put) → verdict S depth P m ≡ Applied → put_in S P m ≡ Some put → is_some (place_to S P put.to) ≡ true
-target_placed S depth P (Move x p day) put applied is = subst (λ (p : Put). is_some (place_to S P p.to) ≡ true) (same_Some _ put is) refl
-target_placed S depth P (Pack x c day) put applied is =
+target_placed S depth P (Move day x p) put applied is = subst (λ (p : Put). is_some (place_to S P p.to) ≡ true) (same_Some _ put is) refl
+target_placed S depth P (Pack day x c) put applied is =
     let inside = not-false (stands_inside S P c) (none_holds (pack_rows S depth P x c) refl applied).1.1.1.0 in
     subst (λ (p : Put). is_some (place_to S P p.to) ≡ true) (same_Some _ put is) (inside_placed S (place_at S P (thing_no S c)) inside)
-target_placed S depth P (Exit x loan day) put applied is = leaves_to S P x (agreement P loan) put is
-target_placed S depth P (Return x loan p day) put applied is = subst (λ (p : Put). is_some (place_to S P p.to) ≡ true) (same_Some _ put is) refl
-target_placed S depth P (Receive x loan p day) put applied is = subst (λ (p : Put). is_some (place_to S P p.to) ≡ true) (same_Some _ put is) refl
-target_placed S depth P (Agree loan partner objects first final) put applied is = absurd (none-some _ is)
-target_placed S depth P (Authorise loan name) put applied is = absurd (none-some _ is)
+target_placed S depth P (Exit day x loan) put applied is = leaves_to S P x (agreement P loan) put is
+target_placed S depth P (Return day x loan p) put applied is = subst (λ (p : Put). is_some (place_to S P p.to) ≡ true) (same_Some _ put is) refl
+target_placed S depth P (Receive day x loan p) put applied is = subst (λ (p : Put). is_some (place_to S P p.to) ≡ true) (same_Some _ put is) refl
+target_placed S depth P (Agree first final loan partner objects) put applied is = absurd (none-some _ is)
+target_placed S depth P (Authorise name loan) put applied is = absurd (none-some _ is)
 target_placed S depth P (SignOff name) put applied is = absurd (none-some _ is)
-target_placed S depth P (Extend loan final) put applied is = absurd (none-some _ is)
+target_placed S depth P (Extend final loan) put applied is = absurd (none-some _ is)
 
 abbrev HasPlace : Museum → List Entry → ℕ → Type 0
 HasPlace S P x = is_some (last (puts S P) x) ≡ true → is_some (place_at S P x) ≡ true

@@ -151,7 +151,7 @@ news_within S P v m = elim (is_applied v) as (λ b. All (λ s. s.thing < length 
 
 -- a message that agrees a loan puts nothing anywhere
 unplaced : (S : Museum) (P : List Entry) (v : Verdict) (m : Message) → is_some (agreement_in m) ≡ true → put_by S P v m ≡ None
-unplaced S P v (Agree loan partner objects first final) agrees = elim (is_applied v) as (λ b. put_of b ≡ None) [ true ↦ refl | false ↦ refl ]
+unplaced S P v (Agree first final loan partner objects) agrees = elim (is_applied v) as (λ b. put_of b ≡ None) [ true ↦ refl | false ↦ refl ]
   where
     put_of : Bool → Option Put
     put_of b = if b then None else None

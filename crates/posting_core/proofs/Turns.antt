@@ -136,7 +136,7 @@ module _ {S : Museum} {depth : ℕ} {P : List Entry} {e : Entry} {o : ℕ} (a : 
         stages = crosses_without a o c cross (apart_not_among S P c.thing o object.object (subst (λ x. is_carried (length S.things) (puts S P) x o ≡ false) same apart));
       }))
 
-  exits : (x loan : List ℕ) (day : ℤ) → e.message ≡ Exit x loan day → first_of (exit_rows S P x loan day) ≡ Applied → Turn S P e o
+  exits : (x loan : List ℕ) (day : ℤ) → e.message ≡ Exit day x loan → first_of (exit_rows S P x loan day) ≡ Applied → Turn S P e o
   exits x loan day is h =
       let none = none_holds (exit_rows S P x loan day) refl h in
       let stands = inside_is S (place_at S P (thing_no S x)) (not-false (stands_inside S P x) none.1.1.1.1.0) in
@@ -158,7 +158,7 @@ module _ {S : Museum} {depth : ℕ} {P : List Entry} {e : Entry} {o : ℕ} (a : 
             }))
       ] refl (not-false (is_agreed P loan) none.1.0)
 
-  returns : (x loan p : List ℕ) (day : ℤ) → e.message ≡ Return x loan p day → first_of (return_rows S P x loan p) ≡ Applied → Turn S P e o
+  returns : (x loan p : List ℕ) (day : ℤ) → e.message ≡ Return day x loan p → first_of (return_rows S P x loan p) ≡ Applied → Turn S P e o
   returns x loan p day is h =
       let none = none_holds (return_rows S P x loan p) refl h in
       crosses (record { thing = thing_no S x; to = At (place_no S p) }) (record { thing = x; loan = loan; wanted = Away; stage = Back })
@@ -172,7 +172,7 @@ module _ {S : Museum} {depth : ℕ} {P : List Entry} {e : Entry} {o : ℕ} (a : 
         ready = ready;
       }))
 
-  receives : (x loan p : List ℕ) (day : ℤ) → e.message ≡ Receive x loan p day → first_of (receive_rows S P x loan p day) ≡ Applied → Turn S P e o
+  receives : (x loan p : List ℕ) (day : ℤ) → e.message ≡ Receive day x loan p → first_of (receive_rows S P x loan p day) ≡ Applied → Turn S P e o
   receives x loan p day is h =
       let none = none_holds (receive_rows S P x loan p day) refl h in
       crosses (record { thing = thing_no S x; to = At (place_no S p) }) (record { thing = x; loan = loan; wanted = Awaiting; stage = Here })
@@ -188,19 +188,19 @@ module _ {S : Museum} {depth : ℕ} {P : List Entry} {e : Entry} {o : ℕ} (a : 
       }))
 
   by : (m : Message) → e.message ≡ m → verdict S depth P m ≡ Applied → Turn S P e o
-  by (Move x p day) is h =
+  by (Move day x p) is h =
       let none = none_holds (move_rows S P x p) refl h in
       moves (record { thing = thing_no S x; to = At (place_no S p) }) (ap (put_in S P) is) (ap crossing_in is) none.1.1.1.0 (comes_inside S p none.1.0 none.1.1.0)
-  by (Pack x c day) is h =
+  by (Pack day x c) is h =
       let none = none_holds (pack_rows S depth P x c) refl h in
       moves (record { thing = thing_no S x; to = Within (thing_no S c) }) (ap (put_in S P) is) (ap crossing_in is) none.1.1.0 (inside_is S (place_at S P (thing_no S c)) (not-false (stands_inside S P c) none.1.1.1.0))
-  by (Agree loan partner objects first final) is h = nothing (ap (put_in S P) is) (ap crossing_in is)
-  by (Authorise loan name) is h = nothing (ap (put_in S P) is) (ap crossing_in is)
-  by (Exit x loan day) is h = exits x loan day is h
-  by (Return x loan p day) is h = returns x loan p day is h
-  by (Receive x loan p day) is h = receives x loan p day is h
+  by (Agree first final loan partner objects) is h = nothing (ap (put_in S P) is) (ap crossing_in is)
+  by (Authorise name loan) is h = nothing (ap (put_in S P) is) (ap crossing_in is)
+  by (Exit day x loan) is h = exits x loan day is h
+  by (Return day x loan p) is h = returns x loan p day is h
+  by (Receive day x loan p) is h = receives x loan p day is h
   by (SignOff name) is h = nothing (ap (put_in S P) is) (ap crossing_in is)
-  by (Extend loan final) is h = nothing (ap (put_in S P) is) (ap crossing_in is)
+  by (Extend final loan) is h = nothing (ap (put_in S P) is) (ap crossing_in is)
 
   pub turn : Turn S P e o
   turn = by e.message refl a.judged

@@ -26,13 +26,13 @@ came_back = run both_authorised (
     (pack, moved first_object (codes "S1"))
     ∷ (pack, moved (codes "2001.4.2") (codes "S1"))
     ∷ (pack, leaves first_object loan_1 may)
-    ∷ (pack, Return first_object loan_1 (codes "S1") may)
+    ∷ (pack, Return may first_object loan_1 (codes "S1"))
     ∷ [])
 
 -- the borrowed object came and was given back
 abbrev given_back : List Entry
 given_back = run both_authorised (
-    (pack, Receive (codes "L1999.7") loan_in_1 (codes "S1") may)
+    (pack, Receive may (codes "L1999.7") loan_in_1 (codes "S1"))
     ∷ (pack, leaves (codes "L1999.7") loan_in_1 may)
     ∷ [])
 
@@ -41,13 +41,13 @@ told_after P ms = map (verdict museum 8 P) ms
 
 -- the last three list a container twice, a borrowed object twice, and a borrowed object for a term that ends before it begins
 agree : told_after drafts (
-    Agree (codes "LO2024.9") (codes "S9") (codes "2009.1" ∷ []) may may_31
-    ∷ Agree loan_1 (codes "S9") (first_object ∷ []) may may_31
-    ∷ Agree loan_1 (codes "S1") (first_object ∷ []) may may_31
-    ∷ Agree (codes "LO2024.9") (codes "S1") [] may may_31
+    Agree may may_31 (codes "LO2024.9") (codes "S9") (codes "2009.1" ∷ [])
+    ∷ Agree may may_31 loan_1 (codes "S9") (first_object ∷ [])
+    ∷ Agree may may_31 loan_1 (codes "S1") (first_object ∷ [])
+    ∷ Agree may may_31 (codes "LO2024.9") (codes "S1") []
     ∷ agreed (codes "LO2024.9") (codes "C1" ∷ codes "C1" ∷ [])
     ∷ agreed (codes "LO2024.9") (codes "L1999.7" ∷ codes "L1999.7" ∷ [])
-    ∷ Agree (codes "LO2024.9") (codes "MUSEUM-X") (codes "L1999.7" ∷ []) may april_30
+    ∷ Agree may april_30 (codes "LO2024.9") (codes "MUSEUM-X") (codes "L1999.7" ∷ [])
     ∷ [])
     ≡ UnknownThing ∷ UnknownPlace ∷ LoanKnown ∷ InsidePartner ∷ NotObject ∷ Repeated ∷ WrongOwner ∷ []
 agree = refl
@@ -69,32 +69,32 @@ exit-here : told_after came_back (leaves (codes "2001.4.2") loan_1 may ∷ leave
 exit-here = refl
 
 return-drafts : told_after drafts (
-    Return (codes "2009.1") loan_1 (codes "S9") may
-    ∷ Return first_object (codes "LO2024.9") (codes "MUSEUM-X") may
-    ∷ Return first_object (codes "LO2024.9") (codes "S1") may
-    ∷ Return first_object loan_in_1 (codes "S1") may
+    Return may (codes "2009.1") loan_1 (codes "S9")
+    ∷ Return may first_object (codes "LO2024.9") (codes "MUSEUM-X")
+    ∷ Return may first_object (codes "LO2024.9") (codes "S1")
+    ∷ Return may first_object loan_in_1 (codes "S1")
     ∷ [])
     ≡ UnknownThing ∷ ElsewherePlace ∷ UnknownLoan ∷ NotAuthorised ∷ []
 return-drafts = refl
 
-return-authorised : told_after both_authorised (Return first_object loan_in_1 (codes "S1") may ∷ Return (codes "2001.4.2") loan_1 (codes "S1") may ∷ []) ≡ WrongDirection ∷ NotWithPartner ∷ []
+return-authorised : told_after both_authorised (Return may first_object loan_in_1 (codes "S1") ∷ Return may (codes "2001.4.2") loan_1 (codes "S1") ∷ []) ≡ WrongDirection ∷ NotWithPartner ∷ []
 return-authorised = refl
 
 receive-drafts : told_after drafts (
-    Receive (codes "2009.1") loan_in_1 (codes "S9") may
-    ∷ Receive first_object (codes "LI2024.9") (codes "MUSEUM-X") may
-    ∷ Receive (codes "C1") (codes "LI2024.9") (codes "S1") may
-    ∷ Receive (codes "C1") loan_in_1 (codes "S1") may
-    ∷ Receive first_object loan_1 (codes "S1") may
+    Receive may (codes "2009.1") loan_in_1 (codes "S9")
+    ∷ Receive may first_object (codes "LI2024.9") (codes "MUSEUM-X")
+    ∷ Receive may (codes "C1") (codes "LI2024.9") (codes "S1")
+    ∷ Receive may (codes "C1") loan_in_1 (codes "S1")
+    ∷ Receive may first_object loan_1 (codes "S1")
     ∷ [])
     ≡ UnknownThing ∷ ElsewherePlace ∷ UnknownLoan ∷ NotObject ∷ NotAuthorised ∷ []
 receive-drafts = refl
 
-receive-here : told_after came_back (Receive first_object loan_1 (codes "S1") may ∷ Receive (codes "2001.4.2") loan_in_1 (codes "S1") may ∷ []) ≡ WrongDirection ∷ AlreadyHere ∷ []
+receive-here : told_after came_back (Receive may first_object loan_1 (codes "S1") ∷ Receive may (codes "2001.4.2") loan_in_1 (codes "S1") ∷ []) ≡ WrongDirection ∷ AlreadyHere ∷ []
 receive-here = refl
 
-receive-given_back : told_after given_back (Receive (codes "2001.4.2") loan_in_1 (codes "S1") may ∷ Receive (codes "L1999.7") loan_in_1 (codes "S1") june_1 ∷ []) ≡ NotListed ∷ WrongStage ∷ []
+receive-given_back : told_after given_back (Receive may (codes "2001.4.2") loan_in_1 (codes "S1") ∷ Receive june_1 (codes "L1999.7") loan_in_1 (codes "S1") ∷ []) ≡ NotListed ∷ WrongStage ∷ []
 receive-given_back = refl
 
-extend : told_after drafts (Extend (codes "LO2024.9") june_1 ∷ Extend loan_1 april_30 ∷ []) ≡ UnknownLoan ∷ NotAuthorised ∷ []
+extend : told_after drafts (Extend june_1 (codes "LO2024.9") ∷ Extend april_30 loan_1 ∷ []) ≡ UnknownLoan ∷ NotAuthorised ∷ []
 extend = refl

@@ -23,10 +23,10 @@ abbrev pub loan_in_1 : List ℕ
 loan_in_1 = codes "LI2024.1"
 
 abbrev pub borrowing : Message
-borrowing = Agree loan_in_1 (codes "LENDER-Y") (codes "L1999.7" ∷ []) may may_31
+borrowing = Agree may may_31 loan_in_1 (codes "LENDER-Y") (codes "L1999.7" ∷ [])
 
 abbrev pub received : ℤ → Message
-received day = Receive (codes "L1999.7") loan_in_1 (codes "S1") day
+received day = Receive day (codes "L1999.7") loan_in_1 (codes "S1")
 
 -- loan_in: an object comes on the last day, is moved as any other, and is given back after the term
 
@@ -81,12 +81,12 @@ loan_in-receiving = refl
 
 abbrev tour_agreements : List Entry
 tour_agreements = run [] (
-    (pack, Agree loan_1 (codes "S1") [] may may_31)
+    (pack, Agree may may_31 loan_1 (codes "S1") [])
     ∷ (pack, agreed loan_1 [])
     ∷ (pack, agreed loan_1 (codes "C1" ∷ []))
     ∷ (pack, agreed loan_1 (codes "2001.4.1" ∷ codes "2001.4.1" ∷ []))
     ∷ (pack, agreed loan_1 (codes "L1999.7" ∷ []))
-    ∷ (pack, Agree loan_1 (codes "MUSEUM-X") (codes "2001.4.1" ∷ []) may april_30)
+    ∷ (pack, Agree may april_30 loan_1 (codes "MUSEUM-X") (codes "2001.4.1" ∷ []))
     ∷ [])
 
 abbrev tour_loans : List Entry
@@ -96,7 +96,7 @@ tour_loans = run tour_agreements (
     ∷ (pack, authorised loan_1)
     ∷ (pack, authorised loan_1)
     ∷ (pack, authorised (codes "LO2024.9"))
-    ∷ (pack, Receive (codes "2001.4.1") loan_1 (codes "S1") may)
+    ∷ (pack, Receive may (codes "2001.4.1") loan_1 (codes "S1"))
     ∷ [])
 
 abbrev tour_of_verdicts : List Entry
@@ -104,8 +104,8 @@ tour_of_verdicts = run tour_loans (
     (pack, moved (codes "2001.4.1") (codes "MUSEUM-X"))
     ∷ (pack, moved (codes "2001.4.1") (codes "S9"))
     ∷ (pack, moved (codes "2009.1") (codes "S1"))
-    ∷ (pack, Pack (codes "2001.4.1") (codes "2001.4.2") may)
-    ∷ (pack, Pack (codes "2001.4.1") (codes "C1") may)
+    ∷ (pack, Pack may (codes "2001.4.1") (codes "2001.4.2"))
+    ∷ (pack, Pack may (codes "2001.4.1") (codes "C1"))
     ∷ (pack, borrowing)
     ∷ (pack, leaves (codes "C1") loan_in_1 may)
     ∷ [])

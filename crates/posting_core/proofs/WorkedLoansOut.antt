@@ -39,19 +39,19 @@ loan_2 = codes "LO2024.2"
 
 -- a loan out to MUSEUM-X, in May
 abbrev pub agreed : List ℕ → List (List ℕ) → Message
-agreed loan objects = Agree loan (codes "MUSEUM-X") objects may may_31
+agreed loan objects = Agree may may_31 loan (codes "MUSEUM-X") objects
 
 abbrev pub authorised : List ℕ → Message
-authorised loan = Authorise loan (codes "Ada")
+authorised loan = Authorise (codes "Ada") loan
 
 abbrev pub leaves : List ℕ → List ℕ → ℤ → Message
-leaves x loan day = Exit x loan day
+leaves x loan day = Exit day x loan
 
 abbrev returned : List ℕ → List ℕ → List ℕ → ℤ → Message
-returned x loan p day = Return x loan p day
+returned x loan p day = Return day x loan p
 
 abbrev extended : List ℕ → ℤ → Message
-extended loan last = Extend loan last
+extended loan last = Extend last loan
 
 -- a spot of another day
 abbrev pub spot_on : ℕ → ℕ → ℤ → Spot
@@ -70,9 +70,9 @@ new_line o stage = record { loan = loan_1; object = o; stage = stage }
 abbrev pub three_packed : List Entry
 three_packed = run [] (
     (pack, moved (codes "C1") (codes "S1"))
-    ∷ (pack, Pack (codes "2001.4.1") (codes "C1") may)
-    ∷ (pack, Pack (codes "2001.4.2") (codes "C1") may)
-    ∷ (pack, Pack (codes "2001.4.3") (codes "C1") may)
+    ∷ (pack, Pack may (codes "2001.4.1") (codes "C1"))
+    ∷ (pack, Pack may (codes "2001.4.2") (codes "C1"))
+    ∷ (pack, Pack may (codes "2001.4.3") (codes "C1"))
     ∷ [])
 
 abbrev pub two_agreed : Message
@@ -173,7 +173,7 @@ loan_out-takes_along = refl
 
 abbrev pub first_back : List Entry
 first_back = run loan_out (
-    (pack, Move (codes "2001.4.1") (codes "S1") june_2)
+    (pack, Move june_2 (codes "2001.4.1") (codes "S1"))
     ∷ (pack, returned (codes "2001.4.1") loan_1 (codes "S1") june_2)
     ∷ [])
 

@@ -15,7 +15,7 @@ use Rattle.posting_core.specs.Book.{place_in, changes_of, asks_memory}
 use Rattle.posting_core.proofs.WorkedRows.{museum, pack, s1, s1_a, s2, crate_1, crate_2, object_1, object_2, may, moved, run, run_in, verdicts, book, spot, put_at}
 
 abbrev packed : List ℕ → List ℕ → Message
-packed x c = Pack x c may
+packed x c = Pack may x c
 
 -- a thing's next spot
 abbrev new : ℕ → ℕ → ℕ → ℕ → NewSpot

@@ -69,7 +69,7 @@ abbrev pub may : ℤ
 may = pos 19844
 
 abbrev pub moved : List ℕ → List ℕ → Message
-moved x p = Move x p may
+moved x p = Move may x p
 
 abbrev signed_off : Message
 signed_off = SignOff (codes "Ada")

@@ -66,9 +66,9 @@ AtEachApplied R (e ∷ P) = (is_applied e.verdict ≡ true → R P e.message) ×
 
 -- a thing crosses only under an authorised loan
 abbrev pub IsAuthorised : List Entry → Message → Type 0
-IsAuthorised P (Exit x loan day) = is_authorised P loan ≡ true
-IsAuthorised P (Return x loan p day) = is_authorised P loan ≡ true
-IsAuthorised P (Receive x loan p day) = is_authorised P loan ≡ true
+IsAuthorised P (Exit day x loan) = is_authorised P loan ≡ true
+IsAuthorised P (Return day x loan p) = is_authorised P loan ≡ true
+IsAuthorised P (Receive day x loan p) = is_authorised P loan ≡ true
 IsAuthorised P _ = Unit {0}
 
 -- the day is not after the loan's last day
@@ -77,8 +77,8 @@ IsWithin P loan day = (last : ℤ) × (last_day P loan ≡ Some last) × (day �
 
 -- a thing goes out under a loan out, and comes under a loan in, no later than the loan's last day
 abbrev pub IsInTerm : List Entry → Message → Type 0
-IsInTerm P (Exit x loan day) = is_out loan ≡ true → IsWithin P loan day
-IsInTerm P (Receive x loan p day) = IsWithin P loan day
+IsInTerm P (Exit day x loan) = is_out loan ≡ true → IsWithin P loan day
+IsInTerm P (Receive day x loan p) = IsWithin P loan day
 IsInTerm P _ = Unit {0}
 
 -- two ledgers answer alike: of every thing and of every loan they tell the same

@@ -19,7 +19,7 @@ pub record Agreement : Type 0 where
   pub last : ℤ
 
 abbrev pub agreement_in : Message → Option Agreement
-agreement_in (Agree loan partner objects first last) =
+agreement_in (Agree first last loan partner objects) =
     Some (record { loan = loan; partner = partner; objects = objects; first = first; last = last })
 agreement_in _ = None
 
@@ -44,7 +44,7 @@ abbrev pub is_agreed : List Entry → List ℕ → Bool
 is_agreed P loan = is_some (agreement P loan)
 
 abbrev pub authorises : Message → List ℕ → Bool
-authorises (Authorise l name) loan = bytes_eq l loan
+authorises (Authorise name l) loan = bytes_eq l loan
 authorises _ loan = false
 
 -- an applied entry authorises the loan
@@ -53,7 +53,7 @@ is_authorised P loan = list_any (λ e. is_applied e.verdict && authorises e.mess
 
 -- the last day to which a message extends the loan
 abbrev pub extension_in : Message → List ℕ → Option ℤ
-extension_in (Extend l last) loan = if bytes_eq l loan then Some last else None
+extension_in (Extend last l) loan = if bytes_eq l loan then Some last else None
 extension_in _ loan = None
 
 -- the last day of a loan that was agreed until this one: that of its last applied extension, where there is one

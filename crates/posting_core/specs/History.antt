@@ -17,13 +17,13 @@ use Rattle.posting_core.specs.VerdictNames.{is_applied}
 
 -- where a message puts its thing, after the entries P; what leaves under a loan goes to the partner's place
 abbrev pub put_in : Museum → List Entry → Message → Option Put
-put_in S P (Move x p day) = Some (record { thing = thing_no S x; to = At (place_no S p) })
-put_in S P (Pack x c day) = Some (record { thing = thing_no S x; to = Within (thing_no S c) })
-put_in S P (Exit x loan day) =
+put_in S P (Move day x p) = Some (record { thing = thing_no S x; to = At (place_no S p) })
+put_in S P (Pack day x c) = Some (record { thing = thing_no S x; to = Within (thing_no S c) })
+put_in S P (Exit day x loan) =
     option_map (λ t. record { thing = thing_no S x; to = At (place_no S t.partner) })
     (agreement P loan)
-put_in S P (Return x loan p day) = Some (record { thing = thing_no S x; to = At (place_no S p) })
-put_in S P (Receive x loan p day) = Some (record { thing = thing_no S x; to = At (place_no S p) })
+put_in S P (Return day x loan p) = Some (record { thing = thing_no S x; to = At (place_no S p) })
+put_in S P (Receive day x loan p) = Some (record { thing = thing_no S x; to = At (place_no S p) })
 put_in S P _ = None
 
 -- where it puts its thing under this verdict: a refused message places nothing

@@ -10,11 +10,11 @@ use Rattle.posting_core.specs.declared.message.Message.TheVariants as says
 
 -- the message that is kept so
 abbrev pub said : Form → Message
-said (Move day thing place) = says.Move thing place day
-said (Pack day thing container) = says.Pack thing container day
-said (Exit day thing loan) = says.Exit thing loan day
-said (Return day thing loan place) = says.Return thing loan place day
-said (Receive day thing loan place) = says.Receive thing loan place day
+said (Move day thing place) = says.Move day thing place
+said (Pack day thing container) = says.Pack day thing container
+said (Exit day thing loan) = says.Exit day thing loan
+said (Return day thing loan place) = says.Return day thing loan place
+said (Receive day thing loan place) = says.Receive day thing loan place
 said (Whole m) = m.value
 
 -- what stands in short are codes

@@ -86,15 +86,15 @@ changed change loan (row ∷ rows) =
 
 -- the rows after an applied message that makes or changes these lines
 abbrev pub rows_with : Museum → List LoanRow → Message → List NewLine → List LoanRow
-rows_with S rows (Agree loan partner objects first last) lines =
+rows_with S rows (Agree first last loan partner objects) lines =
     rows ++ agreed_row S
     (record { loan = loan; partner = partner; objects = objects; first = first; last = last })
     ∷ []
-rows_with S rows (Authorise loan name) lines = changed authorised_row loan rows
-rows_with S rows (Exit x loan day) lines = changed (with_lines lines) loan rows
-rows_with S rows (Return x loan p day) lines = changed (with_lines lines) loan rows
-rows_with S rows (Receive x loan p day) lines = changed (with_lines lines) loan rows
-rows_with S rows (Extend loan last) lines = changed (extended_row last) loan rows
+rows_with S rows (Authorise name loan) lines = changed authorised_row loan rows
+rows_with S rows (Exit day x loan) lines = changed (with_lines lines) loan rows
+rows_with S rows (Return day x loan p) lines = changed (with_lines lines) loan rows
+rows_with S rows (Receive day x loan p) lines = changed (with_lines lines) loan rows
+rows_with S rows (Extend last loan) lines = changed (extended_row last) loan rows
 rows_with S rows _ lines = rows
 
 -- an agreement can be kept: its objects are of the setup, none stands twice, and the loan is new

@@ -45,9 +45,9 @@ abbrev pub receive_of : List ℕ → List ℕ → Crossing
 receive_of x loan = record { thing = x; loan = loan; wanted = Awaiting; stage = Here }
 
 abbrev pub crossing_in : Message → Option Crossing
-crossing_in (Exit x loan day) = Some (exit_of x loan)
-crossing_in (Return x loan p day) = Some (return_of x loan)
-crossing_in (Receive x loan p day) = Some (receive_of x loan)
+crossing_in (Exit day x loan) = Some (exit_of x loan)
+crossing_in (Return day x loan p) = Some (return_of x loan)
+crossing_in (Receive day x loan p) = Some (receive_of x loan)
 crossing_in _ = None
 
 -- the objects among what thing x carries, itself too where it is one

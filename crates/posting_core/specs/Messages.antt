@@ -14,11 +14,11 @@ place_no S code = unwrap_or (find_place S code) (length S.places)
 
 -- the location date that a message bears
 abbrev pub day_of : Message → Option ℤ
-day_of (Move x p day) = Some day
-day_of (Pack x c day) = Some day
-day_of (Exit x loan day) = Some day
-day_of (Return x loan p day) = Some day
-day_of (Receive x loan p day) = Some day
+day_of (Move day x p) = Some day
+day_of (Pack day x c) = Some day
+day_of (Exit day x loan) = Some day
+day_of (Return day x loan p) = Some day
+day_of (Receive day x loan p) = Some day
 day_of _ = None
 
 abbrev pub is_sign_off : Message → Bool

@@ -58,5 +58,5 @@ MovesOn day next = IfSome day (λ d. (n : ℤ) × (next ≡ Some n) × (d ≤ℤ
 
 -- what leaves under a loan in is no container
 abbrev pub LeavesUncrated : List Entry → Message → Type 0
-LeavesUncrated P (Exit x loan day) = is_out loan ≡ false → is_container_code x ≡ false
+LeavesUncrated P (Exit day x loan) = is_out loan ≡ false → is_container_code x ≡ false
 LeavesUncrated P _ = Unit {0}

@@ -233,13 +233,13 @@ extend_rows P loan day =
 
 -- the verdict, under a depth limit
 abbrev pub verdict : Museum → ℕ → List Entry → Message → Verdict
-verdict S depth P (Move x p day) = first_of (move_rows S P x p)
-verdict S depth P (Pack x c day) = first_of (pack_rows S depth P x c)
-verdict S depth P (Agree loan partner objects first last) =
+verdict S depth P (Move day x p) = first_of (move_rows S P x p)
+verdict S depth P (Pack day x c) = first_of (pack_rows S depth P x c)
+verdict S depth P (Agree first last loan partner objects) =
     first_of (agree_rows S P loan partner objects first last)
-verdict S depth P (Authorise loan name) = first_of (authorise_rows P loan)
-verdict S depth P (Exit x loan day) = first_of (exit_rows S P x loan day)
-verdict S depth P (Return x loan p day) = first_of (return_rows S P x loan p)
-verdict S depth P (Receive x loan p day) = first_of (receive_rows S P x loan p day)
+verdict S depth P (Authorise name loan) = first_of (authorise_rows P loan)
+verdict S depth P (Exit day x loan) = first_of (exit_rows S P x loan day)
+verdict S depth P (Return day x loan p) = first_of (return_rows S P x loan p)
+verdict S depth P (Receive day x loan p) = first_of (receive_rows S P x loan p day)
 verdict S depth P (SignOff name) = Applied
-verdict S depth P (Extend loan last) = first_of (extend_rows P loan last)
+verdict S depth P (Extend last loan) = first_of (extend_rows P loan last)

@@ -5,52 +5,52 @@ use crate::Objects;
 use codes_core::{Day, LoanCode, Name, NoMemory, PlaceCode, ThingCode};
 use std::alloc::Global;
 
-/// A message of a station.
+/// A message of a station. In each kind the days stand first, so that the codes behind them are copied in whole words.
 pub enum Message {
     /// The thing is put straight at the place, on this day.
     Move {
+        day: Day,
         thing: ThingCode,
         place: PlaceCode,
-        day: Day,
     },
     /// The thing is put straight into the container, on this day.
     Pack {
+        day: Day,
         thing: ThingCode,
         container: ThingCode,
-        day: Day,
     },
     /// The loan is agreed with the partner at this place: its objects, its first day and its last.
     Agree {
+        first: Day,
+        last: Day,
         loan: LoanCode,
         partner: PlaceCode,
         objects: Objects,
-        first: Day,
-        last: Day,
     },
     /// The loan is authorised, and who authorises it.
     Authorise {
-        loan: LoanCode,
         name: Name,
+        loan: LoanCode,
     },
     /// The thing leaves under the loan, to the partner's place, on this day.
     Exit {
+        day: Day,
         thing: ThingCode,
         loan: LoanCode,
-        day: Day,
     },
     /// The thing comes back under the loan out, to the place, on this day.
     Return {
+        day: Day,
         thing: ThingCode,
         loan: LoanCode,
         place: PlaceCode,
-        day: Day,
     },
     /// The thing comes under the loan in, to the place, on this day.
     Receive {
+        day: Day,
         thing: ThingCode,
         loan: LoanCode,
         place: PlaceCode,
-        day: Day,
     },
     /// The station's last message, and who signs it.
     SignOff {
@@ -58,8 +58,8 @@ pub enum Message {
     },
     /// The loan gets a later last day.
     Extend {
-        loan: LoanCode,
         last: Day,
+        loan: LoanCode,
     },
 }
 

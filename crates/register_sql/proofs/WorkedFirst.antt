@@ -46,10 +46,10 @@ abbrev entry : ℕ → Message → Verdict → Entry
 entry n m v = record { station = 0; n = n; message = m; verdict = v }
 
 abbrev agreed : Entry
-agreed = entry 1 (Agree (codes "LO2024.1") (codes "MUSEUM-X") (codes "2001.4.1" ∷ []) may end_of_may) Applied
+agreed = entry 1 (Agree may end_of_may (codes "LO2024.1") (codes "MUSEUM-X") (codes "2001.4.1" ∷ [])) Applied
 
 abbrev moved : Entry
-moved = entry 2 (Move (codes "2001.4.1") (codes "S1") may) Applied
+moved = entry 2 (Move may (codes "2001.4.1") (codes "S1")) Applied
 
 abbrev entries : List Entry
 entries = moved ∷ agreed ∷ []
@@ -221,8 +221,8 @@ is_migrated = (
 
 -- ---- no entries of version 1
 
-extension : IsEarlyOf 1 (entry 3 (Extend (codes "LO2024.1") (pos 19904)) Applied) → ⊥
+extension : IsEarlyOf 1 (entry 3 (Extend (pos 19904) (codes "LO2024.1")) Applied) → ⊥
 extension h = absurd (let no : false ≡ true = h.early in cc)
 
-not_later : IsEarlyOf 1 (entry 3 (Move (codes "2001.4.1") (codes "S1") may) NotLater) → ⊥
+not_later : IsEarlyOf 1 (entry 3 (Move may (codes "2001.4.1") (codes "S1")) NotLater) → ⊥
 not_later h = absurd (let no : false ≡ true = h.early in cc)

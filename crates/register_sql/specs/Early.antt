@@ -11,7 +11,7 @@ use Rattle.register_store.specs.Registers.{IsOfStation}
 use Rattle.register_store.specs.StoredRows.{Content, PostingRow, IsPostingRow, ArePostings}
 
 abbrev pub is_early_message : Message → Bool
-is_early_message (Extend loan last) = false
+is_early_message (Extend last loan) = false
 is_early_message _ = true
 
 abbrev pub is_early_verdict : Verdict → Bool

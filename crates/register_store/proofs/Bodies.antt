@@ -125,16 +125,16 @@ of_things [] h = tt
 of_things (o ∷ os) h = let both = and_parts (is_thing o) (list_all is_thing os) h in (of_thing o (no_fault (thing_fault o) both.0), of_things os both.1)
 
 texts : (m : message.Message) → IsSpelled m → HasTexts (json m)
-texts (Move x p day) h = (refl, of_day day, (refl, of_word (codes "move") refl, (refl, of_place p h.1, (refl, of_thing x h.0, tt))))
-texts (Pack x c day) h = (refl, of_thing c h.1, (refl, of_day day, (refl, of_word (codes "pack") refl, (refl, of_thing x h.0, tt))))
-texts (Agree loan partner objects first last) h =
+texts (Move day x p) h = (refl, of_day day, (refl, of_word (codes "move") refl, (refl, of_place p h.1, (refl, of_thing x h.0, tt))))
+texts (Pack day x c) h = (refl, of_thing c h.1, (refl, of_day day, (refl, of_word (codes "pack") refl, (refl, of_thing x h.0, tt))))
+texts (Agree first last loan partner objects) h =
     (refl, of_day first, (refl, of_word (codes "agree") refl, (refl, of_day last, (refl, of_loan loan h.0, (refl, of_things objects h.2.things, (refl, of_place partner h.1, tt))))))
-texts (Authorise loan name) h = (refl, h.1.utf8, (refl, of_word (codes "authorise") refl, (refl, of_loan loan h.0, tt)))
-texts (Exit x loan day) h = (refl, of_day day, (refl, of_word (codes "exit") refl, (refl, of_loan loan h.1, (refl, of_thing x h.0, tt))))
-texts (Return x loan p day) h = (refl, of_day day, (refl, of_word (codes "return") refl, (refl, of_loan loan h.1, (refl, of_place p h.2, (refl, of_thing x h.0, tt)))))
-texts (Receive x loan p day) h = (refl, of_day day, (refl, of_word (codes "receive") refl, (refl, of_loan loan h.1, (refl, of_place p h.2, (refl, of_thing x h.0, tt)))))
+texts (Authorise name loan) h = (refl, h.1.utf8, (refl, of_word (codes "authorise") refl, (refl, of_loan loan h.0, tt)))
+texts (Exit day x loan) h = (refl, of_day day, (refl, of_word (codes "exit") refl, (refl, of_loan loan h.1, (refl, of_thing x h.0, tt))))
+texts (Return day x loan p) h = (refl, of_day day, (refl, of_word (codes "return") refl, (refl, of_loan loan h.1, (refl, of_place p h.2, (refl, of_thing x h.0, tt)))))
+texts (Receive day x loan p) h = (refl, of_day day, (refl, of_word (codes "receive") refl, (refl, of_loan loan h.1, (refl, of_place p h.2, (refl, of_thing x h.0, tt)))))
 texts (SignOff name) h = (refl, h.utf8, (refl, of_word (codes "signoff") refl, tt))
-texts (Extend loan last) h = (refl, of_word (codes "extend") refl, (refl, of_day last, (refl, of_loan loan h.0, tt)))
+texts (Extend last loan) h = (refl, of_word (codes "extend") refl, (refl, of_day last, (refl, of_loan loan h.0, tt)))
 
 -- the value that is read of the text
 
@@ -147,29 +147,29 @@ flat [] = refl
 flat (o ∷ os) = rw (flat os) refl
 
 outline_back : (m : message.Message) → serde.of_json (outline (json m)) ≡ Some (json m)
-outline_back (Move x p day) = refl
-outline_back (Pack x c day) = refl
-outline_back (Agree loan partner objects first last) = rw (items_back objects) refl
-outline_back (Authorise loan name) = refl
-outline_back (Exit x loan day) = refl
-outline_back (Return x loan p day) = refl
-outline_back (Receive x loan p day) = refl
+outline_back (Move day x p) = refl
+outline_back (Pack day x c) = refl
+outline_back (Agree first last loan partner objects) = rw (items_back objects) refl
+outline_back (Authorise name loan) = refl
+outline_back (Exit day x loan) = refl
+outline_back (Return day x loan p) = refl
+outline_back (Receive day x loan p) = refl
 outline_back (SignOff name) = refl
-outline_back (Extend loan last) = refl
+outline_back (Extend last loan) = refl
 
 low : (n k : ℕ) → n ≡ k → k ≤ 2 → n ≤ max_depth
 low n k same few = omega arith
 
 shallow : (m : message.Message) → tree.depth (outline (json m)) ≤ max_depth
-shallow (Move x p day) = low _ 1 refl (omega arith)
-shallow (Pack x c day) = low _ 1 refl (omega arith)
-shallow (Agree loan partner objects first last) = low _ 2 (rw (flat objects) refl) (omega arith)
-shallow (Authorise loan name) = low _ 1 refl (omega arith)
-shallow (Exit x loan day) = low _ 1 refl (omega arith)
-shallow (Return x loan p day) = low _ 1 refl (omega arith)
-shallow (Receive x loan p day) = low _ 1 refl (omega arith)
+shallow (Move day x p) = low _ 1 refl (omega arith)
+shallow (Pack day x c) = low _ 1 refl (omega arith)
+shallow (Agree first last loan partner objects) = low _ 2 (rw (flat objects) refl) (omega arith)
+shallow (Authorise name loan) = low _ 1 refl (omega arith)
+shallow (Exit day x loan) = low _ 1 refl (omega arith)
+shallow (Return day x loan p) = low _ 1 refl (omega arith)
+shallow (Receive day x loan p) = low _ 1 refl (omega arith)
 shallow (SignOff name) = low _ 1 refl (omega arith)
-shallow (Extend loan last) = low _ 1 refl (omega arith)
+shallow (Extend last loan) = low _ 1 refl (omega arith)
 
 read_text : (m : message.Message) → HasTexts (json m) → read (body_of m) ≡ Some (json m)
 read_text m has =
@@ -182,17 +182,17 @@ read_text m has =
 -- the message of that value
 
 json_back : (m : message.Message) → IsSpelled m → of_json (json m) ≡ Ok m
-json_back (Move x p day) h = rw (h.0, h.1, h.2.spells.0, h.2.spells.1) refl
-json_back (Pack x c day) h = rw (h.0, h.1, h.2.spells.0, h.2.spells.1) refl
-json_back (Agree loan partner objects first last) h =
+json_back (Move day x p) h = rw (h.0, h.1, h.2.spells.0, h.2.spells.1) refl
+json_back (Pack day x c) h = rw (h.0, h.1, h.2.spells.0, h.2.spells.1) refl
+json_back (Agree first last loan partner objects) h =
     let fits = strings_fit is_thing objects h.2.few h.2.things in
     rw (h.0, h.1, fits, h.3.spells.0, h.3.spells.1, h.4.spells.0, h.4.spells.1, texts_back objects) refl
-json_back (Authorise loan name) h = rw (h.0, name_passes name h.1) refl
-json_back (Exit x loan day) h = rw (h.0, h.1, h.2.spells.0, h.2.spells.1) refl
-json_back (Return x loan p day) h = rw (h.0, h.1, h.2, h.3.spells.0, h.3.spells.1) refl
-json_back (Receive x loan p day) h = rw (h.0, h.1, h.2, h.3.spells.0, h.3.spells.1) refl
+json_back (Authorise name loan) h = rw (h.0, name_passes name h.1) refl
+json_back (Exit day x loan) h = rw (h.0, h.1, h.2.spells.0, h.2.spells.1) refl
+json_back (Return day x loan p) h = rw (h.0, h.1, h.2, h.3.spells.0, h.3.spells.1) refl
+json_back (Receive day x loan p) h = rw (h.0, h.1, h.2, h.3.spells.0, h.3.spells.1) refl
 json_back (SignOff name) h = rw (name_passes name h) refl
-json_back (Extend loan last) h = rw (h.0, h.1.spells.0, h.1.spells.1) refl
+json_back (Extend last loan) h = rw (h.0, h.1.spells.0, h.1.spells.1) refl
 
 pub reads_back : (m : message.Message) → IsSpelled m → of_bytes (body_of m) ≡ Ok m
 reads_back m h =

@@ -252,18 +252,18 @@ other S P true m none still = ap (λ o. all_at S (stage_after S P true m) (agree
 other S P false m none still = ap (all_at S (stage_after S P false m)) (append-nil (agreements P))
 
 applied_lines : (S : Museum) (depth : ℕ) (P : List Entry) (m : Message) → IsLawful S depth P → verdict S depth P m ≡ Applied → IsPermutation (lines_after S P true m) (put_each has_same_key (new_lines S P m) (lines_by_loan S P))
-applied_lines S depth P (Move x p day) lawful h = IsPermutation-same _ _ (other S P true (Move x p day) refl refl)
-applied_lines S depth P (Pack x c day) lawful h = IsPermutation-same _ _ (other S P true (Pack x c day) refl refl)
-applied_lines S depth P (Agree loan partner objects first final) lawful h =
-    agreed S depth P (Agree loan partner objects first final) (record { loan = loan; partner = partner; objects = objects; first = first; last = final }) lawful h refl refl
-applied_lines S depth P (Authorise loan name) lawful h = IsPermutation-same _ _ (other S P true (Authorise loan name) refl refl)
-applied_lines S depth P (Exit x loan day) lawful h = crossed S depth P (Exit x loan day) (exit_of x loan) lawful refl refl (none_holds (exit_rows S P x loan day) refl h).1.1.1.1.1.0
-applied_lines S depth P (Return x loan p day) lawful h =
-    crossed S depth P (Return x loan p day) (record { thing = x; loan = loan; wanted = Away; stage = Back }) lawful refl refl (none_holds (return_rows S P x loan p) refl h).1.1.1.1.1.1.1.0
-applied_lines S depth P (Receive x loan p day) lawful h =
-    crossed S depth P (Receive x loan p day) (record { thing = x; loan = loan; wanted = Awaiting; stage = Here }) lawful refl refl (none_holds (receive_rows S P x loan p day) refl h).1.1.1.1.1.1.1.1.0
+applied_lines S depth P (Move day x p) lawful h = IsPermutation-same _ _ (other S P true (Move day x p) refl refl)
+applied_lines S depth P (Pack day x c) lawful h = IsPermutation-same _ _ (other S P true (Pack day x c) refl refl)
+applied_lines S depth P (Agree first final loan partner objects) lawful h =
+    agreed S depth P (Agree first final loan partner objects) (record { loan = loan; partner = partner; objects = objects; first = first; last = final }) lawful h refl refl
+applied_lines S depth P (Authorise name loan) lawful h = IsPermutation-same _ _ (other S P true (Authorise name loan) refl refl)
+applied_lines S depth P (Exit day x loan) lawful h = crossed S depth P (Exit day x loan) (exit_of x loan) lawful refl refl (none_holds (exit_rows S P x loan day) refl h).1.1.1.1.1.0
+applied_lines S depth P (Return day x loan p) lawful h =
+    crossed S depth P (Return day x loan p) (record { thing = x; loan = loan; wanted = Away; stage = Back }) lawful refl refl (none_holds (return_rows S P x loan p) refl h).1.1.1.1.1.1.1.0
+applied_lines S depth P (Receive day x loan p) lawful h =
+    crossed S depth P (Receive day x loan p) (record { thing = x; loan = loan; wanted = Awaiting; stage = Here }) lawful refl refl (none_holds (receive_rows S P x loan p day) refl h).1.1.1.1.1.1.1.1.0
 applied_lines S depth P (SignOff name) lawful h = IsPermutation-same _ _ (other S P true (SignOff name) refl refl)
-applied_lines S depth P (Extend loan day) lawful h = IsPermutation-same _ _ (other S P true (Extend loan day) refl refl)
+applied_lines S depth P (Extend day loan) lawful h = IsPermutation-same _ _ (other S P true (Extend day loan) refl refl)
 
 -- the lines after an entry
 next_lines : (S : Museum) (depth : ℕ) (P : List Entry) (e : Entry) → Follows S depth P e → IsLawful S depth P

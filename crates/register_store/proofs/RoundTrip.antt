@@ -13,15 +13,15 @@ no_float_listed [] = refl
 no_float_listed (text ∷ texts) = no_float_listed texts
 
 pub no_float : (m : message.Message) → has_float (json m) ≡ false
-no_float (Move x p day) = refl
-no_float (Pack x c day) = refl
-no_float (Agree loan partner objects first last) = rw (no_float_listed objects) refl
-no_float (Authorise loan name) = refl
-no_float (Exit x loan day) = refl
-no_float (Return x loan p day) = refl
-no_float (Receive x loan p day) = refl
+no_float (Move day x p) = refl
+no_float (Pack day x c) = refl
+no_float (Agree first last loan partner objects) = rw (no_float_listed objects) refl
+no_float (Authorise name loan) = refl
+no_float (Exit day x loan) = refl
+no_float (Return day x loan p) = refl
+no_float (Receive day x loan p) = refl
 no_float (SignOff name) = refl
-no_float (Extend loan last) = refl
+no_float (Extend last loan) = refl
 
 pub one_text : (m : message.Message) (a b : List ℕ) → IsTextOf m a → IsTextOf m b → a ≡ b
 one_text m a b h k = h ∙ sym k

@@ -69,12 +69,12 @@ last_after P b m t = unwrap_or (if b then extension_in m t.loan else None) (last
 abbrev terms_after : List Entry → Bool → Message → List TermRow
 terms_after P b m = terms_at (last_after P b m) (agreements P ++ option_to_list (if b then agreement_in m else None))
 
-extended : (S : Museum) (depth : ℕ) (P : List Entry) (loan : List ℕ) (day : ℤ) → IsLawful S depth P → not (is_agreed P loan) ≡ false → IsPermutation (terms_after P true (Extend loan day)) (put is_same_loan (row loan day) (rows_of_terms P))
+extended : (S : Museum) (depth : ℕ) (P : List Entry) (loan : List ℕ) (day : ℤ) → IsLawful S depth P → not (is_agreed P loan) ≡ false → IsPermutation (terms_after P true (Extend day loan)) (put is_same_loan (row loan day) (rows_of_terms P))
 extended S depth P loan day lawful known =
     let f : Agreement → ℤ = λ t. last_from P t.loan t.last in
-    let each : map (replaced is_same_loan (row loan day)) (rows_of_terms P) ≡ terms_at (last_after P true (Extend loan day)) (agreements P) =
+    let each : map (replaced is_same_loan (row loan day)) (rows_of_terms P) ≡ terms_at (last_after P true (Extend day loan)) (agreements P) =
     map-map (replaced is_same_loan (row loan day)) (λ t. row t.loan (f t)) (agreements P) ∙ map_same _ _ (one_set f loan day) (agreements P) in
-    subst (λ ts. IsPermutation (terms_at (last_after P true (Extend loan day)) ts) (put is_same_loan (row loan day) (rows_of_terms P))) (sym (append-nil (agreements P)))
+    subst (λ ts. IsPermutation (terms_at (last_after P true (Extend day loan)) ts) (put is_same_loan (row loan day) (rows_of_terms P))) (sym (append-nil (agreements P)))
     (subst (λ rows. IsPermutation rows (put is_same_loan (row loan day) (rows_of_terms P))) each
     (put_replaces is_same_loan same_apart (row loan day) (rows_of_terms P) (terms_once S depth P lawful) (has_at f loan day (agreements P) (not-false (is_agreed P loan) known))))
 
@@ -107,16 +107,16 @@ unchanged P b m none stays =
     ∙ map_same _ _ (λ u. ap (λ (o : Option ℤ). row u.loan (unwrap_or o (last_from P u.loan u.last))) (stays u)) (agreements P))
 
 applied_term : (S : Museum) (depth : ℕ) (P : List Entry) (m : Message) → IsLawful S depth P → verdict S depth P m ≡ Applied → IsPermutation (terms_after P true m) (with_term (term_in m) (rows_of_terms P))
-applied_term S depth P (Move x p day) lawful h = unchanged P true (Move x p day) refl (λ u. refl)
-applied_term S depth P (Pack x c day) lawful h = unchanged P true (Pack x c day) refl (λ u. refl)
-applied_term S depth P (Agree loan partner objects first final) lawful h =
-    agreed S depth P (Agree loan partner objects first final) (record { loan = loan; partner = partner; objects = objects; first = first; last = final }) lawful h refl (λ u. refl)
-applied_term S depth P (Authorise loan name) lawful h = unchanged P true (Authorise loan name) refl (λ u. refl)
-applied_term S depth P (Exit x loan day) lawful h = unchanged P true (Exit x loan day) refl (λ u. refl)
-applied_term S depth P (Return x loan p day) lawful h = unchanged P true (Return x loan p day) refl (λ u. refl)
-applied_term S depth P (Receive x loan p day) lawful h = unchanged P true (Receive x loan p day) refl (λ u. refl)
+applied_term S depth P (Move day x p) lawful h = unchanged P true (Move day x p) refl (λ u. refl)
+applied_term S depth P (Pack day x c) lawful h = unchanged P true (Pack day x c) refl (λ u. refl)
+applied_term S depth P (Agree first final loan partner objects) lawful h =
+    agreed S depth P (Agree first final loan partner objects) (record { loan = loan; partner = partner; objects = objects; first = first; last = final }) lawful h refl (λ u. refl)
+applied_term S depth P (Authorise name loan) lawful h = unchanged P true (Authorise name loan) refl (λ u. refl)
+applied_term S depth P (Exit day x loan) lawful h = unchanged P true (Exit day x loan) refl (λ u. refl)
+applied_term S depth P (Return day x loan p) lawful h = unchanged P true (Return day x loan p) refl (λ u. refl)
+applied_term S depth P (Receive day x loan p) lawful h = unchanged P true (Receive day x loan p) refl (λ u. refl)
 applied_term S depth P (SignOff name) lawful h = unchanged P true (SignOff name) refl (λ u. refl)
-applied_term S depth P (Extend loan day) lawful h = extended S depth P loan day lawful (none_holds (extend_rows P loan day) refl h).0
+applied_term S depth P (Extend day loan) lawful h = extended S depth P loan day lawful (none_holds (extend_rows P loan day) refl h).0
 
 -- the last days after an entry
 pub next_terms : (S : Museum) (depth : ℕ) (P : List Entry) (e : Entry) (terms : List TermRow) → Follows S depth P e → IsLawful S depth P → IsPermutation (rows_of_terms P) terms

@@ -35,14 +35,14 @@ term loan day = record { loan = loan; day = day }
 
 abbrev agreed : List Entry
 agreed =
-    entry pack 4 (Agree loan_1 (codes "MUSEUM-X") (codes "2001.4.1" ∷ codes "2001.4.2" ∷ []) may may_31) Applied
-    ∷ entry pack 3 (Pack (codes "2001.4.2") (codes "C1") may) Applied
-    ∷ entry pack 2 (Pack (codes "2001.4.1") (codes "C1") may) Applied
-    ∷ entry pack 1 (Move (codes "C1") (codes "S1") may) Applied
+    entry pack 4 (Agree may may_31 loan_1 (codes "MUSEUM-X") (codes "2001.4.1" ∷ codes "2001.4.2" ∷ [])) Applied
+    ∷ entry pack 3 (Pack may (codes "2001.4.2") (codes "C1")) Applied
+    ∷ entry pack 2 (Pack may (codes "2001.4.1") (codes "C1")) Applied
+    ∷ entry pack 1 (Move may (codes "C1") (codes "S1")) Applied
     ∷ []
 
 abbrev loan_out : List Entry
-loan_out = entry pack 6 (Exit (codes "C1") loan_1 may_31) Applied ∷ entry pack 5 (Authorise loan_1 (codes "Ada")) Applied ∷ agreed
+loan_out = entry pack 6 (Exit may_31 (codes "C1") loan_1) Applied ∷ entry pack 5 (Authorise (codes "Ada") loan_1) Applied ∷ agreed
 
 agreed-lines : lines_by_loan museum agreed ≡ line loan_1 object_1 Awaiting ∷ line loan_1 object_2 Awaiting ∷ []
 agreed-lines = refl
@@ -56,10 +56,10 @@ loan_out-terms = refl
 -- an extension gives another last day, and leaves the lines; a refused one gives none
 
 abbrev extended : List Entry
-extended = entry pack 7 (Extend loan_1 june_30) Applied ∷ loan_out
+extended = entry pack 7 (Extend june_30 loan_1) Applied ∷ loan_out
 
 abbrev not_later : Entry
-not_later = entry pack 8 (Extend loan_1 june_2) NotLater
+not_later = entry pack 8 (Extend june_2 loan_1) NotLater
 
 extended-lines : lines_by_loan museum (not_later ∷ extended) ≡ line loan_1 object_1 Away ∷ line loan_1 object_2 Away ∷ []
 extended-lines = refl
@@ -71,8 +71,8 @@ extended-terms = refl
 
 abbrev again : List Entry
 again =
-    entry pack 9 (Agree loan_2 (codes "MUSEUM-X") (codes "2001.4.1" ∷ []) may june_2) Applied
-    ∷ entry pack 8 (Return (codes "2001.4.1") loan_1 (codes "S1") june_2) Applied
+    entry pack 9 (Agree may june_2 loan_2 (codes "MUSEUM-X") (codes "2001.4.1" ∷ [])) Applied
+    ∷ entry pack 8 (Return june_2 (codes "2001.4.1") loan_1 (codes "S1")) Applied
     ∷ extended
 
 again-lines : lines_by_loan museum again ≡ line loan_1 object_1 Back ∷ line loan_1 object_2 Away ∷ line loan_2 object_1 Awaiting ∷ []
@@ -109,11 +109,11 @@ put-other_day = refl
 no_day-not_later : term_of not_later ≡ None
 no_day-not_later = refl
 
-no_day-known : term_of (entry pack 5 (Agree loan_1 (codes "MUSEUM-X") (codes "2001.4.1" ∷ []) may june_30) LoanKnown) ≡ None
+no_day-known : term_of (entry pack 5 (Agree may june_30 loan_1 (codes "MUSEUM-X") (codes "2001.4.1" ∷ [])) LoanKnown) ≡ None
 no_day-known = refl
 
-no_day-leaving : term_of (entry pack 6 (Exit (codes "C1") loan_1 may_31) Applied) ≡ None
+no_day-leaving : term_of (entry pack 6 (Exit may_31 (codes "C1") loan_1) Applied) ≡ None
 no_day-leaving = refl
 
-day-extended : term_of (entry pack 7 (Extend loan_1 june_30) Applied) ≡ Some (term loan_1 june_30)
+day-extended : term_of (entry pack 7 (Extend june_30 loan_1) Applied) ≡ Some (term loan_1 june_30)
 day-extended = refl

@@ -105,10 +105,10 @@ abbrev entry_1 : Entry
 entry_1 = entry gal 1 first_move Applied
 
 abbrev entry_2 : Entry
-entry_2 = entry gal 2 (Move (codes "2001.4.2") (codes "S2") may) Applied
+entry_2 = entry gal 2 (Move may (codes "2001.4.2") (codes "S2")) Applied
 
 abbrev entry_3 : Entry
-entry_3 = entry gal 3 (Move (codes "2001.4.1") (codes "S1-A") may) Applied
+entry_3 = entry gal 3 (Move may (codes "2001.4.1") (codes "S1-A")) Applied
 
 abbrev held_then_posted : List Entry
 held_then_posted = entry_3 ∷ entry_2 ∷ entry_1 ∷ []
@@ -126,11 +126,11 @@ held_then_posted-by_thing : spots_by_thing museum held_then_posted ≡ things_in
 held_then_posted-by_thing = refl
 
 -- a refused entry writes no spot, nor does a Move to the place where the thing is, nor a sign-off
-more-spots : all_written museum (entry gal 5 ann Applied ∷ entry gal 4 (Move (codes "2001.4.1") (codes "S1-A") may) Applied ∷ entry pack 1 (Move (codes "2001.4.1") (codes "MUSEUM-X") may) ElsewherePlace ∷ held_then_posted) ≡ spots_down
+more-spots : all_written museum (entry gal 5 ann Applied ∷ entry gal 4 (Move may (codes "2001.4.1") (codes "S1-A")) Applied ∷ entry pack 1 (Move may (codes "2001.4.1") (codes "MUSEUM-X")) ElsewherePlace ∷ held_then_posted) ≡ spots_down
 more-spots = refl
 
 -- what one more entry writes: a spot with the next number of its thing's list
-next-written : written museum held_then_posted (entry pack 1 (Move (codes "2001.4.2") (codes "S1") may) Applied) ≡ spot object_2 2 4 s1 ∷ []
+next-written : written museum held_then_posted (entry pack 1 (Move may (codes "2001.4.2") (codes "S1")) Applied) ≡ spot object_2 2 4 s1 ∷ []
 next-written = refl
 
 -- posted to a new store, one after another

@@ -82,7 +82,7 @@ end_of_june-text : day_text end_of_june ≡ codes "2024-06-30"
 end_of_june-text = same_text (codes "2024-06-30") end_of_june end_of_june-spelled (omega (arith, signed_arith)) (omega (arith, signed_arith))
 
 abbrev pub first_move : Message
-first_move = Move (codes "2001.4.1") (codes "S1") may
+first_move = Move may (codes "2001.4.1") (codes "S1")
 
 abbrev pub ann : Message
 ann = SignOff (codes "Ann")
@@ -115,7 +115,7 @@ sign_off-reads_back = refl
 -- an agreement, whose objects stand in the order given
 
 abbrev pub agreed : Message
-agreed = Agree (codes "LO2024.1") (codes "MUSEUM-X") (codes "2001.4.1" ∷ codes "2001.4.2" ∷ []) may end_of_may
+agreed = Agree may end_of_may (codes "LO2024.1") (codes "MUSEUM-X") (codes "2001.4.1" ∷ codes "2001.4.2" ∷ [])
 
 abbrev pub agreed_text : List ℕ
 agreed_text = codes "{\"first\":\"2024-05-01\",\"kind\":\"agree\",\"last\":\"2024-05-31\",\"loan\":\"LO2024.1\",\"objects\":[\"2001.4.1\",\"2001.4.2\"],\"partner\":\"MUSEUM-X\"}"
@@ -129,7 +129,7 @@ unfolding is_utf8 chars encode value punctuate lex content days_from_civil day_c
 agree-reads_back = refl
 
 abbrev pub extended : Message
-extended = Extend (codes "LO2024.1") end_of_june
+extended = Extend end_of_june (codes "LO2024.1")
 
 abbrev pub extended_text : List ℕ
 extended_text = codes "{\"kind\":\"extend\",\"last\":\"2024-06-30\",\"loan\":\"LO2024.1\"}"
@@ -144,14 +144,14 @@ extend-reads_back = refl
 
 -- whatever a message says, its text begins with a brace and a quote
 pub begins : (m : Message) (text : List ℕ) → IsTextOf m text → take 2 text ≡ codes "{\""
-begins (Move x p day) text h = ap (take 2) h
-begins (Pack x c day) text h = ap (take 2) h
-begins (Agree loan partner objects first last) text h = ap (take 2) h
-begins (Authorise loan name) text h = ap (take 2) h
-begins (Exit x loan day) text h = ap (take 2) h
-begins (Return x loan p day) text h = ap (take 2) h
-begins (Receive x loan p day) text h = ap (take 2) h
-begins (Extend loan last) text h = ap (take 2) h
+begins (Move day x p) text h = ap (take 2) h
+begins (Pack day x c) text h = ap (take 2) h
+begins (Agree first last loan partner objects) text h = ap (take 2) h
+begins (Authorise name loan) text h = ap (take 2) h
+begins (Exit day x loan) text h = ap (take 2) h
+begins (Return day x loan p) text h = ap (take 2) h
+begins (Receive day x loan p) text h = ap (take 2) h
+begins (Extend last loan) text h = ap (take 2) h
 begins (SignOff name) text h = ap (take 2) h
 
 -- other bytes of the same message: read, and not its text

@@ -72,14 +72,14 @@ abbrev pub move_row : Row
 move_row = record {
   name = codes "move";
   fields = (Thing spells is_thing) ∷ (Place spells is_place) ∷ (Day spells is_day) ∷ [];
-  message = λ d. Move (text_at d Thing) (text_at d Place) (day_at d Day);
+  message = λ d. Move (day_at d Day) (text_at d Thing) (text_at d Place);
 }
 
 abbrev pub pack_row : Row
 pack_row = record {
   name = codes "pack";
   fields = (Thing spells is_thing) ∷ (Container spells is_thing) ∷ (Day spells is_day) ∷ [];
-  message = λ d. Pack (text_at d Thing) (text_at d Container) (day_at d Day);
+  message = λ d. Pack (day_at d Day) (text_at d Thing) (text_at d Container);
 }
 
 abbrev pub agree_row : Row
@@ -88,22 +88,22 @@ agree_row = record {
   fields = (Loan spells is_loan) ∷ (Partner spells is_place) ∷ (Objects lists is_thing)
       ∷ (First spells is_day) ∷ (Last spells is_day) ∷ [];
   message = λ d.
-      Agree (text_at d Loan) (text_at d Partner) (texts_at d Objects) (day_at d First)
-      (day_at d Last);
+      Agree (day_at d First) (day_at d Last) (text_at d Loan) (text_at d Partner)
+      (texts_at d Objects);
 }
 
 abbrev pub authorise_row : Row
 authorise_row = record {
   name = codes "authorise";
   fields = (Loan spells is_loan) ∷ (By spells is_name) ∷ [];
-  message = λ d. Authorise (text_at d Loan) (text_at d By);
+  message = λ d. Authorise (text_at d By) (text_at d Loan);
 }
 
 abbrev pub exit_row : Row
 exit_row = record {
   name = codes "exit";
   fields = (Thing spells is_thing) ∷ (Loan spells is_loan) ∷ (Day spells is_day) ∷ [];
-  message = λ d. Exit (text_at d Thing) (text_at d Loan) (day_at d Day);
+  message = λ d. Exit (day_at d Day) (text_at d Thing) (text_at d Loan);
 }
 
 abbrev pub return_row : Row
@@ -111,7 +111,7 @@ return_row = record {
   name = codes "return";
   fields = (Thing spells is_thing) ∷ (Loan spells is_loan) ∷ (Place spells is_place)
       ∷ (Day spells is_day) ∷ [];
-  message = λ d. Return (text_at d Thing) (text_at d Loan) (text_at d Place) (day_at d Day);
+  message = λ d. Return (day_at d Day) (text_at d Thing) (text_at d Loan) (text_at d Place);
 }
 
 abbrev pub receive_row : Row
@@ -119,7 +119,7 @@ receive_row = record {
   name = codes "receive";
   fields = (Thing spells is_thing) ∷ (Loan spells is_loan) ∷ (Place spells is_place)
       ∷ (Day spells is_day) ∷ [];
-  message = λ d. Receive (text_at d Thing) (text_at d Loan) (text_at d Place) (day_at d Day);
+  message = λ d. Receive (day_at d Day) (text_at d Thing) (text_at d Loan) (text_at d Place);
 }
 
 abbrev pub sign_off_row : Row
@@ -133,7 +133,7 @@ abbrev pub extend_row : Row
 extend_row = record {
   name = codes "extend";
   fields = (Loan spells is_loan) ∷ (Last spells is_day) ∷ [];
-  message = λ d. Extend (text_at d Loan) (day_at d Last);
+  message = λ d. Extend (day_at d Last) (text_at d Loan);
 }
 
 -- the kinds that name a loan

@@ -42,21 +42,21 @@ members_of [] = no_members
 members_of (m ∷ ms) = put (key_name m.key) m.value (members_of ms)
 
 abbrev pub members : message.Message → List Member
-members (Move x p day) = (Kind is codes "move") ∷ (Thing is x) ∷ (Place is p) ∷ (Day on day) ∷ []
-members (Pack x c day) =
+members (Move day x p) = (Kind is codes "move") ∷ (Thing is x) ∷ (Place is p) ∷ (Day on day) ∷ []
+members (Pack day x c) =
     (Kind is codes "pack") ∷ (Thing is x) ∷ (Container is c) ∷ (Day on day) ∷ []
-members (Agree loan partner objects first last) =
+members (Agree first last loan partner objects) =
     (Kind is codes "agree") ∷ (Loan is loan) ∷ (Partner is partner) ∷ (Objects are objects)
     ∷ (First on first) ∷ (Last on last) ∷ []
-members (Authorise loan name) = (Kind is codes "authorise") ∷ (Loan is loan) ∷ (By is name) ∷ []
-members (Exit x loan day) =
+members (Authorise name loan) = (Kind is codes "authorise") ∷ (Loan is loan) ∷ (By is name) ∷ []
+members (Exit day x loan) =
     (Kind is codes "exit") ∷ (Thing is x) ∷ (Loan is loan) ∷ (Day on day) ∷ []
-members (Return x loan p day) =
+members (Return day x loan p) =
     (Kind is codes "return") ∷ (Thing is x) ∷ (Loan is loan) ∷ (Place is p) ∷ (Day on day) ∷ []
-members (Receive x loan p day) =
+members (Receive day x loan p) =
     (Kind is codes "receive") ∷ (Thing is x) ∷ (Loan is loan) ∷ (Place is p) ∷ (Day on day) ∷ []
 members (SignOff name) = (Kind is codes "signoff") ∷ (By is name) ∷ []
-members (Extend loan last) = (Kind is codes "extend") ∷ (Loan is loan) ∷ (Last on last) ∷ []
+members (Extend last loan) = (Kind is codes "extend") ∷ (Loan is loan) ∷ (Last on last) ∷ []
 
 -- the object of a message
 abbrev pub json : message.Message → Data
@@ -80,16 +80,16 @@ pub record AreThings (objects : List (List ℕ)) : Type 0 where
 
 -- what a message says is spelled as codes, names and days are; that of each message is
 abbrev pub IsSpelled : message.Message → Type 0
-IsSpelled (Move x p day) = (thing_fault x ≡ None) × (place_fault p ≡ None) × IsDay day
-IsSpelled (Pack x c day) = (thing_fault x ≡ None) × (thing_fault c ≡ None) × IsDay day
-IsSpelled (Agree loan partner objects first last) =
+IsSpelled (Move day x p) = (thing_fault x ≡ None) × (place_fault p ≡ None) × IsDay day
+IsSpelled (Pack day x c) = (thing_fault x ≡ None) × (thing_fault c ≡ None) × IsDay day
+IsSpelled (Agree first last loan partner objects) =
     (loan_fault loan ≡ None) × (place_fault partner ≡ None) × AreThings objects × IsDay first
     × IsDay last
-IsSpelled (Authorise loan name) = (loan_fault loan ≡ None) × IsName name
-IsSpelled (Exit x loan day) = (thing_fault x ≡ None) × (loan_fault loan ≡ None) × IsDay day
-IsSpelled (Return x loan p day) =
+IsSpelled (Authorise name loan) = (loan_fault loan ≡ None) × IsName name
+IsSpelled (Exit day x loan) = (thing_fault x ≡ None) × (loan_fault loan ≡ None) × IsDay day
+IsSpelled (Return day x loan p) =
     (thing_fault x ≡ None) × (loan_fault loan ≡ None) × (place_fault p ≡ None) × IsDay day
-IsSpelled (Receive x loan p day) =
+IsSpelled (Receive day x loan p) =
     (thing_fault x ≡ None) × (loan_fault loan ≡ None) × (place_fault p ≡ None) × IsDay day
 IsSpelled (SignOff name) = IsName name
-IsSpelled (Extend loan last) = (loan_fault loan ≡ None) × IsDay last
+IsSpelled (Extend last loan) = (loan_fault loan ≡ None) × IsDay last

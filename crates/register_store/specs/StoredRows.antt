@@ -213,15 +213,15 @@ is_same_loan t u = bytes_eq t.loan u.loan
 
 -- the last day that a message says
 abbrev pub term_in : Message → Option TermRow
-term_in (Move x p day) = None
-term_in (Pack x c day) = None
-term_in (Agree loan partner objects first last) = Some (record { loan = loan; day = last })
-term_in (Authorise loan name) = None
-term_in (Exit x loan day) = None
-term_in (Return x loan p day) = None
-term_in (Receive x loan p day) = None
+term_in (Move day x p) = None
+term_in (Pack day x c) = None
+term_in (Agree first last loan partner objects) = Some (record { loan = loan; day = last })
+term_in (Authorise name loan) = None
+term_in (Exit day x loan) = None
+term_in (Return day x loan p) = None
+term_in (Receive day x loan p) = None
 term_in (SignOff name) = None
-term_in (Extend loan last) = Some (record { loan = loan; day = last })
+term_in (Extend last loan) = Some (record { loan = loan; day = last })
 
 -- the last day that an entry gives a loan
 abbrev pub term_of : Entry → Option TermRow

@@ -19,7 +19,7 @@ pub(crate) fn agree_object(
     last: Day,
 ) -> Result<Value, NoMemory>
     ensures { IfOk result
-        (λ value. view value ≡ json (Message.Agree loan.now partner.now objects.now first last)) }
+        (λ value. view value ≡ json (Message.Agree first last loan.now partner.now objects.now)) }
 {
     let mut object = object_of_kind(alloc, "agree")?;
     put_text(alloc, &mut object, Key::Loan, loan.as_str())?;
@@ -35,7 +35,7 @@ pub(crate) fn authorise_object(
     loan: &LoanCode,
     name: &Name,
 ) -> Result<Value, NoMemory>
-    ensures { IfOk result (λ value. view value ≡ json (Message.Authorise loan.now name.now)) }
+    ensures { IfOk result (λ value. view value ≡ json (Message.Authorise name.now loan.now)) }
 {
     let mut object = object_of_kind(alloc, "authorise")?;
     put_text(alloc, &mut object, Key::Loan, loan.as_str())?;
@@ -49,7 +49,7 @@ pub(crate) fn exit_object(
     loan: &LoanCode,
     day: Day,
 ) -> Result<Value, NoMemory>
-    ensures { IfOk result (λ value. view value ≡ json (Message.Exit thing.now loan.now day)) }
+    ensures { IfOk result (λ value. view value ≡ json (Message.Exit day thing.now loan.now)) }
 {
     let mut object = object_of_kind(alloc, "exit")?;
     put_text(alloc, &mut object, Key::Thing, thing.as_str())?;
@@ -66,7 +66,7 @@ pub(crate) fn return_object(
     day: Day,
 ) -> Result<Value, NoMemory>
     ensures { IfOk result
-        (λ value. view value ≡ json (Message.Return thing.now loan.now place.now day)) }
+        (λ value. view value ≡ json (Message.Return day thing.now loan.now place.now)) }
 {
     let mut object = object_of_kind(alloc, "return")?;
     put_text(alloc, &mut object, Key::Thing, thing.as_str())?;
@@ -84,7 +84,7 @@ pub(crate) fn receive_object(
     day: Day,
 ) -> Result<Value, NoMemory>
     ensures { IfOk result
-        (λ value. view value ≡ json (Message.Receive thing.now loan.now place.now day)) }
+        (λ value. view value ≡ json (Message.Receive day thing.now loan.now place.now)) }
 {
     let mut object = object_of_kind(alloc, "receive")?;
     put_text(alloc, &mut object, Key::Thing, thing.as_str())?;
@@ -95,7 +95,7 @@ pub(crate) fn receive_object(
 }
 
 pub(crate) fn extend_object(alloc: Global, loan: &LoanCode, last: Day) -> Result<Value, NoMemory>
-    ensures { IfOk result (λ value. view value ≡ json (Message.Extend loan.now last)) }
+    ensures { IfOk result (λ value. view value ≡ json (Message.Extend last loan.now)) }
 {
     let mut object = object_of_kind(alloc, "extend")?;
     put_text(alloc, &mut object, Key::Loan, loan.as_str())?;

@@ -68,7 +68,7 @@ fn move_object(
     place: &PlaceCode,
     day: Day,
 ) -> Result<Value, NoMemory>
-    ensures { IfOk result (λ value. view value ≡ json (Message.Move thing.now place.now day)) }
+    ensures { IfOk result (λ value. view value ≡ json (Message.Move day thing.now place.now)) }
 {
     let mut object = object_of_kind(alloc, "move")?;
     put_text(alloc, &mut object, Key::Thing, thing.as_str())?;
@@ -83,7 +83,7 @@ fn pack_object(
     container: &ThingCode,
     day: Day,
 ) -> Result<Value, NoMemory>
-    ensures { IfOk result (λ value. view value ≡ json (Message.Pack thing.now container.now day)) }
+    ensures { IfOk result (λ value. view value ≡ json (Message.Pack day thing.now container.now)) }
 {
     let mut object = object_of_kind(alloc, "pack")?;
     put_text(alloc, &mut object, Key::Thing, thing.as_str())?;

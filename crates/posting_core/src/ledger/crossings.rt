@@ -33,7 +33,7 @@ impl Ledger {
             ≡ first_of (exit_rows self.now.museum self.now.posted thing.now loan.now day)) }
         ensures put { IfOk result (λ judged. judged.put
             ≡ put_by self.now.museum self.now.posted judged.verdict
-            (Exit thing.now loan.now day)) }
+            (Exit day thing.now loan.now)) }
         ensures carried { IfOk result (λ judged. IfSome judged.carried
             (λ carried. carried ≡ carried_with self.now.museum self.now.posted judged.put)) }
         ensures err { OnErr result
@@ -73,7 +73,7 @@ impl Ledger {
             (return_rows self.now.museum self.now.posted thing.now loan.now place.now)) }
         ensures put { IfOk result (λ judged. (day : ℤ) → judged.put
             ≡ put_by self.now.museum self.now.posted judged.verdict
-            (Return thing.now loan.now place.now day)) }
+            (Return day thing.now loan.now place.now)) }
         ensures carried { IfOk result (λ judged. IfSome judged.carried
             (λ carried. carried ≡ carried_with self.now.museum self.now.posted judged.put)) }
         ensures err { OnErr result
@@ -120,7 +120,7 @@ impl Ledger {
             (receive_rows self.now.museum self.now.posted thing.now loan.now place.now day)) }
         ensures put { IfOk result (λ judged. judged.put
             ≡ put_by self.now.museum self.now.posted judged.verdict
-            (Receive thing.now loan.now place.now day)) }
+            (Receive day thing.now loan.now place.now)) }
         ensures carried { IfOk result (λ judged. IfSome judged.carried
             (λ carried. carried ≡ carried_with self.now.museum self.now.posted judged.put)) }
         ensures err { OnErr result

@@ -21,7 +21,7 @@ impl Ledger {
             ≡ first_of (move_rows self.now.museum self.now.posted thing.now place.now) }
         ensures put { (day : ℤ) → result.put
             ≡ put_by self.now.museum self.now.posted result.verdict
-            (Move thing.now place.now day) }
+            (Move day thing.now place.now) }
         ensures carried { result.carried ≡ None }
     {
         let Some(x) = self.setup.thing(thing) else {
@@ -45,7 +45,7 @@ impl Ledger {
             container.now) }
         ensures put { (day : ℤ) → result.put
             ≡ put_by self.now.museum self.now.posted result.verdict
-            (Pack thing.now container.now day) }
+            (Pack day thing.now container.now) }
         ensures carried { result.carried ≡ None }
     {
         let Some(x) = self.setup.thing(thing) else {

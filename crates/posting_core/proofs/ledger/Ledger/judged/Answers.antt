@@ -19,3 +19,18 @@ returns-in-Return-clause-verdict c = rw c.in-Return.is c.judge_return.ensures.ve
 
 pub returns-in-Return-clause-err : goal.returns-in-Return-clause-err
 returns-in-Return-clause-err c = rw c.in-Return.is c.judge_return.ensures.err
+
+pub returns-in-Exit-clause-verdict : goal.returns-in-Exit-clause-verdict
+returns-in-Exit-clause-verdict c = rw c.in-Exit.is c.judge_exit.ensures.verdict
+
+pub returns-in-Exit-clause-err : goal.returns-in-Exit-clause-err
+returns-in-Exit-clause-err c = rw c.in-Exit.is c.judge_exit.ensures.err
+
+pub returns-in-Receive-clause-verdict : goal.returns-in-Receive-clause-verdict
+returns-in-Receive-clause-verdict c = rw c.in-Receive.is c.judge_receive.ensures.verdict
+
+pub returns-in-Receive-clause-put : goal.returns-in-Receive-clause-put
+returns-in-Receive-clause-put c = rw c.in-Receive.is c.judge_receive.ensures.put
+
+pub returns-in-Receive-clause-err : goal.returns-in-Receive-clause-err
+returns-in-Receive-clause-err c = rw c.in-Receive.is c.judge_receive.ensures.err
