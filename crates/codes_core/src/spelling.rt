@@ -1,7 +1,6 @@
 //! A short text that is kept in place.
 ghost use Rattle.std.specs.Prelude.{◌≡◌, ◌++◌, ◌≤◌, ◌<◌, ◌-◌, length, replicate, OnOk, OnErr, MatchOption, string_bytes};
 ghost use Rattle.std.specs.Str.{bytes_eq, IsAscii};
-ghost use Rattle.std.specs.Hash as fed;
 ghost use Rattle.std.specs.Cmp.Rules.{comparing, hashing};
 ghost use Rattle.std.proofs.Common.{rules};
 
@@ -112,13 +111,16 @@ impl<const N: usize> Eq for Spelling<N> {
     ghost laws = { Prim.search (comparing, rules) };
 }
 
+/// The text is handed to the hasher whole: a hasher that takes words of it then does so.
 impl<const N: usize> Hash for Spelling<N> {
-    ghost hash_input = { λ text. fed.slice fed.u8 text };
+    ghost use Rattle.std.specs.Prelude.{◌∷◌, []};
+
+    ghost hash_input = { λ text. text ∷ [] };
 
     ghost respects_eq = { Prim.search (hashing, rules) };
 
     fn hash<H: Hasher>(&self, state: &mut H) {
-        self.as_bytes().hash(state);
+        state.write(self.as_bytes());
     }
 }
 
