@@ -247,12 +247,7 @@ impl Ledger {
     /// its verdict is that of `judge`.
     ///
     /// All growths come first: after NoMemory the ledger is unchanged.
-    pub fn apply(
-        &mut self,
-        alloc: Global,
-        entry: &Entry,
-        changes: &Changes,
-    ) -> Result<(), NoMemory>
+    pub fn apply(&mut self, alloc: Global, entry: &Entry, changes: &Changes) -> Result<(), NoMemory>
         requires follows { Follows self.old.museum self.old.depth self.old.posted entry.now }
         requires planned { changes.now ≡ changes_of self.old entry.now.message }
         ensures ok { OnOk result
