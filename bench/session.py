@@ -8,6 +8,7 @@
     bench/session.py loans LOANS OBJECTS [IDLE]           all objects are moved to a place; then so many loans of so
                                                           many objects, up to 256, are agreed and authorised, and each
                                                           object exits and returns
+    bench/session.py again LOANS OBJECTS TIMES [IDLE]     so often the same over the same objects, under new loans
 IDLE objects stand in the setup beside these and are never named. A museum has up to 100,000 things, a station up to
 999,999 messages. For time and memory: bench/session.py crates 200 499 10 | /usr/bin/time -v bin/pairsalder > /dev/null"""
 import itertools
@@ -48,8 +49,8 @@ def leave(thing, loan):
     return f'"kind":"exit","thing":"{thing}","loan":"{loan}",{DAY}'
 
 
-def come_back(thing, loan):
-    return f'"kind":"return","thing":"{thing}","loan":"{loan}","place":"S1",{DAY}'
+def come_back(thing, loan, place):
+    return f'"kind":"return","thing":"{thing}","loan":"{loan}","place":"{place}",{DAY}'
 
 
 def moves(things, messages):
@@ -68,16 +69,18 @@ def crates(boxes, things, times):
         yield move(box, place_after(number))
 
 
-def loans(things, count):
-    """All things come to a place, since only what is here can exit; then one loan after the other."""
+def loans(things, count, times):
+    """So often all things come to another place, since only what is here can exit; then one loan after the other."""
     each = len(things) // count
-    yield from (move(thing, "S1") for thing in things)
-    for number in range(count):
-        loan, listed = f"LO2024.{number + 1}", things[number * each:(number + 1) * each]
-        yield agree(loan, listed)
-        yield authorise(loan)
-        yield from (leave(thing, loan) for thing in listed)
-        yield from (come_back(thing, loan) for thing in listed)
+    for round_number in range(times):
+        place = place_after(round_number)
+        yield from (move(thing, place) for thing in things)
+        for number in range(count):
+            loan, listed = f"LO2024.{round_number * count + number + 1}", things[number * each:(number + 1) * each]
+            yield agree(loan, listed)
+            yield authorise(loan)
+            yield from (leave(thing, loan) for thing in listed)
+            yield from (come_back(thing, loan, place) for thing in listed)
 
 
 def numbered(stations, messages):
@@ -100,10 +103,11 @@ def main():
     if word in ("moves", "mixed"):
         things = objects(0, numbers[0])
         messages, idle = moves(things, numbers[1]), numbers[2:]
-    elif word == "loans":
+    elif word in ("loans", "again"):
         places.append("PARTNER,elsewhere")
         things = objects(0, numbers[0] * numbers[1])
-        messages, idle = loans(things, numbers[0]), numbers[2:]
+        times, idle = (numbers[2], numbers[3:]) if word == "again" else (1, numbers[2:])
+        messages = loans(things, numbers[0], times)
     else:
         boxes = [f"C{n}" for n in range(1, numbers[0] + 1)]
         things = objects(0, numbers[0] * numbers[1])
