@@ -25,17 +25,12 @@ use Rattle.posting_core.specs.Agreements.{Agreement, agreement_in, agreements, a
 use Rattle.posting_core.specs.Loans.{Crossing, exit_of, crossing_in, objects_in, stage_by, stage, objects_of}
 use Rattle.posting_core.specs.Verdicts.{verdict, is_known, repeats}
 use Rattle.posting_core.specs.Lawful.{Follows, IsLawful}
-use Rattle.posting_core.specs.Book.{new_lines}
-use Rattle.posting_core.specs.LoanRows.{LoanRow, loan_row, loan_rows, with_lines, changed, authorised_row, extended_row, agreed_row, rows_with}
+use Rattle.posting_core.specs.Book.{new_lines, lines_of_agreement}
+use Rattle.posting_core.specs.LoanRows.{LoanRow, loan_row, loan_rows, with_lines, changed, authorised_row, extended_row, agreed_row, rows_with, AreOnce}
 use Rattle.posting_core.proofs.AppliedRows.{applied_is}
 use Rattle.posting_core.proofs.Among.{position_cons}
 use Rattle.posting_core.proofs.Agreed.{IsSound, AreApart, IsUntouched, agreements_apart, agreements_sound, agree_applied, untouched}
-use Rattle.posting_core.proofs.ObjectNumbers.{same_thing}
-
--- none of the numbers stands twice
-abbrev pub AreOnce : List ℕ → Type 0
-AreOnce [] = Unit {0}
-AreOnce (o ∷ os) = (is_among o os ≡ false) × AreOnce os
+use Rattle.posting_core.proofs.ObjectNumbers.{numbers_once}
 
 -- the stages of lines, after those of these objects were set
 abbrev reset : (ℕ → LineStage) → List ℕ → LineStage → ℕ → LineStage
@@ -119,25 +114,6 @@ rows_by S P b m = map (row_by S P b m) (agreements P ++ option_to_list (if b the
 same_loans : (S : Museum) (P : List Entry) (m : Message) → agreement_in m ≡ None → (rows : List LoanRow) → map (row_by S P true m) (agreements P) ≡ rows → rows_by S P true m ≡ rows
 same_loans S P m none rows is = ap (λ o. map (row_by S P true m) (agreements P ++ option_to_list o)) none ∙ ap (map (row_by S P true m)) (append-nil (agreements P)) ∙ is
 
--- the objects of an agreement stand once
-unlike : (S : Museum) (x : List ℕ) (ys : List (List ℕ)) → not (is_known S x) ≡ false → list_any (λ y. not (is_known S y)) ys ≡ false → list_any (bytes_eq x) ys ≡ false → is_among (thing_no S x) (map (thing_no S) ys) ≡ false
-unlike S x [] known all apart = refl
-unlike S x (y ∷ ys) known all apart =
-    let both = or_parts (not (is_known S y)) (list_any (λ z. not (is_known S z)) ys) all in
-    let two = or_parts (bytes_eq x y) (list_any (bytes_eq x) ys) apart in
-    elim (thing_no S y == thing_no S x) as (λ b. (thing_no S y == thing_no S x) ≡ b → (b || is_among (thing_no S x) (map (thing_no S) ys)) ≡ false) [
-      | true ↦ λ e. let same : thing_no S x ≡ thing_no S y = grind (arith, nat_tests) in
-          absurd (false≢true (sym two.0 ∙ (bytes_eq-Decides x y).1 (same_thing S x y known both.0 same)))
-      | false ↦ λ e. unlike S x ys known both.1 two.1
-    ] refl
-
-pub numbers_once : (S : Museum) (xs : List (List ℕ)) → list_any (λ x. not (is_known S x)) xs ≡ false → repeats xs ≡ false → AreOnce (map (thing_no S) xs)
-numbers_once S [] known once = tt
-numbers_once S (x ∷ xs) known once =
-    let both = or_parts (not (is_known S x)) (list_any (λ y. not (is_known S y)) xs) known in
-    let two = or_parts (list_any (bytes_eq x) xs) (repeats xs) once in
-    (unlike S x xs both.0 both.1 two.0, numbers_once S xs both.1 two.1)
-
 -- what crosses gets its stage
 crossed : (S : Museum) (depth : ℕ) (P : List Entry) (m : Message) (c : Crossing) → IsLawful S depth P → crossing_in m ≡ Some c → agreement_in m ≡ None → ((t : Agreement) → extension_in m t.loan ≡ None) → ((t : Agreement) → authorises m t.loan ≡ false) →
     rows_by S P true m ≡ changed (with_lines (lines_at c.loan (objects_in S P c.thing) c.stage)) c.loan (loan_rows S P)
@@ -156,9 +132,18 @@ crossed S depth P m c lawful is none stays quiet = same_loans S P m none (change
         let set : row_by S P true m t ≡ row_with (loan_row S P t) (reset (stage S P t.loan) os c.stage) = rw (is, stays t, quiet t, yes) refl in
         set ∙ sym (lines_set (loan_row S P t) c.loan (stage S P t.loan) os c.stage (numbers_once S t.objects sound.known sound.once))
 
+-- the objects of lines, and their stages
+pub objects_told : (loan : List ℕ) (s : LineStage) (os : List ℕ) → map (λ l. l.object) (lines_at loan os s) ≡ os
+objects_told loan s [] = refl
+objects_told loan s (o ∷ os) = ap (λ rest. o ∷ rest) (objects_told loan s os)
+
+stages_told : (loan : List ℕ) (s : LineStage) (os : List ℕ) → map (λ l. l.stage) (lines_at loan os s) ≡ map (λ o. s) os
+stages_told loan s [] = refl
+stages_told loan s (o ∷ os) = ap (λ rest. s ∷ rest) (stages_told loan s os)
+
 -- an agreement adds a row, in which all is awaited
 agreed : (S : Museum) (depth : ℕ) (P : List Entry) (m : Message) (t : Agreement) → IsLawful S depth P → verdict S depth P m ≡ Applied → agreement_in m ≡ Some t → crossing_in m ≡ None → ((u : Agreement) → extension_in m u.loan ≡ None) → ((u : Agreement) → authorises m u.loan ≡ false) →
-    rows_by S P true m ≡ loan_rows S P ++ agreed_row S t ∷ []
+    rows_by S P true m ≡ loan_rows S P ++ agreed_row S t (lines_of_agreement S t) ∷ []
 agreed S depth P m t lawful applied is none stays quiet =
     ap (λ o. map (row_by S P true m) (agreements P ++ option_to_list o)) is
     ∙ map-append (row_by S P true m) (agreements P) (t ∷ [])
@@ -174,8 +159,8 @@ agreed S depth P m t lawful applied is none stays quiet =
     awaited : map (stage S P t.loan) (objects_of S t) ≡ map (λ o. Awaiting) (objects_of S t)
     awaited = ap (λ f. map f (objects_of S t)) (fun_ext before.awaited)
 
-    new : row_by S P true m t ≡ agreed_row S t
-    new = old t ∙ rw (awaited, before.ends t.last, before.draft) refl
+    new : row_by S P true m t ≡ agreed_row S t (lines_of_agreement S t)
+    new = old t ∙ rw (awaited, before.ends t.last, before.draft, objects_told t.loan Awaiting (objects_of S t), stages_told t.loan Awaiting (objects_of S t)) refl
 
 authorised : (S : Museum) (depth : ℕ) (P : List Entry) (loan name : List ℕ) → IsLawful S depth P → rows_by S P true (Authorise name loan) ≡ changed authorised_row loan (loan_rows S P)
 authorised S depth P loan name lawful = same_loans S P (Authorise name loan) refl (changed authorised_row loan (loan_rows S P))

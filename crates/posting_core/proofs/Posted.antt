@@ -1,9 +1,9 @@
 -- What a ledger's fields keep, before and after an entry.
-use Rattle.std.specs.Prelude.{ℕ, ◌≡◌, ◌+◌, ◌<◌, ◌≤◌, Bool, true, false, if◌then◌else◌, List, [], ◌∷◌, ◌++◌, Option, None, Some, length, All, Result, Ok, Err, IfOk, OnErr, replicate, zero, suc, refl, IfSome, slice_get, is_some, option_copied}
+use Rattle.std.specs.Prelude.{ℕ, ◌≡◌, ◌+◌, ◌<◌, ◌≤◌, Bool, true, false, if◌then◌else◌, List, [], ◌∷◌, ◌++◌, Option, None, Some, length, All, Result, Ok, Err, IfOk, OnErr, map, replicate, zero, suc, refl, IfSome, slice_get, is_some, option_copied}
 use Rattle.std.specs.Borrow.{Bor}
 use Rattle.std.specs.List.{find}
 use Rattle.std.specs.Str.{bytes_eq}
-use Rattle.std.specs.Option.{option_map, option_to_list}
+use Rattle.std.specs.Option.{option_map, option_map_or, option_to_list}
 use Rattle.std.proofs.Common.{ap, ◌∙◌, sym, subst, arith}
 use Rattle.std.proofs.lemmas.Bool.{false≢true}
 use Rattle.std.proofs.lemmas.Result.{on_err_weaker}
@@ -23,18 +23,21 @@ use Rattle.posting_core.specs.declared.entry.Spot.{Spot}
 use Rattle.posting_core.specs.declared.entry.NewSpot.{NewSpot}
 use Rattle.posting_core.specs.declared.entry.NewLine.{NewLine}
 use Rattle.posting_core.specs.declared.entry.Changes.{Changes}
+use Rattle.posting_core.specs.declared.stage.LineStage.TheVariants.{Awaiting}
 use Rattle.posting_core.specs.Messages.{day_of}
 use Rattle.posting_core.specs.History.{puts, put_in, put_by, spots, spot_from, place_at, carried_at, carried_with, holds_at}
 use Rattle.posting_core.specs.VerdictNames.{is_applied}
+use Rattle.posting_core.specs.Loans.{crossing_in, objects_of}
 use Rattle.posting_core.specs.Lawful.{Follows, IsLawful}
-use Rattle.posting_core.specs.Book.{Book, chain_in, spots_in, loans_in, objects_of_loan, place_after, new_spot, new_spots, new_lines, changes_of}
+use Rattle.posting_core.specs.Book.{Book, chain_in, spots_in, loans_in, objects_of_loan, place_after, new_spot, new_spots, lines_of_agreement, lines_of_crossing, new_lines, changes_of}
 use Rattle.posting_core.specs.Agreements.{Agreement, agreement_in, agreement_by, agreements, agreement, is_agreed}
-use Rattle.posting_core.specs.LoanRows.{LoanRow, loan_row, loan_rows, rows_with, MayAgree}
+use Rattle.posting_core.specs.LoanRows.{LoanRow, loan_row, loan_rows, rows_with, AreOnce, MayAgree}
 use Rattle.posting_core.specs.Rows.{row_of, rows_after, IsKept}
 use Rattle.posting_core.proofs.AppliedRows.{applied_is}
 use Rattle.posting_core.proofs.Agreed.{IsSound, agree_applied}
 use Rattle.posting_core.proofs.Bounds.{short, spots_within}
-use Rattle.posting_core.proofs.Lined.{rows_after_entry}
+use Rattle.posting_core.proofs.Lined.{rows_after_entry, objects_told}
+use Rattle.posting_core.proofs.ObjectNumbers.{numbers_once}
 use Rattle.posting_core.proofs.LoanAnswers.{IsRowOf, row_is, row_missing, code_at, objects_at}
 use Rattle.posting_core.proofs.Placed.{put_allowed, may_go, chain_below}
 use Rattle.posting_core.proofs.Spotted.{carried_below}
@@ -190,18 +193,24 @@ module _ {S : Museum} {P : List Entry} {N : Nested} {R : List (List Spot)} {L : 
   planned_within R' r = rw (is.news_is, r, is.kept.rowed) (news_within S P e.verdict e.message)
 
   -- an applied agreement can be kept
-  pub planned_agree : IfSome (agreement_by e.verdict e.message) (MayAgree S L)
+  pub planned_agree : IfSome (agreement_by e.verdict e.message) (MayAgree L lines)
   planned_agree =
-      elim (is_applied e.verdict) as (λ b. is_applied e.verdict ≡ b → IfSome (if b then agreement_in e.message else None) (MayAgree S L)) [
-        | true ↦ λ h. new (agreement_in e.message) (λ t agreed. agree_applied S N.depth P e.message t (sym is.follows.judged ∙ applied_is e.verdict h) agreed)
+      elim (is_applied e.verdict) as (λ b. is_applied e.verdict ≡ b → IfSome (if b then agreement_in e.message else None) (MayAgree L lines)) [
+        | true ↦ λ h. new (agreement_in e.message) (λ t agreed. (agree_applied S N.depth P e.message t (sym is.follows.judged ∙ applied_is e.verdict h) agreed, told t h agreed))
         | false ↦ λ h. tt
       ] refl
     where
-      new : (o : Option Agreement) → ((t : Agreement) → o ≡ Some t → (agreement P t.loan ≡ None) × IsSound S t) → IfSome o (MayAgree S L)
-      new None both = tt
-      new (Some t) both =
-          let (unknown, sound) = both t refl in
-          record { known = sound.known; once = sound.once; new = row_missing S P L t.loan is.kept.loans unknown }
+      told : (t : Agreement) → is_applied e.verdict ≡ true → agreement_in e.message ≡ Some t → lines ≡ lines_of_agreement S t
+      told t h agreed =
+          is.lines_is ∙ ap (λ b. if b then new_lines S P e.message else []) h
+          ∙ ap (λ o. option_map_or (lines_of_agreement S) o (option_map_or (lines_of_crossing S P) (crossing_in e.message) [])) agreed
+
+      new : (o : Option Agreement) → ((t : Agreement) → o ≡ Some t → ((agreement P t.loan ≡ None) × IsSound S t) × (lines ≡ lines_of_agreement S t)) → IfSome o (MayAgree L lines)
+      new None each = tt
+      new (Some t) each =
+          let (agreed, are) = each t refl in
+          let objects : map (λ (l : NewLine). l.object) lines ≡ objects_of S t = ap (map (λ (l : NewLine). l.object)) are ∙ objects_told t.loan Awaiting (objects_of S t) in
+          record { once = subst AreOnce (sym objects) (numbers_once S t.objects agreed.1.known agreed.1.once); new = row_missing S P L t.loan is.kept.loans agreed.0 }
 
   -- the rows of the loans after the entry
   loans_after : (L' : List LoanRow) → L' ≡ (if is_applied e.verdict then rows_with S L e.message lines else L) → L' ≡ loan_rows S (e ∷ P)

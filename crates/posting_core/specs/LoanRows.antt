@@ -1,20 +1,19 @@
 -- What a ledger keeps of each loan, and what a message writes there.
-use Rattle.std.specs.Prelude.{ℕ, ℤ, ◌≡◌, Bool, true, false, not, List, [], ◌∷◌, ◌++◌, Option, None, map, slice_get, slice_set, nat_eq, if◌then◌else◌}
-use Rattle.std.specs.List.{position, find, list_any}
+use Rattle.std.specs.Prelude.{ℕ, ℤ, ◌≡◌, Bool, true, false, List, [], ◌∷◌, ◌++◌, Option, None, map, slice_get, slice_set, nat_eq, if◌then◌else◌}
+use Rattle.std.specs.List.{position, find}
 use Rattle.std.specs.Option.{option_map_or, option_and_then}
 use Rattle.std.specs.Str.{bytes_eq}
 use Rattle.nest_core.specs.Museum.{Museum}
+use Rattle.nest_core.specs.Puts.{is_among}
 use Rattle.posting_core.specs.declared.message.Message.{Message}
 use Rattle.posting_core.specs.declared.message.Message.TheVariants.{Agree, Authorise, Exit, Return, Receive, Extend}
 use Rattle.posting_core.specs.declared.entry.Entry.{Entry}
 use Rattle.posting_core.specs.declared.entry.NewLine.{NewLine}
 use Rattle.posting_core.specs.declared.stage.LineStage.{LineStage}
-use Rattle.posting_core.specs.declared.stage.LineStage.TheVariants.{Awaiting}
 use Rattle.posting_core.specs.declared.stage.LoanState.{LoanState}
 use Rattle.posting_core.specs.Messages.{place_no}
 use Rattle.posting_core.specs.Agreements.{Agreement, agreements, is_authorised, last_from}
 use Rattle.posting_core.specs.Loans.{stage, objects_of, state_by}
-use Rattle.posting_core.specs.Verdicts.{is_known, repeats}
 
 -- a loan: the partner's place, the objects and the stages of their lines, the last day, and whether it is authorised
 pub record LoanRow : Type 0 where
@@ -48,13 +47,13 @@ line_of row o = option_and_then (slice_get row.stages) (position (nat_eq o) row.
 abbrev pub state_of : LoanRow → LoanState
 state_of row = state_by row.authorised row.stages
 
--- the row of a loan that is just agreed
-abbrev pub agreed_row : Museum → Agreement → LoanRow
-agreed_row S t = record {
+-- the row of a loan that is just agreed, with its lines
+abbrev pub agreed_row : Museum → Agreement → List NewLine → LoanRow
+agreed_row S t lines = record {
   loan = t.loan;
   partner = place_no S t.partner;
-  objects = objects_of S t;
-  stages = map (λ o. Awaiting) (objects_of S t);
+  objects = map (λ l. l.object) lines;
+  stages = map (λ l. l.stage) lines;
   last = t.last;
   authorised = false;
 }
@@ -89,7 +88,7 @@ abbrev pub rows_with : Museum → List LoanRow → Message → List NewLine → 
 rows_with S rows (Agree first last loan partner objects) lines =
     rows ++ agreed_row S
     (record { loan = loan; partner = partner; objects = objects; first = first; last = last })
-    ∷ []
+    lines ∷ []
 rows_with S rows (Authorise name loan) lines = changed authorised_row loan rows
 rows_with S rows (Exit day x loan) lines = changed (with_lines lines) loan rows
 rows_with S rows (Return day x loan p) lines = changed (with_lines lines) loan rows
@@ -97,8 +96,12 @@ rows_with S rows (Receive day x loan p) lines = changed (with_lines lines) loan 
 rows_with S rows (Extend last loan) lines = changed (extended_row last) loan rows
 rows_with S rows _ lines = rows
 
--- an agreement can be kept: its objects are of the setup, none stands twice, and the loan is new
-pub record MayAgree (S : Museum) (rows : List LoanRow) (t : Agreement) : Type 0 where
-  pub known : list_any (λ x. not (is_known S x)) t.objects ≡ false
-  pub once : repeats t.objects ≡ false
+-- none of the numbers stands twice
+abbrev pub AreOnce : List ℕ → Type 0
+AreOnce [] = Unit {0}
+AreOnce (o ∷ os) = (is_among o os ≡ false) × AreOnce os
+
+-- an agreement can be kept with these lines: no object has two of them, and the loan is new
+pub record MayAgree (rows : List LoanRow) (lines : List NewLine) (t : Agreement) : Type 0 where
+  pub once : AreOnce (map (λ l. l.object) lines)
   pub new : find (λ row. bytes_eq t.loan row.loan) rows ≡ None

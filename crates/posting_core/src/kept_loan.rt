@@ -1,15 +1,12 @@
 //! What a ledger keeps of one loan.
-ghost use Rattle.std.specs.Prelude.{◌≡◌, ◌<◌, false, not, map, IfOk};
-ghost use Rattle.std.specs.List.{list_any};
-ghost use Rattle.posting_core.specs.declared.stage.LineStage.TheVariants.{Awaiting};
-ghost use Rattle.posting_core.specs.Messages.{thing_no, place_no};
+ghost use Rattle.std.specs.Prelude.{◌≡◌, ◌<◌, false, map, IfOk};
+ghost use Rattle.posting_core.specs.Messages.{place_no};
 ghost use Rattle.posting_core.specs.Loans.{is_done, is_awaiting, state_by};
-ghost use Rattle.posting_core.specs.Verdicts.{is_known, repeats};
-ghost use Rattle.posting_core.specs.LoanRows.{LoanRow, line_of, state_of, authorised_row, extended_row, with_stage, with_lines};
+ghost use Rattle.posting_core.specs.LoanRows.{LoanRow, AreOnce, line_of, state_of, authorised_row, extended_row, with_stage, with_lines};
 
-use crate::numbers::{place_no, thing_no};
+use crate::numbers::place_no;
 use crate::{LineStage, LoanState, NewLine};
-use codes_core::{Day, LoanCode, NoMemory, PlaceCode, ThingCode};
+use codes_core::{Day, LoanCode, NoMemory, PlaceCode};
 use indexmap::IndexSet;
 use nest_core::{PlaceNo, Setup, ThingNo};
 use std::alloc::Global;
@@ -46,27 +43,26 @@ impl Model for KeptLoan {
 }
 
 impl KeptLoan {
-    /// A loan that is just agreed: its objects are things of the setup, none stands twice, and each is awaited.
+    /// A loan that is just agreed, with a line of each of its objects.
     pub(crate) fn new(
         alloc: Global,
         setup: &Setup,
         loan: LoanCode,
         partner: &PlaceCode,
-        objects: &[ThingCode],
+        lines: &[NewLine],
         last: Day,
     ) -> Result<KeptLoan, NoMemory>
-        requires known { list_any (λ x. not (is_known setup.now x)) objects.now ≡ false }
-        requires once { repeats objects.now ≡ false }
+        requires { AreOnce (map (λ l. l.object) lines.now) }
         ensures { IfOk result (λ row. row ≡ record {
           loan = loan;
           partner = place_no setup.now partner.now;
-          objects = map (thing_no setup.now) objects.now;
-          stages = map (λ o. Awaiting) (map (thing_no setup.now) objects.now);
+          objects = map (λ l. l.object) lines.now;
+          stages = map (λ l. l.stage) lines.now;
           last = last;
           authorised = false;
         }) }
     {
-        let (objects, stages) = awaited(alloc, setup, objects)?;
+        let (objects, stages) = parted(alloc, lines)?;
         Ok(KeptLoan {
             loan,
             partner: place_no(setup, partner),
@@ -159,25 +155,20 @@ impl KeptLoan {
     }
 }
 
-/// The numbers of these objects, each with a line that is awaited.
-fn awaited(
-    alloc: Global,
-    setup: &Setup,
-    objects: &[ThingCode],
-) -> Result<(IndexSet<ThingNo>, Vec<LineStage>), NoMemory>
-    requires known { list_any (λ x. not (is_known setup.now x)) objects.now ≡ false }
-    requires once { repeats objects.now ≡ false }
-    ensures { IfOk result
-        (λ both. (both.0.keys ≡ map (thing_no setup.now) objects.now)
-        × (both.1.items ≡ map (λ o. Awaiting) (map (thing_no setup.now) objects.now))) }
+/// The objects of these lines, which differ, and their stages.
+fn parted(alloc: Global, lines: &[NewLine]) -> Result<(IndexSet<ThingNo>, Vec<LineStage>), NoMemory>
+    requires { AreOnce (map (λ l. l.object) lines.now) }
+    ensures { IfOk result (λ both. (both.0.keys ≡ map (λ l. l.object) lines.now)
+        × (both.1.items ≡ map (λ l. l.stage) lines.now)) }
 {
-    let mut numbers = IndexSet::new(alloc);
-    let mut stages = Vec::new(alloc);
-    for i in 0..objects.len() {
-        numbers.insert(thing_no(setup, &objects[i]))?;
-        stages.push(LineStage::Awaiting)?;
+    let mut objects = IndexSet::with_capacity(alloc, lines.len())?;
+    let mut stages = Vec::with_capacity(alloc, lines.len())?;
+    for i in 0..lines.len() {
+        let line = lines[i];
+        objects.insert(line.object)?;
+        stages.push(line.stage)?;
     }
-    Ok((numbers, stages))
+    Ok((objects, stages))
 }
 
 fn state_of(authorised: bool, stages: &[LineStage]) -> LoanState

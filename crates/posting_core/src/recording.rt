@@ -21,7 +21,7 @@ pub(crate) fn record(
     message: &Message,
     lines: &[NewLine],
 ) -> Result<(), NoMemory>
-    requires { IfSome (agreement_by verdict message.now) (MayAgree setup.now loans.old) }
+    requires { IfSome (agreement_by verdict message.now) (MayAgree loans.old lines.now) }
     ensures ok { OnOk result
         (loans.new ≡ (if is_applied verdict
         then rows_with setup.now loans.old message.now lines.now else loans.old)) }
@@ -33,20 +33,19 @@ pub(crate) fn record(
     }
     match message {
         Message::Agree {
+            last,
             loan,
             partner,
-            objects,
-            last,
             ..
         } => {
-            let row = KeptLoan::new(alloc, setup, *loan, partner, objects.as_slice(), *last)?;
+            let row = KeptLoan::new(alloc, setup, *loan, partner, lines, *last)?;
             loans.push(row)?;
         }
         Message::Authorise { loan, .. } => loans.authorise(loan),
         Message::Exit { loan, .. } => loans.cross(loan, lines),
         Message::Return { loan, .. } => loans.cross(loan, lines),
         Message::Receive { loan, .. } => loans.cross(loan, lines),
-        Message::Extend { loan, last } => loans.extend(loan, *last),
+        Message::Extend { last, loan } => loans.extend(loan, *last),
         Message::Move { .. } | Message::Pack { .. } | Message::SignOff { .. } => {}
     }
     Ok(())

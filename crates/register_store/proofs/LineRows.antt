@@ -31,8 +31,8 @@ use Rattle.posting_core.specs.VerdictNames.{is_applied}
 use Rattle.posting_core.specs.Verdicts.{verdict, carries_unlisted, is_listed, exit_rows, return_rows, receive_rows}
 use Rattle.posting_core.proofs.AppliedRows.{none_holds, applied_is}
 use Rattle.posting_core.proofs.Agreed.{IsSound, AreApart, agreements_apart, agreements_sound, agree_applied, untouched, apart_sym}
-use Rattle.posting_core.proofs.Lined.{numbers_once}
-use Rattle.posting_core.proofs.Lined as numbers
+use Rattle.posting_core.proofs.ObjectNumbers.{numbers_once}
+use Rattle.posting_core.specs.LoanRows as numbers
 use Rattle.register_store.specs.StoredRows.{LineRow, lines_by_loan, put, put_each, line_row, is_same_line, rows_of_lines}
 use Rattle.register_store.specs.Plain.{has_same_key}
 use Rattle.register_store.proofs.PutRows.{IsFree, AreOnce, replaced, put_each_same, put_mapped, put_new, put_replaces}

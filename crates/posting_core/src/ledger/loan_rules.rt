@@ -1,15 +1,17 @@
 //! The rules of what is agreed of loans: agreement, authorisation and extension.
-ghost use Rattle.std.specs.Prelude.{◌≡◌, ◌≤◌, ◌∷◌, [], false, length, int_lt, not};
+ghost use Rattle.std.specs.Prelude.{◌≡◌, ◌≤◌, ◌∷◌, [], true, false, length, map, take, int_lt, not};
+ghost use Rattle.std.specs.Bool.{Decides};
 ghost use Rattle.std.specs.List.{list_any};
 ghost use Rattle.posting_core.specs.declared.verdict.Verdict.TheVariants.{NoObjects, NotObject, Repeated, WrongOwner, BadTerm};
 ghost use Rattle.nest_core.specs.InOrder.{◌if◌};
+ghost use Rattle.posting_core.specs.LoanRows.{AreOnce};
+ghost use Rattle.posting_core.specs.Messages.{thing_no};
 ghost use Rattle.posting_core.specs.Verdicts.{first_of, agree_rows, authorise_rows, extend_rows, is_known, is_container_code, is_of_wrong_owner, is_empty, repeats};
 
 use super::Ledger;
-use crate::numbers::thing_no;
 use crate::{MOST_OBJECTS, Verdict};
 use codes_core::{Day, LoanCode, PlaceCode, ThingCode, ThingKind};
-use nest_core::Setup;
+use nest_core::{Setup, ThingNo};
 
 impl Ledger {
     pub(crate) fn judge_agree(
@@ -25,7 +27,8 @@ impl Ledger {
             ≡ first_of (agree_rows self.now.museum self.now.posted loan.now partner.now objects.now
             first last) }
     {
-        if self.any_unknown(objects) {
+        let mut numbers = [0; MOST_OBJECTS];
+        if any_unknown(&self.setup, objects, &mut numbers) {
             return Verdict::UnknownThing;
         }
         let Some(place) = self.setup.place(partner) else {
@@ -37,7 +40,8 @@ impl Ledger {
         if self.setup.is_inside(place) {
             return Verdict::InsidePartner;
         }
-        judge_terms(&self.setup, loan, objects, first, last)
+        let repeated = !are_once(&numbers[..objects.len()]);
+        judge_terms(loan, objects, repeated, first, last)
     }
 
     pub(crate) fn judge_authorise(&self, loan: &LoanCode) -> Verdict
@@ -66,25 +70,35 @@ impl Ledger {
         }
         Verdict::Applied
     }
-
-    /// Whether one isn't in the setup.
-    fn any_unknown(&self, objects: &[ThingCode]) -> bool
-        ensures { result ≡ list_any (λ x. not (is_known self.now.museum x)) objects.now }
-    {
-        objects.iter().any(|x| self.setup.thing(x).is_none())
-    }
 }
 
-/// The rows of an agreement that ask nothing of what was posted: its objects, all of which the setup has, and its days.
+/// Whether one of these codes isn't in the setup; else the numbers of all are found.
+fn any_unknown(setup: &Setup, codes: &[ThingCode], numbers: &mut [ThingNo]) -> bool
+    requires { length codes.now ≤ length numbers.old }
+    ensures unknown { result ≡ list_any (λ x. not (is_known setup.now x)) codes.now }
+    ensures numbers { result ≡ false
+        → take (length codes.now) numbers.new ≡ map (thing_no setup.now) codes.now }
+    ensures room { length numbers.new ≡ length numbers.old }
+{
+    for i in 0..codes.len() {
+        let Some(x) = setup.thing(&codes[i]) else {
+            return true;
+        };
+        numbers[i] = x;
+    }
+    false
+}
+
+/// The rows of an agreement that ask nothing of the setup or of what was posted: its objects, of which some may stand twice,
+/// and its days.
 fn judge_terms(
-    setup: &Setup,
     loan: &LoanCode,
     objects: &[ThingCode],
+    repeated: bool,
     first: Day,
     last: Day,
 ) -> Verdict
-    requires known { list_any (λ x. not (is_known setup.now x)) objects.now ≡ false }
-    requires few { length objects.now ≤ MOST_OBJECTS }
+    requires { repeated ≡ repeats objects.now }
     ensures { result ≡ first_of (
         (NoObjects if is_empty objects.now)
         ∷ (NotObject if list_any is_container_code objects.now)
@@ -99,7 +113,7 @@ fn judge_terms(
     if any_container(objects) {
         return Verdict::NotObject;
     }
-    if repeats(setup, objects) {
+    if repeated {
         return Verdict::Repeated;
     }
     if any_of_wrong_owner(loan, objects) {
@@ -141,19 +155,14 @@ fn any_of_wrong_owner(loan: &LoanCode, objects: &[ThingCode]) -> bool
     objects.iter().any(|x| is_of_wrong_owner(loan, x))
 }
 
-/// Whether some code stands twice: its number does so, too.
-fn repeats(setup: &Setup, objects: &[ThingCode]) -> bool
-    requires known { list_any (λ x. not (is_known setup.now x)) objects.now ≡ false }
-    requires few { length objects.now ≤ MOST_OBJECTS }
-    ensures { result ≡ repeats objects.now }
+/// Whether none of the numbers stands twice.
+fn are_once(numbers: &[ThingNo]) -> bool
+    ensures { Decides result (AreOnce numbers.now) }
 {
-    let mut numbers = [0; MOST_OBJECTS];
-    for i in 0..objects.len() {
-        let number = thing_no(setup, &objects[i]);
-        if numbers[..i].contains(&number) {
-            return true;
+    for i in 0..numbers.len() {
+        if numbers[..i].contains(&numbers[i]) {
+            return false;
         }
-        numbers[i] = number;
     }
-    false
+    true
 }

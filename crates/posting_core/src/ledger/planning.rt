@@ -2,6 +2,7 @@
 ghost use Rattle.std.specs.Prelude.{◌≡◌, ◌<◌, ◌≤◌, ◌+◌, ◌&&◌, [], if◌then◌else◌, length, All, IfOk, OnErr, IfSome, Some, true, not, map, filter};
 ghost use Rattle.std.specs.List.{filter_map};
 ghost use Rattle.nest_core.specs.Puts.{container_of};
+ghost use Rattle.posting_core.specs.declared.stage.LineStage.TheVariants.{Awaiting};
 ghost use Rattle.posting_core.specs.declared.verdict.Verdict.TheVariants.{Applied};
 ghost use Rattle.nest_core.specs.Museum.{is_container};
 ghost use Rattle.posting_core.specs.Messages.{thing_no, day_of};
@@ -198,8 +199,7 @@ impl Ledger {
     {
         match message {
             Message::Agree { loan, objects, .. } => {
-                let numbers = numbers_of(alloc, &self.setup, objects.as_slice())?;
-                lines_of(alloc, *loan, &numbers, LineStage::Awaiting)
+                awaited_lines(alloc, &self.setup, *loan, objects.as_slice())
             }
             Message::Exit { loan, .. } => {
                 self.lines_across(alloc, carried, *loan, exit_stage(loan))
@@ -257,15 +257,26 @@ pub(crate) fn objects_among(
     Ok(objects)
 }
 
-/// The numbers of these things, in their order.
-fn numbers_of(alloc: Global, setup: &Setup, codes: &[ThingCode]) -> Result<Vec<ThingNo>, NoMemory>
-    ensures { IfOk result (λ numbers. numbers.items ≡ map (thing_no setup.now) codes.now) }
+/// A line of the loan for each of these objects, which is awaited.
+fn awaited_lines(
+    alloc: Global,
+    setup: &Setup,
+    loan: LoanCode,
+    objects: &[ThingCode],
+) -> Result<NewLines, NoMemory>
+    ensures { IfOk result
+        (λ lines. lines ≡ map (λ o. record { loan = loan; object = o; stage = Awaiting })
+        (map (thing_no setup.now) objects.now)) }
 {
-    let mut numbers = Vec::new(alloc);
-    for i in 0..codes.len() {
-        numbers.push(thing_no(setup, &codes[i]))?;
+    let mut lines = NewLines::new(alloc);
+    for i in 0..objects.len() {
+        lines.push(NewLine {
+            loan,
+            object: thing_no(setup, &objects[i]),
+            stage: LineStage::Awaiting,
+        })?;
     }
-    Ok(numbers)
+    Ok(lines)
 }
 
 /// A line of the loan for each of these objects, at this stage.
