@@ -23,8 +23,8 @@ use std::sync::Wait;
 use std::thread::Threads;
 use std::{env, io};
 
-/// How many bytes of standard input are read at once at most, and of standard output written.
-const ROOM: usize = 65_536;
+/// How many bytes are read of standard input at once, and written to standard output, at most.
+const AT_ONCE: usize = 65_536;
 
 fn main(rt: HostRuntime) -> ExitCode {
     match on_standard_streams(&rt, &rt) {
@@ -49,10 +49,10 @@ fn on_standard_streams<T: Threads + Wait + Sync + Copy + Send + 'static>(
     rt: &HostRuntime,
     threads: &T,
 ) -> Result<u8, CommandFault> {
-    let mut input = BufReader::with_capacity(rt.alloc(), ROOM, rt.reader()).map_err(
+    let mut input = BufReader::with_capacity(rt.alloc(), AT_ONCE, rt.reader()).map_err(
         |_| CommandFault::NoMemory,
     )?;
-    let mut output = BufWriter::with_capacity(rt.alloc(), ROOM, io::writer(rt)).map_err(
+    let mut output = BufWriter::with_capacity(rt.alloc(), AT_ONCE, io::writer(rt)).map_err(
         |_| CommandFault::NoMemory,
     )?;
     let given = env::args(rt).map_err(fault_of_words)?;

@@ -5,19 +5,20 @@ use Rattle.posting_core.specs.declared.entry.Spot.{Spot}
 use Rattle.posting_core.specs.declared.spot_rows.KeptSpot.{KeptSpot}
 use Rattle.posting_core.specs.declared.spot_rows.LastSpot.{LastSpot}
 
--- so many spots of a thing, oldest first, of which the last stands at this index of the list
+-- so many spots of a thing, oldest first: the last of them stands at this index of the list, and each tells the index of
+-- the one before it
 abbrev pub spots_at : List KeptSpot → ℕ → ℕ → List Spot
 spots_at spots at zero = []
 spots_at spots at (suc count) =
     option_map_or (λ s. spots_at spots s.before count ++ s.spot ∷ []) (slice_get spots at) []
 
--- so many spots, from the one at this index back, stand in the list
+-- all of so many spots are in the list, from the one at this index back
 abbrev pub LeadBack : List KeptSpot → ℕ → ℕ → Type 0
 LeadBack spots at zero = Unit {0}
 LeadBack spots at (suc count) =
     (s : KeptSpot) × (slice_get spots at ≡ Some s) × LeadBack spots s.before count
 
--- what is kept of a thing: from its last spot back as many stand in the list as it has, which are no more than all
+-- what is kept of a thing is right: from its last spot back all that it has are in the list, and they are no more than all
 pub record IsLast (spots : List KeptSpot) (last : LastSpot) : Type 0 where
   pub back : LeadBack spots last.at last.count
   pub few : last.count ≤ length spots

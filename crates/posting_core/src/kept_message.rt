@@ -18,8 +18,8 @@ pub struct KeptMessage {
     form: Form,
 }
 
-/// What is kept of a message, in 40 bytes each: where there are three codes they have to be shorter. The day stands first, so
-/// that the bytes behind it are copied in whole words.
+/// What is kept of a message, in 40 bytes each: where there are three codes they have to be shorter. Where there is a day, it
+/// stands first, so that the bytes behind it are copied in whole words.
 #[derive(Drop)]
 pub(crate) enum Form {
     Move {
@@ -99,46 +99,46 @@ impl KeptMessage {
         ensures { IfOk result (λ message. message ≡ self.now) }
     {
         match &self.form {
-            Form::Move { thing, place, day } => Ok(Message::Move {
+            Form::Move { day, thing, place } => Ok(Message::Move {
+                day: *day,
                 thing: thing_of(thing),
                 place: place_of(place),
-                day: *day,
             }),
             Form::Pack {
+                day,
                 thing,
                 container,
-                day,
             } => Ok(Message::Pack {
+                day: *day,
                 thing: thing_of(thing),
                 container: thing_of(container),
-                day: *day,
             }),
-            Form::Exit { thing, loan, day } => Ok(Message::Exit {
+            Form::Exit { day, thing, loan } => Ok(Message::Exit {
+                day: *day,
                 thing: thing_of(thing),
                 loan: *loan,
-                day: *day,
             }),
             Form::Return {
+                day,
                 thing,
                 loan,
                 place,
-                day,
             } => Ok(Message::Return {
+                day: *day,
                 thing: thing_of(thing),
                 loan: loan_of(loan),
                 place: place_of(place),
-                day: *day,
             }),
             Form::Receive {
+                day,
                 thing,
                 loan,
                 place,
-                day,
             } => Ok(Message::Receive {
+                day: *day,
                 thing: thing_of(thing),
                 loan: loan_of(loan),
                 place: place_of(place),
-                day: *day,
             }),
             Form::Whole(message) => message.copy(alloc),
         }
@@ -150,30 +150,30 @@ fn in_short(message: &Message) -> Option<Form>
     ensures { IfSome result (λ form. HasCodes form × (said form ≡ message.now)) }
 {
     match message {
-        Message::Move { thing, place, day } => Some(Form::Move {
+        Message::Move { day, thing, place } => Some(Form::Move {
             day: *day,
             thing: thing.shortened()?,
             place: place.shortened()?,
         }),
         Message::Pack {
+            day,
             thing,
             container,
-            day,
         } => Some(Form::Pack {
             day: *day,
             thing: thing.shortened()?,
             container: container.shortened()?,
         }),
-        Message::Exit { thing, loan, day } => Some(Form::Exit {
+        Message::Exit { day, thing, loan } => Some(Form::Exit {
             day: *day,
             thing: thing.shortened()?,
             loan: *loan,
         }),
         Message::Return {
+            day,
             thing,
             loan,
             place,
-            day,
         } => Some(Form::Return {
             day: *day,
             thing: thing.shortened()?,
@@ -181,10 +181,10 @@ fn in_short(message: &Message) -> Option<Form>
             place: place.shortened()?,
         }),
         Message::Receive {
+            day,
             thing,
             loan,
             place,
-            day,
         } => Some(Form::Receive {
             day: *day,
             thing: thing.shortened()?,

@@ -292,7 +292,7 @@ impl Ledger {
                 container,
                 ..
             } => Ok(self.judge_pack(thing, container)),
-            Message::Exit { thing, loan, day } => self.judge_exit(alloc, thing, loan, *day),
+            Message::Exit { day, thing, loan } => self.judge_exit(alloc, thing, loan, *day),
             Message::Return {
                 thing,
                 loan,
@@ -300,21 +300,21 @@ impl Ledger {
                 ..
             } => self.judge_return(alloc, thing, loan, place),
             Message::Receive {
+                day,
                 thing,
                 loan,
                 place,
-                day,
             } => self.judge_receive(alloc, thing, loan, place, *day),
             Message::Agree {
+                first,
+                last,
                 loan,
                 partner,
                 objects,
-                first,
-                last,
             } => Ok(unput(self.judge_agree(loan, partner, objects.as_slice(), *first, *last))),
             Message::Authorise { loan, .. } => Ok(unput(self.judge_authorise(loan))),
             Message::SignOff { .. } => Ok(unput(Verdict::Applied)),
-            Message::Extend { loan, last } => Ok(unput(self.judge_extend(loan, *last))),
+            Message::Extend { last, loan } => Ok(unput(self.judge_extend(loan, *last))),
         }
     }
 

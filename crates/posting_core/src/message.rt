@@ -5,7 +5,8 @@ use crate::Objects;
 use codes_core::{Day, LoanCode, Name, NoMemory, PlaceCode, ThingCode};
 use std::alloc::Global;
 
-/// A message of a station. In each kind the days stand first, so that the codes behind them are copied in whole words.
+/// A message of a station. In each kind the days, or else the name, stand first, so that the codes behind them are copied in
+/// whole words.
 pub enum Message {
     /// The thing is put straight at the place, on this day.
     Move {
@@ -68,42 +69,42 @@ impl Drop for Message {
     fn drop(self) {
         match self {
             Message::Agree {
+                first: _,
+                last: _,
                 loan: _,
                 partner: _,
                 objects,
-                first: _,
-                last: _,
             } => drop(objects),
-            Message::Authorise { loan: _, name } => drop(name),
+            Message::Authorise { name, loan: _ } => drop(name),
             Message::SignOff { name } => drop(name),
             Message::Move {
+                day: _,
                 thing: _,
                 place: _,
-                day: _,
             } => {}
             Message::Pack {
+                day: _,
                 thing: _,
                 container: _,
-                day: _,
             } => {}
             Message::Exit {
+                day: _,
                 thing: _,
                 loan: _,
-                day: _,
             } => {}
             Message::Return {
+                day: _,
                 thing: _,
                 loan: _,
                 place: _,
-                day: _,
             } => {}
             Message::Receive {
+                day: _,
                 thing: _,
                 loan: _,
                 place: _,
-                day: _,
             } => {}
-            Message::Extend { loan: _, last: _ } => {}
+            Message::Extend { last: _, loan: _ } => {}
         }
     }
 }
@@ -114,70 +115,70 @@ impl Message {
         ensures { IfOk result (λ copy. copy ≡ self.now) }
     {
         match self {
-            Message::Move { thing, place, day } => Ok(Message::Move {
+            Message::Move { day, thing, place } => Ok(Message::Move {
+                day: *day,
                 thing: *thing,
                 place: *place,
-                day: *day,
             }),
             Message::Pack {
+                day,
                 thing,
                 container,
-                day,
             } => Ok(Message::Pack {
+                day: *day,
                 thing: *thing,
                 container: *container,
-                day: *day,
             }),
             Message::Agree {
+                first,
+                last,
                 loan,
                 partner,
                 objects,
-                first,
-                last,
             } => Ok(Message::Agree {
+                first: *first,
+                last: *last,
                 loan: *loan,
                 partner: *partner,
                 objects: objects.copy(alloc)?,
-                first: *first,
-                last: *last,
             }),
-            Message::Authorise { loan, name } => Ok(Message::Authorise {
-                loan: *loan,
+            Message::Authorise { name, loan } => Ok(Message::Authorise {
                 name: name.copy(alloc)?,
+                loan: *loan,
             }),
-            Message::Exit { thing, loan, day } => Ok(Message::Exit {
+            Message::Exit { day, thing, loan } => Ok(Message::Exit {
+                day: *day,
                 thing: *thing,
                 loan: *loan,
-                day: *day,
             }),
             Message::Return {
+                day,
                 thing,
                 loan,
                 place,
-                day,
             } => Ok(Message::Return {
+                day: *day,
                 thing: *thing,
                 loan: *loan,
                 place: *place,
-                day: *day,
             }),
             Message::Receive {
+                day,
                 thing,
                 loan,
                 place,
-                day,
             } => Ok(Message::Receive {
+                day: *day,
                 thing: *thing,
                 loan: *loan,
                 place: *place,
-                day: *day,
             }),
             Message::SignOff { name } => Ok(Message::SignOff {
                 name: name.copy(alloc)?,
             }),
-            Message::Extend { loan, last } => Ok(Message::Extend {
-                loan: *loan,
+            Message::Extend { last, loan } => Ok(Message::Extend {
                 last: *last,
+                loan: *loan,
             }),
         }
     }

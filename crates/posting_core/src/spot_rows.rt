@@ -8,14 +8,14 @@ use nest_core::ThingNo;
 use std::alloc::{AllocError, Global};
 use std::marker::Model;
 
-/// How many spots a thing has, and where the last of them stands in the list.
+/// How many spots a thing has and, where it has any, at which index of the list the last of them stands.
 #[derive(Clone, Copy)]
 pub(crate) struct LastSpot {
     pub(crate) at: usize,
     pub(crate) count: usize,
 }
 
-/// A spot in the list, and where the one stands that its thing had before, if there is one.
+/// A spot in the list, and at which index the one stands that its thing had before, if there is one.
 #[derive(Clone, Copy)]
 pub(crate) struct KeptSpot {
     pub(crate) spot: Spot,
