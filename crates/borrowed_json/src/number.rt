@@ -1,22 +1,37 @@
 //! Numbers read.
 ghost use Rattle.std.specs.Prelude.{◌≡◌, ◌==◌, ◌<◌, length, true, false, IsTrue};
-ghost use Rattle.std.specs.Prelude.{option_map, slice_index};
+ghost use Rattle.std.specs.Prelude.{IfSome, option_map, slice_index};
+ghost use Rattle.std.specs.Str.Parse.{IsNumeral, digits_value};
 ghost use Rattle.serde_json.specs.Read.{number_of, number_from, float_of};
 ghost use Rattle.serde_json.specs.View.{number_view};
 
-use fast_float::Numeral;
+use fast_float::{Numeral, parse_u64};
 use serde_json::Number;
 
-/// The number that a token of JSON writes, where it is in range.
+/// The number that a token of JSON writes, where it is in range. Most are digits alone, in which no point and no exponent
+/// have to be looked for.
 pub(crate) fn number_of(text: &str) -> Option<Number>
     ensures { option_map number_view result ≡ number_of text.now }
 {
     let bytes = text.as_bytes();
+    if let Some(n) = digits_alone(bytes) {
+        return Number::from_u128(n as u128);
+    }
     if has_minus(bytes) {
         negative(&Numeral::scan(&bytes[1..]))
     } else {
         unsigned(&Numeral::scan(bytes))
     }
+}
+
+/// The number that digits alone write, where it fits 64 bits.
+fn digits_alone(bytes: &[u8]) -> Option<u64>
+    ensures { IfSome result (λ n. IsNumeral 10 bytes.now × (n ≡ digits_value 10 bytes.now)) }
+{
+    if bytes.starts_with(b"+") {
+        return None;
+    }
+    parse_u64(bytes).ok()
 }
 
 /// The number of a numeral without a sign: whole where it fits 64 bits.

@@ -15,6 +15,9 @@ use std::alloc::Global;
 /// How deep arrays and objects may nest, as serde_json reads them.
 const MAX_DEPTH: usize = 127;
 
+/// For how many members there is room in the list of an object's at first.
+const MEMBERS: usize = 8;
+
 impl<'a> Value<'a> {
     /// The value that bytes spell, as serde_json's `from_slice` reads them, else NotJson: they are
     /// UTF-8 of one JSON value, in which arrays and objects nest at most 127 deep and every number
@@ -142,7 +145,7 @@ fn read_members<'a>(
         → converted (λ ms. of_members ms no_members)
         (members (value depth) (length reader.old) reader.old) ≡ None }
 {
-    let mut found = Vec::new(lists);
+    let mut found = Vec::with_capacity(lists, MEMBERS)?;
     'members: while let Some(name) = reader.next_key()? {
         let member = read(lists, reader, depth)?;
         found.push((name, member))?;

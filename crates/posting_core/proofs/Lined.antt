@@ -1,10 +1,10 @@
 -- What an entry writes in the rows of the loans is what looking back gives after it.
-use Rattle.std.specs.Prelude.{ℕ, ℤ, ◌≡◌, ◌&&◌, ◌||◌, ◌==◌, Bool, true, false, not, cond, zero, suc, List, [], ◌∷◌, ◌++◌, Option, None, Some, map, refl, if◌then◌else◌, unwrap_or, slice_set, nat_eq}
-use Rattle.std.specs.List.{find, list_any, position, AllByRecursion}
+use Rattle.std.specs.Prelude.{ℕ, ℤ, ◌≡◌, ◌&&◌, ◌||◌, ◌==◌, Bool, true, false, cond, zero, suc, List, [], ◌∷◌, ◌++◌, Option, None, Some, map, refl, if◌then◌else◌, unwrap_or, slice_set, nat_eq}
+use Rattle.std.specs.List.{find, position, AllByRecursion}
 use Rattle.std.specs.Option.{option_map, option_map_or, option_to_list}
 use Rattle.std.specs.Str.{bytes_eq}
 use Rattle.std.proofs.Common.{ap, ◌∙◌, sym, subst, arith}
-use Rattle.std.proofs.lemmas.Bool.{or_parts, false≢true}
+use Rattle.std.proofs.lemmas.Bool.{false≢true}
 use Rattle.std.proofs.Math.Path.{fun_ext}
 use Rattle.std.proofs.lemmas.Bool.Decides.{nat_tests}
 use Rattle.std.proofs.lemmas.List.{append-nil, map-append}
@@ -20,10 +20,10 @@ use Rattle.posting_core.specs.declared.stage.LineStage.{LineStage}
 use Rattle.posting_core.specs.declared.stage.LineStage.TheVariants.{Awaiting, Away, Back, Here}
 use Rattle.posting_core.specs.declared.verdict.Verdict.TheVariants.{Applied}
 use Rattle.posting_core.specs.VerdictNames.{is_applied}
-use Rattle.posting_core.specs.Messages.{thing_no, place_no}
+use Rattle.posting_core.specs.Messages.{place_no}
 use Rattle.posting_core.specs.Agreements.{Agreement, agreement_in, agreements, authorises, is_authorised, extension_in, last_from}
 use Rattle.posting_core.specs.Loans.{Crossing, exit_of, crossing_in, objects_in, stage_by, stage, objects_of}
-use Rattle.posting_core.specs.Verdicts.{verdict, is_known, repeats}
+use Rattle.posting_core.specs.Verdicts.{verdict}
 use Rattle.posting_core.specs.Lawful.{Follows, IsLawful}
 use Rattle.posting_core.specs.Book.{new_lines, lines_of_agreement}
 use Rattle.posting_core.specs.LoanRows.{LoanRow, loan_row, loan_rows, with_lines, changed, authorised_row, extended_row, agreed_row, rows_with, AreOnce}

@@ -1,4 +1,4 @@
-use Rattle.std.proofs.Common.{◌≡◌, ◌∙◌, true, false, sym, subst, take, get_or}
+use Rattle.std.proofs.Common.{◌≡◌, ◌∙◌, true, sym, subst, take, get_or}
 use Rattle.std.proofs.lemmas.Bool.{false≢true}
 use Rattle.std.proofs.lemmas.List.{take_more}
 use Rattle.nest_core.specs.Puts.{is_among}
