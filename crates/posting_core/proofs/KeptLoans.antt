@@ -1,5 +1,5 @@
 -- Loans that are kept, found by their codes.
-use Rattle.std.specs.Prelude.{◌≡◌, ℕ, ◌+◌, ◌<◌, true, false, cond, not, List, [], ◌∷◌, ◌++◌, length, map, Some, None, nat_lt, slice_get, slice_set, refl, zero, suc}
+use Rattle.std.specs.Prelude.{◌≡◌, ℕ, ◌+◌, ◌<◌, true, false, cond, not, List, [], ◌∷◌, ◌++◌, length, map, Option, Some, None, IfSome, nat_lt, slice_get, slice_set, refl, zero, suc}
 use Rattle.std.specs.List.{find, position, position_or_len}
 use Rattle.std.specs.Str.{bytes_eq}
 use Rattle.std.proofs.lemmas.Bool.Decides.{nat_tests}
@@ -8,7 +8,7 @@ use Rattle.std.proofs.lemmas.List.Folds.{find_at}
 use Rattle.std.proofs.lemmas.List.Quantifiers.{position-Some}
 use Rattle.std.proofs.lemmas.List.Sums.{position_or_len_is}
 use Rattle.std.proofs.lemmas.Option.{slice_get-get_or, slice_get_past}
-use Rattle.std.proofs.Common.{arith, ap, sym, ◌∙◌, get_or}
+use Rattle.std.proofs.Common.{arith, ap, sym, subst, ◌∙◌, get_or}
 use Rattle.std.proofs.Math.Seq.{map-set_same}
 use Rattle.indexmap.specs.IndexSet.{insert_key}
 use Rattle.nest_core.proofs.Positions.{absent, insert_key_new}
@@ -47,9 +47,21 @@ changed_kept f loan {rows} {i} {row} {new} same view at is there =
     let first = position-Some (bytes_eq loan) (loan_codes rows) i [] (ap (position (bytes_eq loan)) (sym same) ∙ sym at) in
     changed_first f loan rows i row new first.1 first.2 (is ∙ ap f there) ∙ ap (changed f loan) view
 
-pub unchanged_kept : (f : LoanRow → LoanRow) (loan : List ℕ) {codes : List (List ℕ)} {rows seen : List LoanRow} → codes ≡ loan_codes rows → rows ≡ seen → None ≡ position (bytes_eq loan) codes → seen ≡ changed f loan seen
-unchanged_kept f loan {rows} same view none =
-    sym view ∙ changed_none f loan rows (ap (position (bytes_eq loan)) (sym same) ∙ sym none) ∙ ap (changed f loan) view
+-- and where its number is told
+pub changed_at : (f : LoanRow → LoanRow) {rows seen : List LoanRow} {number : Option ℕ} {i : ℕ} {row new : LoanRow} → rows ≡ seen → number ≡ Some i → new ≡ f row → row ≡ get_or rows i row →
+    (loan : List ℕ) → number ≡ position (bytes_eq loan) (loan_codes seen) → slice_set rows i new ≡ changed f loan seen
+changed_at f view is new there loan at = changed_kept f loan refl view (sym is ∙ at ∙ ap (λ rows. position (bytes_eq loan) (loan_codes rows)) (sym view)) new there
+
+pub unchanged_at : (f : LoanRow → LoanRow) {rows seen : List LoanRow} {number : Option ℕ} → rows ≡ seen → number ≡ None → (loan : List ℕ) → number ≡ position (bytes_eq loan) (loan_codes seen) → seen ≡ changed f loan seen
+unchanged_at f {seen} view is loan at = changed_none f loan seen (sym at ∙ is)
+
+-- a number that is told is a row's
+pub number_within : (rows : List LoanRow) (loan : List ℕ) {number : Option ℕ} → number ≡ position (bytes_eq loan) (loan_codes rows) → IfSome number (λ i. i < length rows)
+number_within rows loan at = subst (λ o. IfSome o (λ i. i < length rows)) (sym at) (within (position (bytes_eq loan) (loan_codes rows)) refl)
+  where
+    within : (o : Option ℕ) → position (bytes_eq loan) (loan_codes rows) ≡ o → IfSome o (λ i. i < length rows)
+    within None e = tt
+    within (Some i) e = omega (arith, (position-Some (bytes_eq loan) (loan_codes rows) i [] e).0, length-map rows (λ row. row.loan))
 
 -- a row's change leaves its code
 pub same_codes : (codes : List (List ℕ)) (rows : List LoanRow) (i : ℕ) (row new : LoanRow) → codes ≡ loan_codes rows → new.loan ≡ row.loan → row ≡ get_or rows i row → codes ≡ loan_codes (slice_set rows i new)

@@ -83,6 +83,14 @@ judged_by_row S P loan row os wanted late r same h = subst (λ (lines : ℕ → 
 pub row_missing : (S : Museum) (P : List Entry) (rows : List LoanRow) (loan : List ℕ) → rows ≡ loan_rows S P → agreement P loan ≡ None → find (λ row. bytes_eq loan row.loan) rows ≡ None
 row_missing S P rows loan kept unknown = ap (find (λ row. bytes_eq loan row.loan)) kept ∙ find_map (loan_row S P) loan (agreements P) (λ t. refl) ∙ ap (option_map (loan_row S P)) unknown
 
+-- the codes of the rows
+pub codes_told : (S : Museum) (P : List Entry) → map (λ row. row.loan) (loan_rows S P) ≡ loans P
+codes_told S P = each (agreements P)
+  where
+    each : (ts : List Agreement) → map (λ row. row.loan) (map (loan_row S P) ts) ≡ map (λ t. t.loan) ts
+    each [] = refl
+    each (t ∷ ts) = ap (λ codes. t.loan ∷ codes) (each ts)
+
 -- the loans by number
 pub code_at : (S : Museum) (P : List Entry) (rows : List LoanRow) (i : ℕ) (row : LoanRow) → rows ≡ loan_rows S P → slice_get rows i ≡ Some row → slice_get (loans P) i ≡ Some row.loan
 code_at S P rows i row kept at =

@@ -1,9 +1,9 @@
 -- What a ledger's fields keep, before and after an entry.
-use Rattle.std.specs.Prelude.{ℕ, ◌≡◌, ◌+◌, ◌<◌, ◌≤◌, Bool, true, false, if◌then◌else◌, List, [], ◌∷◌, ◌++◌, Option, None, Some, length, All, Result, Ok, Err, IfOk, OnErr, map, replicate, zero, suc, refl, IfSome, slice_get, is_some, option_copied}
+use Rattle.std.specs.Prelude.{ℕ, ◌≡◌, ◌+◌, ◌<◌, ◌≤◌, Bool, true, false, if◌then◌else◌, List, [], ◌∷◌, ◌++◌, Option, None, Some, length, All, Result, Ok, Err, IfOk, OnErr, map, replicate, zero, suc, refl, IfSome, slice_get, is_some}
 use Rattle.std.specs.Borrow.{Bor}
-use Rattle.std.specs.List.{find}
+use Rattle.std.specs.List.{find, position}
 use Rattle.std.specs.Str.{bytes_eq}
-use Rattle.std.specs.Option.{option_map, option_map_or, option_to_list}
+use Rattle.std.specs.Option.{option_map, option_map_or, option_and_then, option_to_list}
 use Rattle.std.proofs.Common.{ap, ◌∙◌, sym, subst, arith}
 use Rattle.std.proofs.lemmas.Bool.{false≢true}
 use Rattle.std.proofs.lemmas.Result.{on_err_weaker}
@@ -24,21 +24,21 @@ use Rattle.posting_core.specs.declared.entry.NewSpot.{NewSpot}
 use Rattle.posting_core.specs.declared.entry.NewLine.{NewLine}
 use Rattle.posting_core.specs.declared.entry.Changes.{Changes}
 use Rattle.posting_core.specs.declared.stage.LineStage.TheVariants.{Awaiting}
-use Rattle.posting_core.specs.Messages.{day_of}
+use Rattle.posting_core.specs.Messages.{day_of, loan_in}
 use Rattle.posting_core.specs.History.{puts, put_in, put_by, spots, spot_from, place_at, carried_at, carried_with, holds_at}
 use Rattle.posting_core.specs.VerdictNames.{is_applied}
 use Rattle.posting_core.specs.Loans.{crossing_in, objects_of}
 use Rattle.posting_core.specs.Lawful.{Follows, IsLawful}
 use Rattle.posting_core.specs.Book.{Book, chain_in, spots_in, loans_in, objects_of_loan, place_after, new_spot, new_spots, lines_of_agreement, lines_of_crossing, new_lines, changes_of}
-use Rattle.posting_core.specs.Agreements.{Agreement, agreement_in, agreement_by, agreements, agreement, is_agreed}
-use Rattle.posting_core.specs.LoanRows.{LoanRow, loan_row, loan_rows, rows_with, AreOnce, MayAgree}
+use Rattle.posting_core.specs.Agreements.{Agreement, agreement_in, agreement_by, agreements, agreement, loan_no, loan_by, is_agreed}
+use Rattle.posting_core.specs.LoanRows.{LoanRow, loan_row, loan_rows, rows_with, row_by, AreOnce, MayAgree}
 use Rattle.posting_core.specs.Rows.{row_of, rows_after, IsKept}
 use Rattle.posting_core.proofs.AppliedRows.{applied_is}
 use Rattle.posting_core.proofs.Agreed.{IsSound, agree_applied}
 use Rattle.posting_core.proofs.Bounds.{short, spots_within}
 use Rattle.posting_core.proofs.Lined.{rows_after_entry, objects_told}
 use Rattle.posting_core.proofs.ObjectNumbers.{numbers_once}
-use Rattle.posting_core.proofs.LoanAnswers.{IsRowOf, row_is, row_missing, code_at, objects_at}
+use Rattle.posting_core.proofs.LoanAnswers.{IsRowOf, row_is, row_missing, codes_told, code_at, objects_at}
 use Rattle.posting_core.proofs.Placed.{put_allowed, may_go, chain_below}
 use Rattle.posting_core.proofs.Spotted.{carried_below}
 use Rattle.posting_core.proofs.Written.{rows_written, chosen_spot, own_spot, same_place, rows_length, own_within}
@@ -101,13 +101,17 @@ module _ {S : Museum} {P : List Entry} {N : Nested} {R : List (List Spot)} {L : 
   pub spots_there : (x : ℕ) {found : List Spot} → x < length B.museum.things → found ≡ spots_in B x → All (λ s. s.place < length B.museum.places) found
   spots_there x within is = subst (All (λ s. s.place < length B.museum.places)) (sym is) (spots_within B.museum B.depth B.posted x lawful_kept)
 
+  -- a loan's row stands under its number
+  pub number_kept : (loan : List ℕ) → position (bytes_eq loan) (map (λ row. row.loan) L) ≡ loan_no B.posted loan
+  number_kept loan = subst (λ (C : Book). position (bytes_eq loan) (map (λ row. row.loan) L) ≡ loan_no C.posted loan) same (ap (position (bytes_eq loan)) (ap (map (λ row. row.loan)) kept.loans ∙ codes_told S P))
+
   -- what is kept of a loan is its row by looking back
-  pub loan_kept : (loan : List ℕ) (r : Option (Bor LoanRow)) → option_copied r ≡ find (λ row. bytes_eq loan row.loan) L →
-      (is_some r ≡ is_agreed B.posted loan) × IfSome r (λ row. IsRowOf B.museum B.posted loan row.now)
+  pub loan_kept : (loan : List ℕ) (r : Option (ℕ × Bor LoanRow)) → option_map (λ found. found.1.now) r ≡ find (λ row. bytes_eq loan row.loan) L →
+      (is_some r ≡ is_agreed B.posted loan) × IfSome r (λ found. IsRowOf B.museum B.posted loan found.1.now)
   loan_kept loan r is =
-      subst (λ (C : Book). (is_some r ≡ is_agreed C.posted loan) × IfSome r (λ row. IsRowOf C.museum C.posted loan row.now)) same (borrowed r (row_is S P loan L (option_copied r) kept.loans is))
+      subst (λ (C : Book). (is_some r ≡ is_agreed C.posted loan) × IfSome r (λ found. IsRowOf C.museum C.posted loan found.1.now)) same (borrowed r (row_is S P loan L (option_map (λ found. found.1.now) r) kept.loans is))
     where
-      borrowed : (r : Option (Bor LoanRow)) → (is_some (option_copied r) ≡ is_agreed P loan) × IfSome (option_copied r) (IsRowOf S P loan) → (is_some r ≡ is_agreed P loan) × IfSome r (λ row. IsRowOf S P loan row.now)
+      borrowed : (r : Option (ℕ × Bor LoanRow)) → (is_some (option_map (λ found. found.1.now) r) ≡ is_agreed P loan) × IfSome (option_map (λ found. found.1.now) r) (IsRowOf S P loan) → (is_some r ≡ is_agreed P loan) × IfSome r (λ found. IsRowOf S P loan found.1.now)
       borrowed None both = both
       borrowed (Some row) both = both
 
@@ -161,33 +165,35 @@ unplaced S P v (Agree first final loan partner objects) agrees = elim (is_applie
 unplaced S P v _ agrees = absurd (false≢true agrees)
 
 -- what `apply` is told of its entry and its changes, over the ledger's fields
-pub record IsPlanned (S : Museum) (P : List Entry) (N : Nested) (R : List (List Spot)) (L : List LoanRow) (e : Entry) (put : Option Put) (along : List ℕ) (news : List NewSpot) (lines : List NewLine) : Type 0 where
+pub record IsPlanned (S : Museum) (P : List Entry) (N : Nested) (R : List (List Spot)) (L : List LoanRow) (e : Entry) (put : Option Put) (along : List ℕ) (news : List NewSpot) (loan : Option ℕ) (lines : List NewLine) : Type 0 where
   pub kept : IsKept S P N R L
   pub follows : Follows S N.depth P e
   pub put_is : put ≡ put_by S P e.verdict e.message
   pub along_is : along ≡ carried_with S P put
   pub news_is : news ≡ news_under S P e.verdict e.message
+  pub loan_is : loan ≡ loan_by P e.verdict e.message
   pub lines_is : lines ≡ lines_under S P e.verdict e.message
 
 -- what the changes of an entry that follows put, carry and write
 written : (B : Book) (e : Entry) (changes : Changes) → Follows B.museum B.depth B.posted e → changes ≡ changes_of B e.message →
-    (changes.put ≡ put_by B.museum B.posted e.verdict e.message) × (changes.carried ≡ carried_with B.museum B.posted changes.put) × (changes.spots ≡ news_under B.museum B.posted e.verdict e.message) × (changes.lines ≡ lines_under B.museum B.posted e.verdict e.message)
+    (changes.put ≡ put_by B.museum B.posted e.verdict e.message) × (changes.carried ≡ carried_with B.museum B.posted changes.put) × (changes.spots ≡ news_under B.museum B.posted e.verdict e.message) × (changes.loan ≡ loan_by B.posted e.verdict e.message) × (changes.lines ≡ lines_under B.museum B.posted e.verdict e.message)
 written B e changes follows plan = (
   ap (λ (c : Changes). c.put) plan ∙ ap (λ (v : Verdict). put_by B.museum B.posted v e.message) (sym follows.judged),
   ap (λ (c : Changes). c.carried) plan ∙ ap (carried_with B.museum B.posted) (sym (ap (λ (c : Changes). c.put) plan)),
   ap (λ (c : Changes). c.spots) plan ∙ ap (λ (v : Verdict). news_under B.museum B.posted v e.message) (sym follows.judged),
+  ap (λ (c : Changes). c.loan) plan ∙ ap (λ (v : Verdict). loan_by B.posted v e.message) (sym follows.judged),
   ap (λ (c : Changes). c.lines) plan ∙ ap (λ (v : Verdict). lines_under B.museum B.posted v e.message) (sym follows.judged),
 )
 
 pub planned : {S : Museum} {P : List Entry} {N : Nested} {R : List (List Spot)} {L : List LoanRow} {B : Book} {e : Entry} {changes : Changes} {along : List ℕ} {news : List NewSpot} {lines : List NewLine} → IsKept S P N R L → book_of S P N ≡ B →
-    Follows B.museum B.depth B.posted e → changes ≡ changes_of B e.message → along ≡ changes.carried → news ≡ changes.spots → lines ≡ changes.lines → IsPlanned S P N R L e changes.put along news lines
+    Follows B.museum B.depth B.posted e → changes ≡ changes_of B e.message → along ≡ changes.carried → news ≡ changes.spots → lines ≡ changes.lines → IsPlanned S P N R L e changes.put along news changes.loan lines
 planned {S} {P} {N} {B} {e} {changes} kept same follows plan same_carried same_spots same_lines =
     let follows' : Follows S N.depth P e = subst (λ (C : Book). Follows C.museum C.depth C.posted e) (sym same) follows in
-    let (put_is, along_is, news_is, lines_is) = written (book_of S P N) e changes follows' (subst (λ (C : Book). changes ≡ changes_of C e.message) (sym same) plan) in
-    record { kept = kept; follows = follows'; put_is = put_is; along_is = same_carried ∙ along_is; news_is = same_spots ∙ news_is; lines_is = same_lines ∙ lines_is }
+    let (put_is, along_is, news_is, loan_is, lines_is) = written (book_of S P N) e changes follows' (subst (λ (C : Book). changes ≡ changes_of C e.message) (sym same) plan) in
+    record { kept = kept; follows = follows'; put_is = put_is; along_is = same_carried ∙ along_is; news_is = same_spots ∙ news_is; loan_is = loan_is; lines_is = same_lines ∙ lines_is }
 
 -- what follows of it
-module _ {S : Museum} {P : List Entry} {N : Nested} {R : List (List Spot)} {L : List LoanRow} {e : Entry} {put : Option Put} {along : List ℕ} {news : List NewSpot} {lines : List NewLine} (is : IsPlanned S P N R L e put along news lines) where
+module _ {S : Museum} {P : List Entry} {N : Nested} {R : List (List Spot)} {L : List LoanRow} {e : Entry} {put : Option Put} {along : List ℕ} {news : List NewSpot} {loan : Option ℕ} {lines : List NewLine} (is : IsPlanned S P N R L e put along news loan lines) where
   -- the new spots are of things that have rows
   pub planned_within : (R' : List (List Spot)) → R' ≡ R → All (λ s. s.thing < length R') news
   planned_within R' r = rw (is.news_is, r, is.kept.rowed) (news_within S P e.verdict e.message)
@@ -211,6 +217,10 @@ module _ {S : Museum} {P : List Entry} {N : Nested} {R : List (List Spot)} {L : 
           let (agreed, are) = each t refl in
           let objects : map (λ (l : NewLine). l.object) lines ≡ objects_of S t = ap (map (λ (l : NewLine). l.object)) are ∙ objects_told t.loan Awaiting (objects_of S t) in
           record { once = subst AreOnce (sym objects) (numbers_once S t.objects agreed.1.known agreed.1.once); new = row_missing S P L t.loan is.kept.loans agreed.0 }
+
+  -- the loan that goes on by it is found by that number among the rows
+  pub planned_loan : loan ≡ row_by L e.verdict e.message
+  planned_loan = is.loan_is ∙ ap (λ codes. option_and_then (λ l. if is_applied e.verdict then position (bytes_eq l) codes else None) (loan_in e.message)) (sym (ap (map (λ row. row.loan)) is.kept.loans ∙ codes_told S P))
 
   -- the rows of the loans after the entry
   loans_after : (L' : List LoanRow) → L' ≡ (if is_applied e.verdict then rows_with S L e.message lines else L) → L' ≡ loan_rows S (e ∷ P)

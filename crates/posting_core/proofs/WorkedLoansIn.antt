@@ -73,6 +73,7 @@ loan_in-receiving : changes_of (book awaited) (received may_31) ≡ record {
   put = put_at borrowed s1;
   carried = borrowed ∷ [];
   spots = record { thing = borrowed; k = 1; spot = record { entry = 4; place = s1; day = may_31 } } ∷ [];
+  loan = Some 0;
   lines = record { loan = loan_in_1; object = borrowed; stage = Here } ∷ [];
 }
 loan_in-receiving = refl

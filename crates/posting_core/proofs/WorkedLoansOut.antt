@@ -131,7 +131,7 @@ loan_out-spots = refl
 
 -- an agreement makes its lines, in the order of its list, and writes no spot
 loan_out-agreeing : changes_of (book three_packed) (agreed loan_1 (codes "2001.4.2" ∷ codes "2001.4.1" ∷ [])) ≡
-    record { entry = 5; verdict = Applied; put = None; carried = []; spots = []; lines = new_line object_2 Awaiting ∷ new_line object_1 Awaiting ∷ [] }
+    record { entry = 5; verdict = Applied; put = None; carried = []; spots = []; loan = None; lines = new_line object_2 Awaiting ∷ new_line object_1 Awaiting ∷ [] }
 loan_out-agreeing = refl
 
 -- an exit changes the lines of all objects that cross, ascending, and writes a spot of each thing
@@ -141,16 +141,17 @@ loan_out-leaving : changes_of (book ready) (leaves (codes "C1") loan_1 may_31) �
   put = put_at crate_1 museum_x;
   carried = crate_1 ∷ object_1 ∷ object_2 ∷ [];
   spots = new crate_1 2 (spot_on 11 museum_x may_31) ∷ new object_1 2 (spot_on 11 museum_x may_31) ∷ new object_2 2 (spot_on 11 museum_x may_31) ∷ [];
+  loan = Some 0;
   lines = new_line object_1 Away ∷ new_line object_2 Away ∷ [];
 }
 loan_out-leaving = refl
 
 -- a refused one changes neither
-loan_out-refused : changes_of (book ready) (leaves (codes "C1") loan_1 june_1) ≡ record { entry = 11; verdict = TermOver; put = None; carried = []; spots = []; lines = [] }
+loan_out-refused : changes_of (book ready) (leaves (codes "C1") loan_1 june_1) ≡ record { entry = 11; verdict = TermOver; put = None; carried = []; spots = []; loan = None; lines = [] }
 loan_out-refused = refl
 
 -- an authorisation changes no line
-loan_out-authorising : changes_of (book refused_unauthorised) (authorised loan_1) ≡ record { entry = 7; verdict = Applied; put = None; carried = []; spots = []; lines = [] }
+loan_out-authorising : changes_of (book refused_unauthorised) (authorised loan_1) ≡ record { entry = 7; verdict = Applied; put = None; carried = []; spots = []; loan = Some 0; lines = [] }
 loan_out-authorising = refl
 
 -- something crosses with what is in it where a crate crosses by a loan
@@ -257,7 +258,7 @@ extend_tour-last_day : last_day_in (book extend_tour) loan_1 ≡ Some june_30
 extend_tour-last_day = refl
 
 -- an extension changes no line and writes no spot
-extend_tour-extending : changes_of (book loan_out) (extended loan_1 june_30) ≡ record { entry = 12; verdict = Applied; put = None; carried = []; spots = []; lines = [] }
+extend_tour-extending : changes_of (book loan_out) (extended loan_1 june_30) ≡ record { entry = 12; verdict = Applied; put = None; carried = []; spots = []; loan = Some 0; lines = [] }
 extend_tour-extending = refl
 
 -- extend_unauthorised: a draft isn't extended

@@ -133,25 +133,25 @@ held_then_posted-puts = refl
 
 -- what one more message would change: a spot with the next number of its thing's list
 held_then_posted-change : changes_of (book held_then_posted) (moved (codes "2001.4.1") (codes "S2")) ≡
-    record { entry = 4; verdict = Applied; put = put_at object_1 s2; carried = object_1 ∷ []; spots = record { thing = object_1; k = 3; spot = spot 4 s2 } ∷ []; lines = [] }
+    record { entry = 4; verdict = Applied; put = put_at object_1 s2; carried = object_1 ∷ []; spots = record { thing = object_1; k = 3; spot = spot 4 s2 } ∷ []; loan = None; lines = [] }
 held_then_posted-change = refl
 
 -- a first placement has the number 1
 held_then_posted-first : changes_of (book held_then_posted) (moved (codes "2001.4.3") (codes "S2")) ≡
-    record { entry = 4; verdict = Applied; put = put_at object_3 s2; carried = object_3 ∷ []; spots = record { thing = object_3; k = 1; spot = spot 4 s2 } ∷ []; lines = [] }
+    record { entry = 4; verdict = Applied; put = put_at object_3 s2; carried = object_3 ∷ []; spots = record { thing = object_3; k = 1; spot = spot 4 s2 } ∷ []; loan = None; lines = [] }
 held_then_posted-first = refl
 
 -- a Move to the place where the thing is puts it there again, and writes nothing but the posted list
 held_then_posted-same : changes_of (book held_then_posted) (moved (codes "2001.4.1") (codes "S1-A")) ≡
-    record { entry = 4; verdict = Applied; put = put_at object_1 s1_a; carried = object_1 ∷ []; spots = []; lines = [] }
+    record { entry = 4; verdict = Applied; put = put_at object_1 s1_a; carried = object_1 ∷ []; spots = []; loan = None; lines = [] }
 held_then_posted-same = refl
 
 -- a sign-off puts nothing, and neither does a refused Move
-held_then_posted-sign_off : changes_of (book held_then_posted) signed_off ≡ record { entry = 4; verdict = Applied; put = None; carried = []; spots = []; lines = [] }
+held_then_posted-sign_off : changes_of (book held_then_posted) signed_off ≡ record { entry = 4; verdict = Applied; put = None; carried = []; spots = []; loan = None; lines = [] }
 held_then_posted-sign_off = refl
 
 held_then_posted-refused : changes_of (book held_then_posted) (moved (codes "2001.4.1") (codes "MUSEUM-X")) ≡
-    record { entry = 4; verdict = ElsewherePlace; put = None; carried = []; spots = []; lines = [] }
+    record { entry = 4; verdict = ElsewherePlace; put = None; carried = []; spots = []; loan = None; lines = [] }
 held_then_posted-refused = refl
 
 -- tour_of_verdicts: refused Moves keep their numbers and place nothing

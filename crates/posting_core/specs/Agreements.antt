@@ -1,13 +1,14 @@
 -- What was agreed of loans, looking back through the posted entries, of which the newest stands first: a loan's terms,
 -- whether it is authorised, and its last day.
 use Rattle.std.specs.Prelude.{ℕ, ℤ, ◌&&◌, Bool, false, List, [], ◌∷◌, ◌++◌, Option, Some, None, map, is_some, unwrap_or, if◌then◌else◌}
-use Rattle.std.specs.List.{find, list_any}
-use Rattle.std.specs.Option.{option_map, option_to_list}
+use Rattle.std.specs.List.{find, list_any, position}
+use Rattle.std.specs.Option.{option_map, option_and_then, option_to_list}
 use Rattle.std.specs.Str.{bytes_eq}
 use Rattle.posting_core.specs.declared.message.Message.{Message}
 use Rattle.posting_core.specs.declared.message.Message.TheVariants.{Agree, Authorise, Extend}
 use Rattle.posting_core.specs.declared.verdict.Verdict.{Verdict}
 use Rattle.posting_core.specs.declared.entry.Entry.{Entry}
+use Rattle.posting_core.specs.Messages.{loan_in}
 use Rattle.posting_core.specs.VerdictNames.{is_applied}
 
 -- the terms of a loan: the partner's place, the objects, the first day and the last
@@ -39,6 +40,15 @@ agreement P loan = find (λ t. bytes_eq loan t.loan) (agreements P)
 -- the loans, in the order of their agreements
 abbrev pub loans : List Entry → List (List ℕ)
 loans P = map (λ t. t.loan) (agreements P)
+
+-- a loan's number in that order
+abbrev pub loan_no : List Entry → List ℕ → Option ℕ
+loan_no P loan = position (bytes_eq loan) (loans P)
+
+-- the number of the loan that goes on by a message under this verdict
+abbrev pub loan_by : List Entry → Verdict → Message → Option ℕ
+loan_by P verdict m =
+    option_and_then (λ loan. if is_applied verdict then loan_no P loan else None) (loan_in m)
 
 abbrev pub is_agreed : List Entry → List ℕ → Bool
 is_agreed P loan = is_some (agreement P loan)

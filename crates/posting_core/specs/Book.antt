@@ -17,7 +17,7 @@ use Rattle.posting_core.specs.declared.stage.LoanState.{LoanState}
 use Rattle.posting_core.specs.Messages.{thing_no, day_of}
 use Rattle.posting_core.specs.History.{puts, put_in, put_by, carried_with, holds_at, takes_along, chain_at, place_at, spots, spot_from}
 use Rattle.posting_core.specs.VerdictNames.{is_applied}
-use Rattle.posting_core.specs.Agreements.{Agreement, agreement_in, loans, last_day}
+use Rattle.posting_core.specs.Agreements.{Agreement, agreement_in, loan_by, loans, last_day}
 use Rattle.posting_core.specs.Loans.{Crossing, crossing_in, objects_in, objects_of, objects, line, loan_state}
 use Rattle.posting_core.specs.Verdicts.{verdict, hangs_on_lines}
 
@@ -97,6 +97,7 @@ changes_of B m =
       put = put_by B.museum B.posted v m;
       carried = carried_with B.museum B.posted (put_by B.museum B.posted v m);
       spots = if is_applied v then new_spots B.museum B.posted m else [];
+      loan = loan_by B.posted v m;
       lines = if is_applied v then new_lines B.museum B.posted m else [];
     }
 

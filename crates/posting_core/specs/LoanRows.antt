@@ -11,7 +11,9 @@ use Rattle.posting_core.specs.declared.entry.Entry.{Entry}
 use Rattle.posting_core.specs.declared.entry.NewLine.{NewLine}
 use Rattle.posting_core.specs.declared.stage.LineStage.{LineStage}
 use Rattle.posting_core.specs.declared.stage.LoanState.{LoanState}
-use Rattle.posting_core.specs.Messages.{place_no}
+use Rattle.posting_core.specs.declared.verdict.Verdict.{Verdict}
+use Rattle.posting_core.specs.VerdictNames.{is_applied}
+use Rattle.posting_core.specs.Messages.{place_no, loan_in}
 use Rattle.posting_core.specs.Agreements.{Agreement, agreements, is_authorised, last_from}
 use Rattle.posting_core.specs.Loans.{stage, objects_of, state_by}
 
@@ -95,6 +97,13 @@ rows_with S rows (Return day x loan p) lines = changed (with_lines lines) loan r
 rows_with S rows (Receive day x loan p) lines = changed (with_lines lines) loan rows
 rows_with S rows (Extend last loan) lines = changed (extended_row last) loan rows
 rows_with S rows _ lines = rows
+
+-- the number of the row of the loan that goes on by a message under this verdict
+abbrev pub row_by : List LoanRow → Verdict → Message → Option ℕ
+row_by rows verdict m = option_and_then
+    (λ loan. if is_applied verdict then position (bytes_eq loan) (map (λ row. row.loan) rows)
+    else None)
+    (loan_in m)
 
 -- none of the numbers stands twice
 abbrev pub AreOnce : List ℕ → Type 0

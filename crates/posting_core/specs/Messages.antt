@@ -1,8 +1,8 @@
--- What a message says: the thing that it names by number, its day, and whether it signs off.
+-- What a message says: the thing that it names by number, its day, its loan, and whether it signs off.
 use Rattle.std.specs.Prelude.{ℕ, ℤ, Bool, true, false, List, length, Option, Some, None, unwrap_or}
 use Rattle.nest_core.specs.Museum.{Museum, find_thing, find_place}
 use Rattle.posting_core.specs.declared.message.Message.{Message}
-use Rattle.posting_core.specs.declared.message.Message.TheVariants.{Move, Pack, Exit, Return, Receive, SignOff}
+use Rattle.posting_core.specs.declared.message.Message.TheVariants.{Move, Pack, Authorise, Exit, Return, Receive, SignOff, Extend}
 
 -- a thing's number; where it isn't in the setup, the count of things, which is no thing's number
 abbrev pub thing_no : Museum → List ℕ → ℕ
@@ -20,6 +20,15 @@ day_of (Exit day x loan) = Some day
 day_of (Return day x loan p) = Some day
 day_of (Receive day x loan p) = Some day
 day_of _ = None
+
+-- the loan of a message by which one that is agreed goes on
+abbrev pub loan_in : Message → Option (List ℕ)
+loan_in (Authorise name loan) = Some loan
+loan_in (Exit day x loan) = Some loan
+loan_in (Return day x loan p) = Some loan
+loan_in (Receive day x loan p) = Some loan
+loan_in (Extend last loan) = Some loan
+loan_in _ = None
 
 abbrev pub is_sign_off : Message → Bool
 is_sign_off (SignOff name) = true

@@ -155,9 +155,9 @@ impl NewLines {
 }
 
 /// What posting a message changes: the number of its entry, from 1, its verdict, where it puts its thing, what that carries,
-/// ascending and with itself, the new spots, and the lines of its loan that it makes or changes; no put and none of these
-/// where it is refused. The spots ascend by thing, at most one of each. An agreement's lines stand in the order of its
-/// list, those of a crossing ascend by object.
+/// ascending and with itself, the new spots, the loan that goes on by it, numbered from 0 in the order of the agreements, and
+/// the lines of its loan that it makes or changes; no put and none of these where it is refused. The spots ascend by thing, at
+/// most one of each. An agreement's lines stand in the order of its list, those of a crossing ascend by object.
 #[derive(Debug, Drop)]
 pub struct Changes {
     pub entry: EntryNo,
@@ -165,5 +165,6 @@ pub struct Changes {
     pub put: Option<Put>,
     pub carried: ThingNos,
     pub spots: NewSpots,
+    pub loan: Option<usize>,
     pub lines: NewLines,
 }

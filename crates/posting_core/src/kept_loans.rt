@@ -1,6 +1,7 @@
 //! What a ledger keeps of all loans, found by their codes.
-ghost use Rattle.std.specs.Prelude.{◌≡◌, ◌<◌, ◌++◌, ◌∷◌, [], length, slice_get, Some, OnOk, OnErr, option_copied};
-ghost use Rattle.std.specs.List.{find};
+ghost use Rattle.std.specs.Prelude.{◌≡◌, ◌<◌, ◌++◌, ◌∷◌, [], List, ℕ, length, map, slice_get, Some, IfSome, OnOk, OnErr};
+ghost use Rattle.std.specs.List.{find, position};
+ghost use Rattle.std.specs.Option.{option_map};
 ghost use Rattle.std.specs.Str.{bytes_eq};
 ghost use Rattle.posting_core.specs.LoanRows.{changed, authorised_row, extended_row, with_lines};
 
@@ -55,12 +56,15 @@ impl KeptLoans {
         &self.rows[i]
     }
 
-    /// The loan of a code.
-    pub(crate) fn get(&self, loan: &LoanCode) -> Option<&KeptLoan>
-        ensures { option_copied result ≡ find (λ row. bytes_eq loan.now row.loan) self.now }
+    /// The number of the loan of a code, and the loan.
+    pub(crate) fn get(&self, loan: &LoanCode) -> Option<(usize, &KeptLoan)>
+        ensures number { option_map (λ found. found.0) result
+            ≡ position (bytes_eq loan.now) (map (λ row. row.loan) self.now) }
+        ensures row { option_map (λ found. found.1.now) result
+            ≡ find (λ row. bytes_eq loan.now row.loan) self.now }
     {
         let i = self.codes.get_index_of(loan)?;
-        Some(&self.rows[i])
+        Some((i, &self.rows[i]))
     }
 
     /// One more loan, whose code is new; after NoMemory they are unchanged, and the loan is dropped.
@@ -75,29 +79,38 @@ impl KeptLoans {
         Ok(())
     }
 
-    /// A loan is authorised.
-    pub(crate) fn authorise(&mut self, loan: &LoanCode)
-        ensures { self.new ≡ changed authorised_row loan.now self.old }
+    /// The loan of a number, if there is one, is authorised.
+    pub(crate) fn authorise(&mut self, number: Option<usize>)
+        requires { IfSome number (λ i. i < length self.old) }
+        ensures { (loan : List ℕ)
+            → number ≡ position (bytes_eq loan) (map (λ row. row.loan) self.old)
+            → self.new ≡ changed authorised_row loan self.old }
     {
-        if let Some(i) = self.codes.get_index_of(loan) {
+        if let Some(i) = number {
             self.rows[i].authorise();
         }
     }
 
-    /// A loan gets another last day.
-    pub(crate) fn extend(&mut self, loan: &LoanCode, last: Day)
-        ensures { self.new ≡ changed (extended_row last) loan.now self.old }
+    /// The loan of a number, if there is one, gets another last day.
+    pub(crate) fn extend(&mut self, number: Option<usize>, last: Day)
+        requires { IfSome number (λ i. i < length self.old) }
+        ensures { (loan : List ℕ)
+            → number ≡ position (bytes_eq loan) (map (λ row. row.loan) self.old)
+            → self.new ≡ changed (extended_row last) loan self.old }
     {
-        if let Some(i) = self.codes.get_index_of(loan) {
+        if let Some(i) = number {
             self.rows[i].extend(last);
         }
     }
 
-    /// Lines of a loan get their stages, in turn.
-    pub(crate) fn cross(&mut self, loan: &LoanCode, lines: &[NewLine])
-        ensures { self.new ≡ changed (with_lines lines.now) loan.now self.old }
+    /// Lines of the loan of a number, if there is one, get their stages, in turn.
+    pub(crate) fn cross(&mut self, number: Option<usize>, lines: &[NewLine])
+        requires { IfSome number (λ i. i < length self.old) }
+        ensures { (loan : List ℕ)
+            → number ≡ position (bytes_eq loan) (map (λ row. row.loan) self.old)
+            → self.new ≡ changed (with_lines lines.now) loan self.old }
     {
-        if let Some(i) = self.codes.get_index_of(loan) {
+        if let Some(i) = number {
             self.rows[i].cross(lines);
         }
     }

@@ -5,7 +5,7 @@ ghost use Rattle.nest_core.specs.Puts.{is_among};
 ghost use Rattle.posting_core.specs.Lawful.{Follows, IsLawful};
 ghost use Rattle.posting_core.specs.Messages.{place_no};
 ghost use Rattle.posting_core.specs.History.{put_by, carried_with};
-ghost use Rattle.posting_core.specs.Agreements.{agreement, is_agreed, is_authorised, last_day};
+ghost use Rattle.posting_core.specs.Agreements.{agreement, loan_no, loan_by, is_agreed, is_authorised, last_day};
 ghost use Rattle.posting_core.specs.Loans.{line, loan_state};
 ghost use Rattle.posting_core.specs.LoanRows.{line_of, state_of};
 ghost use Rattle.posting_core.specs.Book.{place_in, chain_in, spots_in, verdict_in, changes_of, asks_lines, asks_memory, loans_in, objects_of_loan, line_in, state_in, last_day_in};
@@ -187,7 +187,7 @@ impl Ledger {
         ensures line { result ≡ line_in self.now loan.now object }
         ensures listed { is_some result ≡ is_among object (objects_of_loan self.now loan.now) }
     {
-        self.loan(loan)?.stage_of(object)
+        self.loan(loan)?.1.stage_of(object)
     }
 
     /// How far a loan has come, where it is agreed.
@@ -195,7 +195,7 @@ impl Ledger {
         ensures state { result ≡ state_in self.now loan.now }
         ensures agreed { is_some result ≡ is_agreed self.now.posted loan.now }
     {
-        Some(self.loan(loan)?.state())
+        Some(self.loan(loan)?.1.state())
     }
 
     /// A loan's last day, where it is agreed.
@@ -203,7 +203,7 @@ impl Ledger {
         ensures day { result ≡ last_day_in self.now loan.now }
         ensures agreed { is_some result ≡ is_agreed self.now.posted loan.now }
     {
-        Some(self.loan(loan)?.last())
+        Some(self.loan(loan)?.1.last())
     }
 
     /// The verdict that the message would get if it were posted now; else NoMemory, which comes only where something
@@ -216,8 +216,8 @@ impl Ledger {
     }
 
     /// What posting the message now would change: the number of its entry, from 1, its verdict and, where it is
-    /// applied, what it puts where, the things that are carried with that, the new spots, and the lines that it makes or
-    /// changes; else NoMemory, which comes only where `judge` can give up, or where the message is applied and makes or
+    /// applied, what it puts where, the things that are carried with that, the new spots, the loan that goes on by it, and the
+    /// lines that it makes or changes; else NoMemory, which comes only where `judge` can give up, or where the message is applied and makes or
     /// changes lines, or puts a thing that has something in it.
     pub fn plan(&self, alloc: Global, message: &Message) -> Result<Changes, NoMemory>
         ensures ok { IfOk result (λ changes. changes ≡ changes_of self.now message.now) }
@@ -227,6 +227,7 @@ impl Ledger {
             verdict,
             put,
             carried,
+            loan,
         } = self.judged(alloc, message)?;
         let entry = self.entry_count() + 1;
         let carried = self.carried_with(alloc, put, carried)?;
@@ -238,6 +239,7 @@ impl Ledger {
             put,
             carried,
             spots,
+            loan,
             lines,
         })
     }
@@ -267,6 +269,7 @@ impl Ledger {
             &self.setup,
             entry.verdict,
             &entry.message,
+            changes.loan,
             lines,
         )?;
         self.spots.push_all(spots);
@@ -283,6 +286,8 @@ impl Ledger {
             ≡ put_by self.now.museum self.now.posted judged.verdict message.now) }
         ensures carried { IfOk result (λ judged. IfSome judged.carried
             (λ carried. carried ≡ carried_with self.now.museum self.now.posted judged.put)) }
+        ensures loan { IfOk result
+            (λ judged. judged.loan ≡ loan_by self.now.posted judged.verdict message.now) }
         ensures err { OnErr result (asks_lines self.now message.now ≡ true) }
     {
         match message {
@@ -312,26 +317,29 @@ impl Ledger {
                 partner,
                 objects,
             } => Ok(unput(self.judge_agree(loan, partner, objects.as_slice(), *first, *last))),
-            Message::Authorise { loan, .. } => Ok(unput(self.judge_authorise(loan))),
+            Message::Authorise { loan, .. } => Ok(self.judge_authorise(loan)),
             Message::SignOff { .. } => Ok(unput(Verdict::Applied)),
-            Message::Extend { last, loan } => Ok(unput(self.judge_extend(loan, *last))),
+            Message::Extend { last, loan } => Ok(self.judge_extend(loan, *last)),
         }
     }
 
-    /// What is kept of a loan, where it is agreed.
-    pub(crate) fn loan(&self, loan: &LoanCode) -> Option<&KeptLoan>
+    /// A loan's number, and what is kept of it, where it is agreed.
+    pub(crate) fn loan(&self, loan: &LoanCode) -> Option<(usize, &KeptLoan)>
+        ensures number { option_map (λ found. found.0) result ≡ loan_no self.now.posted loan.now }
         ensures agreed { is_some result ≡ is_agreed self.now.posted loan.now }
         ensures authorised { IfSome result
-            (λ row. row.now.authorised ≡ is_authorised self.now.posted loan.now) }
+            (λ found. found.1.now.authorised ≡ is_authorised self.now.posted loan.now) }
         ensures last { IfSome result
-            (λ row. last_day self.now.posted loan.now ≡ Some row.now.last) }
+            (λ found. last_day self.now.posted loan.now ≡ Some found.1.now.last) }
         ensures partner { IfSome result
-            (λ row. option_map (λ t. place_no self.now.museum t.partner)
-            (agreement self.now.posted loan.now) ≡ Some row.now.partner) }
+            (λ found. option_map (λ t. place_no self.now.museum t.partner)
+            (agreement self.now.posted loan.now) ≡ Some found.1.now.partner) }
         ensures lines { IfSome result
-            (λ row. (o : ℕ) → line_of row.now o ≡ line self.now.museum self.now.posted loan.now o) }
+            (λ found. (o : ℕ) → line_of found.1.now o
+            ≡ line self.now.museum self.now.posted loan.now o) }
         ensures state { IfSome result
-            (λ row. loan_state self.now.museum self.now.posted loan.now ≡ Some (state_of row.now)) }
+            (λ found. loan_state self.now.museum self.now.posted loan.now
+            ≡ Some (state_of found.1.now)) }
     {
         self.loans.get(loan)
     }

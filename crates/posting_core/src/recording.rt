@@ -2,7 +2,7 @@
 ghost use Rattle.std.specs.Prelude.{◌≡◌, true, is_some, if◌then◌else◌, IfSome, OnOk, OnErr};
 ghost use Rattle.posting_core.specs.VerdictNames.{is_applied};
 ghost use Rattle.posting_core.specs.Agreements.{agreement_by, agreement_in};
-ghost use Rattle.posting_core.specs.LoanRows.{rows_with, MayAgree};
+ghost use Rattle.posting_core.specs.LoanRows.{rows_with, row_by, MayAgree};
 
 use crate::kept_loan::KeptLoan;
 use crate::kept_loans::KeptLoans;
@@ -11,17 +11,19 @@ use codes_core::NoMemory;
 use nest_core::Setup;
 use std::alloc::Global;
 
-/// Writes a message and its lines under this verdict. Only an agreement takes memory; after NoMemory the loans are
-/// unchanged.
+/// Writes a message and its lines under this verdict; the loan that goes on by it has this number. Only an agreement takes
+/// memory; after NoMemory the loans are unchanged.
 pub(crate) fn record(
     alloc: Global,
     loans: &mut KeptLoans,
     setup: &Setup,
     verdict: Verdict,
     message: &Message,
+    loan: Option<usize>,
     lines: &[NewLine],
 ) -> Result<(), NoMemory>
-    requires { IfSome (agreement_by verdict message.now) (MayAgree loans.old lines.now) }
+    requires agree { IfSome (agreement_by verdict message.now) (MayAgree loans.old lines.now) }
+    requires number { loan ≡ row_by loans.old verdict message.now }
     ensures ok { OnOk result
         (loans.new ≡ (if is_applied verdict
         then rows_with setup.now loans.old message.now lines.now else loans.old)) }
@@ -41,11 +43,11 @@ pub(crate) fn record(
             let row = KeptLoan::new(alloc, setup, *loan, partner, lines, *last)?;
             loans.push(row)?;
         }
-        Message::Authorise { loan, .. } => loans.authorise(loan),
-        Message::Exit { loan, .. } => loans.cross(loan, lines),
-        Message::Return { loan, .. } => loans.cross(loan, lines),
-        Message::Receive { loan, .. } => loans.cross(loan, lines),
-        Message::Extend { last, loan } => loans.extend(loan, *last),
+        Message::Authorise { .. } => loans.authorise(loan),
+        Message::Exit { .. } => loans.cross(loan, lines),
+        Message::Return { .. } => loans.cross(loan, lines),
+        Message::Receive { .. } => loans.cross(loan, lines),
+        Message::Extend { last, .. } => loans.extend(loan, *last),
         Message::Move { .. } | Message::Pack { .. } | Message::SignOff { .. } => {}
     }
     Ok(())

@@ -162,7 +162,7 @@ posted = record bound { postings = row_3 ∷ row_2 ∷ row_1 ∷ []; spots = map
 
 -- what an applied entry changes that is of no loan
 abbrev pub moving : ℕ → List NewSpot → Changes
-moving number spots = record { entry = number; verdict = Applied; put = None; carried = []; spots = spots; lines = [] }
+moving number spots = record { entry = number; verdict = Applied; put = None; carried = []; spots = spots; loan = None; lines = [] }
 
 three-posted :
     with_posted row_3 entry_3 (moving 3 (spot object_1 2 3 s1_a ∷ []))

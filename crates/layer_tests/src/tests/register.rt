@@ -66,6 +66,7 @@ fn nothing(alloc: Global, entry: EntryNo) -> Changes
         put: None,
         carried: ThingNos::new(Vec::new(alloc)),
         spots: NewSpots::new(alloc),
+        loan: None,
         lines: NewLines::new(alloc),
     }
 }

@@ -1,5 +1,5 @@
 //! The rules of what crosses under a loan: exit, return and receipt.
-ghost use Rattle.std.specs.Prelude.{ℤ, ◌≡◌, ◌<◌, ◌&&◌, true, false, length, All, filter, not, IfOk, IfSome, OnErr, Some, ℕ};
+ghost use Rattle.std.specs.Prelude.{ℤ, ◌≡◌, ◌<◌, ◌&&◌, true, false, length, All, filter, not, IfOk, IfSome, OnErr, Some, None, if◌then◌else◌, ℕ};
 ghost use Rattle.std.specs.Option.{option_map_or};
 ghost use Rattle.posting_core.specs.declared.message.Message.TheVariants.{Exit, Return, Receive};
 ghost use Rattle.posting_core.specs.History.{put_by, carried_with, holds_at};
@@ -8,7 +8,8 @@ ghost use Rattle.posting_core.specs.Loans.{line, wanted_by_exit};
 ghost use Rattle.nest_core.specs.Museum.{is_container};
 ghost use Rattle.posting_core.specs.Verdicts.{first_of, exit_rows, return_rows, receive_rows, stage_eq, is_over, any_unlisted, any_not_at, line_rows, hangs_on_lines};
 ghost use Rattle.codes_core.specs.Loan.{is_out};
-ghost use Rattle.posting_core.specs.Agreements.{last_day};
+ghost use Rattle.posting_core.specs.VerdictNames.{is_applied};
+ghost use Rattle.posting_core.specs.Agreements.{last_day, loan_no};
 ghost use Rattle.posting_core.specs.LoanRows.{line_of};
 
 use super::Ledger;
@@ -36,6 +37,8 @@ impl Ledger {
             (Exit day thing.now loan.now)) }
         ensures carried { IfOk result (λ judged. IfSome judged.carried
             (λ carried. carried ≡ carried_with self.now.museum self.now.posted judged.put)) }
+        ensures loan { IfOk result (λ judged. judged.loan
+            ≡ (if is_applied judged.verdict then loan_no self.now.posted loan.now else None)) }
         ensures err { OnErr result
             ((holds_at self.now.museum self.now.posted (thing_no self.now.museum thing.now)
             && hangs_on_lines
@@ -44,7 +47,7 @@ impl Ledger {
         let Some(x) = self.setup.thing(thing) else {
             return Ok(unput(Verdict::UnknownThing));
         };
-        let Some(kept) = self.loan(loan) else {
+        let Some((number, kept)) = self.loan(loan) else {
             return Ok(unput(Verdict::UnknownLoan));
         };
         if !loan.is_out() && is_container_code(thing) {
@@ -59,7 +62,7 @@ impl Ledger {
         let to = Target::At(kept.partner());
         let carried = self.carried(alloc, x)?;
         let verdict = self.judge_lines_out(alloc, carried.as_slice(), loan, kept, day)?;
-        Ok(putting(verdict, x, to, Some(carried)))
+        Ok(putting(verdict, x, to, Some(carried), Some(number)))
     }
 
     pub(crate) fn judge_return(
@@ -76,6 +79,8 @@ impl Ledger {
             (Return day thing.now loan.now place.now)) }
         ensures carried { IfOk result (λ judged. IfSome judged.carried
             (λ carried. carried ≡ carried_with self.now.museum self.now.posted judged.put)) }
+        ensures loan { IfOk result (λ judged. judged.loan
+            ≡ (if is_applied judged.verdict then loan_no self.now.posted loan.now else None)) }
         ensures err { OnErr result
             ((holds_at self.now.museum self.now.posted (thing_no self.now.museum thing.now)
             && hangs_on_lines
@@ -91,7 +96,7 @@ impl Ledger {
         if !self.setup.is_inside(p) {
             return Ok(unput(Verdict::ElsewherePlace));
         }
-        let Some(kept) = self.loan(loan) else {
+        let Some((number, kept)) = self.loan(loan) else {
             return Ok(unput(Verdict::UnknownLoan));
         };
         if !kept.is_authorised() {
@@ -105,7 +110,7 @@ impl Ledger {
         }
         let carried = self.carried(alloc, x)?;
         let verdict = self.judge_lines(alloc, carried.as_slice(), kept, LineStage::Away, false)?;
-        Ok(putting(verdict, x, Target::At(p), Some(carried)))
+        Ok(putting(verdict, x, Target::At(p), Some(carried), Some(number)))
     }
 
     pub(crate) fn judge_receive(
@@ -123,6 +128,8 @@ impl Ledger {
             (Receive day thing.now loan.now place.now)) }
         ensures carried { IfOk result (λ judged. IfSome judged.carried
             (λ carried. carried ≡ carried_with self.now.museum self.now.posted judged.put)) }
+        ensures loan { IfOk result (λ judged. judged.loan
+            ≡ (if is_applied judged.verdict then loan_no self.now.posted loan.now else None)) }
         ensures err { OnErr result
             ((holds_at self.now.museum self.now.posted (thing_no self.now.museum thing.now)
             && hangs_on_lines
@@ -138,7 +145,7 @@ impl Ledger {
         if !self.setup.is_inside(p) {
             return Ok(unput(Verdict::ElsewherePlace));
         }
-        let Some(kept) = self.loan(loan) else {
+        let Some((number, kept)) = self.loan(loan) else {
             return Ok(unput(Verdict::UnknownLoan));
         };
         if is_container_code(thing) {
@@ -162,7 +169,7 @@ impl Ledger {
             LineStage::Awaiting,
             is_over,
         )?;
-        Ok(putting(verdict, x, Target::At(p), Some(carried)))
+        Ok(putting(verdict, x, Target::At(p), Some(carried), Some(number)))
     }
 
     /// The last rows of an exit: those of the lines of what is carried and, under a loan out, of the loan's last day;

@@ -1,14 +1,17 @@
 //! The rules of what is agreed of loans: agreement, authorisation and extension.
-ghost use Rattle.std.specs.Prelude.{◌≡◌, ◌≤◌, ◌∷◌, [], true, false, length, map, take, int_lt, not};
+ghost use Rattle.std.specs.Prelude.{◌≡◌, ◌≤◌, ◌∷◌, [], true, false, length, map, take, int_lt, not, None, if◌then◌else◌};
 ghost use Rattle.std.specs.Bool.{Decides};
 ghost use Rattle.std.specs.List.{list_any};
 ghost use Rattle.posting_core.specs.declared.verdict.Verdict.TheVariants.{NoObjects, NotObject, Repeated, WrongOwner, BadTerm};
 ghost use Rattle.nest_core.specs.InOrder.{◌if◌};
+ghost use Rattle.posting_core.specs.VerdictNames.{is_applied};
+ghost use Rattle.posting_core.specs.Agreements.{loan_no, is_agreed};
 ghost use Rattle.posting_core.specs.LoanRows.{AreOnce};
 ghost use Rattle.posting_core.specs.Messages.{thing_no};
 ghost use Rattle.posting_core.specs.Verdicts.{first_of, agree_rows, authorise_rows, extend_rows, is_known, is_container_code, is_of_wrong_owner, is_empty, repeats};
 
 use super::Ledger;
+use super::judged::{Judged, going_on, unput};
 use crate::{MOST_OBJECTS, Verdict};
 use codes_core::{Day, LoanCode, PlaceCode, ThingCode, ThingKind};
 use nest_core::{Setup, ThingNo};
@@ -34,7 +37,7 @@ impl Ledger {
         let Some(place) = self.setup.place(partner) else {
             return Verdict::UnknownPlace;
         };
-        if self.loan(loan).is_some() {
+        if self.is_agreed(loan) {
             return Verdict::LoanKnown;
         }
         if self.setup.is_inside(place) {
@@ -44,31 +47,46 @@ impl Ledger {
         judge_terms(loan, objects, repeated, first, last)
     }
 
-    pub(crate) fn judge_authorise(&self, loan: &LoanCode) -> Verdict
-        ensures { result ≡ first_of (authorise_rows self.now.posted loan.now) }
+    /// Whether the loan is agreed.
+    fn is_agreed(&self, loan: &LoanCode) -> bool
+        ensures { result ≡ is_agreed self.now.posted loan.now }
     {
-        let Some(kept) = self.loan(loan) else {
-            return Verdict::UnknownLoan;
-        };
-        if kept.is_authorised() {
-            return Verdict::AlreadyAuthorised;
-        }
-        Verdict::Applied
+        self.loan(loan).is_some()
     }
 
-    pub(crate) fn judge_extend(&self, loan: &LoanCode, last: Day) -> Verdict
-        ensures { result ≡ first_of (extend_rows self.now.posted loan.now last) }
+    pub(crate) fn judge_authorise(&self, loan: &LoanCode) -> Judged
+        ensures verdict { result.verdict ≡ first_of (authorise_rows self.now.posted loan.now) }
+        ensures put { result.put ≡ None }
+        ensures carried { result.carried ≡ None }
+        ensures loan { result.loan
+            ≡ (if is_applied result.verdict then loan_no self.now.posted loan.now else None) }
     {
-        let Some(kept) = self.loan(loan) else {
-            return Verdict::UnknownLoan;
+        let Some((number, kept)) = self.loan(loan) else {
+            return unput(Verdict::UnknownLoan);
+        };
+        if kept.is_authorised() {
+            return unput(Verdict::AlreadyAuthorised);
+        }
+        going_on(number)
+    }
+
+    pub(crate) fn judge_extend(&self, loan: &LoanCode, last: Day) -> Judged
+        ensures verdict { result.verdict ≡ first_of (extend_rows self.now.posted loan.now last) }
+        ensures put { result.put ≡ None }
+        ensures carried { result.carried ≡ None }
+        ensures loan { result.loan
+            ≡ (if is_applied result.verdict then loan_no self.now.posted loan.now else None) }
+    {
+        let Some((number, kept)) = self.loan(loan) else {
+            return unput(Verdict::UnknownLoan);
         };
         if !kept.is_authorised() {
-            return Verdict::NotAuthorised;
+            return unput(Verdict::NotAuthorised);
         }
         if last <= kept.last() {
-            return Verdict::NotLater;
+            return unput(Verdict::NotLater);
         }
-        Verdict::Applied
+        going_on(number)
     }
 }
 

@@ -23,6 +23,7 @@ impl Ledger {
             ≡ put_by self.now.museum self.now.posted result.verdict
             (Move day thing.now place.now) }
         ensures carried { result.carried ≡ None }
+        ensures loan { result.loan ≡ None }
     {
         let Some(x) = self.setup.thing(thing) else {
             return unput(Verdict::UnknownThing);
@@ -36,7 +37,7 @@ impl Ledger {
         if self.is_away(x) {
             return unput(Verdict::NotHere);
         }
-        putting(Verdict::Applied, x, Target::At(p), None)
+        putting(Verdict::Applied, x, Target::At(p), None, None)
     }
 
     pub(crate) fn judge_pack(&self, thing: &ThingCode, container: &ThingCode) -> Judged
@@ -47,6 +48,7 @@ impl Ledger {
             ≡ put_by self.now.museum self.now.posted result.verdict
             (Pack day thing.now container.now) }
         ensures carried { result.carried ≡ None }
+        ensures loan { result.loan ≡ None }
     {
         let Some(x) = self.setup.thing(thing) else {
             return unput(Verdict::UnknownThing);
@@ -63,7 +65,7 @@ impl Ledger {
         match self.pack_bar(x, c) {
             Some(PackBar::Cycle) => unput(Verdict::Cycle),
             Some(PackBar::TooDeep) => unput(Verdict::TooDeep),
-            None => putting(Verdict::Applied, x, Target::Within(c), None),
+            None => putting(Verdict::Applied, x, Target::Within(c), None, None),
         }
     }
 

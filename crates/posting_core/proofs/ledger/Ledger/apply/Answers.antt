@@ -3,7 +3,7 @@ use Rattle.std.proofs.lemmas.List.{reverse-append}
 use Rattle.posting_core.specs.declared.entry.Entry.{Entry}
 use Rattle.posting_core.specs.declared.entry.Spot.{Spot}
 use Rattle.posting_core.specs.Rows.{rows_after}
-use Rattle.posting_core.proofs.Posted.{planned, planned_within, planned_put, planned_carried, planned_agree, kept_still, kept_after}
+use Rattle.posting_core.proofs.Posted.{planned, planned_within, planned_put, planned_carried, planned_agree, planned_loan, kept_still, kept_after}
 use Rattle.posting_core.proofs.ledger.Ledger.apply.Goals as goal
 
 pub push_all-requires-clause-within : goal.push_all-requires-clause-within
@@ -21,9 +21,13 @@ place-requires-clause-carried c =
     let is = planned c.self.invariant c.self.view_is c.requires.follows c.requires.planned c.as_slice-carried.ensures c.as_slice-spots.ensures c.as_slice-lines.ensures in
     planned_carried is
 
-pub record-requires : goal.record-requires
-record-requires c =
+pub record-requires-clause-agree : goal.record-requires-clause-agree
+record-requires-clause-agree c =
     planned_agree (planned c.self.invariant c.self.view_is c.requires.follows c.requires.planned c.as_slice-carried.ensures c.as_slice-spots.ensures c.as_slice-lines.ensures)
+
+pub record-requires-clause-number : goal.record-requires-clause-number
+record-requires-clause-number c =
+    planned_loan (planned c.self.invariant c.self.view_is c.requires.follows c.requires.planned c.as_slice-carried.ensures c.as_slice-spots.ensures c.as_slice-lines.ensures)
 
 pub invariant_of-self-2 : goal.invariant_of-self-2
 invariant_of-self-2 c =
