@@ -15,7 +15,7 @@ use std::alloc::Global;
 /// How deep arrays and objects may nest, as serde_json reads them.
 const MAX_DEPTH: usize = 127;
 
-/// For how many members there is room in the list of an object's at first.
+/// How many members of an object there is room for from the start.
 const MEMBERS: usize = 8;
 
 impl<'a> Value<'a> {
