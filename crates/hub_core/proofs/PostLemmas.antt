@@ -1,7 +1,6 @@
 -- The posting of what is due.
-use Rattle.std.proofs.Common.{◌≡◌, ◌≢◌, ℕ, suc, ◌+◌, ◌-◌, ◌*◌, ◌<◌, ◌≤◌, ◌==◌, ◌||◌, inl, inr, Bool, true, false, List, [], ◌∷◌, length, Some, None, refl, ap, ◌∙◌, sym, subst, arith, length-set, if◌then◌else◌}
-use Rattle.std.specs.Prelude.{fold, slice_set, Option, IfSome, IfNone, OnSome}
-use Rattle.std.specs.Option.{option_map_or}
+use Rattle.std.proofs.Common.{◌≡◌, ◌≢◌, ℕ, suc, ◌+◌, ◌-◌, ◌<◌, ◌≤◌, ◌==◌, ◌||◌, inl, inr, Bool, true, false, List, [], ◌∷◌, length, Some, None, refl, ap, ◌∙◌, sym, subst, arith, length-set, if◌then◌else◌}
+use Rattle.std.specs.Prelude.{fold, slice_set}
 use Rattle.std.proofs.Math.Bool.{or-false}
 use Rattle.std.proofs.lemmas.List.Sums.{fold-append}
 use Rattle.std.proofs.lemmas.Bool.{cases_eq, ne_eqb}
@@ -32,12 +31,6 @@ pub record Caught (S : Museum) (depth : ℕ) (taken : List (Arrived Message)) (s
   pub forward : k ≤ (series_at sequences s).posted
   pub list : now ≡ fold (post S depth) before (due taken s k ((series_at sequences s).posted - k))
 
--- none of it is posted yet
-pub caught_here : (S : Museum) (depth : ℕ) (taken : List (Arrived Message)) (s : ℕ) (now : List Entry) (all : List (Series Message)) → IsPosting is_sign_off taken s all → Caught S depth taken s (series_at all s).posted now all now
-caught_here S depth taken s now all p =
-    let none : (series_at all s).posted - (series_at all s).posted ≡ 0 = omega arith in
-    record { posting = p; forward = omega arith; list = rw none refl }
-
 posted_next : (S : Museum) (depth : ℕ) (taken : List (Arrived Message)) (s k j n : ℕ) (before now : List Entry) (m : Message) → k ≤ j → n ≡ j + 1 → message_at taken s n ≡ Some m → now ≡ fold (post S depth) before (due taken s k (j - k))
     → post S depth now (arrived s n m) ≡ fold (post S depth) before (due taken s k (n - k))
 posted_next S depth taken s k j n before now m le e at list =
@@ -55,16 +48,6 @@ caught_next S depth taken s k n before now now' all all' m c e d off step list =
       forward = omega (arith, c.forward);
       list = rw p (list ∙ posted_next S depth taken s k (series_at all s).posted n before now m c.forward e d.message c.list);
     }
-
--- after each message less is left to come
-pub less_left : (X : Type 0) (o o' : Option (ℕ × Message)) (all all' : List (Series Message)) (s : ℕ) (d : ℕ × Message) → o ≡ Some d → s < length all →
-    IfNone o' (X × (all' ≡ all)) → IfSome o' (λ e. (e.0 ≡ (series_at all s).posted + 1) × (e.0 ≤ LAST)) → OnSome o' (all' ≡ slice_set all s (counted (series_at all s))) →
-    2 * (1000000 - (series_at all' s).posted) + option_map_or (λ e. 1) o' 0 < 2 * (1000000 - (series_at all s).posted) + option_map_or (λ e. 1) o 0
-less_left X o None all all' s d is within none number step = rw (is, none.1) (omega arith)
-less_left X o (Some e) all all' s d is within none number step =
-    let p : (series_at all' s).posted ≡ (series_at all s).posted + 1 = ap (λ (x : List (Series Message)). (series_at x s).posted) step ∙ ap (λ (x : Series Message). x.posted) (series_at_set_same all s (counted (series_at all s)) within) in
-    let known = number in
-    rw is (omega (arith, p, known.0, known.1))
 
 pub done_stop : (S : Museum) (depth : ℕ) (taken : List (Arrived Message)) (s k : ℕ) (before now : List Entry) (all all' : List (Series Message)) → Caught S depth taken s k before all now → AllMatch is_sign_off taken all' → all' ≡ all → Done S depth taken s k before all' now
 done_stop S depth taken s k before now all all' c every e =

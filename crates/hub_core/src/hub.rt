@@ -146,14 +146,13 @@ impl<R: Register> Hub<R> {
         }
         let before = self.ledger.posted().len() as u64;
         let station = arrival.station;
+        self.sequences.take(station, arrival.n, arrival.message);
         if let Err(fault) = post_due(
             alloc,
             &mut self.sequences,
             &mut self.ledger,
             &mut self.register,
             station,
-            arrival.n,
-            arrival.message,
         ) {
             self.down = true;
             return Err(fault);

@@ -43,11 +43,6 @@ module _ {M : Type 0} where
       ∙ ap (λ (ys : List (Option M)). None ∷ ys) (nothing_moves xs (λ i. none (suc i)))
       ∙ ap (λ (o : Option M). o ∷ (xs ++ None ∷ [])) (sym (none 0))
 
-  -- where nothing is held, all that move up stay what they are
-  pub nothing_held : (xs : List (Option M)) → 0 < length xs → ((i : ℕ) → slot_at xs i ≡ None) → xs ≡ drop 1 xs ++ None ∷ []
-  nothing_held [] some none = absurd (omega (arith, some))
-  nothing_held (x ∷ xs) some none = ap (λ (o : Option M). o ∷ xs) (none 0) ∙ nothing_moves xs (λ i. none (suc i))
-
   -- where nothing is held behind the first place, all move up where that one is emptied
   pub moves_alone : (xs : List (Option M)) (first : Option M) → 0 < length xs → first ≡ None → ((i : ℕ) → 0 < i → slot_at xs i ≡ None) → slice_set xs 0 first ≡ drop 1 xs ++ None ∷ []
   moves_alone [] first some none behind = absurd (omega (arith, some))

@@ -4,14 +4,14 @@ use Rattle.std.proofs.lemmas.Bool.{cases_lt, cases_eq, or_parts}
 use Rattle.std.proofs.lemmas.Bool.Decides.{nat_tests}
 use Rattle.std.proofs.lemmas.List.{length-map}
 use Rattle.std.specs.Prelude.{slice_set, slice_get, unwrap_or, IfSome, IfNone, OnSome, get_or}
-use Rattle.std.proofs.lemmas.List.{set-get_or, set-set}
+use Rattle.std.proofs.lemmas.List.{set-get_or}
 use Rattle.std.proofs.lemmas.Option.{slice_get_past}
 use Rattle.circular_buffer.proofs.Places.{slice_get-set_same, slice_get-set_other, slice_get-some}
 use Rattle.station_core.specs.declared.TheConstants.{LAST}
 use Rattle.station_core.specs.declared.Start.{Start}
 use Rattle.station_core.specs.declared.Refusal.{Refusal}
 use Rattle.station_core.specs.declared.Refusal.TheVariants.{UnknownStation, BadNumber, Double, SignedOff, TooEarly}
-use Rattle.station_core.specs.Series.{Series, series, window, slot_at, series_at, held_at, refusal_of, opened, with_held, held, counted, closed}
+use Rattle.station_core.specs.Series.{Series, series, window, slot_at, series_at, held_at, refusal_of, opened, with_held, counted, closed}
 use Rattle.station_core.specs.Runs.{Arrived, arrived, message_at, ends, ready, is_signed, is_double, refusal, taken_after}
 use Rattle.station_core.specs.Progress.{Matches, AllMatch, IsPosting, IsEnding, ComesDue, StartsFrom, AllStart}
 use Rattle.station_core.proofs.SlotLemmas.{series_at_there, slot_shift}
@@ -194,31 +194,6 @@ module _ {M : Type 0} where
   pub posted_among : (o : Option (ℕ × M)) (all new : List (Series M)) (s : ℕ) → IfNone o ((slot_at (series_at all s).slots 0 ≡ None) × (new ≡ all)) → IfNone o ((signs : M → Bool) (taken : List (Arrived M)) → IsPosting signs taken s all → AllMatch signs taken new)
   posted_among None all new s none = λ signs taken posting. rw none.1 (all_posted signs taken all s posting none.0)
   posted_among (Some d) all new s none = tt
-
-  -- what comes due where a message is held first, or that nothing does
-  held_here : (all : List (Series M)) (s n : ℕ) (m : M) (q : Series M) → s < length all → series_at all s ≡ q → series_at (held all s n m) s ≡ with_held q n m
-  held_here all s n m q within here = series_at_set_same all s (with_held (series_at all s) n m) within ∙ ap (λ (p : Series M). with_held p n m) here
-
-  pub held_none : (o : Option (ℕ × M)) (all items : List (Series M)) (s n : ℕ) (m : M) (q new : Series M) → s < length all → items ≡ all → series_at all s ≡ q → IfNone o ((slot_at (with_held q n m).slots 0 ≡ None) × (new ≡ with_held q n m)) →
-      IfNone o ((slot_at (series_at (held all s n m) s).slots 0 ≡ None) × (slice_set items s new ≡ held all s n m))
-  held_none None all items s n m q new within same here none = (ap (λ (p : Series M). slot_at p.slots 0) (held_here all s n m q within here) ∙ none.0, rw (same, none.1, here) refl)
-  held_none (Some d) all items s n m q new within same here none = tt
-
-  pub held_counted : (o : Option (ℕ × M)) (all items : List (Series M)) (s n : ℕ) (m : M) (q new : Series M) → s < length all → items ≡ all → series_at all s ≡ q → OnSome o (new ≡ counted (with_held q n m)) →
-      OnSome o (slice_set items s new ≡ slice_set (held all s n m) s (counted (series_at (held all s n m) s)))
-  held_counted None all items s n m q new within same here e = tt
-  held_counted (Some d) all items s n m q new within same here e =
-      ap (λ (l : List (Series M)). slice_set l s new) same ∙ sym (set-set all s (with_held (series_at all s) n m) new)
-      ∙ ap (slice_set (held all s n m) s) (e ∙ ap counted (sym (held_here all s n m q within here)))
-
-  pub held_message : (o : Option (ℕ × M)) (all : List (Series M)) (s n : ℕ) (m : M) (q : Series M) → s < length all → series_at all s ≡ q → IfSome o (λ d. slot_at (with_held q n m).slots 0 ≡ Some d.1) → IfSome o (λ d. slot_at (series_at (held all s n m) s).slots 0 ≡ Some d.1)
-  held_message None all s n m q within here e = tt
-  held_message (Some d) all s n m q within here e = ap (λ (p : Series M). slot_at p.slots 0) (held_here all s n m q within here) ∙ e
-
-  pub held_number : (o : Option (ℕ × M)) (all : List (Series M)) (s n : ℕ) (m : M) (q : Series M) → s < length all → series_at all s ≡ q → IfSome o (λ d. (d.0 ≡ q.posted + 1) × (d.0 ≤ LAST)) →
-      IfSome o (λ d. (d.0 ≡ (series_at (held all s n m) s).posted + 1) × (d.0 ≤ LAST))
-  held_number None all s n m q within here e = tt
-  held_number (Some d) all s n m q within here e = (e.0 ∙ ap (λ (p : Series M). p.posted + 1) (sym (held_here all s n m q within here)), e.1)
 
   -- the station is signed off
   pub all_closed : (signs : M → Bool) (taken : List (Arrived M)) (all : List (Series M)) (s : ℕ) → IsEnding signs taken s all → AllMatch signs taken (slice_set all s (closed (series_at all s)))

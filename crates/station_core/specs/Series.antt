@@ -87,7 +87,3 @@ module _ {M : Type 0} where
   -- the series of a station; one that isn't there has nothing posted
   abbrev pub series_at : List (Series M) → ℕ → Series M
   series_at all s = unwrap_or (slice_get all s) (series 0 false [])
-
-  -- the series once number n of station s is held
-  abbrev pub held : List (Series M) → ℕ → ℕ → M → List (Series M)
-  held all s n m = slice_set all s (with_held (series_at all s) n m)

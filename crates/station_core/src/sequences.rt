@@ -1,7 +1,7 @@
 //! The series of all stations.
 ghost use Rattle.std.specs.Prelude.{◌≡◌, ◌+◌, ◌<◌, ◌≤◌, ◌↔◌, Bool, ℕ, List, [], ◌∷◌, ◌++◌, IfOk, IfNone, IfSome, OnSome, All, map, length, slice_set, None, Some};
 ghost use Rattle.station_core.specs.declared.TheConstants.{LAST};
-ghost use Rattle.station_core.specs.Series.{opened, refusal_of, series_at, held_at, held, next_held, with_held, counted, closed};
+ghost use Rattle.station_core.specs.Series.{opened, refusal_of, series_at, held_at, next_held, with_held, counted, closed};
 ghost use Rattle.station_core.specs.Runs.{Arrived, arrived, refusal};
 ghost use Rattle.station_core.specs.Progress.{AllStart, AllMatch, IsPosting, IsEnding, ComesDue};
 
@@ -111,37 +111,6 @@ impl<M: Drop> Sequences<M> {
             IsPosting signs taken s self.old → AllMatch signs taken self.new) }
     {
         self.stations[s as usize].next_due()
-    }
-
-    /// Holds message `n` of station `s`, which [`test`](Self::test) doesn't refuse, and gives the
-    /// station's next message, as [`take`](Self::take) and [`next_due`](Self::next_due) do one after
-    /// the other.
-    pub fn take_due(&mut self, s: u32, n: u64, message: M) -> Option<(u32, M)>
-        requires { refusal_of self.old s n ≡ None }
-        ensures none { IfNone result (
-            (next_held (series_at (held self.old s n message) s) ≡ None)
-            × (self.new ≡ held self.old s n message)) }
-        ensures message { IfSome result (λ d.
-            next_held (series_at (held self.old s n message) s) ≡ Some d.1) }
-        ensures number { IfSome result (λ d.
-            (d.0 ≡ (series_at (held self.old s n message) s).posted + 1) × (d.0 ≤ LAST)) }
-        ensures counted { OnSome result (self.new ≡ slice_set (held self.old s n message) s
-            (counted (series_at (held self.old s n message) s))) }
-
-        // The list has it at its end; it is the message that was taken under that number, or all is
-        // posted that is ready.
-        ensures due { IfSome result (λ d.
-            (signs : M → Bool) (taken : List (Arrived M)) →
-            IsPosting signs taken s (held self.old s n message) →
-            ComesDue signs taken s d.0 d.1 self.new) }
-        ensures posted { IfNone result (
-            (signs : M → Bool) (taken : List (Arrived M)) →
-            IsPosting signs taken s (held self.old s n message) → AllMatch signs taken self.new) }
-        ensures taken { (signs : M → Bool) (taken : List (Arrived M)) →
-            AllMatch signs taken self.old →
-            IsPosting signs (taken ++ arrived s n message ∷ []) s (held self.old s n message) }
-    {
-        self.stations[s as usize].take_due(n, message)
     }
 
     /// Signs station `s` off, and gives up what it held. There is a station `s`.

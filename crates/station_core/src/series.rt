@@ -113,30 +113,6 @@ impl<M: Drop> Station<M> {
         Some((self.posted, message))
     }
 
-    /// Holds a message, and gives the next one, as `take` and `next_due` do. Where it is the next itself, it doesn't go through
-    /// the ring.
-    #[tactic(auto, using(crate::proofs::SlotLemmas::window_is))]
-    pub fn take_due(&mut self, n: u64, message: M) -> Option<(u32, M)>
-        requires { refusal_at self.old n ≡ None }
-        ensures none { IfNone result ((next_held (with_held self.old n message) ≡ None)
-            × (self.new ≡ with_held self.old n message)) }
-        ensures message { IfSome result
-            (λ d. next_held (with_held self.old n message) ≡ Some d.1) }
-        ensures number { IfSome result (λ d. (d.0 ≡ self.old.posted + 1) × (d.0 ≤ LAST)) }
-        ensures counted { OnSome result (self.new ≡ counted (with_held self.old n message)) }
-    {
-        let number = self.posted + 1;
-        if n != number as u64 {
-            self.take(n, message);
-            return self.next_due();
-        }
-        let is_empty = self.highest <= number;
-        self.highest = self.highest.max(number);
-        self.posted = number;
-        move_up(&mut self.slots, is_empty);
-        Some((number, message))
-    }
-
     /// Signs the station off, and gives up what it held.
     pub fn sign_off(&mut self)
         ensures { self.new ≡ closed self.old }
@@ -171,18 +147,6 @@ fn take_first<M: Drop>(slots: &mut HeapCircularBuffer<Option<M>>, is_last: bool)
     }
     // A place at its end pushes the first one out.
     slots.push_back(None)?
-}
-
-/// Moves all places of a full ring up, of which the first is empty. Where all are, none has to move.
-fn move_up<M: Drop>(slots: &mut HeapCircularBuffer<Option<M>>, is_empty: bool)
-    requires some { 0 < length slots.old.items }
-    requires full { length slots.old.items ≡ slots.old.capacity }
-    requires empty { is_empty ≡ true → (i : ℕ) → slot_at slots.old.items i ≡ None }
-    ensures { slots.new ≡ buffer (drop 1 slots.old.items ++ None ∷ []) slots.old.capacity }
-{
-    if !is_empty {
-        slots.push_back(None);
-    }
 }
 
 /// Holds a message in a place of a ring.

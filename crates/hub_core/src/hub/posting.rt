@@ -1,9 +1,9 @@
 //! The posting of what is due.
-ghost use Rattle.std.specs.Prelude.{◌≡◌, ◌⊎◌, true, None, length, OnOk, OnErr, IfErr};
+ghost use Rattle.std.specs.Prelude.{◌≡◌, ◌<◌, ◌⊎◌, false, true, length, OnOk, OnErr, IfErr};
 ghost use Rattle.posting_core.specs.Messages.{is_sign_off};
 ghost use Rattle.posting_core.specs.Lawful.{Follows};
 ghost use Rattle.register_store.specs.Registers.{is_failure};
-ghost use Rattle.station_core.specs.Series.{held, refusal_of};
+ghost use Rattle.station_core.specs.Series.{series_at};
 ghost use Rattle.station_core.specs.Runs.{arrived};
 ghost use Rattle.hub_core.specs.Points.{entry_of};
 ghost use Rattle.hub_core.specs.Faults.{hub_fault, CountsStore};
@@ -17,17 +17,16 @@ use register_store::{Register, StoreFault};
 use station_core::Sequences;
 use std::alloc::Global;
 
-/// Takes a message of a station, and posts what is due there then, one message after the other; a sign-off is the last.
+/// Posts what is due at a station, one message after the other; a sign-off is the last.
 pub(crate) fn post_due<R: Register>(
     alloc: Global,
     sequences: &mut Sequences<Message>,
     ledger: &mut Ledger,
     register: &mut R,
     station: StationNo,
-    n: u64,
-    message: Message,
 ) -> Result<(), HubFault>
-    requires taken { refusal_of sequences.old station n ≡ None }
+    requires known { station < length sequences.old }
+    requires unsigned { (series_at sequences.old station).signed ≡ false }
     requires in_step { InStep sequences.old ledger.old.museum ledger.old.posted }
     requires bound { R.is_bound register.old ≡ true }
     ensures museum { ledger.new.museum ≡ ledger.old.museum }
@@ -35,25 +34,21 @@ pub(crate) fn post_due<R: Register>(
     ensures stations { length sequences.new ≡ length sequences.old }
     ensures posted { OnOk result
         (PostsDue (R.holding register.old)
-        (R.holding register.new) station (held sequences.old station n message) sequences.new
-        ledger.old ledger.new) }
+        (R.holding register.new) station sequences.old sequences.new ledger.old ledger.new) }
     ensures stopped { OnErr result
         (StopsDue (R.holding register.old)
-        (R.holding register.new) station (held sequences.old station n message) ledger.old
-        ledger.new) }
+        (R.holding register.new) station sequences.old ledger.old ledger.new) }
     ensures bound { R.is_bound register.new ≡ true }
     ensures count { CountsStore (R.refusals register.old) (R.refusals register.new) result }
     ensures fault { IfErr result (λ fault. (fault ≡ HubFault.NoMemory) ⊎ (fault ≡ HubFault.Store)) }
 {
-    let mut due = sequences.take_due(station, n, message);
-    while let Some((number, next)) = due {
-        let signs_off = is_sign_off(&next);
-        post_next(alloc, ledger, register, station, number, next)?;
+    while let Some((n, message)) = sequences.next_due(station) {
+        let signs_off = is_sign_off(&message);
+        post_next(alloc, ledger, register, station, n, message)?;
         if signs_off {
             sequences.sign_off(station);
             return Ok(());
         }
-        due = sequences.next_due(station);
     }
     Ok(())
 }

@@ -1,12 +1,14 @@
-use Rattle.std.proofs.Common.{◌≡◌, ◌∙◌, ◌+◌, ◌++◌, ◌∷◌, [], sym, subst, refl, length, List, ℕ}
+use Rattle.std.proofs.Common.{◌≡◌, ◌∙◌, ◌<◌, ◌+◌, ◌++◌, ◌∷◌, [], sym, ap, subst, refl, length, List, ℕ}
 use Rattle.posting_core.specs.declared.entry.Entry.{Entry}
+use Rattle.posting_core.specs.declared.message.Message.{Message}
 use Rattle.posting_core.specs.Messages.{is_sign_off}
-use Rattle.station_core.specs.Series.{held}
-use Rattle.station_core.proofs.StationLemmas.{posting_taken}
+use Rattle.station_core.specs.Series.{series_at, Series, with_held}
+use Rattle.station_core.proofs.StationLemmas.{accepted_within}
 use Rattle.hub_core.specs.declared.hub.answer.Arrival.{Arrival}
 use Rattle.hub_core.specs.declared.hub.answer.Answer.TheVariants.{Refused, Held, Posted}
 use Rattle.hub_core.specs.Points.{reply, due_with}
 use Rattle.hub_core.specs.StandsFor.{State, StandsFor, Stopped}
+use Rattle.hub_core.proofs.PostLemmas.{written, step_held, taken_unsigned}
 use Rattle.hub_core.proofs.StandLemmas.{refused_by, stands_refused, stands_taken, stands_stopped, reply_due, reply_posted, reply_held, length_back}
 use Rattle.hub_core.proofs.hub.Hub.arrive.Goals as goal
 
@@ -17,6 +19,31 @@ returns-in-Some-clause-headline g c =
     (λ O A st. stands_refused g.R.Register.holding hub O A c.args.arrival c.in-Some.refusal st
     (refused_by hub O A c.args.arrival _ _ (c.self.invariant.0 c.if-self.false) (c.test.ensures.taken is_sign_off _ st.series) c.in-Some.is))
 
+pub post_due-requires-clause-known : goal.post_due-requires-clause-known
+post_due-requires-clause-known g c =
+    let all = c.self.inside.sequences in
+    let s = c.args.arrival.station in
+    let within : s < length all = accepted_within all s c.args.arrival.n (sym c.test.ensures.table ∙ c.in_default.is) in
+    let is = written all c.take.new.self s (with_held (series_at all s) c.args.arrival.n c.args.arrival.message) within c.take.ensures.held in
+    subst (λ n. s < n) (sym is.same_length) within
+
+pub post_due-requires-clause-unsigned : goal.post_due-requires-clause-unsigned
+post_due-requires-clause-unsigned g c =
+    let all = c.self.inside.sequences in
+    let s = c.args.arrival.station in
+    let refused = sym c.test.ensures.table ∙ c.in_default.is in
+    let within : s < length all = accepted_within all s c.args.arrival.n refused in
+    let is = written all c.take.new.self s (with_held (series_at all s) c.args.arrival.n c.args.arrival.message) within c.take.ensures.held in
+    ap (λ (x : Series Message). x.signed) is.here ∙ taken_unsigned all s c.args.arrival.n refused
+
+pub post_due-requires-clause-in_step : goal.post_due-requires-clause-in_step
+post_due-requires-clause-in_step g c =
+    let all = c.self.inside.sequences in
+    let s = c.args.arrival.station in
+    let within : s < length all = accepted_within all s c.args.arrival.n (sym c.test.ensures.table ∙ c.in_default.is) in
+    let is = written all c.take.new.self s (with_held (series_at all s) c.args.arrival.n c.args.arrival.message) within c.take.ensures.held in
+    step_held c.self.inside.ledger.museum c.self.inside.ledger.posted all c.take.new.self s _ (c.self.invariant.0 c.if-self.false) within is refl refl
+
 pub returns-then-before-now-clause-headline : goal.returns-then-before-now-clause-headline
 returns-then-before-now-clause-headline g c =
     let hub : State g.row.R.Denot = record { sequences = c.self.inside.sequences; book = c.self.inside.ledger; register = c.self.inside.register; down = c.self.inside.down } in
@@ -25,9 +52,9 @@ returns-then-before-now-clause-headline g c =
     let due = c.in_default-post_due.ensures in
     subst (λ (h : State g.row.R.Denot). (O : List Entry) (A : List Arrival) → StandsFor g.R.Register.holding h O A → (Held ≡ reply h.book.museum h.book.depth O A c.args.arrival) × StandsFor g.R.Register.holding new O (A ++ c.args.arrival ∷ [])) c.self.view_is
     (λ O A st.
-    let h = stands_taken g.R.Register.holding hub new (held c.self.inside.sequences c.args.arrival.station c.args.arrival.n c.args.arrival.message) O A c.args.arrival st step.stations
+    let h = stands_taken g.R.Register.holding hub new c.take.new.self O A c.args.arrival st step.stations
     (refused_by hub O A c.args.arrival _ _ step (c.test.ensures.taken is_sign_off _ st.series) c.in_default.is)
-    c.if-self.false due.museum due.depth refl (λ taken every. posting_taken is_sign_off taken c.self.inside.sequences c.args.arrival.station c.args.arrival.n c.args.arrival.message every (sym c.test.ensures.table ∙ c.in_default.is)) due.posted.done due.posted.stored in (
+    c.if-self.false due.museum due.depth c.take.ensures.held (c.take.ensures.taken is_sign_off) due.posted.done due.posted.stored in (
       reply_held (length hub.book.posted) (length new.book.posted) (length c.posted.result.now) (length c.posted-2.result.now)
           (length_back c.posted.result.now hub.book.posted c.posted.ensures) (length_back c.posted-2.result.now new.book.posted c.posted-2.ensures) c.if-before-now.true ∙ h.0,
       h.1,
@@ -41,9 +68,9 @@ returns-clause-headline g c =
     let due = c.in_default-post_due.ensures in
     subst (λ (h : State g.row.R.Denot). (O : List Entry) (A : List Arrival) → StandsFor g.R.Register.holding h O A → (Posted (length c.posted.result.now + 1) (length c.posted-2.result.now) ≡ reply h.book.museum h.book.depth O A c.args.arrival) × StandsFor g.R.Register.holding new O (A ++ c.args.arrival ∷ [])) c.self.view_is
     (λ O A st.
-    let h = stands_taken g.R.Register.holding hub new (held c.self.inside.sequences c.args.arrival.station c.args.arrival.n c.args.arrival.message) O A c.args.arrival st step.stations
+    let h = stands_taken g.R.Register.holding hub new c.take.new.self O A c.args.arrival st step.stations
     (refused_by hub O A c.args.arrival _ _ step (c.test.ensures.taken is_sign_off _ st.series) c.in_default.is)
-    c.if-self.false due.museum due.depth refl (λ taken every. posting_taken is_sign_off taken c.self.inside.sequences c.args.arrival.station c.args.arrival.n c.args.arrival.message every (sym c.test.ensures.table ∙ c.in_default.is)) due.posted.done due.posted.stored in (
+    c.if-self.false due.museum due.depth c.take.ensures.held (c.take.ensures.taken is_sign_off) due.posted.done due.posted.stored in (
       reply_posted (length hub.book.posted) (length new.book.posted) (length c.posted.result.now) (length c.posted-2.result.now)
           (length_back c.posted.result.now hub.book.posted c.posted.ensures) (length_back c.posted-2.result.now new.book.posted c.posted-2.ensures) c.if-before-now.false ∙ h.0,
       h.1,
@@ -55,9 +82,9 @@ returns-in-Err-clause-after_fault g c =
     let step = c.self.invariant.0 c.if-self.false in
     subst (λ (h : State g.row.R.Denot). (O : List Entry) (A : List Arrival) → StandsFor g.R.Register.holding h O A
     → Stopped (g.R.Register.holding c.post_due.new.register) h.book.museum h.book.depth h.book.posted (due_with h.book.museum h.book.depth O A c.args.arrival) c.post_due.new.ledger.posted) c.self.view_is
-    (λ O A st. stands_stopped g.R.Register.holding hub (g.R.Register.holding c.post_due.new.register) (held c.self.inside.sequences c.args.arrival.station c.args.arrival.n c.args.arrival.message) c.post_due.new.ledger.posted O A c.args.arrival st step.stations
+    (λ O A st. stands_stopped g.R.Register.holding hub (g.R.Register.holding c.post_due.new.register) c.take.new.self c.post_due.new.ledger.posted O A c.args.arrival st step.stations
     (refused_by hub O A c.args.arrival _ _ step (c.test.ensures.taken is_sign_off _ st.series) c.in_default.is)
-    refl (λ taken every. posting_taken is_sign_off taken c.self.inside.sequences c.args.arrival.station c.args.arrival.n c.args.arrival.message every (sym c.test.ensures.table ∙ c.in_default.is)) c.in-Err.ensures.stopped.stopped)
+    c.take.ensures.held (c.take.ensures.taken is_sign_off) c.in-Err.ensures.stopped.stopped)
 
 pub returns-in-Err-clause-answers : goal.returns-in-Err-clause-answers
 returns-in-Err-clause-answers g c =
@@ -67,6 +94,6 @@ returns-in-Err-clause-answers g c =
     → (first : ℕ) × (last : ℕ) × (reply h.book.museum h.book.depth O A c.args.arrival ≡ Posted first last)) c.self.view_is
     (λ O A st.
     let none = refused_by hub O A c.args.arrival _ _ step (c.test.ensures.taken is_sign_off _ st.series) c.in_default.is in
-    let stop = stands_stopped g.R.Register.holding hub (g.R.Register.holding c.post_due.new.register) (held c.self.inside.sequences c.args.arrival.station c.args.arrival.n c.args.arrival.message) c.post_due.new.ledger.posted O A c.args.arrival st step.stations none
-    refl (λ taken every. posting_taken is_sign_off taken c.self.inside.sequences c.args.arrival.station c.args.arrival.n c.args.arrival.message every (sym c.test.ensures.table ∙ c.in_default.is)) c.in-Err.ensures.stopped.stopped in
+    let stop = stands_stopped g.R.Register.holding hub (g.R.Register.holding c.post_due.new.register) c.take.new.self c.post_due.new.ledger.posted O A c.args.arrival st step.stations none
+    c.take.ensures.held (c.take.ensures.taken is_sign_off) c.in-Err.ensures.stopped.stopped in
     reply_due hub.book.museum hub.book.depth O A c.args.arrival stop.done stop.next stop.rest none stop.all)
