@@ -12,6 +12,7 @@ use posting_core::Ledger;
 use register_sql::SqlRegister;
 use register_store::{PlainRegister, Register, StoreFault};
 use serve_core::{LogLine, ServeFailed, ServeFault, Served, TextFeed, add_logged, serve};
+use sqlite::{Alter, Connection};
 use std::alloc::Global;
 use std::io::Write;
 use std::sync::Wait;
@@ -101,8 +102,8 @@ fn in_file<T: Threads + Wait + Copy + Send + 'static, W: Write>(
 {
     match SqlRegister::on_file(rt, rt.alloc(), path) {
         Ok(register) => {
-            let (register, ended) = over(rt.alloc(), threads, setup, register, feeds, output);
-            shut(register.into_connection());
+            let (conn, ended) = connected(rt.alloc(), threads, setup, register, feeds, output);
+            shut(conn);
             ended
         }
         Err(fault) => {
@@ -110,6 +111,21 @@ fn in_file<T: Threads + Wait + Copy + Send + 'static, W: Write>(
             Err(CommandFault::from(fault))
         }
     }
+}
+
+/// The same over a connection, which it gives back.
+fn connected<T: Threads + Wait + Copy + Send + 'static, S: Alter, W: Write>(
+    alloc: Global,
+    threads: &T,
+    setup: Setup,
+    register: SqlRegister<S>,
+    feeds: Vec<TextFeed>,
+    output: &mut W,
+) -> (Connection<S>, Result<(), CommandFault>)
+    requires { vec_len feeds ≡ length setup.stations }
+{
+    let (register, ended) = over(alloc, threads, setup, register, feeds, output);
+    (register.into_connection(), ended)
 }
 
 /// Opens a hub over the register, serves with it, and gives the register back.

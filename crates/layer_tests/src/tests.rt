@@ -5,19 +5,24 @@
 
 mod codes;
 mod counts;
+mod disks;
 mod failing;
 mod fresh;
 mod hub;
 mod lanes;
 mod ledger;
 mod messages;
+mod migrations;
 mod nest;
 mod objects;
 mod register;
+mod sending;
 mod serving;
 mod serving_faults;
+mod session;
 mod setup;
 mod stations;
+mod stops;
 mod words;
 
 use nest_core::Setup;

@@ -1,4 +1,5 @@
-//! A session over a database in memory.
+//! A session over a database in memory: the one that comes on standard input, whose replies go to standard output. So the
+//! sessions of the examples and cases are compared with their replies; where nothing comes, nothing is answered.
 ghost use Rattle.std.specs.Prelude.{◌≤◌, length};
 
 use hub_core::{Hub, replay};
@@ -6,12 +7,14 @@ use nest_core::Setup;
 use register_sql::SqlRegister;
 use register_store::Register;
 use std::alloc::Global;
-use std::io::Write;
+use std::io;
+use std::io::{BufWriter, Read, Write};
+use std::test::Fail;
 use store_file::shut_in_memory;
 
 /// Answers a session as the program does, over a database in memory; tells whether it ended without a fault. Its setup
 /// ends at its first empty line.
-pub fn answered<W: Write>(alloc: Global, given: &[u8], output: &mut W) -> bool {
+fn answered<W: Write>(alloc: Global, given: &[u8], output: &mut W) -> bool {
     let (head, mut lines) = given.split_at(end_of_head(given));
     let Ok(setup) = Setup::read(alloc, head) else {
         return false;
@@ -56,4 +59,24 @@ fn replayed<R: Register, W: Write>(
         }
         Err(failed) => (failed.register, false),
     }
+}
+
+/// Answers what comes on standard input, if anything does; tells whether it ended without a fault and was written whole.
+fn answer(rt: &HostRuntime) -> Result<bool, Fail> {
+    let mut given = Vec::new(rt.alloc());
+    if rt.reader().read_to_end(&mut given).is_err() {
+        return Ok(false);
+    }
+    if given.is_empty() {
+        return Ok(true);
+    }
+    let mut output = BufWriter::new(rt.alloc(), io::writer(rt))?;
+    let whole = answered(rt.alloc(), given.as_slice(), &mut output);
+    Ok(output.flush().is_ok() && whole)
+}
+
+#[test]
+fn session_in_a_database(rt: HostRuntime) -> Result<(), Fail> {
+    assert!(rt; answer(&rt)?);
+    Ok(())
 }

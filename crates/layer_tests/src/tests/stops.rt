@@ -1,13 +1,15 @@
-//! Postings over a store whose disk stops at each of its calls in turn.
+//! Postings over a store whose disk stops at each of its calls in turn: as the program leaves the store, and as a crash of the
+//! machine does.
 
-use crate::disks::{Pair, Stops, left_after, new_files};
-use crate::sending::{Sent, run};
+use super::disks::{Pair, Stops, left_after, new_files};
+use super::sending::{Sent, run};
 use std::alloc::Global;
+use std::process::Abort;
 
 /// Stops the log, or else the database, at its first call, at its second, and so on until a run isn't stopped; tells how
 /// many stops there were. After each the store is opened again, as it was left, or as a crash leaves it: each answered
 /// posting is there, perhaps the next, and the rest is taken. None where one is not so.
-pub fn count_stops(alloc: Global, in_log: bool, crashes: bool) -> Option<u64> {
+fn count_stops(alloc: Global, in_log: bool, crashes: bool) -> Option<u64> {
     for calls in 0..10_000 {
         let files = new_files(alloc, Stops { in_log, calls });
         if !is_stopped(alloc, files, crashes)? {
@@ -36,4 +38,24 @@ fn goes_on(first: Sent, second: Sent) -> bool {
         && second.doubles >= first.posted
         && more <= 1
         && second.posted.saturating_add(second.doubles) == 3
+}
+
+/// Asserts that what was posted stands whole after each stop of the log, or else of the database.
+fn assert_posted(rt: &impl Abort, alloc: Global, in_log: bool) {
+    for crashes in [false, true] {
+        assert!(rt;
+            count_stops(alloc, in_log, crashes).is_some_and(|count| count > 0),
+            "{crashes}"
+        );
+    }
+}
+
+#[test]
+fn log_stops_while_posting(rt: HostRuntime) {
+    assert_posted(&rt, rt.alloc(), true);
+}
+
+#[test]
+fn database_stops_while_posting(rt: HostRuntime) {
+    assert_posted(&rt, rt.alloc(), false);
 }

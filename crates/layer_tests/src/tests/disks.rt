@@ -6,21 +6,21 @@ use std::alloc::Global;
 use std::io;
 
 /// A file in memory that fails each call after so many.
-pub type Stopping = Fuse<Memory>;
+pub(crate) type Stopping = Fuse<Memory>;
 
 /// The log of a store, and its database.
-pub type Pair = Files<Stopping>;
+pub(crate) type Pair = Files<Stopping>;
 
 /// After how many calls the log stops, or else the database; the other never does.
 #[derive(Clone, Copy)]
-pub struct Stops {
-    pub in_log: bool,
-    pub calls: u64,
+pub(crate) struct Stops {
+    pub(crate) in_log: bool,
+    pub(crate) calls: u64,
 }
 
 impl Stops {
     /// Neither file stops.
-    pub const NEVER: Stops = Stops {
+    pub(crate) const NEVER: Stops = Stops {
         in_log: true,
         calls: u64::MAX,
     };
@@ -35,7 +35,7 @@ impl Stops {
 }
 
 /// Two new files that stop so.
-pub fn new_files(alloc: Global, stops: Stops) -> Pair {
+pub(crate) fn new_files(alloc: Global, stops: Stops) -> Pair {
     Files {
         log: Fuse::new(Memory::new(alloc), stops.of_log()),
         db: Fuse::new(Memory::new(alloc), stops.of_database()),
@@ -43,7 +43,7 @@ pub fn new_files(alloc: Global, stops: Stops) -> Pair {
 }
 
 /// Two files as these stand, that stop so.
-pub fn copied(alloc: Global, files: &Pair, stops: Stops) -> io::Result<Pair> {
+pub(crate) fn copied(alloc: Global, files: &Pair, stops: Stops) -> io::Result<Pair> {
     Ok(Files {
         log: copied_file(alloc, &files.log, stops.of_log())?,
         db: copied_file(alloc, &files.db, stops.of_database())?,
@@ -59,7 +59,7 @@ fn copied_file(alloc: Global, file: &Stopping, calls: u64) -> io::Result<Stoppin
 
 /// The files after an end of the program, as they stand, or after a crash of the machine, which loses what was not
 /// synced. They stop no more.
-pub fn left_after(alloc: Global, mut files: Pair, crashes: bool) -> Option<Pair> {
+pub(crate) fn left_after(alloc: Global, mut files: Pair, crashes: bool) -> Option<Pair> {
     if crashes {
         files.log.crash();
         files.db.crash();

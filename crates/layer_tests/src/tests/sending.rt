@@ -10,9 +10,9 @@ use station_core::Refusal;
 use std::alloc::Global;
 
 /// A register over two files.
-pub type Stored<D> = SqlRegister<FileStore<D>>;
+pub(crate) type Stored<D> = SqlRegister<FileStore<D>>;
 
-pub const SETUP: &str =
+pub(crate) const SETUP: &str =
     "station,GAL\nplace,S1,inside\nplace,MUSEUM-X,elsewhere\nbox,C1\nown,2001.4.1,S1\n";
 
 const AGREED: &str =
@@ -24,10 +24,10 @@ const PACKED: &str = r#"{"kind":"pack","thing":"2001.4.1","container":"C1","day"
 
 /// How many of the three messages a run posted, how many were posted before, and whether it was stopped.
 #[derive(Clone, Copy)]
-pub struct Sent {
-    pub posted: u64,
-    pub doubles: u64,
-    pub stopped: bool,
+pub(crate) struct Sent {
+    pub(crate) posted: u64,
+    pub(crate) doubles: u64,
+    pub(crate) stopped: bool,
 }
 
 /// What a run did whose hub was not opened.
@@ -39,13 +39,13 @@ const UNOPENED: Sent = Sent {
 
 /// What was done over a store, and the store's files.
 #[derive(Drop)]
-pub struct Ended<T, D: Disk> {
-    pub files: Files<D>,
-    pub given: T,
+pub(crate) struct Ended<T, D: Disk> {
+    pub(crate) files: Files<D>,
+    pub(crate) given: T,
 }
 
 /// A register over the files, or the files where they aren't opened; none where they may not be used.
-pub fn opened<D: Disk + Drop>(
+pub(crate) fn opened<D: Disk + Drop>(
     alloc: Global,
     files: Files<D>,
 ) -> Option<Result<Stored<D>, Files<D>>> {
@@ -60,7 +60,7 @@ pub fn opened<D: Disk + Drop>(
 }
 
 /// The files of a register that is over.
-pub fn closed<D: Disk + Drop>(register: Stored<D>) -> Files<D> {
+pub(crate) fn closed<D: Disk + Drop>(register: Stored<D>) -> Files<D> {
     store_of(register).close()
 }
 
@@ -69,7 +69,7 @@ fn store_of<S: Alter + Drop>(register: SqlRegister<S>) -> S {
 }
 
 /// Opens a hub over the files, and sends it the three messages.
-pub fn run<D: Disk + Drop>(alloc: Global, files: Files<D>) -> Option<Ended<Sent, D>> {
+pub(crate) fn run<D: Disk + Drop>(alloc: Global, files: Files<D>) -> Option<Ended<Sent, D>> {
     match opened(alloc, files) {
         Some(Ok(register)) => {
             let (register, sent) = over(alloc, register);

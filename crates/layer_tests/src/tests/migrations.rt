@@ -1,13 +1,14 @@
 //! Migrations of a store of version 1 whose disk stops at each of its calls in turn.
 
-use crate::disks::{Pair, Stops, copied, left_after, new_files};
-use crate::sending::{Ended, SETUP, Sent, Stored, closed, opened, run};
+use super::disks::{Pair, Stops, copied, left_after, new_files};
+use super::sending::{Ended, SETUP, Sent, Stored, closed, opened, run};
 use nest_core::Setup;
 use register_sql::SqlRegister;
 use register_store::StoreFault;
 use sqlite::{Alter, Files};
 use sqlite_disk::Disk;
 use std::alloc::Global;
+use std::process::Abort;
 
 /// The tables of a store of version 1, with the first two of the three messages posted.
 const FIRST: &str = r#"
@@ -29,7 +30,7 @@ type Answer = Result<(), StoreFault>;
 
 /// Stops the log, or else the database, at its first call, at its second, and so on until a migration isn't stopped;
 /// tells how many stops there were. After each the store is whole, of version 1 or of version 2. None where one is not so.
-pub fn count_migrations(alloc: Global, in_log: bool, crashes: bool) -> Option<u64> {
+fn count_migrations(alloc: Global, in_log: bool, crashes: bool) -> Option<u64> {
     let first = changed(alloc, new_files(alloc, Stops::NEVER), FIRST)?;
     let setup = Setup::read(alloc, SETUP.as_bytes()).ok()?;
     count_over(alloc, &first, &setup, in_log, crashes)
@@ -87,7 +88,7 @@ fn went_on(sent: Sent) -> bool {
 }
 
 /// Whether a migration answers what it has to, of a new store and of one of version 1, as it is and changed.
-pub fn are_answers_right(alloc: Global) -> bool {
+fn are_answers_right(alloc: Global) -> bool {
     let Ok(setup) = Setup::read(alloc, SETUP.as_bytes()) else {
         return false;
     };
@@ -193,4 +194,29 @@ fn migrated<D: Disk + Drop>(
         }),
         None => None,
     }
+}
+
+/// Asserts that a store is whole after each stop of the log, or else of the database, while it is migrated.
+fn assert_migrated(rt: &impl Abort, alloc: Global, in_log: bool) {
+    for crashes in [false, true] {
+        assert!(rt;
+            count_migrations(alloc, in_log, crashes).is_some_and(|count| count > 0),
+            "{crashes}"
+        );
+    }
+}
+
+#[test]
+fn log_stops_while_migrating(rt: HostRuntime) {
+    assert_migrated(&rt, rt.alloc(), true);
+}
+
+#[test]
+fn database_stops_while_migrating(rt: HostRuntime) {
+    assert_migrated(&rt, rt.alloc(), false);
+}
+
+#[test]
+fn answers_of_a_migration(rt: HostRuntime) {
+    assert!(rt; are_answers_right(rt.alloc()));
 }
