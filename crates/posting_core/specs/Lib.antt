@@ -10,6 +10,7 @@ pub mod Lawful
 pub mod Book
 pub mod Accountability
 pub mod LoanRows
+pub mod Crossings
 pub mod Onward
 pub mod Rows
 pub mod KeptForms

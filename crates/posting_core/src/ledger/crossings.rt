@@ -1,16 +1,20 @@
 //! The rules of what crosses under a loan: exit, return and receipt.
-ghost use Rattle.std.specs.Prelude.{ℤ, ◌≡◌, ◌<◌, ◌&&◌, true, false, length, All, filter, not, IfOk, IfSome, OnErr, Some, None, if◌then◌else◌, ℕ};
+ghost use Rattle.std.specs.Prelude.{ℤ, ◌≡◌, ◌<◌, ◌&&◌, true, false, List, length, All, filter, not, IfOk, IfSome, OnErr, MatchResult, Some, None, if◌then◌else◌, ℕ};
 ghost use Rattle.std.specs.Option.{option_map_or};
 ghost use Rattle.posting_core.specs.declared.message.Message.TheVariants.{Exit, Return, Receive};
+ghost use Rattle.posting_core.specs.declared.stage.LineStage.TheVariants.{Awaiting, Away};
+ghost use Rattle.posting_core.specs.declared.verdict.Verdict.{Verdict};
 ghost use Rattle.posting_core.specs.History.{put_by, carried_with, holds_at};
 ghost use Rattle.posting_core.specs.Messages.{thing_no};
-ghost use Rattle.posting_core.specs.Loans.{line, wanted_by_exit};
-ghost use Rattle.nest_core.specs.Museum.{is_container};
+ghost use Rattle.posting_core.specs.Loans.{line, wanted_by_exit, objects_with};
+ghost use Rattle.nest_core.specs.Museum.{is_container, is_elsewhere, find_place};
+ghost use Rattle.nest_core.specs.InOrder.{Row};
 ghost use Rattle.posting_core.specs.Verdicts.{first_of, exit_rows, return_rows, receive_rows, stage_eq, is_over, any_unlisted, any_not_at, line_rows, hangs_on_lines};
 ghost use Rattle.codes_core.specs.Loan.{is_out};
 ghost use Rattle.posting_core.specs.VerdictNames.{is_applied};
 ghost use Rattle.posting_core.specs.Agreements.{last_day, loan_no};
 ghost use Rattle.posting_core.specs.LoanRows.{line_of};
+ghost use Rattle.posting_core.specs.Crossings.{IsFound, arrival_rows};
 
 use super::Ledger;
 use super::judged::{Judged, putting, unput};
@@ -19,7 +23,7 @@ use super::planning::objects_among;
 use crate::kept_loan::KeptLoan;
 use crate::{LineStage, Verdict};
 use codes_core::{Day, LoanCode, NoMemory, PlaceCode, ThingCode};
-use nest_core::{Target, ThingNo};
+use nest_core::{PlaceNo, Target, ThingNo};
 use std::alloc::Global;
 
 impl Ledger {
@@ -44,25 +48,48 @@ impl Ledger {
             && hangs_on_lines
             (first_of (exit_rows self.now.museum self.now.posted thing.now loan.now day))) ≡ true) }
     {
+        match self.exit_asked(thing, loan) {
+            Err(refusal) => Ok(unput(refusal)),
+            Ok((x, number, kept)) => {
+                let to = Target::At(kept.partner());
+                let carried = self.carried(alloc, x)?;
+                let verdict = self.judge_lines_out(alloc, carried.as_slice(), loan, kept, day)?;
+                Ok(putting(verdict, x, to, Some(carried), Some(number)))
+            }
+        }
+    }
+
+    /// The rows of an exit before those of its lines: the refusal of the first that holds; where none does, the thing's number,
+    /// the loan's, and what is kept of the loan.
+    fn exit_asked(
+        &self,
+        thing: &ThingCode,
+        loan: &LoanCode,
+    ) -> Result<(ThingNo, usize, &KeptLoan), Verdict>
+        ensures { let S = self.now.museum in let P = self.now.posted in MatchResult result
+            (λ asked. IsFound S P thing.now loan.now asked.0 asked.1 asked.2.now
+            × ((day : ℤ) → first_of (exit_rows S P thing.now loan.now day)
+            ≡ first_of (line_rows (line S P loan.now) (wanted_by_exit loan.now)
+            (objects_with S P asked.0) (is_out loan.now && is_over P loan.now day))))
+            (λ refusal. (is_applied refusal ≡ false)
+            × ((day : ℤ) → first_of (exit_rows S P thing.now loan.now day) ≡ refusal)) }
+    {
         let Some(x) = self.setup.thing(thing) else {
-            return Ok(unput(Verdict::UnknownThing));
+            return Err(Verdict::UnknownThing);
         };
         let Some((number, kept)) = self.loan(loan) else {
-            return Ok(unput(Verdict::UnknownLoan));
+            return Err(Verdict::UnknownLoan);
         };
         if !loan.is_out() && is_container_code(thing) {
-            return Ok(unput(Verdict::NotObject));
+            return Err(Verdict::NotObject);
         }
         if !kept.is_authorised() {
-            return Ok(unput(Verdict::NotAuthorised));
+            return Err(Verdict::NotAuthorised);
         }
         if !self.is_inside(x) {
-            return Ok(unput(Verdict::NotHere));
+            return Err(Verdict::NotHere);
         }
-        let to = Target::At(kept.partner());
-        let carried = self.carried(alloc, x)?;
-        let verdict = self.judge_lines_out(alloc, carried.as_slice(), loan, kept, day)?;
-        Ok(putting(verdict, x, to, Some(carried), Some(number)))
+        Ok((x, number, kept))
     }
 
     pub(crate) fn judge_return(
@@ -87,30 +114,49 @@ impl Ledger {
             (first_of (return_rows self.now.museum self.now.posted thing.now loan.now place.now)))
             ≡ true) }
     {
-        let Some(x) = self.setup.thing(thing) else {
-            return Ok(unput(Verdict::UnknownThing));
-        };
-        let Some(p) = self.setup.place(place) else {
-            return Ok(unput(Verdict::UnknownPlace));
-        };
-        if !self.setup.is_inside(p) {
-            return Ok(unput(Verdict::ElsewherePlace));
+        match self.return_asked(thing, loan, place) {
+            Err(refusal) => Ok(unput(refusal)),
+            Ok((x, p, number, kept)) => {
+                let carried = self.carried(alloc, x)?;
+                let verdict = self.judge_lines(
+                    alloc,
+                    carried.as_slice(),
+                    kept,
+                    LineStage::Away,
+                    false,
+                )?;
+                Ok(putting(verdict, x, Target::At(p), Some(carried), Some(number)))
+            }
         }
-        let Some((number, kept)) = self.loan(loan) else {
-            return Ok(unput(Verdict::UnknownLoan));
-        };
+    }
+
+    /// The rows of a return before those of its lines: the refusal of the first that holds; where none does, what
+    /// `arrival_asked` found.
+    fn return_asked(
+        &self,
+        thing: &ThingCode,
+        loan: &LoanCode,
+        place: &PlaceCode,
+    ) -> Result<(ThingNo, PlaceNo, usize, &KeptLoan), Verdict>
+        ensures { let S = self.now.museum in let P = self.now.posted in MatchResult result
+            (λ asked. IsFound S P thing.now loan.now asked.0 asked.2 asked.3.now
+            × (find_place S place.now ≡ Some asked.1)
+            × (first_of (return_rows S P thing.now loan.now place.now)
+            ≡ first_of (line_rows (line S P loan.now) Away (objects_with S P asked.0) false)))
+            (λ refusal. (is_applied refusal ≡ false)
+            × (first_of (return_rows S P thing.now loan.now place.now) ≡ refusal)) }
+    {
+        let (x, p, number, kept) = self.arrival_asked(thing, loan, place)?;
         if !kept.is_authorised() {
-            return Ok(unput(Verdict::NotAuthorised));
+            return Err(Verdict::NotAuthorised);
         }
         if !loan.is_out() {
-            return Ok(unput(Verdict::WrongDirection));
+            return Err(Verdict::WrongDirection);
         }
         if self.place_of(x) != Some(kept.partner()) {
-            return Ok(unput(Verdict::NotWithPartner));
+            return Err(Verdict::NotWithPartner);
         }
-        let carried = self.carried(alloc, x)?;
-        let verdict = self.judge_lines(alloc, carried.as_slice(), kept, LineStage::Away, false)?;
-        Ok(putting(verdict, x, Target::At(p), Some(carried), Some(number)))
+        Ok((x, p, number, kept))
     }
 
     pub(crate) fn judge_receive(
@@ -136,40 +182,83 @@ impl Ledger {
             (first_of (receive_rows self.now.museum self.now.posted thing.now loan.now place.now
             day))) ≡ true) }
     {
-        let Some(x) = self.setup.thing(thing) else {
-            return Ok(unput(Verdict::UnknownThing));
-        };
-        let Some(p) = self.setup.place(place) else {
-            return Ok(unput(Verdict::UnknownPlace));
-        };
-        if !self.setup.is_inside(p) {
-            return Ok(unput(Verdict::ElsewherePlace));
+        match self.receive_asked(thing, loan, place) {
+            Err(refusal) => Ok(unput(refusal)),
+            Ok((x, p, number, kept)) => {
+                let is_over = kept.last() < day;
+                let carried = self.carried(alloc, x)?;
+                let verdict = self.judge_lines(
+                    alloc,
+                    carried.as_slice(),
+                    kept,
+                    LineStage::Awaiting,
+                    is_over,
+                )?;
+                Ok(putting(verdict, x, Target::At(p), Some(carried), Some(number)))
+            }
         }
-        let Some((number, kept)) = self.loan(loan) else {
-            return Ok(unput(Verdict::UnknownLoan));
-        };
+    }
+
+    /// The rows of a receipt before those of its lines: the refusal of the first that holds; where none does, what
+    /// `arrival_asked` found.
+    fn receive_asked(
+        &self,
+        thing: &ThingCode,
+        loan: &LoanCode,
+        place: &PlaceCode,
+    ) -> Result<(ThingNo, PlaceNo, usize, &KeptLoan), Verdict>
+        ensures { let S = self.now.museum in let P = self.now.posted in MatchResult result
+            (λ asked. IsFound S P thing.now loan.now asked.0 asked.2 asked.3.now
+            × (find_place S place.now ≡ Some asked.1)
+            × ((day : ℤ) → first_of (receive_rows S P thing.now loan.now place.now day)
+            ≡ first_of (line_rows (line S P loan.now) Awaiting (objects_with S P asked.0)
+            (is_over P loan.now day))))
+            (λ refusal. (is_applied refusal ≡ false) × ((day : ℤ)
+            → first_of (receive_rows S P thing.now loan.now place.now day) ≡ refusal)) }
+    {
+        let (x, p, number, kept) = self.arrival_asked(thing, loan, place)?;
         if is_container_code(thing) {
-            return Ok(unput(Verdict::NotObject));
+            return Err(Verdict::NotObject);
         }
         if !kept.is_authorised() {
-            return Ok(unput(Verdict::NotAuthorised));
+            return Err(Verdict::NotAuthorised);
         }
         if loan.is_out() {
-            return Ok(unput(Verdict::WrongDirection));
+            return Err(Verdict::WrongDirection);
         }
         if self.is_inside(x) {
-            return Ok(unput(Verdict::AlreadyHere));
+            return Err(Verdict::AlreadyHere);
         }
-        let is_over = kept.last() < day;
-        let carried = self.carried(alloc, x)?;
-        let verdict = self.judge_lines(
-            alloc,
-            carried.as_slice(),
-            kept,
-            LineStage::Awaiting,
-            is_over,
-        )?;
-        Ok(putting(verdict, x, Target::At(p), Some(carried), Some(number)))
+        Ok((x, p, number, kept))
+    }
+
+    /// The rows that a return and a receipt begin with: the refusal of the first that holds; where none does, the numbers of the
+    /// thing, the place and the loan, and what is kept of the loan.
+    fn arrival_asked(
+        &self,
+        thing: &ThingCode,
+        loan: &LoanCode,
+        place: &PlaceCode,
+    ) -> Result<(ThingNo, PlaceNo, usize, &KeptLoan), Verdict>
+        ensures { let S = self.now.museum in let P = self.now.posted in MatchResult result
+            (λ asked. IsFound S P thing.now loan.now asked.0 asked.2 asked.3.now
+            × (find_place S place.now ≡ Some asked.1) × (is_elsewhere S asked.1 ≡ false))
+            (λ refusal. (is_applied refusal ≡ false) × ((rest : List (Row Verdict))
+            → first_of (arrival_rows S P thing.now loan.now place.now rest) ≡ refusal)) }
+    {
+        let Some(x) = self.setup.thing(thing) else {
+            return Err(Verdict::UnknownThing);
+        };
+        let Some(p) = self.setup.place(place) else {
+            return Err(Verdict::UnknownPlace);
+        };
+        if !self.setup.is_inside(p) {
+            return Err(Verdict::ElsewherePlace);
+        }
+        let Some((number, kept)) = self.loan(loan) else {
+            return Err(Verdict::UnknownLoan);
+        };
+        Ok((x, p, number, kept))
     }
 
     /// The last rows of an exit: those of the lines of what is carried and, under a loan out, of the loan's last day;

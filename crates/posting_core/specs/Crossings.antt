@@ -1,0 +1,35 @@
+-- What is asked of what crosses under a loan before its lines.
+use Rattle.std.specs.Prelude.{ℕ, ◌≡◌, ◌<◌, true, not, List, ◌∷◌, length, Some}
+use Rattle.std.specs.Option.{option_map}
+use Rattle.nest_core.specs.Museum.{Museum, find_thing, is_elsewhere}
+use Rattle.nest_core.specs.InOrder.{Row, ◌if◌}
+use Rattle.posting_core.specs.declared.entry.Entry.{Entry}
+use Rattle.posting_core.specs.declared.verdict.Verdict.{Verdict}
+use Rattle.posting_core.specs.declared.verdict.Verdict.TheVariants.{UnknownThing, UnknownPlace, ElsewherePlace, UnknownLoan}
+use Rattle.posting_core.specs.Messages.{place_no}
+use Rattle.posting_core.specs.Agreements.{agreement, loan_no, is_agreed, is_authorised, last_day}
+use Rattle.posting_core.specs.Loans.{line}
+use Rattle.posting_core.specs.Verdicts.{is_known, is_known_place}
+use Rattle.posting_core.specs.LoanRows.{LoanRow, line_of}
+
+-- the numbers of the thing and of the loan, and what the loan's row says
+pub record IsFound (S : Museum) (P : List Entry) (code loan : List ℕ) (x i : ℕ)
+    (row : LoanRow) : Type 0 where
+  pub thing : find_thing S code ≡ Some x
+  pub known : x < length S.things
+  pub number : loan_no P loan ≡ Some i
+  pub agreed : is_agreed P loan ≡ true
+  pub authorised : row.authorised ≡ is_authorised P loan
+  pub last : last_day P loan ≡ Some row.last
+  pub partner : option_map (λ t. place_no S t.partner) (agreement P loan) ≡ Some row.partner
+  pub lines : (o : ℕ) → line_of row o ≡ line S P loan o
+
+-- the rows that a return and a receipt of thing x under a loan at place p begin with, before the rest
+abbrev pub arrival_rows : Museum → List Entry → List ℕ → List ℕ → List ℕ → List (Row Verdict)
+    → List (Row Verdict)
+arrival_rows S P x loan p rest =
+    (UnknownThing if not (is_known S x))
+    ∷ (UnknownPlace if not (is_known_place S p))
+    ∷ (ElsewherePlace if is_elsewhere S (place_no S p))
+    ∷ (UnknownLoan if not (is_agreed P loan))
+    ∷ rest
