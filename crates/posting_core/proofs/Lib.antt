@@ -27,6 +27,7 @@ pub mod SpotsAfter
 pub mod Spotted
 pub mod Turns
 mod WorkedAccounts
+mod WorkedCrossings
 mod WorkedForms
 mod WorkedLoanOrder
 mod WorkedLoansIn

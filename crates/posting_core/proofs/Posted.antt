@@ -24,7 +24,7 @@ use Rattle.posting_core.specs.declared.entry.NewSpot.{NewSpot}
 use Rattle.posting_core.specs.declared.entry.NewLine.{NewLine}
 use Rattle.posting_core.specs.declared.entry.Changes.{Changes}
 use Rattle.posting_core.specs.declared.stage.LineStage.TheVariants.{Awaiting}
-use Rattle.posting_core.specs.Messages.{day_of, loan_in}
+use Rattle.posting_core.specs.Messages.{day_of, loan_of}
 use Rattle.posting_core.specs.History.{puts, put_in, put_by, spots, spot_from, place_at, carried_at, carried_with, holds_at}
 use Rattle.posting_core.specs.VerdictNames.{is_applied}
 use Rattle.posting_core.specs.Loans.{crossing_in, objects_of}
@@ -220,7 +220,7 @@ module _ {S : Museum} {P : List Entry} {N : Nested} {R : List (List Spot)} {L : 
 
   -- the loan that goes on by it is found by that number among the rows
   pub planned_loan : loan ≡ row_by L e.verdict e.message
-  planned_loan = is.loan_is ∙ ap (λ codes. option_and_then (λ l. if is_applied e.verdict then position (bytes_eq l) codes else None) (loan_in e.message)) (sym (ap (map (λ row. row.loan)) is.kept.loans ∙ codes_told S P))
+  planned_loan = is.loan_is ∙ ap (λ codes. option_and_then (λ l. if is_applied e.verdict then position (bytes_eq l) codes else None) (loan_of e.message)) (sym (ap (map (λ row. row.loan)) is.kept.loans ∙ codes_told S P))
 
   -- the rows of the loans after the entry
   loans_after : (L' : List LoanRow) → L' ≡ (if is_applied e.verdict then rows_with S L e.message lines else L) → L' ≡ loan_rows S (e ∷ P)

@@ -8,7 +8,7 @@ use Rattle.posting_core.specs.declared.message.Message.{Message}
 use Rattle.posting_core.specs.declared.message.Message.TheVariants.{Agree, Authorise, Extend}
 use Rattle.posting_core.specs.declared.verdict.Verdict.{Verdict}
 use Rattle.posting_core.specs.declared.entry.Entry.{Entry}
-use Rattle.posting_core.specs.Messages.{loan_in}
+use Rattle.posting_core.specs.Messages.{loan_of}
 use Rattle.posting_core.specs.VerdictNames.{is_applied}
 
 -- the terms of a loan: the partner's place, the objects, the first day and the last
@@ -48,7 +48,7 @@ loan_no P loan = position (bytes_eq loan) (loans P)
 -- the number of the loan that goes on by a message under this verdict
 abbrev pub loan_by : List Entry → Verdict → Message → Option ℕ
 loan_by P verdict m =
-    option_and_then (λ loan. if is_applied verdict then loan_no P loan else None) (loan_in m)
+    option_and_then (λ loan. if is_applied verdict then loan_no P loan else None) (loan_of m)
 
 abbrev pub is_agreed : List Entry → List ℕ → Bool
 is_agreed P loan = is_some (agreement P loan)

@@ -13,7 +13,7 @@ use Rattle.posting_core.specs.declared.stage.LineStage.{LineStage}
 use Rattle.posting_core.specs.declared.stage.LoanState.{LoanState}
 use Rattle.posting_core.specs.declared.verdict.Verdict.{Verdict}
 use Rattle.posting_core.specs.VerdictNames.{is_applied}
-use Rattle.posting_core.specs.Messages.{place_no, loan_in}
+use Rattle.posting_core.specs.Messages.{place_no, loan_of}
 use Rattle.posting_core.specs.Agreements.{Agreement, agreements, is_authorised, last_from}
 use Rattle.posting_core.specs.Loans.{stage, objects_of, state_by}
 
@@ -103,7 +103,7 @@ abbrev pub row_by : List LoanRow → Verdict → Message → Option ℕ
 row_by rows verdict m = option_and_then
     (λ loan. if is_applied verdict then position (bytes_eq loan) (map (λ row. row.loan) rows)
     else None)
-    (loan_in m)
+    (loan_of m)
 
 -- none of the numbers stands twice
 abbrev pub AreOnce : List ℕ → Type 0

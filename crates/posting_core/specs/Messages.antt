@@ -21,14 +21,14 @@ day_of (Return day x loan p) = Some day
 day_of (Receive day x loan p) = Some day
 day_of _ = None
 
--- the loan of a message by which one that is agreed goes on
-abbrev pub loan_in : Message → Option (List ℕ)
-loan_in (Authorise name loan) = Some loan
-loan_in (Exit day x loan) = Some loan
-loan_in (Return day x loan p) = Some loan
-loan_in (Receive day x loan p) = Some loan
-loan_in (Extend last loan) = Some loan
-loan_in _ = None
+-- the loan, agreed before, that goes on by a message
+abbrev pub loan_of : Message → Option (List ℕ)
+loan_of (Authorise name loan) = Some loan
+loan_of (Exit day x loan) = Some loan
+loan_of (Return day x loan p) = Some loan
+loan_of (Receive day x loan p) = Some loan
+loan_of (Extend last loan) = Some loan
+loan_of _ = None
 
 abbrev pub is_sign_off : Message → Bool
 is_sign_off (SignOff name) = true

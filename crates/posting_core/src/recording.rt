@@ -11,8 +11,8 @@ use codes_core::NoMemory;
 use nest_core::Setup;
 use std::alloc::Global;
 
-/// Writes a message and its lines under this verdict; the loan that goes on by it has this number. Only an agreement takes
-/// memory; after NoMemory the loans are unchanged.
+/// Writes a message and its lines under this verdict; the loan that goes on by it, if one does, has this number. Only an
+/// agreement takes memory; after NoMemory the loans are unchanged.
 pub(crate) fn record(
     alloc: Global,
     loans: &mut KeptLoans,
