@@ -13,7 +13,6 @@ use std::alloc::Global;
 use std::marker::Model;
 
 /// A loan, its objects found by number; seen as its row.
-#[derive(Drop)]
 pub(crate) struct KeptLoan {
     loan: LoanCode,
     partner: PlaceNo,
@@ -42,6 +41,22 @@ impl Model for KeptLoan {
     ghost invariant = { λ k. length k.stages.items ≡ length k.objects.keys };
 }
 
+/// Written out, so that whoever drops a loan calls it: a derived drop would stand whole at each of their ways out.
+impl Drop for KeptLoan {
+    fn drop(self) {
+        let KeptLoan {
+            loan: _,
+            partner: _,
+            objects,
+            stages,
+            last: _,
+            authorised: _,
+        } = self;
+        drop(objects);
+        drop(stages);
+    }
+}
+
 impl KeptLoan {
     /// A loan that is just agreed, with a line of each of its objects.
     pub(crate) fn new(
@@ -62,7 +77,8 @@ impl KeptLoan {
           authorised = false;
         }) }
     {
-        let (objects, stages) = parted(alloc, lines)?;
+        let stages = stages_of(alloc, lines)?;
+        let objects = objects_of(alloc, lines)?;
         Ok(KeptLoan {
             loan,
             partner: place_no(setup, partner),
@@ -155,20 +171,27 @@ impl KeptLoan {
     }
 }
 
-/// The objects of these lines, which differ, and their stages.
-fn parted(alloc: Global, lines: &[NewLine]) -> Result<(IndexSet<ThingNo>, Vec<LineStage>), NoMemory>
+/// The objects of these lines, which differ.
+fn objects_of(alloc: Global, lines: &[NewLine]) -> Result<IndexSet<ThingNo>, NoMemory>
     requires { AreOnce (map (λ l. l.object) lines.now) }
-    ensures { IfOk result (λ both. (both.0.keys ≡ map (λ l. l.object) lines.now)
-        × (both.1.items ≡ map (λ l. l.stage) lines.now)) }
+    ensures { IfOk result (λ objects. objects.keys ≡ map (λ l. l.object) lines.now) }
 {
     let mut objects = IndexSet::with_capacity(alloc, lines.len())?;
+    for i in 0..lines.len() {
+        objects.insert(lines[i].object)?;
+    }
+    Ok(objects)
+}
+
+/// The stages of these lines.
+fn stages_of(alloc: Global, lines: &[NewLine]) -> Result<Vec<LineStage>, NoMemory>
+    ensures { IfOk result (λ stages. stages.items ≡ map (λ l. l.stage) lines.now) }
+{
     let mut stages = Vec::with_capacity(alloc, lines.len())?;
     for i in 0..lines.len() {
-        let line = lines[i];
-        objects.insert(line.object)?;
-        stages.push(line.stage)?;
+        stages.push(lines[i].stage)?;
     }
-    Ok((objects, stages))
+    Ok(stages)
 }
 
 fn state_of(authorised: bool, stages: &[LineStage]) -> LoanState
