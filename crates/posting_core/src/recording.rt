@@ -1,5 +1,6 @@
 //! What an entry writes of the loans.
 ghost use Rattle.std.specs.Prelude.{◌≡◌, true, is_some, if◌then◌else◌, IfSome, OnOk, OnErr};
+ghost use Rattle.posting_core.specs.declared.verdict.Verdict.TheVariants.{Applied};
 ghost use Rattle.posting_core.specs.VerdictNames.{is_applied};
 ghost use Rattle.posting_core.specs.Agreements.{agreement_by, agreement_in};
 ghost use Rattle.posting_core.specs.LoanRows.{rows_with, row_by, MayAgree};
@@ -30,9 +31,28 @@ pub(crate) fn record(
     ensures err { OnErr result
         ((loans.new ≡ loans.old) × (is_some (agreement_in message.now) ≡ true)) }
 {
-    if !matches!(verdict, Verdict::Applied) {
-        return Ok(());
+    match verdict {
+        Verdict::Applied => write(alloc, loans, setup, message, loan, lines),
+        _ => Ok(()),
     }
+}
+
+/// Writes an applied message and its lines.
+fn write(
+    alloc: Global,
+    loans: &mut KeptLoans,
+    setup: &Setup,
+    message: &Message,
+    loan: Option<usize>,
+    lines: &[NewLine],
+) -> Result<(), NoMemory>
+    requires agree { IfSome (agreement_in message.now) (MayAgree loans.old lines.now) }
+    requires number { loan ≡ row_by loans.old Applied message.now }
+    ensures ok { OnOk result
+        (loans.new ≡ rows_with setup.now loans.old message.now lines.now) }
+    ensures err { OnErr result
+        ((loans.new ≡ loans.old) × (is_some (agreement_in message.now) ≡ true)) }
+{
     match message {
         Message::Agree {
             last,
