@@ -259,9 +259,9 @@ impl Ledger {
         let carried = changes.carried.as_slice();
         let spots = changes.spots.as_slice();
         let lines = changes.lines.as_slice();
-        let posted = PostedEntry::new(alloc, entry)?;
         self.spots.reserve(spots.len())?;
         self.posted.reserve(1)?;
+        let posted = PostedEntry::new(alloc, entry)?;
         place(&mut self.nest, changes.put, carried)?;
         record(
             alloc,

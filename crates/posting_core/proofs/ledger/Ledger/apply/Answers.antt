@@ -1,10 +1,15 @@
-use Rattle.std.proofs.Common.{ap, ◌∙◌, reverse, List, ◌∷◌, ◌++◌, []}
+use Rattle.std.proofs.Common.{ap, ◌∙◌, reverse, List, ◌∷◌, ◌++◌, [], Result, Ok, Err, OnErr}
 use Rattle.std.proofs.lemmas.List.{reverse-append}
 use Rattle.posting_core.specs.declared.entry.Entry.{Entry}
 use Rattle.posting_core.specs.declared.entry.Spot.{Spot}
+use Rattle.posting_core.specs.Book.{Book}
 use Rattle.posting_core.specs.Rows.{rows_after}
 use Rattle.posting_core.proofs.Posted.{planned, planned_within, planned_put, planned_carried, planned_agree, planned_loan, kept_still, kept_after}
 use Rattle.posting_core.proofs.ledger.Ledger.apply.Goals as goal
+
+unchanged : {X Y : Type 0} {P : Type 0} (r : Result X Y) → P → OnErr r P
+unchanged (Ok x) p = tt
+unchanged (Err y) p = p
 
 pub push_all-requires-clause-within : goal.push_all-requires-clause-within
 push_all-requires-clause-within c =
@@ -45,3 +50,30 @@ invariant_of-self-in_err-record c =
     kept_still is
     c.in_ok-place.ensures.stands c.in_ok-place.ensures.sized.0 c.in_ok-place.ensures.sized.1 c.in_ok-place.ensures.sized.2
     c.in_err-record.ensures.err.1 (ap reverse c.reserve-2.ensures.items) c.reserve.ensures.rows c.in_err-record.ensures.err.0
+
+pub invariant_of-self : goal.invariant_of-self
+invariant_of-self c = rw c.reserve.ensures.rows c.self.invariant
+
+pub returns-in_err-reserve-clause-err : goal.returns-in_err-reserve-clause-err
+returns-in_err-reserve-clause-err c = unchanged c.from_residual.result c.self.view_is
+
+pub invariant_of-self-in_err-reserve-2 : goal.invariant_of-self-in_err-reserve-2
+invariant_of-self-in_err-reserve-2 c = rw (c.reserve-2.ensures.items, c.reserve.ensures.rows) c.self.invariant
+
+pub returns-in_err-reserve-2-clause-err : goal.returns-in_err-reserve-2-clause-err
+returns-in_err-reserve-2-clause-err c = unchanged c.from_residual-in_err-reserve-2.result (rw c.reserve-2.ensures.items c.self.view_is)
+
+pub invariant_of-self-in_err-place : goal.invariant_of-self-in_err-place
+invariant_of-self-in_err-place c = rw (c.in_err-place.ensures.unchanged, c.reserve-2.ensures.items, c.reserve.ensures.rows) c.self.invariant
+
+pub returns-in_err-place-clause-err : goal.returns-in_err-place-clause-err
+returns-in_err-place-clause-err c = unchanged c.from_residual-in_err-place.result (rw (c.in_err-place.ensures.unchanged, c.reserve-2.ensures.items) c.self.view_is)
+
+pub returns-in_err-record-clause-err : goal.returns-in_err-record-clause-err
+returns-in_err-record-clause-err c = unchanged c.from_residual-in_err-record.result (rw (c.in_ok-place.ensures.sized.2, c.reserve-2.ensures.items) c.self.view_is)
+
+pub returns-clause-ok : goal.returns-clause-ok
+returns-clause-ok c =
+    let pushed = c.push_reserved.ensures.items in
+    rw (c.in_ok-place.ensures.sized.2, ap reverse (pushed ∙ ap (λ (es : List Entry). es ++ c.in_ok-posted.posted ∷ []) c.reserve-2.ensures.items ∙ ap (λ (e : Entry). c.self.inside.posted.items ++ e ∷ []) c.in_ok-posted.ensures) ∙ reverse-append c.self.inside.posted.items (c.args.entry.now ∷ []))
+    (ap (λ (B : Book). record B { posted = c.args.entry.now ∷ B.posted }) c.self.view_is)
