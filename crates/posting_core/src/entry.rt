@@ -36,7 +36,7 @@ pub struct NewSpot {
 }
 
 /// New spots that an entry writes; seen as their list. One alone takes no memory.
-#[derive(Debug, Drop)]
+#[derive(Debug)]
 pub struct NewSpots {
     items: SmallVec<NewSpot, 1>,
 }
@@ -50,6 +50,14 @@ impl Model for NewSpots {
     ghost view = { λ s. s.items.items };
 
     ghost invariant = { λ s. 1 ≤ s.items.capacity };
+}
+
+/// Written out, so that whoever drops new spots calls it.
+impl Drop for NewSpots {
+    fn drop(self) {
+        let NewSpots { items } = self;
+        drop(items);
+    }
 }
 
 impl NewSpots {
