@@ -1,4 +1,4 @@
-use Rattle.std.proofs.Common.{ap, ◌∙◌, reverse, List, ◌∷◌, ◌++◌, [], Result, Ok, Err, OnErr}
+use Rattle.std.proofs.Common.{ap, arith, ◌∙◌, reverse, List, ◌∷◌, ◌++◌, [], Result, Ok, Err, OnErr}
 use Rattle.std.proofs.lemmas.List.{reverse-append}
 use Rattle.posting_core.specs.declared.entry.Entry.{Entry}
 use Rattle.posting_core.specs.declared.entry.Spot.{Spot}
@@ -77,3 +77,9 @@ returns-clause-ok c =
     let pushed = c.push_reserved.ensures.items in
     rw (c.in_ok-place.ensures.sized.2, ap reverse (pushed ∙ ap (λ (es : List Entry). es ++ c.in_ok-posted.posted ∷ []) c.reserve-2.ensures.items ∙ ap (λ (e : Entry). c.self.inside.posted.items ++ e ∷ []) c.in_ok-posted.ensures) ∙ reverse-append c.self.inside.posted.items (c.args.entry.now ∷ []))
     (ap (λ (B : Book). record B { posted = c.args.entry.now ∷ B.posted }) c.self.view_is)
+
+pub push_all-requires-clause-room : goal.push_all-requires-clause-room
+push_all-requires-clause-room c = c.in_ok-reserve.ensures.room
+
+pub push_reserved-requires : goal.push_reserved-requires
+push_reserved-requires c = omega (arith, c.in_ok-reserve-2.ensures.ok)
