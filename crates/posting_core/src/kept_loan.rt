@@ -41,7 +41,7 @@ impl Model for KeptLoan {
     ghost invariant = { λ k. length k.stages.items ≡ length k.objects.keys };
 }
 
-/// Written out, so that whoever drops a loan calls it: a derived drop would stand whole at each of their ways out.
+/// Written out, so that whoever drops a kept loan calls it.
 impl Drop for KeptLoan {
     fn drop(self) {
         let KeptLoan {

@@ -7,12 +7,6 @@ pub returns-in_ok-push-in-Agree-clause-ok : goal.returns-in_ok-push-in-Agree-cla
 returns-in_ok-push-in-Agree-clause-ok c =
     rw c.in-Agree.is (c.in_ok-push-in-Agree.ensures.ok ∙ ap (λ (row : LoanRow). c.args.loans.now ++ row ∷ []) c.in_ok-row-in-Agree.ensures)
 
-pub authorise-requires : goal.authorise-requires
-authorise-requires c = number_within c.args.loans.now c.in-Authorise.loan (rw (c.requires.number, c.in-Authorise.is) refl)
-
-pub returns-in-Authorise-clause-ok : goal.returns-in-Authorise-clause-ok
-returns-in-Authorise-clause-ok c = rw c.in-Authorise.is (c.authorise.ensures c.in-Authorise.loan (rw (c.requires.number, c.in-Authorise.is) refl))
-
 pub cross-requires : goal.cross-requires
 cross-requires c = number_within c.args.loans.now c.in-Exit.loan (rw (c.requires.number, c.in-Exit.is) refl)
 

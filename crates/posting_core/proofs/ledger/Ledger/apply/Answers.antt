@@ -2,7 +2,6 @@ use Rattle.std.proofs.Common.{ap, arith, ◌∙◌, reverse, List, ◌∷◌, �
 use Rattle.std.proofs.lemmas.List.{reverse-append}
 use Rattle.posting_core.specs.declared.entry.Entry.{Entry}
 use Rattle.posting_core.specs.declared.entry.Spot.{Spot}
-use Rattle.posting_core.specs.Book.{Book}
 use Rattle.posting_core.specs.Rows.{rows_after}
 use Rattle.posting_core.proofs.Posted.{planned, planned_within, planned_put, planned_carried, planned_agree, planned_loan, kept_still, kept_after}
 use Rattle.posting_core.proofs.ledger.Ledger.apply.Goals as goal
@@ -71,12 +70,6 @@ returns-in_err-place-clause-err c = unchanged c.from_residual-in_err-place.resul
 
 pub returns-in_err-record-clause-err : goal.returns-in_err-record-clause-err
 returns-in_err-record-clause-err c = unchanged c.from_residual-in_err-record.result (rw (c.in_ok-place.ensures.sized.2, c.reserve-2.ensures.items) c.self.view_is)
-
-pub returns-clause-ok : goal.returns-clause-ok
-returns-clause-ok c =
-    let pushed = c.push_reserved.ensures.items in
-    rw (c.in_ok-place.ensures.sized.2, ap reverse (pushed ∙ ap (λ (es : List Entry). es ++ c.in_ok-posted.posted ∷ []) c.reserve-2.ensures.items ∙ ap (λ (e : Entry). c.self.inside.posted.items ++ e ∷ []) c.in_ok-posted.ensures) ∙ reverse-append c.self.inside.posted.items (c.args.entry.now ∷ []))
-    (ap (λ (B : Book). record B { posted = c.args.entry.now ∷ B.posted }) c.self.view_is)
 
 pub push_all-requires-clause-room : goal.push_all-requires-clause-room
 push_all-requires-clause-room c = c.in_ok-reserve.ensures.room
