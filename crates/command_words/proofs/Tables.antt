@@ -1,10 +1,11 @@
 -- The commands of the table are of those that clap's clauses speak of.
 use Rattle.std.proofs.Common.{◌≡◌, ◌<◌, ◌+◌, ◌∙◌, ◌∷◌, List, [], ap, drop, get_or, length, refl, sym, true, ℕ}
 use Rattle.std.proofs.lemmas.List.{at_drop_more}
-use Rattle.clap.specs.Words.{App, app_of, is_simple_and_free, shape_of, with_subcommand}
+use Rattle.clap.specs.Words.{App, app_of, is_simple_and_free, shape_of, with_rule, with_subcommand}
 use Rattle.clap.specs.declared.builder.command.Command.{Command}
 use Rattle.command_words.specs.Commands.{overview, program_alone, register_app, report_app}
-use Rattle.command_words.specs.Tables.{app_by, with_commands}
+use Rattle.command_words.specs.Tables.{app_by, rule_by, with_arguments, with_commands}
+use Rattle.command_words.specs.declared.options.Argument.{Argument}
 use Rattle.command_words.specs.declared.shapes.Name.{Name}
 use Rattle.command_words.specs.declared.shapes.Name.TheVariants as name
 
@@ -75,3 +76,12 @@ pub one_more : (above next : App) (names : List Name) (i : ℕ) (d : Name) → i
 one_more above next names i d below so_far next_is =
     ap (λ a. with_commands a (drop (i + 1) names)) next_is
     ∙ (sym (at_drop_more (with_commands above) names i d below) ∙ so_far)
+
+-- with one argument more, less is left
+pub one_argument_more : (app next whole_app : App) (arguments : List Argument) (i : ℕ) (d : Argument) → i < length arguments
+    → with_arguments app (drop i arguments) ≡ whole_app
+    → next ≡ with_rule app (rule_by (get_or arguments i d))
+    → with_arguments next (drop (i + 1) arguments) ≡ whole_app
+one_argument_more app next whole_app arguments i d below so_far next_is =
+    ap (λ a. with_arguments a (drop (i + 1) arguments)) next_is
+    ∙ (sym (at_drop_more (with_arguments app) arguments i d below) ∙ so_far)

@@ -1,6 +1,5 @@
 -- What clap reads of the tables of commands and arguments.
-use Rattle.std.specs.Prelude.{◌∷◌, [], List, None, Option, Some}
-use Rattle.std.specs.Borrow.{Bor}
+use Rattle.std.specs.Prelude.{◌∷◌, [], List}
 use Rattle.clap.specs.Words.{App, Rule, Text, with_rule, with_subcommand}
 use Rattle.command_words.specs.Commands.{at, away, contents, count, explain, flag_rule, history, loan}
 use Rattle.command_words.specs.Commands.{migrate, option_rule, overdue, posted, replay, serve, stations}
@@ -21,10 +20,11 @@ rule_as Words id = words_rule id
 abbrev pub rule_by : Argument → Rule
 rule_by argument = rule_as argument.kind argument.id.now
 
--- a command with an argument of its own, if it has one
-abbrev pub with_own : App → Option (Bor Argument) → App
-with_own app (Some own) = with_rule app (rule_by own.now)
-with_own app None = app
+-- a command with these arguments more
+abbrev pub with_arguments : App → List Argument → App
+with_arguments app [] = app
+with_arguments app (argument ∷ arguments) =
+    with_arguments (with_rule app (rule_by argument)) arguments
 
 -- the command of this name
 unfoldable pub app_by : Name → App

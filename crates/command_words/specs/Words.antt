@@ -1,6 +1,6 @@
 -- What the words of a command line choose, and why they choose nothing.
 use Rattle.std.specs.Prelude.{◌≡◌, ◌≢◌, ◌∷◌, [], ℕ, Bool, List, Option, Result, Some, None, MatchResult, codes, find, is_some}
-use Rattle.std.specs.Prelude.{false, if◌then◌else◌, map, not, option_map, slice_get, true, unwrap_or}
+use Rattle.std.specs.Prelude.{◌&&◌, false, if◌then◌else◌, map, not, option_map, slice_get, true, unwrap_or}
 use Rattle.std.specs.Borrow.{Bor}
 use Rattle.std.specs.List.{list_any}
 use Rattle.std.specs.Option.{option_and_then, option_map_or}
@@ -18,7 +18,6 @@ use Rattle.command_words.specs.Commands.{stations, where_is}
 use Rattle.command_words.specs.declared.reading.Files.{Files}
 use Rattle.command_words.specs.declared.reading.Record.{Record}
 use Rattle.command_words.specs.declared.reading.Report.{Report}
-use Rattle.command_words.specs.declared.reading.Asked.{Asked}
 use Rattle.command_words.specs.declared.command.Format.{Format}
 use Rattle.command_words.specs.declared.command.Format.TheVariants.{Csv, Json, Lines}
 use Rattle.command_words.specs.declared.command.Chosen.{Chosen}
@@ -175,11 +174,6 @@ FromRefusal error NoMemory = kind_of error ≡ OutOfMemory
 abbrev pub IsRead : App → List Text → List Row → Type 0
 IsRead app words rows = (fault_of app words ≡ []) × (rows ≡ matches_of app words)
 
--- clap takes the words of a report, makes these rows of them, and this form is asked for
-abbrev pub IsReadAs : App → List Text → List Row → Format → Type 0
-IsReadAs app words rows format = (report_kinds app words ≡ []) × (rows ≡ matches_of app words)
-    × (format_in app words ≡ Some format)
-
 -- clap takes the words of a command, which name these files
 abbrev pub GivesFiles : App → List Text → Files → Type 0
 GivesFiles app words files = (fault_of app words ≡ [])
@@ -199,19 +193,24 @@ GivesReport app words report = (report_kinds app words ≡ [])
     × (value app words (codes "store") ≡ Some report.store.now)
     × (format_in app words ≡ Some report.format)
 
--- the words of a report are taken, and name these files, the form of its rows and this value of one argument more
-abbrev pub GivesAsked : App → List Text → Text → Asked → Type 0
-GivesAsked app words id asked = (report_kinds app words ≡ [])
-    × (value app words (codes "setup") ≡ text_of asked.files.setup)
-    × (value app words (codes "store") ≡ text_of asked.files.store)
-    × (format_in app words ≡ Some asked.format)
-    × (value app words id ≡ text_of asked.own)
+-- the form of a report's rows, in clap's matches
+abbrev pub format_found : List Row → Option Format
+format_found rows =
+    format_by (is_true (first_of (codes "csv") rows)) (is_true (first_of (codes "json") rows))
 
--- the words of a report are refused, or memory ran out
-abbrev pub IsRefusedReport : App → List Text → WordsFault → Type 0
-IsRefusedReport app words (Refused error) = IsAmong (kind_of error) (report_kinds app words)
-IsRefusedReport app words Missing = ⊥
-IsRefusedReport app words NoMemory = Unit {0}
+-- clap's matches have both files, and the form of a report's rows
+abbrev pub HoldsReport : List Row → Report → Type 0
+HoldsReport rows report = (first_of (codes "setup") rows ≡ Some report.setup.now)
+    × (first_of (codes "store") rows ≡ Some report.store.now)
+    × (format_found rows ≡ Some report.format)
+
+-- clap's matches have both forms at once, or lack a file, or memory ran out
+abbrev pub IsNoReport : List Row → WordsFault → Type 0
+IsNoReport rows (Refused error) =
+    (format_found rows ≡ None) × (kind_of error ≡ ArgumentConflict)
+IsNoReport rows Missing = (is_some (format_found rows) ≡ true)
+    × (is_some (first_of (codes "setup") rows) && is_some (first_of (codes "store") rows) ≡ false)
+IsNoReport rows NoMemory = Unit {0}
 
 -- clap refuses the words of a command, or memory ran out
 abbrev pub IsRefused : App → List Text → WordsFault → Type 0

@@ -4,12 +4,12 @@ ghost use Rattle.clap.specs.Faults.{fault_of, is_simple_and_free};
 ghost use Rattle.clap.specs.Words.{app_of, first_of, found_of, kind_of, rows_of};
 ghost use Rattle.command_words.specs.Commands.{all_needed, both_needed, one_needed, report};
 ghost use Rattle.command_words.specs.Tables.{app_by};
-ghost use Rattle.command_words.specs.Words.{GivesAsked, GivesFiles, GivesRecord, GivesReport, IsFaultBy};
-ghost use Rattle.command_words.specs.Words.{IsRead, IsReadAs, IsRefused, IsRefusedReport, all_in, is_given};
-ghost use Rattle.command_words.specs.Words.{format_by, is_true, text_of, texts_of, value, values};
+ghost use Rattle.command_words.specs.Words.{GivesFiles, GivesRecord, GivesReport, HoldsReport, IsFaultBy};
+ghost use Rattle.command_words.specs.Words.{IsNoReport, IsRead, IsRefused, all_in, format_by, is_given};
+ghost use Rattle.command_words.specs.Words.{is_true, text_of, texts_of, value, values};
 ghost use Rattle.command_words.specs.declared.command.WordsFault.TheVariants.{Missing, NoMemory};
 
-use crate::shapes::{Name, command_of};
+use crate::shapes::{Name, bare, command_of};
 use crate::{Format, WordsFault};
 use clap::error::ErrorKind;
 use clap::{ArgMatches, Command, Error};
@@ -37,41 +37,17 @@ pub(crate) struct Report<'a> {
     pub format: Format,
 }
 
-/// What the words give a report: its files, where they name them, the form of its rows, and the value of one argument
-/// more.
-#[derive(Clone, Copy)]
-struct Asked<'a> {
-    files: Files<'a>,
-    format: Format,
-    own: Option<&'a str>,
-}
-
-/// What `clap` makes of the words, or why it refuses them; the command stays.
-pub(crate) fn read_on<'a>(
-    command: &mut Command<'a>,
+/// What `clap` makes of the words, or why it refuses them.
+pub(crate) fn read_by<'a>(
+    command: Command<'a>,
     words: &'a [&'a str],
 ) -> Result<ArgMatches<'a>, WordsFault>
-    requires { is_simple_and_free (app_of command.old) ≡ true }
+    requires { is_simple_and_free (app_of command) ≡ true }
     ensures { MatchResult result
-        (λ m. IsRead (app_of command.old) (texts_of words.now) (rows_of (found_of m)))
-        (IsRefused (app_of command.old) (texts_of words.now)) }
+        (λ m. IsRead (app_of command.entry) (texts_of words.now) (rows_of (found_of m)))
+        (IsRefused (app_of command.entry) (texts_of words.now)) }
 {
-    Ok(command.try_get_matches_from_mut(words)?)
-}
-
-/// What `clap` makes of the words of a command, or why it refuses them, with the command.
-fn read_with_command<'a>(
-    alloc: Global,
-    name: Name,
-    words: &'a [&'a str],
-) -> Result<(Command<'a>, ArgMatches<'a>), WordsFault>
-    ensures { MatchResult result
-        (λ r. IsRead (app_by name) (texts_of words.now) (rows_of (found_of r.1)))
-        (IsRefused (app_by name) (texts_of words.now)) }
-{
-    let mut command = command_of(alloc, name)?;
-    let matches = read_on(&mut command, words)?;
-    Ok((command, matches))
+    Ok(command.try_get_matches_from(words)?)
 }
 
 /// What `clap` makes of the words of a command, or why it refuses them.
@@ -80,8 +56,7 @@ fn read<'a>(alloc: Global, name: Name, words: &'a [&'a str]) -> Result<ArgMatche
         (λ m. IsRead (app_by name) (texts_of words.now) (rows_of (found_of m)))
         (IsRefused (app_by name) (texts_of words.now)) }
 {
-    let (_command, matches) = read_with_command(alloc, name, words)?;
-    Ok(matches)
+    read_by(command_of(alloc, name)?, words)
 }
 
 /// The value of an argument, if it is there.
@@ -217,50 +192,37 @@ pub(crate) fn read_record<'a>(
     })
 }
 
-/// What `clap` makes of the words of a report, and the form of its rows. Two forms at once are refused as `clap` refuses
-/// two options that exclude each other.
-fn read_format<'a>(
+/// The setup and the store of a report, and the form of its rows. Two forms at once are refused as `clap` refuses two
+/// options that exclude each other.
+fn report_in<'a, 'b>(
     alloc: Global,
     name: Name,
-    words: &'a [&'a str],
-) -> Result<(ArgMatches<'a>, Format), WordsFault>
+    found: &'b ArgMatches<'a>,
+) -> Result<Report<'a>, WordsFault>
     ensures { MatchResult result
-        (λ r. IsReadAs (app_by name) (texts_of words.now) (rows_of (found_of r.0)) r.1)
-        (IsRefusedReport (app_by name) (texts_of words.now)) }
+        (HoldsReport (rows_of (found_of found.now)))
+        (IsNoReport (rows_of (found_of found.now))) }
 {
-    let (command, matches) = read_with_command(alloc, name, words)?;
-    match format_of(is_set(&matches, "csv"), is_set(&matches, "json")) {
-        Some(format) => Ok((matches, format)),
-        None => Err(WordsFault::Refused(both_formats(command)?)),
-    }
+    let Some(format) = format_of(is_set(found, "csv"), is_set(found, "json")) else {
+        return Err(WordsFault::Refused(both_formats(alloc, name)?));
+    };
+    let files = files_of(found);
+    Ok(Report {
+        setup: needed(files.setup)?,
+        store: needed(files.store)?,
+        format,
+    })
 }
 
 /// `clap`'s error for two options that exclude each other.
-fn both_formats(mut command: Command<'_>) -> Result<Error, AllocError>
+fn both_formats(alloc: Global, name: Name) -> Result<Error, AllocError>
     ensures { IfOk result (λ e. kind_of e ≡ ErrorKind.ArgumentConflict) }
 {
+    let mut command = bare(alloc, name);
     command.error(
         ErrorKind::ArgumentConflict,
         "the argument '--csv' cannot be used with '--json'",
     )
-}
-
-/// What the words give a report, and the value of one argument more.
-fn read_asked<'a>(
-    alloc: Global,
-    name: Name,
-    words: &'a [&'a str],
-    id: &'static str,
-) -> Result<Asked<'a>, WordsFault>
-    ensures { MatchResult result
-        (GivesAsked (app_by name) (texts_of words.now) id.now)
-        (IsRefusedReport (app_by name) (texts_of words.now)) }
-{
-    let (matches, format) = read_format(alloc, name, words)?;
-    let files = files_of(&matches);
-    let own = one(&matches, id);
-    drop(matches);
-    Ok(Asked { files, format, own })
 }
 
 /// The setup and the store of a report, and the form of its rows.
@@ -273,14 +235,27 @@ pub(crate) fn read_report<'a>(
         (GivesReport (app_by name) (texts_of words.now))
         (IsFaultBy (Some (report (both_needed (app_by name)))) (texts_of words.now)) }
 {
-    let (matches, format) = read_format(alloc, name, words)?;
-    let files = files_of(&matches);
+    let matches = read(alloc, name, words)?;
+    report_in(alloc, name, &matches)
+}
+
+/// What a report needs, and the value of one argument more, if it is there.
+pub(crate) fn read_report_and_perhaps<'a>(
+    alloc: Global,
+    name: Name,
+    words: &'a [&'a str],
+    id: &'static str,
+) -> Result<(Report<'a>, Option<&'a str>), WordsFault>
+    ensures { MatchResult result
+        (λ r. GivesReport (app_by name) (texts_of words.now) r.0
+        × (value (app_by name) (texts_of words.now) id.now ≡ text_of r.1))
+        (IsFaultBy (Some (report (both_needed (app_by name)))) (texts_of words.now)) }
+{
+    let matches = read(alloc, name, words)?;
+    let report = report_in(alloc, name, &matches);
+    let own = one(&matches, id);
     drop(matches);
-    Ok(Report {
-        setup: needed(files.setup)?,
-        store: needed(files.store)?,
-        format,
-    })
+    Ok((report?, own))
 }
 
 /// What a report needs, and the value of one argument more, which it needs too.
@@ -296,34 +271,8 @@ pub(crate) fn read_report_and<'a>(
         (IsFaultBy (Some (report (all_needed (app_by name) id.now)))
         (texts_of words.now)) }
 {
-    let asked = read_asked(alloc, name, words, id)?;
-    let report = Report {
-        setup: needed(asked.files.setup)?,
-        store: needed(asked.files.store)?,
-        format: asked.format,
-    };
-    Ok((report, needed(asked.own)?))
-}
-
-/// What a report needs, and the value of one argument more, if it is there.
-pub(crate) fn read_report_and_perhaps<'a>(
-    alloc: Global,
-    name: Name,
-    words: &'a [&'a str],
-    id: &'static str,
-) -> Result<(Report<'a>, Option<&'a str>), WordsFault>
-    ensures { MatchResult result
-        (λ r. GivesReport (app_by name) (texts_of words.now) r.0
-        × (value (app_by name) (texts_of words.now) id.now ≡ text_of r.1))
-        (IsFaultBy (Some (report (both_needed (app_by name)))) (texts_of words.now)) }
-{
-    let asked = read_asked(alloc, name, words, id)?;
-    let report = Report {
-        setup: needed(asked.files.setup)?,
-        store: needed(asked.files.store)?,
-        format: asked.format,
-    };
-    Ok((report, asked.own))
+    let (report, own) = read_report_and_perhaps(alloc, name, words, id)?;
+    Ok((report, needed(own)?))
 }
 
 /// The value of the one argument of a command that needs no more.

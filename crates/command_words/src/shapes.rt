@@ -1,11 +1,11 @@
 //! The commands with their arguments, as `clap` reads them.
 ghost use Rattle.std.specs.Prelude.{◌≡◌, IfOk, true};
-ghost use Rattle.clap.specs.Words.{app_of, shape_of, with_subcommand};
-ghost use Rattle.command_words.specs.Commands.{explain, overview, program_alone};
-ghost use Rattle.command_words.specs.Tables.{app_by};
+ghost use Rattle.clap.specs.Words.{app_of, new_app, shape_of, with_subcommand};
+ghost use Rattle.command_words.specs.Commands.{overview, program_alone};
+ghost use Rattle.command_words.specs.Tables.{app_by, with_arguments};
 
-use crate::options::{Argument, Kind, over_a_register, report, with, with_help};
-use crate::texts;
+use crate::options::{Argument, CSV, JSON, Kind, SETUP, STORE, with, with_help};
+use crate::texts::{self, Help};
 use clap::Command;
 use std::alloc::{AllocError, Global};
 
@@ -119,35 +119,89 @@ const FROM: Argument = Argument {
     help: "The number of the first entry that is listed",
 };
 
-/// The command of this name.
-#[tactic(auto, unfolding(crate::specs::Tables::app_by))]
-pub(crate) fn command_of<'a>(alloc: Global, name: Name) -> Result<Command<'a>, AllocError>
-    ensures { IfOk result (λ r. app_of r ≡ app_by name) }
+/// The word that names a command.
+#[tactic(auto, unfolding(crate::specs::Tables::app_by, crate::specs::Commands::register_app, crate::specs::Commands::report_app))]
+fn word_of(name: Name) -> &'static str
+    ensures { result.now ≡ (app_by name).top.name }
 {
     match name {
-        Name::Replay => over_a_register(alloc, "replay", &texts::REPLAY, Some(&PROGRESS)),
-        Name::Serve => over_a_register(alloc, "serve", &texts::SERVE, Some(&FEEDS)),
-        Name::Count => report(alloc, "count", &texts::COUNT, Some(&LIST)),
-        Name::Overdue => report(alloc, "overdue", &texts::OVERDUE, Some(&DAY)),
-        Name::Away => report(alloc, "away", &texts::AWAY, None),
-        Name::History => report(alloc, "history", &texts::HISTORY, Some(&THING)),
-        Name::Migrate => over_a_register(alloc, "migrate", &texts::MIGRATE, None),
-        Name::Explain => explain_command(alloc),
-        Name::Stations => report(alloc, "stations", &texts::STATIONS, None),
-        Name::Where => report(alloc, "where", &texts::WHERE, Some(&THING)),
-        Name::Contents => report(alloc, "contents", &texts::CONTENTS, Some(&CONTAINER)),
-        Name::Loan => report(alloc, "loan", &texts::LOAN, Some(&LOAN)),
-        Name::At => report(alloc, "at", &texts::AT, Some(&PLACE)),
-        Name::Posted => report(alloc, "posted", &texts::POSTED, Some(&FROM)),
+        Name::Replay => "replay",
+        Name::Serve => "serve",
+        Name::Count => "count",
+        Name::Overdue => "overdue",
+        Name::Away => "away",
+        Name::History => "history",
+        Name::Migrate => "migrate",
+        Name::Explain => "explain",
+        Name::Stations => "stations",
+        Name::Where => "where",
+        Name::Contents => "contents",
+        Name::Loan => "loan",
+        Name::At => "at",
+        Name::Posted => "posted",
     }
 }
 
-/// The one command over no register.
-fn explain_command<'a>(alloc: Global) -> Result<Command<'a>, AllocError>
-    ensures { IfOk result (λ r. app_of r ≡ explain.app) }
+/// What the help says of a command.
+fn help_of(name: Name) -> &'static Help {
+    match name {
+        Name::Replay => &texts::REPLAY,
+        Name::Serve => &texts::SERVE,
+        Name::Count => &texts::COUNT,
+        Name::Overdue => &texts::OVERDUE,
+        Name::Away => &texts::AWAY,
+        Name::History => &texts::HISTORY,
+        Name::Migrate => &texts::MIGRATE,
+        Name::Explain => &texts::EXPLAIN,
+        Name::Stations => &texts::STATIONS,
+        Name::Where => &texts::WHERE,
+        Name::Contents => &texts::CONTENTS,
+        Name::Loan => &texts::LOAN,
+        Name::At => &texts::AT,
+        Name::Posted => &texts::POSTED,
+    }
+}
+
+/// The arguments of a command, in their order.
+#[tactic(auto, unfolding(crate::specs::Tables::app_by, crate::specs::Commands::register_app, crate::specs::Commands::report_app))]
+fn arguments_of(name: Name) -> &'static [Argument]
+    ensures { with_arguments (new_app (app_by name).top.name) result.now ≡ app_by name }
 {
-    let command = with_help(Command::new(alloc, "explain"), &texts::EXPLAIN);
-    with(alloc, command, &WORD)
+    match name {
+        Name::Replay => &[SETUP, STORE, PROGRESS],
+        Name::Serve => &[SETUP, STORE, FEEDS],
+        Name::Count => &[SETUP, STORE, LIST, CSV, JSON],
+        Name::Overdue => &[SETUP, STORE, DAY, CSV, JSON],
+        Name::Away => &[SETUP, STORE, CSV, JSON],
+        Name::History => &[SETUP, STORE, THING, CSV, JSON],
+        Name::Migrate => &[SETUP, STORE],
+        Name::Explain => &[WORD],
+        Name::Stations => &[SETUP, STORE, CSV, JSON],
+        Name::Where => &[SETUP, STORE, THING, CSV, JSON],
+        Name::Contents => &[SETUP, STORE, CONTAINER, CSV, JSON],
+        Name::Loan => &[SETUP, STORE, LOAN, CSV, JSON],
+        Name::At => &[SETUP, STORE, PLACE, CSV, JSON],
+        Name::Posted => &[SETUP, STORE, FROM, CSV, JSON],
+    }
+}
+
+/// A command with its help, and none of its arguments yet.
+pub(crate) fn bare<'a>(alloc: Global, name: Name) -> Command<'a>
+    ensures { app_of result ≡ new_app (app_by name).top.name }
+{
+    let word: &'a str = word_of(name);
+    with_help(Command::new(alloc, word), help_of(name))
+}
+
+/// The command of this name.
+pub(crate) fn command_of<'a>(alloc: Global, name: Name) -> Result<Command<'a>, AllocError>
+    ensures { IfOk result (λ r. app_of r ≡ app_by name) }
+{
+    let mut command = bare(alloc, name);
+    for argument in arguments_of(name) {
+        command = with(alloc, command, argument)?;
+    }
+    Ok(command)
 }
 
 /// A command with one subcommand more.

@@ -7,7 +7,7 @@ ghost use Rattle.command_words.specs.Words.{Chooses, IsChosen, IsFault, IsNamed,
 
 use crate::questions::{at, contents, explain, loan, posted, stations, where_is};
 use crate::reading::{
-    needed, read_files_and_all, read_files_and_flag, read_on, read_record, read_report,
+    needed, read_by, read_files_and_all, read_files_and_flag, read_record, read_report,
     read_report_and,
 };
 use crate::shapes::{self, Name};
@@ -145,8 +145,7 @@ fn no_command<'a>(alloc: Global, words: &'a [&'a str]) -> Result<Chosen<'a>, Wor
     ensures { Chooses None (texts_of words.now) result }
 {
     let line = whole_line(alloc, words)?;
-    let mut command = shapes::overview_command(alloc)?;
-    drop(read_on(&mut command, line.as_slice())?);
+    drop(read_by(shapes::overview_command(alloc)?, line.as_slice())?);
     Err(WordsFault::Missing)
 }
 

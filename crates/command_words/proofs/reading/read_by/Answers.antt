@@ -1,5 +1,5 @@
 use Rattle.std.proofs.Common.{◌≡◌, ◌&&◌, Bool, true, false, refl}
-use Rattle.command_words.proofs.reading.read_on.Goals as goal
+use Rattle.command_words.proofs.reading.read_by.Goals as goal
 
 first_holds : (a b : Bool) → (a && b) ≡ true → a ≡ true
 first_holds true b e = refl
@@ -7,6 +7,6 @@ first_holds false b e = e
 
 pub returns : goal.returns
 returns c = (
-  c.in_ok-try_get_matches_from_mut.ensures.kinds c.requires,
-  (c.in_ok-try_get_matches_from_mut.ensures.ok.2 (first_holds _ _ c.requires)).0,
+  c.in_ok-try_get_matches_from.ensures.kinds c.requires,
+  (c.in_ok-try_get_matches_from.ensures.matches (first_holds _ _ c.requires)).0,
 )
