@@ -1,12 +1,12 @@
 //! The arguments of a command.
-ghost use Rattle.std.specs.Prelude.{◌≡◌, false, IfOk};
-ghost use Rattle.clap.specs.Words.{app_of, rule_of, with_rule};
+ghost use Rattle.std.specs.Prelude.{◌≡◌, false};
+ghost use Rattle.clap.specs.Words.{app_of, rule_of};
 ghost use Rattle.command_words.specs.Commands.{flag_rule, option_rule, word_rule, words_rule};
 ghost use Rattle.command_words.specs.Tables.{rule_by};
 
 use crate::texts::Help;
 use clap::{Arg, ArgAction, Command};
-use std::alloc::{AllocError, Global};
+use std::alloc::Global;
 
 /// How an argument takes its values.
 #[derive(Clone, Copy)]
@@ -59,7 +59,7 @@ pub(crate) const JSON: Argument = Argument {
 };
 
 /// An argument as `clap` reads it.
-fn made<'a>(alloc: Global, argument: &Argument) -> Arg<'a>
+pub(crate) fn made<'a>(alloc: Global, argument: &Argument) -> Arg<'a>
     ensures rule { rule_of result ≡ rule_by argument.now }
     ensures local { result.global ≡ false }
 {
@@ -74,18 +74,6 @@ fn made<'a>(alloc: Global, argument: &Argument) -> Arg<'a>
         Kind::Word => made.value_name(argument.value).action(ArgAction::Set),
         Kind::Words => made.value_name(argument.value).action(ArgAction::Append),
     }
-}
-
-/// A command with one argument more.
-pub(crate) fn with<'a>(
-    alloc: Global,
-    command: Command<'a>,
-    argument: &Argument,
-) -> Result<Command<'a>, AllocError>
-    ensures { IfOk result (λ r.
-        app_of r ≡ with_rule (app_of command.entry) (rule_by argument.now)) }
-{
-    command.arg(made(alloc, argument))
 }
 
 /// A command with its help.

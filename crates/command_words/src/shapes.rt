@@ -1,10 +1,10 @@
 //! The commands with their arguments, as `clap` reads them.
-ghost use Rattle.std.specs.Prelude.{◌≡◌, IfOk, true};
-ghost use Rattle.clap.specs.Words.{app_of, new_app, shape_of, with_subcommand};
+ghost use Rattle.std.specs.Prelude.{◌≡◌, IfOk};
+ghost use Rattle.clap.specs.Words.{app_of, new_app};
 ghost use Rattle.command_words.specs.Commands.{overview, program_alone};
 ghost use Rattle.command_words.specs.Tables.{app_by, with_arguments};
 
-use crate::options::{Argument, CSV, JSON, Kind, SETUP, STORE, with, with_help};
+use crate::options::{Argument, CSV, JSON, Kind, SETUP, STORE, made, with_help};
 use crate::texts::{self, Help};
 use clap::Command;
 use std::alloc::{AllocError, Global};
@@ -199,18 +199,9 @@ pub(crate) fn command_of<'a>(alloc: Global, name: Name) -> Result<Command<'a>, A
 {
     let mut command = bare(alloc, name);
     for argument in arguments_of(name) {
-        command = with(alloc, command, argument)?;
+        command = command.arg(made(alloc, argument))?;
     }
     Ok(command)
-}
-
-/// A command with one subcommand more.
-fn with_command<'a>(above: Command<'a>, command: Command<'a>) -> Result<Command<'a>, AllocError>
-    requires { (shape_of command).is_plain ≡ true }
-    ensures { IfOk result (λ r.
-        app_of r ≡ with_subcommand (app_of above.entry) (shape_of command.entry)) }
-{
-    above.subcommand(command)
 }
 
 /// The program with none of its commands yet.
@@ -227,7 +218,7 @@ pub(crate) fn overview_command<'a>(alloc: Global) -> Result<Command<'a>, AllocEr
 {
     let mut command = program(alloc);
     for name in &NAMES {
-        command = with_command(command, command_of(alloc, *name)?)?;
+        command = command.subcommand(command_of(alloc, *name)?)?;
     }
     Ok(command)
 }

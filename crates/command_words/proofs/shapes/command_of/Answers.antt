@@ -1,5 +1,5 @@
 use Rattle.std.proofs.Common.{◌∙◌, ap}
-use Rattle.clap.specs.Words.{app_of}
+use Rattle.clap.specs.Words.{app_of, with_rule}
 use Rattle.command_words.specs.Tables.{with_arguments}
 use Rattle.command_words.proofs.Tables.{one_argument_more}
 use Rattle.command_words.proofs.shapes.command_of.Goals as goal
@@ -11,4 +11,5 @@ loop-argument-init c =
 pub loop-argument-preserved : goal.loop-argument-preserved
 loop-argument-preserved c =
     one_argument_more (app_of c.loop-argument.command) (app_of c.in_ok-command.command) _ _ c.loop-argument.argument-index _
-    c.loop-argument-test.true c.loop-argument.invariant c.in_ok-command.ensures
+    c.loop-argument-test.true c.loop-argument.invariant
+    (c.in_ok-command.ensures.shape c.made.ensures.local ∙ ap (with_rule (app_of c.loop-argument.command)) c.made.ensures.rule)
