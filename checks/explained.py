@@ -38,8 +38,8 @@ def told(formats):
 
 def main():
     program, formats = os.path.abspath(sys.argv[1]), text_of("docs", "FORMATS.md")
-    table = text_of("crates", "hub_program", "src", "explain.rt").partition("MEANINGS: &[Meaning]")[2]
-    known = re.findall(r'\(\s*"(\w+)",', table)
+    table = text_of("crates", "hub_program", "src", "explain.rt").partition("MEANINGS: &str")[2]
+    known = re.findall(r"^(\w+): ", table, re.M)
     wrong = [f"{name}: twice" for name in set(known) if known.count(name) > 1]
     wrong += [f"{name}: only in docs/FORMATS.md" for name in told(formats) - set(known)]
     wrong += [f"{name}: only explained" for name in set(known) - told(formats)]

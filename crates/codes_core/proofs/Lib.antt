@@ -6,3 +6,4 @@ pub mod FirstGroup
 pub mod Segments
 pub mod Texts
 pub mod WorkedRows
+pub mod WorkedTexts
