@@ -1,7 +1,7 @@
 //! Migrations of a store of version 1 whose disk stops at each of its calls in turn.
 
 use super::disks::{Pair, Stops, copied, left_after, new_files};
-use super::sending::{Ended, SETUP, Sent, Stored, closed, opened, run};
+use super::sending::{Ended, SETUP, Sent, Task, over_files, run};
 use nest_core::Setup;
 use register_sql::SqlRegister;
 use register_store::StoreFault;
@@ -145,54 +145,55 @@ fn is_answered(alloc: Global, store: &Pair, setup: &Setup, text: &str, answer: A
 
 /// The files of a store to which this was done; none where it can't be.
 fn changed<D: Disk + Drop>(alloc: Global, files: Files<D>, text: &str) -> Option<Files<D>> {
-    match opened(alloc, files) {
-        Some(Ok(register)) => changed_store(register, text),
-        Some(Err(files)) => {
-            drop(files);
-            None
-        }
-        None => None,
-    }
+    let ended = over_files(alloc, files, Changing { text })?;
+    Some(ended.files)
 }
 
-/// The same of the store of this register.
-fn changed_store<D: Disk + Drop>(register: Stored<D>, text: &str) -> Option<Files<D>> {
-    let (store, done) = after(register, text);
-    let files = store.close();
-    if done {
-        Some(files)
-    } else {
-        drop(files);
+/// The statements of a text are done.
+#[derive(Clone, Copy)]
+struct Changing<'a> {
+    text: &'a str,
+}
+
+impl Task for Changing<'_> {
+    type Given = ();
+
+    fn done<S: Alter + Drop>(self, _alloc: Global, register: SqlRegister<S>) -> (S, Option<()>) {
+        let mut conn = register.into_connection();
+        let done = conn.execute_batch(self.text).ok();
+        (conn.into_store(), done)
+    }
+
+    fn unopened() -> Option<()> {
         None
     }
 }
 
-/// The store of this register, and whether this could be done to it.
-fn after<S: Alter + Drop>(register: SqlRegister<S>, text: &str) -> (S, bool) {
-    let mut conn = register.into_connection();
-    let done = conn.execute_batch(text).is_ok();
-    (conn.into_store(), done)
-}
-
-/// A migration of the store in the files, with this setup. Where they aren't opened, that is Store.
+/// A migration of the store in the files, with this setup.
 fn migrated<D: Disk + Drop>(
     alloc: Global,
     files: Files<D>,
     setup: &Setup,
 ) -> Option<Ended<Answer, D>> {
-    match opened(alloc, files) {
-        Some(Ok(mut register)) => {
-            let given = register.migrate(alloc, setup);
-            Some(Ended {
-                files: closed(register),
-                given,
-            })
-        }
-        Some(Err(files)) => Some(Ended {
-            files,
-            given: Err(StoreFault::Store),
-        }),
-        None => None,
+    over_files(alloc, files, Migrating { setup })
+}
+
+/// The store is migrated; where its files aren't opened, that is Store.
+#[derive(Clone, Copy)]
+struct Migrating<'a> {
+    setup: &'a Setup,
+}
+
+impl Task for Migrating<'_> {
+    type Given = Answer;
+
+    fn done<S: Alter + Drop>(self, alloc: Global, mut register: SqlRegister<S>) -> (S, Option<Answer>) {
+        let answer = register.migrate(alloc, self.setup);
+        (register.into_connection().into_store(), Some(answer))
+    }
+
+    fn unopened() -> Option<Answer> {
+        Some(Err(StoreFault::Store))
     }
 }
 

@@ -4,13 +4,10 @@ use hub_core::{Answer, Arrival, Hub, HubFault};
 use nest_core::Setup;
 use register_sql::SqlRegister;
 use register_store::{Register, read_message};
-use sqlite::{Alter, Connection, FileStore, Files, Options};
+use sqlite::{Alter, Connection, Files, Options};
 use sqlite_disk::Disk;
 use station_core::Refusal;
 use std::alloc::Global;
-
-/// A register over two files.
-pub(crate) type Stored<D> = SqlRegister<FileStore<D>>;
 
 pub(crate) const SETUP: &str =
     "station,GAL\nplace,S1,inside\nplace,MUSEUM-X,elsewhere\nbox,C1\nown,2001.4.1,S1\n";
@@ -39,55 +36,73 @@ const UNOPENED: Sent = Sent {
 
 /// What was done over a store, and the store's files.
 #[derive(Drop)]
-pub(crate) struct Ended<T, D: Disk> {
+pub(crate) struct Ended<T: Drop, D: Disk> {
     pub(crate) files: Files<D>,
     pub(crate) given: T,
 }
 
-/// A register over the files, or the files where they aren't opened; none where they may not be used.
-pub(crate) fn opened<D: Disk + Drop>(
+/// What is done with a store.
+pub(crate) trait Task: Copy {
+    /// What comes of it.
+    type Given: Drop;
+
+    /// Does it by the store's register; gives the store back, and what came of it, where that could be judged.
+    fn done<S: Alter + Drop>(self, alloc: Global, register: SqlRegister<S>) -> (S, Option<Self::Given>);
+
+    /// What comes of it where the files aren't opened.
+    fn unopened() -> Option<Self::Given>;
+}
+
+/// Opens the files, does the task with their store, and closes them; none where they may not be used, or where what was
+/// done couldn't be judged.
+pub(crate) fn over_files<T: Task, D: Disk + Drop>(
     alloc: Global,
     files: Files<D>,
-) -> Option<Result<Stored<D>, Files<D>>> {
+    task: T,
+) -> Option<Ended<T::Given, D>> {
     if !files.log.may_be_used() || !files.db.may_be_used() {
         drop(files);
         return None;
     }
     match Connection::open_files(alloc, files, Options::new(7)) {
-        Ok(conn) => Some(Ok(SqlRegister::adopt(conn))),
-        Err((_, left)) => Some(Err(left.into_files())),
-    }
-}
-
-/// The files of a register that is over.
-pub(crate) fn closed<D: Disk + Drop>(register: Stored<D>) -> Files<D> {
-    store_of(register).close()
-}
-
-fn store_of<S: Alter + Drop>(register: SqlRegister<S>) -> S {
-    register.into_connection().into_store()
-}
-
-/// Opens a hub over the files, and sends it the three messages.
-pub(crate) fn run<D: Disk + Drop>(alloc: Global, files: Files<D>) -> Option<Ended<Sent, D>> {
-    match opened(alloc, files) {
-        Some(Ok(register)) => {
-            let (register, sent) = over(alloc, register);
-            judged(closed(register), sent)
+        Ok(conn) => {
+            let (store, given) = task.done(alloc, SqlRegister::adopt(conn));
+            judged(store.close(), given)
         }
-        Some(Err(files)) => judged(files, Some(UNOPENED)),
-        None => None,
+        Err((_, left)) => judged(left.into_files(), T::unopened()),
     }
 }
 
-/// The files with what a run over them did, where it could be judged.
-fn judged<D: Disk + Drop>(files: Files<D>, sent: Option<Sent>) -> Option<Ended<Sent, D>> {
-    match sent {
+/// The files with what was done over them, where it could be judged.
+fn judged<T: Drop, D: Disk + Drop>(files: Files<D>, given: Option<T>) -> Option<Ended<T, D>> {
+    match given {
         Some(given) => Some(Ended { files, given }),
         None => {
             drop(files);
             None
         }
+    }
+}
+
+/// Opens a hub over the files, and sends it the three messages.
+pub(crate) fn run<D: Disk + Drop>(alloc: Global, files: Files<D>) -> Option<Ended<Sent, D>> {
+    over_files(alloc, files, Sending)
+}
+
+/// The three messages are sent to a hub over the store.
+#[derive(Clone, Copy)]
+struct Sending;
+
+impl Task for Sending {
+    type Given = Sent;
+
+    fn done<S: Alter + Drop>(self, alloc: Global, register: SqlRegister<S>) -> (S, Option<Sent>) {
+        let (register, sent) = over(alloc, register);
+        (register.into_connection().into_store(), sent)
+    }
+
+    fn unopened() -> Option<Sent> {
+        Some(UNOPENED)
     }
 }
 
