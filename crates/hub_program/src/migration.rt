@@ -5,6 +5,8 @@ use crate::files::read_setup;
 use crate::lines::write_line;
 use nest_core::Setup;
 use register_sql::SqlRegister;
+use sqlite::{Alter, Connection};
+use std::alloc::Global;
 use std::io::Write;
 use store_file::shut;
 
@@ -28,11 +30,21 @@ pub fn migrate_file<W: Write>(
 /// Migrates the store in a file.
 fn migrated(rt: &HostRuntime, setup: &Setup, path: &str) -> Result<(), CommandFault> {
     match SqlRegister::on_file(rt, rt.alloc(), path) {
-        Ok(mut register) => {
-            let ended = register.migrate(rt.alloc(), setup);
-            shut(register.into_connection());
-            Ok(ended?)
+        Ok(register) => {
+            let (conn, ended) = connected(rt.alloc(), setup, register);
+            shut(conn);
+            ended
         }
         Err(fault) => Err(CommandFault::from(fault)),
     }
+}
+
+/// The same over a connection, which it gives back.
+fn connected<S: Alter>(
+    alloc: Global,
+    setup: &Setup,
+    mut register: SqlRegister<S>,
+) -> (Connection<S>, Result<(), CommandFault>) {
+    let ended = register.migrate(alloc, setup);
+    (register.into_connection(), ended.map_err(CommandFault::from))
 }
