@@ -10,7 +10,8 @@ same_prefix (suc (suc zero)) = refl
 same_prefix (suc (suc (suc zero))) = refl
 same_prefix (suc (suc (suc (suc zero)))) = refl
 same_prefix (suc (suc (suc (suc (suc zero))))) = refl
-same_prefix (suc (suc (suc (suc (suc (suc k)))))) = refl
+same_prefix (suc (suc (suc (suc (suc (suc zero)))))) = refl
+same_prefix (suc (suc (suc (suc (suc (suc (suc k))))))) = refl
 
 few : (k : ℕ) → length (prefix k).tables ≤ 6
 few zero = omega arith
@@ -19,7 +20,8 @@ few (suc (suc zero)) = omega arith
 few (suc (suc (suc zero))) = omega arith
 few (suc (suc (suc (suc zero)))) = omega arith
 few (suc (suc (suc (suc (suc zero))))) = omega arith
-few (suc (suc (suc (suc (suc (suc k)))))) = omega arith
+few (suc (suc (suc (suc (suc (suc zero)))))) = omega arith
+few (suc (suc (suc (suc (suc (suc (suc k))))))) = omega arith
 
 counted : (k : ℕ) → k ≤ 6 → length (prefix k).tables ≡ k
 counted zero few = refl

@@ -25,7 +25,7 @@ use Rattle.register_sql.specs.Queries.{shown_in, AreApart}
 use Rattle.register_sql.specs.Rows.{HasPart, AreRows, had, spot_cells, line_cells, same_id}
 use Rattle.register_sql.specs.Says.{IsOther, IsTold, setup_in, setup_rows_shown}
 use Rattle.register_sql.specs.Stores.{in_store, no_rows, counted}
-use Rattle.register_sql.specs.Tables.{hub_schema}
+use Rattle.register_sql.specs.Tables.{hub_schema, table_at, index_at, all_tables, all_indexes, index_count}
 use Rattle.register_sql.specs.declared.queries.Query.TheVariants.{Metas, Setups, Postings, Spots, Lines, Terms, LineIds}
 use Rattle.register_sql.specs.declared.told.Told.TheVariants as told
 
@@ -278,3 +278,14 @@ no_line-null l fit is = cc
 
 no_term-null : IsNoTerm (Text loan ∷ Null ∷ [])
 no_term-null t fit is = cc
+
+-- ---- the tables by their numbers, and how many indexes so many have
+
+tables_in_turn : map table_at (0 ∷ 1 ∷ 2 ∷ 3 ∷ 4 ∷ 5 ∷ []) ≡ all_tables
+tables_in_turn = refl
+
+indexes_in_turn : map index_at (0 ∷ 1 ∷ 2 ∷ 3 ∷ 4 ∷ []) ≡ all_indexes
+indexes_in_turn = refl
+
+index_counts : map index_count (0 ∷ 1 ∷ 2 ∷ 3 ∷ 4 ∷ 5 ∷ 6 ∷ []) ≡ 0 ∷ 1 ∷ 1 ∷ 2 ∷ 3 ∷ 4 ∷ 5 ∷ []
+index_counts = refl

@@ -1,5 +1,5 @@
 -- The six tables of a store, as the database knows them once they are made one after another.
-use Rattle.std.specs.Prelude.{true, false, [], ◌∷◌, Some, None, codes, map, List, ℕ, zero, suc, Bool, Option}
+use Rattle.std.specs.Prelude.{true, false, [], ◌∷◌, Some, None, codes, map, take, List, ℕ, zero, suc, Bool, Option}
 use Rattle.sqlite.specs.Collation.TheVariants.{Binary}
 use Rattle.sqlite.specs.Kind.{Kind}
 use Rattle.sqlite.specs.Kind.TheVariants.{Integer, Text}
@@ -115,21 +115,37 @@ term_index = automatic (codes "sqlite_autoindex_term_1") 10 9 (1 ∷ [])
 abbrev pub of_tables : List Table → List Index → Schema
 of_tables tables indexes = record { tables = tables; indexes = indexes; views = [] }
 
+-- the table of this number, from 0 as they are made in turn
+abbrev pub table_at : ℕ → Table
+table_at zero = meta
+table_at (suc zero) = setup
+table_at (suc (suc zero)) = posting
+table_at (suc (suc (suc zero))) = spot
+table_at (suc (suc (suc (suc zero)))) = line
+table_at _ = term
+
+abbrev pub index_at : ℕ → Index
+index_at zero = meta_index
+index_at (suc zero) = posting_index
+index_at (suc (suc zero)) = spot_index
+index_at (suc (suc (suc zero))) = line_index
+index_at _ = term_index
+
+abbrev pub all_tables : List Table
+all_tables = meta ∷ setup ∷ posting ∷ spot ∷ line ∷ term ∷ []
+
+abbrev pub all_indexes : List Index
+all_indexes = meta_index ∷ posting_index ∷ spot_index ∷ line_index ∷ term_index ∷ []
+
+-- how many indexes the first so many tables have
+abbrev pub index_count : ℕ → ℕ
+index_count zero = 0
+index_count (suc zero) = 1
+index_count (suc n) = n
+
 -- the first so many of the tables, as they are made in turn; five are version 1, all six version 2
 abbrev pub prefix : ℕ → Schema
-prefix zero = of_tables [] []
-prefix (suc zero) = of_tables (meta ∷ []) (meta_index ∷ [])
-prefix (suc (suc zero)) = of_tables (meta ∷ setup ∷ []) (meta_index ∷ [])
-prefix (suc (suc (suc zero))) =
-    of_tables (meta ∷ setup ∷ posting ∷ []) (meta_index ∷ posting_index ∷ [])
-prefix (suc (suc (suc (suc zero)))) =
-    of_tables (meta ∷ setup ∷ posting ∷ spot ∷ []) (meta_index ∷ posting_index ∷ spot_index ∷ [])
-prefix (suc (suc (suc (suc (suc zero))))) =
-    of_tables (meta ∷ setup ∷ posting ∷ spot ∷ line ∷ [])
-    (meta_index ∷ posting_index ∷ spot_index ∷ line_index ∷ [])
-prefix _ =
-    of_tables (meta ∷ setup ∷ posting ∷ spot ∷ line ∷ term ∷ [])
-    (meta_index ∷ posting_index ∷ spot_index ∷ line_index ∷ term_index ∷ [])
+prefix made = of_tables (take made all_tables) (take (index_count made) all_indexes)
 
 -- the schema of a whole store
 abbrev pub hub_schema : Schema

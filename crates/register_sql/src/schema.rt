@@ -1,5 +1,5 @@
 //! Which of the store's tables a schema has.
-ghost use Rattle.std.specs.Prelude.{◌≡◌, ◌≤◌, IfOk, IfSome, IfNone, true, false, ℕ};
+ghost use Rattle.std.specs.Prelude.{◌≡◌, ◌<◌, ◌≤◌, IfOk, IfSome, IfNone, length, take, true, false, ℕ};
 ghost use Rattle.std.specs.Bool.{Decides};
 ghost use Rattle.register_sql.specs.Tables as tables;
 
@@ -54,157 +54,67 @@ fn is_term_index(index: &Index) -> bool
     is_index(index, "sqlite_autoindex_term_1", 10, 9, &[1])
 }
 
-/// Whether it is the table of what the store says of itself, and its index.
-fn is_first(alloc: Global, table: &Table, index: &Index) -> Result<bool, AllocError>
-    ensures { IfOk result
-        (λ same. Decides same ((table.now ≡ tables.meta) × (index.now ≡ tables.meta_index))) }
+/// Whether it is the store's table of this number, from 0 in the order in which they are made.
+fn is_table(alloc: Global, table: &Table, number: usize) -> Result<bool, AllocError>
+    requires { number < 6 }
+    ensures { IfOk result (λ same. Decides same (table.now ≡ tables.table_at number)) }
 {
-    Ok(is_meta_index(index) && is_meta(alloc, table)?)
-}
-
-/// Whether it is the table of the entries, and its index.
-fn is_third(alloc: Global, table: &Table, index: &Index) -> Result<bool, AllocError>
-    ensures { IfOk result
-        (λ same. Decides same ((table.now ≡ tables.posting) × (index.now ≡ tables.posting_index))) }
-{
-    Ok(is_posting_index(index) && is_posting(alloc, table)?)
-}
-
-/// Whether it is the table of the spots, and its index.
-fn is_fourth(alloc: Global, table: &Table, index: &Index) -> Result<bool, AllocError>
-    ensures { IfOk result
-        (λ same. Decides same ((table.now ≡ tables.spot) × (index.now ≡ tables.spot_index))) }
-{
-    Ok(is_spot_index(index) && is_spot(alloc, table)?)
-}
-
-/// Whether it is the table of the lines, and its index.
-fn is_fifth(alloc: Global, table: &Table, index: &Index) -> Result<bool, AllocError>
-    ensures { IfOk result
-        (λ same. Decides same ((table.now ≡ tables.line) × (index.now ≡ tables.line_index))) }
-{
-    Ok(is_line_index(index) && is_line(alloc, table)?)
-}
-
-/// Whether the schema has the first table alone.
-fn has_one(alloc: Global, schema: &Schema) -> Result<bool, AllocError>
-    ensures { IfOk result (λ same. Decides same (schema.now ≡ tables.prefix 1)) }
-{
-    match (schema.tables.as_slice(), schema.indexes.as_slice()) {
-        ([meta], [i]) => Ok(schema.views.is_empty() && is_first(alloc, meta, i)?),
-        _ => Ok(false),
+    match number {
+        0 => is_meta(alloc, table),
+        1 => is_setup(alloc, table),
+        2 => is_posting(alloc, table),
+        3 => is_spot(alloc, table),
+        4 => is_line(alloc, table),
+        _ => is_term(alloc, table),
     }
 }
 
-/// Whether the schema has the first two tables alone.
-fn has_two(alloc: Global, schema: &Schema) -> Result<bool, AllocError>
-    ensures { IfOk result (λ same. Decides same (schema.now ≡ tables.prefix 2)) }
+/// Whether these are the first of the store's tables.
+fn are_tables(alloc: Global, all: &[Table]) -> Result<bool, AllocError>
+    requires { length all.now ≤ 6 }
+    ensures { IfOk result
+        (λ same. Decides same (all.now ≡ take (length all.now) tables.all_tables)) }
 {
-    match (schema.tables.as_slice(), schema.indexes.as_slice()) {
-        ([meta, setup], [i]) => {
-            Ok(schema.views.is_empty() && is_first(alloc, meta, i)? && is_setup(alloc, setup)?)
+    'all: for at in 0..all.len() {
+        if !is_table(alloc, &all[at], at)? {
+            return Ok(false);
         }
-        _ => Ok(false),
+    }
+    Ok(true)
+}
+
+/// Whether it is the store's index of this number, from 0 in the order in which they are made.
+fn is_index_at(index: &Index, number: usize) -> bool
+    requires { number < 5 }
+    ensures { Decides result (index.now ≡ tables.index_at number) }
+{
+    match number {
+        0 => is_meta_index(index),
+        1 => is_posting_index(index),
+        2 => is_spot_index(index),
+        3 => is_line_index(index),
+        _ => is_term_index(index),
     }
 }
 
-/// Whether the schema has the first three tables alone.
-fn has_three(alloc: Global, schema: &Schema) -> Result<bool, AllocError>
-    ensures { IfOk result (λ same. Decides same (schema.now ≡ tables.prefix 3)) }
+/// Whether these are the first of the store's indexes.
+fn are_indexes(all: &[Index]) -> bool
+    requires { length all.now ≤ 5 }
+    ensures { Decides result (all.now ≡ take (length all.now) tables.all_indexes) }
 {
-    match (schema.tables.as_slice(), schema.indexes.as_slice()) {
-        ([meta, setup, posting], [i, j]) => Ok(
-            schema.views.is_empty()
-                && is_first(alloc, meta, i)?
-                && is_setup(alloc, setup)?
-                && is_third(alloc, posting, j)?,
-        ),
-        _ => Ok(false),
-    }
-}
-
-/// Whether the schema has the first four tables alone.
-fn has_four(alloc: Global, schema: &Schema) -> Result<bool, AllocError>
-    ensures { IfOk result (λ same. Decides same (schema.now ≡ tables.prefix 4)) }
-{
-    match (schema.tables.as_slice(), schema.indexes.as_slice()) {
-        ([meta, setup, posting, spot], [i, j, k]) => Ok(
-            schema.views.is_empty()
-                && is_first(alloc, meta, i)?
-                && is_setup(alloc, setup)?
-                && is_third(alloc, posting, j)?
-                && is_fourth(alloc, spot, k)?,
-        ),
-        _ => Ok(false),
-    }
-}
-
-/// Whether the schema has the first five tables alone.
-fn has_five(alloc: Global, schema: &Schema) -> Result<bool, AllocError>
-    ensures { IfOk result (λ same. Decides same (schema.now ≡ tables.prefix 5)) }
-{
-    match (schema.tables.as_slice(), schema.indexes.as_slice()) {
-        ([meta, setup, posting, spot, line], [i, j, k, l]) => Ok(
-            schema.views.is_empty()
-                && is_first(alloc, meta, i)?
-                && is_setup(alloc, setup)?
-                && is_third(alloc, posting, j)?
-                && is_fourth(alloc, spot, k)?
-                && is_fifth(alloc, line, l)?,
-        ),
-        _ => Ok(false),
-    }
-}
-
-/// Whether these are the six tables.
-fn are_six(alloc: Global, all: &[Table]) -> Result<bool, AllocError>
-    ensures { IfOk result (λ same. Decides same (all.now ≡ (tables.prefix 6).tables)) }
-{
-    match all {
-        [meta, setup, posting, spot, line, term] => Ok(
-            is_meta(alloc, meta)?
-                && is_setup(alloc, setup)?
-                && is_posting(alloc, posting)?
-                && is_spot(alloc, spot)?
-                && is_line(alloc, line)?
-                && is_term(alloc, term)?,
-        ),
-        _ => Ok(false),
-    }
-}
-
-/// Whether these are their indexes.
-fn are_five(all: &[Index]) -> bool
-    ensures { Decides result (all.now ≡ (tables.prefix 6).indexes) }
-{
-    match all {
-        [i, j, k, l, m] => {
-            is_meta_index(i)
-                && is_posting_index(j)
-                && is_spot_index(k)
-                && is_line_index(l)
-                && is_term_index(m)
+    'all: for at in 0..all.len() {
+        if !is_index_at(&all[at], at) {
+            return false;
         }
-        _ => false,
     }
+    true
 }
 
-/// Whether the schema has the six tables alone.
-fn has_six(alloc: Global, schema: &Schema) -> Result<bool, AllocError>
-    ensures { IfOk result (λ same. Decides same (schema.now ≡ tables.prefix 6)) }
+/// How many indexes the first so many tables have: that of the setup has none.
+fn index_count(made: usize) -> usize
+    ensures { result ≡ tables.index_count made }
 {
-    Ok(
-        schema.views.is_empty()
-            && are_five(schema.indexes.as_slice())
-            && are_six(alloc, schema.tables.as_slice())?,
-    )
-}
-
-/// Whether the schema is empty.
-fn has_none(schema: &Schema) -> bool
-    ensures { Decides result (schema.now ≡ tables.prefix 0) }
-{
-    schema.tables.is_empty() && schema.indexes.is_empty() && schema.views.is_empty()
+    if made < 2 { made } else { made - 1 }
 }
 
 /// Whether the schema has the first so many tables alone.
@@ -212,15 +122,13 @@ fn is_prefix(alloc: Global, schema: &Schema, made: usize) -> Result<bool, AllocE
     requires { made ≤ 6 }
     ensures { IfOk result (λ same. Decides same (schema.now ≡ tables.prefix made)) }
 {
-    match made {
-        0 => Ok(has_none(schema)),
-        1 => has_one(alloc, schema),
-        2 => has_two(alloc, schema),
-        3 => has_three(alloc, schema),
-        4 => has_four(alloc, schema),
-        5 => has_five(alloc, schema),
-        _ => has_six(alloc, schema),
-    }
+    Ok(
+        schema.views.is_empty()
+            && schema.tables.len() == made
+            && schema.indexes.len() == index_count(made)
+            && are_indexes(schema.indexes.as_slice())
+            && are_tables(alloc, schema.tables.as_slice())?,
+    )
 }
 
 /// How many of the store's tables the schema has, made in turn; none where it is anything else.
