@@ -1,5 +1,5 @@
 -- What is asked before the lines of what crosses, and the loan that goes on, computed on worked rows: after two agreements, of
--- which the first is authorised, the crate C1 with an object of the first is asked about.
+-- which the first is authorised, the crate C1, which holds objects of both, is asked about.
 use Rattle.std.specs.Prelude.{ℕ, ◌≡◌, true, false, List, [], ◌∷◌, Some, None, map, refl, codes}
 use Rattle.std.proofs.Common.{sym}
 use Rattle.nest_core.specs.Museum.{find_thing}
@@ -10,7 +10,7 @@ use Rattle.posting_core.specs.declared.stage.LineStage.TheVariants.{Awaiting}
 use Rattle.posting_core.specs.declared.entry.Entry.{Entry}
 use Rattle.posting_core.specs.Agreements.{is_agreed, last_day, loan_no, loan_by}
 use Rattle.posting_core.specs.LoanRows.{AreOnce, loan_rows, row_by}
-use Rattle.posting_core.specs.Crossings.{arrival_rows}
+use Rattle.posting_core.specs.Crossings.{incoming_rows}
 use Rattle.posting_core.specs.Verdicts.{first_of}
 use Rattle.posting_core.proofs.WorkedRows.{museum, museum_x, pack, crate_1, object_1, object_2, object_3, may, run}
 use Rattle.posting_core.proofs.WorkedLoansOut.{agreed, loan_1, may_31, june_1, now_authorised}
@@ -59,10 +59,10 @@ found_rows : loan_rows museum two_loans ≡
 found_rows = refl
 
 -- the rows that a return and a receipt begin with, one after the other
-arrivals : first_of (arrival_rows museum two_loans (codes "C9") (codes "LO2024.3") (codes "S9") [])
-    ∷ first_of (arrival_rows museum two_loans (codes "C1") (codes "LO2024.3") (codes "S9") [])
-    ∷ first_of (arrival_rows museum two_loans (codes "C1") (codes "LO2024.3") (codes "MUSEUM-X") [])
-    ∷ first_of (arrival_rows museum two_loans (codes "C1") (codes "LO2024.3") (codes "S1") [])
-    ∷ first_of (arrival_rows museum two_loans (codes "C1") loan_1 (codes "S1") [])
+incoming : first_of (incoming_rows museum two_loans (codes "C9") (codes "LO2024.3") (codes "S9") [])
+    ∷ first_of (incoming_rows museum two_loans (codes "C1") (codes "LO2024.3") (codes "S9") [])
+    ∷ first_of (incoming_rows museum two_loans (codes "C1") (codes "LO2024.3") (codes "MUSEUM-X") [])
+    ∷ first_of (incoming_rows museum two_loans (codes "C1") (codes "LO2024.3") (codes "S1") [])
+    ∷ first_of (incoming_rows museum two_loans (codes "C1") loan_1 (codes "S1") [])
     ∷ [] ≡ UnknownThing ∷ UnknownPlace ∷ ElsewherePlace ∷ UnknownLoan ∷ Applied ∷ []
-arrivals = refl
+incoming = refl

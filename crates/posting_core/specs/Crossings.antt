@@ -25,9 +25,9 @@ pub record IsFound (S : Museum) (P : List Entry) (code loan : List ℕ) (x i : �
   pub lines : (o : ℕ) → line_of row o ≡ line S P loan o
 
 -- the rows that a return and a receipt of thing x under a loan at place p begin with, before the rest
-abbrev pub arrival_rows : Museum → List Entry → List ℕ → List ℕ → List ℕ → List (Row Verdict)
+abbrev pub incoming_rows : Museum → List Entry → List ℕ → List ℕ → List ℕ → List (Row Verdict)
     → List (Row Verdict)
-arrival_rows S P x loan p rest =
+incoming_rows S P x loan p rest =
     (UnknownThing if not (is_known S x))
     ∷ (UnknownPlace if not (is_known_place S p))
     ∷ (ElsewherePlace if is_elsewhere S (place_no S p))

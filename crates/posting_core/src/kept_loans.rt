@@ -12,7 +12,7 @@ use indexmap::IndexSet;
 use std::alloc::Global;
 use std::marker::Model;
 
-/// The loans, in the order of their agreements, which a code finds, or a number; seen as their rows.
+/// The loans, in the order of their agreements, each found by its code or by its number; seen as their rows.
 #[derive(Drop)]
 pub(crate) struct KeptLoans {
     codes: IndexSet<LoanCode>,

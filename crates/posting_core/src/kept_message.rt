@@ -169,12 +169,12 @@ fn in_short(message: &Message) -> Option<Form>
             thing: thing.shortened()?,
             loan: *loan,
         }),
-        _ => arrival_in_short(message),
+        _ => incoming_in_short(message),
     }
 }
 
 /// A return or a receipt, where its codes are short.
-fn arrival_in_short(message: &Message) -> Option<Form>
+fn incoming_in_short(message: &Message) -> Option<Form>
     ensures { IfSome result (λ form. HasCodes form × (said form ≡ message.now)) }
 {
     match message {

@@ -279,8 +279,8 @@ impl Ledger {
 }
 
 impl Ledger {
-    /// The verdict of `judge`, with where the message puts its thing under it, what that carries, where it was found, and the
-    /// number of the loan that goes on.
+    /// The verdict of `judge`, with where the message puts its thing under it, what that carries, where it was gathered, and
+    /// the number of the loan that goes on.
     fn judged(&self, alloc: Global, message: &Message) -> Result<Judged, NoMemory>
         ensures verdict { IfOk result (λ judged. judged.verdict ≡ verdict_in self.now message.now) }
         ensures put { IfOk result (λ judged. judged.put

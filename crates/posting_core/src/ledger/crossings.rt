@@ -14,7 +14,7 @@ ghost use Rattle.codes_core.specs.Loan.{is_out};
 ghost use Rattle.posting_core.specs.VerdictNames.{is_applied};
 ghost use Rattle.posting_core.specs.Agreements.{last_day, loan_no};
 ghost use Rattle.posting_core.specs.LoanRows.{line_of};
-ghost use Rattle.posting_core.specs.Crossings.{IsFound, arrival_rows};
+ghost use Rattle.posting_core.specs.Crossings.{IsFound, incoming_rows};
 
 use super::Ledger;
 use super::judged::{Judged, putting, unput};
@@ -131,7 +131,7 @@ impl Ledger {
     }
 
     /// The rows of a return before those of its lines: the refusal of the first that holds; where none does, what
-    /// `arrival_asked` found.
+    /// `incoming_asked` found.
     fn return_asked(
         &self,
         thing: &ThingCode,
@@ -146,7 +146,7 @@ impl Ledger {
             (λ refusal. (is_applied refusal ≡ false)
             × (first_of (return_rows S P thing.now loan.now place.now) ≡ refusal)) }
     {
-        let (x, p, number, kept) = self.arrival_asked(thing, loan, place)?;
+        let (x, p, number, kept) = self.incoming_asked(thing, loan, place)?;
         if !kept.is_authorised() {
             return Err(Verdict::NotAuthorised);
         }
@@ -200,7 +200,7 @@ impl Ledger {
     }
 
     /// The rows of a receipt before those of its lines: the refusal of the first that holds; where none does, what
-    /// `arrival_asked` found.
+    /// `incoming_asked` found.
     fn receive_asked(
         &self,
         thing: &ThingCode,
@@ -216,7 +216,7 @@ impl Ledger {
             (λ refusal. (is_applied refusal ≡ false) × ((day : ℤ)
             → first_of (receive_rows S P thing.now loan.now place.now day) ≡ refusal)) }
     {
-        let (x, p, number, kept) = self.arrival_asked(thing, loan, place)?;
+        let (x, p, number, kept) = self.incoming_asked(thing, loan, place)?;
         if is_container_code(thing) {
             return Err(Verdict::NotObject);
         }
@@ -234,7 +234,7 @@ impl Ledger {
 
     /// The rows that a return and a receipt begin with: the refusal of the first that holds; where none does, the numbers of the
     /// thing, the place and the loan, and what is kept of the loan.
-    fn arrival_asked(
+    fn incoming_asked(
         &self,
         thing: &ThingCode,
         loan: &LoanCode,
@@ -244,7 +244,7 @@ impl Ledger {
             (λ asked. IsFound S P thing.now loan.now asked.0 asked.2 asked.3.now
             × (find_place S place.now ≡ Some asked.1) × (is_elsewhere S asked.1 ≡ false))
             (λ refusal. (is_applied refusal ≡ false) × ((rest : List (Row Verdict))
-            → first_of (arrival_rows S P thing.now loan.now place.now rest) ≡ refusal)) }
+            → first_of (incoming_rows S P thing.now loan.now place.now rest) ≡ refusal)) }
     {
         let Some(x) = self.setup.thing(thing) else {
             return Err(Verdict::UnknownThing);
