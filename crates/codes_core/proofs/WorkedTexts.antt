@@ -88,7 +88,6 @@ days_of_no_day : map day_fault
     ≡ replicate 7 (Some NoSuchDay)
 days_of_no_day = refl
 
-
 -- the numbers of the right days, as Python's datetime tells them
 day_numbers : map day_number
     (codes "2024-05-01" ∷ codes "2024-02-29" ∷ codes "1970-01-01" ∷ codes "1969-12-31"

@@ -6,7 +6,10 @@ use std::io::Write;
 /// Writes what a name means, and what to do about it.
 pub fn explain<W: Write>(name: &str, output: &mut W) -> Result<(), CommandFault> {
     for line in MEANINGS.lines() {
-        if line.split_once(": ").is_some_and(|(known, _)| known == name) {
+        if line
+            .split_once(": ")
+            .is_some_and(|(known, _)| known == name)
+        {
             return writeln!(output, "{line}").map_err(|_| CommandFault::WriteFailed);
         }
     }

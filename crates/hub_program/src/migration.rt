@@ -46,5 +46,8 @@ fn connected<S: Alter>(
     mut register: SqlRegister<S>,
 ) -> (Connection<S>, Result<(), CommandFault>) {
     let ended = register.migrate(alloc, setup);
-    (register.into_connection(), ended.map_err(CommandFault::from))
+    (
+        register.into_connection(),
+        ended.map_err(CommandFault::from),
+    )
 }

@@ -187,7 +187,11 @@ struct Migrating<'a> {
 impl Task for Migrating<'_> {
     type Given = Answer;
 
-    fn done<S: Alter + Drop>(self, alloc: Global, mut register: SqlRegister<S>) -> (S, Option<Answer>) {
+    fn done<S: Alter + Drop>(
+        self,
+        alloc: Global,
+        mut register: SqlRegister<S>,
+    ) -> (S, Option<Answer>) {
         let answer = register.migrate(alloc, self.setup);
         (register.into_connection().into_store(), Some(answer))
     }

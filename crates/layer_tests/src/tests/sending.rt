@@ -47,7 +47,11 @@ pub(crate) trait Task: Copy {
     type Given: Drop;
 
     /// Does it by the store's register; gives the store back, and what came of it, where that could be judged.
-    fn done<S: Alter + Drop>(self, alloc: Global, register: SqlRegister<S>) -> (S, Option<Self::Given>);
+    fn done<S: Alter + Drop>(
+        self,
+        alloc: Global,
+        register: SqlRegister<S>,
+    ) -> (S, Option<Self::Given>);
 
     /// What comes of it where the files aren't opened.
     fn unopened() -> Option<Self::Given>;

@@ -1,14 +1,11 @@
-use Rattle.std.proofs.Common.{ap, arith, ◌∙◌, reverse, List, ◌∷◌, ◌++◌, [], Result, Ok, Err, OnErr}
+use Rattle.std.proofs.Common.{ap, arith, ◌∙◌, reverse, List, ◌∷◌, ◌++◌, []}
 use Rattle.std.proofs.lemmas.List.{reverse-append}
+use Rattle.nest_core.proofs.Outcomes.{at_err}
 use Rattle.posting_core.specs.declared.entry.Entry.{Entry}
 use Rattle.posting_core.specs.declared.entry.Spot.{Spot}
 use Rattle.posting_core.specs.Rows.{rows_after}
 use Rattle.posting_core.proofs.Posted.{planned, planned_within, planned_put, planned_carried, planned_agree, planned_loan, kept_still, kept_after}
 use Rattle.posting_core.proofs.ledger.Ledger.apply.Goals as goal
-
-unchanged : {X Y : Type 0} {P : Type 0} (r : Result X Y) → P → OnErr r P
-unchanged (Ok x) p = tt
-unchanged (Err y) p = p
 
 pub push_all-requires-clause-within : goal.push_all-requires-clause-within
 push_all-requires-clause-within c =
@@ -54,22 +51,22 @@ pub invariant_of-self : goal.invariant_of-self
 invariant_of-self c = rw c.reserve.ensures.rows c.self.invariant
 
 pub returns-in_err-reserve-clause-err : goal.returns-in_err-reserve-clause-err
-returns-in_err-reserve-clause-err c = unchanged c.from_residual.result c.self.view_is
+returns-in_err-reserve-clause-err c = at_err c.from_residual.result _ c.self.view_is
 
 pub invariant_of-self-in_err-reserve-2 : goal.invariant_of-self-in_err-reserve-2
 invariant_of-self-in_err-reserve-2 c = rw (c.reserve-2.ensures.items, c.reserve.ensures.rows) c.self.invariant
 
 pub returns-in_err-reserve-2-clause-err : goal.returns-in_err-reserve-2-clause-err
-returns-in_err-reserve-2-clause-err c = unchanged c.from_residual-in_err-reserve-2.result (rw c.reserve-2.ensures.items c.self.view_is)
+returns-in_err-reserve-2-clause-err c = at_err c.from_residual-in_err-reserve-2.result _ (rw c.reserve-2.ensures.items c.self.view_is)
 
 pub invariant_of-self-in_err-place : goal.invariant_of-self-in_err-place
 invariant_of-self-in_err-place c = rw (c.in_err-place.ensures.unchanged, c.reserve-2.ensures.items, c.reserve.ensures.rows) c.self.invariant
 
 pub returns-in_err-place-clause-err : goal.returns-in_err-place-clause-err
-returns-in_err-place-clause-err c = unchanged c.from_residual-in_err-place.result (rw (c.in_err-place.ensures.unchanged, c.reserve-2.ensures.items) c.self.view_is)
+returns-in_err-place-clause-err c = at_err c.from_residual-in_err-place.result _ (rw (c.in_err-place.ensures.unchanged, c.reserve-2.ensures.items) c.self.view_is)
 
 pub returns-in_err-record-clause-err : goal.returns-in_err-record-clause-err
-returns-in_err-record-clause-err c = unchanged c.from_residual-in_err-record.result (rw (c.in_ok-place.ensures.sized.2, c.reserve-2.ensures.items) c.self.view_is)
+returns-in_err-record-clause-err c = at_err c.from_residual-in_err-record.result _ (rw (c.in_ok-place.ensures.sized.2, c.reserve-2.ensures.items) c.self.view_is)
 
 pub push_all-requires-clause-room : goal.push_all-requires-clause-room
 push_all-requires-clause-room c = c.in_ok-reserve.ensures.room
