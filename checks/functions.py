@@ -54,8 +54,8 @@ class Function:
         self.is_in_cycle, self.cycle = bool(named), named[1] if named else self.name
         self.recurs = os.path.isdir(f"{crate.folder}/proofs/{'/'.join(self.path[:-1])}/+{self.cycle}")
 
-    def can_be_copied(self):
-        return not self.recurs and not (self.impl and self.impl.is_of_trait)
+    def can_be_copied(self, with_another_body):
+        return (with_another_body or not self.recurs) and not (self.impl and self.impl.is_of_trait)
 
     def proofs(self):
         return "/".join([*self.path[:-1], "+" * self.recurs + self.cycle])
