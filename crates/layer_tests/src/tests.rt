@@ -23,7 +23,6 @@ mod session;
 mod setup;
 mod stations;
 mod stops;
-mod words;
 
 use nest_core::Setup;
 use std::alloc::Global;
