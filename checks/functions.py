@@ -55,6 +55,7 @@ class Function:
         self.recurs = os.path.isdir(f"{crate.folder}/proofs/{'/'.join(self.path[:-1])}/+{self.cycle}")
 
     def can_be_copied(self, with_another_body):
+        """Whether a copy of it, under another name, means the same; another body doesn't recur."""
         return (with_another_body or not self.recurs) and not (self.impl and self.impl.is_of_trait)
 
     def proofs(self):
