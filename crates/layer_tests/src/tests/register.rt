@@ -203,12 +203,16 @@ fn agreed_by<R: Fresh>(alloc: Global, ledger: &Ledger, changes: &Changes) -> Res
     Ok(agreed?)
 }
 
+/// The same of a posting with a spot.
+fn agreed_with_a_spot<R: Fresh>(alloc: Global, ledger: &Ledger) -> Result<bool, Fail> {
+    let brought = brought(alloc, 1)?;
+    agreed_by::<R>(alloc, ledger, &brought)
+}
+
 /// The same of a posting with a spot, and of one without.
 fn agreed_twice<R: Fresh>(alloc: Global, ledger: &Ledger) -> Result<(bool, bool), Fail> {
-    let brought = brought(alloc, 1)?;
-    let more = agreed_by::<R>(alloc, ledger, &brought)?;
-    let same = agreed_by::<R>(alloc, ledger, &nothing(alloc, 1))?;
-    Ok((more, same))
+    let more = agreed_with_a_spot::<R>(alloc, ledger)?;
+    Ok((more, agreed_by::<R>(alloc, ledger, &nothing(alloc, 1))?))
 }
 
 /// Both answers, of either sort of register.

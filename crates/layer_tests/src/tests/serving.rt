@@ -199,16 +199,30 @@ fn meeting(alloc: Global, missed: &Arc<AtomicBool>) -> Result<Vec<Waiting>, Fail
     Ok(feeds)
 }
 
+/// What is printed while both feeds run.
+fn printed_of_both<T: Threads + Wait + Abort + Copy + Send + 'static>(
+    rt: &T,
+    alloc: Global,
+    missed: &Arc<AtomicBool>,
+) -> Result<String, Fail> {
+    let setup = museum(alloc)?;
+    let feeds = meeting(alloc, missed)?;
+    printed(rt, alloc, setup, PlainRegister::new(alloc), feeds)
+}
+
+/// Whether the lines of both feeds came whole, whichever was first.
+fn is_of_both(alloc: Global, text: &str) -> Result<bool, Fail> {
+    Ok(is_cut(alloc, text, PACK_FIRST, GAL_SECOND)? || is_cut(alloc, text, PACK_SECOND, GAL_FIRST)?)
+}
+
 #[test]
 fn two_feeds_at_once(rt: HostRuntime) -> Result<(), Fail> {
-    let alloc = rt.alloc();
-    let missed = flag(alloc)?;
-    let feeds = meeting(alloc, &missed)?;
-    let text = printed(&rt, alloc, museum(alloc)?, PlainRegister::new(alloc), feeds)?;
-    let first = is_cut(alloc, text.as_str(), PACK_FIRST, GAL_SECOND)?;
-    let second = is_cut(alloc, text.as_str(), PACK_SECOND, GAL_FIRST)?;
-    assert!(rt; first || second);
-    assert!(rt; !missed.load(Ordering::SeqCst));
+    let missed = flag(rt.alloc())?;
+    let text = printed_of_both(&rt, rt.alloc(), &missed);
+    let has_missed = missed.load(Ordering::SeqCst);
+    drop(missed);
+    assert!(rt; is_of_both(rt.alloc(), text?.as_str())?);
+    assert!(rt; !has_missed);
     Ok(())
 }
 

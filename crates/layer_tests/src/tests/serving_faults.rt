@@ -90,13 +90,13 @@ const POSTS: &[(u32, &str, bool)] = &[
 #[test]
 fn register_refuses(rt: HostRuntime) -> Result<(), Fail> {
     for (posts, want, stops) in POSTS {
+        let setup = setup_of(rt.alloc(), SMALL)?;
+        let feeds = one(rt.alloc())?;
         let register = Refusing {
             kept: PlainRegister::new(rt.alloc()),
             posts: *posts,
             refused: 0,
         };
-        let setup = setup_of(rt.alloc(), SMALL)?;
-        let feeds = one(rt.alloc())?;
         let (text, fault) = stopped_over(&rt, rt.alloc(), setup, register, feeds)?;
         assert_eq!(rt; text.as_str(), *want);
         let stopped = matches!(fault, Some(ServeFault::Store));
@@ -112,16 +112,20 @@ const ITEMS: &[(u32, &str)] = &[
     (2, "GAL 1 posted 1 Applied\nGAL ask 2001.4.1 at S1\n"),
 ];
 
+/// One feed, which finds no memory when so many items were taken.
+fn poor_feeds(alloc: Global, left: u32) -> Result<Vec<Poor>, Fail> {
+    let feed = told_and_asked(alloc, TO_S1, "2001.4.1")?;
+    let mut feeds = Vec::new(alloc);
+    feeds.push(Poor { feed, left })?;
+    Ok(feeds)
+}
+
 #[test]
 fn feed_without_memory(rt: HostRuntime) -> Result<(), Fail> {
     for (left, want) in ITEMS {
-        let mut feeds = Vec::new(rt.alloc());
-        feeds.push(Poor {
-            feed: told_and_asked(rt.alloc(), TO_S1, "2001.4.1")?,
-            left: *left,
-        })?;
-        let register = PlainRegister::new(rt.alloc());
         let setup = setup_of(rt.alloc(), SMALL)?;
+        let feeds = poor_feeds(rt.alloc(), *left)?;
+        let register = PlainRegister::new(rt.alloc());
         let (text, fault) = stopped_over(&rt, rt.alloc(), setup, register, feeds)?;
         assert_eq!(rt; text.as_str(), *want);
         assert!(rt; matches!(fault, Some(ServeFault::NoMemory)));
