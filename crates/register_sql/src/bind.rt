@@ -43,14 +43,14 @@ fn make_new<S: Alter>(
     ensures crash { Survives (state S.Store conn.old) (state S.Store conn.new)
         (LeavesBound setup.now (state S.Store conn.old)) }
 {
-    let texts = match row_texts(alloc, setup) {
-        Ok(texts) => texts,
-        Err(_) => return Ok(Err(StoreFault::NoMemory)),
-    };
     let apart = are_all_apart(conn, made)?;
     if !apart {
         return Ok(Err(StoreFault::Store));
     }
+    let texts = match row_texts(alloc, setup) {
+        Ok(texts) => texts,
+        Err(_) => return Ok(Err(StoreFault::NoMemory)),
+    };
     make_whole(conn, made, &texts, NEW_DEPTH)?;
     Ok(Ok(NEW_DEPTH))
 }
@@ -79,11 +79,11 @@ fn compare<S: Alter>(
     ensures crash { Survives (state S.Store conn.old) (state S.Store conn.new)
         (LeavesBound setup.now (state S.Store conn.old)) }
 {
-    let texts = match row_texts(alloc, setup) {
-        Ok(texts) => texts,
+    let answer = has_setup(alloc, conn, setup, made)?;
+    let same = match answer {
+        Ok(same) => same,
         Err(_) => return Ok(Err(StoreFault::NoMemory)),
     };
-    let same = has_setup(conn, &texts, made)?;
     if !same {
         return Ok(Err(StoreFault::OtherSetup));
     }

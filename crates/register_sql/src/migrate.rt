@@ -23,7 +23,7 @@ use crate::rowids::{are_all_apart, is_apart};
 use crate::schema::tables_made;
 use crate::told::has_setup;
 use nest_core::Setup;
-use register_store::{StoreFault, row_texts};
+use register_store::StoreFault;
 use sqlite::{Alter, Connection, Error};
 use std::alloc::Global;
 
@@ -129,11 +129,11 @@ fn compare_first<S: Alter>(
     ensures crash { Survives (state S.Store conn.old) (state S.Store conn.new)
         (LeavesMoved setup.now (state S.Store conn.old)) }
 {
-    let texts = match row_texts(alloc, setup) {
-        Ok(texts) => texts,
+    let answer = has_setup(alloc, conn, setup, made)?;
+    let same = match answer {
+        Ok(same) => same,
         Err(_) => return Ok(Err(StoreFault::NoMemory)),
     };
-    let same = has_setup(conn, &texts, made)?;
     if !same {
         return Ok(Err(StoreFault::OtherSetup));
     }

@@ -2,6 +2,7 @@
 ghost use Rattle.std.specs.Prelude.{◌≡◌, ◌<◌, ◌≤◌, ◌+◌, ◌∷◌, [], pos, ℕ, ℤ, true, false, map, codes, length, IfOk, IfSome, IfNone, OnOk, string_bytes};
 ghost use Rattle.std.specs.Bool.{Decides};
 ghost use Rattle.std.specs.List.Sorted.{IsPermutation};
+ghost use Rattle.nest_core.specs.SetupTexts.{setup_rows};
 ghost use Rattle.sqlite.specs.Held.{state};
 ghost use Rattle.sqlite.specs.Order.{column};
 ghost use Rattle.sqlite.specs.State.{HasCleanDisk};
@@ -13,8 +14,12 @@ ghost use Rattle.register_sql.specs.Says.{IsOther, HasOther, IsWhole, IsTold, se
 ghost use Rattle.register_sql.specs.Shown.{setup_shown};
 
 use crate::queries::{Query, read};
+use codes_core::NoMemory;
+use nest_core::Setup;
+use register_store::row_texts;
 use sqlite::{Alter, Connection, Error, Row};
 use sqlite_value::value::ValueRef;
+use std::alloc::Global;
 
 /// What the rows of `meta` say.
 #[derive(Clone, Copy, Debug, PartialEq, Eq)]
@@ -187,7 +192,7 @@ fn are_setup(rows: &[Row], texts: &[String]) -> bool
 }
 
 /// Whether the setup of a store of the first so many tables has these texts: it has none where its table isn't there.
-pub(crate) fn has_setup<S: Alter>(
+fn has_texts<S: Alter>(
     conn: &mut Connection<S>,
     texts: &[String],
     made: usize,
@@ -207,4 +212,30 @@ pub(crate) fn has_setup<S: Alter>(
     }
     let rows = read(conn, Query::Setups, made)?;
     Ok(are_setup(&rows, texts))
+}
+
+/// Whether a store of the first so many tables has this setup: it has none where its table isn't there.
+pub(crate) fn has_setup<S: Alter>(
+    alloc: Global,
+    conn: &mut Connection<S>,
+    setup: &Setup,
+    made: usize,
+) -> Result<Result<bool, NoMemory>, Error>
+    requires few { made ≤ 6 }
+    requires part { HasCleanDisk (state S.Store conn.old) → IsPart made (state S.Store conn.old) }
+    ensures between { conn.old.in_transaction ≡ false → conn.new.in_transaction ≡ false }
+    ensures told { HasCleanDisk (state S.Store conn.new)
+        → IfOk result (λ answer. IfOk answer (λ same. Decides same
+        (IsPermutation (setup_rows_shown (setup_rows setup.now))
+        (setup_in made (state S.Store conn.old).now.trees)))) }
+    ensures same { HasCleanDisk (state S.Store conn.new)
+        → OnOk result (IsSame (state S.Store conn.old) (state S.Store conn.new)) }
+    ensures survives { Survived (state S.Store conn.old) (state S.Store conn.new) }
+{
+    let texts = match row_texts(alloc, setup) {
+        Ok(texts) => texts,
+        Err(fault) => return Ok(Err(fault)),
+    };
+    let same = has_texts(conn, &texts, made)?;
+    Ok(Ok(same))
 }

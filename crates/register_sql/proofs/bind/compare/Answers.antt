@@ -1,16 +1,22 @@
-use Rattle.std.proofs.Common.{◌≡◌, arith, rules, map, subst, true, false}
+use Rattle.std.proofs.Common.{◌≡◌, IfOk, arith, rules, subst, true, false}
 use Rattle.std.specs.Bool.{Decides}
 use Rattle.std.specs.List.Sorted.{IsPermutation}
-use Rattle.std.specs.Prelude.{string_bytes}
 use Rattle.nest_core.specs.SetupTexts.{setup_rows}
 use Rattle.sqlite.specs.Held.{state}
 use Rattle.sqlite.specs.State.{HasCleanDisk}
-use Rattle.register_store.specs.declared.store_fault.StoreFault.TheVariants.{OtherSetup, Store}
+use Rattle.register_store.specs.declared.store_fault.StoreFault.TheVariants.{NoMemory, OtherSetup, Store}
 use Rattle.register_sql.specs.Queries.{AreApart}
 use Rattle.register_sql.specs.Says.{setup_rows_shown, setup_in}
 use Rattle.register_sql.proofs.Binds.{refused_as, other_setup, bound_old, is_six}
 use Rattle.register_sql.proofs.Rising.{same_then}
 use Rattle.register_sql.proofs.bind.compare.Goals as goal
+
+pub returns-in-Err-clause-refused : goal.returns-in-Err-clause-refused
+returns-in-Err-clause-refused g c clean =
+    let old = state g.S.Store c.args.conn.now in
+    let mid = state g.S.Store c.has_setup.new.conn in
+    let early : HasCleanDisk old = omega (arith, clean, c.has_setup.ensures.survives.clean) in
+    refused_as c.args.setup.now c.args.made c.requires.few old mid NoMemory (c.requires.part early) (c.in_ok-answer.ensures.same clean) (λ k held. tt)
 
 pub returns-then-not-same-clause-refused : goal.returns-then-not-same-clause-refused
 returns-then-not-same-clause-refused g c clean =
@@ -20,11 +26,9 @@ returns-then-not-same-clause-refused g c clean =
     let mid = state g.S.Store c.has_setup.new.conn in
     let early : HasCleanDisk old = omega (arith, clean, c.has_setup.ensures.survives.clean) in
     let it = c.requires.told early in
-    let texts = map string_bytes c.deref.result.now in
-    let are : texts ≡ setup_rows S = search rules in
-    let told = subst (λ ts. Decides c.in_ok-same.same (IsPermutation (setup_rows_shown ts) (setup_in made old.now.trees))) are (c.in_ok-same.ensures.told clean) in
-    let differs : c.in_ok-same.same ≡ false = search rules in
-    refused_as S made c.requires.few old mid OtherSetup (c.requires.part early) (c.in_ok-same.ensures.same clean)
+    let told = subst (λ a. IfOk a (λ b. Decides b (IsPermutation (setup_rows_shown (setup_rows S)) (setup_in made old.now.trees)))) c.in-Ok.is (c.in_ok-answer.ensures.told clean) in
+    let differs : c.in-Ok.same ≡ false = search rules in
+    refused_as S made c.requires.few old mid OtherSetup (c.requires.part early) (c.in_ok-answer.ensures.same clean)
     (other_setup S made c.requires.some old.now.trees it.0 c.args.depth it.1 it.2 (subst (λ b. Decides b (IsPermutation (setup_rows_shown (setup_rows S)) (setup_in made old.now.trees))) differs told))
 
 pub returns-then-made-lt6-clause-refused : goal.returns-then-made-lt6-clause-refused
@@ -32,7 +36,7 @@ returns-then-made-lt6-clause-refused g c clean =
     let old = state g.S.Store c.args.conn.now in
     let mid = state g.S.Store c.has_setup.new.conn in
     let early : HasCleanDisk old = omega (arith, clean, c.has_setup.ensures.survives.clean) in
-    refused_as c.args.setup.now c.args.made c.requires.few old mid Store (c.requires.part early) (c.in_ok-same.ensures.same clean) (λ k held. tt)
+    refused_as c.args.setup.now c.args.made c.requires.few old mid Store (c.requires.part early) (c.in_ok-answer.ensures.same clean) (λ k held. tt)
 
 pub returns-clause-bound : goal.returns-clause-bound
 returns-clause-bound g c clean =
@@ -45,11 +49,9 @@ returns-clause-bound g c clean =
     let six : c.args.made ≡ 6 = omega arith in
     let part = is_six c.args.made old c.requires.few (omega arith) (c.requires.part early) in
     let it = c.requires.told early in
-    let first = c.in_ok-same.ensures.same now in
-    let texts = map string_bytes c.deref.result.now in
-    let are : texts ≡ setup_rows S = search rules in
-    let told = subst (λ ts. Decides c.in_ok-same.same (IsPermutation (setup_rows_shown ts) (setup_in c.args.made old.now.trees))) are (c.in_ok-same.ensures.told now) in
-    let equal : c.in_ok-same.same ≡ true = search rules in
+    let first = c.in_ok-answer.ensures.same now in
+    let told = subst (λ a. IfOk a (λ b. Decides b (IsPermutation (setup_rows_shown (setup_rows S)) (setup_in c.args.made old.now.trees)))) c.in-Ok.is (c.in_ok-answer.ensures.told now) in
+    let equal : c.in-Ok.same ≡ true = search rules in
     let has = subst (λ b. Decides b (IsPermutation (setup_rows_shown (setup_rows S)) (setup_in c.args.made old.now.trees))) equal told in
     let apart = (c.in_ok-apart.ensures.told clean).0 (search rules) in
     bound_old S c.args.depth old new it.0 part it.1 it.2 (subst (λ k. Decides true (IsPermutation (setup_rows_shown (setup_rows S)) (setup_in k old.now.trees))) six has)
