@@ -1,10 +1,12 @@
 #!/usr/bin/env python3
-"""Serves 64 stations at once over a store for so long, and tells whether the log and the record are right and memory stays flat.
+"""Serves 64 stations at once, without a store and then over one for so long, and tells whether the log and the record are
+right and memory stays flat.
 
-Usage: load.py PROGRAM [--seconds N] [--replay MESSAGES] [--folder FOLDER]. A short serving tells how many messages the disk of the
-folder (one of the system's temporary folders where none is said) takes in a second; then one serving is made of as many as should
-take so many seconds (3 where it isn't said, as the gate does; by hand 600). With --replay it is one replay of so many messages,
-which come from all stations by turns.
+Usage: load.py PROGRAM [--seconds N] [--replay MESSAGES] [--folder FOLDER]. First, without a store, each station sends more
+lines than its lane holds. A short serving tells how many messages the disk of the folder (one of the system's temporary
+folders where none is said) takes in a second; then one serving is made of as many as should take so many seconds (3 where it
+isn't said, as the gate does; by hand 600). With --replay it is one replay of so many messages, which come from all stations
+by turns.
 
 Each station packs an object of its own into a crate of its own and moves the crate to and fro; of each eight messages one comes
 late, so that two are held, and one is sent twice; where it is served, a line after them is no message; last it asks where its
@@ -29,6 +31,7 @@ POSTED = re.compile(r" posted (\d+) ")
 MOST_BYTES = 1000
 FEWEST = 20_000
 FIRST = 2  # blocks of each station in the serving that tells how fast the disk is
+FULL = 33  # blocks of each station in the serving without a store: 331 lines, of which a lane holds 256
 
 
 def crate_of(station):
@@ -95,12 +98,15 @@ def resident(process):
 
 
 class Run:
-    """All stations over a new store, served or replayed: how long it took, its log, and what memory it had from time to time."""
+    """All stations over a new store, or without one, served or replayed: how long it took, its log, and what memory it had from
+    time to time."""
 
-    def __init__(self, program, room, blocks, is_served):
-        self.program, self.blocks, self.is_served = program, blocks, is_served
+    def __init__(self, program, room, blocks, is_served, is_stored):
+        self.program, self.blocks, self.is_served, self.is_stored = program, blocks, is_served, is_stored
         self.messages, self.room = STATIONS * BLOCK * blocks, room
-        self.record = ["--setup", self.write("setup.csv", [setup_of()]), "--store", os.path.join(room, "museum.db")]
+        self.record = ["--setup", self.write("setup.csv", [setup_of()])]
+        if is_stored:
+            self.record += ["--store", os.path.join(room, "museum.db")]
         feeds = [feed(s, blocks, is_served) for s in range(STATIONS)]
         if is_served:
             self.run(["serve", *self.record, *[self.write(f"{s}.jsonl", lines) for s, lines in enumerate(feeds)]], os.devnull)
@@ -119,7 +125,7 @@ class Run:
         with open(log, "wb") as output, open(given, "rb") as lines:
             running = subprocess.Popen([self.program, *words], stdin=lines, stdout=output)
             while running.poll() is None:
-                if os.path.exists(self.record[3]):
+                if os.path.exists(self.record[-1]):
                     self.memory.append(resident(running))
                 time.sleep(0.01)
         self.seconds, self.status = time.monotonic() - began, running.returncode
@@ -145,7 +151,8 @@ class Run:
         numbers = [int(number) for one in self.log for number in POSTED.findall(one)]
         if numbers != list(range(1, self.messages + 1)):
             yield "entries aren't numbered from 1, in order"
-        yield from self.of_record()
+        if self.is_stored:
+            yield from self.of_record()
 
     def of_record(self):
         counts = {f"ST{s}": 0 for s in range(STATIONS)}
@@ -164,14 +171,15 @@ class Run:
         return (max(self.memory) - self.memory[len(self.memory) // 2]) / (self.messages / 2)
 
 
-def ran(program, blocks, is_served, folder):
+def ran(program, blocks, is_served, folder, is_stored=True):
     """A run, and what of it is wrong."""
     with tempfile.TemporaryDirectory(dir=folder) as room:
-        run = Run(program, room, blocks, is_served)
+        run = Run(program, room, blocks, is_served, is_stored)
         wrong = list(run.differences())
     print("".join(text + "\n" for text in wrong), end="")
-    what = "served" if is_served else "replayed"
-    print(f"{STATIONS} stations {what}, {blocks * BLOCK:,} messages of each in {run.seconds:.1f} s: {len(wrong)} wrong", flush=True)
+    what = ("served" if is_served else "replayed") + ("" if is_stored else " without a store")
+    each = f"{blocks * BLOCK:,} messages of each"
+    print(f"{STATIONS} stations {what}, {each} in {run.seconds:.1f} s: {len(wrong)} wrong", flush=True)
     return run, wrong
 
 
@@ -186,7 +194,9 @@ def main():
     if words.replay:
         blocks = -(-words.replay // (STATIONS * BLOCK))
     else:
-        short, wrong = ran(program, FIRST, True, words.folder)
+        _, wrong = ran(program, FULL, True, words.folder, False)
+        short, more = ran(program, FIRST, True, words.folder)
+        wrong += more
         blocks = max(FIRST, round(FIRST * words.seconds / short.seconds))
     run, more = ran(program, blocks, not words.replay, words.folder)
     each = run.growth()

@@ -1,0 +1,90 @@
+#!/usr/bin/env python3
+"""What the program does where its input or its output fails on the way.
+
+Usage: failing.py PROGRAM. Each check prints its name and ok or FAILED; the last line is 'N passed, M failed'."""
+import os
+import pty
+import resource
+import shutil
+import signal
+import subprocess
+import sys
+import tempfile
+import tty
+
+from store_room import Room, said
+
+SMALL = "station,GAL\nplace,S1,inside\nown,2001.4.1,S1\n"
+MOVE = '{"station":"GAL","n":1,"message":{"kind":"move","thing":"2001.4.1","place":"S1","day":"2024-05-01"}}\n'
+MOST = 1 << 20  # more bytes than a file of a store of one entry has
+
+
+def told(ran, wanted):
+    """Whether a run says what it has to."""
+    if ran != wanted:
+        print(f"  {ran}, not {wanted}")
+    return ran == wanted
+
+
+def broken(room, given):
+    """What a run says whose input gives these bytes and then fails: a terminal whose other side is shut."""
+    ours, other = pty.openpty()
+    tty.setraw(other)
+    os.write(other, given.encode())
+    os.close(other)
+    try:
+        return said(subprocess.run([room.program], stdin=ours, capture_output=True, timeout=60))
+    finally:
+        os.close(ours)
+
+
+def read_fails(room):
+    """After a session's line its reply is there; in the head nothing is."""
+    lines, head = broken(room, f"{SMALL}\n{MOVE}"), broken(room, SMALL)
+    return told(lines, (1, "GAL 1 posted 1 Applied\n", "fault read\n")) and told(head, (1, "", "fault read\n"))
+
+
+def bounded():
+    """No file of this process gets longer; a write that would make it so fails."""
+    signal.signal(signal.SIGXFSZ, signal.SIG_IGN)
+    resource.setrlimit(resource.RLIMIT_FSIZE, (MOST, MOST))
+
+
+def full(room, roomy):
+    """What a replay of the move onto a store says whose output is a file that takes so many bytes more."""
+    with open(room.path("replies"), "wb") as file:
+        file.truncate(MOST - roomy)
+        file.seek(MOST - roomy)
+        words = room.words(setup="small.csv")
+        ran = subprocess.run(words, input=MOVE.encode(), stdout=file, stderr=subprocess.PIPE, preexec_fn=bounded, timeout=60)
+    with open(room.path("replies"), "rb") as file:
+        file.seek(MOST - roomy)
+        return ran.returncode, file.read().decode(), ran.stderr.decode()
+
+
+def write_fails(room):
+    """What there was room for is written, and what was posted stands in the store."""
+    room.write("small.csv", SMALL)
+    stopped = full(room, 10)
+    again = room.replay(MOVE, setup="small.csv")
+    posted = room.command("posted", "small.csv")
+    good = told(stopped, (1, "GAL 1 post", "fault write\n")) and told(again, (0, "GAL 1 refused Double\n", ""))
+    return good and posted[0] == 0 and posted[1].count("\n") == 1
+
+
+def main():
+    program, checks, passed = sys.argv[1], [read_fails, write_fails], 0
+    for check in checks:
+        folder = tempfile.mkdtemp(dir="/dev/shm" if os.path.isdir("/dev/shm") else None)
+        try:
+            good = check(Room(program, folder))
+        finally:
+            shutil.rmtree(folder)
+        passed += good
+        print(f"{check.__name__}: {'ok' if good else 'FAILED'}", flush=True)
+    print(f"{passed} passed, {len(checks) - passed} failed")
+    return passed < len(checks)
+
+
+if __name__ == "__main__":
+    sys.exit(main())
