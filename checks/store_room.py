@@ -1,8 +1,9 @@
 """A folder with a setup and a store, the program that is run there, what stations send to it, and what a stock SQLite
-(Python's sqlite3) reads of it."""
+(Python's sqlite3) reads of it; and how checks that are made in such folders are told."""
 import os
 import sqlite3
 import subprocess
+import tempfile
 
 from plain_store import text_of
 from plain_text import museum_of
@@ -128,3 +129,15 @@ def read(store):
     strict = all(row[5] for row in conn.execute("PRAGMA table_list") if row[1] in names)
     conn.close()
     return rows, shapes, sound and strict
+
+
+def report(program, checks):
+    """Runs each check in a room of its own; prints its name and ok or FAILED, and last how many passed. Whether one failed."""
+    passed = 0
+    for check in checks:
+        with tempfile.TemporaryDirectory(dir="/dev/shm" if os.path.isdir("/dev/shm") else None) as folder:
+            good = check(Room(program, folder))
+        passed += good
+        print(f"{check.__name__}: {'ok' if good else 'FAILED'}", flush=True)
+    print(f"{passed} passed, {len(checks) - passed} failed")
+    return passed < len(checks)

@@ -10,7 +10,6 @@ mod failing;
 mod fresh;
 mod hub;
 mod lanes;
-mod ledger;
 mod messages;
 mod migrations;
 mod nest;
@@ -20,7 +19,6 @@ mod sending;
 mod serving;
 mod serving_faults;
 mod session;
-mod setup;
 mod stations;
 mod stops;
 

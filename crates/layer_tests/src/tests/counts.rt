@@ -1,11 +1,12 @@
 //! A count list of 3,000 rows, checked against a hub's ledger by workers who wait for each other. What lists and reports tell
 //! stands in `cases/`.
-use super::ledger::tell_all;
+use super::hub::send;
 use super::{kept, setup_of};
 use count_core::CountAnswer::{Elsewhere, Found};
 use count_core::{CountReport, CountRow, Probe, check_by, read_counts};
-use hub_core::Hub;
-use register_store::PlainRegister;
+use hub_core::{Answer, Hub};
+use nest_core::StationNo;
+use register_store::{PlainRegister, Register};
 use std::alloc::Global;
 use std::process::Abort;
 use std::sync::atomic::{AtomicBool, Ordering};
@@ -93,6 +94,40 @@ fn is_half_found(report: &CountReport) -> bool {
         }
     }
     report.answers.len() == ROWS && report.missing.is_empty()
+}
+
+const PACK: StationNo = 0;
+
+/// PACK sends its next message, which is posted.
+fn tell<R: Register>(
+    rt: &impl Abort,
+    alloc: Global,
+    hub: &mut Hub<R>,
+    text: &str,
+) -> Result<(), Fail> {
+    let n = hub.posted().len() as u64 + 1;
+    send(
+        rt,
+        alloc,
+        hub,
+        PACK,
+        n,
+        text,
+        Answer::Posted { first: n, last: n },
+    )
+}
+
+/// PACK sends these messages, a line each.
+fn tell_all<R: Register>(
+    rt: &impl Abort,
+    alloc: Global,
+    hub: &mut Hub<R>,
+    texts: &str,
+) -> Result<(), Fail> {
+    for text in texts.lines() {
+        tell(rt, alloc, hub, text)?;
+    }
+    Ok(())
 }
 
 fn opened_with(rt: &impl Abort, alloc: Global) -> Result<Hub<PlainRegister>, Fail> {
