@@ -1,5 +1,5 @@
 #!/usr/bin/env python3
-"""What the program does where its input or its output fails on the way.
+"""What the program does where its input, its output or its store fails on the way.
 
 Usage: failing.py PROGRAM. Each check prints its name and ok or FAILED; the last line is 'N passed, M failed'."""
 import os
@@ -16,6 +16,7 @@ from store_room import Room, said
 
 SMALL = "station,GAL\nplace,S1,inside\nown,2001.4.1,S1\n"
 MOVE = '{"station":"GAL","n":1,"message":{"kind":"move","thing":"2001.4.1","place":"S1","day":"2024-05-01"}}\n'
+FEED = MOVE.replace('"station":"GAL",', "") + '{"ask":"2001.4.1"}\n'
 MOST = 1 << 20  # more bytes than a file of a store of one entry has
 
 
@@ -44,10 +45,10 @@ def read_fails(room):
     return told(lines, (1, "GAL 1 posted 1 Applied\n", "fault read\n")) and told(head, (1, "", "fault read\n"))
 
 
-def bounded():
-    """No file of this process gets longer; a write that would make it so fails."""
+def bounded(most=MOST):
+    """No file of this process gets longer than this; a write that would make it so fails."""
     signal.signal(signal.SIGXFSZ, signal.SIG_IGN)
-    resource.setrlimit(resource.RLIMIT_FSIZE, (MOST, MOST))
+    resource.setrlimit(resource.RLIMIT_FSIZE, (most, most))
 
 
 def full(room, roomy):
@@ -72,8 +73,24 @@ def write_fails(room):
     return good and posted[0] == 0 and posted[1].count("\n") == 1
 
 
+def served(room, most):
+    """What a serving of a message and a question says where no file of the store gets longer than this."""
+    words = [*room.words("serve", "small.csv"), room.write("feed.jsonl", FEED)]
+    return said(subprocess.run(words, capture_output=True, preexec_fn=lambda: bounded(most), timeout=60))
+
+
+def store_refuses(room):
+    """A serving whose store takes no byte more prints nothing and posts nothing; then it is served whole."""
+    room.write("small.csv", SMALL)
+    room.replay("", setup="small.csv")
+    refused, posted = served(room, 0), room.command("posted", "small.csv")
+    log = "GAL 1 posted 1 Applied\nGAL ask 2001.4.1 at S1\n"
+    good = told(refused, (1, "", "fault store Store\n")) and told(posted, (0, "", ""))
+    return good and told(served(room, MOST), (0, log, ""))
+
+
 def main():
-    program, checks, passed = sys.argv[1], [read_fails, write_fails], 0
+    program, checks, passed = sys.argv[1], [read_fails, write_fails, store_refuses], 0
     for check in checks:
         folder = tempfile.mkdtemp(dir="/dev/shm" if os.path.isdir("/dev/shm") else None)
         try:

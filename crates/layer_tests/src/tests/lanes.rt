@@ -12,23 +12,18 @@ use std::alloc::Global;
 use std::process::Abort;
 use std::test::Fail;
 
-/// A question.
-fn question() -> Result<Item, Fail> {
-    Ok(Item::Ask(ThingCode::parse(b"2001.4.1")?))
-}
-
-/// Sends so many questions through a lane; tells how many came back.
-fn send(lane: &mut Lane, count: u32) -> Result<u32, Fail>
+/// Asks so often through a lane where this thing is; tells how many questions came back.
+fn send(lane: &mut Lane, thing: ThingCode, count: u32) -> u32
     ensures { SameLane lane.old lane.new }
 {
     let mut back = 0u32;
     for _ in 0..count {
-        let sent = lane.send(question()?);
+        let sent = lane.send(Item::Ask(thing));
         if sent.is_err() {
             back = back.saturating_add(1);
         }
     }
-    Ok(back)
+    back
 }
 
 /// One lane, and its intake.
@@ -58,8 +53,9 @@ fn end(alloc: Global, lane: Lane) -> Result<Vec<LaneEnd>, Fail>
 fn filled(rt: &impl Abort, alloc: Global) -> Result<(Vec<LaneEnd>, Intake), Fail>
     ensures { IfOk result (λ r. AllZip IsEndOn r.0.items r.1) }
 {
+    let thing = ThingCode::parse(b"2001.4.1")?;
     let (mut lane, intake) = one_lane(alloc)?;
-    let back = send(&mut lane, 257)?;
+    let back = send(&mut lane, thing, 257);
     assert!(rt; back == 1);
     let ends = end(alloc, lane)?;
     Ok((ends, intake))
@@ -113,10 +109,11 @@ fn three_turns(
     hub: &mut Hub<PlainRegister>,
     log: &mut Log,
 ) -> Result<(u32, u32, u32), Fail> {
+    let thing = ThingCode::parse(b"2001.4.1")?;
     let (mut lanes, mut intake) = lanes(alloc, 2)?;
     if lanes.len() == 2 {
-        let _ = send(&mut lanes[0], 1)?;
-        let _ = send(&mut lanes[1], 2)?;
+        let _ = send(&mut lanes[0], thing, 1);
+        let _ = send(&mut lanes[1], thing, 2);
     }
     let first = intake.turn(alloc, hub, log)?;
     let second = intake.turn(alloc, hub, log)?;
