@@ -20,7 +20,7 @@ use Rattle.station_core.specs.Series.{Series, series_at, opened}
 use Rattle.station_core.specs.Runs.{Arrived}
 use Rattle.station_core.specs.Progress.{StartsFrom, AllStart, AllMatch}
 use Rattle.station_core.proofs.GrowLemmas.{starts_empty, starts_other, starts_next}
-use Rattle.hub_core.specs.Points.{arrival_of}
+use Rattle.hub_core.specs.Points.{arrival_of, entry_of}
 use Rattle.register_store.specs.declared.store_fault.StoreFault.{StoreFault}
 use Rattle.register_store.specs.declared.store_fault.StoreFault.TheVariants.{NoMemory, Store, OtherSetup, Damaged, OtherVersion}
 use Rattle.hub_core.specs.Openings.{GoesOn, may_send, IsEntryFault, IsJudgeFault}
@@ -173,12 +173,17 @@ goes_on L starts now all law step is made matches = record {
   series = matches is_sign_off (sent L.posted) (subst (λ (xs : List Start). AllStart is_sign_off (sent L.posted) xs) (sym is) (all_start L.museum L.depth L.posted starts law step));
 }
 
--- what the judging of an entry found
-pub judged_follows : (L : Book) (e : Entry) (starts now : List Start) (sends : Bool) (changes : Changes) → InStep (map opened starts) L.museum L.posted → now ≡ starts
-    → sends ≡ may_send (slice_get now e.station) e.n → sends ≡ true → changes ≡ changes_of L e.message → changes.verdict ≡ e.verdict → Follows L.museum L.depth L.posted e
-judged_follows L e starts now sends changes step is told on planned same =
-    follows_next L.museum L.depth L.posted e starts step (ap (λ (xs : List Start). may_send (slice_get xs e.station) e.n) (sym is) ∙ (sym told ∙ on))
-    (ap (λ (x : Changes). x.verdict) (sym planned) ∙ same)
+-- an entry whose station may send its number may follow with the verdict of the rules
+pub sends_follows : (L : Book) (e : Entry) (starts now : List Start) (sends : Bool) → InStep (map opened starts) L.museum L.posted → now ≡ starts
+    → sends ≡ may_send (slice_get now e.station) e.n → sends ≡ true → Follows L.museum L.depth L.posted (entry_of L.museum L.depth L.posted (arrival_of e))
+sends_follows L e starts now sends step is told on =
+    follows_next L.museum L.depth L.posted (entry_of L.museum L.depth L.posted (arrival_of e)) starts step (ap (λ (xs : List Start). may_send (slice_get xs e.station) e.n) (sym is) ∙ (sym told ∙ on)) refl
+
+-- and so it may with its own, where that is the same
+pub judged_follows : (L : Book) (e : Entry) (changes : Changes) → Follows L.museum L.depth L.posted (entry_of L.museum L.depth L.posted (arrival_of e))
+    → changes ≡ changes_of L e.message → changes.verdict ≡ e.verdict → Follows L.museum L.depth L.posted e
+judged_follows L e changes f planned same =
+    record { known = f.known; next = f.next; few = f.few; unsigned = f.unsigned; judged = sym same ∙ ap (λ (x : Changes). x.verdict) planned }
 
 -- the first wrong entry of the list
 pub entry_fault : (S : Museum) (depth : ℕ) (L : Book) (O left left' : List Entry) (e : Entry) (fault : StoreFault) → L.museum ≡ S → L.depth ≡ depth

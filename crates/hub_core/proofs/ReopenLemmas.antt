@@ -1,5 +1,5 @@
 -- A store that has a lawful list can be opened.
-use Rattle.std.proofs.Common.{◌≡◌, inl, inr, Bool, ℕ, true, false, List, [], ◌∷◌, ◌++◌, length, refl, sym, subst, ap, ◌∙◌, arith}
+use Rattle.std.proofs.Common.{◌≡◌, ◌⊎◌, inl, inr, Bool, ℕ, true, false, List, [], ◌∷◌, ◌++◌, length, refl, sym, subst, ap, ◌∙◌, arith}
 use Rattle.std.proofs.lemmas.Bool.{false≢true}
 use Rattle.std.specs.List.{AllByRecursion}
 use Rattle.std.specs.List.Sorted.{IsPermutation}
@@ -8,20 +8,22 @@ use Rattle.std.proofs.lemmas.List.Sorted.{IsPermutation-sym, IsPermutation-trans
 use Rattle.nest_core.specs.Museum.{Museum}
 use Rattle.posting_core.specs.declared.entry.Entry.{Entry}
 use Rattle.posting_core.specs.declared.message.Message.{Message}
-use Rattle.posting_core.specs.Book.{Book}
+use Rattle.posting_core.specs.declared.entry.Changes.{Changes}
+use Rattle.posting_core.specs.declared.verdict.Verdict.{Verdict}
+use Rattle.posting_core.specs.Book.{Book, changes_of}
 use Rattle.posting_core.specs.Lawful.{Follows, IsLawful}
 use Rattle.register_store.specs.declared.store_fault.StoreFault.{StoreFault}
 use Rattle.register_store.specs.declared.store_fault.StoreFault.TheVariants.{NoMemory, Store, OtherSetup, Damaged, OtherVersion}
-use Rattle.register_store.specs.StoredRows.{Content, MetaRow, HasRows, IsStoreOf, rows_of_meta}
+use Rattle.register_store.specs.StoredRows.{Content, AreSame, MetaRow, HasRows, IsStoreOf, rows_of_meta}
 use Rattle.register_store.specs.Registers.{is_failure, is_new, bound_by, bound_to, has_other_version, IsOfStation}
-use Rattle.register_store.specs.Holdings.{Holding, Comes}
+use Rattle.register_store.specs.Holdings.{Holding, Comes, IsPosted}
 use Rattle.register_store.proofs.HoldingLemmas.{has_more}
 use Rattle.register_store.proofs.OneList.{one_list}
 use Rattle.register_store.proofs.WholeLists.{never_wrong}
 use Rattle.station_core.specs.Runs.{Arrived}
-use Rattle.hub_core.proofs.StoreLemmas.{one_depth}
-use Rattle.hub_core.specs.Points.{entry_of, post}
-use Rattle.hub_core.specs.Posting.{LeavesUnposted}
+use Rattle.hub_core.proofs.StoreLemmas.{one_depth, entry_with, left_in, either_in, posted_book, stored_book}
+use Rattle.hub_core.specs.Points.{arrival_of, entry_of, post}
+use Rattle.hub_core.specs.Posting.{Posts, LeavesUnposted}
 use Rattle.hub_core.specs.StandsFor.{HasStore, HasSomeStore, HasEither}
 use Rattle.hub_core.specs.Openings.{IsFirstUnlawful, HasWrongRow, HasWrongEntry, HasOtherRows, IsOpenFault, OpensAgain, IsNotOpened}
 
@@ -101,6 +103,39 @@ module _ (store : Holding) where
 pub unposted : (old new : Holding) (L L' : Book) (next : Arrived Message) → IsLawful L.museum L.depth L.posted → Follows L.museum L.depth L.posted (entry_of L.museum L.depth L.posted next)
     → L' ≡ L → (HasStore old L → HasEither new L.museum L.depth L.posted next) → LeavesUnposted old new L L' next
 unposted old new L L' next law follows same left = record { ledger = same; left = left; lawful = λ had. some_of_either new L L' next law follows same (left had) }
+
+abbrev with_verdict : Entry → Verdict → Entry
+with_verdict e v = record { station = e.station; n = e.n; message = e.message; verdict = v }
+
+-- what the posting of an entry that may follow leaves
+module _ (old new : Holding) (L L' : Book) (e : Entry) (changes : Changes) (lawful : IsLawful L.museum L.depth L.posted) (follows : Follows L.museum L.depth L.posted e) (planned : changes ≡ changes_of L e.message) where
+  -- it has the verdict of its changes, which is that of the rules
+  own : e ≡ entry_with (arrival_of e) changes
+  own = ap (with_verdict e) (follows.judged ∙ ap (λ (x : Changes). x.verdict) (sym planned))
+
+  next : Follows L.museum L.depth L.posted (entry_of L.museum L.depth L.posted (arrival_of e))
+  next = subst (λ (x : Entry). Follows L.museum L.depth L.posted x) (ap (with_verdict e) follows.judged) follows
+
+  posting : Comes old new (IsPosted e changes) → Comes old new (IsPosted (entry_with (arrival_of e) changes) changes)
+  posting comes = subst (λ (x : Entry). Comes old new (IsPosted x changes)) own comes
+
+  -- the register failed
+  pub unstored : Comes old new (λ c d. AreSame c d ⊎ IsPosted e changes c d) → LeavesUnposted old new L L (arrival_of e)
+  unstored comes = unposted old new L L (arrival_of e) lawful next refl
+      (λ had. left_in old new L (arrival_of e) changes lawful next planned had (subst (λ (x : Entry). Comes old new (λ c d. AreSame c d ⊎ IsPosted x changes c d)) own comes))
+
+  -- the ledger failed
+  pub unapplied : L' ≡ L → Comes old new (IsPosted e changes) → LeavesUnposted old new L L' (arrival_of e)
+  unapplied same comes = unposted old new L L' (arrival_of e) lawful next same (λ had. either_in old new L (arrival_of e) changes lawful next planned had (posting comes))
+
+  -- neither did
+  pub posts : L' ≡ record L { posted = e ∷ L.posted } → Comes old new (IsPosted e changes) → Posts old new L L' (arrival_of e)
+  posts is comes =
+      let is' : L' ≡ record L { posted = entry_with (arrival_of e) changes ∷ L.posted } = is ∙ ap (λ (x : Entry). record L { posted = x ∷ L.posted }) own in
+      record {
+        ledger = posted_book L (arrival_of e) changes planned L' is';
+        stored = λ had. stored_book old new L (arrival_of e) changes lawful next planned had L' is' (posting comes);
+      }
 
 -- an opening of such a store fails for nothing else
 pub fails_so : (old new : Holding) (S T : Museum) (fault : StoreFault) → S ≡ T → OpensAgain old T → Comes old new (IsNotOpened S fault) → new.is_quiet → is_failure fault ≡ true

@@ -17,7 +17,7 @@ use Rattle.station_core.specs.declared.Refusal.{Refusal}
 use Rattle.station_core.proofs.StationLemmas.{taken_refused, taken_accepted, series_at_set_same, accepted}
 use Rattle.register_store.specs.Holdings.{Holding}
 use Rattle.hub_core.specs.declared.hub.answer.Arrival.{Arrival}
-use Rattle.hub_core.specs.declared.hub.answer.Answer.TheVariants.{Refused, Held, Posted}
+use Rattle.hub_core.specs.declared.hub.answer.Answer.TheVariants.{Refused, Posted}
 use Rattle.hub_core.specs.Points.{seen, post, Point, point_with, point_after, point, reply, reply_from, due_with, arrival_of}
 use Rattle.hub_core.specs.StandsFor.{State, StandsFor, InStep, Done, HasStore, Stopped, TakesSome}
 
@@ -130,8 +130,8 @@ reply_due S depth O A r done next rest h all =
     let apart : before ≡ now → ⊥ = λ same. absurd (omega (arith, same, grown, some)) in
     (before + 1, now, ap (λ (o : Option Refusal). reply_from o before now) h ∙ sym (reply_posted before now before now refl refl apart))
 
-pub reply_held : (before now x y : ℕ) → x ≡ before → y ≡ now → x ≡ y → Held ≡ reply_from None before now
-reply_held before now x y p q h = let t : (before == now) ≡ true = grind (arith, nat_tests) in rw t refl
+pub reply_counted : (before now x y : ℕ) → x ≡ before → y ≡ now → reply_from None x y ≡ reply_from None before now
+reply_counted before now x y p q = rw (p, q) refl
 
 -- what the stations refuse is what looking back refuses
 pub refused_by : {R : Type 0} (hub : State R) (O : List Entry) (A : List Arrival) (r : Arrival) (o X : Option Refusal) → InStep hub.sequences hub.book.museum hub.book.posted →

@@ -1,5 +1,5 @@
 //! The hub.
-ghost use Rattle.std.specs.Prelude.{◌≡◌, ◌≢◌, ◌↔◌, List, [], ◌∷◌, ◌++◌, ℕ, reverse, true, false, IfOk, OnOk, OnErr, IsErrOf, IfErr};
+ghost use Rattle.std.specs.Prelude.{◌≡◌, ◌≢◌, ◌<◌, ◌↔◌, None, List, [], ◌∷◌, ◌++◌, ℕ, reverse, true, false, IfOk, OnOk, OnErr, IsErrOf, IfErr};
 ghost use Rattle.posting_core.specs.declared.entry.Entry.{Entry};
 ghost use Rattle.hub_core.specs.declared.hub.answer.Arrival.{Arrival};
 ghost use Rattle.posting_core.specs.Messages.{is_sign_off};
@@ -9,7 +9,7 @@ ghost use Rattle.station_core.specs.declared.Refusal.{Refusal};
 ghost use Rattle.register_store.specs.Holdings.{Comes};
 ghost use Rattle.hub_core.specs.Openings.{CountsFault, Opened, IsNotOpened, OpensAgain};
 ghost use Rattle.hub_core.specs.Faults.{CountsStore};
-ghost use Rattle.hub_core.specs.Points.{point, reply, due_with, whereabouts, cut, IsPlaced};
+ghost use Rattle.hub_core.specs.Points.{point, reply, reply_from, due_with, whereabouts, cut, IsPlaced};
 
 pub(crate) mod answer;
 mod opening;
@@ -157,14 +157,7 @@ impl<R: Register> Hub<R> {
             self.down = true;
             return Err(fault);
         }
-        let now = self.ledger.posted().len() as u64;
-        if before == now {
-            return Ok(Answer::Held);
-        }
-        Ok(Answer::Posted {
-            first: before + 1,
-            last: now,
-        })
+        Ok(answer_from(before, self.ledger.posted().len() as u64))
     }
 
     /// Where the thing with the code is. The faults: Down exactly where the hub is down; NoMemory.
@@ -224,6 +217,20 @@ impl<R: Register> Hub<R> {
         drop(sequences);
         drop(ledger);
         register
+    }
+}
+
+/// What is said to an arrival that is taken, by how many entries were posted before, and how many are now.
+fn answer_from(before: u64, now: u64) -> Answer
+    requires { before < u64.MAX }
+    ensures { result ≡ reply_from None before now }
+{
+    if before == now {
+        return Answer::Held;
+    }
+    Answer::Posted {
+        first: before + 1,
+        last: now,
     }
 }
 

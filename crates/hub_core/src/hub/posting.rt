@@ -1,18 +1,19 @@
 //! The posting of what is due.
 ghost use Rattle.std.specs.Prelude.{◌≡◌, ◌<◌, ◌⊎◌, false, true, length, OnOk, OnErr, IfErr};
 ghost use Rattle.posting_core.specs.Messages.{is_sign_off};
-ghost use Rattle.posting_core.specs.Lawful.{Follows};
+ghost use Rattle.posting_core.specs.Book.{changes_of};
+ghost use Rattle.posting_core.specs.Lawful.{Follows, IsLawful};
 ghost use Rattle.register_store.specs.Registers.{is_failure};
 ghost use Rattle.station_core.specs.Series.{series_at};
 ghost use Rattle.station_core.specs.Runs.{arrived};
-ghost use Rattle.hub_core.specs.Points.{entry_of};
+ghost use Rattle.hub_core.specs.Points.{arrival_of, entry_of};
 ghost use Rattle.hub_core.specs.Faults.{hub_fault, CountsStore};
 ghost use Rattle.hub_core.specs.StandsFor.{InStep};
 ghost use Rattle.hub_core.specs.Posting.{Posts, LeavesUnposted, PostsDue, StopsDue};
 
 use crate::HubFault;
 use nest_core::StationNo;
-use posting_core::{Entry, Ledger, Message};
+use posting_core::{Changes, Entry, Ledger, Message};
 use register_store::{Register, StoreFault};
 use station_core::Sequences;
 use std::alloc::Global;
@@ -53,7 +54,7 @@ pub(crate) fn post_due<R: Register>(
     Ok(())
 }
 
-/// Posts a station's next message, with its verdict, first in the register and then in the ledger.
+/// Posts a station's next message, with its verdict.
 fn post_next<R: Register>(
     alloc: Global,
     ledger: &mut Ledger,
@@ -85,10 +86,35 @@ fn post_next<R: Register>(
         message,
         verdict,
     };
-    if let Err(fault) = register.post(alloc, &entry, &changes) {
+    post_entry(alloc, ledger, register, &entry, &changes)
+}
+
+/// Posts an entry with what it changes, first in the register and then in the ledger.
+fn post_entry<R: Register>(
+    alloc: Global,
+    ledger: &mut Ledger,
+    register: &mut R,
+    entry: &Entry,
+    changes: &Changes,
+) -> Result<(), HubFault>
+    requires lawful { IsLawful ledger.old.museum ledger.old.depth ledger.old.posted }
+    requires follows { Follows ledger.old.museum ledger.old.depth ledger.old.posted entry.now }
+    requires planned { changes.now ≡ changes_of ledger.old entry.now.message }
+    requires bound { R.is_bound register.old ≡ true }
+    ensures posted { OnOk result
+        (Posts (R.holding register.old) (R.holding register.new) ledger.old ledger.new
+        (arrival_of entry.now)) }
+    ensures left { OnErr result
+        (LeavesUnposted (R.holding register.old) (R.holding register.new) ledger.old ledger.new
+        (arrival_of entry.now)) }
+    ensures bound { R.is_bound register.new ≡ true }
+    ensures count { CountsStore (R.refusals register.old) (R.refusals register.new) result }
+    ensures fault { IfErr result (λ fault. (fault ≡ HubFault.NoMemory) ⊎ (fault ≡ HubFault.Store)) }
+{
+    if let Err(fault) = register.post(alloc, entry, changes) {
         return Err(hub_fault(fault));
     }
-    ledger.apply(alloc, &entry, &changes)?;
+    ledger.apply(alloc, entry, changes)?;
     Ok(())
 }
 

@@ -1,15 +1,17 @@
 //! The posting again of what a register has, each entry judged anew.
-ghost use Rattle.std.specs.Prelude.{◌≡◌, ◌∷◌, [], false, reverse, replicate, map, OnOk, IfOk, IfErr};
+ghost use Rattle.std.specs.Prelude.{◌≡◌, ◌+◌, ◌∷◌, [], false, length, reverse, replicate, map, OnOk, IfOk, IfErr};
 ghost use Rattle.std.specs.Bool.{Decides};
 ghost use Rattle.std.specs.List.{slice_get};
+ghost use Rattle.posting_core.specs.Book.{changes_of};
 ghost use Rattle.posting_core.specs.Lawful.{Follows};
 ghost use Rattle.station_core.specs.Series.{opened};
+ghost use Rattle.hub_core.specs.Points.{arrival_of, entry_of};
 ghost use Rattle.hub_core.specs.Openings.{IsJudged, IsJudgeFault, IsEntryFault, may_send};
 ghost use Rattle.hub_core.specs.StandsFor.{InStep};
 
 use crate::hub::posting::is_sign_off;
 use codes_core::NoMemory;
-use posting_core::{Entry, Ledger, Verdict};
+use posting_core::{Changes, Entry, Ledger, Verdict};
 use register_store::StoreFault;
 use station_core::{LAST, Start};
 use std::alloc::Global;
@@ -31,7 +33,7 @@ pub(crate) fn judged(
     let mut left = entries;
     left.reverse();
     while let Some(entry) = left.pop() {
-        judge_next(alloc, ledger, &mut starts, entry)?;
+        judge_next(alloc, ledger, &mut starts, &entry)?;
     }
     Ok(starts)
 }
@@ -41,34 +43,77 @@ fn judge_next(
     alloc: Global,
     ledger: &mut Ledger,
     starts: &mut Vec<Start>,
-    entry: Entry,
+    entry: &Entry,
 ) -> Result<(), StoreFault>
     requires { InStep (map opened starts.old.items) ledger.old.museum ledger.old.posted }
     ensures follows { OnOk result
-        (Follows ledger.old.museum ledger.old.depth ledger.old.posted entry) }
+        (Follows ledger.old.museum ledger.old.depth ledger.old.posted entry.now) }
     ensures posted { OnOk result
-        (ledger.new ≡ record ledger.old { posted = entry ∷ ledger.old.posted }) }
+        (ledger.new ≡ record ledger.old { posted = entry.now ∷ ledger.old.posted }) }
     ensures in_step { OnOk result
         (InStep (map opened starts.new.items) ledger.new.museum ledger.new.posted) }
     ensures cause { IfErr result
-        (λ fault. IsEntryFault ledger.old.museum ledger.old.depth ledger.old.posted entry fault) }
+        (λ fault. IsEntryFault ledger.old.museum ledger.old.depth ledger.old.posted entry.now
+        fault) }
 {
-    let number = ledger.posted().len() as u64 + 1;
     let station = entry.station as usize;
     if !may_send(starts, station, entry.n) {
-        return Err(StoreFault::Damaged(number));
+        return Err(StoreFault::Damaged(next_number(ledger)));
     }
-    let changes = ledger.plan(alloc, &entry.message)?;
-    if !is_same(changes.verdict, entry.verdict) {
-        return Err(StoreFault::Damaged(number));
-    }
-    let start = Start {
+    post_again(alloc, ledger, entry)?;
+    starts[station] = Start {
         posted: entry.n,
         signed: is_sign_off(&entry.message),
     };
-    ledger.apply(alloc, &entry, &changes)?;
-    starts[station] = start;
     Ok(())
+}
+
+/// Posts an entry in the ledger, where its verdict is what the rules give; its station may send its number.
+fn post_again(alloc: Global, ledger: &mut Ledger, entry: &Entry) -> Result<(), StoreFault>
+    requires { Follows ledger.old.museum ledger.old.depth ledger.old.posted
+        (entry_of ledger.old.museum ledger.old.depth ledger.old.posted (arrival_of entry.now)) }
+    ensures follows { OnOk result
+        (Follows ledger.old.museum ledger.old.depth ledger.old.posted entry.now) }
+    ensures posted { OnOk result
+        (ledger.new ≡ record ledger.old { posted = entry.now ∷ ledger.old.posted }) }
+    ensures cause { IfErr result
+        (λ fault. IsEntryFault ledger.old.museum ledger.old.depth ledger.old.posted entry.now
+        fault) }
+{
+    let changes = ledger.plan(alloc, &entry.message)?;
+    post_same(alloc, ledger, entry, &changes)
+}
+
+/// Posts an entry with what it changes in the ledger, where its verdict is theirs.
+fn post_same(
+    alloc: Global,
+    ledger: &mut Ledger,
+    entry: &Entry,
+    changes: &Changes,
+) -> Result<(), StoreFault>
+    requires sent { Follows ledger.old.museum ledger.old.depth ledger.old.posted
+        (entry_of ledger.old.museum ledger.old.depth ledger.old.posted (arrival_of entry.now)) }
+    requires planned { changes.now ≡ changes_of ledger.old entry.now.message }
+    ensures follows { OnOk result
+        (Follows ledger.old.museum ledger.old.depth ledger.old.posted entry.now) }
+    ensures posted { OnOk result
+        (ledger.new ≡ record ledger.old { posted = entry.now ∷ ledger.old.posted }) }
+    ensures cause { IfErr result
+        (λ fault. IsEntryFault ledger.old.museum ledger.old.depth ledger.old.posted entry.now
+        fault) }
+{
+    if !is_same(changes.verdict, entry.verdict) {
+        return Err(StoreFault::Damaged(next_number(ledger)));
+    }
+    ledger.apply(alloc, entry, changes)?;
+    Ok(())
+}
+
+/// The number of the entry that is posted next.
+fn next_number(ledger: &Ledger) -> u64
+    ensures { result ≡ length ledger.now.posted + 1 }
+{
+    ledger.posted().len() as u64 + 1
 }
 
 /// Whether a station may send this number next.

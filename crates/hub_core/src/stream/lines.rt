@@ -1,5 +1,5 @@
 //! Lines answered one after the other: lines in, replies out.
-ghost use Rattle.std.specs.Prelude.{◌≡◌, ◌<◌, ◌++◌, false, true, List, ℕ, take, OnOk, OnErr, IfErr, IfSome};
+ghost use Rattle.std.specs.Prelude.{◌≡◌, ◌<◌, ◌≤◌, ◌++◌, false, true, List, ℕ, string_capacity, take, OnOk, OnErr, IfErr, IfSome};
 ghost use Rattle.std.specs.Io.KnownBytes.{Appends, IsAtEnd};
 ghost use Rattle.posting_core.specs.declared.entry.Entry.{Entry};
 ghost use Rattle.hub_core.specs.declared.hub.answer.Arrival.{Arrival};
@@ -70,20 +70,44 @@ pub(crate) fn replay_from<R: BufRead, W: Write, S: Register>(
         (W.contents output.old) (W.contents output.new) hub.old hub.new result }
     ensures reads { OnOk result (reads.new.left < reads.old.left) }
 {
-    let mut line = Vec::new(alloc);
     let Ok(mut text) = String::with_capacity(alloc, REPLY_ROOM) else {
         return Err(ReplayFault::NoMemory);
     };
     let mut scratch = Scratch::new(alloc);
+    answer_lines(alloc, input, output, hub, reads, &mut scratch, &mut text)
+}
+
+/// The same over a text with this room.
+fn answer_lines<R: BufRead, W: Write, S: Register>(
+    alloc: Global,
+    input: &mut R,
+    output: &mut W,
+    hub: &mut Hub<S>,
+    reads: &mut Reads,
+    scratch: &mut Scratch,
+    text: &mut String,
+) -> Result<(), ReplayFault>
+    requires up { hub.old.down ≡ false }
+    requires room { REPLY_ROOM ≤ string_capacity text.old }
+    ensures answered { OnOk result
+        ((O : List Entry) (A : List Arrival) → StandsFor S.holding hub.old O A →
+        Answered hub.old.book.museum hub.old.book.depth O A (R.remaining input.old)
+        (R.remaining input.new) (W.contents output.old)
+        (W.contents output.new) S.holding hub.new true) }
+    ensures ends { EndsReplay S.holding S.refusals (R.remaining input.old) (R.remaining input.new)
+        (W.contents output.old) (W.contents output.new) hub.old hub.new result }
+    ensures reads { OnOk result (reads.new.left < reads.old.left) }
+{
+    let mut line = Vec::new(alloc);
     for number in 1..u64::MAX {
         let fed = next_line(input, output, reads, &mut line)?;
         reply_to(
             alloc,
-            &mut scratch,
+            scratch,
             number,
             without_return(line.as_slice()),
             hub,
-            &mut text,
+            text,
         )?;
         write_text(output, text.as_bytes())?;
         if !fed {

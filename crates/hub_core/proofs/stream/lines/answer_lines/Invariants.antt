@@ -4,7 +4,7 @@ use Rattle.hub_core.specs.declared.hub.answer.Arrival.{Arrival}
 use Rattle.hub_core.specs.declared.line.wording.TheConstants.{REPLY_ROOM}
 use Rattle.hub_core.specs.StandsFor.{StandsFor}
 use Rattle.hub_core.proofs.ReplayLemmas.{Underway}
-use Rattle.hub_core.proofs.stream.lines.replay_from.Given as goal
+use Rattle.hub_core.proofs.stream.lines.answer_lines.Given as goal
 
 abbrev pub invariant-loop-number : goal.invariant-loop-number
 invariant-loop-number g l = record {
