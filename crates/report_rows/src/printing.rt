@@ -1,7 +1,8 @@
 //! A row as text, each of the three forms with its line feed.
+ghost use Rattle.std.specs.List.{filter};
 ghost use Rattle.std.specs.Prelude.{◌≡◌, ℕ, List, IfOk, length, map, string_bytes};
 ghost use Rattle.csv.specs.Writing.{default_writer, row_text};
-ghost use Rattle.report_rows.specs.Fields.{Told, member, members, object_line, plain_text, told};
+ghost use Rattle.report_rows.specs.Fields.{Told, is_told, member, members, object_line, plain_text, told};
 ghost use Rattle.report_rows.specs.Fields.{words_line};
 
 use crate::field::{Field, is_told, json_text, plain_text, quoted};
@@ -71,14 +72,23 @@ pub fn json_line<R: Row>(alloc: Global, row: &R) -> Result<String, NoMemory>
 fn words_line(alloc: Global, words: &[Field<'_>]) -> Result<String, NoMemory>
     ensures { IfOk result (λ line. string_bytes line ≡ words_line (map told words.now)) }
 {
+    let texts = words_told(alloc, words)?;
+    let line = texts.as_slice().join(alloc, " ")?;
+    Ok([line.as_str(), "\n"].concat(alloc)?)
+}
+
+/// The text of each word that is there.
+fn words_told(alloc: Global, words: &[Field<'_>]) -> Result<Vec<String>, NoMemory>
+    ensures { IfOk result (λ texts. map string_bytes texts.items
+        ≡ map plain_text (filter is_told (map told words.now))) }
+{
     let mut texts = Vec::new(alloc);
     for i in 0..words.len() {
         if is_told(words[i]) {
             texts.push(plain_text(alloc, words[i])?)?;
         }
     }
-    let line = texts.as_slice().join(alloc, " ")?;
-    Ok([line.as_str(), "\n"].concat(alloc)?)
+    Ok(texts)
 }
 
 fn object(alloc: Global, names: &[&str], fields: &[Field<'_>]) -> Result<String, NoMemory>
@@ -107,15 +117,23 @@ fn separated_fields(alloc: Global, fields: &[Field<'_>]) -> Result<String, NoMem
     ensures { IfOk result (λ line. string_bytes line
         ≡ row_text default_writer (map plain_text (map told fields.now))) }
 {
+    let texts = plain_texts(alloc, fields)?;
+    let mut values = Vec::new(alloc);
+    for text in texts.iter() {
+        values.push(text.as_bytes())?;
+    }
+    row_line(alloc, values.as_slice())
+}
+
+/// The text of each field.
+fn plain_texts(alloc: Global, fields: &[Field<'_>]) -> Result<Vec<String>, NoMemory>
+    ensures { IfOk result (λ texts. map string_bytes texts.items ≡ map plain_text (map told fields.now)) }
+{
     let mut texts = Vec::new(alloc);
     for i in 0..fields.len() {
         texts.push(plain_text(alloc, fields[i])?)?;
     }
-    let mut values = Vec::new(alloc);
-    for text in texts.iter() {
-        values.push(text.as_str())?;
-    }
-    separated(alloc, values.as_slice())
+    Ok(texts)
 }
 
 /// A row of comma-separated values with these texts.
@@ -127,7 +145,15 @@ fn separated(alloc: Global, texts: &[&str]) -> Result<String, NoMemory>
     for i in 0..texts.len() {
         fields.push(texts[i].as_bytes())?;
     }
-    let Ok(bytes) = row_bytes(alloc, fields.as_slice()) else {
+    row_line(alloc, fields.as_slice())
+}
+
+/// A row of comma-separated values with these bytes.
+fn row_line(alloc: Global, fields: &[&[u8]]) -> Result<String, NoMemory>
+    ensures { IfOk result (λ text. string_bytes text
+        ≡ row_text default_writer (map (λ f. f.now) fields.now)) }
+{
+    let Ok(bytes) = row_bytes(alloc, fields) else {
         return Err(NoMemory);
     };
     match String::from_utf8(bytes) {
