@@ -19,6 +19,9 @@ const MOVED: &str = r#"{"kind":"move","thing":"C1","place":"S1","day":"2024-05-0
 
 const PACKED: &str = r#"{"kind":"pack","thing":"2001.4.1","container":"C1","day":"2024-05-01"}"#;
 
+/// The three messages, each with its number.
+const MESSAGES: &[(u64, &str)] = &[(1, AGREED), (2, MOVED), (3, PACKED)];
+
 /// How many of the three messages a run posted, how many were posted before, and whether it was stopped.
 #[derive(Clone, Copy)]
 pub(crate) struct Sent {
@@ -131,11 +134,11 @@ fn send_all<S: Register>(alloc: Global, hub: &mut Hub<S>) -> Option<Sent> {
         doubles: 0,
         stopped: false,
     };
-    for (n, text) in [(1, AGREED), (2, MOVED), (3, PACKED)] {
+    for (n, text) in MESSAGES {
         let message = read_message(alloc, text.as_bytes()).ok()?;
         let arrival = Arrival {
             station: 0,
-            n,
+            n: *n,
             message,
         };
         match hub.arrive(alloc, arrival) {

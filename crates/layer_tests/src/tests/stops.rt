@@ -42,9 +42,10 @@ fn goes_on(first: Sent, second: Sent) -> bool {
 
 /// Asserts that what was posted stands whole after each stop of the log, or else of the database.
 fn assert_posted(rt: &impl Abort, alloc: Global, in_log: bool) {
-    for crashes in [false, true] {
-        assert!(rt; count_stops(alloc, in_log, crashes).is_some_and(|count| count > 0));
-    }
+    let ends = count_stops(alloc, in_log, false);
+    let crashes = count_stops(alloc, in_log, true);
+    assert!(rt; ends.is_some_and(|count| count > 0));
+    assert!(rt; crashes.is_some_and(|count| count > 0));
 }
 
 #[test]
