@@ -30,6 +30,10 @@ survives_on a b c = survives_then a b c _ _ (λ _. ⊥) (λ _ db none. none) (λ
 pub kept_still : (s : State) → KeepsCommit s s
 kept_still s = record { was_open = λ up. up; committed = λ _. refl }
 
+pub on_ok : {T P Q : Type 0} (r : Result T Error) → OnOk r P → (P → Q) → OnOk r Q
+on_ok (Ok x) h f = f h
+on_ok (Err e) h f = tt
+
 -- ---- two steps, and a step for each of some rows
 
 pub makes_then : {T : Type 0} (a b c : State) (f g : Content → Content) (r : Result T Error) → Makes a b f → OnOk r (Makes b c g) → OnOk r (Makes a c (λ x. g (f x)))

@@ -17,7 +17,7 @@ use Rattle.register_sql.specs.Making.{IsMade, Goes, Grown, Spares, ClearsSetup, 
 use Rattle.register_sql.specs.Rows.{setup_cells, meta_cells, had, Apart}
 use Rattle.register_sql.specs.Tables.{hub_schema}
 use Rattle.register_sql.proofs.Deletes.{removes_setup}
-use Rattle.register_sql.proofs.Ends.{survives_whole}
+use Rattle.register_sql.proofs.Ends.{on_ok, survives_whole}
 use Rattle.register_sql.proofs.Inserts.{adds_meta, adds_setup, meta_params, setup_params}
 use Rattle.register_sql.proofs.Texts.{insert_meta, insert_setup, delete_setup}
 
@@ -78,13 +78,9 @@ cleared_setup old new given q made apart h is =
 
 -- ---- one after another
 
-on_ok : {T : Type 0} (r : Result T Error) (P Q : Type 0) → (P → Q) → OnOk r P → OnOk r Q
-on_ok (Ok x) P Q f p = f p
-on_ok (Err e) P Q f p = tt
-
 pub goes_then : {T : Type 0} (j k : ℕ) (First Next Both : Trees → Trees → Type 0) (a b c : State) (r : Result T Error) → ((x y z : Trees) → First x y → Next y z → Both x z)
     → Goes j First a b → OnOk r (Goes k Next b c) → OnOk r (Goes k Both a c)
-goes_then j k First Next Both a b c r joined p = on_ok r (Goes k Next b c) (Goes k Both a c) (λ q.
+goes_then j k First Next Both a b c r joined p next = on_ok r next (λ q.
     record { is = q.is; stays = λ up. q.stays (p.stays up); rows = joined a.now.trees b.now.trees c.now.trees p.rows q.rows })
 
 spares_then : (a b c : Trees) → Spares a b → Spares b c → Spares a c

@@ -8,7 +8,7 @@ ghost use Rattle.register_sql.specs.Posting.{Kept, Survived, IsBack};
 ghost use Rattle.register_sql.specs.Queries.{IsPart};
 ghost use Rattle.register_sql.specs.Rows.{had, Apart};
 
-use crate::put::wide;
+use crate::put::{run, wide};
 use sqlite::{Alter, Connection, Error, Transaction, params};
 
 /// The text that makes the table after the first so many.
@@ -42,8 +42,7 @@ pub(crate) fn make_at<S: Alter>(tx: &mut Transaction<'_, S>, at: usize) -> Resul
     ensures survives { Survived (state S.Store tx.old.conn.now) (state S.Store tx.new.conn.now) }
 {
     let text = create_text(at);
-    tx.execute(text, &[])?;
-    Ok(())
+    run(tx, text, &[])
 }
 
 /// Makes the tables that come after the first so many.
@@ -74,8 +73,7 @@ fn clear_setup<S: Alter>(tx: &mut Transaction<'_, S>) -> Result<(), Error>
     ensures kept { Kept (state S.Store tx.old.conn.now) (state S.Store tx.new.conn.now) }
     ensures survives { Survived (state S.Store tx.old.conn.now) (state S.Store tx.new.conn.now) }
 {
-    tx.execute("DELETE FROM setup", &[])?;
-    Ok(())
+    run(tx, "DELETE FROM setup", &[])
 }
 
 /// Adds a row of the setup.
@@ -88,11 +86,11 @@ fn add_setup<S: Alter>(tx: &mut Transaction<'_, S>, number: u64, text: &str) -> 
     ensures survives { Survived (state S.Store tx.old.conn.now) (state S.Store tx.new.conn.now) }
 {
     let id = wide(number)?;
-    tx.execute(
+    run(
+        tx,
         "INSERT INTO setup (id, txt) VALUES (?1, ?2)",
         params![id, text],
-    )?;
-    Ok(())
+    )
 }
 
 /// Adds the rows of the setup, numbered from 1.
@@ -119,11 +117,11 @@ fn add_meta<S: Alter>(tx: &mut Transaction<'_, S>, name: &str, val: u32) -> Resu
     ensures kept { Kept (state S.Store tx.old.conn.now) (state S.Store tx.new.conn.now) }
     ensures survives { Survived (state S.Store tx.old.conn.now) (state S.Store tx.new.conn.now) }
 {
-    tx.execute(
+    run(
+        tx,
         "INSERT INTO meta (name, val) VALUES (?1, ?2)",
         params![name, i64::from(val)],
-    )?;
-    Ok(())
+    )
 }
 
 /// Adds the version of the store, and the depth limit that it is made with.

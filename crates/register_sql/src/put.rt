@@ -1,7 +1,8 @@
 //! A posting with its spots, its lines and its last day, put into a whole store in one transaction.
-ghost use Rattle.std.specs.Prelude.{◌≡◌, ◌≤◌, ◌^◌, OnOk, OnErr, IfOk, IfErr, IsTrue, false, pos};
+ghost use Rattle.std.specs.Prelude.{◌≡◌, ◌≤◌, ◌^◌, Ok, OnOk, OnErr, IfOk, IfErr, IsTrue, false, pos, ℕ};
 ghost use Rattle.sqlite.specs.Held.{state};
-ghost use Rattle.sqlite.specs.State.{HasCleanDisk, Survives};
+ghost use Rattle.sqlite.specs.State.{ExecutesInside, HasCleanDisk, Survives};
+ghost use Rattle.sqlite.specs.Values.{bound};
 ghost use Rattle.register_store.specs.Plain.{posting_row};
 ghost use Rattle.register_store.specs.StoredRows.{spot_row, line_row, term_of, with_posted};
 ghost use Rattle.register_sql.specs.Posting as step;
@@ -11,6 +12,7 @@ use codes_core::{Day, LoanCode};
 use posting_core::{Changes, Entry, NewLine, NewSpot};
 use register_store::{KeptPosting, term_of};
 use sqlite::{Alter, Connection, Error, Transaction, params};
+use sqlite_value::value::ValueRef;
 
 /// A number as the store takes it.
 pub(crate) fn wide(number: u64) -> Result<i64, Error>
@@ -23,6 +25,24 @@ pub(crate) fn wide(number: u64) -> Result<i64, Error>
     }
 }
 
+/// Runs a statement of the transaction.
+pub(crate) fn run<S: Alter>(
+    tx: &mut Transaction<'_, S>,
+    text: &str,
+    given: &[ValueRef<'_>],
+) -> Result<(), Error>
+    ensures same_reference { tx.new.conn.ghost_name ≡ tx.old.conn.ghost_name }
+    ensures ran { HasCleanDisk (state S.Store tx.new.conn.now)
+        → IsTrue (state S.Store tx.old.conn.now).in_transaction
+        → OnOk result ((count : ℕ) × ExecutesInside 0 text.now (bound given.now)
+        (state S.Store tx.old.conn.now) (state S.Store tx.new.conn.now) (Ok count)) }
+    ensures kept { Kept (state S.Store tx.old.conn.now) (state S.Store tx.new.conn.now) }
+    ensures survives { Survived (state S.Store tx.old.conn.now) (state S.Store tx.new.conn.now) }
+{
+    tx.execute(text, given)?;
+    Ok(())
+}
+
 /// Adds the row of an entry.
 fn put_posting<S: Alter>(tx: &mut Transaction<'_, S>, row: &KeptPosting) -> Result<(), Error>
     requires { IsWithin (state S.Store tx.old.conn.now) }
@@ -33,7 +53,8 @@ fn put_posting<S: Alter>(tx: &mut Transaction<'_, S>, row: &KeptPosting) -> Resu
     ensures survives { Survived (state S.Store tx.old.conn.now) (state S.Store tx.new.conn.now) }
 {
     let id = wide(row.id)?;
-    tx.execute(
+    run(
+        tx,
         "INSERT INTO posting (id, station, n, body, verdict) VALUES (?1, ?2, ?3, ?4, ?5)",
         params![
             id,
@@ -42,8 +63,7 @@ fn put_posting<S: Alter>(tx: &mut Transaction<'_, S>, row: &KeptPosting) -> Resu
             row.body.as_str(),
             i64::from(row.verdict)
         ],
-    )?;
-    Ok(())
+    )
 }
 
 /// Adds the row of a spot.
@@ -55,7 +75,8 @@ fn put_spot<S: Alter>(tx: &mut Transaction<'_, S>, spot: &NewSpot) -> Result<(),
     ensures kept { Kept (state S.Store tx.old.conn.now) (state S.Store tx.new.conn.now) }
     ensures survives { Survived (state S.Store tx.old.conn.now) (state S.Store tx.new.conn.now) }
 {
-    tx.execute(
+    run(
+        tx,
         "INSERT INTO spot (thing, k, entry, place, day) VALUES (?1, ?2, ?3, ?4, ?5)",
         params![
             i64::from(spot.thing),
@@ -64,8 +85,7 @@ fn put_spot<S: Alter>(tx: &mut Transaction<'_, S>, spot: &NewSpot) -> Result<(),
             i64::from(spot.spot.place),
             i64::from(spot.spot.day.number())
         ],
-    )?;
-    Ok(())
+    )
 }
 
 /// Adds the rows of the spots.
@@ -92,11 +112,11 @@ fn clear_line<S: Alter>(tx: &mut Transaction<'_, S>, line: &NewLine) -> Result<(
     ensures kept { Kept (state S.Store tx.old.conn.now) (state S.Store tx.new.conn.now) }
     ensures survives { Survived (state S.Store tx.old.conn.now) (state S.Store tx.new.conn.now) }
 {
-    tx.execute(
+    run(
+        tx,
         "DELETE FROM line WHERE loan = ?1 AND object = ?2",
         params![line.loan.as_str(), i64::from(line.object)],
-    )?;
-    Ok(())
+    )
 }
 
 /// Adds the row of a line.
@@ -108,15 +128,15 @@ fn add_line<S: Alter>(tx: &mut Transaction<'_, S>, line: &NewLine) -> Result<(),
     ensures kept { Kept (state S.Store tx.old.conn.now) (state S.Store tx.new.conn.now) }
     ensures survives { Survived (state S.Store tx.old.conn.now) (state S.Store tx.new.conn.now) }
 {
-    tx.execute(
+    run(
+        tx,
         "INSERT INTO line (loan, object, stage) VALUES (?1, ?2, ?3)",
         params![
             line.loan.as_str(),
             i64::from(line.object),
             i64::from(line.stage.number())
         ],
-    )?;
-    Ok(())
+    )
 }
 
 /// Puts the row of a line in the place of the one before.
@@ -156,8 +176,11 @@ fn clear_term<S: Alter>(tx: &mut Transaction<'_, S>, term: &(LoanCode, Day)) -> 
     ensures kept { Kept (state S.Store tx.old.conn.now) (state S.Store tx.new.conn.now) }
     ensures survives { Survived (state S.Store tx.old.conn.now) (state S.Store tx.new.conn.now) }
 {
-    tx.execute("DELETE FROM term WHERE loan = ?1", params![term.0.as_str()])?;
-    Ok(())
+    run(
+        tx,
+        "DELETE FROM term WHERE loan = ?1",
+        params![term.0.as_str()],
+    )
 }
 
 /// Adds the last day of a loan.
@@ -169,11 +192,11 @@ fn add_term<S: Alter>(tx: &mut Transaction<'_, S>, term: &(LoanCode, Day)) -> Re
     ensures kept { Kept (state S.Store tx.old.conn.now) (state S.Store tx.new.conn.now) }
     ensures survives { Survived (state S.Store tx.old.conn.now) (state S.Store tx.new.conn.now) }
 {
-    tx.execute(
+    run(
+        tx,
         "INSERT INTO term (loan, day) VALUES (?1, ?2)",
         params![term.0.as_str(), i64::from(term.1.number())],
-    )?;
-    Ok(())
+    )
 }
 
 /// Puts the last day of a loan in the place of the one before.

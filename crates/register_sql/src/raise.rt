@@ -11,7 +11,7 @@ ghost use Rattle.register_sql.specs.Queries.{IsPart};
 ghost use Rattle.register_sql.specs.Rows.{Apart};
 
 use crate::make::{add_metas, make_at};
-use crate::put::put_some_term;
+use crate::put::{put_some_term, run};
 use posting_core::Entry;
 use sqlite::{Alter, Connection, Error, Transaction};
 
@@ -19,7 +19,7 @@ use sqlite::{Alter, Connection, Error, Transaction};
 const FIRST_DEPTH: u32 = 8;
 
 /// Takes out what the store says of itself.
-fn clear_metas<S: Alter>(tx: &mut Transaction<'_, S>) -> Result<usize, Error>
+fn clear_metas<S: Alter>(tx: &mut Transaction<'_, S>) -> Result<(), Error>
     requires made { IsMaking 6 (state S.Store tx.old.conn.now) }
     requires apart { HasCleanDisk (state S.Store tx.old.conn.now)
         → IsTrue (state S.Store tx.old.conn.now).is_open
@@ -30,7 +30,7 @@ fn clear_metas<S: Alter>(tx: &mut Transaction<'_, S>) -> Result<usize, Error>
     ensures kept { Kept (state S.Store tx.old.conn.now) (state S.Store tx.new.conn.now) }
     ensures survives { Survived (state S.Store tx.old.conn.now) (state S.Store tx.new.conn.now) }
 {
-    tx.execute("DELETE FROM meta", &[])
+    run(tx, "DELETE FROM meta", &[])
 }
 
 /// Makes the store say that it is of version 2, with the depth limit that it had.

@@ -1,13 +1,14 @@
 use Rattle.std.proofs.Common.{Ok, arith, rules, pos}
 use Rattle.sqlite.specs.Held.{state}
 use Rattle.sqlite.specs.State.{HasCleanDisk}
+use Rattle.register_sql.proofs.Ends.{on_ok}
 use Rattle.register_sql.proofs.Filled.{added_setup}
 use Rattle.register_sql.proofs.make.add_setup.Goals as goal
 
 pub returns-clause-wrote : goal.returns-clause-wrote
 returns-clause-wrote g c clean =
     let old = state g.S.Store c.args.tx.now.conn.now in
-    let new = state g.S.Store c.execute.new.self.conn.now in
-    let early : HasCleanDisk old = omega (arith, c.execute.ensures.survives.clean) in
+    let new = state g.S.Store c.run.new.tx.conn.now in
+    let early : HasCleanDisk old = omega (arith, c.run.ensures.survives.clean) in
     let made = c.requires early in
-    added_setup old new (record { id = pos c.args.number; text = c.args.text.now }) _ (Ok _) made (c.in_ok-execute.ensures.runs clean made.inside) (search rules)
+    on_ok c.run.result (c.run.ensures.ran clean made.inside) (λ ran. added_setup old new (record { id = pos c.args.number; text = c.args.text.now }) _ (Ok ran.0) made ran.1 (search rules))
