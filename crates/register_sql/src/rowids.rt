@@ -95,44 +95,31 @@ pub(crate) fn is_apart<S: Alter>(
     Ok(are_apart(&rows))
 }
 
-/// The same of the setup and the entries.
-fn are_first_apart<S: Alter>(conn: &mut Connection<S>, made: usize) -> Result<bool, Error>
+/// The same of two queries.
+fn are_both_apart<S: Alter>(
+    conn: &mut Connection<S>,
+    one: Query,
+    other: Query,
+    made: usize,
+) -> Result<bool, Error>
+    requires one { shows_id one ≡ true }
+    requires other { shows_id other ≡ true }
     requires few { made ≤ 6 }
     requires part { HasCleanDisk (state S.Store conn.old) → IsPart made (state S.Store conn.old) }
     ensures between { conn.old.in_transaction ≡ false → conn.new.in_transaction ≡ false }
     ensures told { HasCleanDisk (state S.Store conn.new) → IfOk result (λ apart.
-        Decides apart (IsApartIn Query.SetupIds made (state S.Store conn.old).now.trees
-        × IsApartIn Query.PostingIds made (state S.Store conn.old).now.trees)) }
+        Decides apart (IsApartIn one made (state S.Store conn.old).now.trees
+        × IsApartIn other made (state S.Store conn.old).now.trees)) }
     ensures same { HasCleanDisk (state S.Store conn.new)
         → OnOk result (IsSame (state S.Store conn.old) (state S.Store conn.new)) }
     ensures survives { Survived (state S.Store conn.old) (state S.Store conn.new) }
 {
-    let setup = is_apart(conn, Query::SetupIds, made)?;
-    if !setup {
+    let first = is_apart(conn, one, made)?;
+    if !first {
         return Ok(false);
     }
-    let postings = is_apart(conn, Query::PostingIds, made);
-    postings
-}
-
-/// The same of the lines and the last days.
-fn are_last_apart<S: Alter>(conn: &mut Connection<S>, made: usize) -> Result<bool, Error>
-    requires few { made ≤ 6 }
-    requires part { HasCleanDisk (state S.Store conn.old) → IsPart made (state S.Store conn.old) }
-    ensures between { conn.old.in_transaction ≡ false → conn.new.in_transaction ≡ false }
-    ensures told { HasCleanDisk (state S.Store conn.new) → IfOk result (λ apart.
-        Decides apart (IsApartIn Query.LineIds made (state S.Store conn.old).now.trees
-        × IsApartIn Query.TermIds made (state S.Store conn.old).now.trees)) }
-    ensures same { HasCleanDisk (state S.Store conn.new)
-        → OnOk result (IsSame (state S.Store conn.old) (state S.Store conn.new)) }
-    ensures survives { Survived (state S.Store conn.old) (state S.Store conn.new) }
-{
-    let lines = is_apart(conn, Query::LineIds, made)?;
-    if !lines {
-        return Ok(false);
-    }
-    let terms = is_apart(conn, Query::TermIds, made);
-    terms
+    let second = is_apart(conn, other, made);
+    second
 }
 
 /// Whether the rowids of the setup, the entries, the lines and the last days are numbers that differ, so far as their
@@ -147,10 +134,10 @@ pub(crate) fn are_all_apart<S: Alter>(conn: &mut Connection<S>, made: usize) -> 
         → OnOk result (IsSame (state S.Store conn.old) (state S.Store conn.new)) }
     ensures survives { Survived (state S.Store conn.old) (state S.Store conn.new) }
 {
-    let first = are_first_apart(conn, made)?;
+    let first = are_both_apart(conn, Query::SetupIds, Query::PostingIds, made)?;
     if !first {
         return Ok(false);
     }
-    let last = are_last_apart(conn, made);
+    let last = are_both_apart(conn, Query::LineIds, Query::TermIds, made);
     last
 }
