@@ -4,6 +4,7 @@ use Rattle.sqlite.specs.Held.{state}
 use Rattle.sqlite.specs.State.{HasCleanDisk}
 use Rattle.register_store.specs.StoredRows.{rows_of_meta}
 use Rattle.register_sql.specs.Making.{setup_from, Grown, Fills, MakesWhole}
+use Rattle.register_sql.proofs.Ends.{kept_then, survives_on}
 use Rattle.register_sql.proofs.Filled.{goes_then, whole, apart_on}
 use Rattle.register_sql.proofs.make.make_all.Goals as goal
 
@@ -28,3 +29,12 @@ fill-requires-clause-apart g c clean up =
     let mid = state g.S.Store c.make_rest.new.tx.conn.now in
     let early : HasCleanDisk old = omega (arith, clean, c.make_rest.ensures.survives.clean) in
     apart_on c.args.made old mid (c.make_rest.ensures.kept clean) (c.in_ok-make_rest.ensures.wrote clean).rows (c.requires.apart early) up
+
+pub returns-clause-kept : goal.returns-clause-kept
+returns-clause-kept g c clean =
+    let mid = state g.S.Store c.make_rest.new.tx.conn.now in
+    let early : HasCleanDisk mid = omega (arith, c.fill.ensures.survives.clean) in
+    kept_then _ _ _ (c.make_rest.ensures.kept early) (c.fill.ensures.kept clean)
+
+pub returns-clause-survives : goal.returns-clause-survives
+returns-clause-survives g c = survives_on _ _ _ c.make_rest.ensures.survives c.fill.ensures.survives

@@ -4,7 +4,7 @@ use Rattle.sqlite.specs.State.{HasCleanDisk}
 use Rattle.register_store.specs.Plain.{posting_row}
 use Rattle.register_store.specs.StoredRows.{spot_row, line_row, term_of, with_posted}
 use Rattle.register_sql.specs.Posting.{with_each, with_posting, with_spot, with_line, with_some_term}
-use Rattle.register_sql.proofs.Ends.{makes_then, makes_as}
+use Rattle.register_sql.proofs.Ends.{kept_then, survives_on, makes_then, makes_as}
 use Rattle.register_sql.proofs.Wholes.{posted_is}
 use Rattle.register_sql.proofs.put.put_rows.Goals as goal
 
@@ -20,3 +20,12 @@ returns-clause-wrote g c clean =
     makes_as old new _ (with_posted row e changes) c.put_last.result (posted_is row e changes)
     (makes_then old mid new (λ x. with_each (λ s. with_spot (spot_row s)) changes.spots (with_posting row x)) (λ x. with_some_term (term_of e) (with_each (λ l. with_line (line_row l)) changes.lines x))
     c.put_last.result (c.in_ok-put_first.ensures.wrote early) (c.put_last.ensures.wrote clean))
+
+pub returns-clause-kept : goal.returns-clause-kept
+returns-clause-kept g c clean =
+    let mid = state g.S.Store c.put_first.new.tx.conn.now in
+    let early : HasCleanDisk mid = omega (arith, c.put_last.ensures.survives.clean) in
+    kept_then _ _ _ (c.put_first.ensures.kept early) (c.put_last.ensures.kept clean)
+
+pub returns-clause-survives : goal.returns-clause-survives
+returns-clause-survives g c = survives_on _ _ _ c.put_first.ensures.survives c.put_last.ensures.survives
