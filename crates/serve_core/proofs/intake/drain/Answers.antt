@@ -1,7 +1,11 @@
-use Rattle.std.proofs.Common.{[], ◌∷◌, ◌++◌, length, refl, sym, append-nil, ◌∙◌, ap, arith}
+use Rattle.std.proofs.Common.{[], ◌∷◌, ◌++◌, List, length, refl, sym, subst, append-nil, ◌∙◌, ap, arith}
+use Rattle.std.proofs.lemmas.Result.{IfOk-from_err}
+use Rattle.serve_core.specs.declared.item.Item.{Item}
+use Rattle.serve_core.specs.declared.item.LogLine.{LogLine}
+use Rattle.serve_core.specs.Logs.{Serves}
 use Rattle.serve_core.specs.Lanes.{received_is}
 use Rattle.serve_core.proofs.LogLemmas.{serves_none, serves_then}
-use Rattle.serve_core.proofs.Takings.{lines_then, takes_push, moved, still_end}
+use Rattle.serve_core.proofs.Takings.{lines_then, takes_push, ring_trans, moved, still_end}
 use Rattle.serve_core.proofs.intake.drain.Goals as goal
 
 pub loop-preserved : goal.loop-preserved
@@ -35,3 +39,30 @@ loop-init g c =
       refl,
       refl,
     )
+
+pub returns-in_err-log_item-clause-lines : goal.returns-in_err-log_item-clause-lines
+returns-in_err-log_item-clause-lines g c =
+    let inv = c.loop.invariant in
+    let p = c.pop_known-item.ensures in
+    let fault = c.in_err-log_item.ensures.fault in (
+      inv.0,
+      fault.0 ∙ inv.1,
+      subst (λ (G : List LogLine). Serves g.R.Register.holding c.args.hub.now c.log_item.new.hub G) (append-nil inv.0) (serves_then g.R.Register.holding _ _ _ inv.0 [] inv.2 inv.8 fault.1),
+      record {
+        ring = ring_trans c.args.ring.now c.loop.ring c.pop_known-item.new.self inv.3.ring p.ring;
+        of = inv.3.of;
+        taken = (c.pop_known-item.result ∷ [], p.received.0 ∙ ap (λ (xs : List Item). xs ++ c.pop_known-item.result ∷ []) inv.3.taken);
+      },
+      IfOk-from_err c.from_residual.result _ c.from_residual.ensures.0,
+    )
+
+pub returns-in_err-log_item-clause-end : goal.returns-in_err-log_item-clause-end
+returns-in_err-log_item-clause-end g c =
+    let inv = c.loop.invariant in
+    (still_end (record { finished = c.slots_after-left.new.finished }) c.loop.ring c.pop_known-item.new.self inv.6 c.pop_known-item.ensures.ring, inv.7)
+
+pub returns-clause-level : goal.returns-clause-level
+returns-clause-level g c = c.loop.invariant.8
+
+pub returns-clause-end : goal.returns-clause-end
+returns-clause-end g c = (c.loop.invariant.6, c.loop.invariant.7)
