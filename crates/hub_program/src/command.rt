@@ -2,11 +2,10 @@
 
 use crate::explain::explain;
 use crate::fault::CommandFault;
-use crate::files::{read_list, read_setup};
-use crate::migration::migrate_file;
+use crate::files::{read_feeds, read_list, read_setup};
+use crate::lines::write_line;
 use crate::progress::Progress;
 use crate::report::Report;
-use crate::serving::serve_files;
 use crate::work::{Work, over_store};
 use codes_core::{Day, LoanCode, PlaceCode, ThingCode};
 use command_words::words::chosen;
@@ -88,16 +87,7 @@ fn perform<T: Threads + Wait + Sync + Copy + Send + 'static, R: BufRead, W: Writ
             setup,
             store,
             progress,
-        } => {
-            let setup = read_setup(rt, rt.alloc(), setup)?;
-            if !*progress {
-                return over_store(rt, threads, setup, *store, &Work::Replay, input, output);
-            }
-            let mut told = Progress::new(rt, output, errors);
-            let ended = over_store(rt, threads, setup, *store, &Work::Replay, input, &mut told);
-            told.end();
-            ended
-        }
+        } => replayed(rt, threads, setup, *store, *progress, input, output, errors),
         Chosen::Count {
             setup,
             store,
@@ -109,86 +99,144 @@ fn perform<T: Threads + Wait + Sync + Copy + Send + 'static, R: BufRead, W: Writ
             setup,
             store,
             feeds,
-        } => serve_files(rt, threads, setup, *store, feeds.as_slice(), output),
-        Chosen::Migrate { setup, store } => migrate_file(rt, setup, store, output),
-        _ => {
-            let asked = question(chosen)?;
-            let setup = read_setup(rt, rt.alloc(), asked.setup)?;
-            let store = Some(asked.store);
-            over_store(rt, threads, setup, store, &asked.work, input, output)
+        } => served(rt, threads, setup, *store, feeds.as_slice(), input, output),
+        Chosen::Migrate { setup, store } => migrated(rt, threads, setup, store, input, output),
+        _ => reported(rt, threads, chosen, input, output),
+    }
+}
+
+/// Answers the lines of the input, and tells how far it has come where that is asked for.
+fn replayed<T: Threads + Wait + Sync + Copy + Send + 'static, R: BufRead, W: Write, E: Write>(
+    rt: &HostRuntime,
+    threads: &T,
+    setup: &str,
+    store: Option<&str>,
+    progress: bool,
+    input: &mut R,
+    output: &mut W,
+    errors: &mut E,
+) -> Result<(), CommandFault> {
+    let setup = read_setup(rt, rt.alloc(), setup)?;
+    if !progress {
+        return over_store(rt, threads, setup, store, Work::Replay, input, output);
+    }
+    let mut told = Progress::new(rt, output, errors);
+    let ended = over_store(rt, threads, setup, store, Work::Replay, input, &mut told);
+    told.end();
+    ended
+}
+
+/// Prints the report that a command asks for, but a count.
+fn reported<T: Threads + Wait + Sync + Copy + Send + 'static, R: BufRead, W: Write>(
+    rt: &HostRuntime,
+    threads: &T,
+    chosen: &Chosen<'_>,
+    input: &mut R,
+    output: &mut W,
+) -> Result<(), CommandFault> {
+    let asked = asked_of(chosen)?;
+    let report = report(chosen)?;
+    match read_setup(rt, rt.alloc(), asked.setup) {
+        Ok(setup) => over_store(
+            rt,
+            threads,
+            setup,
+            Some(asked.store),
+            Work::Print(report, asked.format),
+            input,
+            output,
+        ),
+        Err(fault) => {
+            drop(report);
+            Err(fault)
         }
     }
 }
 
-/// A report, and of which record.
-#[derive(Drop)]
+/// The record of which a report is asked for, and in which form.
+#[derive(Clone, Copy)]
 struct Asked<'a> {
     setup: &'a str,
     store: &'a str,
-    work: Work,
+    format: Format,
 }
 
-/// The report that a command asks for, but a count. The faults of a day, a code or a number.
-fn question<'a>(chosen: &Chosen<'a>) -> Result<Asked<'a>, CommandFault> {
-    let (setup, store, format, report) = match chosen {
+/// The record of which a command asks for a report, but for a count.
+fn asked_of<'a>(chosen: &Chosen<'a>) -> Result<Asked<'a>, CommandFault> {
+    match chosen {
         Chosen::Overdue {
             setup,
             store,
-            on,
             format,
-        } => { (setup, store, format, Report::Overdue(day(on)?)) }
-        Chosen::Away {
+            ..
+        }
+        | Chosen::Away {
             setup,
             store,
             format,
-        } => (setup, store, format, Report::Away),
-        Chosen::History {
-            setup,
-            store,
-            code,
-            format,
-        } => { (setup, store, format, Report::History(thing(code)?)) }
-        Chosen::Stations {
+        }
+        | Chosen::History {
             setup,
             store,
             format,
-        } => (setup, store, format, Report::Stations),
-        Chosen::Where {
+            ..
+        }
+        | Chosen::Stations {
             setup,
             store,
-            code,
             format,
-        } => { (setup, store, format, Report::Where(thing(code)?)) }
-        Chosen::Contents {
+        }
+        | Chosen::Where {
             setup,
             store,
-            code,
             format,
-        } => { (setup, store, format, Report::Contents(thing(code)?)) }
-        Chosen::Loan {
+            ..
+        }
+        | Chosen::Contents {
             setup,
             store,
-            code,
             format,
-        } => { (setup, store, format, Report::Loan(loan(code)?)) }
-        Chosen::At {
+            ..
+        }
+        | Chosen::Loan {
             setup,
             store,
-            place: code,
             format,
-        } => { (setup, store, format, Report::At(place(code)?)) }
-        Chosen::Posted {
+            ..
+        }
+        | Chosen::At {
             setup,
             store,
-            from,
             format,
-        } => { (setup, store, format, Report::Posted(number(*from)?)) }
+            ..
+        }
+        | Chosen::Posted {
+            setup,
+            store,
+            format,
+            ..
+        } => Ok(Asked {
+            setup,
+            store,
+            format: *format,
+        }),
+        _ => Err(CommandFault::Words),
+    }
+}
+
+/// The report that a command asks for, but a count. The faults of a day, a code or a number.
+fn report(chosen: &Chosen<'_>) -> Result<Report, CommandFault> {
+    Ok(match chosen {
+        Chosen::Overdue { on, .. } => Report::Overdue(day(on)?),
+        Chosen::Away { .. } => Report::Away,
+        Chosen::History { code, .. } => Report::History(thing(code)?),
+        Chosen::Stations { .. } => Report::Stations,
+        Chosen::Where { code, .. } => Report::Where(thing(code)?),
+        Chosen::Contents { code, .. } => Report::Contents(thing(code)?),
+        Chosen::Loan { code, .. } => Report::Loan(loan(code)?),
+        Chosen::At { place: code, .. } => Report::At(place(code)?),
+        Chosen::Posted { from, .. } => Report::Posted(number(*from)?),
         _ => return Err(CommandFault::Words),
-    };
-    Ok(Asked {
-        setup,
-        store,
-        work: Work::Print(report, *format),
     })
 }
 
@@ -217,7 +265,7 @@ fn number(text: Option<&str>) -> Result<u64, CommandFault> {
 }
 
 /// Reads the setup and the count list, and checks the list.
-fn counted<T: Threads + Sync, R: BufRead, W: Write>(
+fn counted<T: Threads + Wait + Sync + Copy + Send + 'static, R: BufRead, W: Write>(
     rt: &HostRuntime,
     threads: &T,
     setup: &str,
@@ -234,7 +282,7 @@ fn counted<T: Threads + Sync, R: BufRead, W: Write>(
             threads,
             setup,
             Some(store),
-            &Work::Print(Report::Count(rows), format),
+            Work::Print(Report::Count(rows), format),
             input,
             output,
         ),
@@ -243,4 +291,49 @@ fn counted<T: Threads + Sync, R: BufRead, W: Write>(
             Err(fault)
         }
     }
+}
+
+/// Serves the files, the first as that of the setup's first station, and prints the log, after a fault that before it.
+/// The faults, in order: the setup's file, and the setup; how many files there are; the files; the store's file, and its
+/// opening; those of serving.
+fn served<T: Threads + Wait + Sync + Copy + Send + 'static, R: BufRead, W: Write>(
+    rt: &HostRuntime,
+    threads: &T,
+    setup: &str,
+    store: Option<&str>,
+    files: &[&str],
+    input: &mut R,
+    output: &mut W,
+) -> Result<(), CommandFault> {
+    let setup = read_setup(rt, rt.alloc(), setup)?;
+    match read_feeds(rt, setup.stations(), files) {
+        Ok(feeds) => over_store(rt, threads, setup, store, Work::Serve(feeds), input, output),
+        Err(fault) => {
+            drop(setup);
+            Err(fault)
+        }
+    }
+}
+
+/// Migrates the store, and says so. The faults, in order: the setup's file, and the setup; the store's file; those of
+/// migrating it.
+fn migrated<T: Threads + Wait + Sync + Copy + Send + 'static, R: BufRead, W: Write>(
+    rt: &HostRuntime,
+    threads: &T,
+    setup: &str,
+    store: &str,
+    input: &mut R,
+    output: &mut W,
+) -> Result<(), CommandFault> {
+    let setup = read_setup(rt, rt.alloc(), setup)?;
+    over_store(
+        rt,
+        threads,
+        setup,
+        Some(store),
+        Work::Migrate,
+        input,
+        output,
+    )?;
+    write_line(output, "migrated\n")
 }

@@ -6,7 +6,6 @@ mod explain;
 mod fault;
 mod files;
 mod lines;
-mod migration;
 mod progress;
 mod questions;
 mod report;
@@ -17,7 +16,8 @@ mod work;
 
 use crate::command::command;
 use crate::fault::CommandFault;
-use std::io::{BufReader, BufWriter, ErrorKind};
+use std::alloc::Global;
+use std::io::{BufRead, BufReader, BufWriter, ErrorKind, Write};
 use std::process::ExitCode;
 use std::sync::Wait;
 use std::thread::Threads;
@@ -55,22 +55,43 @@ fn on_standard_streams<T: Threads + Wait + Sync + Copy + Send + 'static>(
     let mut output = BufWriter::with_capacity(rt.alloc(), AT_ONCE, io::writer(rt)).map_err(
         |_| CommandFault::NoMemory,
     )?;
+    between(rt, threads, &mut input, &mut output)
+}
+
+/// Does what the program's words say, between an input and an output.
+fn between<T: Threads + Wait + Sync + Copy + Send + 'static, R: BufRead, W: Write>(
+    rt: &HostRuntime,
+    threads: &T,
+    input: &mut R,
+    output: &mut W,
+) -> Result<u8, CommandFault> {
+    let texts = texts_given(rt)?;
+    let words = words_of(rt.alloc(), texts.as_slice())?;
+    Ok(command(
+        rt,
+        threads,
+        words.as_slice(),
+        input,
+        output,
+        &mut rt.stderr(),
+    ))
+}
+
+/// The texts after the program's name.
+fn texts_given(rt: &HostRuntime) -> Result<Vec<String>, CommandFault> {
     let given = env::args(rt).map_err(fault_of_words)?;
     let mut texts = Vec::new(rt.alloc());
     for text in given.skip(1) {
         texts.push(text)?;
     }
-    let mut words = Vec::new(rt.alloc());
-    for text in texts.iter() {
+    Ok(texts)
+}
+
+/// The words that the texts are.
+fn words_of(alloc: Global, texts: &[String]) -> Result<Vec<&str>, CommandFault> {
+    let mut words = Vec::new(alloc);
+    for text in texts {
         words.push(text.as_str())?;
     }
-    let status = command(
-        rt,
-        threads,
-        words.as_slice(),
-        &mut input,
-        &mut output,
-        &mut rt.stderr(),
-    );
-    Ok(status)
+    Ok(words)
 }

@@ -1,12 +1,12 @@
 //! What a record is asked: of a thing, of a container, of a loan, of a place, of the stations, of all entries.
-ghost use Rattle.std.specs.Prelude.{◌<◌, length};
+ghost use Rattle.std.specs.Prelude.{◌<◌, length, All};
 
 use crate::fault::CommandFault;
 use crate::lines::{day_text, loan_text, partner_text, place_text_if, thing_text};
 use crate::sheet::Sheet;
 use codes_core::{Day, LoanCode, NoMemory, PlaceCode, ThingCode};
 use count_core::in_place;
-use nest_core::{StationNo, ThingNo};
+use nest_core::{Setup, StationNo, ThingNo};
 use posting_core::{Ledger, LineStage, LoanState, Message, PostedEntry, Verdict};
 use register_store::message_text;
 use report_rows::{AtRow, ContentRow, LoanRow, PostedRow, StationRow, WhereRow};
@@ -90,10 +90,16 @@ fn chain_texts(alloc: Global, ledger: &Ledger, thing: ThingNo) -> Result<Vec<Str
     requires { thing < length ledger.now.museum.things }
 {
     let chain = ledger.chain(alloc, thing)?;
-    let above = chain.as_slice();
+    thing_texts(alloc, ledger.setup(), chain.as_slice())
+}
+
+/// The codes of things, in their order.
+fn thing_texts(alloc: Global, setup: &Setup, things: &[ThingNo]) -> Result<Vec<String>, NoMemory>
+    requires { All (λ t. t < length setup.now.things) things.now }
+{
     let mut texts = Vec::new(alloc);
-    for i in 0..above.len() {
-        texts.push(thing_text(alloc, ledger.setup(), above[i])?)?;
+    for i in 0..things.len() {
+        texts.push(thing_text(alloc, setup, things[i])?)?;
     }
     Ok(texts)
 }
@@ -106,11 +112,18 @@ pub fn contents<W: Write>(
     sheet: &mut Sheet<'_, W>,
 ) -> Result<(), CommandFault> {
     sheet.head::<ContentRow>()?;
-    let setup = ledger.setup();
-    let Some(container) = setup.thing(code) else {
-        return sheet.put(&unknown_container(sheet.alloc, code)?);
-    };
-    for thing in 0..setup.things() {
+    match ledger.setup().thing(code) {
+        Some(container) => put_contents(ledger, container, sheet),
+        None => sheet.put(&unknown_container(sheet.alloc, code)?),
+    }
+}
+
+fn put_contents<W: Write>(
+    ledger: &Ledger,
+    container: ThingNo,
+    sheet: &mut Sheet<'_, W>,
+) -> Result<(), CommandFault> {
+    for thing in 0..ledger.setup().things() {
         if is_in(sheet.alloc, ledger, thing, container)? {
             sheet.put(&content_row(sheet.alloc, ledger, thing)?)?;
         }
@@ -154,15 +167,31 @@ pub fn at<W: Write>(
     sheet: &mut Sheet<'_, W>,
 ) -> Result<(), CommandFault> {
     sheet.head::<AtRow>()?;
-    let setup = ledger.setup();
     let things = in_place(sheet.alloc, ledger, place)?;
+    put_things(ledger, things.as_slice(), sheet)
+}
+
+fn put_things<W: Write>(
+    ledger: &Ledger,
+    things: &[ThingNo],
+    sheet: &mut Sheet<'_, W>,
+) -> Result<(), CommandFault>
+    requires { All (λ t. t < length ledger.now.museum.things) things.now }
+{
     for i in 0..things.len() {
-        sheet.put(&AtRow {
-            thing: thing_text(sheet.alloc, setup, things[i])?,
-            place: place_text_if(sheet.alloc, setup, ledger.place_of(things[i]))?,
-        })?;
+        sheet.put(&at_row(sheet.alloc, ledger, things[i])?)?;
     }
     Ok(())
+}
+
+fn at_row(alloc: Global, ledger: &Ledger, thing: ThingNo) -> Result<AtRow, NoMemory>
+    requires { thing < length ledger.now.museum.things }
+{
+    let setup = ledger.setup();
+    Ok(AtRow {
+        thing: thing_text(alloc, setup, thing)?,
+        place: place_text_if(alloc, setup, ledger.place_of(thing))?,
+    })
 }
 
 /// How a loan stands, and a row for each of its objects with its stage; one that says so where it isn't agreed.

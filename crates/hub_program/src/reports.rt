@@ -6,7 +6,7 @@ ghost use Rattle.count_core.specs.Reports.{IsAwayIn};
 use crate::fault::CommandFault;
 use crate::lines::{day_text, loan_text, place_text, place_text_if, thing_text};
 use crate::sheet::Sheet;
-use codes_core::{Day, NoMemory, ThingCode};
+use codes_core::{Day, LoanCode, NoMemory, ThingCode};
 use count_core::{AwayObject, CountAnswer, CountRow, MissingObject, check};
 use nest_core::Setup;
 use posting_core::{Ledger, Spot};
@@ -95,15 +95,21 @@ fn put_missing<W: Write>(
     requires { All (IsMissingIn setup.now) missing.now }
 {
     for i in 0..missing.len() {
-        sheet.put(&CountedRow {
-            row: None,
-            place: place_text(sheet.alloc, setup, missing[i].place)?,
-            thing: Some(thing_text(sheet.alloc, setup, missing[i].object)?),
-            answer: "Missing",
-            on_record: None,
-        })?;
+        sheet.put(&missing_row(sheet.alloc, setup, missing[i])?)?;
     }
     Ok(())
+}
+
+fn missing_row(alloc: Global, setup: &Setup, missing: MissingObject) -> Result<CountedRow, NoMemory>
+    requires { IsMissingIn setup.now missing }
+{
+    Ok(CountedRow {
+        row: None,
+        place: place_text(alloc, setup, missing.place)?,
+        thing: Some(thing_text(alloc, setup, missing.object)?),
+        answer: "Missing",
+        on_record: None,
+    })
 }
 
 /// A row for each overdue loan, with its last day.
@@ -114,22 +120,43 @@ pub fn overdue<W: Write>(
 ) -> Result<(), CommandFault> {
     sheet.head::<OverdueRow>()?;
     let loans = count_core::overdue(sheet.alloc, ledger, on)?;
-    for loan in loans.iter() {
+    put_overdue(ledger, loans.as_slice(), sheet)
+}
+
+fn put_overdue<W: Write>(
+    ledger: &Ledger,
+    loans: &[LoanCode],
+    sheet: &mut Sheet<'_, W>,
+) -> Result<(), CommandFault> {
+    for loan in loans {
         if let Some(last) = ledger.last_day(loan) {
-            sheet.put(&OverdueRow {
-                loan: loan_text(sheet.alloc, loan)?,
-                last: day_text(sheet.alloc, &last)?,
-            })?;
+            sheet.put(&overdue_row(sheet.alloc, loan, &last)?)?;
         }
     }
     Ok(())
 }
 
+fn overdue_row(alloc: Global, loan: &LoanCode, last: &Day) -> Result<OverdueRow, NoMemory> {
+    Ok(OverdueRow {
+        loan: loan_text(alloc, loan)?,
+        last: day_text(alloc, last)?,
+    })
+}
+
 /// A row for each own object that isn't at its normal place.
 pub fn away<W: Write>(ledger: &Ledger, sheet: &mut Sheet<'_, W>) -> Result<(), CommandFault> {
     sheet.head::<AwayRow>()?;
-    let setup = ledger.setup();
     let objects = count_core::away(sheet.alloc, ledger)?;
+    put_away(ledger.setup(), objects.as_slice(), sheet)
+}
+
+fn put_away<W: Write>(
+    setup: &Setup,
+    objects: &[AwayObject],
+    sheet: &mut Sheet<'_, W>,
+) -> Result<(), CommandFault>
+    requires { All (IsAwayIn setup.now) objects.now }
+{
     for i in 0..objects.len() {
         sheet.put(&away_row(sheet.alloc, setup, objects[i])?)?;
     }
@@ -158,7 +185,17 @@ pub fn history<W: Write>(
         return Ok(());
     };
     let spots = ledger.spots(thing).to_vec(sheet.alloc)?;
-    for spot in spots.iter() {
+    put_spots(setup, spots.as_slice(), sheet)
+}
+
+fn put_spots<W: Write>(
+    setup: &Setup,
+    spots: &[Spot],
+    sheet: &mut Sheet<'_, W>,
+) -> Result<(), CommandFault>
+    requires { All (λ s. s.place < length setup.now.places) spots.now }
+{
+    for spot in spots {
         sheet.put(&spot_row(sheet.alloc, setup, spot)?)?;
     }
     Ok(())
