@@ -5,14 +5,12 @@ Usage: failing.py PROGRAM. Each check prints its name and ok or FAILED; the last
 import os
 import pty
 import resource
-import shutil
 import signal
 import subprocess
 import sys
-import tempfile
 import tty
 
-from store_room import Room, said
+from store_room import report, said
 
 SMALL = "station,GAL\nplace,S1,inside\nown,2001.4.1,S1\n"
 MOVE = '{"station":"GAL","n":1,"message":{"kind":"move","thing":"2001.4.1","place":"S1","day":"2024-05-01"}}\n'
@@ -89,19 +87,5 @@ def store_refuses(room):
     return good and told(served(room, MOST), (0, log, ""))
 
 
-def main():
-    program, checks, passed = sys.argv[1], [read_fails, write_fails, store_refuses], 0
-    for check in checks:
-        folder = tempfile.mkdtemp(dir="/dev/shm" if os.path.isdir("/dev/shm") else None)
-        try:
-            good = check(Room(program, folder))
-        finally:
-            shutil.rmtree(folder)
-        passed += good
-        print(f"{check.__name__}: {'ok' if good else 'FAILED'}", flush=True)
-    print(f"{passed} passed, {len(checks) - passed} failed")
-    return passed < len(checks)
-
-
 if __name__ == "__main__":
-    sys.exit(main())
+    sys.exit(report(sys.argv[1], [read_fails, write_fails, store_refuses]))
