@@ -5,15 +5,13 @@ Usage: hostile.py PROGRAM [TIMES]. Each check is made so many times (60 where it
 and ok or FAILED; the last line is 'N passed, M failed'. A thousand take some minutes."""
 import os
 import random
-import shutil
 import signal
 import subprocess
 import sys
-import tempfile
 import time
 
 from plain_store import refusal, setup_rows
-from store_room import LOAN, MUSEUM, NORMAL, Room, move, read, scans, settle
+from store_room import LOAN, MUSEUM, NORMAL, move, read, report, scans, settle
 
 MOVES = {"PACK": [move("C1", ("S1", "S2")[n % 2]) for n in range(150)], "GAL": [move("C2", ("S2", "S1")[n % 2]) for n in range(150)]}
 
@@ -119,17 +117,7 @@ def serve_killed(room, times):
 
 def main():
     program, times = sys.argv[1], int(sys.argv[2]) if len(sys.argv) > 2 else 60
-    checks, passed = [damaged_file, cut_file, serve_killed], 0
-    for check in checks:
-        began, folder = time.monotonic(), tempfile.mkdtemp(dir="/dev/shm" if os.path.isdir("/dev/shm") else None)
-        try:
-            good = check(Room(program, folder), times)
-        finally:
-            shutil.rmtree(folder)
-        passed += good
-        print(f"{check.__name__}: {'ok' if good else 'FAILED'}, in {time.monotonic() - began:.0f} s", flush=True)
-    print(f"{passed} passed, {len(checks) - passed} failed")
-    return passed < len(checks)
+    return report(program, [], [damaged_file, cut_file, serve_killed], times)
 
 
 if __name__ == "__main__":

@@ -3,17 +3,14 @@
 
 Usage: migrate.py PROGRAM [TIMES]. TIMES is how often a migration is killed at a random moment (60 where it isn't said). Each
 check prints its name and ok or FAILED; the last line is 'N passed, M failed'."""
-import os
 import random
-import shutil
 import sqlite3
 import subprocess
 import sys
-import tempfile
 import time
 
 from plain_store import Entry, lines, setup_rows, spots, terms, text_of
-from store_room import CRATES, LOAN, MUSEUM, NORMAL, SETUP, Room, agree, held, move, read, scan, scans, settle
+from store_room import CRATES, LOAN, MUSEUM, NORMAL, agree, held, move, read, report, scan, settle
 
 # the texts of the first five tables
 FIRST = (
@@ -162,18 +159,7 @@ def migration_killed(room, times):
 
 def main():
     program, times = sys.argv[1], int(sys.argv[2]) if len(sys.argv) > 2 else 60
-    checks, passed = [migrated_store, no_loans, migrate_refusals, no_store, migration_killed], 0
-    for check in checks:
-        began, folder = time.monotonic(), tempfile.mkdtemp(dir="/dev/shm" if os.path.isdir("/dev/shm") else None)
-        try:
-            room = Room(program, folder)
-            good = check(room, times) if check is migration_killed else check(room)
-        finally:
-            shutil.rmtree(folder)
-        passed += good
-        print(f"{check.__name__}: {'ok' if good else 'FAILED'}, in {time.monotonic() - began:.0f} s", flush=True)
-    print(f"{passed} passed, {len(checks) - passed} failed")
-    return passed < len(checks)
+    return report(program, [migrated_store, no_loans, migrate_refusals, no_store], [migration_killed], times)
 
 
 if __name__ == "__main__":

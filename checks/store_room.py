@@ -4,6 +4,7 @@ import os
 import sqlite3
 import subprocess
 import tempfile
+import time
 
 from plain_store import text_of
 from plain_text import museum_of
@@ -131,13 +132,16 @@ def read(store):
     return rows, shapes, sound and strict
 
 
-def report(program, checks):
-    """Runs each check in a room of its own; prints its name and ok or FAILED, and last how many passed. Whether one failed."""
-    passed = 0
-    for check in checks:
+def report(program, checks, repeated=(), times=0):
+    """Runs each check in a room of its own, the repeated ones with how many times; prints its name, ok or FAILED, and what it
+    took, and last how many passed. Whether one failed."""
+    passed, failed = 0, 0
+    for check in [*checks, *repeated]:
+        began = time.monotonic()
         with tempfile.TemporaryDirectory(dir="/dev/shm" if os.path.isdir("/dev/shm") else None) as folder:
-            good = check(Room(program, folder))
-        passed += good
-        print(f"{check.__name__}: {'ok' if good else 'FAILED'}", flush=True)
-    print(f"{passed} passed, {len(checks) - passed} failed")
-    return passed < len(checks)
+            room = Room(program, folder)
+            good = check(room, times) if check in repeated else check(room)
+        passed, failed = passed + bool(good), failed + (not good)
+        print(f"{check.__name__}: {'ok' if good else 'FAILED'}, in {time.monotonic() - began:.0f} s", flush=True)
+    print(f"{passed} passed, {failed} failed")
+    return failed > 0
