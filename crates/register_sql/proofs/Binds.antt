@@ -1,5 +1,5 @@
 -- What a store says of itself is what its rows say, and being bound changes these as a register promises.
-use Rattle.std.proofs.Common.{◌≡◌, ◌≢◌, ◌≤◌, ℕ, zero, suc, pos, List, [], ◌∷◌, ◌++◌, length, map, drop, reverse, slice_index_or, codes, Bool, true, false, not, ◌&&◌, ◌||◌, Ok, Err, Result, IfOk, refl, sym, ap, subst, ◌∙◌, arith, append-nil}
+use Rattle.std.proofs.Common.{◌≡◌, ◌≢◌, ◌≤◌, ℕ, zero, suc, pos, List, [], ◌∷◌, ◌++◌, length, map, drop, reverse, slice_index_or, codes, Bool, true, false, not, ◌&&◌, ◌||◌, Ok, Err, Result, IfOk, IfErr, refl, sym, ap, subst, ◌∙◌, arith, append-nil}
 use Rattle.std.specs.Bool.{Decides}
 use Rattle.std.specs.List.{AllByRecursion, list_any}
 use Rattle.std.specs.List.Sorted.{IsPermutation}
@@ -22,11 +22,11 @@ use Rattle.sqlite.specs.declared.types.Value.TheVariants.{Int, Text}
 use Rattle.sqlite_catalog.specs.Listing.{IsSound}
 use Rattle.sqlite_trees.proofs.ListLemmas.{all-permutation}
 use Rattle.sqlite_value.specs.Order.{bytes}
-use Rattle.register_store.specs.Registers.{is_new, has_other_version, bound_by, bound_to, IsBindFault}
+use Rattle.register_store.specs.Registers.{is_new, is_failure, has_other_version, bound_by, bound_to, IsBindFault}
 use Rattle.register_store.specs.StoredRows.{Content, SetupRow, MetaRow, AreSame, IsBoundTo, rows_of_setup, rows_of_meta}
 use Rattle.register_store.specs.declared.store_fault.StoreFault.{StoreFault}
-use Rattle.register_store.specs.declared.store_fault.StoreFault.TheVariants.{OtherSetup, Damaged, OtherVersion}
-use Rattle.register_sql.specs.Binding.{IsRefused, IsBoundAs, LeavesBound, ComesBound}
+use Rattle.register_store.specs.declared.store_fault.StoreFault.TheVariants.{OtherSetup, Damaged, OtherVersion, Store}
+use Rattle.register_sql.specs.Binding.{IsRefused, IsBoundAs, IsUnfitFor, LeavesBound, ComesBound}
 use Rattle.register_sql.specs.Making.{MakesWhole, IsMadeWhole, LeavesMade, setup_from}
 use Rattle.register_sql.specs.Posting.{IsWhole}
 use Rattle.register_sql.specs.Queries.{shown_in, IsPart, IsSame, AreApart}
@@ -159,7 +159,7 @@ told_new db rows read is = none (db 0) (subst (IsPermutation (shown_in Metas db)
     none [] h = refl
     none (r ∷ table) h = absurd (omega (arith, length_permutation _ _ h))
 
-whole_meta : (made : ℕ) → 1 ≤ made → (db : Trees) (rows : List Row) (depth : ℕ) → IsPermutation (shown_in Metas db) rows → IsTold rows (told.Bound depth) → (c : Content) → HasPart made db c → IsPermutation (rows_of_meta depth) c.meta
+pub whole_meta : (made : ℕ) → 1 ≤ made → (db : Trees) (rows : List Row) (depth : ℕ) → IsPermutation (shown_in Metas db) rows → IsTold rows (told.Bound depth) → (c : Content) → HasPart made db c → IsPermutation (rows_of_meta depth) c.meta
 whole_meta made some db rows depth read is c held = same_metas _ _ rows is.1 (metas_read made some db c rows held read)
 
 -- ---- the setup
@@ -173,10 +173,10 @@ setups_shown made db c held = subst (λ l. IsPermutation l (setup_in made db)) (
 pub setup_rows_are : (S : Museum) → IsPermutation (rows_of_setup S) (setup_from 1 (setup_rows S))
 setup_rows_are S = subst (λ l. IsPermutation (rows_of_setup S) (setup_from 1 l)) (reverse-reverse (setup_rows S)) (numbered_are (reverse (setup_rows S)))
 
-has_the_setup : (S : Museum) (db : Trees) (c : Content) → AreRows db c → Decides true (IsPermutation (setup_rows_shown (setup_rows S)) (setup_in 6 db)) → IsPermutation (rows_of_setup S) c.setup
+pub has_the_setup : (S : Museum) (made : ℕ) (db : Trees) → Decides true (IsPermutation (setup_rows_shown (setup_rows S)) (setup_in made db)) → (c : Content) → HasPart made db c → IsPermutation (rows_of_setup S) c.setup
 unfolding setup_back
-has_the_setup S db c held is =
-    IsPermutation-trans _ _ _ (setup_rows_are S) (unmapped setup_shown setup_back (λ r. refl) (setup_from 1 (setup_rows S)) c.setup (setup_in 6 db) (is.0 refl) (setups_shown 6 db c held))
+has_the_setup S made db is c held =
+    IsPermutation-trans _ _ _ (setup_rows_are S) (unmapped setup_shown setup_back (λ r. refl) (setup_from 1 (setup_rows S)) c.setup (setup_in made db) (is.0 refl) (setups_shown made db c held))
 
 pub other_setup : (S : Museum) (made : ℕ) → 1 ≤ made → (db : Trees) (rows : List Row) (depth : ℕ) → IsPermutation (shown_in Metas db) rows → IsTold rows (told.Bound depth)
     → Decides false (IsPermutation (setup_rows_shown (setup_rows S)) (setup_in made db)) → (c : Content) → HasPart made db c → IsBindFault S c OtherSetup
@@ -191,9 +191,16 @@ other_setup S made some db rows depth read is differs c held = (
 pub part_of : (made : ℕ) → made ≤ 6 → (db : Trees) → IsSound (prefix made) db → (c : Content) → IsStored db c → HasPart made db c
 part_of made few db sound c q = subst (λ k. HasPart k db c) (one_prefix q.made made q.few few db q.sound sound) q.rows
 
-pub refused_as : (S : Museum) (made : ℕ) → made ≤ 6 → (old new : State) (fault : StoreFault) → IsPart made old → IsSame old new → ((c : Content) → HasPart made old.now.trees c → IsBindFault S c fault) → IsRefused S old new fault
-refused_as S made few old new fault part same cause =
-    record { same = same; cause = λ c held. cause c (part_of made few old.now.trees (subst (λ k. IsSound k old.now.trees) part.schema part.sound) c held) }
+pub refused_as : (S : Museum) (made : ℕ) → made ≤ 6 → (old new : State) (fault : StoreFault) → IsPart made old → IsSame old new → ((c : Content) → HasPart made old.now.trees c → IsBindFault S c fault) → fault ≢ Store
+    → IsRefused S old new fault
+refused_as S made few old new fault part same cause other = record {
+  same = same;
+  cause = λ c held. cause c (part_of made few old.now.trees (subst (λ k. IsSound k old.now.trees) part.schema part.sound) c held);
+  unfit = λ is. absurd (other is);
+}
+
+pub other_fault : (fault : StoreFault) → is_failure fault ≡ false → fault ≢ Store
+other_fault fault other is = absurd (let e : false ≡ true = sym other ∙ ap is_failure is in cc)
 
 pub same_all : (c : Content) → AreSame c c
 same_all c = record { setup = IsPermutation-refl c.setup; meta = IsPermutation-refl c.meta; postings = IsPermutation-refl c.postings; spots = IsPermutation-refl c.spots; lines = IsPermutation-refl c.lines; terms = IsPermutation-refl c.terms }
@@ -224,7 +231,7 @@ bound_old S depth old new rows part read is has apart same =
       ready = record { is_open = same.is_open; settled = back ∙ part.settled ∙ sym same.committed; whole = subst IsWhole (sym back) whole };
       content = (first.0, subst (λ (k : Database). AreRows k.trees first.0) (sym back) first.1);
       comes = λ d h. (d, record { made = 6; few = omega arith; sound = sound; rows = on d h }, old_stays S d (old_meta depth d.meta (metas d (on d h))));
-      bound = λ d h. record { setup = has_the_setup S db d (on d h) has; meta = metas d (on d h); limit = is.0 };
+      bound = λ d h. record { setup = has_the_setup S 6 db has d (on d h); meta = metas d (on d h); limit = is.0 };
     }
 
 -- the rows that a new store then holds
@@ -307,6 +314,7 @@ pub refused_on : (S : Museum) (old mid new : State) (fault : StoreFault) → IsS
 refused_on S old mid new fault same is = record {
   same = record { was_open = same.was_open; is_open = is.same.is_open; now = is.same.now ∙ same.now; committed = is.same.committed ∙ same.committed };
   cause = λ c h. is.cause c (subst (λ (k : Database). IsStored k.trees c) (sym same.now) h);
+  unfit = λ store. subst (IsUnfitFor S) same.now (is.unfit store);
 }
 
 pub leaves_on : (S : Museum) (old mid : State) → IsSame old mid → (db : Trees) → LeavesBound S mid db → LeavesBound S old db
@@ -359,6 +367,11 @@ pub weaker : {X E : Type 0} (P Q : X → Type 0) → ((x : X) → P x → Q x) �
 weaker P Q h (Ok (Ok x)) is = h x is
 weaker P Q h (Ok (Err fault)) is = tt
 weaker P Q h (Err e) is = tt
+
+pub weaker_err : {X E : Type 0} (P Q : StoreFault → Type 0) → ((fault : StoreFault) → P fault → Q fault) → (r : Result (Result X StoreFault) E) → IfOk r (λ a. IfErr a P) → IfOk r (λ a. IfErr a Q)
+weaker_err P Q h (Ok (Ok x)) is = tt
+weaker_err P Q h (Ok (Err fault)) is = h fault is
+weaker_err P Q h (Err e) is = tt
 
 pub crash_on : (S : Museum) (old mid new : State) → Survives old mid (λ _. ⊥) → (HasCleanDisk mid → IsSame old mid) → Survives mid new (LeavesBound S mid) → Survives old new (LeavesBound S old)
 crash_on S old mid new first same second =

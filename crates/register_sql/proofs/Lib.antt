@@ -22,6 +22,7 @@ pub mod Pairs
 pub mod Setups
 pub mod Postings
 pub mod Binds
+pub mod Unfit
 pub mod Holds
 pub mod Links
 pub mod Moved

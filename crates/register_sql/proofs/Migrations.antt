@@ -1,5 +1,5 @@
 -- What a store says of its version decides whether it is migrated, and what it then holds.
-use Rattle.std.proofs.Common.{◌≡◌, ◌≢◌, inl, inr, ◌≤◌, ℕ, zero, suc, List, [], ◌∷◌, length, map, reverse, Bool, true, false, All, Ok, Err, Result, IfOk, IfErr, OnOk, refl, sym, ap, subst, ◌∙◌, arith}
+use Rattle.std.proofs.Common.{◌≡◌, ◌≢◌, inl, inr, ◌≤◌, ℕ, zero, suc, List, [], ◌∷◌, length, map, reverse, Bool, true, false, All, Ok, Err, Result, IfOk, OnOk, refl, sym, ap, subst, ◌∙◌, arith}
 use Rattle.std.specs.Bool.{Decides}
 use Rattle.std.specs.List.{AllByRecursion}
 use Rattle.std.specs.List.Sorted.{IsPermutation}
@@ -18,22 +18,23 @@ use Rattle.sqlite.specs.declared.error.Error.{Error}
 use Rattle.sqlite_trees.proofs.ListLemmas.{all-permutation}
 use Rattle.sqlite_value.specs.Order.{bytes}
 use Rattle.register_store.proofs.TermRows.{next_terms}
-use Rattle.register_store.specs.Registers.{is_new, is_failure, is_of_listing}
-use Rattle.register_store.specs.StoredRows.{Content, SetupRow, MetaRow, HasList, rows_of_setup, rows_of_terms}
+use Rattle.register_store.specs.Registers.{is_new, is_of_listing}
+use Rattle.register_store.specs.StoredRows.{Content, MetaRow, HasList, rows_of_setup, rows_of_terms}
 use Rattle.register_store.specs.declared.store_fault.StoreFault.{StoreFault}
 use Rattle.register_store.specs.declared.store_fault.StoreFault.TheVariants.{NoMemory, Store, OtherSetup, Damaged, OtherVersion}
 use Rattle.register_sql.specs.Ages.{version_row, first_meta, LacksRow, IsAged}
 use Rattle.register_sql.specs.Binding.{IsSettled}
 use Rattle.register_sql.specs.Early.{IsEarlyOf, IsFirstEarlyWrong}
-use Rattle.register_sql.specs.Migrating.{Lacks, IsOfFirst, IsMigrateFault, AreFirstApart, IsNoStore, IsUnfit, IsFirstOf, IsRaisable, IsRaised, IsLeft, LeavesMoved, ComesMigrated, IsLifted, LeavesLifted, days_given, migrated, lifted}
+use Rattle.register_sql.specs.Migrating.{Lacks, IsOfFirst, IsMigrateFault, AreFirstApart, IsUnfit, IsFirstOf, IsRaisable, IsRaised, IsLeft, LeavesMoved, ComesMigrated, IsLifted, LeavesLifted, days_given, migrated, lifted}
 use Rattle.register_sql.specs.Queries.{shown_in, IsPart, IsSame, IsApartIn, AreApart}
 use Rattle.register_sql.specs.Rows.{HasPart, AreRows, IsStored, Apart, meta_cells}
 use Rattle.register_sql.specs.Says.{HasOther, setup_rows_shown, setup_in}
 use Rattle.register_sql.specs.Shown.{setup_shown}
+use Rattle.register_sql.specs.Tables.{IsNoStore}
 use Rattle.register_sql.specs.declared.age.Age.TheVariants as age
 use Rattle.register_sql.specs.declared.queries.Query.TheVariants.{Metas, MetaIds}
-use Rattle.register_sql.proofs.Binds.{metas_read, same_metas, none_new, some_old, none_other, told_other, setup_rows_are, setups_shown, part_of, sound_in}
-use Rattle.register_sql.proofs.Contents.{content_in, same_part, unmapped}
+use Rattle.register_sql.proofs.Binds.{metas_read, same_metas, none_new, some_old, none_other, told_other, setup_rows_are, setups_shown, has_the_setup, part_of, sound_in, other_fault}
+use Rattle.register_sql.proofs.Contents.{content_in, same_part}
 use Rattle.register_sql.proofs.Prefixes.{same_count}
 use Rattle.register_sql.proofs.Raised.{lifted_is}
 use Rattle.register_sql.proofs.Rising.{part_same, same_then, trees_same}
@@ -115,23 +116,12 @@ module _ (S : Museum) (made : ℕ) (some : 1 ≤ made) (db : Trees) (rows : List
     λ same. absurd (let e : false ≡ true = differs.1 (IsPermutation-trans _ _ _ (IsPermutation-map setup_shown _ _ (IsPermutation-trans _ _ _ (IsPermutation-sym _ _ (setup_rows_are S)) same)) (setups_shown made db c held)) in cc),
   )
 
-setup_of : Row → SetupRow
-setup_of r = record { id = id_in (column r 0); text = bytes (column r 1) }
-
-has_the_setup : (S : Museum) (made : ℕ) (db : Trees) → Decides true (IsPermutation (setup_rows_shown (setup_rows S)) (setup_in made db)) → (c : Content) → HasPart made db c → IsPermutation (rows_of_setup S) c.setup
-unfolding setup_of
-has_the_setup S made db is c held =
-    IsPermutation-trans _ _ _ (setup_rows_are S) (unmapped setup_shown setup_of (λ r. refl) _ c.setup (setup_in made db) (is.0 refl) (setups_shown made db c held))
-
 pub first_of : (S : Museum) (db : Trees) (rows : List Row) → IsPermutation (shown_in Metas db) rows → IsAged rows age.First → Decides true (IsPermutation (setup_rows_shown (setup_rows S)) (setup_in 5 db)) → IsFirstOf S db
 first_of S db rows read is has = record { meta = says_first S 5 (omega arith) db rows read is; setup = has_the_setup S 5 db has }
 
 pub left_as : (S : Museum) (made : ℕ) → made ≤ 6 → (old new : State) (fault : StoreFault) → IsPart made old → IsSame old new → ((c : Content) → HasPart made old.now.trees c → IsMigrateFault S c fault) → fault ≢ Store → IsLeft S old new fault
 left_as S made few old new fault part same cause other =
     record { same = same; cause = λ c held. cause c (part_of made few old.now.trees (sound_in made old part) c held); unfit = λ is. absurd (other is) }
-
-pub other_fault : (fault : StoreFault) → is_failure fault ≡ false → fault ≢ Store
-other_fault fault other is = absurd (let e : false ≡ true = sym other ∙ ap is_failure is in cc)
 
 pub left_unfit : (S : Museum) (old new : State) → IsSame old new → IsUnfit S old.now → IsLeft S old new Store
 left_unfit S old new same unfit = record { same = same; cause = λ c held. tt; unfit = λ is. unfit }
@@ -286,8 +276,3 @@ pub weaker_ok : {X E : Type 0} (P Q : Type 0) → (P → Q) → (r : Result (Res
 weaker_ok P Q h (Ok (Ok x)) is = h is
 weaker_ok P Q h (Ok (Err fault)) is = tt
 weaker_ok P Q h (Err e) is = tt
-
-pub weaker_err : {X E : Type 0} (P Q : StoreFault → Type 0) → ((fault : StoreFault) → P fault → Q fault) → (r : Result (Result X StoreFault) E) → IfOk r (λ a. IfErr a P) → IfOk r (λ a. IfErr a Q)
-weaker_err P Q h (Ok (Ok x)) is = tt
-weaker_err P Q h (Ok (Err fault)) is = h fault is
-weaker_err P Q h (Err e) is = tt

@@ -29,9 +29,10 @@ use Rattle.register_store.proofs.WorkedTexts.{may, may-text, end_of_may, end_of_
 use Rattle.register_store.specs.StoredRows.{Content, SetupRow, PostingRow, TermRow, IsPostingRow, HasList, rows_of_setup, rows_of_meta}
 use Rattle.register_sql.specs.Ages.{first_meta}
 use Rattle.register_sql.specs.Early.{IsEarlyOf}
-use Rattle.register_sql.specs.Migrating.{AreFirstApart, IsMigrated, IsNoStore, IsOfFirst, IsUnfit, days_given}
+use Rattle.register_sql.specs.Binding.{IsUnfitFor}
+use Rattle.register_sql.specs.Migrating.{AreFirstApart, IsMigrated, IsOfFirst, IsUnfit, days_given}
 use Rattle.register_sql.specs.Rows.{HasPart, IsStored}
-use Rattle.register_sql.specs.Tables.{of_tables, prefix, term}
+use Rattle.register_sql.specs.Tables.{of_tables, prefix, term, IsNoStore}
 
 -- ---- an object is agreed for a loan, and moved
 
@@ -193,6 +194,10 @@ no_store (suc (suc (suc zero))) e = absurd (omega (arith, ap (λ (s : Schema). l
 no_store (suc (suc (suc (suc zero)))) e = absurd (omega (arith, ap (λ (s : Schema). length s.indexes) e))
 no_store (suc (suc (suc (suc (suc zero))))) e = absurd (omega (arith, ap (λ (s : Schema). length s.indexes) e))
 no_store (suc (suc (suc (suc (suc (suc made)))))) e = absurd (omega (arith, ap (λ (s : Schema). length s.indexes) e))
+
+-- nor can it be bound
+unbound : (S : Museum) → IsUnfitFor S (record { schema = of_tables (term ∷ []) []; trees = tables })
+unbound S = inl no_store
 
 -- ---- migrated
 

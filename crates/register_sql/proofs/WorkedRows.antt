@@ -1,7 +1,7 @@
 -- The definitions computed on a worked store, and on what isn't one.
 use lib.Ieee.{is_nan, lt}
 use Rattle.std.specs.Prelude.{◌≡◌, ◌-◌, ◌^◌, ℕ, pos, negsuc, List, [], ◌∷◌, map, codes, slice_index_or, true, false, Some, None, refl}
-use Rattle.std.proofs.Common.{arith, lit<}
+use Rattle.std.proofs.Common.{arith, inl, inr, lit<, ⊎_elim}
 use Rattle.std.specs.List.{IsDistinct}
 use Rattle.std.proofs.lemmas.List.Sorted.{IsPermutation-refl, IsPermutation-middle, length_permutation}
 use Rattle.sqlite.specs.Edit.{is_taken}
@@ -17,7 +17,8 @@ use Rattle.posting_core.specs.declared.entry.NewSpot.{NewSpot}
 use Rattle.posting_core.specs.declared.stage.LineStage.TheVariants.{Awaiting, Away, Back}
 use Rattle.register_store.specs.StoredRows.{Content, SetupRow, PostingRow, TermRow, rows_of_meta, spot_row, line_row}
 use Rattle.register_store.specs.declared.store_fault.StoreFault.TheVariants.{NoMemory, Store}
-use Rattle.register_sql.specs.Binding.{IsSettled}
+use Rattle.nest_core.specs.Museum.{Museum}
+use Rattle.register_sql.specs.Binding.{IsSettled, IsUnfitFor, IsUnfitNew}
 use Rattle.register_sql.specs.Fits.{FitsSpot, IsNoSpot, IsNoLine, IsNoTerm}
 use Rattle.register_sql.specs.Making.{MakesWhole, setup_from}
 use Rattle.register_sql.specs.Posting.{with_posting, with_spot, with_line, without_line, with_each, with_some_term}
@@ -203,6 +204,16 @@ apart = record {
   lines = record { ints = (refl, (refl, tt)); differ = ((refl, tt), (tt, tt)) };
   terms = record { ints = (refl, tt); differ = (tt, tt) };
 }
+
+-- it is unfit for no setup, if its database obeys the tables
+says_something : IsSound hub_schema tables → IsUnfitNew at_rest.now → ⊥
+says_something sound h =
+    absurd (let e : false ≡ true = h.new worked (record { made = 6; few = omega arith; sound = sound; rows = held }) in cc)
+
+fit : (S : Museum) → IsSound hub_schema tables → IsUnfitFor S at_rest.now → ⊥
+fit S sound (inl h) = h 6 refl
+fit S sound (inr (inl h)) = says_something sound h
+fit S sound (inr (inr h)) = ⊎_elim (λ other. other refl) (λ not. not apart) h.unfit
 
 twice : same_id (Int (pos 4) ∷ Text loan ∷ []) (Int (pos 4) ∷ []) ≡ true
 unfolding value_cmp is_nan lt

@@ -1,26 +1,45 @@
 -- What binding a store to a setup leaves.
-use Rattle.std.specs.Prelude.{◌≡◌, ℕ, IsTrue}
+use Rattle.std.specs.Prelude.{◌≡◌, ◌≢◌, ◌⊎◌, ℕ, true, IsTrue}
+use Rattle.std.specs.List.Sorted.{IsPermutation}
 use Rattle.nest_core.specs.Museum.{Museum}
+use Rattle.sqlite.specs.Effect.{Database}
 use Rattle.sqlite.specs.State.{State}
 use Rattle.sqlite.specs.Tree.{Trees}
 use Rattle.sqlite_catalog.specs.Listing.{IsSound}
-use Rattle.register_store.specs.Registers.{bound_to, IsBindFault}
-use Rattle.register_store.specs.StoredRows.{Content, AreSame, IsBoundTo}
+use Rattle.register_store.specs.Registers.{is_new, bound_to, IsWhole, IsBindFault}
+use Rattle.register_store.specs.StoredRows.{Content, AreSame, IsBoundTo, rows_of_setup}
 use Rattle.register_store.specs.declared.store_fault.StoreFault.{StoreFault}
+use Rattle.register_store.specs.declared.store_fault.StoreFault.TheVariants.{Store}
 use Rattle.register_sql.specs.Posting.{IsReady}
-use Rattle.register_sql.specs.Queries.{IsSame}
+use Rattle.register_sql.specs.Queries.{IsSame, AreApart}
 use Rattle.register_sql.specs.Rows.{AreRows, IsStored}
-use Rattle.register_sql.specs.Tables.{hub_schema}
+use Rattle.register_sql.specs.Tables.{prefix, hub_schema, IsNoStore}
 
 -- an open connection, between two transactions
 pub record IsSettled (s : State) : Type 0 where
   pub is_open : IsTrue s.is_open
   pub settled : s.now ≡ s.committed
 
+-- a database of the first of a store's tables that says nothing of itself, and whose rowids aren't numbers that differ
+pub record IsUnfitNew (db : Database) : Type 0 where
+  pub new : (c : Content) → IsStored db.trees c → is_new c.meta ≡ true
+  pub unfit : (made : ℕ) × (db.schema ≡ prefix made) × ¬ AreApart made db.trees
+
+-- one that says that it is of version 2, and has this setup, but lacks a table, or whose rowids aren't numbers that differ
+pub record IsUnfitOld (S : Museum) (db : Database) : Type 0 where
+  pub whole : (c : Content) → IsStored db.trees c → IsWhole c.meta
+  pub setup : (c : Content) → IsStored db.trees c → IsPermutation (rows_of_setup S) c.setup
+  pub unfit : (db.schema ≢ hub_schema) ⊎ (¬ AreApart 6 db.trees)
+
+-- what is refused as Store, where no statement fails
+abbrev pub IsUnfitFor : Museum → Database → Type 0
+IsUnfitFor S db = IsNoStore db ⊎ (IsUnfitNew db ⊎ IsUnfitOld S db)
+
 -- it is refused for this cause, and nothing is changed
 pub record IsRefused (S : Museum) (old new : State) (fault : StoreFault) : Type 0 where
   pub same : IsSame old new
   pub cause : (c : Content) → IsStored old.now.trees c → IsBindFault S c fault
+  pub unfit : fault ≡ Store → IsUnfitFor S old.now
 
 -- the rows come, by being bound to the setup, from those that a database holds
 abbrev pub ComesBound : Museum → Trees → Content → Type 0

@@ -18,7 +18,7 @@ use Rattle.register_sql.specs.Early.{IsEarlyOf, IsFirstEarlyWrong}
 use Rattle.register_sql.specs.Posting.{Within, IsWhole, IsReady, with_each, with_some_term}
 use Rattle.register_sql.specs.Queries.{IsPart, IsSame, AreApart}
 use Rattle.register_sql.specs.Rows.{HasPart, AreRows, IsStored, Apart, meta_cells}
-use Rattle.register_sql.specs.Tables.{prefix, hub_schema}
+use Rattle.register_sql.specs.Tables.{prefix, hub_schema, IsNoStore}
 
 -- no row says this version
 abbrev pub Lacks : ℕ → List MetaRow → Type 0
@@ -175,10 +175,6 @@ IsCompleted old new = LeavesSix new ⊎ IsSecond old new
 -- the rowids of what a store of version 1 says of itself, of its setup, entries and lines, are numbers that differ
 abbrev pub AreFirstApart : Trees → Type 0
 AreFirstApart db = Apart (db 0) × AreApart 5 db
-
--- a database whose tables are none of a store
-abbrev pub IsNoStore : Database → Type 0
-IsNoStore db = (made : ℕ) → db.schema ≢ prefix made
 
 -- one that says that it is of version 1, and has this setup, but other tables than its five, or rowids that don't differ
 pub record IsUnfitFirst (S : Museum) (db : Database) : Type 0 where

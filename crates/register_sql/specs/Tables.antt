@@ -1,6 +1,7 @@
 -- The six tables of a store, as the database knows them once they are made one after another.
-use Rattle.std.specs.Prelude.{true, false, [], ◌∷◌, Some, None, codes, map, take, List, ℕ, zero, suc, Bool, Option}
+use Rattle.std.specs.Prelude.{◌≢◌, true, false, [], ◌∷◌, Some, None, codes, map, take, List, ℕ, zero, suc, Bool, Option}
 use Rattle.sqlite.specs.Collation.TheVariants.{Binary}
+use Rattle.sqlite.specs.Effect.{Database}
 use Rattle.sqlite.specs.Kind.{Kind}
 use Rattle.sqlite.specs.Kind.TheVariants.{Integer, Text}
 use Rattle.sqlite.specs.Schema.{Schema}
@@ -150,3 +151,7 @@ prefix made = of_tables (take made all_tables) (take (index_count made) all_inde
 -- the schema of a whole store
 abbrev pub hub_schema : Schema
 hub_schema = prefix 6
+
+-- a database whose tables are none of a store
+abbrev pub IsNoStore : Database → Type 0
+IsNoStore db = (made : ℕ) → db.schema ≢ prefix made

@@ -6,6 +6,7 @@ ghost use Rattle.sqlite.specs.State.{HasCleanDisk};
 ghost use Rattle.register_store.specs.Holdings.{Each, Has, Comes, IsPosted, IsBound, IsNotBound};
 ghost use Rattle.register_store.specs.Registers.{is_failure, is_of_listing, IsOfStation, IsListFault};
 ghost use Rattle.register_store.specs.StoredRows.{AreSame, HasList, HasRows, IsBoundTo};
+ghost use Rattle.register_sql.specs.Binding.{IsUnfitFor};
 ghost use Rattle.register_sql.specs.Migrating.{Migrates, IsNotMigrated, IsCompleted, IsUnfit};
 ghost use Rattle.register_sql.specs.Stores.{in_store, IsKept};
 
@@ -72,6 +73,8 @@ pub(crate) fn bind_store<S: Alter>(
     ensures refused { IfErr result
         (λ fault. Comes (in_store (state S.Store link.old.conn))
         (in_store (state S.Store link.new.conn)) (IsNotBound setup.now fault)) }
+    ensures unfit { HasCleanDisk (state S.Store link.new.conn) → IsNone link.new.stopped
+        → result ≡ Err StoreFault.Store → IsUnfitFor setup.now (state S.Store link.old.conn).now }
     ensures ready { OnOk result (link.new.bound ≡ true) }
     ensures not_ready { OnErr result (link.new.bound ≡ link.old.bound) }
 {

@@ -1,12 +1,13 @@
 //! The register over a connection to a database.
-ghost use Rattle.std.specs.Prelude.{◌≡◌, true, false, Err, IsTrue, IfOk, IfErr, OnOk};
+ghost use Rattle.std.specs.Prelude.{◌≡◌, true, false, Err, length, IsTrue, IfOk, IfErr, OnOk, OnErr};
 ghost use Rattle.sqlite.specs.Held.{state};
 ghost use Rattle.sqlite.specs.Files.{file_state};
 ghost use Rattle.sqlite.specs.State.{HasCleanDisk};
 ghost use Rattle.sqlite.specs.Steps.{over_memory};
-ghost use Rattle.register_store.specs.Holdings.{Has, Comes};
+ghost use Rattle.register_store.specs.Holdings.{Has, Comes, IsBound, IsNotBound};
 ghost use Rattle.register_store.specs.Registers.{is_failure, CountsRefusal};
-ghost use Rattle.register_sql.specs.Binding.{IsSettled};
+ghost use Rattle.register_store.specs.StoredRows.{IsBoundTo};
+ghost use Rattle.register_sql.specs.Binding.{IsSettled, IsUnfitFor};
 ghost use Rattle.register_sql.specs.Migrating.{Migrates, IsNotMigrated, IsCompleted, IsUnfit};
 ghost use Rattle.register_sql.specs.Stores.{in_store, no_rows};
 
@@ -171,7 +172,24 @@ impl<S: Alter> Register for SqlRegister<S> {
 
     ghost can_refuse = { true };
 
-    fn bind(&mut self, alloc: Global, setup: &Setup) -> Result<u32, StoreFault> {
+    /// As for each register; and where no statement has failed, Store comes only of a store that is unfit for the setup.
+    fn bind(&mut self, alloc: Global, setup: &Setup) -> Result<u32, StoreFault>
+        ensures bound { IfOk result
+            (λ depth. Has (in_store (state S.Store self.new.conn)) (IsBoundTo setup.now depth)) }
+        ensures kept { OnOk result
+            (Comes (in_store (state S.Store self.old.conn))
+            (in_store (state S.Store self.new.conn)) (IsBound setup.now)) }
+        ensures refused { IfErr result
+            (λ fault. Comes (in_store (state S.Store self.old.conn))
+            (in_store (state S.Store self.new.conn)) (IsNotBound setup.now fault)) }
+        ensures ready { OnOk result
+            ((self.new.bound ≡ true) × (self.new.stations ≡ length setup.now.stations)) }
+        ensures not_ready { OnErr result
+            ((self.new.bound ≡ self.old.bound) × (self.new.stations ≡ self.old.stations)) }
+        ensures count { CountsRefusal self.old.refusals self.new.refusals result }
+        ensures unfit { HasCleanDisk (state S.Store self.new.conn) → self.new.stopped ≡ false
+            → result ≡ Err StoreFault.Store → IsUnfitFor setup.now (state S.Store self.old.conn).now }
+    {
         let answer = bind_store(alloc, &mut self.link, setup);
         self.refusals = recount(self.refusals, &answer);
         if answer.is_ok() {

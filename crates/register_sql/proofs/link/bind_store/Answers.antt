@@ -1,7 +1,9 @@
-use Rattle.std.proofs.Common.{◌≡◌, true, sym, subst, IfOk, IfErr, IfSome}
+use Rattle.std.proofs.Common.{◌≡◌, true, refl, sym, subst, IfOk, IfErr, IfSome}
+use Rattle.std.proofs.lemmas.Result.{IfErr-at_err}
 use Rattle.sqlite.specs.Held.{state}
 use Rattle.register_store.specs.Holdings.{Comes, IsNotBound}
 use Rattle.register_store.specs.Registers.{is_failure}
+use Rattle.register_store.specs.declared.store_fault.StoreFault.{StoreFault}
 use Rattle.register_sql.specs.Binding.{IsRefused, IsBoundAs, LeavesBound}
 use Rattle.register_sql.specs.Stores.{in_store}
 use Rattle.register_sql.proofs.Holds.{Laws, bound_has, bound_comes, refused_comes, failed_comes, still_unbound}
@@ -55,3 +57,11 @@ returns-in-Err-clause-refused g c =
     let after : Laws new = record { settled = g.met.S.Store.settled store; stays = g.met.S.Store.stays store; survives = g.met.S.Store.survives store } in
     subst (λ conn. Comes (in_store old) (in_store (state g.S.Store conn)) (IsNotBound S c.stop.result)) (sym c.stop.ensures.conn)
     (failed_comes S c.stop.result old new c.stop.ensures.failure before after (c.requires.settled c.in_default.is) c.bind.ensures.crash)
+
+pub returns-in-Ok-Err-clause-unfit : goal.returns-in-Ok-Err-clause-unfit
+returns-in-Ok-Err-clause-unfit g c clean going is =
+    let S = c.args.setup.now in
+    let old = state g.S.Store c.args.link.now.conn in
+    let new = state g.S.Store c.bind.new.conn in
+    let refused : IsRefused S old new c.in-Ok-Err.fault = subst (λ a. IfErr a (IsRefused S old new)) c.in-Ok-Err.field-0-is (c.in-Ok-Err.ensures.refused clean) in
+    refused.unfit (IfErr-at_err (λ (fault : StoreFault). c.in-Ok-Err.fault ≡ fault) is refl)

@@ -8,7 +8,8 @@ use Rattle.register_store.specs.declared.store_fault.StoreFault.TheVariants.{NoM
 use Rattle.register_sql.specs.Migrating.{IsRaised, IsLeft}
 use Rattle.register_sql.specs.Queries.{IsPart}
 use Rattle.register_sql.specs.Says.{setup_rows_shown, setup_in}
-use Rattle.register_sql.proofs.Migrations.{left_as, left_unfit, other_fault, other_tables, has_another_setup, first_of, first_on, raised_on, left_on, crash_on, weaker_ok, weaker_err}
+use Rattle.register_sql.proofs.Binds.{other_fault, weaker_err}
+use Rattle.register_sql.proofs.Migrations.{left_as, left_unfit, other_tables, has_another_setup, first_of, first_on, raised_on, left_on, crash_on, weaker_ok}
 use Rattle.register_sql.proofs.Rising.{part_same}
 use Rattle.register_sql.proofs.migrate.compare_first.Goals as goal
 

@@ -1,7 +1,7 @@
 use Rattle.std.proofs.Common.{rules}
 use Rattle.sqlite.specs.Held.{state}
-use Rattle.register_sql.specs.Migrating.{IsNoStore}
 use Rattle.register_sql.specs.Queries.{IsPart}
+use Rattle.register_sql.specs.Tables.{IsNoStore}
 use Rattle.register_sql.proofs.Migrations.{left_without_tables, left_no_store}
 use Rattle.register_sql.proofs.Rising.{same_still}
 use Rattle.register_sql.proofs.migrate.migrate.Goals as goal
