@@ -1,12 +1,18 @@
 -- Tables of texts: right ones, and those next to them that have each fault.
-use Rattle.std.specs.Prelude.{◌≡◌, true, false, Some, None, [], ◌∷◌, refl, codes, map, replicate, pos, negsuc}
+use Rattle.std.specs.Prelude.{◌≡◌, ◌<◌, ◌≤◌, true, false, Some, None, [], ◌∷◌, refl, codes, map, replicate, pos, negsuc}
+use Rattle.std.proofs.Common.{arith}
+use Rattle.std.specs.Str.{chars, is_utf8}
+use Rattle.std.proofs.lemmas.Bool.{leb-true}
+use Rattle.std.proofs.lemmas.Str.{is_utf8-from_IsUtf8}
+use Rattle.std.proofs.Math.Utf8.{encode}
 use Rattle.jiff_core.specs.Calendar.{days_from_civil, day_count, days_of_years, days_of_months}
-use Rattle.codes_core.specs.declared.fault.CodeFault.TheVariants.{BadShape, BadNumber, NoSuchDay}
-use Rattle.codes_core.specs.Thing.{thing_fault}
+use Rattle.codes_core.specs.declared.fault.CodeFault.TheVariants.{Empty, BadShape, BadNumber, NoSuchDay}
+use Rattle.codes_core.specs.declared.thing.ThingKind.TheVariants.{Own, Borrowed, Container}
+use Rattle.codes_core.specs.Thing.{thing_fault, thing_kind}
 use Rattle.codes_core.specs.Loan.{loan_fault}
 use Rattle.codes_core.specs.Place.{place_fault, lies_in}
 use Rattle.codes_core.specs.Day.{day_fault, day_number}
-use Rattle.codes_core.specs.Name.{is_name_byte}
+use Rattle.codes_core.specs.Name.{is_name_byte, IsName}
 
 -- right things
 right_things : map thing_fault
@@ -113,3 +119,30 @@ in_a_bay = refl
 name_bytes : map is_name_byte (31 ∷ 32 ∷ 126 ∷ 127 ∷ 195 ∷ [])
     ≡ false ∷ true ∷ true ∷ false ∷ true ∷ []
 name_bytes = refl
+
+-- no bytes are no code and no day
+no_bytes : thing_fault [] ∷ loan_fault [] ∷ place_fault [] ∷ day_fault [] ∷ []
+    ≡ replicate 4 (Some Empty)
+no_bytes = refl
+
+-- the kinds of the longest codes
+longest_kinds : map thing_kind
+    (codes "2001.999999.999999.999999z" ∷ codes "L2001.999999.999999.999999z" ∷ codes "C999999" ∷ [])
+    ≡ Own ∷ Borrowed ∷ Container ∷ []
+longest_kinds = refl
+
+-- a name has up to 60 bytes
+longest_name : IsName (replicate 60 97)
+unfolding encode
+longest_name = record { utf8 = (replicate 60 97, (refl, refl)); some = leb-true 1 60 refl; few = leb-true 60 60 refl; plain = refl }
+
+too_long_a_name : ¬ IsName (replicate 61 97)
+too_long_a_name name = let few : 61 ≤ 60 = name.few in omega arith
+
+empty_name : ¬ IsName []
+empty_name name = let some : 0 < 0 = name.some in omega arith
+
+-- the bytes of no characters
+name_of_no_text : ¬ IsName (255 ∷ [])
+unfolding is_utf8 chars
+name_of_no_text name = let text : is_utf8 (255 ∷ []) ≡ true = is_utf8-from_IsUtf8 (255 ∷ []) name.utf8 in cc

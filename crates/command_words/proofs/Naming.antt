@@ -82,7 +82,7 @@ pub report_read : (app : App) (words : List Text) (rows : List Row) (result : Re
     → MatchResult result (GivesReport app words) (IsFaultBy (Some (report (both_needed app))) words)
 report_read app words rows (Ok r) read held =
     let given : HoldsReport (matches_of app words) r = subst (λ (rs : List Row). HoldsReport rs r) read.1 held in
-    (none_of_some (format_in app words) _ (ap is_some given.2) (kinds_taken app words read.0), given.0, given.1, given.2)
+    (none_of_some (format_in app words) _ (ap is_some given.2) (kinds_taken app words read.0), given)
 report_read app words rows (Err fault) read lost = report_lost app words rows fault read lost
 
 -- with one value more that is needed, what was lacking is

@@ -1,13 +1,18 @@
 -- The definitions computed on worked words.
-use Rattle.std.specs.Prelude.{◌≡◌, ◌∷◌, ◌++◌, [], List, None, Some, codes, false, map, refl, true}
-use Rattle.clap.specs.Words.{Text}
+use Rattle.std.specs.Prelude.{◌≡◌, ◌∷◌, ◌++◌, [], ℕ, List, None, Some, codes, false, map, refl, true}
+use Rattle.std.specs.Borrow.{Bor}
+use Rattle.clap.specs.Words.{Text, matches_of, new_app}
 use Rattle.clap.proofs.OnLiterals.{clap_on_literals}
 use Rattle.clap.specs.declared.error.kind.ErrorKind.TheVariants.{ArgumentConflict, InvalidValue}
 use Rattle.clap.specs.declared.error.kind.ErrorKind.TheVariants.{UnknownArgument}
-use Rattle.command_words.specs.Commands.{away, posted, register_app, replay, report_app, serve}
+use Rattle.command_words.specs.Commands.{away, explain, posted, register_app, replay, report_app, serve}
+use Rattle.command_words.specs.Tables.{with_arguments}
 use Rattle.command_words.specs.Words.{form_named, format_in, is_given, lacks, refusals, report_kinds}
-use Rattle.command_words.specs.Words.{status_of_kind, value, values}
+use Rattle.command_words.specs.Words.{HoldsReport, IsNoReport, status_of_kind, value, values}
 use Rattle.command_words.specs.declared.command.Format.TheVariants.{Csv, Json, Lines}
+use Rattle.command_words.specs.declared.command.WordsFault.TheVariants.{Missing}
+use Rattle.command_words.specs.declared.options.Argument.{Argument}
+use Rattle.command_words.specs.declared.options.Kind.TheVariants.{Word}
 
 -- replay --setup a --store b
 abbrev replay_words : List Text
@@ -146,3 +151,23 @@ no_words_lack = refl
 pub misspelt : map status_of_kind (refusals (codes "replya" ∷ [])) ≡ 2 ∷ 2 ∷ []
 unfolding clap_on_literals register_app report_app
 misspelt = refl
+
+-- what clap's matches have for a report, and that they lack the store
+abbrev word : List ℕ → Bor (List ℕ)
+word t = record { ref_ptr = (0, 0); now = t }
+
+pub away_held : HoldsReport (matches_of away.app away_words)
+    (record { setup = word (codes "a"); store = word (codes "b"); format = Lines })
+unfolding clap_on_literals register_app report_app
+away_held = (refl, refl, refl)
+
+pub no_store_held : IsNoReport (matches_of away.app (codes "away" ∷ codes "--setup=a" ∷ [])) Missing
+unfolding clap_on_literals register_app report_app
+no_store_held = (refl, refl)
+
+-- the one argument of explain
+abbrev name_word : Argument
+name_word = record { kind = Word; id = word (codes "name"); value = word (codes "NAME"); help = word (codes "A word") }
+
+pub explain_arguments : with_arguments (new_app (codes "explain")) (name_word ∷ []) ≡ explain.app
+explain_arguments = refl

@@ -67,9 +67,14 @@ format_by true false = Some Csv
 format_by false true = Some Json
 format_by false false = Some Lines
 
+-- in clap's matches
+abbrev pub format_found : List Row → Option Format
+format_found rows =
+    format_by (is_true (first_of (codes "csv") rows)) (is_true (first_of (codes "json") rows))
+
+-- in the words
 abbrev pub format_in : App → List Text → Option Format
-format_in app words =
-    format_by (is_given app words (codes "csv")) (is_given app words (codes "json"))
+format_in app words = format_found (matches_of app words)
 
 -- the words name this command, and give it these values
 abbrev pub IsChosen : List Text → Chosen → Type 0
@@ -186,23 +191,16 @@ GivesRecord app words files = (fault_of app words ≡ [])
     × (value app words (codes "setup") ≡ Some files.setup.now)
     × (value app words (codes "store") ≡ Some files.store.now)
 
--- the words of a report are taken, and name both files and the form of its rows
-abbrev pub GivesReport : App → List Text → Report → Type 0
-GivesReport app words report = (report_kinds app words ≡ [])
-    × (value app words (codes "setup") ≡ Some report.setup.now)
-    × (value app words (codes "store") ≡ Some report.store.now)
-    × (format_in app words ≡ Some report.format)
-
--- the form of a report's rows, in clap's matches
-abbrev pub format_found : List Row → Option Format
-format_found rows =
-    format_by (is_true (first_of (codes "csv") rows)) (is_true (first_of (codes "json") rows))
-
 -- clap's matches have both files, and the form of a report's rows
 abbrev pub HoldsReport : List Row → Report → Type 0
 HoldsReport rows report = (first_of (codes "setup") rows ≡ Some report.setup.now)
     × (first_of (codes "store") rows ≡ Some report.store.now)
     × (format_found rows ≡ Some report.format)
+
+-- the words of a report are taken, and name both files and the form of its rows
+abbrev pub GivesReport : App → List Text → Report → Type 0
+GivesReport app words report =
+    (report_kinds app words ≡ []) × HoldsReport (matches_of app words) report
 
 -- clap's matches have both forms at once, or lack a file, or memory ran out
 abbrev pub IsNoReport : List Row → WordsFault → Type 0

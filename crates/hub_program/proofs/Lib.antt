@@ -1,1 +1,2 @@
 pub mod ServingLemmas
+mod WorkedRows

@@ -1,7 +1,7 @@
 -- What is asked before the lines of what crosses, and the loan that goes on, computed on worked rows: after two agreements, of
 -- which the first is authorised, the crate C1, which holds objects of both, is asked about.
 use Rattle.std.specs.Prelude.{ℕ, ◌≡◌, true, false, List, [], ◌∷◌, Some, None, map, refl, codes}
-use Rattle.std.proofs.Common.{sym}
+use Rattle.std.proofs.Common.{arith, sym}
 use Rattle.nest_core.specs.Museum.{find_thing}
 use Rattle.posting_core.specs.declared.verdict.Verdict.TheVariants.{Applied, UnknownThing, UnknownPlace, ElsewherePlace, UnknownLoan, NotAuthorised}
 use Rattle.posting_core.specs.declared.message.Message.{Message}
@@ -9,9 +9,10 @@ use Rattle.posting_core.specs.declared.message.Message.TheVariants.{Move, Extend
 use Rattle.posting_core.specs.declared.stage.LineStage.TheVariants.{Awaiting}
 use Rattle.posting_core.specs.declared.entry.Entry.{Entry}
 use Rattle.posting_core.specs.Agreements.{is_agreed, last_day, loan_no, loan_by}
-use Rattle.posting_core.specs.LoanRows.{AreOnce, loan_rows, row_by}
-use Rattle.posting_core.specs.Crossings.{incoming_rows}
+use Rattle.posting_core.specs.LoanRows.{AreOnce, LoanRow, loan_rows, row_by}
+use Rattle.posting_core.specs.Crossings.{IsFound, incoming_rows}
 use Rattle.posting_core.specs.Verdicts.{first_of}
+use Rattle.posting_core.proofs.LoanAnswers.{IsRowOf, row_is}
 use Rattle.posting_core.proofs.WorkedRows.{museum, museum_x, pack, crate_1, object_1, object_2, object_3, may, run}
 use Rattle.posting_core.proofs.WorkedLoansOut.{agreed, loan_1, may_31, june_1, now_authorised}
 
@@ -52,11 +53,33 @@ found_agreed = refl
 found_last : last_day two_loans loan_1 ≡ Some may_31
 found_last = refl
 
+abbrev row_1 : LoanRow
+row_1 = record { loan = loan_1; partner = museum_x; objects = object_1 ∷ object_2 ∷ []; stages = Awaiting ∷ Awaiting ∷ []; last = may_31; authorised = true }
+
 found_rows : loan_rows museum two_loans ≡
-    record { loan = loan_1; partner = museum_x; objects = object_1 ∷ object_2 ∷ []; stages = Awaiting ∷ Awaiting ∷ []; last = may_31; authorised = true }
+    row_1
     ∷ record { loan = loan_2; partner = museum_x; objects = object_3 ∷ []; stages = Awaiting ∷ []; last = may_31; authorised = false }
     ∷ []
 found_rows = refl
+
+is_found : IsFound museum two_loans (codes "C1") loan_1 crate_1 0 row_1
+is_found = record {
+  thing = refl;
+  known = omega arith;
+  number = refl;
+  agreed = refl;
+  authorised = refl;
+  last = refl;
+  partner = refl;
+  lines = of_row.lines;
+}
+  where
+    of_row : IsRowOf museum two_loans loan_1 row_1
+    of_row = (row_is museum two_loans loan_1 (loan_rows museum two_loans) (Some row_1) refl refl).1
+
+-- the second loan's row is none of the first
+is_not_found : ¬ IsFound museum two_loans (codes "C1") loan_1 crate_1 1 row_1
+is_not_found h = let number : Some 0 ≡ Some 1 = h.number in cc
 
 -- the rows that a return and a receipt begin with, one after the other
 incoming : first_of (incoming_rows museum two_loans (codes "C9") (codes "LO2024.3") (codes "S9") [])

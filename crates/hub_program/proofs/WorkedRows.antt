@@ -1,0 +1,19 @@
+-- The definition computed on worked values.
+use Rattle.std.proofs.Common.{◌≡◌, Global, Vec}
+use Rattle.std.specs.Prelude.{vec_len}
+use Rattle.serve_core.specs.declared.text_feed.TextFeed.{TextFeed}
+use Rattle.hub_program.specs.Works.{HasFeeds}
+use Rattle.hub_program.specs.declared.work.Work.TheVariants.{Replay, Serve, Migrate}
+
+-- two feeds are those of two stations, and not of three; a replay and a migration have none, of any number
+two_feeds : (feeds : Vec TextFeed Global) → vec_len feeds ≡ 2 → HasFeeds 2 (Serve feeds)
+two_feeds feeds two = two
+
+not_three : (feeds : Vec TextFeed Global) → vec_len feeds ≡ 2 → ¬ HasFeeds 3 (Serve feeds)
+not_three feeds two three = cc
+
+replayed : HasFeeds 3 Replay
+replayed = tt
+
+migrated : HasFeeds 3 Migrate
+migrated = tt
