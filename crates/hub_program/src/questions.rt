@@ -7,13 +7,13 @@ use crate::sheet::Sheet;
 use codes_core::{Day, LoanCode, NoMemory, PlaceCode, ThingCode};
 use count_core::in_place;
 use nest_core::{Setup, StationNo, ThingNo};
-use posting_core::{Ledger, LineStage, LoanState, Message, PostedEntry, Verdict};
+use posting_core::{LAST_NUMBER, Ledger, LineStage, LoanState, Message, PostedEntry, Verdict};
 use register_store::message_text;
 use report_rows::{AtRow, ContentRow, LoanRow, PostedRow, StationRow, WhereRow};
 use std::alloc::Global;
 use std::io::Write;
 
-/// A row for each station, with the number that it has to send next.
+/// Prints a row for each station, with the number that it sends next.
 pub fn stations<W: Write>(ledger: &Ledger, sheet: &mut Sheet<'_, W>) -> Result<(), CommandFault> {
     sheet.head::<StationRow>()?;
     for station in 0..ledger.setup().stations() {
@@ -30,7 +30,7 @@ fn station_row(alloc: Global, ledger: &Ledger, station: StationNo) -> Result<Sta
     let next = last.map_or(1, |entry| entry.n().saturating_add(1));
     Ok(StationRow {
         station: String::from_str(alloc, ledger.setup().station_name(station))?,
-        next: if signed_off {
+        next: if signed_off || next > LAST_NUMBER {
             None
         } else {
             Some(u64::from(next))

@@ -124,6 +124,20 @@ station-json : object_line station_names station_values ≡ codes "{\"station\":
 unfolding digits serde_json_on_literals
 station-json = refl
 
+-- a full station has no next number: empty, or null
+
+abbrev full_values : List Told
+full_values = text (codes "PACK") ∷ nothing ∷ flag false ∷ []
+
+full-csv : row_text default_writer (map plain_text full_values) ≡ codes "PACK,,false\n"
+unfolding fields_text is_blank
+full-csv = refl
+
+full-json : object_line station_names full_values
+    ≡ codes "{\"station\":\"PACK\",\"next\":null,\"signed_off\":false}\n"
+unfolding serde_json_on_literals
+full-json = refl
+
 -- a message is an object in an object, and in comma-separated values a text with quotes
 
 abbrev posted_names : List (List ℕ)
@@ -154,12 +168,15 @@ in_chain = refl
 in_none : in_if [] ≡ nothing
 in_none = refl
 
-next-line : words_line (next_words (Some 6)) ≡ codes "next 6\n"
+next-line : words_line (next_words (Some 6) false) ≡ codes "next 6\n"
 unfolding digits
 next-line = refl
 
-signed_off-line : words_line (next_words None) ≡ codes "signed off\n"
+signed_off-line : words_line (next_words None true) ≡ codes "signed off\n"
 signed_off-line = refl
+
+full-line : words_line (next_words None false) ≡ codes "full\n"
+full-line = refl
 
 -- lines of things: the strings of a row have these bytes
 
@@ -257,6 +274,11 @@ module _ (station message : String Global)
 
   station_off-line : words_line (station_words (record { station = station; next = None; signed_off = true })) ≡ codes "PACK signed off\n"
   station_off-line = rw station-is refl
+
+  station_full-line : words_line
+      (station_words (record { station = station; next = None; signed_off = false }))
+      ≡ codes "PACK full\n"
+  station_full-line = rw station-is refl
 
   posted-line : words_line (posted_words (record { entry = 6; station = station; n = 6; verdict = word (codes "Applied"); message = message }))
       ≡ codes "6 PACK 6 Applied {\"by\":\"A. Keeper\",\"kind\":\"signoff\"}\n"

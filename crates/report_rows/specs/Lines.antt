@@ -1,6 +1,6 @@
 -- The words of each row's plain line, in their order; above each stands such a line.
-use Rattle.std.specs.Prelude.{◌∷◌, [], ℕ, List, None, Option, Some, codes, map, option_map}
-use Rattle.std.specs.Prelude.{string_bytes, unwrap_or}
+use Rattle.std.specs.Prelude.{◌∷◌, [], ℕ, Bool, List, None, Option, Some, codes, false, map}
+use Rattle.std.specs.Prelude.{option_map, string_bytes, true, unwrap_or}
 use Rattle.std.specs.Option.{option_map_or}
 use Rattle.report_rows.specs.Fields.{Told, json, nothing, number, text, text_if, texts}
 use Rattle.report_rows.specs.declared.containers.ContentRow.{ContentRow}
@@ -37,14 +37,15 @@ content_words row = text (string_bytes row.thing)
     ∷ text row.state.now
     ∷ texts (map string_bytes row.containers.items) ∷ []
 
--- next 4, or signed off
-abbrev pub next_words : Option ℕ → List Told
-next_words (Some n) = text (codes "next") ∷ number n ∷ []
-next_words None = text (codes "signed") ∷ text (codes "off") ∷ []
+-- next 4; without a next number, signed off or full
+abbrev pub next_words : Option ℕ → Bool → List Told
+next_words (Some n) signed_off = text (codes "next") ∷ number n ∷ []
+next_words None true = text (codes "signed") ∷ text (codes "off") ∷ []
+next_words None false = text (codes "full") ∷ []
 
 -- GAL next 4
 abbrev pub station_words : StationRow → List Told
-station_words row = text (string_bytes row.station) ∷ next_words row.next
+station_words row = text (string_bytes row.station) ∷ next_words row.next row.signed_off
 
 -- 12 GAL 7 Applied {..}
 abbrev pub posted_words : PostedRow → List Told

@@ -8,7 +8,8 @@ use crate::field::{Field, number_if};
 use codes_core::NoMemory;
 use std::alloc::Global;
 
-/// A station, with the number that it has to send next, unless it has signed off.
+/// A station and the number that it sends next. There is no next number after its sign-off, nor
+/// after its last number, 999999: then the station is full.
 #[derive(Drop)]
 pub struct StationRow {
     pub station: String,
@@ -41,7 +42,10 @@ impl Row for StationRow {
         let station = Field::Text(self.station.as_str());
         Ok(match self.next {
             Some(next) => vec![in alloc; station, Field::Text("next"), Field::Number(next)]?,
-            None => vec![in alloc; station, Field::Text("signed"), Field::Text("off")]?,
+            None if self.signed_off => {
+                vec![in alloc; station, Field::Text("signed"), Field::Text("off")]?
+            }
+            None => vec![in alloc; station, Field::Text("full")]?,
         })
     }
 
