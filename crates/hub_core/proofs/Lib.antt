@@ -22,3 +22,5 @@ pub mod LawLemmas
 pub mod RefusedLemmas
 pub mod RequestLemmas
 pub mod WorkedRows
+pub mod OutcomeLemmas
+pub mod TallyLemmas

@@ -17,13 +17,16 @@ use Rattle.hub_core.specs.declared.line.reply.TheConstants.{LONGEST_LINE}
 use Rattle.hub_core.specs.Reading.{HasNoFeed, feed_if, TakesLine, TakesStart}
 use Rattle.hub_core.specs.Lines.{lines, ended, without_return}
 use Rattle.hub_core.specs.LineText.{text, arrivals, line_reply, line_arrivals}
+use Rattle.hub_core.specs.declared.outcome.Outcome.{Outcome}
+use Rattle.hub_core.specs.declared.line.reply.Reply.{Reply}
+use Rattle.hub_core.specs.Outcomes.{outcomes, line_outcomes, reply_outcomes, Watched}
 use Rattle.register_store.specs.Holdings.{Holding}
 use Rattle.hub_core.specs.StandsFor.{State, StandsFor, TakesSome}
 use Rattle.hub_core.specs.Faults.{replay_fault, CountsStore, CountsReplay}
 use Rattle.hub_core.specs.Replayed.{lines_read, Answered, CutShort, BrokenOff, AfterFault, EndsReplay}
 use Rattle.hub_core.proofs.LineLemmas.{IsWhole, whole_none, whole_more, ended_whole}
-use Rattle.hub_core.proofs.ReplyLemmas.{text_more, arrivals_more, count_more, one_start, one_line, one_arrivals}
-use Rattle.hub_core.proofs.KeptLemmas.{kept_reply, kept_arrivals}
+use Rattle.hub_core.proofs.ReplyLemmas.{text_more, outcomes_more, arrivals_more, count_more, one_start, one_line, one_arrivals}
+use Rattle.hub_core.proofs.KeptLemmas.{kept_reply, kept_outcomes, kept_arrivals}
 use Rattle.hub_core.proofs.FeedLemmas.{end_after}
 use Rattle.hub_core.proofs.StandLemmas.{takes_none}
 use Rattle.hub_core.proofs.Written.{appends_kept}
@@ -46,6 +49,18 @@ under_start S depth O A i o holding hub st = record {
   written = Appends-nil o;
   stands = subst (StandsFor holding hub O) (sym (append-nil A)) st;
   number = refl;
+}
+
+-- a watch has seen what comes of them, too
+pub record UnderWatch {Q : Type 0} (S : Museum) (depth : ℕ) (O : List Entry) (A : List Arrival) (i i' o o' : Option (List ℕ)) (holding : Q → Holding) (hub : State Q) (next : ℕ) (had_seen has_seen : List Outcome → Type 0) : Type 0 where
+  pub under : Underway S depth O A i i' o o' holding hub next
+  pub seen : (before : List Outcome) → had_seen before → has_seen (before ++ outcomes S depth O A under.bytes)
+
+pub watch_start : {Q : Type 0} (S : Museum) (depth : ℕ) (O : List Entry) (A : List Arrival) (i o : Option (List ℕ)) (holding : Q → Holding) (hub : State Q) (has_seen : List Outcome → Type 0) → StandsFor holding hub O A → UnderWatch S depth O A i i o o holding hub 1 has_seen has_seen
+unfolding under_start
+watch_start S depth O A i o holding hub has_seen st = record {
+  under = under_start S depth O A i o holding hub st;
+  seen = λ before h. subst has_seen (sym (append-nil before)) h;
 }
 
 whole_is_ended : (c : List ℕ) → IsWhole c → ended c ≡ c
@@ -171,6 +186,12 @@ module _ {Q : Type 0} {S : Museum} {depth : ℕ} {O : List Entry} {A : List Arri
         ∙ (ap (λ (q : List ℕ). text S depth O A u.bytes ++ q) (sym (kept_reply S l.most l.enough l.takes.bytes depth O (A ++ arrivals S u.bytes) number))
         ∙ ap (λ (q : List ℕ). text S depth O A u.bytes ++ line_reply S depth O (A ++ arrivals S u.bytes) number (without_return q)) (sym l.takes.kept)))
 
+    outcomes_now : outcomes S depth O A now ≡ outcomes S depth O A u.bytes ++ line_outcomes S depth O (A ++ arrivals S u.bytes) (without_return held)
+    outcomes_now =
+        outcomes_more S depth O A u.bytes l.takes.bytes fed u.whole l.takes.one
+        ∙ (ap (λ (q : List Outcome). outcomes S depth O A u.bytes ++ q) (sym (kept_outcomes S l.most l.enough l.takes.bytes depth O (A ++ arrivals S u.bytes)))
+        ∙ ap (λ (q : List ℕ). outcomes S depth O A u.bytes ++ line_outcomes S depth O (A ++ arrivals S u.bytes) (without_return q)) (sym l.takes.kept))
+
     -- a fault before the reply is whole
     pub fault_memory : (new : State Q) (fault : HubFault) → TakesSome holding new O (A ++ arrivals S u.bytes) (line_arrivals S (without_return held)) → AfterFault S depth O A i i2 o o2 holding new (replay_fault fault)
     fault_memory new fault some =
@@ -248,6 +269,23 @@ module _ {Q : Type 0} {S : Museum} {depth : ℕ} {O : List Entry} {A : List Arri
           stands = stands_now;
         }
 
+      -- a watch was shown what came of the line
+      module _ (had_seen saw has_seen : List Outcome → Type 0) (seen : (before : List Outcome) → had_seen before → saw (before ++ outcomes S depth O A u.bytes)) (came : List Outcome) (shown : (before : List Outcome) → saw before → has_seen (before ++ came)) (is : came ≡ line_outcomes S depth O (A ++ arrivals S u.bytes) (without_return held)) where
+        seen_now : (before : List Outcome) → had_seen before → has_seen (before ++ outcomes S depth O A now)
+        seen_now before h =
+            let whole : (before ++ outcomes S depth O A u.bytes) ++ came ≡ before ++ outcomes S depth O A now =
+            append_assoc before (outcomes S depth O A u.bytes) came
+            ∙ ap (λ (q : List Outcome). before ++ q) (ap (λ (q : List Outcome). outcomes S depth O A u.bytes ++ q) is ∙ sym outcomes_now) in
+            subst has_seen whole (shown (before ++ outcomes S depth O A u.bytes) (seen before h))
+
+        pub watched_more : (o3 : Option (List ℕ)) → Appends o2 o3 reply → fed ≡ true → UnderWatch S depth O A i i2 o o3 holding new (number + 1) had_seen has_seen
+        unfolding answered_more
+        watched_more o3 w e = record { under = answered_more o3 w e; seen = seen_now }
+
+        pub watched_last : (o3 o4 : Option (List ℕ)) → Appends o2 o3 reply → Keeps o3 o4 → fed ≡ false → Watched S depth O A i i2 o o4 holding new had_seen has_seen
+        unfolding answered_last
+        watched_last o3 o4 w kept e = record { all = answered_last o3 o4 w kept e; seen = seen_now }
+
 -- the end of a known input
 pub whole_input : {Q : Type 0} (S : Museum) (depth : ℕ) (O : List Entry) (A : List Arrival) (i i' o o' : Option (List ℕ)) (holding : Q → Holding) (hub : State Q) → Answered S depth O A i i' o o' holding hub true
     → IfSome i (λ bytes. IsAtEnd i' × Appends o o' (text S depth O A bytes) × StandsFor holding hub O (A ++ arrivals S bytes))
@@ -257,6 +295,26 @@ whole_input S depth O A (Some xs) (Some ys) o o' holding hub a =
     let none : ys ≡ [] = a.end refl in
     let same : a.bytes ≡ xs = sym (a.read ∙ ap (λ (q : List ℕ). a.bytes ++ q) none ∙ append-nil a.bytes) in
     (none, subst (λ (c : List ℕ). Appends o o' (text S depth O A c)) same a.written, subst (λ (c : List ℕ). StandsFor holding hub O (A ++ arrivals S c)) same a.stands)
+
+-- what a watch has seen of it
+pub whole_seen : {Q : Type 0} (S : Museum) (depth : ℕ) (O : List Entry) (A : List Arrival) (i i' o o' : Option (List ℕ)) (holding : Q → Holding) (hub : State Q) (had_seen has_seen : List Outcome → Type 0) → Watched S depth O A i i' o o' holding hub had_seen has_seen
+    → IfSome i (λ bytes. (before : List Outcome) → had_seen before → has_seen (before ++ outcomes S depth O A bytes))
+whole_seen S depth O A None i' o o' holding hub had_seen has_seen w = tt
+whole_seen S depth O A (Some xs) None o o' holding hub had_seen has_seen w = absurd w.all.read
+whole_seen S depth O A (Some xs) (Some ys) o o' holding hub had_seen has_seen w =
+    let none : ys ≡ [] = w.all.end refl in
+    let same : w.all.bytes ≡ xs = sym (w.all.read ∙ ap (λ (q : List ℕ). w.all.bytes ++ q) none ∙ append-nil w.all.bytes) in
+    λ before h. subst (λ (c : List ℕ). has_seen (before ++ outcomes S depth O A c)) same (w.seen before h)
+
+-- what came of this line at a hub with this museum and depth
+pub came_at : {S S' : Museum} {depth depth' : ℕ} {line line' : List ℕ} {P P' : List Entry} → S' ≡ S → depth' ≡ depth → line' ≡ line → P' ≡ P → (said : Reply) (O : List Entry) (A : List Arrival)
+    → reply_outcomes P said ≡ line_outcomes S' depth' O A line' → reply_outcomes P' said ≡ line_outcomes S depth O A line
+came_at {S} {S'} {depth} {depth'} {line} {line'} {P} {P'} s d l p said O A h =
+    ap (λ (Q : List Entry). reply_outcomes Q said) p
+    ∙ (h
+    ∙ (ap (λ (M : Museum). line_outcomes M depth' O A line') s
+    ∙ (ap (λ n. line_outcomes S n O A line') d
+    ∙ ap (λ (q : List ℕ). line_outcomes S depth O A q) l)))
 
 -- what a hub with this museum and depth said to this line
 pub told_at : {Q : Type 0} {S S' : Museum} {depth depth' : ℕ} {line line' reply reply' : List ℕ} → S' ≡ S → depth' ≡ depth → line' ≡ line → reply' ≡ reply → (holding : Q → Holding) (new : State Q) (O : List Entry) (A : List Arrival) (number : ℕ)

@@ -7,6 +7,8 @@ use Rattle.hub_core.specs.declared.hub.answer.Arrival.{Arrival}
 use Rattle.hub_core.specs.Reading.{HasNoFeed, feed_if}
 use Rattle.hub_core.specs.Lines.{pieces, line_of, lines, without_return}
 use Rattle.hub_core.specs.LineText.{line_reply, line_arrivals, replies, text, arrivals}
+use Rattle.hub_core.specs.declared.outcome.Outcome.{Outcome}
+use Rattle.hub_core.specs.Outcomes.{line_outcomes, all_outcomes, outcomes}
 use Rattle.hub_core.proofs.LineLemmas.{IsWhole, whole_none, line_fed, line_last, pieces_fed, pieces_last}
 
 zero_more : (k : ℕ) → k ≡ 0 + k
@@ -25,6 +27,17 @@ module _ (S : Museum) (depth : ℕ) (O : List Entry) where
       ∙ ap (λ (B : List Arrival). replies S depth O (A ++ line_arrivals S x) (k + 1) xs ++ line_reply S depth O B (length xs + (k + 1)) line) (append_assoc A (line_arrivals S x) (flat_map (line_arrivals S) xs))
       ∙ ap (λ n. replies S depth O (A ++ line_arrivals S x) (k + 1) xs ++ line_reply S depth O (A ++ (line_arrivals S x ++ flat_map (line_arrivals S) xs)) n line) (omega arith))
       ∙ sym (append_assoc (line_reply S depth O A k x) _ _)
+
+  outcomes_of_more : (A : List Arrival) (xs : List (List ℕ)) (line : List ℕ)
+      → all_outcomes S depth O A (xs ++ line ∷ []) ≡ all_outcomes S depth O A xs ++ line_outcomes S depth O (A ++ flat_map (line_arrivals S) xs) line
+  outcomes_of_more A [] line =
+      append-nil (line_outcomes S depth O A line)
+      ∙ ap (λ (B : List Arrival). line_outcomes S depth O B line) (sym (append-nil A))
+  outcomes_of_more A (x ∷ xs) line =
+      ap (λ (t : List Outcome). line_outcomes S depth O A x ++ t)
+      (outcomes_of_more (A ++ line_arrivals S x) xs line
+      ∙ ap (λ (B : List Arrival). all_outcomes S depth O (A ++ line_arrivals S x) xs ++ line_outcomes S depth O B line) (append_assoc A (line_arrivals S x) (flat_map (line_arrivals S) xs)))
+      ∙ sym (append_assoc (line_outcomes S depth O A x) _ _)
 
 sent_more : (S : Museum) (xs : List (List ℕ)) (line : List ℕ) → flat_map (line_arrivals S) (xs ++ line ∷ []) ≡ flat_map (line_arrivals S) xs ++ line_arrivals S line
 sent_more S [] line = append-nil (line_arrivals S line)
@@ -56,6 +69,16 @@ module _ (S : Museum) (depth : ℕ) (O : List Entry) (A : List Arrival) where
       ap (λ (q : List ℕ). text S depth O A (c ++ q)) (append-nil (x ∷ p))
       ∙ ap (replies S depth O A 1) (lines_last c x p w h)
       ∙ replies_more S depth O A 1 (lines c) (without_return (x ∷ p))
+
+  -- what comes of it
+  pub outcomes_more : (c p : List ℕ) (fed : Bool) → IsWhole c → HasNoFeed p
+      → outcomes S depth O A (c ++ (p ++ feed_if fed)) ≡ outcomes S depth O A c ++ line_outcomes S depth O (A ++ arrivals S c) (without_return p)
+  outcomes_more c p true w h = ap (all_outcomes S depth O A) (lines_fed c p w h) ∙ outcomes_of_more S depth O A (lines c) (without_return p)
+  outcomes_more c [] false w h = ap (outcomes S depth O A) (append-nil c) ∙ sym (append-nil (outcomes S depth O A c))
+  outcomes_more c (x ∷ p) false w h =
+      ap (λ (q : List ℕ). outcomes S depth O A (c ++ q)) (append-nil (x ∷ p))
+      ∙ ap (all_outcomes S depth O A) (lines_last c x p w h)
+      ∙ outcomes_of_more S depth O A (lines c) (without_return (x ∷ p))
 
 pub arrivals_more : (S : Museum) (c p : List ℕ) (fed : Bool) → IsWhole c → HasNoFeed p → arrivals S (c ++ (p ++ feed_if fed)) ≡ arrivals S c ++ line_arrivals S (without_return p)
 arrivals_more S c p true w h = ap (flat_map (line_arrivals S)) (lines_fed c p w h) ∙ sent_more S (lines c) (without_return p)

@@ -1,11 +1,12 @@
 -- The definitions computed on worked rows.
 use Rattle.std.specs.Fmt.{digits}
-use Rattle.std.specs.Prelude.{ℕ, pos, ◌≡◌, true, [], ◌∷◌, None, Some, refl, codes, Ok, Err}
+use Rattle.std.specs.Prelude.{ℕ, pos, ◌≡◌, true, false, [], ◌∷◌, None, Some, refl, codes, slice_index, Ok, Err}
 use Rattle.serde_json.proofs.OnLiterals.{serde_json_on_literals}
 use Rattle.serde_json.specs.Read.{read}
 use Rattle.serde_json.specs.Data.{Data, Members, string, number, unsigned, array, object, no_items, no_members, put}
 use Rattle.nest_core.specs.Museum.{Museum}
 use Rattle.posting_core.specs.declared.message.Message.TheVariants.{Move}
+use Rattle.posting_core.specs.declared.verdict.Verdict.TheVariants as verdict
 use Rattle.station_core.specs.declared.Refusal.TheVariants.{BadNumber, Double, TooEarly}
 use Rattle.station_core.specs.Series.{window}
 use Rattle.station_core.specs.Runs.{arrived}
@@ -15,10 +16,13 @@ use Rattle.hub_core.specs.declared.hub.answer.Arrival.{Arrival}
 use Rattle.hub_core.specs.declared.hub.answer.Answer.TheVariants.{Refused, Held, Posted}
 use Rattle.hub_core.specs.declared.hub.answer.Where.TheVariants.{UnknownThing, Unplaced, At}
 use Rattle.hub_core.specs.declared.line.request.Request.TheVariants.{Scan, Ask}
+use Rattle.hub_core.specs.declared.outcome.Outcome.TheVariants as outcome
 use Rattle.hub_core.specs.declared.line.reply.TheConstants.{LONGEST_LINE}
 use Rattle.hub_core.specs.declared.stream.head.TheConstants.{LONGEST_HEAD}
 use Rattle.hub_core.specs.Lines.{without_return, lines, ended, head, after_head}
 use Rattle.hub_core.specs.LineText.{station_reply}
+use Rattle.hub_core.specs.Outcomes.{station_outcomes, request_outcomes}
+use Rattle.hub_core.specs.Tallies.{tally_of, is_clean}
 use Rattle.hub_core.specs.Requests.{line_of, object_of, request_read}
 use Rattle.hub_core.specs.Points.{reply, posted, whereabouts, cut}
 use Rattle.hub_core.specs.Replies.{refused_line, unknown_station_line, held_line, posted_line, bad_line, asked_line}
@@ -161,6 +165,38 @@ double_text = refl
 pub posted_texts : station_reply museum 12 [] (moved 2 ∷ []) 0 (Scan 1 (moved 1).message) ≡ codes "GAL 1 posted 1 Applied\nGAL 2 posted 2 Applied\n"
 unfolding window digits
 posted_texts = refl
+
+-- what a watch sees of them
+pub held_outcome : station_outcomes museum 12 [] [] 0 (Scan 2 (moved 2).message) ≡ outcome.Answered ∷ outcome.Held ∷ []
+unfolding window
+held_outcome = refl
+
+pub posted_outcome : station_outcomes museum 12 [] (moved 2 ∷ []) 0 (Scan 1 (moved 1).message) ≡ outcome.Answered ∷ outcome.Posted verdict.Applied ∷ outcome.Posted verdict.Applied ∷ []
+unfolding window
+posted_outcome = refl
+
+pub double_outcome : station_outcomes museum 12 [] (moved 1 ∷ []) 0 (Scan 1 (moved 1).message) ≡ outcome.Answered ∷ outcome.Refused Double ∷ []
+unfolding window
+double_outcome = refl
+
+pub question_outcome : station_outcomes museum 12 [] [] 0 (Ask (codes "2001.4.1")) ≡ outcome.Answered ∷ outcome.Asked ∷ []
+question_outcome = refl
+
+pub unknown_outcome : request_outcomes museum 12 [] [] None (Ask (codes "2001.4.1")) ≡ outcome.Answered ∷ outcome.UnknownStation ∷ []
+unknown_outcome = refl
+
+-- two entries of one line
+pub two_posted : slice_index (tally_of (outcome.Answered ∷ outcome.Posted verdict.Applied ∷ outcome.Posted verdict.Applied ∷ [])).posted 0 ≡ 2
+two_posted = refl
+
+pub one_line : (tally_of (outcome.Answered ∷ outcome.Posted verdict.Applied ∷ outcome.Posted verdict.Applied ∷ [])).lines ≡ 1
+one_line = refl
+
+pub clean : is_clean (tally_of (outcome.Answered ∷ outcome.Held ∷ outcome.Answered ∷ outcome.Posted verdict.Applied ∷ [])) ≡ true
+clean = refl
+
+pub not_clean : is_clean (tally_of (outcome.Answered ∷ outcome.Posted verdict.NotHere ∷ [])) ≡ false
+not_clean = refl
 
 pub three_lines : lines (codes "a\r\n\nb") ≡ codes "a" ∷ [] ∷ codes "b" ∷ []
 three_lines = refl

@@ -13,3 +13,5 @@ pub mod Posting
 pub mod Openings
 pub mod Replayed
 pub mod WholeRun
+pub mod Tallies
+pub mod Outcomes

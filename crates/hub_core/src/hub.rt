@@ -1,10 +1,11 @@
 //! The hub.
-ghost use Rattle.std.specs.Prelude.{◌≡◌, ◌≢◌, ◌<◌, ◌↔◌, None, List, [], ◌∷◌, ◌++◌, ℕ, reverse, true, false, IfOk, OnOk, OnErr, IsErrOf, IfErr};
+ghost use Rattle.std.specs.Prelude.{◌≡◌, ◌≢◌, ◌+◌, ◌<◌, ◌↔◌, None, List, [], ◌∷◌, ◌++◌, ℕ, length, reverse, true, false, IfOk, OnOk, OnErr, IsErrOf, IfErr};
 ghost use Rattle.posting_core.specs.declared.entry.Entry.{Entry};
 ghost use Rattle.hub_core.specs.declared.hub.answer.Arrival.{Arrival};
 ghost use Rattle.posting_core.specs.Messages.{is_sign_off};
 ghost use Rattle.posting_core.specs.Lawful.{IsLawful};
-ghost use Rattle.station_core.specs.Runs.{run};
+ghost use Rattle.station_core.specs.Runs.{run, ready};
+ghost use Rattle.station_core.specs.Series.{held_count, series_at};
 ghost use Rattle.station_core.specs.declared.Refusal.{Refusal};
 ghost use Rattle.register_store.specs.Holdings.{Comes};
 ghost use Rattle.hub_core.specs.Openings.{CountsFault, Opened, IsNotOpened, OpensAgain};
@@ -20,7 +21,7 @@ use crate::hub::opening::prepare;
 use crate::hub::posting::post_due;
 use crate::{Answer, Arrival, HubFault, Where};
 use codes_core::{NoMemory, ThingCode};
-use nest_core::Setup;
+use nest_core::{Setup, StationNo};
 use posting_core::{Ledger, Message, PostedEntry};
 use register_store::{Register, StoreFault};
 use station_core::Sequences;
@@ -188,6 +189,33 @@ impl<R: Register> Hub<R> {
         self.ledger.posted()
     }
 
+    /// How many messages of the station are held: taken, and waiting for a number below them. 0 if
+    /// there is no such station.
+    pub fn held_count(&self, station: StationNo) -> usize
+        ensures { result ≡ held_count (series_at self.now.sequences station) }
+    {
+        if station as usize >= self.sequences.len() {
+            return 0;
+        }
+        self.sequences.held_count(station)
+    }
+
+    /// The number that the station has to send next: the one above its last posted message. 1 if there
+    /// is no such station.
+    pub fn awaited(&self, station: StationNo) -> u64
+        ensures count { result ≡ (series_at self.now.sequences station).posted + 1 }
+        // For all that the hub stands for: the first number above the run of what the station sent.
+        ensures next { (O : List Entry) (A : List Arrival) → StandsFor R.holding self.now O A
+            → station < length self.now.sequences →
+            result ≡ ready is_sign_off (point self.now.book.museum self.now.book.depth O A).taken
+            station + 1 }
+    {
+        if station as usize >= self.sequences.len() {
+            return 1;
+        }
+        self.sequences.posted_count(station) as u64 + 1
+    }
+
     /// The ledger.
     pub fn ledger(&self) -> &Ledger
         ensures { result.now ≡ self.now.book }
@@ -200,6 +228,21 @@ impl<R: Register> Hub<R> {
         ensures { result ≡ self.now.down }
     {
         self.down
+    }
+
+    /// Ends the hub, and returns its ledger and its register, both as they are.
+    pub fn into_parts(self) -> (Ledger, R)
+        ensures ledger { result.0 ≡ self.book }
+        ensures register { result.1 ≡ self.register }
+    {
+        let Hub {
+            sequences,
+            ledger,
+            register,
+            down: _,
+        } = self;
+        drop(sequences);
+        (ledger, register)
     }
 
     /// Gives the register back, as it is. It opens again with the hub's setup, after a fault too.

@@ -2,4 +2,5 @@
 
 pub(crate) mod head;
 pub(crate) mod lines;
+mod report;
 pub(crate) mod run;

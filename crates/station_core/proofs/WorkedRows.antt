@@ -4,7 +4,7 @@ use Rattle.std.specs.Prelude.{map}
 use Rattle.station_core.specs.declared.Refusal.TheVariants.{UnknownStation, BadNumber, Double, SignedOff, TooEarly}
 use Rattle.station_core.specs.declared.Start.{Start}
 use Rattle.station_core.specs.declared.TheConstants.{LAST}
-use Rattle.station_core.specs.Series.{window, opened}
+use Rattle.station_core.specs.Series.{window, series, opened, held_count}
 use Rattle.station_core.specs.Runs.{Arrived, arrived, message_at, ready, is_signed, refusal, taken_after, due, run}
 use Rattle.station_core.specs.Progress.{AllMatch, StartsFrom}
 use Rattle.station_core.proofs.StationLemmas.{all_opened}
@@ -101,6 +101,10 @@ far_above = refl
 -- a sign-off that is held stops nothing yet
 held_sign_off : is_signed signs (sent 0 1 1 ∷ sent 0 3 9 ∷ []) 0 ≡ false
 held_sign_off = refl
+
+-- 2 and 4 are held while 1 and 3 are missing
+two_held : held_count {M = ℕ} (series 0 false (None ∷ Some 2 ∷ None ∷ Some 4 ∷ [])) ≡ 2
+two_held = refl
 
 -- a station with nothing posted holds what is taken of an empty list
 abbrev nothing : Start

@@ -1,5 +1,5 @@
 -- What a contract sees of a station: a count of posted messages, a mark, and a window of held ones.
-use Rattle.std.specs.Prelude.{◌≡◌, ℕ, ◌+◌, ◌-◌, ◌≤◌, ◌==◌, ◌||◌, nat_lt, nat_le, Bool, true, false, if◌then◌else◌, List, [], ◌∷◌, ◌++◌, length, drop, replicate, slice_get, slice_set, Option, Some, None, is_some, option_and_then, unwrap_or, refl}
+use Rattle.std.specs.Prelude.{◌≡◌, ℕ, ◌+◌, ◌-◌, ◌≤◌, ◌==◌, ◌||◌, nat_lt, nat_le, Bool, true, false, if◌then◌else◌, List, [], ◌∷◌, ◌++◌, length, drop, replicate, slice_get, slice_set, Option, Some, None, is_some, option_and_then, unwrap_or, count_by, refl}
 use Rattle.std.specs.Coded.{Coded, code_by, coded×, coded_list, coded_option, coded_bool, coded_ℕ}
 use Rattle.circular_buffer.specs.Buffer.{Buffer}
 use Rattle.station_core.specs.declared.TheConstants.{WINDOW, LAST}
@@ -50,6 +50,10 @@ module _ {M : Type 0} where
   -- the message held under number n
   abbrev pub held_at : Series M → ℕ → Option M
   held_at q n = if nat_lt q.posted n then slot_at q.slots (n - q.posted - 1) else None
+
+  -- how many messages are held in the window
+  abbrev pub held_count : Series M → ℕ
+  held_count q = count_by is_some q.slots
 
   -- the first refusal of number n that holds, at a station that there is
   abbrev pub refusal_at : Series M → ℕ → Option Refusal

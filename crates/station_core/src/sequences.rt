@@ -1,7 +1,7 @@
 //! The series of all stations.
 ghost use Rattle.std.specs.Prelude.{◌≡◌, ◌+◌, ◌<◌, ◌≤◌, ◌↔◌, Bool, ℕ, List, [], ◌∷◌, ◌++◌, IfOk, IfNone, IfSome, OnSome, All, map, length, slice_set, None, Some};
 ghost use Rattle.station_core.specs.declared.TheConstants.{LAST};
-ghost use Rattle.station_core.specs.Series.{opened, refusal_of, series_at, held_at, next_held, with_held, counted, closed};
+ghost use Rattle.station_core.specs.Series.{opened, refusal_of, series_at, held_at, held_count, next_held, with_held, counted, closed};
 ghost use Rattle.station_core.specs.Runs.{Arrived, arrived, refusal};
 ghost use Rattle.station_core.specs.Progress.{AllStart, AllMatch, IsPosting, IsEnding, ComesDue};
 
@@ -133,6 +133,15 @@ impl<M: Drop> Sequences<M> {
         ensures within { result ≤ LAST }
     {
         self.stations[s as usize].posted_count()
+    }
+
+    /// How many messages of station `s` are held: taken, and waiting for a number below them. There
+    /// is a station `s`.
+    pub fn held_count(&self, s: u32) -> usize
+        requires { s < length self.now }
+        ensures { result ≡ held_count (series_at self.now s) }
+    {
+        self.stations[s as usize].held_count()
     }
 
     /// Whether station `s` is signed off. There is a station `s`.

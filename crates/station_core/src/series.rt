@@ -1,7 +1,7 @@
 //! The series of one station: a count of posted messages and a window of held ones.
 ghost use Rattle.std.specs.Prelude.{◌≡◌, ◌+◌, ◌<◌, ◌≤◌, ◌↔◌, ◌∷◌, ◌++◌, ℕ, [], IfOk, IfNone, IfSome, OnSome, drop, length, replicate, slice_set, true, Some, None};
 ghost use Rattle.circular_buffer.specs.Buffer.{buffer};
-ghost use Rattle.station_core.specs.Series.{opened, refusal_at, slot_at, next_held, with_held, counted, closed};
+ghost use Rattle.station_core.specs.Series.{opened, refusal_at, slot_at, held_count, next_held, with_held, counted, closed};
 
 use crate::{LAST, Refusal, Start, Taken, WINDOW};
 use circular_buffer::HeapCircularBuffer;
@@ -60,6 +60,13 @@ impl<M: Drop> Station<M> {
         ensures { result ≡ self.now.signed }
     {
         self.signed
+    }
+
+    /// How many messages are held.
+    pub fn held_count(&self) -> usize
+        ensures { result ≡ held_count self.now }
+    {
+        self.slots.iter().filter(|slot| slot.is_some()).count()
     }
 
     /// The first refusal of number `n` that holds.

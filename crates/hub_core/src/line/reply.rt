@@ -1,17 +1,18 @@
 //! What is said to a line.
-ghost use Rattle.std.specs.Prelude.{◌≡◌, ◌≤◌, ◌<◌, ◌||◌, ◌∷◌, ◌++◌, [], false, true, length, string_bytes, string_capacity, IsOk, IfErr, IfSome, OnOk};
+ghost use Rattle.std.specs.Prelude.{◌≡◌, ◌≤◌, ◌<◌, ◌||◌, ◌∷◌, ◌++◌, [], false, true, length, string_bytes, string_capacity, IsOk, IfErr, IfOk, IfSome, OnOk};
 ghost use Rattle.hub_core.specs.Points.{reply, whereabouts};
 ghost use Rattle.hub_core.specs.Requests.{line_in};
 ghost use Rattle.hub_core.specs.Replies.{asked_line};
 ghost use Rattle.hub_core.specs.Serving.{Serves};
 ghost use Rattle.hub_core.specs.Memory.{HasRoom, is_posted, can_fail, line_can_fail, FailsOnlyWhere};
 ghost use Rattle.hub_core.specs.Lines.{is_empty};
+ghost use Rattle.hub_core.specs.Outcomes.{HasOutcomes, arrival_outcomes, station_outcomes, request_outcomes, read_outcomes, line_outcomes};
 ghost use Rattle.hub_core.specs.LineText.{place_text, arrival_reply, station_text, station_reply, sent_from, request_reply, sent_by, read_reply, sent, is_too_long, line_reply, line_arrivals};
 
 use crate::line::request::{Line, Request, read_line_with};
 use crate::line::wording;
 use crate::line::wording::REPLY_ROOM;
-use crate::{Arrival, Hub, HubFault};
+use crate::{Answer, Arrival, Hub, HubFault};
 use borrowed_json::Scratch;
 use codes_core::ThingCode;
 use nest_core::StationNo;
@@ -20,6 +21,21 @@ use std::alloc::Global;
 
 /// The most bytes of a line, without its line feed and a carriage return before it.
 pub const LONGEST_LINE: usize = 16_384;
+
+/// The reply to a line, by value.
+#[derive(Clone, Copy, Debug, PartialEq, Eq)]
+pub(crate) enum Reply {
+    /// None: the line is empty.
+    Empty,
+    /// The line is faulty or too long.
+    Bad,
+    /// The setup doesn't have the line's station.
+    UnknownStation,
+    /// What the hub answers to a message.
+    Answered(Answer),
+    /// Where a thing is.
+    Asked,
+}
 
 /// Does what a line asks, and makes the text the reply to it, which is empty for an empty line. The line is the
 /// `number`-th, from 1. After a fault the hub has taken the line's arrival or not, or it is down, stopped in that.
@@ -30,22 +46,25 @@ pub(crate) fn reply_to<S: Register>(
     line: &[u8],
     hub: &mut Hub<S>,
     text: &mut String,
-) -> Result<(), HubFault>
+) -> Result<Reply, HubFault>
     requires up { hub.old.down ≡ false }
     requires room { REPLY_ROOM ≤ string_capacity text.old }
     ensures served { Serves S.holding S.refusals hub.old hub.new [] (string_bytes text.new)
         (λ O A. line_reply hub.old.book.museum hub.old.book.depth O A number line.now)
         (line_arrivals hub.old.book.museum line.now) result }
+    ensures outcomes { HasOutcomes S.holding hub.old hub.new.book.posted
+        (λ O A. line_outcomes hub.old.book.museum hub.old.book.depth O A line.now) result }
     // What isn't read meets no fault.
     ensures unread { (is_empty line.now || is_too_long line.now) ≡ true → IsOk result }
     ensures capacity { string_capacity text.old ≤ string_capacity text.new }
 {
     text.clear();
     if line.is_empty() {
-        return Ok(());
+        return Ok(Reply::Empty);
     }
     if line.len() > LONGEST_LINE {
-        return Ok(wording::add_too_long(text, number)?);
+        wording::add_too_long(text, number)?;
+        return Ok(Reply::Bad);
     }
     read_reply(alloc, scratch, number, line, hub, text)
 }
@@ -58,7 +77,7 @@ fn read_reply<S: Register>(
     line: &[u8],
     hub: &mut Hub<S>,
     text: &mut String,
-) -> Result<(), HubFault>
+) -> Result<Reply, HubFault>
     requires up { hub.old.down ≡ false }
     requires room { HasRoom text.old }
     ensures served { Serves S.holding S.refusals hub.old hub.new
@@ -66,12 +85,18 @@ fn read_reply<S: Register>(
         (λ O A. read_reply hub.old.book.museum hub.old.book.depth O A number
         (line_in hub.old.book.museum line.now))
         (sent (line_in hub.old.book.museum line.now)) result }
+    ensures outcomes { HasOutcomes S.holding hub.old hub.new.book.posted
+        (λ O A. read_outcomes hub.old.book.museum hub.old.book.depth O A
+        (line_in hub.old.book.museum line.now)) result }
     ensures capacity { string_capacity text.old ≤ string_capacity text.new }
 {
     match read_line_with(alloc, scratch, hub.ledger().setup(), line) {
         Ok(line) => request_reply(alloc, number, line, hub, text),
         Err(ReadFault::NoMemory) => Err(HubFault::NoMemory),
-        Err(fault) => Ok(wording::add_bad(text, number, fault)?),
+        Err(fault) => {
+            wording::add_bad(text, number, fault)?;
+            Ok(Reply::Bad)
+        }
     }
 }
 
@@ -82,7 +107,7 @@ fn request_reply<S: Register>(
     line: Line,
     hub: &mut Hub<S>,
     text: &mut String,
-) -> Result<(), HubFault>
+) -> Result<Reply, HubFault>
     requires up { hub.old.down ≡ false }
     requires known { IfSome line.station (λ s. s < length hub.old.book.museum.stations) }
     requires room { HasRoom text.old }
@@ -91,13 +116,19 @@ fn request_reply<S: Register>(
         (λ O A. request_reply hub.old.book.museum hub.old.book.depth O A number line.station
         line.request)
         (sent_by line.station line.request) result }
+    ensures outcomes { HasOutcomes S.holding hub.old hub.new.book.posted
+        (λ O A. request_outcomes hub.old.book.museum hub.old.book.depth O A line.station
+        line.request) result }
     ensures fails { FailsOnlyWhere S.holding hub.old
         (λ O A. line_can_fail hub.old.book.museum hub.old.book.depth O A line.station line.request)
         result }
     ensures capacity { string_capacity text.old ≤ string_capacity text.new }
 {
     match line.station {
-        None => Ok(wording::add_unknown_station(text, number)?),
+        None => {
+            wording::add_unknown_station(text, number)?;
+            Ok(Reply::UnknownStation)
+        }
         Some(station) => station_reply(alloc, station, line.request, hub, text),
     }
 }
@@ -109,7 +140,7 @@ fn station_reply<S: Register>(
     request: Request,
     hub: &mut Hub<S>,
     text: &mut String,
-) -> Result<(), HubFault>
+) -> Result<Reply, HubFault>
     requires up { hub.old.down ≡ false }
     requires known { station < length hub.old.book.museum.stations }
     requires room { HasRoom text.old }
@@ -117,6 +148,9 @@ fn station_reply<S: Register>(
         (string_bytes text.old) (string_bytes text.new)
         (λ O A. station_reply hub.old.book.museum hub.old.book.depth O A station request)
         (sent_from station request) result }
+    ensures outcomes { HasOutcomes S.holding hub.old hub.new.book.posted
+        (λ O A. station_outcomes hub.old.book.museum hub.old.book.depth O A station request)
+        result }
     ensures fails { FailsOnlyWhere S.holding hub.old
         (λ O A. can_fail hub.old.book.museum hub.old.book.depth O A station request) result }
     ensures capacity { string_capacity text.old ≤ string_capacity text.new }
@@ -140,7 +174,7 @@ fn scan_reply<S: Register>(
     arrival: Arrival,
     hub: &mut Hub<S>,
     text: &mut String,
-) -> Result<(), HubFault>
+) -> Result<Reply, HubFault>
     requires up { hub.old.down ≡ false }
     requires known { arrival.station < length hub.old.book.museum.stations }
     requires room { HasRoom text.old }
@@ -148,6 +182,8 @@ fn scan_reply<S: Register>(
         (string_bytes text.old) (string_bytes text.new)
         (λ O A. arrival_reply hub.old.book.museum hub.old.book.depth O A arrival)
         (arrival ∷ []) result }
+    ensures outcomes { HasOutcomes S.holding hub.old hub.new.book.posted
+        (λ O A. arrival_outcomes hub.old.book.museum hub.old.book.depth O A arrival) result }
     // What is refused or held meets no fault.
     ensures fails { FailsOnlyWhere S.holding hub.old
         (λ O A. is_posted (reply hub.old.book.museum hub.old.book.depth O A arrival)) result }
@@ -158,7 +194,8 @@ fn scan_reply<S: Register>(
     match hub.arrive(alloc, arrival) {
         Ok(answer) => {
             let setup = hub.ledger().setup();
-            Ok(wording::add_answer(text, setup, station, n, answer, hub.posted())?)
+            wording::add_answer(text, setup, station, n, answer, hub.posted())?;
+            Ok(Reply::Answered(answer))
         }
         Err(fault) => Err(fault),
     }
@@ -171,16 +208,18 @@ fn question_reply<S: Register>(
     code: &ThingCode,
     hub: &Hub<S>,
     text: &mut String,
-) -> Result<(), HubFault>
+) -> Result<Reply, HubFault>
     requires up { hub.now.down ≡ false }
     requires known { station < length hub.now.book.museum.stations }
     ensures text { OnOk result (string_bytes text.new ≡ string_bytes text.old
         ++ asked_line (station_text hub.now.book.museum station) code.now
         (place_text hub.now.book.museum
         (whereabouts hub.now.book.museum hub.now.book.posted code.now))) }
+    ensures reply { IfOk result (λ reply. reply ≡ Reply.Asked) }
     ensures fault { IfErr result (λ fault. fault ≡ HubFault.NoMemory) }
     ensures capacity { string_capacity text.old ≤ string_capacity text.new }
 {
     let place = hub.ask(alloc, code)?;
-    Ok(wording::add_asked(text, hub.ledger().setup(), station, code, &place)?)
+    wording::add_asked(text, hub.ledger().setup(), station, code, &place)?;
+    Ok(Reply::Asked)
 }

@@ -3,14 +3,18 @@ ghost use Rattle.std.specs.Prelude.{◌≡◌, ◌<◌, ◌≤◌, ◌++◌, fal
 ghost use Rattle.std.specs.Io.KnownBytes.{Appends, IsAtEnd};
 ghost use Rattle.posting_core.specs.declared.entry.Entry.{Entry};
 ghost use Rattle.hub_core.specs.declared.hub.answer.Arrival.{Arrival};
+ghost use Rattle.hub_core.specs.declared.outcome.Outcome.{Outcome};
 ghost use Rattle.hub_core.specs.LineText.{text, arrivals};
+ghost use Rattle.hub_core.specs.Outcomes.{outcomes, Watched};
 ghost use Rattle.hub_core.specs.StandsFor.{StandsFor};
 ghost use Rattle.hub_core.specs.Replayed.{Answered, EndsReplay};
 
 use crate::line::bytes::{Reads, flush, next_line, without_return};
 use crate::line::reply::reply_to;
 use crate::line::wording::REPLY_ROOM;
-use crate::{Hub, ReplayFault};
+use crate::outcome::Unwatched;
+use crate::stream::report::report;
+use crate::{Hub, ReplayFault, Watch};
 use borrowed_json::Scratch;
 use register_store::Register;
 use std::alloc::Global;
@@ -48,17 +52,57 @@ pub fn replay<R: BufRead, W: Write, S: Register>(
     ensures ends { EndsReplay S.holding S.refusals (R.remaining input.old) (R.remaining input.new)
         (W.contents output.old) (W.contents output.new) hub.old hub.new result }
 {
-    replay_from(alloc, input, output, hub, &mut Reads::new())
+    replay_watched(alloc, input, output, hub, &mut Unwatched)
+}
+
+/// The same, and the watch sees the outcomes of each line once its reply is written.
+pub fn replay_watched<R: BufRead, W: Write, S: Register, V: Watch>(
+    alloc: Global,
+    input: &mut R,
+    output: &mut W,
+    hub: &mut Hub<S>,
+    watch: &mut V,
+) -> Result<(), ReplayFault>
+    requires { hub.old.down ≡ false }
+    ensures bytes_to_bytes { OnOk result
+        ((O : List Entry) (A : List Arrival) → StandsFor S.holding hub.old O A
+        → IfSome (R.remaining input.old) (λ bytes.
+        IsAtEnd (R.remaining input.new)
+        × Appends (W.contents output.old) (W.contents output.new)
+        (text hub.old.book.museum hub.old.book.depth O A bytes)
+        × StandsFor S.holding hub.new O (A ++ arrivals hub.old.book.museum bytes))) }
+    ensures answered { OnOk result
+        ((O : List Entry) (A : List Arrival) → StandsFor S.holding hub.old O A →
+        Answered hub.old.book.museum hub.old.book.depth O A (R.remaining input.old)
+        (R.remaining input.new) (W.contents output.old)
+        (W.contents output.new) S.holding hub.new true) }
+    // The watch has seen the outcomes of the bytes' lines, after those that it had seen before.
+    ensures seen { OnOk result
+        ((O : List Entry) (A : List Arrival) → StandsFor S.holding hub.old O A
+        → IfSome (R.remaining input.old) (λ bytes. (before : List Outcome)
+        → V.has_seen watch.old before → V.has_seen watch.new
+        (before ++ outcomes hub.old.book.museum hub.old.book.depth O A bytes))) }
+    // The same of the bytes that were read, whether or not the reader's bytes are known.
+    ensures watched { OnOk result
+        ((O : List Entry) (A : List Arrival) → StandsFor S.holding hub.old O A →
+        Watched hub.old.book.museum hub.old.book.depth O A (R.remaining input.old)
+        (R.remaining input.new) (W.contents output.old) (W.contents output.new)
+        S.holding hub.new (V.has_seen watch.old) (V.has_seen watch.new)) }
+    ensures ends { EndsReplay S.holding S.refusals (R.remaining input.old) (R.remaining input.new)
+        (W.contents output.old) (W.contents output.new) hub.old hub.new result }
+{
+    replay_from(alloc, input, output, hub, &mut Reads::new(), watch)
 }
 
 /// The same, with the reads that are left; it takes one at least. All replies are written over one text, which has
 /// REPLY_ROOM from the start: where that growth is refused, no line is read.
-pub(crate) fn replay_from<R: BufRead, W: Write, S: Register>(
+pub(crate) fn replay_from<R: BufRead, W: Write, S: Register, V: Watch>(
     alloc: Global,
     input: &mut R,
     output: &mut W,
     hub: &mut Hub<S>,
     reads: &mut Reads,
+    watch: &mut V,
 ) -> Result<(), ReplayFault>
     requires { hub.old.down ≡ false }
     ensures answered { OnOk result
@@ -66,6 +110,11 @@ pub(crate) fn replay_from<R: BufRead, W: Write, S: Register>(
         Answered hub.old.book.museum hub.old.book.depth O A (R.remaining input.old)
         (R.remaining input.new) (W.contents output.old)
         (W.contents output.new) S.holding hub.new true) }
+    ensures watched { OnOk result
+        ((O : List Entry) (A : List Arrival) → StandsFor S.holding hub.old O A →
+        Watched hub.old.book.museum hub.old.book.depth O A (R.remaining input.old)
+        (R.remaining input.new) (W.contents output.old) (W.contents output.new)
+        S.holding hub.new (V.has_seen watch.old) (V.has_seen watch.new)) }
     ensures ends { EndsReplay S.holding S.refusals (R.remaining input.old) (R.remaining input.new)
         (W.contents output.old) (W.contents output.new) hub.old hub.new result }
     ensures reads { OnOk result (reads.new.left < reads.old.left) }
@@ -74,16 +123,26 @@ pub(crate) fn replay_from<R: BufRead, W: Write, S: Register>(
         return Err(ReplayFault::NoMemory);
     };
     let mut scratch = Scratch::new(alloc);
-    answer_lines(alloc, input, output, hub, reads, &mut scratch, &mut text)
+    answer_lines(
+        alloc,
+        input,
+        output,
+        hub,
+        reads,
+        watch,
+        &mut scratch,
+        &mut text,
+    )
 }
 
 /// The same over a text with this room.
-fn answer_lines<R: BufRead, W: Write, S: Register>(
+fn answer_lines<R: BufRead, W: Write, S: Register, V: Watch>(
     alloc: Global,
     input: &mut R,
     output: &mut W,
     hub: &mut Hub<S>,
     reads: &mut Reads,
+    watch: &mut V,
     scratch: &mut Scratch,
     text: &mut String,
 ) -> Result<(), ReplayFault>
@@ -94,6 +153,11 @@ fn answer_lines<R: BufRead, W: Write, S: Register>(
         Answered hub.old.book.museum hub.old.book.depth O A (R.remaining input.old)
         (R.remaining input.new) (W.contents output.old)
         (W.contents output.new) S.holding hub.new true) }
+    ensures watched { OnOk result
+        ((O : List Entry) (A : List Arrival) → StandsFor S.holding hub.old O A →
+        Watched hub.old.book.museum hub.old.book.depth O A (R.remaining input.old)
+        (R.remaining input.new) (W.contents output.old) (W.contents output.new)
+        S.holding hub.new (V.has_seen watch.old) (V.has_seen watch.new)) }
     ensures ends { EndsReplay S.holding S.refusals (R.remaining input.old) (R.remaining input.new)
         (W.contents output.old) (W.contents output.new) hub.old hub.new result }
     ensures reads { OnOk result (reads.new.left < reads.old.left) }
@@ -101,7 +165,7 @@ fn answer_lines<R: BufRead, W: Write, S: Register>(
     let mut line = Vec::new(alloc);
     for number in 1..u64::MAX {
         let fed = next_line(input, output, reads, &mut line)?;
-        reply_to(
+        let reply = reply_to(
             alloc,
             scratch,
             number,
@@ -110,6 +174,7 @@ fn answer_lines<R: BufRead, W: Write, S: Register>(
             text,
         )?;
         write_text(output, text.as_bytes())?;
+        report(watch, reply, hub.posted());
         if !fed {
             return flush(output);
         }

@@ -5,6 +5,7 @@ ghost use Rattle.hub_core.specs.Lines.{head};
 ghost use Rattle.hub_core.specs.WholeRun.{head_fault, run_text, AfterRun, OpensHub, IsFresh, BeforeLines};
 
 use crate::line::bytes::Reads;
+use crate::outcome::Unwatched;
 use crate::stream::head::read_head;
 use crate::stream::lines::replay_from;
 use crate::{Hub, RunFault};
@@ -54,7 +55,7 @@ fn run_counted<R: BufRead, W: Write>(
     ensures reads { OnOk result (reads.new.left + 2 ≤ reads.old.left) }
 {
     let mut hub = opened(alloc, input, reads)?;
-    replay_from(alloc, input, output, &mut hub, reads)?;
+    replay_from(alloc, input, output, &mut hub, reads, &mut Unwatched)?;
     Ok(())
 }
 

@@ -5,3 +5,6 @@ returns-in-Scan-clause-served g c = rw c.in-Scan.is c.scan_reply.ensures.served
 
 pub returns-in-Scan-clause-fails : goal.returns-in-Scan-clause-fails
 returns-in-Scan-clause-fails g c = rw c.in-Scan.is c.scan_reply.ensures.fails
+
+pub returns-in-Scan-clause-outcomes : goal.returns-in-Scan-clause-outcomes
+returns-in-Scan-clause-outcomes g c = rw c.in-Scan.is c.scan_reply.ensures.outcomes
