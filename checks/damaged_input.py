@@ -1,12 +1,13 @@
 #!/usr/bin/env python3
 """Damages what the program is given, byte by byte, and tells whether each answer is one of those that may be.
 
-Usage: damaged_input.py [--each N] [--peer PEER] PROGRAM [CASE..]. Of all cases, or of these folders, each input is cut after
-each byte, and each of its bytes is turned to 0, 255, a quote and a line feed: the session, or of a run with words each file that
-they name, and each word. Only every Nth of these is tried where N is given.
+Usage: damaged_input.py [--each N] [--seed N] [--peer PEER] PROGRAM [CASE..]. Of all cases, or of these folders, each input is cut
+after each byte, and each of its bytes is turned to 0, 255, a quote and a line feed: the session, or of a run with words each file
+that they name, and each word. With --each only every Nth of these is tried, from a place that is another for each run and seed; of
+a run with few of them each is tried.
 
 What is answered has to be a named fault, on one line of standard error and with status 1 or 2, after whole lines of output; or
-status 0, whole lines, and nothing on standard error. Words that aren't right may have the text of their reader, with status 2,
+status 0, whole lines, and nothing on standard error but notes. Words that aren't right may have the text of their reader, with status 2,
 and may ask for help. With a PEER, the plain program that bench/run builds, the answer to a session has to be the peer's, to the
 byte. It prints how many were tried, and the first that is wrong."""
 import os
@@ -20,10 +21,13 @@ import time
 from collections import Counter
 from concurrent.futures import ThreadPoolExecutor
 
+import seeds
+
 CASES = pathlib.Path(__file__).resolve().parent.parent / "cases"
 FAULT = re.compile(rb"fault [a-z]+( [A-Za-z0-9]+)?( row [0-9]+)?\n")
 LINES = re.compile(rb"([ -~]*\n)*")
 TURNED = (b"\0", b"\xff", b'"', b"\n")
+FEW = 100  # an input with no more damages is tried with each of them
 
 
 def damaged(data, which):
@@ -43,6 +47,7 @@ def answer(program, words, given, folder):
 
 def may_be(said, of_words):
     status, out, errors = said
+    errors = b"".join(line for line in errors.splitlines(True) if not line.startswith((b"help: ", b"note: ")))
     if not LINES.fullmatch(out):
         return of_words and status == 0 and not errors
     if status == 0:
@@ -116,9 +121,11 @@ class Runs:
         answer(program, self.words, self.data(self.given), folder)
 
 
-def tried(program, source, each, pool):
+def tried(program, source, each, seed, pool):
     """How many damages of a source were tried; every one has to be right."""
-    chosen = range(0, source.count(), each)
+    count = source.count()
+    first, step = (0, 1) if count <= FEW else (seeds.offset(seed, source.name, each), each)
+    chosen = range(first, count, step)
     for which, right in zip(chosen, pool.map(lambda which: source.is_right(program, which), chosen)):
         if right is not True:
             sys.exit(f"{source.name}, damage {which}: {right}")
@@ -127,6 +134,7 @@ def tried(program, source, each, pool):
 
 def main():
     words, each, peer, began = sys.argv[1:], 1, None, time.monotonic()
+    seed = seeds.taken(words)
     while words[0].startswith("--"):
         if words[0] == "--each":
             each = int(words[1])
@@ -138,12 +146,12 @@ def main():
     with ThreadPoolExecutor(2) as pool:
         for case in cases:
             if (case / "stdin").exists():
-                count["sessions"] += tried(program, Sessions(case, peer), each, pool)
+                count["sessions"] += tried(program, Sessions(case, peer), each, seed, pool)
             with tempfile.TemporaryDirectory() as room:
                 files = shutil.copytree(case, pathlib.Path(room) / "case")
                 for step in sorted(int(path.stem) for path in case.glob("*.args")):
                     runs = Runs(case, step, files)
-                    count["files and words"] += tried(program, runs, each, pool)
+                    count["files and words"] += tried(program, runs, each, seed, pool)
                     runs.run(program, files)
     print(", ".join(f"{number:,} damages of {kind}" for kind, number in count.items()) + f": all was right, in {time.monotonic() - began:.0f} s")
 

@@ -28,8 +28,10 @@ def main():
             with open(os.path.join(folder, name), "w", encoding="ascii") as file:
                 file.write(text)
         os.symlink(program, os.path.join(folder, "pairsalder"))
+        os.makedirs(os.path.join(folder, "media/usb"))
         for example in sorted(examples, key=lambda line: " replay " not in line):
-            ran = subprocess.run(["bash", "-c", f"./{example}"], cwd=folder, capture_output=True, check=False)
+            line = example.replace(" /media/", " media/")
+            ran = subprocess.run(["bash", "-c", f"./{line}"], cwd=folder, capture_output=True, check=False)
             if ran.returncode:
                 failed += 1
                 print(f"{example}: {ran}")

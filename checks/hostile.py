@@ -4,14 +4,14 @@
 Usage: hostile.py PROGRAM [TIMES]. Each check is made so many times (60 where it isn't said, as the gate does), prints its name
 and ok or FAILED; the last line is 'N passed, M failed'. A thousand take some minutes."""
 import os
-import random
 import signal
 import subprocess
 import sys
 import time
 
+import seeds
 from plain_store import refusal, setup_rows
-from store_room import LOAN, MUSEUM, NORMAL, move, read, report, scans, settle
+from store_room import LOAN, MUSEUM, NORMAL, move, read, report, said, scans, settle
 
 MOVES = {"PACK": [move("C1", ("S1", "S2")[n % 2]) for n in range(150)], "GAL": [move("C2", ("S2", "S1")[n % 2]) for n in range(150)]}
 
@@ -35,7 +35,7 @@ def may_open(room):
 def damaged_file(room, times):
     """Some bytes of the store's file turned: an opening says Store, or that something is damaged or another's, or it is Ok and
     the rows are lawful."""
-    draws, text, opens = random.Random(24), room.made(LOAN), 0
+    draws, text, opens = room.draws, room.made(LOAN), 0
     for _ in range(times):
         damaged = bytearray(text)
         for _ in range(draws.choice((1, 1, 1, 2, 8))):
@@ -55,7 +55,7 @@ def damaged_file(room, times):
 
 def cut_file(room, times):
     """The store's file cut at some byte: an opening never makes a record of what is left that isn't lawful."""
-    draws, text = random.Random(25), room.made(LOAN)
+    draws, text = room.draws, room.made(LOAN)
     for _ in range(times):
         said = opened(room, text[: draws.randrange(1, len(text))])
         if said[0] not in (0, 1) or said[1] or (said[0] == 1) != said[2].startswith("fault store "):
@@ -71,7 +71,10 @@ def record(room):
     """How many entries each station has on record, where these are the first of its feed and nothing is half there."""
     if not os.path.exists(room.store):
         return {"PACK": 0, "GAL": 0}
-    posted = room.command("posted", "setup.csv")
+    ran = subprocess.run(room.words("posted"), capture_output=True, check=False)
+    posted = said(ran)
+    if b" has no record yet" in ran.stderr:
+        return {"PACK": 0, "GAL": 0}
     if posted[0] != 0:
         print(f"  {posted}")
         return None
@@ -88,7 +91,7 @@ def record(room):
 def serve_killed(room, times):
     """A serving killed at a random moment, again and again: what each station has on record are the first of its feed; served
     again, the rest comes."""
-    draws = random.Random(26)
+    draws = room.draws
     feeds = [room.write(f"{station}.jsonl", scans(messages)) for station, messages in MOVES.items()]
     words = [*room.words("serve"), *feeds]
     stopped = 0
@@ -116,8 +119,10 @@ def serve_killed(room, times):
 
 
 def main():
-    program, times = sys.argv[1], int(sys.argv[2]) if len(sys.argv) > 2 else 60
-    return report(program, [], [damaged_file, cut_file, serve_killed], times)
+    words = sys.argv[1:]
+    seed = seeds.taken(words)
+    program, times = words[0], int(words[1]) if len(words) > 1 else 60
+    return report(program, [], [damaged_file, cut_file, serve_killed], times, seed)
 
 
 if __name__ == "__main__":

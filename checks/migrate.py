@@ -3,12 +3,12 @@
 
 Usage: migrate.py PROGRAM [TIMES]. TIMES is how often a migration is killed at a random moment (60 where it isn't said). Each
 check prints its name and ok or FAILED; the last line is 'N passed, M failed'."""
-import random
 import sqlite3
 import subprocess
 import sys
 import time
 
+import seeds
 from plain_store import Entry, lines, setup_rows, spots, terms, text_of
 from store_room import CRATES, LOAN, MUSEUM, NORMAL, agree, held, move, read, report, scan, settle
 
@@ -133,7 +133,7 @@ def no_store(room):
 
 def migration_killed(room, times):
     """A migration killed at a random moment, again and again, leaves version 1 whole or version 2 whole, and can be made again."""
-    draws, stopped = random.Random(27), 0
+    draws, stopped = room.draws, 0
     entries = posted([move("C1", ("S1", "S2")[n % 2]) for n in range(200)], [0] * 200)
     entries.append(Entry(0, 201, agree(["2001.4.1"]), "Applied"))
     before = make(room, entries=entries)
@@ -158,8 +158,10 @@ def migration_killed(room, times):
 
 
 def main():
-    program, times = sys.argv[1], int(sys.argv[2]) if len(sys.argv) > 2 else 60
-    return report(program, [migrated_store, no_loans, migrate_refusals, no_store], [migration_killed], times)
+    words = sys.argv[1:]
+    seed = seeds.taken(words)
+    program, times = words[0], int(words[1]) if len(words) > 1 else 60
+    return report(program, [migrated_store, no_loans, migrate_refusals, no_store], [migration_killed], times, seed)
 
 
 if __name__ == "__main__":

@@ -3,11 +3,12 @@
 
 It keeps two lists, what was taken and what is posted, and answers every question by walking them from their beginning
 (plain_book.py). Usage: plain.py < SESSION prints the replies to a session whose setup has no fault; plain.py PROGRAM
-[STREAMS] compares a program with them, on mixed streams that are the same in every run (streams.py)."""
+[STREAMS] compares a program with them, on mixed streams: the first so many, and a quarter as many that `--seed N` names."""
 import subprocess
 import sys
 from collections import namedtuple
 
+import seeds
 import streams
 from plain_book import DEPTH, chain, place, targets, verdict
 from plain_text import museum_of, read_line
@@ -118,10 +119,10 @@ def event(reply):
     return "held" if "held" in words else words[3]
 
 
-def compare(program, count):
-    """Compares a program's replies on so many streams, in which each event must stand."""
+def compare(program, numbers):
+    """Compares a program's replies on these streams, in which each event must occur."""
     seen, deepest = dict.fromkeys(EVENTS, 0), 0
-    for seed in range(1, count + 1):
+    for seed in numbers:
         session = streams.session(seed)
         want = replies(session)
         got = subprocess.run([program], input=session, capture_output=True, check=True).stdout.decode().splitlines()
@@ -137,12 +138,14 @@ def compare(program, count):
     if missing or deepest < DEPTH:
         sys.exit(f"no stream has {', '.join(missing)}; the deepest answer is {deepest} crates")
     counts = ", ".join(f"{name} {seen[name]}" for name in EVENTS)
-    print(f"{count} streams agree: {counts}; up to {deepest} crates above a thing")
+    print(f"{len(numbers)} streams agree: {counts}; up to {deepest} crates above a thing")
 
 
 def main():
-    if len(sys.argv) > 1:
-        compare(sys.argv[1], int(sys.argv[2]) if len(sys.argv) > 2 else 60)
+    words = sys.argv[1:]
+    if words:
+        seed = seeds.taken(words)
+        compare(words[0], seeds.streams(seed, int(words[1]) if len(words) > 1 else 60))
     else:
         print("".join(f"{reply}\n" for reply in replies(sys.stdin.buffer.read())), end="")
 

@@ -14,6 +14,7 @@ import sys
 import tempfile
 from collections import Counter
 
+import seeds
 from plain_reports import Record
 from plain_text import is_place, is_thing
 from streams import Draws
@@ -109,7 +110,7 @@ def wanted(head, lines, text):
 def count(program, folder, lines):
     """What a program says, by its commands."""
     store = ["--setup", "setup.csv", "--store", "museum.db"]
-    subprocess.run([program, "replay", *store], input=lines, cwd=folder, stdout=subprocess.DEVNULL, check=True)
+    subprocess.run([program, "replay", *store], input=lines, cwd=folder, capture_output=True, check=True)
     return subprocess.run([program, "count", *store, "list.csv"], cwd=folder, capture_output=True, check=False)
 
 
@@ -122,10 +123,10 @@ def count_by_peer(program, folder, lines):
     return ran
 
 
-def compare(program, counted, lists):
-    """Compares a program on so many lists, and counts what was said."""
+def compare(program, counted, numbers):
+    """Compares a program on these lists, and counts what was said."""
     seen = Counter()
-    for seed in range(1, lists + 1):
+    for seed in numbers:
         draws = Draws(seed)
         head = setup(draws)
         lines = "".join(json.dumps({"station": "GAL", "n": n, "message": message}) + "\n"
@@ -137,7 +138,8 @@ def compare(program, counted, lists):
                 with open(os.path.join(folder, name), "wb") as file:
                     file.write(data)
             ran = counted(program, folder, lines)
-        got = ran.returncode, ran.stdout.decode().splitlines(), ran.stderr.decode()
+        errors = [line for line in ran.stderr.decode().splitlines(True) if not line.startswith("help: ")]
+        got = ran.returncode, ran.stdout.decode().splitlines(), "".join(errors)
         if got != want:
             sys.exit(f"list {seed}: {got}, and the plain program says {want}")
         seen.update(word for said in [*want[1], want[2]] for word in said.split())
@@ -146,14 +148,15 @@ def compare(program, counted, lists):
 
 def main():
     words = sys.argv[1:]
+    seed = seeds.taken(words)
     counted = count_by_peer if words[0] == "--peer" else count
     program, *lists = words[1:] if words[0] == "--peer" else words
-    lists = int(lists[0]) if lists else 60
-    seen = compare(os.path.abspath(program), counted, lists)
+    numbers = seeds.streams(seed, int(lists[0]) if lists else 60)
+    seen = compare(os.path.abspath(program), counted, numbers)
     missing = [event for event in EVENTS if not seen[event]]
     if missing:
         sys.exit(f"no list has {', '.join(missing)}")
-    print(f"{lists} lists agree: " + ", ".join(f"{event} {seen[event]}" for event in EVENTS))
+    print(f"{len(numbers)} lists agree: " + ", ".join(f"{event} {seen[event]}" for event in EVENTS))
 
 
 if __name__ == "__main__":

@@ -9,6 +9,7 @@ import subprocess
 import sys
 import tempfile
 
+import seeds
 import streams
 from plain import arrival
 from plain_book import chain, is_container, last_day, place, stage, targets
@@ -135,7 +136,7 @@ def is_same(program, seed, folder):
         with open(os.path.join(folder, name), "w", encoding="ascii") as file:
             file.write(text)
     store = ["--setup", "setup.csv", "--store", f"{seed}.db"]
-    subprocess.run([program, "replay", *store], input=json_lines(seed), cwd=folder, stdout=subprocess.DEVNULL, check=True)
+    subprocess.run([program, "replay", *store], input=json_lines(seed), cwd=folder, capture_output=True, check=True)
     for (command, *words), wanted in asked(record, rows):
         ran = subprocess.run([program, command, *store, *words], cwd=folder, capture_output=True, check=False)
         if ran.returncode != 0 or ran.stdout.decode().splitlines() != wanted:
@@ -145,10 +146,12 @@ def is_same(program, seed, folder):
 
 
 def main():
-    program, count = os.path.abspath(sys.argv[1]), int(sys.argv[2]) if len(sys.argv) > 2 else 30
+    words = sys.argv[1:]
+    seed = seeds.taken(words)
+    program, numbers = os.path.abspath(words[0]), seeds.streams(seed, int(words[1]) if len(words) > 1 else 30)
     with tempfile.TemporaryDirectory(dir="/dev/shm" if os.path.isdir("/dev/shm") else None) as folder:
-        same = [is_same(program, seed, folder) for seed in range(1, count + 1)]
-    print(f"{sum(same)} of {count} streams are the same")
+        same = [is_same(program, number, folder) for number in numbers]
+    print(f"{sum(same)} of {len(numbers)} streams are the same")
     return not all(same)
 
 

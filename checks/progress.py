@@ -1,6 +1,6 @@
 #!/usr/bin/env python3
-"""What `replay --progress` tells on standard error: that the replies stay as they are, that the last line has the right
-counts, that it is told while it runs, about once a second, and that without it nothing is told.
+"""What `replay --progress` prints on standard error: the replies stay as they are, the last line has the right counts, a line
+comes about once a second while it runs, and without the option nothing is printed.
 
 Usage: progress.py PROGRAM."""
 import os
@@ -12,14 +12,19 @@ import time
 
 from store_room import SETUP, move, pack, scan
 
-LINE = re.compile(r"(\d+) lines, (\d+) posted, (\d+) refused(?: \(([^)]*)\))?, (\d+) lines a second")
+LINE = re.compile(
+    r"(\d+) lines, (\d+) posted, (\d+) not applied(?: \(([^)]*)\))?, (\d+) held, (\d+) refused(?: \(([^)]*)\))?, "
+    r"(\d+) bad, (\d+) questions, (\d+) lines a second"
+)
 
 
 def session():
-    """Lines of each sort: posted, refused by two verdicts, held and then posted, refused before, asked, bad, and empty."""
+    """Lines of each sort: posted, refused by two verdicts, held and then posted, refused before, of no station, asked, bad, and
+    empty."""
     moves = [scan(1, move("C1", "S1")), scan(2, move("C1", "S9")), scan(3, move("C1", "S9")), scan(4, pack("C1", "C1"))]
     late = [scan(6, move("C1", "S2")), scan(5, move("C1", "S2")), scan(6, move("C1", "S2"))]
-    return moves + late + ['{"station":"PACK","ask":"C1"}\n', "no JSON\n", "\n"]
+    others = [scan(1, move("C1", "S1"), "NOWHERE"), scan(999, move("C1", "S1")), scan(6, move("C1", "S1"))]
+    return moves + late + others + ['{"station":"PACK","ask":"C1"}\n', "no JSON\n", "\n"]
 
 
 def main():
@@ -33,9 +38,10 @@ def main():
         plain = subprocess.run(words, input=given, capture_output=True, text=True, check=True)
         told = subprocess.run([*words, "--progress"], input=given, capture_output=True, text=True, check=True)
         last = LINE.fullmatch(told.stderr.splitlines()[-1])
-        counts = last and (*map(int, last.groups()[:3]), last[4])
+        counts = last and last.groups()[:9]
         good = plain.stderr == "" and told.stdout == plain.stdout
-        good = good and counts == (9, 6, 3, "UnknownPlace 2, Cycle 1")
+        refused = "UnknownStation 1, Double 2, TooEarly 1"
+        good = good and counts == ("12", "6", "3", "UnknownPlace 2, Cycle 1", "1", "4", refused, "1", "1")
         if not good:
             print(f"  {plain}\n  {told}")
         # a line each tenth of a second: some three of them are told of before the last
@@ -47,7 +53,7 @@ def main():
             slow.stdin.close()
             lines = slow.stderr.read().splitlines()
         steady = all(LINE.fullmatch(line) for line in lines) and 3 <= len(lines) <= 6
-        steady = steady and lines[-1].startswith("35 lines, 35 posted, 0 refused, ")
+        steady = steady and lines[-1].startswith("35 lines, 35 posted, 0 not applied, 0 held, 0 refused, 0 bad, 0 questions, ")
         if not steady:
             print(f"  {lines}")
     return not (good and steady)

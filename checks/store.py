@@ -1,12 +1,11 @@
 #!/usr/bin/env python3
 """What the program does with a store on a disk, beside a stock SQLite (Python's sqlite3) that reads and changes it.
 
-Usage: store.py PROGRAM [KILLS [CHECK..]]. Each check prints its name and ok or FAILED; the last line is 'N passed, M failed'.
+Usage: store.py [--seed N] PROGRAM [KILLS [CHECK..]]. Each check prints its name and ok or FAILED; the last line is 'N passed, M failed'.
 KILLS is how often the program is killed at a random moment (100 where it isn't said). Beside the gate:
 `checks/store.py bin/pairsalder 1000 killed`."""
 import ctypes
 import os
-import random
 import resource
 import signal
 import sqlite3
@@ -14,6 +13,7 @@ import subprocess
 import sys
 import time
 
+import seeds
 from plain_store import TABLES, Entry, lines, refusal, setup_rows, spots, terms, text_of
 from store_room import ASK, CRATES, LOAN, MUSEUM, NORMAL, SETUP, held, move, pack, read, report, scan, scans, settle
 
@@ -240,12 +240,14 @@ def goes_on(room, messages, answered, most):
     if (status, replies, fault) != (0, wanted, "") or not answered <= kept <= most:
         print(f"  {answered} answered, {kept} kept: {status} {fault!r}")
         return False
-    return read(room.store)[2]
+    # the run has closed the store: the database file alone has all of it
+    rows, _, sound = read(room.store)
+    return sound and len(rows["posting"]) == len(messages) and not os.path.exists(room.store + "-wal")
 
 
 def killed(room, kills):
     """The program killed at a random moment, again and again: what it answered Posted is there, and nothing is half there."""
-    draws = random.Random(20)
+    draws = room.draws
     moves = [move("C1", ("S1", "S2")[n % 2]) for n in range(300)]
     given = scans(moves).encode()
     for _ in range(kills):
@@ -275,11 +277,13 @@ def together(room):
 
 
 def main():
-    program, kills = sys.argv[1], int(sys.argv[2]) if len(sys.argv) > 2 else 100
-    is_asked = lambda check: check.__name__ in sys.argv[3:] or not sys.argv[3:]
+    words = sys.argv[1:]
+    seed = seeds.taken(words)
+    program, kills = words[0], int(words[1]) if len(words) > 1 else 100
+    is_asked = lambda check: check.__name__ in words[2:] or not words[2:]
     checks = [tables, damaged_cells, wrong_term, depth_kept, foreign_hand, no_database, not_to_be_written]
     checks += [full_disk, together, many_counted]
-    return report(program, list(filter(is_asked, checks)), list(filter(is_asked, [killed])), kills)
+    return report(program, list(filter(is_asked, checks)), list(filter(is_asked, [killed])), kills, seed)
 
 
 if __name__ == "__main__":

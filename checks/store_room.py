@@ -6,6 +6,8 @@ import subprocess
 import tempfile
 import time
 
+import seeds
+
 from plain_store import text_of
 from plain_text import museum_of
 
@@ -60,8 +62,16 @@ def scans(messages):
     return "".join(scan(n, message) for n, message in enumerate(messages, 1))
 
 
-def said(ran):
+def told(ran):
+    """The status of a run, its output, and its errors."""
     return ran.returncode, ran.stdout.decode(), ran.stderr.decode()
+
+
+def said(ran):
+    """The same without the lines of help and the notes."""
+    status, output, errors = told(ran)
+    kept = [line for line in errors.splitlines(True) if not line.startswith(("help: ", "note: "))]
+    return status, output, "".join(kept)
 
 
 class Room:
@@ -132,14 +142,15 @@ def read(store):
     return rows, shapes, sound and strict
 
 
-def report(program, checks, repeated=(), times=0):
+def report(program, checks, repeated=(), times=0, seed=None):
     """Runs each check in a room of its own, the repeated ones with how many times; prints its name, ok or FAILED, and what it
-    took, and last how many passed. Whether one failed."""
+    took, and last how many passed. Whether one failed. What a check draws, it draws by the seed and by its name."""
     passed, failed = 0, 0
     for check in [*checks, *repeated]:
         began = time.monotonic()
         with tempfile.TemporaryDirectory(dir="/dev/shm" if os.path.isdir("/dev/shm") else None) as folder:
             room = Room(program, folder)
+            room.draws = seeds.draws(seed, check.__name__)
             good = check(room, times) if check in repeated else check(room)
         passed, failed = passed + bool(good), failed + (not good)
         print(f"{check.__name__}: {'ok' if good else 'FAILED'}, in {time.monotonic() - began:.0f} s", flush=True)

@@ -18,6 +18,7 @@ is_simple name.Overdue = refl
 is_simple name.Away = refl
 is_simple name.History = refl
 is_simple name.Migrate = refl
+is_simple name.Copy = refl
 is_simple name.Explain = refl
 is_simple name.Stations = refl
 is_simple name.Where = refl
@@ -35,6 +36,7 @@ is_plain name.Overdue = refl
 is_plain name.Away = refl
 is_plain name.History = refl
 is_plain name.Migrate = refl
+is_plain name.Copy = refl
 is_plain name.Explain = refl
 is_plain name.Stations = refl
 is_plain name.Where = refl
@@ -58,8 +60,9 @@ simple_overview app e = ap is_simple_and_free e ∙ overview_is_simple
 
 -- all commands, in the order of the help
 abbrev pub all : List Name
-all = name.Replay ∷ name.Serve ∷ name.Count ∷ name.Overdue ∷ name.Away ∷ name.History ∷ name.Migrate
-    ∷ name.Explain ∷ name.Stations ∷ name.Where ∷ name.Contents ∷ name.Loan ∷ name.At ∷ name.Posted ∷ []
+all = name.Replay ∷ name.Serve ∷ name.Count ∷ name.Overdue ∷ name.Away ∷ name.History
+    ∷ name.Migrate ∷ name.Copy ∷ name.Explain ∷ name.Stations ∷ name.Where ∷ name.Contents
+    ∷ name.Loan ∷ name.At ∷ name.Posted ∷ []
 
 all_is_overview : with_commands program_alone all ≡ overview
 unfolding app_by

@@ -5,7 +5,8 @@ use Rattle.clap.specs.Words.{Text, matches_of, new_app}
 use Rattle.clap.proofs.OnLiterals.{clap_on_literals}
 use Rattle.clap.specs.declared.error.kind.ErrorKind.TheVariants.{ArgumentConflict, InvalidValue}
 use Rattle.clap.specs.declared.error.kind.ErrorKind.TheVariants.{UnknownArgument}
-use Rattle.command_words.specs.Commands.{away, explain, posted, register_app, replay, report_app, serve}
+use Rattle.command_words.specs.Commands.{away, copy, explain, posted, register_app, replay}
+use Rattle.command_words.specs.Commands.{report_app, serve}
 use Rattle.command_words.specs.Tables.{with_arguments}
 use Rattle.command_words.specs.Words.{form_named, format_in, is_given, lacks, refusals, report_kinds}
 use Rattle.command_words.specs.Words.{HoldsReport, IsNoReport, status_of_kind, value, values}
@@ -85,6 +86,30 @@ progress_asked = refl
 pub no_progress_asked : is_given replay.app replay_words (codes "progress") ≡ false
 unfolding clap_on_literals register_app report_app
 no_progress_asked = refl
+
+-- replay --setup a --strict asks for no progress
+abbrev strict_words : List Text
+strict_words = codes "replay" ∷ codes "--setup=a" ∷ codes "--strict" ∷ []
+
+pub strict_asked : is_given replay.app strict_words (codes "strict") ≡ true
+unfolding clap_on_literals register_app report_app
+strict_asked = refl
+
+pub strict_is_no_progress : is_given replay.app strict_words (codes "progress") ≡ false
+unfolding clap_on_literals register_app report_app
+strict_is_no_progress = refl
+
+-- copy --setup a --store b --to c
+abbrev copy_words : List Text
+copy_words = codes "copy" ∷ codes "--setup=a" ∷ codes "--store=b" ∷ codes "--to" ∷ codes "c" ∷ []
+
+pub copy_to : value copy.app copy_words (codes "to") ≡ Some (codes "c")
+unfolding clap_on_literals register_app report_app
+copy_to = refl
+
+pub copy_has_all : lacks (form_named copy_words) copy_words ≡ false
+unfolding clap_on_literals register_app report_app
+copy_has_all = refl
 
 -- away --setup a --store b, as plain lines, as comma-separated values, as JSON
 abbrev away_words : List Text

@@ -52,7 +52,9 @@ abbrev pub report : Form → Form
 report form = record form { is_report = true }
 
 abbrev pub replay : Form
-replay = setup_needed (with_rule (register_app (codes "replay")) (flag_rule (codes "progress")))
+replay = setup_needed
+    (with_rule (with_rule (register_app (codes "replay")) (flag_rule (codes "progress")))
+    (flag_rule (codes "strict")))
 
 abbrev pub serve : Form
 serve = setup_needed (with_rule (register_app (codes "serve")) (words_rule (codes "feeds")))
@@ -79,6 +81,9 @@ history = report
 
 abbrev pub migrate : Form
 migrate = both_needed (register_app (codes "migrate"))
+
+abbrev pub copy : Form
+copy = all_needed (with_rule (register_app (codes "copy")) (option_rule (codes "to"))) (codes "to")
 
 abbrev pub explain : Form
 explain = one_needed (with_rule (new_app (codes "explain")) (word_rule (codes "name")))
@@ -115,7 +120,7 @@ posted = report
 
 abbrev pub commands : List Form
 commands = replay ∷ serve ∷ count ∷ overdue ∷ away ∷ history ∷ migrate
-    ∷ explain ∷ stations ∷ where_is ∷ contents ∷ loan ∷ at ∷ posted ∷ []
+    ∷ copy ∷ explain ∷ stations ∷ where_is ∷ contents ∷ loan ∷ at ∷ posted ∷ []
 
 -- the program with none of its commands yet
 abbrev pub program_alone : App

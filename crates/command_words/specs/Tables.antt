@@ -1,9 +1,9 @@
 -- What clap reads of the tables of commands and arguments.
 use Rattle.std.specs.Prelude.{◌∷◌, [], List}
 use Rattle.clap.specs.Words.{App, Rule, Text, with_rule, with_subcommand}
-use Rattle.command_words.specs.Commands.{at, away, contents, count, explain, flag_rule, history, loan}
-use Rattle.command_words.specs.Commands.{migrate, option_rule, overdue, posted, replay, serve, stations}
-use Rattle.command_words.specs.Commands.{where_is, word_rule, words_rule}
+use Rattle.command_words.specs.Commands.{at, away, contents, copy, count, explain, flag_rule}
+use Rattle.command_words.specs.Commands.{history, loan, migrate, option_rule, overdue, posted}
+use Rattle.command_words.specs.Commands.{replay, serve, stations, where_is, word_rule, words_rule}
 use Rattle.command_words.specs.declared.options.Argument.{Argument}
 use Rattle.command_words.specs.declared.options.Kind.{Kind}
 use Rattle.command_words.specs.declared.options.Kind.TheVariants.{Flag, Valued, Word, Words}
@@ -35,6 +35,7 @@ app_by name.Overdue = overdue.app
 app_by name.Away = away.app
 app_by name.History = history.app
 app_by name.Migrate = migrate.app
+app_by name.Copy = copy.app
 app_by name.Explain = explain.app
 app_by name.Stations = stations.app
 app_by name.Where = where_is.app

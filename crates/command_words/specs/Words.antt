@@ -12,7 +12,7 @@ use Rattle.clap.specs.Values.{kind_of}
 use Rattle.clap.specs.declared.error.Error.{Error}
 use Rattle.clap.specs.declared.error.kind.ErrorKind.{ErrorKind}
 use Rattle.clap.specs.declared.error.kind.ErrorKind.TheVariants.{ArgumentConflict, DisplayHelp, DisplayVersion, OutOfMemory}
-use Rattle.command_words.specs.Commands.{Form, at, away, commands, contents, count, explain}
+use Rattle.command_words.specs.Commands.{Form, at, away, commands, contents, copy, count, explain}
 use Rattle.command_words.specs.Commands.{history, loan, migrate, overdue, overview, posted, replay, serve}
 use Rattle.command_words.specs.Commands.{stations, where_is}
 use Rattle.command_words.specs.declared.reading.Files.{Files}
@@ -78,10 +78,11 @@ format_in app words = format_found (matches_of app words)
 
 -- the words name this command, and give it these values
 abbrev pub IsChosen : List Text → Chosen → Type 0
-IsChosen words (command.Replay setup store progress) = IsNamed words (codes "replay")
+IsChosen words (command.Replay setup store progress strict) = IsNamed words (codes "replay")
     × (value replay.app words (codes "setup") ≡ Some setup.now)
     × (value replay.app words (codes "store") ≡ text_of store)
     × (is_given replay.app words (codes "progress") ≡ progress)
+    × (is_given replay.app words (codes "strict") ≡ strict)
 IsChosen words (command.Serve setup store feeds) = IsNamed words (codes "serve")
     × (value serve.app words (codes "setup") ≡ Some setup.now)
     × (value serve.app words (codes "store") ≡ text_of store)
@@ -108,6 +109,10 @@ IsChosen words (command.History setup store code format) = IsNamed words (codes 
 IsChosen words (command.Migrate setup store) = IsNamed words (codes "migrate")
     × (value migrate.app words (codes "setup") ≡ Some setup.now)
     × (value migrate.app words (codes "store") ≡ Some store.now)
+IsChosen words (command.Copy setup store to) = IsNamed words (codes "copy")
+    × (value copy.app words (codes "setup") ≡ Some setup.now)
+    × (value copy.app words (codes "store") ≡ Some store.now)
+    × (value copy.app words (codes "to") ≡ Some to.now)
 IsChosen words (command.Explain name) = IsNamed words (codes "explain")
     × (value explain.app words (codes "name") ≡ Some name.now)
 IsChosen words (command.Stations setup store format) = IsNamed words (codes "stations")

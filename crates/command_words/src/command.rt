@@ -21,11 +21,13 @@ pub enum Format {
 /// A command with its values, as they stand in the words. A store that isn't named stands in memory.
 #[derive(Drop)]
 pub enum Chosen<'a> {
-    /// Takes the lines of standard input, and tells how far it has come where that is asked for.
+    /// Answers the lines of standard input. With `progress` it reports its progress on standard
+    /// error, and with `strict` it fails if any line is bad, refused or not applied.
     Replay {
         setup: &'a str,
         store: Option<&'a str>,
         progress: bool,
+        strict: bool,
     },
     /// Takes one file of lines a station, in the setup's order.
     Serve {
@@ -64,6 +66,12 @@ pub enum Chosen<'a> {
     Migrate {
         setup: &'a str,
         store: &'a str,
+    },
+    /// Copies the record to a new file, and checks the copy.
+    Copy {
+        setup: &'a str,
+        store: &'a str,
+        to: &'a str,
     },
     /// Tells what a word of a reply means.
     Explain {

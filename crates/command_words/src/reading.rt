@@ -125,23 +125,26 @@ fn read_files<'a>(alloc: Global, name: Name, words: &'a [&'a str]) -> Result<Fil
     Ok(files)
 }
 
-/// The files of a command over a register, and whether an option without a value is given.
-pub(crate) fn read_files_and_flag<'a>(
+/// The files of a command over a register, and whether each of two flags is given.
+pub(crate) fn read_files_and_flags<'a>(
     alloc: Global,
     name: Name,
     words: &'a [&'a str],
-    id: &'static str,
-) -> Result<(Files<'a>, bool), WordsFault>
+    first: &'static str,
+    second: &'static str,
+) -> Result<(Files<'a>, bool, bool), WordsFault>
     ensures { MatchResult result
         (λ r. GivesFiles (app_by name) (texts_of words.now) r.0
-        × (is_given (app_by name) (texts_of words.now) id.now ≡ r.1))
+        × (is_given (app_by name) (texts_of words.now) first.now ≡ r.1)
+        × (is_given (app_by name) (texts_of words.now) second.now ≡ r.2))
         (IsRefused (app_by name) (texts_of words.now)) }
 {
     let matches = read(alloc, name, words)?;
     let files = files_of(&matches);
-    let given = is_set(&matches, id);
+    let has_first = is_set(&matches, first);
+    let has_second = is_set(&matches, second);
     drop(matches);
-    Ok((files, given))
+    Ok((files, has_first, has_second))
 }
 
 /// The files of a command over a register, and all values of one argument more.
@@ -190,6 +193,29 @@ pub(crate) fn read_record<'a>(
         setup: needed(files.setup)?,
         store: needed(files.store)?,
     })
+}
+
+/// The setup, the store and one value more of a command that needs all three.
+pub(crate) fn read_record_and<'a>(
+    alloc: Global,
+    name: Name,
+    words: &'a [&'a str],
+    id: &'static str,
+) -> Result<(Record<'a>, &'a str), WordsFault>
+    ensures { MatchResult result
+        (λ r. GivesRecord (app_by name) (texts_of words.now) r.0
+        × (value (app_by name) (texts_of words.now) id.now ≡ Some r.1.now))
+        (IsFaultBy (Some (all_needed (app_by name) id.now)) (texts_of words.now)) }
+{
+    let matches = read(alloc, name, words)?;
+    let files = files_of(&matches);
+    let own = one(&matches, id);
+    drop(matches);
+    let record = Record {
+        setup: needed(files.setup)?,
+        store: needed(files.store)?,
+    };
+    Ok((record, needed(own)?))
 }
 
 /// The setup and the store of a report, and the form of its rows. Two forms at once are refused as `clap` refuses two

@@ -22,6 +22,7 @@ pub(crate) enum Name {
     Away,
     History,
     Migrate,
+    Copy,
     Explain,
     Stations,
     Where,
@@ -32,7 +33,7 @@ pub(crate) enum Name {
 }
 
 /// All commands, in the order in which the help lists them.
-const NAMES: [Name; 14] = [
+const NAMES: [Name; 15] = [
     Name::Replay,
     Name::Serve,
     Name::Count,
@@ -40,6 +41,7 @@ const NAMES: [Name; 14] = [
     Name::Away,
     Name::History,
     Name::Migrate,
+    Name::Copy,
     Name::Explain,
     Name::Stations,
     Name::Where,
@@ -54,6 +56,13 @@ const PROGRESS: Argument = Argument {
     id: "progress",
     value: "",
     help: "Tell on standard error, once a second, how far it has come",
+};
+
+const STRICT: Argument = Argument {
+    kind: Kind::Flag,
+    id: "strict",
+    value: "",
+    help: "Exit with status 1 if any line was bad, refused or not applied",
 };
 
 const FEEDS: Argument = Argument {
@@ -75,6 +84,13 @@ const DAY: Argument = Argument {
     id: "on",
     value: "DAY",
     help: "The day that is asked about, as 2024-06-01",
+};
+
+const TO: Argument = Argument {
+    kind: Kind::Valued,
+    id: "to",
+    value: "PATH",
+    help: "The new file for the copy",
 };
 
 const WORD: Argument = Argument {
@@ -132,6 +148,7 @@ fn word_of(name: Name) -> &'static str
         Name::Away => "away",
         Name::History => "history",
         Name::Migrate => "migrate",
+        Name::Copy => "copy",
         Name::Explain => "explain",
         Name::Stations => "stations",
         Name::Where => "where",
@@ -152,6 +169,7 @@ fn help_of(name: Name) -> &'static Help {
         Name::Away => &texts::AWAY,
         Name::History => &texts::HISTORY,
         Name::Migrate => &texts::MIGRATE,
+        Name::Copy => &texts::COPY,
         Name::Explain => &texts::EXPLAIN,
         Name::Stations => &texts::STATIONS,
         Name::Where => &texts::WHERE,
@@ -168,13 +186,14 @@ fn arguments_of(name: Name) -> &'static [Argument]
     ensures { with_arguments (new_app (app_by name).top.name) result.now ≡ app_by name }
 {
     match name {
-        Name::Replay => &[SETUP, STORE, PROGRESS],
+        Name::Replay => &[SETUP, STORE, PROGRESS, STRICT],
         Name::Serve => &[SETUP, STORE, FEEDS],
         Name::Count => &[SETUP, STORE, LIST, CSV, JSON],
         Name::Overdue => &[SETUP, STORE, DAY, CSV, JSON],
         Name::Away => &[SETUP, STORE, CSV, JSON],
         Name::History => &[SETUP, STORE, THING, CSV, JSON],
         Name::Migrate => &[SETUP, STORE],
+        Name::Copy => &[SETUP, STORE, TO],
         Name::Explain => &[WORD],
         Name::Stations => &[SETUP, STORE, CSV, JSON],
         Name::Where => &[SETUP, STORE, THING, CSV, JSON],

@@ -33,7 +33,7 @@ aren't right.",
 
 pub(crate) const REPLAY: Help = Help {
     about: "Takes messages and questions from standard input, and answers each",
-    usage: "pairsalder replay --setup PATH [--store PATH] [--progress] < LINES",
+    usage: "pairsalder replay --setup PATH [--store PATH] [--progress] [--strict] < LINES",
     more: "\
 For the day's work: what the stations sent goes on the record, each station's
 messages in its own order, and each once.
@@ -45,13 +45,15 @@ is. A line that can't be read is told as bad, and the next one is taken. With
 without it nothing is kept. With --progress standard error is told, once a second
 and at the end, how many lines are answered, how many messages are posted, how many
 of these were refused and by which verdicts, and how many lines go by in a second.
+With --strict the replies are the same, but the exit status is 1 if any line was bad
+or refused, or was posted with a verdict other than Applied.
 
 Examples:
   pairsalder replay --setup museum.csv --store museum.db < monday.jsonl
   pairsalder replay --setup museum.csv --progress < monday.jsonl
 
-Exit status: 0 every line is answered, bad ones too; 1 a fault; 2 the words aren't
-right.",
+Exit status: 0 every line is answered, bad ones too; 1 a fault, or with --strict a
+line that was bad, refused or not applied; 2 the words aren't right.",
 };
 
 pub(crate) const SERVE: Help = Help {
@@ -162,6 +164,26 @@ Exit status: 0 the store is of version 2; 1 a fault, and the store is as it was;
 2 the words aren't right.",
 };
 
+pub(crate) const COPY: Help = Help {
+    about: "Copies the record to a new file, and checks the copy",
+    usage: "pairsalder copy --setup PATH --store PATH --to PATH",
+    more: "\
+For a backup: the whole record in one file.
+
+Opens the store, which checks the whole record. Writes the record to a new file,
+reads it back and compares the two, and only then gives the file its name. Never
+overwrites: it refuses a name that is already taken, or that has a file with -wal
+behind its name beside it.
+
+Prints the number of entries, as 'copied 80000 entries'.
+
+Example:
+  pairsalder copy --setup museum.csv --store museum.db --to /media/usb/museum-2024-06-01.db
+
+Exit status: 0 the copy is complete; 1 a fault, and no file was created under that
+name; 2 usage error.",
+};
+
 pub(crate) const EXPLAIN: Help = Help {
     about: "Tells what a verdict, a refusal or a fault means, and what to do about it",
     usage: "pairsalder explain NAME",
@@ -184,9 +206,10 @@ pub(crate) const STATIONS: Help = Help {
     more: "\
 For the morning after an import: which station's messages are still missing.
 
-Prints a line for each station: its name, the number of the message that it has to
-send next, and whether it has signed off. With --csv or --json these are station,
-next and signed_off.
+Prints a line for each station: its name, and the number of the message that it has
+to send next. If it has signed off the line says 'signed off', and if it has used its
+last number, 999999, it says 'full'. With --csv or --json its fields are station, next
+and signed_off; a station that is signed off or full has no next number.
 
 Example:
   pairsalder stations --setup museum.csv --store museum.db

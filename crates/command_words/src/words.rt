@@ -7,8 +7,8 @@ ghost use Rattle.command_words.specs.Words.{Chooses, IsChosen, IsFault, IsNamed,
 
 use crate::questions::{at, contents, explain, loan, posted, stations, where_is};
 use crate::reading::{
-    needed, read_by, read_files_and_all, read_files_and_flag, read_record, read_report,
-    read_report_and,
+    needed, read_by, read_files_and_all, read_files_and_flags, read_record, read_record_and,
+    read_report, read_report_and,
 };
 use crate::shapes::{self, Name};
 use crate::{Chosen, WordsFault};
@@ -43,6 +43,7 @@ fn named<'a>(alloc: Global, name: &str, words: &'a [&'a str]) -> Result<Chosen<'
         "away" => away(alloc, words),
         "history" => history(alloc, words),
         "migrate" => migrate(alloc, words),
+        "copy" => copy(alloc, words),
         "explain" => explain(alloc, words),
         "stations" => stations(alloc, words),
         "where" => where_is(alloc, words),
@@ -58,11 +59,18 @@ fn replay<'a>(alloc: Global, words: &'a [&'a str]) -> Result<Chosen<'a>, WordsFa
     requires { IsNamed (texts_of words.now) (codes "replay") }
     ensures { Chooses (Some commands.replay) (texts_of words.now) result }
 {
-    let (files, progress) = read_files_and_flag(alloc, Name::Replay, words, "progress")?;
+    let (files, progress, strict) = read_files_and_flags(
+        alloc,
+        Name::Replay,
+        words,
+        "progress",
+        "strict",
+    )?;
     Ok(Chosen::Replay {
         setup: needed(files.setup)?,
         store: files.store,
         progress,
+        strict,
     })
 }
 
@@ -137,6 +145,18 @@ fn migrate<'a>(alloc: Global, words: &'a [&'a str]) -> Result<Chosen<'a>, WordsF
     Ok(Chosen::Migrate {
         setup: record.setup,
         store: record.store,
+    })
+}
+
+fn copy<'a>(alloc: Global, words: &'a [&'a str]) -> Result<Chosen<'a>, WordsFault>
+    requires { IsNamed (texts_of words.now) (codes "copy") }
+    ensures { Chooses (Some commands.copy) (texts_of words.now) result }
+{
+    let (record, to) = read_record_and(alloc, Name::Copy, words, "to")?;
+    Ok(Chosen::Copy {
+        setup: record.setup,
+        store: record.store,
+        to,
     })
 }
 

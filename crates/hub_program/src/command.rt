@@ -1,27 +1,39 @@
 //! What the program does with its words.
 
+use crate::copying::copied;
 use crate::explain::explain;
 use crate::fault::CommandFault;
 use crate::files::{read_feeds, read_list, read_setup};
 use crate::lines::write_line;
 use crate::progress::Progress;
 use crate::report::Report;
+use crate::request::{asked_of, report};
 use crate::work::{Work, over_store};
-use codes_core::{Day, LoanCode, PlaceCode, ThingCode};
 use command_words::words::chosen;
 use command_words::{Chosen, Format, WordsFault};
-use hub_core::run;
+use hub_core::{Tally, run};
+use sqlite::Start;
 use std::io::{BufRead, Write};
 use std::sync::Wait;
 use std::thread::Threads;
 
-/// Does what the words after the program's name say, or, where there are none, takes a setup and lines from the input
-/// and writes the replies to the output. Answers the exit status: 0 where it is done, or help was asked for; 1 after a
-/// fault, whose line goes to the errors; 2 where the words aren't right.
-pub fn command<T: Threads + Wait + Sync + Copy + Send + 'static, R: BufRead, W: Write, E: Write>(
+/// Does what the words after the program's name say or, if there are none, reads a setup and lines
+/// from the input and writes the replies to the output. Returns the exit status: 0 if it is done,
+/// or if help was asked for; 1 after a fault, whose line goes to the errors, and if a strict replay
+/// met a line that was not applied; 2 for a usage error.
+pub fn command<
+    T: Threads + Wait + Sync + Copy + Send + 'static,
+    S: Start,
+    U: Start,
+    R: BufRead,
+    W: Write,
+    E: Write,
+>(
     rt: &HostRuntime,
     threads: &T,
     words: &[&str],
+    start: S,
+    again: U,
     input: &mut R,
     output: &mut W,
     errors: &mut E,
@@ -32,14 +44,48 @@ pub fn command<T: Threads + Wait + Sync + Copy + Send + 'static, R: BufRead, W: 
     }
     match chosen(rt.alloc(), words) {
         Ok(chosen) => {
-            let ended = perform(rt, threads, &chosen, input, output, errors);
-            status(ended, output, errors)
+            let mut notes = String::new(rt.alloc());
+            let ended = perform(
+                rt, threads, &chosen, start, again, input, output, errors, &mut notes,
+            );
+            noted_status(ended, &notes, output, errors)
         }
         Err(fault) => refuse(&fault, output, errors),
     }
 }
 
-/// Hands on what was written, tells a fault, and answers the status.
+/// How a command that met no fault ends.
+#[derive(Clone, Copy, PartialEq, Eq)]
+enum Ending {
+    /// It is done.
+    Done,
+    /// It is done, and a strict replay met a line that was not applied.
+    NotApplied,
+}
+
+/// Flushes the output, writes the fault's line or the notes of a command that met none, and returns
+/// the status.
+fn noted_status<W: Write, E: Write>(
+    ended: Result<Ending, CommandFault>,
+    notes: &str,
+    output: &mut W,
+    errors: &mut E,
+) -> u8 {
+    let (ended, status_if_done) = match ended {
+        Ok(Ending::Done) => (Ok(()), 0),
+        Ok(Ending::NotApplied) => (Ok(()), 1),
+        Err(fault) => (Err(fault), 1),
+    };
+    match status(ended, output, errors) {
+        0 => {
+            let _ = errors.write_all(notes.as_bytes());
+            status_if_done
+        }
+        status => status,
+    }
+}
+
+/// Flushes the output, writes the fault's line, and returns the status.
 fn status<W: Write, E: Write>(
     ended: Result<(), CommandFault>,
     output: &mut W,
@@ -72,67 +118,149 @@ fn refuse<W: Write, E: Write>(fault: &WordsFault, output: &mut W, errors: &mut E
     }
 }
 
-/// Does the command. Faults are found in this order: a day, a code or a number among the words; the setup; the count
-/// list; the store and its opening; the command's own.
-fn perform<T: Threads + Wait + Sync + Copy + Send + 'static, R: BufRead, W: Write, E: Write>(
+/// Does the command. Faults are found in this order: a day, a code or a number among the words; the
+/// setup; the count list; the store and its opening; the command's own.
+fn perform<
+    T: Threads + Wait + Sync + Copy + Send + 'static,
+    S: Start,
+    U: Start,
+    R: BufRead,
+    W: Write,
+    E: Write,
+>(
     rt: &HostRuntime,
     threads: &T,
     chosen: &Chosen<'_>,
+    start: S,
+    again: U,
     input: &mut R,
     output: &mut W,
     errors: &mut E,
-) -> Result<(), CommandFault> {
-    match chosen {
+    notes: &mut String,
+) -> Result<Ending, CommandFault> {
+    let ended = match chosen {
         Chosen::Replay {
             setup,
             store,
             progress,
-        } => replayed(rt, threads, setup, *store, *progress, input, output, errors),
+            strict,
+        } => {
+            let wanted = Replay {
+                setup,
+                store: *store,
+                progress: *progress,
+                strict: *strict,
+            };
+            return replayed(rt, threads, wanted, start, input, output, errors, notes);
+        }
         Chosen::Count {
             setup,
             store,
             list,
             format,
-        } => counted(rt, threads, setup, store, list, *format, input, output),
+        } => counted(
+            rt, threads, setup, store, list, *format, start, input, output, notes,
+        ),
         Chosen::Explain { name } => explain(name, output),
         Chosen::Serve {
             setup,
             store,
             feeds,
-        } => served(rt, threads, setup, *store, feeds.as_slice(), input, output),
-        Chosen::Migrate { setup, store } => migrated(rt, threads, setup, store, input, output),
-        _ => reported(rt, threads, chosen, input, output),
-    }
+        } => served(
+            rt,
+            threads,
+            setup,
+            *store,
+            feeds.as_slice(),
+            start,
+            input,
+            output,
+            notes,
+        ),
+        Chosen::Migrate { setup, store } => migrated(
+            rt, threads, setup, store, start, input, output, notes,
+        ),
+        Chosen::Copy { setup, store, to } => copied(rt, setup, store, to, start, again, output),
+        _ => reported(rt, threads, chosen, start, input, output, notes),
+    };
+    ended?;
+    Ok(Ending::Done)
 }
 
-/// Answers the lines of the input, and tells how far it has come where that is asked for.
-fn replayed<T: Threads + Wait + Sync + Copy + Send + 'static, R: BufRead, W: Write, E: Write>(
+/// A replay with its options.
+#[derive(Clone, Copy)]
+struct Replay<'a> {
+    setup: &'a str,
+    store: Option<&'a str>,
+    progress: bool,
+    strict: bool,
+}
+
+/// Answers the lines of the input, and shows how far it has come if that is wanted.
+fn replayed<
+    T: Threads + Wait + Sync + Copy + Send + 'static,
+    S: Start,
+    R: BufRead,
+    W: Write,
+    E: Write,
+>(
     rt: &HostRuntime,
     threads: &T,
-    setup: &str,
-    store: Option<&str>,
-    progress: bool,
+    wanted: Replay<'_>,
+    start: S,
     input: &mut R,
     output: &mut W,
     errors: &mut E,
-) -> Result<(), CommandFault> {
-    let setup = read_setup(rt, rt.alloc(), setup)?;
-    if !progress {
-        return over_store(rt, threads, setup, store, Work::Replay, input, output);
+    notes: &mut String,
+) -> Result<Ending, CommandFault> {
+    let setup = read_setup(rt, rt.alloc(), wanted.setup)?;
+    let (ended, is_clean) = if wanted.progress {
+        let mut progress = Progress::new(rt, errors);
+        let ended = over_store(
+            rt,
+            threads,
+            setup,
+            wanted.store,
+            start,
+            Work::Replay,
+            &mut progress,
+            input,
+            output,
+            notes,
+        );
+        (ended, progress.end())
+    } else {
+        let mut tally = Tally::new();
+        let ended = over_store(
+            rt,
+            threads,
+            setup,
+            wanted.store,
+            start,
+            Work::Replay,
+            &mut tally,
+            input,
+            output,
+            notes,
+        );
+        (ended, tally.is_clean())
+    };
+    ended?;
+    if wanted.strict && !is_clean {
+        return Ok(Ending::NotApplied);
     }
-    let mut told = Progress::new(rt, output, errors);
-    let ended = over_store(rt, threads, setup, store, Work::Replay, input, &mut told);
-    told.end();
-    ended
+    Ok(Ending::Done)
 }
 
 /// Prints the report that a command asks for, but a count.
-fn reported<T: Threads + Wait + Sync + Copy + Send + 'static, R: BufRead, W: Write>(
+fn reported<T: Threads + Wait + Sync + Copy + Send + 'static, S: Start, R: BufRead, W: Write>(
     rt: &HostRuntime,
     threads: &T,
     chosen: &Chosen<'_>,
+    start: S,
     input: &mut R,
     output: &mut W,
+    notes: &mut String,
 ) -> Result<(), CommandFault> {
     let asked = asked_of(chosen)?;
     let report = report(chosen)?;
@@ -142,9 +270,12 @@ fn reported<T: Threads + Wait + Sync + Copy + Send + 'static, R: BufRead, W: Wri
             threads,
             setup,
             Some(asked.store),
+            start,
             Work::Print(report, asked.format),
+            &mut Tally::new(),
             input,
             output,
+            notes,
         ),
         Err(fault) => {
             drop(report);
@@ -153,127 +284,18 @@ fn reported<T: Threads + Wait + Sync + Copy + Send + 'static, R: BufRead, W: Wri
     }
 }
 
-/// The record of which a report is asked for, and in which form.
-#[derive(Clone, Copy)]
-struct Asked<'a> {
-    setup: &'a str,
-    store: &'a str,
-    format: Format,
-}
-
-/// The record of which a command asks for a report, but for a count.
-fn asked_of<'a>(chosen: &Chosen<'a>) -> Result<Asked<'a>, CommandFault> {
-    match chosen {
-        Chosen::Overdue {
-            setup,
-            store,
-            format,
-            ..
-        }
-        | Chosen::Away {
-            setup,
-            store,
-            format,
-        }
-        | Chosen::History {
-            setup,
-            store,
-            format,
-            ..
-        }
-        | Chosen::Stations {
-            setup,
-            store,
-            format,
-        }
-        | Chosen::Where {
-            setup,
-            store,
-            format,
-            ..
-        }
-        | Chosen::Contents {
-            setup,
-            store,
-            format,
-            ..
-        }
-        | Chosen::Loan {
-            setup,
-            store,
-            format,
-            ..
-        }
-        | Chosen::At {
-            setup,
-            store,
-            format,
-            ..
-        }
-        | Chosen::Posted {
-            setup,
-            store,
-            format,
-            ..
-        } => Ok(Asked {
-            setup,
-            store,
-            format: *format,
-        }),
-        _ => Err(CommandFault::Words),
-    }
-}
-
-/// The report that a command asks for, but a count. The faults of a day, a code or a number.
-fn report(chosen: &Chosen<'_>) -> Result<Report, CommandFault> {
-    Ok(match chosen {
-        Chosen::Overdue { on, .. } => Report::Overdue(day(on)?),
-        Chosen::Away { .. } => Report::Away,
-        Chosen::History { code, .. } => Report::History(thing(code)?),
-        Chosen::Stations { .. } => Report::Stations,
-        Chosen::Where { code, .. } => Report::Where(thing(code)?),
-        Chosen::Contents { code, .. } => Report::Contents(thing(code)?),
-        Chosen::Loan { code, .. } => Report::Loan(loan(code)?),
-        Chosen::At { place: code, .. } => Report::At(place(code)?),
-        Chosen::Posted { from, .. } => Report::Posted(number(*from)?),
-        _ => return Err(CommandFault::Words),
-    })
-}
-
-fn day(text: &str) -> Result<Day, CommandFault> {
-    Day::parse(text.as_bytes()).map_err(CommandFault::Day)
-}
-
-fn thing(text: &str) -> Result<ThingCode, CommandFault> {
-    ThingCode::parse(text.as_bytes()).map_err(CommandFault::Code)
-}
-
-fn loan(text: &str) -> Result<LoanCode, CommandFault> {
-    LoanCode::parse(text.as_bytes()).map_err(CommandFault::Code)
-}
-
-fn place(text: &str) -> Result<PlaceCode, CommandFault> {
-    PlaceCode::parse(text.as_bytes()).map_err(CommandFault::Code)
-}
-
-/// The number of an entry, 1 where none is named.
-fn number(text: Option<&str>) -> Result<u64, CommandFault> {
-    match text {
-        None => Ok(1),
-        Some(text) => text.parse().map_err(|_| CommandFault::Number),
-    }
-}
-
 /// Reads the setup and the count list, and checks the list.
-fn counted<T: Threads + Wait + Sync + Copy + Send + 'static, R: BufRead, W: Write>(
+fn counted<T: Threads + Wait + Sync + Copy + Send + 'static, S: Start, R: BufRead, W: Write>(
     rt: &HostRuntime,
     threads: &T,
     setup: &str,
     store: &str,
     list: &str,
     format: Format,
+    start: S,
     input: &mut R,
     output: &mut W,
+    notes: &mut String,
 ) -> Result<(), CommandFault> {
     let setup = read_setup(rt, rt.alloc(), setup)?;
     match read_list(rt, rt.alloc(), list) {
@@ -282,9 +304,12 @@ fn counted<T: Threads + Wait + Sync + Copy + Send + 'static, R: BufRead, W: Writ
             threads,
             setup,
             Some(store),
+            start,
             Work::Print(Report::Count(rows), format),
+            &mut Tally::new(),
             input,
             output,
+            notes,
         ),
         Err(fault) => {
             drop(setup);
@@ -293,21 +318,34 @@ fn counted<T: Threads + Wait + Sync + Copy + Send + 'static, R: BufRead, W: Writ
     }
 }
 
-/// Serves the files, the first as that of the setup's first station, and prints the log, after a fault that before it.
-/// The faults, in order: the setup's file, and the setup; how many files there are; the files; the store's file, and its
-/// opening; those of serving.
-fn served<T: Threads + Wait + Sync + Copy + Send + 'static, R: BufRead, W: Write>(
+/// Serves the files, the first as that of the setup's first station, and prints the log, after a
+/// fault the log up to it. The faults, in order: the setup's file, and the setup; how many files
+/// there are; the files; the store's file, and its opening; those of serving.
+fn served<T: Threads + Wait + Sync + Copy + Send + 'static, S: Start, R: BufRead, W: Write>(
     rt: &HostRuntime,
     threads: &T,
     setup: &str,
     store: Option<&str>,
     files: &[&str],
+    start: S,
     input: &mut R,
     output: &mut W,
+    notes: &mut String,
 ) -> Result<(), CommandFault> {
     let setup = read_setup(rt, rt.alloc(), setup)?;
     match read_feeds(rt, setup.stations(), files) {
-        Ok(feeds) => over_store(rt, threads, setup, store, Work::Serve(feeds), input, output),
+        Ok(feeds) => over_store(
+            rt,
+            threads,
+            setup,
+            store,
+            start,
+            Work::Serve(feeds),
+            &mut Tally::new(),
+            input,
+            output,
+            notes,
+        ),
         Err(fault) => {
             drop(setup);
             Err(fault)
@@ -315,15 +353,17 @@ fn served<T: Threads + Wait + Sync + Copy + Send + 'static, R: BufRead, W: Write
     }
 }
 
-/// Migrates the store, and says so. The faults, in order: the setup's file, and the setup; the store's file; those of
-/// migrating it.
-fn migrated<T: Threads + Wait + Sync + Copy + Send + 'static, R: BufRead, W: Write>(
+/// Migrates the store, and says so. The faults, in order: the setup's file, and the setup; the
+/// store's file; those of migrating it.
+fn migrated<T: Threads + Wait + Sync + Copy + Send + 'static, S: Start, R: BufRead, W: Write>(
     rt: &HostRuntime,
     threads: &T,
     setup: &str,
     store: &str,
+    start: S,
     input: &mut R,
     output: &mut W,
+    notes: &mut String,
 ) -> Result<(), CommandFault> {
     let setup = read_setup(rt, rt.alloc(), setup)?;
     over_store(
@@ -331,9 +371,12 @@ fn migrated<T: Threads + Wait + Sync + Copy + Send + 'static, R: BufRead, W: Wri
         threads,
         setup,
         Some(store),
+        start,
         Work::Migrate,
+        &mut Tally::new(),
         input,
         output,
+        notes,
     )?;
     write_line(output, "migrated\n")
 }

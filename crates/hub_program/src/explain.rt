@@ -60,8 +60,8 @@ NotLater: the new last day isn't after the loan's last day. Name a later day.
 UnknownStation: the setup doesn't have the station. Correct the station's name.
 BadNumber: a station's number or one in a code is 0, or above 999999, or has a 0 before it. \
     Correct the number.
-Double: the station's number is posted or held already. Nothing is to be done: the first one \
-    counts.
+Double: the station has used this number before. If the message was sent again, nothing is to be \
+    done; if it is new, send it under the number that pairsalder stations prints.
 SignedOff: the station's sign-off is posted. Send the message from another station.
 TooEarly: the number is more than 256 above the station's last posted one. Send the messages \
     before it first.
@@ -76,8 +76,8 @@ BadCode: a code of the row isn't of its form. Correct the code.
 UnknownNormal: the normal place stands in no earlier row. List the place before the object.
 TooMany: the row is one over the limit of its sort. Divide the list.
 NoStation: the setup lists no station. List one.
-Store: the store can't be opened, read or written, or isn't one of this program. See that the \
-    file and its folder can be written and that the disk has room.
+Store: the store can't be opened, read or written, has no record yet, or isn't one of this \
+    program. Do what the line of help behind the fault says.
 OtherSetup: the store is of another setup. Name the setup that the store was begun with.
 OtherVersion: the store is of another version of the program. Make it one of this version \
     (pairsalder migrate), or use the program that began it.
@@ -93,7 +93,8 @@ read: standard input could not be read. Send what is unanswered once more: what 
     on record.
 write: standard output could not be written. Send the last lines once more: what was posted is on \
     record, and is told as Double.
-file: a file that the command names can't be read. Correct its name, or see who may read it.
+file: a file that the command names can't be read, or a copy can't be written. Do what the line \
+    of help behind the fault says.
 head: the setup before the lines is longer than 8388608 bytes. Put an empty line after the setup.
 number: the text after --from is no number of an entry. Write the number alone, as 100.
 name: no reply and no fault line has this word. Write the word as it was printed, capitals too.

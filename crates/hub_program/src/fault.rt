@@ -1,5 +1,7 @@
 //! Why a command stopped: a line on standard error, and an exit status.
 
+use crate::advice::Advice;
+use crate::visible::write_on_one_line;
 use codes_core::{CodeFault, NoMemory};
 use count_core::CountFault;
 use hub_core::{ReplayFault, RunFault};
@@ -18,16 +20,16 @@ pub enum CommandFault {
     ReadFailed,
     /// The output could not be written.
     WriteFailed,
-    /// A file that was named can't be read.
-    File,
+    /// A named file can't be read, or a target exists already.
+    File(Advice),
     /// The setup at the head of the input is too long.
     HeadTooLong,
     /// The first fault of the setup.
-    Setup(SetupFault),
+    Setup(SetupFault, Advice),
     /// The first fault of the count list.
-    Counts(CountFault),
+    Counts(CountFault, Advice),
     /// The store refused, or isn't that of this setup and its list.
-    Store(StoreFault),
+    Store(StoreFault, Advice),
     /// The text after `--on` is no day.
     Day(CodeFault),
     /// A text is no code of a thing, a loan or a place.
@@ -66,7 +68,7 @@ impl From<StoreFault> for CommandFault {
     fn from(fault: StoreFault) -> CommandFault {
         match fault {
             StoreFault::NoMemory => CommandFault::NoMemory,
-            _ => CommandFault::Store(fault),
+            _ => CommandFault::Store(fault, None),
         }
     }
 }
@@ -75,16 +77,7 @@ impl From<SetupFault> for CommandFault {
     fn from(fault: SetupFault) -> CommandFault {
         match fault {
             SetupFault::NoMemory => CommandFault::NoMemory,
-            _ => CommandFault::Setup(fault),
-        }
-    }
-}
-
-impl From<CountFault> for CommandFault {
-    fn from(fault: CountFault) -> CommandFault {
-        match fault {
-            CountFault::NoMemory => CommandFault::NoMemory,
-            _ => CommandFault::Counts(fault),
+            _ => CommandFault::Setup(fault, None),
         }
     }
 }
@@ -93,7 +86,7 @@ impl From<ReplayFault> for CommandFault {
     fn from(fault: ReplayFault) -> CommandFault {
         match fault {
             ReplayFault::NoMemory => CommandFault::NoMemory,
-            ReplayFault::Store => CommandFault::Store(StoreFault::Store),
+            ReplayFault::Store => CommandFault::Store(StoreFault::Store, None),
             ReplayFault::ReadFailed => CommandFault::ReadFailed,
             ReplayFault::WriteFailed => CommandFault::WriteFailed,
         }
@@ -104,7 +97,7 @@ impl From<RunFault> for CommandFault {
     fn from(fault: RunFault) -> CommandFault {
         match fault {
             RunFault::NoMemory => CommandFault::NoMemory,
-            RunFault::Store => CommandFault::Store(StoreFault::Store),
+            RunFault::Store => CommandFault::Store(StoreFault::Store, None),
             RunFault::ReadFailed => CommandFault::ReadFailed,
             RunFault::WriteFailed => CommandFault::WriteFailed,
             RunFault::Setup(fault) => CommandFault::from(fault),
@@ -127,17 +120,46 @@ impl CommandFault {
         }
     }
 
-    /// Writes the fault's line.
+    /// Writes the fault's line, and a line of help behind it if more is known.
     pub fn write<W: Write>(&self, errors: &mut W) -> io::Result<()> {
+        self.write_line(errors)?;
+        match self.advice() {
+            Some(advice) => {
+                write!(errors, "help: ")?;
+                write_on_one_line(errors, advice)?;
+                writeln!(errors)
+            }
+            None => Ok(()),
+        }
+    }
+
+    /// What is known about the cause.
+    fn advice(&self) -> Option<&str> {
+        match self {
+            CommandFault::File(advice)
+            | CommandFault::Setup(_, advice)
+            | CommandFault::Counts(_, advice)
+            | CommandFault::Store(_, advice) => advice.as_deref(),
+            _ => None,
+        }
+    }
+
+    /// Writes the fault's line.
+    fn write_line<W: Write>(&self, errors: &mut W) -> io::Result<()> {
         match self {
             CommandFault::NoMemory => writeln!(errors, "fault memory"),
             CommandFault::ReadFailed => writeln!(errors, "fault read"),
             CommandFault::WriteFailed => writeln!(errors, "fault write"),
-            CommandFault::File => writeln!(errors, "fault file"),
+            CommandFault::File(_) => writeln!(errors, "fault file"),
             CommandFault::HeadTooLong => writeln!(errors, "fault head"),
-            CommandFault::Setup(fault) => write_row(errors, "setup", fault.name(), fault.row()),
-            CommandFault::Counts(fault) => write_row(errors, "counts", fault.name(), fault.row()),
-            CommandFault::Store(fault) => write_store(errors, *fault),
+            CommandFault::Setup(fault, _) => write_row(errors, "setup", fault.name(), fault.row()),
+            CommandFault::Counts(fault, _) => write_row(
+                errors,
+                "counts",
+                fault.name(),
+                fault.row(),
+            ),
+            CommandFault::Store(fault, _) => write_store(errors, *fault),
             CommandFault::Day(fault) => write_code(errors, "day", *fault),
             CommandFault::Code(fault) => write_code(errors, "code", *fault),
             CommandFault::Number => writeln!(errors, "fault number"),

@@ -1,9 +1,11 @@
 //! The files that a command names, each read whole.
 ghost use Rattle.std.specs.Prelude.{◌≡◌, vec_len, IfOk};
+ghost use Rattle.nest_core.specs.SetupRows.{museum_of, rows_of};
 
+use crate::advice::{on_counts, on_file, on_setup};
 use crate::fault::CommandFault;
-use count_core::{CountRow, read_counts};
-use nest_core::Setup;
+use count_core::{CountFault, CountRow, read_counts};
+use nest_core::{Setup, SetupFault};
 use serve_core::TextFeed;
 use std::alloc::Global;
 use std::fs;
@@ -12,7 +14,18 @@ use std::io::ErrorKind;
 /// The setup in a file.
 pub fn read_setup(rt: &HostRuntime, alloc: Global, path: &str) -> Result<Setup, CommandFault> {
     let bytes = read_file(rt, path)?;
-    Ok(Setup::read(alloc, bytes.as_slice())?)
+    setup_in(alloc, path, bytes.as_slice())
+}
+
+/// The setup in the bytes of a file.
+pub fn setup_in(alloc: Global, path: &str, bytes: &[u8]) -> Result<Setup, CommandFault>
+    ensures { IfOk result (λ setup. setup ≡ museum_of (rows_of bytes.now)) }
+{
+    match Setup::read(alloc, bytes) {
+        Ok(setup) => Ok(setup),
+        Err(SetupFault::NoMemory) => Err(CommandFault::NoMemory),
+        Err(fault) => Err(CommandFault::Setup(fault, on_setup(alloc, path, bytes, fault))),
+    }
 }
 
 /// The count list in a file.
@@ -22,7 +35,14 @@ pub fn read_list(
     path: &str,
 ) -> Result<Vec<CountRow>, CommandFault> {
     let bytes = read_file(rt, path)?;
-    Ok(read_counts(alloc, bytes.as_slice())?)
+    match read_counts(alloc, bytes.as_slice()) {
+        Ok(rows) => Ok(rows),
+        Err(CountFault::NoMemory) => Err(CommandFault::NoMemory),
+        Err(fault) => {
+            let advice = on_counts(alloc, path, bytes.as_slice(), fault);
+            Err(CommandFault::Counts(fault, advice))
+        }
+    }
 }
 
 /// The feed of each of so many stations, from the files.
@@ -44,10 +64,10 @@ pub fn read_feeds(
 }
 
 /// The bytes of a file.
-fn read_file(rt: &HostRuntime, path: &str) -> Result<Vec<u8>, CommandFault> {
+pub fn read_file(rt: &HostRuntime, path: &str) -> Result<Vec<u8>, CommandFault> {
     match fs::read(rt, path) {
         Ok(bytes) => Ok(bytes),
         Err(error) if error.kind() == ErrorKind::OutOfMemory => Err(CommandFault::NoMemory),
-        Err(_) => Err(CommandFault::File),
+        Err(error) => Err(CommandFault::File(on_file(rt.alloc(), path, error.kind()))),
     }
 }

@@ -1,21 +1,29 @@
-//! The program: it does what its words say, and with none takes a setup and lines from standard input.
+//! The program: it does what its words say, and with none takes a setup and lines from standard
+//! input.
 #![tactic(auto)]
 
+mod advice;
 mod command;
+mod copying;
 mod explain;
 mod fault;
 mod files;
 mod lines;
+mod notes;
 mod progress;
 mod questions;
 mod report;
 mod reports;
+mod request;
 mod serving;
 mod sheet;
+mod store;
+mod visible;
 mod work;
 
 use crate::command::command;
 use crate::fault::CommandFault;
+use sqlite::{Start, Unknown};
 use std::alloc::Global;
 use std::io::{BufRead, BufReader, BufWriter, ErrorKind, Write};
 use std::process::ExitCode;
@@ -27,7 +35,7 @@ use std::{env, io};
 const AT_ONCE: usize = 65_536;
 
 fn main(rt: HostRuntime) -> ExitCode {
-    match on_standard_streams(&rt, &rt) {
+    match on_standard_streams(&rt, &rt, Unknown, Unknown) {
         Ok(status) => ExitCode::from(status),
         Err(fault) => {
             let _ = fault.write(&mut rt.stderr());
@@ -45,9 +53,11 @@ fn fault_of_words(error: io::Error) -> CommandFault {
 }
 
 /// Does the command between standard input and standard output.
-fn on_standard_streams<T: Threads + Wait + Sync + Copy + Send + 'static>(
+fn on_standard_streams<T: Threads + Wait + Sync + Copy + Send + 'static, S: Start, U: Start>(
     rt: &HostRuntime,
     threads: &T,
+    start: S,
+    again: U,
 ) -> Result<u8, CommandFault> {
     let mut input = BufReader::with_capacity(rt.alloc(), AT_ONCE, rt.reader()).map_err(
         |_| CommandFault::NoMemory,
@@ -55,13 +65,21 @@ fn on_standard_streams<T: Threads + Wait + Sync + Copy + Send + 'static>(
     let mut output = BufWriter::with_capacity(rt.alloc(), AT_ONCE, io::writer(rt)).map_err(
         |_| CommandFault::NoMemory,
     )?;
-    between(rt, threads, &mut input, &mut output)
+    between(rt, threads, start, again, &mut input, &mut output)
 }
 
 /// Does what the program's words say, between an input and an output.
-fn between<T: Threads + Wait + Sync + Copy + Send + 'static, R: BufRead, W: Write>(
+fn between<
+    T: Threads + Wait + Sync + Copy + Send + 'static,
+    S: Start,
+    U: Start,
+    R: BufRead,
+    W: Write,
+>(
     rt: &HostRuntime,
     threads: &T,
+    start: S,
+    again: U,
     input: &mut R,
     output: &mut W,
 ) -> Result<u8, CommandFault> {
@@ -71,6 +89,8 @@ fn between<T: Threads + Wait + Sync + Copy + Send + 'static, R: BufRead, W: Writ
         rt,
         threads,
         words.as_slice(),
+        start,
+        again,
         input,
         output,
         &mut rt.stderr(),

@@ -1,102 +1,87 @@
-//! How far a replay has come, told while it runs.
+//! How far a replay has come, shown while it runs.
+ghost use Rattle.std.specs.Prelude.{◌≡◌};
 
+use hub_core::{Outcome, Tally, VERDICTS, Watch};
 use posting_core::Verdict;
+use station_core::Refusal;
+use std::io;
 use std::io::Write;
 use std::time::{Clock, Duration, Instant};
-use std::{io, str};
 
-/// An output that counts the replies that it takes, and tells the counts once a second.
+/// What a replay has done so far, printed once a second.
 #[derive(Drop)]
-pub struct Progress<'a, C, W, E> {
-    output: W,
-    teller: Teller<'a, C, E>,
-    /// Whether the last replies that were given weren't taken whole, so that the rest of them comes next.
-    is_within: bool,
-}
-
-/// The counts, and where they are told.
-#[derive(Drop)]
-struct Teller<'a, C, E> {
+pub struct Progress<'a, C, E> {
     clock: &'a C,
     errors: E,
     began: Option<Instant>,
-    told: Option<Instant>,
-    counts: Counts,
+    printed: Option<Instant>,
+    tally: Tally,
 }
 
-/// What came of the lines that are answered.
-#[derive(Clone, Copy)]
-struct Counts {
-    lines: u64,
-    posted: u64,
-    /// Of each verdict but Applied, by its number.
-    by_verdict: [u64; VERDICTS],
-}
-
-/// How many verdicts there are.
-const VERDICTS: usize = 26;
-
-/// How many milliseconds go by until it is told again.
+/// How many milliseconds go by between two lines.
 const PAUSE: u128 = 1000;
 
-impl<'a, C: Clock, W: Write, E: Write> Progress<'a, C, W, E> {
-    /// The output, where nothing is counted yet.
-    pub fn new(clock: &'a C, output: W, errors: E) -> Progress<'a, C, W, E> {
+/// Why a message is not taken, besides that its station is unknown.
+const REFUSALS: [Refusal; 4] = [
+    Refusal::BadNumber,
+    Refusal::Double,
+    Refusal::SignedOff,
+    Refusal::TooEarly,
+];
+
+impl<'a, C: Clock, E: Write> Progress<'a, C, E> {
+    /// Nothing is done yet.
+    pub fn new(clock: &'a C, errors: E) -> Progress<'a, C, E> {
         let now = Instant::now(clock).ok();
         Progress {
-            output,
-            teller: Teller {
-                clock,
-                errors,
-                began: now,
-                told: now,
-                counts: Counts {
-                    lines: 0,
-                    posted: 0,
-                    by_verdict: [0; VERDICTS],
-                },
-            },
-            is_within: false,
+            clock,
+            errors,
+            began: now,
+            printed: now,
+            tally: Tally::new(),
         }
     }
 
-    /// Tells the counts a last time.
-    pub fn end(&mut self) {
-        let now = Instant::now(self.teller.clock).ok();
-        let _ = self.teller.tell(now);
+    /// Prints a last line, and returns whether every line was applied or answered.
+    pub fn end(&mut self) -> bool {
+        let now = Instant::now(self.clock).ok();
+        let _ = self.print(now);
+        self.tally.is_clean()
     }
-}
 
-impl<C: Clock, E: Write> Teller<'_, C, E> {
-    /// Tells the counts, where a second has gone by.
-    fn tell_if_due(&mut self) {
+    /// Prints a line if a second has gone by since the last one.
+    fn print_if_due(&mut self)
+        ensures { self.new.tally ≡ self.old.tally }
+    {
         let Ok(now) = Instant::now(self.clock) else {
             return;
         };
-        let is_due = match self.told {
-            Some(told) => now.duration_since(told).as_millis() >= PAUSE,
+        let is_due = match self.printed {
+            Some(printed) => now.duration_since(printed).as_millis() >= PAUSE,
             None => true,
         };
         if is_due {
-            self.told = Some(now);
-            let _ = self.tell(Some(now));
+            self.printed = Some(now);
+            let _ = self.print(Some(now));
         }
     }
 
-    /// `12000 lines, 11000 posted, 700 refused (NotHere 400, TooDeep 300), 24000 lines a second`.
-    fn tell(&mut self, now: Option<Instant>) -> io::Result<()> {
-        let counts = self.counts;
-        write!(
-            self.errors,
-            "{} lines, {} posted",
-            counts.lines, counts.posted
-        )?;
-        write_verdicts(&mut self.errors, &counts.by_verdict)?;
+    /// `12000 lines, 11000 posted, 700 not applied (NotHere 400, TooDeep 300), 20 held, 3 refused
+    /// (Double 3), 5 bad, 7 questions, 24000 lines a second`.
+    fn print(&mut self, now: Option<Instant>) -> io::Result<()>
+        ensures { self.new.tally ≡ self.old.tally }
+    {
+        let (tally, errors) = (self.tally, &mut self.errors);
+        write!(errors, "{} lines", tally.lines())?;
+        write_verdicts(errors, &tally)?;
+        write!(errors, ", {} held", tally.held())?;
+        write_refusals(errors, &tally)?;
+        write!(errors, ", {} bad, {} questions", tally.bad(), tally.asked())?;
         if let (Some(began), Some(now)) = (self.began, now) {
-            let rate = a_second(counts.lines, now.duration_since(began));
-            write!(self.errors, ", {rate} lines a second")?;
+            let rate = a_second(tally.lines(), now.duration_since(began));
+            write!(errors, ", {rate} lines a second")?;
         }
-        writeln!(self.errors)
+        writeln!(errors)
     }
 }
 
@@ -106,71 +91,72 @@ fn a_second(count: u64, time: Duration) -> u64 {
     count.saturating_mul(1000) / millis
 }
 
-/// Writes how many were refused, and by which verdicts.
-fn write_verdicts<E: Write>(errors: &mut E, by_verdict: &[u64; VERDICTS]) -> io::Result<()> {
-    let mut refused: u64 = 0;
-    for count in by_verdict.iter() {
-        refused = refused.saturating_add(*count);
-    }
-    write!(errors, ", {refused} refused")?;
-    let mut before = " (";
-    for (number, count) in by_verdict.iter().enumerate() {
-        if let (Some(verdict), true) = (Verdict::numbered(number as u32), *count > 0) {
-            write!(errors, "{before}{} {count}", verdict.name())?;
-            before = ", ";
+/// Writes how many entries are posted, and how many of them were not applied, by verdict.
+fn write_verdicts<E: Write>(errors: &mut E, tally: &Tally) -> io::Result<()> {
+    let applied = tally.posted(Verdict::Applied);
+    let mut others: u64 = 0;
+    for number in 1..VERDICTS as u32 {
+        if let Some(verdict) = Verdict::numbered(number) {
+            others = others.saturating_add(tally.posted(verdict));
         }
     }
-    if refused > 0 {
+    let posted = applied.saturating_add(others);
+    write!(errors, ", {posted} posted, {others} not applied")?;
+    let mut before = " (";
+    for number in 1..VERDICTS as u32 {
+        if let Some(verdict) = Verdict::numbered(number) {
+            before = write_count(errors, before, verdict.name(), tally.posted(verdict))?;
+        }
+    }
+    close(errors, others)
+}
+
+/// Writes how many messages are refused, by refusal.
+fn write_refusals<E: Write>(errors: &mut E, tally: &Tally) -> io::Result<()> {
+    let mut refused = tally.unknown_station();
+    for refusal in &REFUSALS {
+        refused = refused.saturating_add(tally.refused(*refusal));
+    }
+    write!(errors, ", {refused} refused")?;
+    let mut before = write_count(errors, " (", "UnknownStation", tally.unknown_station())?;
+    for refusal in &REFUSALS {
+        before = write_count(errors, before, refusal.name(), tally.refused(*refusal))?;
+    }
+    close(errors, refused)
+}
+
+/// Writes a name with its count if that is above 0. Returns what stands before the next one.
+fn write_count<E: Write>(
+    errors: &mut E,
+    before: &'static str,
+    name: &str,
+    count: u64,
+) -> io::Result<&'static str> {
+    if count == 0 {
+        return Ok(before);
+    }
+    write!(errors, "{before}{name} {count}")?;
+    Ok(", ")
+}
+
+/// Closes the names, if there are any.
+fn close<E: Write>(errors: &mut E, count: u64) -> io::Result<()> {
+    if count > 0 {
         write!(errors, ")")
     } else {
         Ok(())
     }
 }
 
-impl Counts {
-    /// Counts the replies to one line: the line's own, and those to what came due with it.
-    fn add(&mut self, replies: &str) {
-        self.lines = self.lines.saturating_add(1);
-        for reply in replies.lines() {
-            self.add_reply(reply);
-        }
-    }
+impl<C: Clock, E: Write> Watch for Progress<'_, C, E> {
+    ghost use Rattle.hub_core.specs.Tallies.{HasTallied};
 
-    /// Counts a reply, which is `STATION n posted ENTRY VERDICT` where an entry is posted.
-    fn add_reply(&mut self, reply: &str) {
-        let mut words = reply.split(' ').skip(2);
-        if words.next() != Some("posted") {
-            return;
-        }
-        self.posted = self.posted.saturating_add(1);
-        let name = words.nth(1).unwrap_or("");
-        for (number, count) in self.by_verdict.iter_mut().enumerate().skip(1) {
-            if Verdict::numbered(number as u32).is_some_and(|verdict| verdict.name() == name) {
-                *count = count.saturating_add(1);
-            }
-        }
-    }
-}
+    ghost has_seen = { λ p outcomes. HasTallied p.tally outcomes };
 
-impl<C: Clock, W: Write, E: Write> Write for Progress<'_, C, W, E> {
-    ghost contents = { λ p. W.contents p.output };
-
-    fn write(&mut self, bytes: &[u8]) -> io::Result<usize> {
-        if !self.is_within {
-            if let Ok(replies) = str::from_utf8(bytes) {
-                self.teller.counts.add(replies);
-            }
+    fn see(&mut self, outcome: Outcome) {
+        self.tally.see(outcome);
+        if matches!(outcome, Outcome::Answered) {
+            self.print_if_due();
         }
-        let taken = self.output.write(bytes);
-        self.is_within = match &taken {
-            Ok(count) => *count < bytes.len(),
-            Err(_) => true,
-        };
-        self.teller.tell_if_due();
-        taken
-    }
-
-    fn flush(&mut self) -> io::Result<()> {
-        self.output.flush()
     }
 }

@@ -1,4 +1,5 @@
-//! What a record is asked: of a thing, of a container, of a loan, of a place, of the stations, of all entries.
+//! What a record is asked: of a thing, of a container, of a loan, of a place, of the stations, of
+//! all entries.
 ghost use Rattle.std.specs.Prelude.{◌<◌, length, All};
 
 use crate::fault::CommandFault;
@@ -104,8 +105,8 @@ fn thing_texts(alloc: Global, setup: &Setup, things: &[ThingNo]) -> Result<Vec<S
     Ok(texts)
 }
 
-/// A row for each thing in a container, through all levels, ascending, with the containers that it is in; one that says
-/// so where the setup doesn't have the container.
+/// A row for each thing in a container, through all levels, ascending, with the containers that it
+/// is in; one that says so where the setup doesn't have the container.
 pub fn contents<W: Write>(
     ledger: &Ledger,
     code: &ThingCode,
@@ -194,7 +195,8 @@ fn at_row(alloc: Global, ledger: &Ledger, thing: ThingNo) -> Result<AtRow, NoMem
     })
 }
 
-/// How a loan stands, and a row for each of its objects with its stage; one that says so where it isn't agreed.
+/// How a loan stands, and a row for each of its objects with its stage; one that says so where it
+/// isn't agreed.
 pub fn loan<W: Write>(
     ledger: &Ledger,
     loan: &LoanCode,

@@ -15,7 +15,8 @@ use std::alloc::Global;
 use std::io::Write;
 use std::thread::Threads;
 
-/// A row for each row of the count list with its answer, then one for each object that the list misses.
+/// A row for each row of the count list with its answer, then one for each object that the list
+/// misses.
 pub fn count<T: Threads + Sync, W: Write>(
     threads: &T,
     ledger: &Ledger,

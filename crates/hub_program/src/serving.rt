@@ -5,6 +5,7 @@ ghost use Rattle.serve_core.specs.Sending.{IsOneOf};
 
 use crate::fault::CommandFault;
 use crate::lines::write_line;
+use crate::notes::add_held;
 use hub_core::Hub;
 use nest_core::Setup;
 use posting_core::Ledger;
@@ -15,13 +16,15 @@ use std::io::Write;
 use std::sync::Wait;
 use std::thread::Threads;
 
-/// Serves with a hub, prints the log, after a fault that before it, and gives the hub's register back.
+/// Serves with a hub, prints the log, after a fault the log up to it, and returns the hub's
+/// register. Messages that are still held at the end are added to the notes.
 pub fn served<T: Threads + Wait + Copy + Send + 'static, S: Register, W: Write>(
     alloc: Global,
     threads: &T,
     hub: Hub<S>,
     feeds: Vec<TextFeed>,
     output: &mut W,
+    notes: &mut String,
 ) -> (S, Result<(), CommandFault>)
     requires feeds { vec_len feeds ≡ length hub.book.museum.stations }
     requires up { hub.down ≡ false }
@@ -29,7 +32,11 @@ pub fn served<T: Threads + Wait + Copy + Send + 'static, S: Register, W: Write>(
     match serve(threads, alloc, hub, feeds) {
         Ok(Served { hub, log }) => {
             let told = write_log(alloc, hub.ledger(), log.lines(), output);
-            (hub.close(), told)
+            let ended = match told {
+                Ok(()) => add_held(notes, &hub).map_err(CommandFault::from),
+                Err(fault) => Err(fault),
+            };
+            (hub.close(), ended)
         }
         Err(ServeFailed { fault, hub, log }) => {
             let _ = write_log(alloc, hub.ledger(), log.lines(), output);
@@ -39,8 +46,8 @@ pub fn served<T: Threads + Wait + Copy + Send + 'static, S: Register, W: Write>(
     }
 }
 
-/// The reply to each line of a log, in its order, as a replay prints it; `STATION line K bad FAULT` for a faulty line. The
-/// ledger is that after the log.
+/// The reply to each line of a log, in its order, as a replay prints it; `STATION line K bad FAULT`
+/// for a faulty line. The ledger is that after the log.
 fn write_log<W: Write>(
     alloc: Global,
     ledger: &Ledger,
@@ -65,7 +72,7 @@ fn told_fault(alloc: Global, setup: &Setup, fault: ServeFault) -> CommandFault
 {
     match fault {
         ServeFault::NoMemory => CommandFault::NoMemory,
-        ServeFault::Store => CommandFault::Store(StoreFault::Store),
+        ServeFault::Store => CommandFault::Store(StoreFault::Store, None),
         ServeFault::Unfinished(station) => unfinished(alloc, setup.station_name(station)),
     }
 }

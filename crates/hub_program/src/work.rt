@@ -3,21 +3,22 @@ ghost use Rattle.std.specs.Prelude.{◌≡◌, false, length};
 ghost use Rattle.hub_program.specs.Works.{HasFeeds};
 
 use crate::fault::CommandFault;
+use crate::notes::{add_held, add_new_store};
 use crate::report::{Report, print};
 use crate::serving::served;
 use crate::sheet::Sheet;
+use crate::store::{self, Begins};
 use command_words::Format;
-use hub_core::{Hub, replay};
+use hub_core::{Hub, Watch, replay_watched};
 use nest_core::Setup;
 use register_sql::SqlRegister;
 use register_store::{PlainRegister, Register};
 use serve_core::TextFeed;
-use sqlite::{Alter, Connection};
+use sqlite::{Alter, Start};
 use std::alloc::Global;
 use std::io::{BufRead, Write};
 use std::sync::Wait;
 use std::thread::Threads;
-use store_file::shut;
 
 /// What is done over a store.
 #[derive(Drop)]
@@ -32,90 +33,150 @@ pub enum Work {
     Migrate,
 }
 
-/// Does the work over what is in the store, or over an empty register in memory where none is named.
-pub fn over_store<T: Threads + Wait + Sync + Copy + Send + 'static, R: BufRead, W: Write>(
+impl Work {
+    /// What it does with a path that has no store yet.
+    fn begins(&self) -> Begins {
+        match self {
+            Work::Replay | Work::Serve(_) => Begins::Record,
+            Work::Print(..) => Begins::Nothing,
+            Work::Migrate => Begins::NoVersion,
+        }
+    }
+}
+
+/// Does the work over the record in the store, or over an empty register in memory if none is
+/// named. `S` stands for what the store's files hold. What the user should know of work that is
+/// done is added to the notes; they say nothing of work that met a fault.
+pub fn over_store<
+    T: Threads + Wait + Sync + Copy + Send + 'static,
+    S: Start,
+    V: Watch,
+    R: BufRead,
+    W: Write,
+>(
     rt: &HostRuntime,
     threads: &T,
     setup: Setup,
     store: Option<&str>,
+    start: S,
     work: Work,
+    watch: &mut V,
     input: &mut R,
     output: &mut W,
+    notes: &mut String,
 ) -> Result<(), CommandFault>
     requires { HasFeeds (length setup.stations) work }
 {
     match store {
-        None => in_memory(rt.alloc(), threads, setup, work, input, output),
-        Some(path) => in_file(rt, threads, setup, path, work, input, output),
+        None => in_memory(
+            rt.alloc(),
+            threads,
+            setup,
+            work,
+            watch,
+            input,
+            output,
+            notes,
+        ),
+        Some(path) => in_file(
+            rt, threads, setup, path, start, work, watch, input, output, notes,
+        ),
     }
 }
 
-fn in_memory<T: Threads + Wait + Sync + Copy + Send + 'static, R: BufRead, W: Write>(
+fn in_memory<T: Threads + Wait + Sync + Copy + Send + 'static, V: Watch, R: BufRead, W: Write>(
     alloc: Global,
     threads: &T,
     setup: Setup,
     work: Work,
+    watch: &mut V,
     input: &mut R,
     output: &mut W,
+    notes: &mut String,
 ) -> Result<(), CommandFault>
     requires { HasFeeds (length setup.stations) work }
 {
     let register = PlainRegister::new(alloc);
-    let (register, ended) = over(alloc, threads, setup, register, work, input, output);
+    let (register, ended) = over(
+        alloc, threads, setup, register, work, watch, input, output, notes,
+    );
     drop(register);
     ended
 }
 
-fn in_file<T: Threads + Wait + Sync + Copy + Send + 'static, R: BufRead, W: Write>(
+fn in_file<
+    T: Threads + Wait + Sync + Copy + Send + 'static,
+    S: Start,
+    V: Watch,
+    R: BufRead,
+    W: Write,
+>(
     rt: &HostRuntime,
     threads: &T,
     setup: Setup,
     path: &str,
+    start: S,
     work: Work,
+    watch: &mut V,
     input: &mut R,
     output: &mut W,
+    notes: &mut String,
 ) -> Result<(), CommandFault>
     requires { HasFeeds (length setup.stations) work }
 {
-    match SqlRegister::on_file(rt, rt.alloc(), path) {
-        Ok(register) => {
-            let (conn, ended) = connected(
+    match store::open(rt, path, start, work.begins()) {
+        Ok((register, is_new)) => {
+            let (register, ended) = connected(
                 rt.alloc(),
                 threads,
                 setup,
                 register,
                 work,
+                watch,
                 input,
                 output,
+                notes,
             );
-            shut(conn);
-            ended
+            store::close(rt, path, register, ended)?;
+            if is_new {
+                add_new_store(notes, path)?;
+            }
+            Ok(())
         }
         Err(fault) => {
             drop(setup);
             drop(work);
-            Err(CommandFault::from(fault))
+            Err(fault)
         }
     }
 }
 
-/// The same over a connection, which it gives back.
-fn connected<T: Threads + Wait + Sync + Copy + Send + 'static, S: Alter, R: BufRead, W: Write>(
+/// The same over a register of a database, which it gives back.
+fn connected<
+    T: Threads + Wait + Sync + Copy + Send + 'static,
+    S: Alter,
+    V: Watch,
+    R: BufRead,
+    W: Write,
+>(
     alloc: Global,
     threads: &T,
     setup: Setup,
     register: SqlRegister<S>,
     work: Work,
+    watch: &mut V,
     input: &mut R,
     output: &mut W,
-) -> (Connection<S>, Result<(), CommandFault>)
+    notes: &mut String,
+) -> (SqlRegister<S>, Result<(), CommandFault>)
     requires { HasFeeds (length setup.stations) work }
 {
-    let (register, ended) = match work {
+    match work {
         Work::Migrate => migrated(alloc, setup, register),
-        work => over(alloc, threads, setup, register, work, input, output),
-    };
-    (register.into_connection(), ended)
+        work => over(
+            alloc, threads, setup, register, work, watch, input, output, notes,
+        ),
+    }
 }
 
 /// Migrates the register's store, and gives the register back.
@@ -129,54 +190,75 @@ fn migrated<S: Alter>(
 }
 
 /// Opens a hub over the register, does the work with it, and gives the register back.
-fn over<T: Threads + Wait + Sync + Copy + Send + 'static, S: Register, R: BufRead, W: Write>(
+fn over<
+    T: Threads + Wait + Sync + Copy + Send + 'static,
+    S: Register,
+    V: Watch,
+    R: BufRead,
+    W: Write,
+>(
     alloc: Global,
     threads: &T,
     setup: Setup,
     register: S,
     work: Work,
+    watch: &mut V,
     input: &mut R,
     output: &mut W,
+    notes: &mut String,
 ) -> (S, Result<(), CommandFault>)
     requires { HasFeeds (length setup.stations) work }
 {
     match Hub::open(alloc, setup, register) {
-        Ok(hub) => done(alloc, threads, hub, work, input, output),
+        Ok(hub) => done(alloc, threads, hub, work, watch, input, output, notes),
         Err(failed) => (failed.register, Err(CommandFault::from(failed.fault))),
     }
 }
 
 /// Does the work with a hub, and gives the hub's register back.
-fn done<T: Threads + Wait + Sync + Copy + Send + 'static, S: Register, R: BufRead, W: Write>(
+fn done<
+    T: Threads + Wait + Sync + Copy + Send + 'static,
+    S: Register,
+    V: Watch,
+    R: BufRead,
+    W: Write,
+>(
     alloc: Global,
     threads: &T,
     hub: Hub<S>,
     work: Work,
+    watch: &mut V,
     input: &mut R,
     output: &mut W,
+    notes: &mut String,
 ) -> (S, Result<(), CommandFault>)
     requires feeds { HasFeeds (length hub.book.museum.stations) work }
     requires up { hub.down ≡ false }
 {
     match work {
-        Work::Replay => replayed(alloc, hub, input, output),
+        Work::Replay => replayed(alloc, hub, watch, input, output, notes),
         Work::Print(report, format) => printed(alloc, threads, hub, &report, format, output),
-        Work::Serve(feeds) => served(alloc, threads, hub, feeds, output),
+        Work::Serve(feeds) => served(alloc, threads, hub, feeds, output, notes),
         // what a hub is opened over is of this version
         Work::Migrate => (hub.close(), Ok(())),
     }
 }
 
-fn replayed<S: Register, R: BufRead, W: Write>(
+fn replayed<S: Register, V: Watch, R: BufRead, W: Write>(
     alloc: Global,
     mut hub: Hub<S>,
+    watch: &mut V,
     input: &mut R,
     output: &mut W,
+    notes: &mut String,
 ) -> (S, Result<(), CommandFault>)
     requires { hub.down ≡ false }
 {
-    let ended = replay(alloc, input, output, &mut hub);
-    (hub.close(), ended.map_err(CommandFault::from))
+    let ended = match replay_watched(alloc, input, output, &mut hub, watch) {
+        Ok(()) => add_held(notes, &hub).map_err(CommandFault::from),
+        Err(fault) => Err(CommandFault::from(fault)),
+    };
+    (hub.close(), ended)
 }
 
 fn printed<T: Threads + Sync, S: Register, W: Write>(

@@ -224,16 +224,16 @@ counts T refusals OtherVersion = refl
 
 -- ---- a database without a table
 
-no_row : {A B : Type 0} (f : A → B) (rows : List A) → IsPermutation (map f rows) [] → rows ≡ []
+pub no_row : {A B : Type 0} (f : A → B) (rows : List A) → IsPermutation (map f rows) [] → rows ≡ []
 no_row f [] h = refl
 no_row f (r ∷ rows) h = absurd (omega (arith, length_permutation _ _ h))
 
-without_rows : (c : Content) → c.setup ≡ [] → c.meta ≡ [] → c.postings ≡ [] → c.spots ≡ [] → c.lines ≡ [] → c.terms ≡ [] → c ≡ no_rows
+pub without_rows : (c : Content) → c.setup ≡ [] → c.meta ≡ [] → c.postings ≡ [] → c.spots ≡ [] → c.lines ≡ [] → c.terms ≡ [] → c ≡ no_rows
 without_rows c p q r s t u =
     let all : Content = record { setup = c.setup; meta = c.meta; postings = c.postings; spots = c.spots; lines = c.lines; terms = c.terms } in
     let e : all ≡ no_rows = rw (p, q, r, s, t, u) refl in e
 
-none_held : (db : Trees) → HasPart 0 db no_rows
+pub none_held : (db : Trees) → HasPart 0 db no_rows
 none_held db = record { meta = IsPermutation-refl []; setup = IsPermutation-refl []; postings = IsPermutation-refl []; spots = IsPermutation-refl []; lines = IsPermutation-refl []; terms = IsPermutation-refl [] }
 
 pub empty_has : (s : State) → ((db : Trees) → s.may_leave db → db ≡ s.committed.trees) → s.may_leave s.committed.trees → s.now ≡ s.committed → IsDatabase s.now → s.now.schema ≡ prefix 0

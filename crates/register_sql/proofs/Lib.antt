@@ -33,3 +33,6 @@ pub mod Raised
 pub mod Migrations
 mod WorkedRows
 mod WorkedFirst
+pub mod Runs
+pub mod Blank
+pub mod Newness

@@ -5,6 +5,7 @@ use Rattle.nest_core.specs.Museum.{Museum}
 use Rattle.sqlite.specs.Effect.{Database}
 use Rattle.sqlite.specs.State.{State, HasCleanDisk, Survives}
 use Rattle.sqlite.specs.Tree.{Trees}
+use Rattle.sqlite.specs.declared.error.Error.{Error}
 use Rattle.register_store.specs.Holdings.{Each}
 use Rattle.register_store.specs.Registers.{is_failure, is_of_listing, IsListFault}
 use Rattle.register_store.specs.StoredRows.{Content}
@@ -19,20 +20,18 @@ use Rattle.register_sql.proofs.Holds.{Laws, each_read}
 
 -- ---- it goes on being kept
 
-pub stopped_kept : (s : State) (bound : Bool) (stopped : Option StoreFault) (fault : StoreFault) → s.in_transaction ≡ false → stopped ≡ Some fault → is_failure fault ≡ true → IsKept s bound stopped
-stopped_kept s bound stopped fault between is fails = record {
+pub stopped_kept : (s : State) (bound : Bool) (stopped : Option Error) (error : Error) → s.in_transaction ≡ false → stopped ≡ Some error → IsKept s bound stopped
+stopped_kept s bound stopped error between is = record {
   between = between;
-  failed = subst (λ o. IfSome o (λ f. is_failure f ≡ true)) (sym is) fails;
-  settled = λ none clean. absurd (none-some fault (sym none ∙ is));
-  ready = λ none bind clean. absurd (none-some fault (sym none ∙ is));
-  content = λ none bind clean. absurd (none-some fault (sym none ∙ is));
+  settled = λ none clean. absurd (none-some error (sym none ∙ is));
+  ready = λ none bind clean. absurd (none-some error (sym none ∙ is));
+  content = λ none bind clean. absurd (none-some error (sym none ∙ is));
 }
 
 -- nothing was changed
-pub same_kept : (old new : State) (P : Trees → Type 0) (bound : Bool) (stopped : Option StoreFault) → IsKept old bound stopped → new.in_transaction ≡ false → Survives old new P → (HasCleanDisk new → IsSame old new) → IsKept new bound stopped
+pub same_kept : (old new : State) (P : Trees → Type 0) (bound : Bool) (stopped : Option Error) → IsKept old bound stopped → new.in_transaction ≡ false → Survives old new P → (HasCleanDisk new → IsSame old new) → IsKept new bound stopped
 same_kept old new P bound stopped kept between survives same = record {
   between = between;
-  failed = kept.failed;
   settled = λ none clean. let it = same clean in let was = kept.settled none (early clean) in record { is_open = it.is_open; settled = it.now ∙ was.settled ∙ sym it.committed };
   ready = λ none bind clean. let it = same clean in let was = kept.ready none bind (early clean) in record { is_open = it.is_open; settled = it.now ∙ was.settled ∙ sym it.committed; whole = subst IsWhole (sym it.now) was.whole };
   content = λ none bind clean. let it = same clean in let had = kept.content none bind (early clean) in (had.0, subst (λ (d : Database). AreRows d.trees had.0) (sym it.now) had.1);
@@ -42,10 +41,9 @@ same_kept old new P bound stopped kept between survives same = record {
     early clean = omega (arith, survives.clean, clean)
 
 -- a posting was made
-pub done_kept : (old new : State) (P : Trees → Type 0) (change : Content → Content) (stopped : Option StoreFault) → stopped ≡ None → IsKept old true stopped → new.in_transaction ≡ false → Survives old new P → (HasCleanDisk new → IsDone old new change) → IsKept new true stopped
+pub done_kept : (old new : State) (P : Trees → Type 0) (change : Content → Content) (stopped : Option Error) → stopped ≡ None → IsKept old true stopped → new.in_transaction ≡ false → Survives old new P → (HasCleanDisk new → IsDone old new change) → IsKept new true stopped
 done_kept old new P change stopped none kept between survives done = record {
   between = between;
-  failed = kept.failed;
   settled = λ _ clean. let it = done clean in record { is_open = it.is_open; settled = sym it.committed };
   ready = λ _ bind clean. let it = done clean in record { is_open = it.is_open; settled = sym it.committed; whole = it.whole };
   content = λ _ bind clean. let it = done clean in let had = kept.content none refl (early clean) in (change had.0, it.rows had.0 had.1);
@@ -55,10 +53,9 @@ done_kept old new P change stopped none kept between survives done = record {
     early clean = omega (arith, survives.clean, clean)
 
 -- a setup was bound
-pub bound_kept : (S : Museum) (depth : ℕ) (old new : State) (stopped : Option StoreFault) → stopped ≡ None → new.in_transaction ≡ false → (HasCleanDisk new → IsBoundAs S depth old new) → IsKept new true stopped
+pub bound_kept : (S : Museum) (depth : ℕ) (old new : State) (stopped : Option Error) → stopped ≡ None → new.in_transaction ≡ false → (HasCleanDisk new → IsBoundAs S depth old new) → IsKept new true stopped
 bound_kept S depth old new stopped none between bound = record {
   between = between;
-  failed = subst (λ o. IfSome o (λ f. is_failure f ≡ true)) (sym none) tt;
   settled = λ _ clean. let it = (bound clean).ready in record { is_open = it.is_open; settled = it.settled };
   ready = λ _ bind clean. (bound clean).ready;
   content = λ _ bind clean. (bound clean).content;
@@ -69,7 +66,7 @@ ready_part s ready = record { is_open = ready.is_open; settled = ready.settled; 
 
 -- ---- what was read is so of each content that the store may hold
 
-module _ (old new : State) (stopped : Option StoreFault) (kept : IsKept old true stopped) (none : stopped ≡ None) (survives : Survives old new (λ _. ⊥)) (same : HasCleanDisk new → IsSame old new) (after : Laws new) where
+module _ (old new : State) (stopped : Option Error) (kept : IsKept old true stopped) (none : stopped ≡ None) (survives : Survives old new (λ _. ⊥)) (same : HasCleanDisk new → IsSame old new) (after : Laws new) where
   pub read_each : (Q : Content → Type 0) → (HasCleanDisk new → (c : Content) → AreRows old.now.trees c → Q c) → Each (in_store new) Q
   read_each Q = each_read old new Q after (λ clean. omega (arith, survives.clean, clean)) (kept.ready none refl) same
 

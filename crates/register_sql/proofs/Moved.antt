@@ -5,6 +5,7 @@ use Rattle.nest_core.specs.Museum.{Museum}
 use Rattle.sqlite.specs.Effect.{Database}
 use Rattle.sqlite.specs.State.{State, HasCleanDisk, Survives}
 use Rattle.sqlite.specs.Tree.{Trees}
+use Rattle.sqlite.specs.declared.error.Error.{Error}
 use Rattle.register_store.specs.Holdings.{Comes}
 use Rattle.register_store.specs.Registers.{is_failure}
 use Rattle.register_store.specs.StoredRows.{Content}
@@ -102,11 +103,10 @@ still_unmoved S fault s fails = record { quiet = λ clean. clean; some = λ clea
 -- ---- what is true of the connection after a migration
 
 -- an answer, whether the store is of version 2 now or nothing was changed
-pub answer_kept : {X : Type 0} (S : Museum) (old new : State) (P : Trees → Type 0) (bound : Bool) (stopped : Option StoreFault) (r : Result X StoreFault) → stopped ≡ None → IsKept old bound stopped → new.in_transaction ≡ false → Survives old new P
+pub answer_kept : {X : Type 0} (S : Museum) (old new : State) (P : Trees → Type 0) (bound : Bool) (stopped : Option Error) (r : Result X StoreFault) → stopped ≡ None → IsKept old bound stopped → new.in_transaction ≡ false → Survives old new P
     → (HasCleanDisk new → OnOk r (IsRaised S old new)) → (HasCleanDisk new → IfErr r (IsLeft S old new)) → IsKept new bound stopped
 answer_kept {X} S old new P bound stopped r none kept between survives raised left = record {
   between = between;
-  failed = kept.failed;
   settled = λ _ clean. settled_by r clean (raised clean) (left clean);
   ready = λ _ bind clean. ready_by r bind clean (raised clean) (left clean);
   content = λ _ bind clean. content_by r bind clean (raised clean) (left clean);

@@ -1,5 +1,6 @@
 -- What binding a store to a setup leaves.
-use Rattle.std.specs.Prelude.{◌≡◌, ◌≢◌, ◌⊎◌, ℕ, true, IsTrue}
+use Rattle.std.specs.Prelude.{◌≡◌, ◌≢◌, ◌⊎◌, ℕ, Bool, true, false, IsTrue}
+use Rattle.std.specs.Bool.{Decides}
 use Rattle.std.specs.List.Sorted.{IsPermutation}
 use Rattle.nest_core.specs.Museum.{Museum}
 use Rattle.sqlite.specs.Effect.{Database}
@@ -34,6 +35,12 @@ pub record IsUnfitOld (S : Museum) (db : Database) : Type 0 where
 -- what is refused as Store, where no statement fails
 abbrev pub IsUnfitFor : Museum → Database → Type 0
 IsUnfitFor S db = IsNoStore db ⊎ (IsUnfitNew db ⊎ IsUnfitOld S db)
+
+-- it is new where it says nothing of itself; a database with other tables than a store's is never new
+abbrev pub IsNewness : Database → Bool → Type 0
+IsNewness db new =
+    (IsNoStore db × (new ≡ false))
+    ⊎ ((c : Content) → IsStored db.trees c → Decides new (is_new c.meta ≡ true))
 
 -- it is refused for this cause, and nothing is changed
 pub record IsRefused (S : Museum) (old new : State) (fault : StoreFault) : Type 0 where

@@ -15,3 +15,4 @@ pub mod Strange
 pub mod Ages
 pub mod Early
 pub mod Migrating
+pub mod Runs

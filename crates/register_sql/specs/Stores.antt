@@ -1,11 +1,11 @@
 -- What a register over a connection keeps, and which rows its store may hold.
-use Rattle.std.specs.Prelude.{◌≡◌, ℕ, ◌+◌, ◌-◌, ◌^◌, min, Bool, true, false, [], Option, None, IfSome, refl}
+use Rattle.std.specs.Prelude.{◌≡◌, ℕ, ◌+◌, ◌-◌, ◌^◌, min, Bool, true, false, [], Option, None, refl}
 use Rattle.std.specs.Coded.{Coded, code_by, coded×, coded_ℕ, coded_bool}
 use Rattle.sqlite.specs.Held.{Held, held_code}
+use Rattle.sqlite.specs.declared.error.Error.{Error}
 use Rattle.sqlite.specs.State.{State, HasCleanDisk}
 use Rattle.sqlite.specs.Tree.{Trees}
 use Rattle.register_store.specs.Holdings.{Holding}
-use Rattle.register_store.specs.Registers.{is_failure}
 use Rattle.register_store.specs.StoredRows.{Content}
 use Rattle.register_store.specs.declared.store_fault.StoreFault.{StoreFault}
 use Rattle.register_store.specs.declared.store_fault.StoreFault.TheVariants.{NoMemory, Store, OtherSetup, Damaged, OtherVersion}
@@ -47,9 +47,8 @@ no_rows = record { setup = []; meta = []; postings = []; spots = []; lines = [];
 
 -- what is true of a register's connection: it is between two transactions; and until a statement has failed it is open,
 -- over a whole store with some rows once a setup is bound
-pub record IsKept (s : State) (bound : Bool) (stopped : Option StoreFault) : Type 0 where
+pub record IsKept (s : State) (bound : Bool) (stopped : Option Error) : Type 0 where
   pub between : s.in_transaction ≡ false
-  pub failed : IfSome stopped (λ fault. is_failure fault ≡ true)
   pub settled : stopped ≡ None → HasCleanDisk s → IsSettled s
   pub ready : stopped ≡ None → bound ≡ true → HasCleanDisk s → IsReady s
   pub content : stopped ≡ None → bound ≡ true → HasCleanDisk s

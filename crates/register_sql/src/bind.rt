@@ -1,10 +1,11 @@
 //! A store is bound to a setup: a new one is made whole, an old one is compared and never written.
-ghost use Rattle.std.specs.Prelude.{◌≡◌, ◌≢◌, ◌≤◌, [], false, IfOk, IfErr};
+ghost use Rattle.std.specs.Prelude.{◌≡◌, ◌≢◌, ◌≤◌, [], true, false, IfOk, IfErr, OnOk};
 ghost use Rattle.std.specs.List.Sorted.{IsPermutation};
 ghost use Rattle.sqlite.specs.Held.{state};
 ghost use Rattle.sqlite.specs.State.{HasCleanDisk, Survives};
-ghost use Rattle.register_sql.specs.Binding.{IsSettled, IsRefused, IsBoundAs, LeavesBound};
-ghost use Rattle.register_sql.specs.Queries.{shown_in, IsPart};
+ghost use Rattle.register_sql.specs.Binding.{IsSettled, IsRefused, IsBoundAs, IsNewness, LeavesBound};
+ghost use Rattle.register_sql.specs.Posting.{Survived};
+ghost use Rattle.register_sql.specs.Queries.{shown_in, IsPart, IsSame};
 ghost use Rattle.register_sql.specs.Rows.{had};
 ghost use Rattle.register_sql.specs.Says.{IsTold};
 ghost use Rattle.register_sql.specs.declared.told.Told.TheVariants as told;
@@ -14,6 +15,7 @@ use crate::queries::Query;
 use crate::rowids::are_all_apart;
 use crate::schema::tables_made;
 use crate::told::{Told, has_setup, told_of};
+use codes_core::NoMemory;
 use nest_core::Setup;
 use register_store::{NEW_DEPTH, StoreFault, row_texts};
 use sqlite::{Alter, Connection, Error};
@@ -162,6 +164,38 @@ pub(crate) fn bind<S: Alter>(
         Some(made) => {
             let answer = bind_told(alloc, conn, setup, made);
             answer
+        }
+    }
+}
+
+/// Whether a store says nothing of itself yet, so that binding it to a setup begins a record. A database with other tables
+/// than a store's is none. The outer fault is that of a statement, after which the connection may be shut.
+pub(crate) fn is_new<S: Alter>(
+    alloc: Global,
+    conn: &mut Connection<S>,
+) -> Result<Result<bool, NoMemory>, Error>
+    requires settled { HasCleanDisk (state S.Store conn.old) → IsSettled (state S.Store conn.old) }
+    requires between { conn.old.in_transaction ≡ false }
+    ensures between { conn.new.in_transaction ≡ false }
+    ensures told { HasCleanDisk (state S.Store conn.new)
+        → IfOk result (λ answer. IfOk answer (IsNewness (state S.Store conn.old).now)) }
+    ensures same { HasCleanDisk (state S.Store conn.new)
+        → OnOk result (IsSame (state S.Store conn.old) (state S.Store conn.new)) }
+    ensures survives { Survived (state S.Store conn.old) (state S.Store conn.new) }
+{
+    let found = match tables_made(alloc, conn.schema()) {
+        Ok(found) => found,
+        Err(_) => return Ok(Err(NoMemory)),
+    };
+    match found {
+        None => Ok(Ok(false)),
+        Some(0) => Ok(Ok(true)),
+        Some(made) => {
+            let told = told_of(conn, made)?;
+            match told {
+                Told::New => Ok(Ok(true)),
+                _ => Ok(Ok(false)),
+            }
         }
     }
 }

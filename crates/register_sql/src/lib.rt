@@ -1,6 +1,7 @@
 //! The register over SQLite.
 #![tactic(auto)]
 
+mod again;
 mod age;
 mod agree;
 mod bind;
@@ -20,5 +21,7 @@ mod table;
 mod told;
 mod typed;
 
+pub use again::{closed_and_opened, left_and_opened};
+pub use link::fault_of;
 pub use migrate::given_days_are_of_looking_back;
 pub use sql::SqlRegister;

@@ -6,12 +6,12 @@ ghost use Rattle.sqlite.specs.State.{HasCleanDisk};
 ghost use Rattle.register_store.specs.Holdings.{Each, Has, Comes, IsPosted, IsBound, IsNotBound};
 ghost use Rattle.register_store.specs.Registers.{is_failure, is_of_listing, IsOfStation, IsListFault};
 ghost use Rattle.register_store.specs.StoredRows.{AreSame, HasList, HasRows, IsBoundTo};
-ghost use Rattle.register_sql.specs.Binding.{IsUnfitFor};
+ghost use Rattle.register_sql.specs.Binding.{IsNewness, IsUnfitFor};
 ghost use Rattle.register_sql.specs.Migrating.{Migrates, IsNotMigrated, IsCompleted, IsUnfit};
 ghost use Rattle.register_sql.specs.Stores.{in_store, IsKept};
 
 use crate::agree::agrees;
-use crate::bind::bind;
+use crate::bind::{bind, is_new};
 use crate::list::list;
 use crate::migrate::migrate;
 use crate::put::put_whole;
@@ -21,16 +21,16 @@ use register_store::{StoreFault, row_of};
 use sqlite::{Alter, Connection, Error, ErrorCode};
 use std::alloc::Global;
 
-/// A connection, whether a setup is bound to its store, and the fault of the statement that failed. A connection may be shut
-/// by a failure, and shows nothing then: it is asked nothing more, and the same fault is answered again.
+/// A connection, whether a setup is bound to its store, and the error of the statement that failed. A failure may close
+/// the connection, which then shows nothing: it gets no further statement, and each call returns that error's fault.
 pub(crate) struct Link<S: Alter> {
     pub(crate) conn: Connection<S>,
     pub(crate) bound: bool,
-    pub(crate) stopped: Option<StoreFault>,
+    pub(crate) stopped: Option<Error>,
 }
 
-/// The fault of a statement that failed: NoMemory where that was for want of memory, else Store.
-pub(crate) fn fault_of(error: Error) -> StoreFault
+/// The fault of a failed statement: NoMemory if it ran out of memory, otherwise Store.
+pub fn fault_of(error: Error) -> StoreFault
     ensures memory { error ≡ Error.SqliteFailure ErrorCode.OutOfMemory
         → result ≡ StoreFault.NoMemory }
     ensures store { error ≢ Error.SqliteFailure ErrorCode.OutOfMemory → result ≡ StoreFault.Store }
@@ -46,15 +46,14 @@ pub(crate) fn fault_of(error: Error) -> StoreFault
 pub(crate) fn stop<S: Alter>(link: &mut Link<S>, error: Error) -> StoreFault
     ensures conn { link.new.conn ≡ link.old.conn }
     ensures bound { link.new.bound ≡ link.old.bound }
-    ensures stopped { link.new.stopped ≡ Some result }
+    ensures stopped { link.new.stopped ≡ Some error }
     ensures memory { error ≡ Error.SqliteFailure ErrorCode.OutOfMemory
         → result ≡ StoreFault.NoMemory }
     ensures store { error ≢ Error.SqliteFailure ErrorCode.OutOfMemory → result ≡ StoreFault.Store }
     ensures failure { is_failure result ≡ true }
 {
-    let fault = fault_of(error);
-    link.stopped = Some(fault);
-    fault
+    link.stopped = Some(error);
+    fault_of(error)
 }
 
 /// Binds the store to the setup, and answers its depth limit.
@@ -78,8 +77,8 @@ pub(crate) fn bind_store<S: Alter>(
     ensures ready { OnOk result (link.new.bound ≡ true) }
     ensures not_ready { OnErr result (link.new.bound ≡ link.old.bound) }
 {
-    if let Some(fault) = link.stopped {
-        return Err(fault);
+    if let Some(error) = link.stopped {
+        return Err(fault_of(error));
     }
     match bind(alloc, &mut link.conn, setup) {
         Ok(Ok(depth)) => {
@@ -87,6 +86,27 @@ pub(crate) fn bind_store<S: Alter>(
             Ok(depth)
         }
         Ok(Err(fault)) => Err(fault),
+        Err(error) => Err(stop(link, error)),
+    }
+}
+
+/// Whether the store says nothing of itself yet, so that binding it begins a record.
+pub(crate) fn store_is_new<S: Alter>(alloc: Global, link: &mut Link<S>) -> Result<bool, StoreFault>
+    requires { IsKept (state S.Store link.old.conn) link.old.bound link.old.stopped }
+    ensures invariant { IsKept (state S.Store link.new.conn) link.new.bound link.new.stopped }
+    ensures told { HasCleanDisk (state S.Store link.new.conn)
+        → IfOk result (IsNewness (state S.Store link.old.conn).now) }
+    ensures faults { IfErr result (λ fault. is_failure fault ≡ true) }
+    ensures unchanged { Comes (in_store (state S.Store link.old.conn))
+        (in_store (state S.Store link.new.conn)) AreSame }
+    ensures still { link.new.bound ≡ link.old.bound }
+{
+    if let Some(error) = link.stopped {
+        return Err(fault_of(error));
+    }
+    match is_new(alloc, &mut link.conn) {
+        Ok(Ok(new)) => Ok(new),
+        Ok(Err(_)) => Err(StoreFault::NoMemory),
         Err(error) => Err(stop(link, error)),
     }
 }
@@ -111,8 +131,8 @@ pub(crate) fn migrate_store<S: Alter>(
         → result ≡ Err StoreFault.Store → IsUnfit setup.now (state S.Store link.old.conn).now }
     ensures still { link.new.bound ≡ link.old.bound }
 {
-    if let Some(fault) = link.stopped {
-        return Err(fault);
+    if let Some(error) = link.stopped {
+        return Err(fault_of(error));
     }
     match migrate(alloc, &mut link.conn, setup) {
         Ok(answer) => answer,
@@ -140,8 +160,8 @@ pub(crate) fn list_store<S: Alter>(
         (in_store (state S.Store link.new.conn)) AreSame }
     ensures still { link.new.bound ≡ link.old.bound }
 {
-    if let Some(fault) = link.stopped {
-        return Err(fault);
+    if let Some(error) = link.stopped {
+        return Err(fault_of(error));
     }
     match list(alloc, &mut link.conn, stations) {
         Ok(answer) => answer,
@@ -167,8 +187,8 @@ pub(crate) fn post_to_store<S: Alter>(
     ensures faults { IfErr result (λ fault. is_failure fault ≡ true) }
     ensures still { link.new.bound ≡ link.old.bound }
 {
-    if let Some(fault) = link.stopped {
-        return Err(fault);
+    if let Some(error) = link.stopped {
+        return Err(fault_of(error));
     }
     let row = match row_of(alloc, changes.entry, entry) {
         Ok(row) => row,
@@ -196,8 +216,8 @@ pub(crate) fn store_agrees<S: Alter>(
         (in_store (state S.Store link.new.conn)) AreSame }
     ensures still { link.new.bound ≡ link.old.bound }
 {
-    if let Some(fault) = link.stopped {
-        return Err(fault);
+    if let Some(error) = link.stopped {
+        return Err(fault_of(error));
     }
     match agrees(alloc, &mut link.conn, ledger) {
         Ok(answer) => answer,

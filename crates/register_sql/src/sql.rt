@@ -1,28 +1,38 @@
 //! The register over a connection to a database.
-ghost use Rattle.std.specs.Prelude.{◌≡◌, true, false, Err, length, IsTrue, IfOk, IfErr, OnOk, OnErr};
+ghost use Rattle.std.specs.Prelude.{◌≡◌, true, false, Err, length, IsTrue, IfOk, IfErr, OnOk, OnErr, is_some};
 ghost use Rattle.sqlite.specs.Held.{state};
-ghost use Rattle.sqlite.specs.Files.{file_state};
-ghost use Rattle.sqlite.specs.State.{HasCleanDisk};
+ghost use Rattle.sqlite.specs.Files.{file_state, IsClosed};
+ghost use Rattle.sqlite_store.specs.FileStore.{view, log_frames, files as store_files};
+ghost use Rattle.sqlite_trees.specs.View.{IsClean};
+ghost use Rattle.sqlite.specs.State.{HasCleanDisk, store_error};
+ghost use Rattle.sqlite.specs.Opening.{is_open_error};
 ghost use Rattle.sqlite.specs.Steps.{over_memory};
 ghost use Rattle.register_store.specs.Holdings.{Has, Comes, IsBound, IsNotBound};
 ghost use Rattle.register_store.specs.Registers.{is_failure, CountsRefusal};
-ghost use Rattle.register_store.specs.StoredRows.{IsBoundTo};
-ghost use Rattle.register_sql.specs.Binding.{IsSettled, IsUnfitFor};
+ghost use Rattle.register_store.specs.StoredRows.{AreSame, IsBoundTo};
+ghost use Rattle.register_sql.specs.Binding.{IsNewness, IsSettled, IsUnfitFor};
 ghost use Rattle.register_sql.specs.Migrating.{Migrates, IsNotMigrated, IsCompleted, IsUnfit};
 ghost use Rattle.register_sql.specs.Stores.{in_store, no_rows};
+ghost use Rattle.register_sql.specs.Runs.{HasIts, IsFoundIn, IsCopied, IsLeft};
+ghost use Rattle.sqlite.specs.WalFiles.{image_at};
+ghost use Rattle.sqlite.specs.WalReads.{AreClean};
 
 use crate::link::{
     Link, bind_store, fault_of, list_store, migrate_store, post_to_store, store_agrees,
+    store_is_new,
 };
 use nest_core::Setup;
 use posting_core::{Changes, Entry, Ledger};
 use register_store::{Register, StoreFault};
-use sqlite::{Alter, Connection, File, FileStore, MemStore};
+use sqlite::{
+    Alter, Connection, Error, File, FileFrom, FileStore, Files, MemStore, Start, Unknown,
+};
+use sqlite_disk::Disk;
 use std::alloc::Global;
 use std::marker::Model;
 
-/// A register whose rows are in a database, behind a connection. Once a statement has failed it asks nothing more of the
-/// connection, and answers the same fault again.
+/// A register whose rows are in a database, behind a connection. Once a statement has failed, the register asks nothing
+/// more of the connection, and returns the fault of that error again.
 pub struct SqlRegister<S: Alter> {
     link: Link<S>,
     stations: u32,
@@ -67,11 +77,10 @@ impl SqlRegister<MemStore> {
 }
 
 impl SqlRegister<FileStore<File>> {
-    /// A register over the database in the file, which is made where there is none. The faults: NoMemory, where there is
-    /// none to open it; else Store.
+    /// The same, assuming nothing about the file's content: no clause says which rows it has.
     pub fn on_file(
         rt: &HostRuntime,
-        _alloc: Global,
+        alloc: Global,
         path: &str,
     ) -> Result<SqlRegister<FileStore<File>>, StoreFault>
         ensures new { IfOk result (λ r. (r.bound ≡ false) × (r.stations ≡ 0) × (r.refusals ≡ 0)) }
@@ -80,9 +89,61 @@ impl SqlRegister<FileStore<File>> {
             (λ r. HasCleanDisk (file_state r.conn) → IsSettled (file_state r.conn)) }
         ensures faults { IfErr result (λ fault. is_failure fault ≡ true) }
     {
-        match Connection::open(rt, path) {
-            Ok(conn) => Ok(SqlRegister::adopt(conn)),
+        match SqlRegister::on_file_from(rt, alloc, path, Unknown) {
+            Ok(register) => Ok(register),
             Err(error) => Err(fault_of(error)),
+        }
+    }
+}
+
+impl<S: Start> SqlRegister<FileStore<FileFrom<S>>> {
+    /// A register over the database in a file, which is created if there is none. `S` stands for what the file and its
+    /// log hold when they are opened. The error is the one of the opening; [`fault_of`] gives its fault.
+    pub fn on_file_from(
+        rt: &HostRuntime,
+        _alloc: Global,
+        path: &str,
+        start: S,
+    ) -> Result<SqlRegister<FileStore<FileFrom<S>>>, Error>
+        ensures new { IfOk result (λ r. (r.bound ≡ false) × (r.stations ≡ 0) × (r.refusals ≡ 0)) }
+        ensures going { IfOk result (λ r. r.stopped ≡ false) }
+        ensures open { IfOk result
+            (λ r. HasCleanDisk (file_state r.conn) → IsSettled (file_state r.conn)) }
+        ensures found { IfOk result (λ r. HasCleanDisk (file_state r.conn)
+            → IsFoundIn (image_at S.Start) (in_store (file_state r.conn))) }
+        ensures named { IfErr result (λ error. IsTrue (is_open_error error)) }
+    {
+        match Connection::open_from(rt, path, false, start) {
+            Ok(conn) => Ok(SqlRegister::adopt(conn)),
+            Err((error, _)) => Err(error),
+        }
+    }
+}
+
+impl<D: Disk + Drop> SqlRegister<FileStore<D>> {
+    /// Ends the register without a write, and returns its two files: what a program that is killed leaves behind.
+    pub fn let_go(self) -> Files<D>
+        ensures { AreClean D.Disk result.log result.db
+            → IsLeft D.Disk (in_store (file_state self.conn)) result }
+    {
+        self.into_connection().into_store().close()
+    }
+
+    /// Ends the register, and returns its two files. Every row is copied from the log into the database file, which alone
+    /// holds all rows from then on. After an error the rows are still in the two files, as before.
+    pub fn close(self) -> Result<Files<D>, (Error, Files<D>)>
+        ensures copied { IfOk result (λ files. AreClean D.Disk files.log files.db
+            → IsCopied D.Disk (in_store (file_state self.conn)) files) }
+        ensures emptied { IfOk result (λ files. (last : _)
+            × (store_files last ≡ (files.log, files.db)) × IsClosed self.conn last
+            × (IsClean (view last) → IsTrue (view last).is_open × (log_frames last ≡ 0))) }
+        ensures usable { IfOk result (λ files. IsTrue (D.Disk.is_usable files.log)
+            × IsTrue (D.Disk.is_usable files.db)) }
+        ensures cause { IfErr result (λ failed. (cause : _) × (failed.0 ≡ store_error cause)) }
+    {
+        match self.into_connection().close_files() {
+            Ok(files) => Ok(files),
+            Err((error, store)) => Err((error, store.close())),
         }
     }
 }
@@ -98,6 +159,8 @@ impl<S: Alter> SqlRegister<S> {
         ensures new { (result.bound ≡ false) × (result.stations ≡ 0) × (result.refusals ≡ 0) }
         ensures going { result.stopped ≡ false }
         ensures same { result.conn ≡ conn }
+        ensures shown { HasCleanDisk (state S.Store conn)
+            → HasIts (in_store (state S.Store conn)) (state S.Store conn).committed.trees }
     {
         let _settled = conn.is_autocommit();
         SqlRegister {
@@ -139,9 +202,36 @@ impl<S: Alter> SqlRegister<S> {
         answer
     }
 
+    /// Whether the store has no record yet, so that [`bind`](Register::bind) begins one. A database that has other tables than
+    /// a store's is not new: `bind` refuses it. Nothing is changed. The faults: NoMemory, and Store if a statement failed.
+    pub fn is_new(&mut self, alloc: Global) -> Result<bool, StoreFault>
+        ensures told { HasCleanDisk (state S.Store self.new.conn)
+            → IfOk result (IsNewness (state S.Store self.old.conn).now) }
+        ensures faults { IfErr result (λ fault. is_failure fault ≡ true) }
+        ensures unchanged { Comes (in_store (state S.Store self.old.conn))
+            (in_store (state S.Store self.new.conn)) AreSame }
+        ensures still { (self.new.bound ≡ self.old.bound)
+            × (self.new.stations ≡ self.old.stations) }
+        ensures count { CountsRefusal self.old.refusals self.new.refusals result }
+    {
+        let answer = store_is_new(alloc, &mut self.link);
+        self.refusals = recount(self.refusals, &answer);
+        answer
+    }
+
+    /// The error of the statement that failed, if the register has stopped. It stays stopped, and asks nothing more of
+    /// the connection.
+    pub fn failure(&self) -> Option<Error>
+        ensures { is_some result ≡ self.now.stopped }
+    {
+        self.link.stopped
+    }
+
     /// The connection.
     pub fn into_connection(self) -> Connection<S>
-        ensures { result ≡ self.conn }
+        ensures same { result ≡ self.conn }
+        ensures shown { IsTrue (state S.Store self.conn).is_open
+            → HasIts (in_store (state S.Store self.conn)) (state S.Store self.conn).committed.trees }
     {
         let SqlRegister {
             link,

@@ -1,6 +1,6 @@
 -- What the threads hand back, put together with what was taken.
-use Rattle.std.proofs.Common.{◌≡◌, ℕ, zero, suc, ◌<◌, List, [], ◌∷◌, ◌++◌, length, map, Bool, true, false, refl, ap, ◌∙◌, sym, subst, arith, append_assoc, append-nil, get_or}
-use Rattle.std.proofs.lemmas.List.Elements.{All-append, All-head, All-nil, All-tail}
+use Rattle.std.proofs.Common.{◌≡◌, ℕ, zero, suc, ◌<◌, List, [], ◌∷◌, ◌++◌, length, map, Bool, true, false, inl, inr, refl, ap, ◌∙◌, sym, subst, arith, append_assoc, append-nil, get_or}
+use Rattle.std.proofs.lemmas.List.Elements.{All-append, All-cons, All-head, All-nil, All-tail}
 use Rattle.std.specs.Prelude.{All}
 use Rattle.std.specs.List.{AllZip}
 use Rattle.rtrb.specs.Ring.{SameConsumer}
@@ -13,9 +13,12 @@ use Rattle.serve_core.specs.declared.lane.LaneEnd.{LaneEnd}
 use Rattle.serve_core.specs.declared.sending.Sent.{Sent}
 use Rattle.serve_core.specs.declared.serve_fault.ServeFault.{ServeFault}
 use Rattle.serve_core.specs.declared.serve_fault.ServeFault.TheVariants as faults
-use Rattle.serve_core.specs.Logs.{items_of, AreOfStations}
+use Rattle.serve_core.specs.Logs.{items_of, AreOfStations, Answers, Serves, ServesTo, dropped}
 use Rattle.serve_core.specs.Lanes.{Ring, received_is, received_at, ended_at, sent_items, SameLane, Begins, IsFresh, IsEndOn, Takes, TakesSome, TakesLeft, TakesFront}
-use Rattle.serve_core.specs.Sending.{IsSent, Sends, IsStill, IsSentTo, IsEndOfSent, sent_of, sent_at, items_at, SentFront, SentWhole, IsOneOf, serve_fault, IsMerge, AreFronts}
+use Rattle.serve_core.specs.Sending.{IsSent, Sends, IsStill, IsSentTo, IsEndOfSent, sent_of, sent_at, items_at, SentFront, SentWhole, IsOneOf, serve_fault, IsMerge, AreFronts, Stops, Leaves, AfterFault, StopsLanes, LeavesLanes, EndsLanes}
+use Rattle.register_store.specs.Holdings.{Holding}
+use Rattle.hub_core.specs.StandsFor.{State}
+use Rattle.serve_core.proofs.LogLemmas.{serves_then, serves_to_then}
 use Rattle.serve_core.proofs.Takings.{zip_length, read_here, received_here, items_of-append}
 
 -- lanes that were looked at
@@ -176,10 +179,6 @@ hub_named n hub.NoMemory = tt
 hub_named n hub.Store = tt
 hub_named n hub.Down = tt
 
-pub missing_named : (n : ℕ) (whole : Bool) (fault : ServeFault) (station : ℕ) → (whole ≡ true → fault ≡ faults.Unfinished station) → (whole ≡ false → fault ≡ faults.NoMemory) → station < n → IsOneOf n fault
-missing_named n true fault station missing memory lt = subst (λ (f : ServeFault). IsOneOf n f) (sym (missing refl)) lt
-missing_named n false fault station missing memory lt = subst (λ (f : ServeFault). IsOneOf n f) (sym (memory refl)) tt
-
 -- what a view shows
 pub settled_view : (cs arg : List Ring) (xs : List Sent) (n : ℕ) → cs ≡ arg → n ≡ length cs → ((s : ℕ) → s < n → Begins (received_at cs s) (sent_at xs s))
     → (s : ℕ) → s < length arg → Begins (received_at arg s) (sent_at xs s)
@@ -204,3 +203,109 @@ left_whole cs xs0 xs cs1 es G still ends len same left s lt =
 -- no line more
 pub none_left : (cs : List Ring) (xs : List Sent) → ((s : ℕ) → s < length cs → Begins (received_at cs s) (sent_at xs s)) → SentFront cs xs []
 none_left cs xs settled s lt = ((settled s lt).0, (settled s lt).1 ∙ ap (λ (ys : List Item). ys ++ (settled s lt).0) (sym (append-nil (received_at cs s))))
+
+-- a front of each feed, and the one item more that met a fault
+stations_left : (n : ℕ) (G H : List LogLine) → AreOfStations n (G ++ H) → AreOfStations n G
+stations_left n [] H a = All-nil (λ l. l.station < n)
+stations_left n (l ∷ G) H a =
+    All-cons (λ (m : LogLine). m.station < n) l G
+    (All-head (λ (m : LogLine). m.station < n) l (G ++ H) a)
+    (stations_left n G H (All-tail (λ (m : LogLine). m.station < n) l (G ++ H) a))
+
+pub fronts_shorter : (fs : List (List Item)) (G H : List LogLine) (fault : ServeFault)
+    → AreFronts fs (G ++ H) fault → AreFronts fs G fault
+fronts_shorter fs G H fault f = record {
+  stations = stations_left (length fs) G H f.stations;
+  front = λ s lt. begins_trans (items_of s G) (items_of s (G ++ H)) (items_at fs s)
+      (items_of s H, items_of-append s G H) (f.front s lt);
+  named = f.named;
+}
+
+module _ {R : Type 0} (holding : R → Holding) where
+  -- what a serving leaves, by its fault
+  pub stops_after : (a b : State R) (fs : List (List Item)) (G : List LogLine) (fault : HubFault)
+      → (fault ≡ hub.Store → b.down ≡ true) → Stops holding a b fs G (serve_fault fault)
+      → AfterFault holding a b fs G (serve_fault fault)
+  stops_after a b fs G hub.NoMemory down st = inl st
+  stops_after a b fs G hub.Store down st = (st, down refl)
+  stops_after a b fs G hub.Down down st = inl st
+
+  pub after_answers : (a b : State R) (fs : List (List Item)) (G : List LogLine)
+      (fault : ServeFault) → AfterFault holding a b fs G fault → Answers holding a b G
+  after_answers a b fs G faults.NoMemory (inl st) = st.served.answers
+  after_answers a b fs G faults.NoMemory (inr le) = le.served.answers
+  after_answers a b fs G faults.Store h = h.0.served.answers
+  after_answers a b fs G (faults.Unfinished s) le = le.served.answers
+
+  pub after_fronts : (a b : State R) (fs : List (List Item)) (G : List LogLine) (fault : ServeFault)
+      → AfterFault holding a b fs G fault → AreFronts fs G fault
+  after_fronts a b fs G faults.NoMemory (inl st) =
+      fronts_shorter fs G (dropped st.station st.item ∷ []) faults.NoMemory st.fronts
+  after_fronts a b fs G faults.NoMemory (inr le) = le.fronts
+  after_fronts a b fs G faults.Store h =
+      fronts_shorter fs G (dropped h.0.station h.0.item ∷ []) faults.Store h.0.fronts
+  after_fronts a b fs G (faults.Unfinished s) le = le.fronts
+
+  -- what ending the lanes leaves, by its fault
+  pub stops_lanes_after : (a b : State R) (cs : List Ring) (xs : List Sent) (old new : List LogLine)
+      (fault : HubFault) → (fault ≡ hub.Store → b.down ≡ true)
+      → StopsLanes holding a b cs xs old new
+      → EndsLanes holding a b cs xs old new (serve_fault fault)
+  stops_lanes_after a b cs xs old new hub.NoMemory down st = inl st
+  stops_lanes_after a b cs xs old new hub.Store down st = (st, down refl)
+  stops_lanes_after a b cs xs old new hub.Down down st = inl st
+
+  pub missing_lanes : (a b : State R) (cs : List Ring) (xs : List Sent) (old new : List LogLine)
+      (whole : Bool) (fault : ServeFault) (station : ℕ)
+      → (whole ≡ true → fault ≡ faults.Unfinished station)
+      → (whole ≡ false → fault ≡ faults.NoMemory) → station < length cs
+      → LeavesLanes holding a b cs xs old new → EndsLanes holding a b cs xs old new fault
+  missing_lanes a b cs xs old new true fault station missing memory lt le =
+      subst (λ (f : ServeFault). EndsLanes holding a b cs xs old new f) (sym (missing refl))
+      (le, lt)
+  missing_lanes a b cs xs old new false fault station missing memory lt le =
+      subst (λ (f : ServeFault). EndsLanes holding a b cs xs old new f) (sym (memory refl)) (inr le)
+
+  -- turning, and then ending the lanes
+  module _ (a b c : State R) (ls : List Lane) (cs0 cs : List Ring) (xs : List Sent)
+      (fs : List (List Item)) (log0 log1 log2 G : List LogLine)
+      (fresh : AllZip IsFresh ls cs0) (t : Takes cs0 cs G) (to : AllZip IsSentTo xs cs)
+      (of : AllZip IsSent xs fs) (none : log0 ≡ []) (more : log1 ≡ log0 ++ G)
+      (served : Serves holding a b G) (level : b.down ≡ a.down) where
+    stops_both : (fault : ServeFault) → IsOneOf (length fs) fault
+        → StopsLanes holding b c cs xs log1 log2 → Stops holding a c fs log2 fault
+    stops_both fault named st =
+        let whole : log2 ≡ G ++ st.lines = log_whole log0 log1 log2 G st.lines none more st.log in
+        let d : List LogLine = dropped st.station st.item ∷ [] in
+        record {
+          station = st.station;
+          item = st.item;
+          served = subst (λ (L : List LogLine). ServesTo holding a c L st.station st.item)
+              (sym whole) (serves_to_then holding a b c G st.lines st.station st.item served
+              st.served);
+          fronts = subst (λ (L : List LogLine). AreFronts fs L fault)
+              (sym (append_assoc G st.lines d) ∙ ap (λ (L : List LogLine). L ++ d) (sym whole))
+              (fronts_left ls cs0 cs xs fs G (st.lines ++ d) fault fresh t to of st.stations
+              st.front named);
+        }
+
+    leaves_both : (fault : ServeFault) → IsOneOf (length fs) fault
+        → LeavesLanes holding b c cs xs log1 log2 → Leaves holding a c fs log2 fault
+    leaves_both fault named le =
+        let whole : log2 ≡ G ++ le.lines = log_whole log0 log1 log2 G le.lines none more le.log in
+        record {
+          served = subst (λ (L : List LogLine). Serves holding a c L) (sym whole)
+              (serves_then holding a b c G le.lines served le.served);
+          level = le.level ∙ level;
+          fronts = subst (λ (L : List LogLine). AreFronts fs L fault) (sym whole)
+              (fronts_left ls cs0 cs xs fs G le.lines fault fresh t to of le.stations le.front
+              named);
+        }
+
+    pub ends_after : (fault : ServeFault) → EndsLanes holding b c cs xs log1 log2 fault
+        → AfterFault holding a c fs log2 fault
+    ends_after faults.NoMemory (inl st) = inl (stops_both faults.NoMemory tt st)
+    ends_after faults.NoMemory (inr le) = inr (leaves_both faults.NoMemory tt le)
+    ends_after faults.Store h = (stops_both faults.Store tt h.0, h.1)
+    ends_after (faults.Unfinished s) h = leaves_both (faults.Unfinished s)
+        (let e = rings_count ls cs0 cs xs fs to of in let lt = h.1 in omega (arith, e, lt)) h.0

@@ -10,7 +10,7 @@ use Rattle.serve_core.specs.declared.item.Item.{Item}
 use Rattle.serve_core.specs.declared.item.LogLine.{LogLine}
 use Rattle.serve_core.specs.declared.lane.LaneEnd.{LaneEnd}
 use Rattle.serve_core.specs.Logs.{items_of, Ascends, AreOfStations, IsLineOf}
-use Rattle.serve_core.specs.Lanes.{Ring, received_is, received_of, ended_of, received_at, ended_at, end_items, Begins, AreOf, TakesOf, TakesSomeOf, Takes, TakesSome, TakesLeft, TakesFront, IsEndOn, SameEnds}
+use Rattle.serve_core.specs.Lanes.{Ring, received_is, received_of, ended_of, received_at, ended_at, end_items, Begins, AreOf, TakesOf, Takes, TakesSome, TakesLeft, TakesFront, IsEndOn, SameEnds}
 
 pub by_bool : {P : Type 0} → (b : Bool) → (b ≡ true → P) → (b ≡ false → P) → P
 by_bool true f g = f refl
@@ -122,29 +122,42 @@ are_of_stations count s [] lt of = All-nil (λ l. l.station < count)
 are_of_stations count s (l ∷ G) lt of = All-cons (λ l. l.station < count) l G (let e = of.0 in omega (arith, e)) (are_of_stations count s G lt of.1)
 
 -- one ring more gave its items
-pub takes_then_some : (bs cs : List Ring) (G H : List LogLine) (i : ℕ) (c d : Ring) → Takes bs cs G → i < length cs → c ≡ get_or cs i c → TakesSomeOf i c d H
+takes_stations : (bs cs : List Ring) (G H : List LogLine) (i : ℕ) → Takes bs cs G → i < length cs
+    → AreOf i H → AreOfStations (length bs) (G ++ H)
+takes_stations bs cs G H i t lt of =
+    All-append (λ l. l.station < length bs) G H t.stations
+    (are_of_stations (length bs) i H
+    (let e = zip_length SameConsumer bs cs t.rings in omega (arith, e)) of)
+
+takes_then_some : (bs cs : List Ring) (G H : List LogLine) (i : ℕ) (c d : Ring) → Takes bs cs G
+    → i < length cs → c ≡ get_or cs i c → SameConsumer c d → AreOf i H
+    → Begins (received_is c ++ items_of i H) (received_is d)
     → TakesSome bs (slice_set cs i d) (G ++ H)
-takes_then_some bs cs G H i c d t lt at h = record {
-  rings = zip_change SameConsumer bs cs i c d t.rings at (λ x p. ring_trans x c d p h.ring);
-  stations = All-append (λ l. l.station < length bs) G H t.stations (are_of_stations (length bs) i H (let e = zip_length SameConsumer bs cs t.rings in omega (arith, e)) h.of);
+takes_then_some bs cs G H i c d t lt at ring of taken = record {
+  rings = zip_change SameConsumer bs cs i c d t.rings at (λ x p. ring_trans x c d p ring);
+  stations = takes_stations bs cs G H i t lt of;
   taken = λ s. by_bool (s == i)
       (λ e. let is : i ≡ s = grind (arith, nat_tests) in
-      subst (λ (k : ℕ). Begins (received_at bs k ++ items_of k (G ++ H)) (received_at (slice_set cs i d) k)) is (h.taken.0, taken_here bs cs G H i c d h.taken.0 (t.taken i) lt at h.taken.1))
-      (λ f. let ne : s ≢ i = grind (arith, nat_tests) in ([], taken_other bs cs G H i s d (t.taken s) ne h.of ∙ sym (append-nil _)));
+      subst (λ (k : ℕ). Begins (received_at bs k ++ items_of k (G ++ H))
+      (received_at (slice_set cs i d) k)) is
+      (taken.0, taken_here bs cs G H i c d taken.0 (t.taken i) lt at taken.1))
+      (λ f. let ne : s ≢ i = grind (arith, nat_tests) in
+      ([], taken_other bs cs G H i s d (t.taken s) ne of ∙ sym (append-nil _)));
 }
 
-pub takes_then : (bs cs : List Ring) (G H : List LogLine) (i : ℕ) (c d : Ring) → Takes bs cs G → i < length cs → c ≡ get_or cs i c → TakesOf i c d H
-    → Takes bs (slice_set cs i d) (G ++ H)
-takes_then bs cs G H i c d t lt at h =
-    let some : TakesSomeOf i c d H = record { ring = h.ring; of = h.of; taken = ([], h.taken ∙ sym (append-nil _)) } in
-    let more = takes_then_some bs cs G H i c d t lt at some in record {
-      rings = more.rings;
-      stations = more.stations;
-      taken = λ s. by_bool (s == i)
-          (λ e. let is : i ≡ s = grind (arith, nat_tests) in
-          subst (λ (k : ℕ). received_at (slice_set cs i d) k ≡ received_at bs k ++ items_of k (G ++ H)) is (taken_here bs cs G H i c d [] (t.taken i) lt at (h.taken ∙ sym (append-nil _)) ∙ append-nil _))
-          (λ f. let ne : s ≢ i = grind (arith, nat_tests) in taken_other bs cs G H i s d (t.taken s) ne h.of);
-    }
+pub takes_then : (bs cs : List Ring) (G H : List LogLine) (i : ℕ) (c d : Ring) → Takes bs cs G
+    → i < length cs → c ≡ get_or cs i c → TakesOf i c d H → Takes bs (slice_set cs i d) (G ++ H)
+takes_then bs cs G H i c d t lt at h = record {
+  rings = zip_change SameConsumer bs cs i c d t.rings at (λ x p. ring_trans x c d p h.ring);
+  stations = takes_stations bs cs G H i t lt h.of;
+  taken = λ s. by_bool (s == i)
+      (λ e. let is : i ≡ s = grind (arith, nat_tests) in
+      subst (λ (k : ℕ). received_at (slice_set cs i d) k ≡ received_at bs k ++ items_of k (G ++ H))
+      is (taken_here bs cs G H i c d [] (t.taken i) lt at (h.taken ∙ sym (append-nil _))
+      ∙ append-nil _))
+      (λ f. let ne : s ≢ i = grind (arith, nat_tests) in
+      taken_other bs cs G H i s d (t.taken s) ne h.of);
+}
 
 pub takes_none : (cs : List Ring) → Takes cs cs []
 takes_none cs = record { rings = same_rings cs; stations = All-nil (λ l. l.station < length cs); taken = λ s. sym (append-nil (received_at cs s)) }
@@ -283,24 +296,16 @@ takes_after a b c G H p q = record {
       ∙ (append_assoc (received_at a s) (items_of s G) (items_of s H) ∙ ap (λ (xs : List Item). received_at a s ++ xs) (sym (items_of-append s G H))));
 }
 
-pub takes_after_some : (a b c : List Ring) (G H : List LogLine) → Takes a b G → TakesSome b c H → TakesSome a c (G ++ H)
-takes_after_some a b c G H p q = record {
-  rings = rings_after a b c p.rings q.rings;
-  stations = stations_after a b G H (zip_length SameConsumer a b p.rings) p.stations q.stations;
-  taken = λ s. (
-    (q.taken s).0,
-    (q.taken s).1 ∙ ap (λ (xs : List Item). xs ++ (q.taken s).0)
-        (ap (λ (xs : List Item). xs ++ items_of s H) (p.taken s)
-        ∙ (append_assoc (received_at a s) (items_of s G) (items_of s H) ∙ ap (λ (xs : List Item). received_at a s ++ xs) (sym (items_of-append s G H)))),
-  );
-}
+pub takes_joined : (a b : List Ring) (G H D : List LogLine) → Takes a b (G ++ (H ++ D))
+    → Takes a b ((G ++ H) ++ D)
+takes_joined a b G H D t = subst (λ (L : List LogLine). Takes a b L) (sym (append_assoc G H D)) t
 
 pub dropped_at : (bs cs : List Ring) (i : ℕ) (c d : Ring) → TakesSome bs cs [] → i < length cs → c ≡ get_or cs i c → SameConsumer c d → Begins (received_is c) (received_is d)
     → TakesSome bs (slice_set cs i d) []
 dropped_at bs cs i c d t lt at ring b =
     some_then_none bs cs (slice_set cs i d) [] t
-    (takes_then_some cs cs [] [] i c d (takes_none cs) lt at
-    (record { ring = ring; of = tt; taken = (b.0, b.1 ∙ ap (λ (xs : List Item). xs ++ b.0) (sym (append-nil (received_is c)))) }))
+    (takes_then_some cs cs [] [] i c d (takes_none cs) lt at ring tt
+    (b.0, b.1 ∙ ap (λ (xs : List Item). xs ++ b.0) (sym (append-nil (received_is c)))))
 
 -- threads joined one after another
 module _ {X Y : Type 0} (R : X → Y → Type 0) where
@@ -319,9 +324,6 @@ module _ {X Y : Type 0} (R : X → Y → Type 0) where
 
 pub takes_one : (s : ℕ) (b d : Ring) (l : LogLine) (x : Item) → SameConsumer b d → received_is d ≡ received_is b ++ x ∷ [] → IsLineOf s x l → TakesOf s b d (l ∷ [])
 takes_one s b d l x ring got line = takes_push s b b d [] l x (record { ring = ((refl, refl, refl, refl), refl); of = tt; taken = sym (append-nil (received_is b)) }) ring got line
-
-pub takes_of_some : (s : ℕ) (b d : Ring) (G : List LogLine) → TakesOf s b d G → TakesSomeOf s b d G
-takes_of_some s b d G t = record { ring = t.ring; of = t.of; taken = ([], t.taken ∙ sym (append-nil _)) }
 
 pub length_push : {X : Type 0} (xs : List X) (x : X) → length (xs ++ x ∷ []) ≡ suc (length xs)
 length_push [] x = refl

@@ -24,7 +24,7 @@ use Rattle.serve_core.specs.declared.item.LogLine.{LogLine}
 use Rattle.serve_core.specs.declared.serve_fault.ServeFault.TheVariants.{NoMemory, Store, Unfinished}
 use Rattle.serve_core.specs.Feeds.{asked_item, line_items, text_items}
 use Rattle.serve_core.specs.Lanes.{Begins}
-use Rattle.serve_core.specs.Logs.{sent_item, item_reply, log_arrivals, items_of, AreOfStations, Ascends, IsAnswered}
+use Rattle.serve_core.specs.Logs.{sent_item, item_reply, log_arrivals, items_of, AreOfStations, Ascends, IsAnswered, dropped}
 use Rattle.serve_core.specs.Wording.{logged_text}
 use Rattle.serve_core.specs.Sending.{serve_fault, CountsServe, IsOneOf, items_at, IsMerge, AreFronts}
 
@@ -197,6 +197,28 @@ stopped-fronts = record {
   front = front_of_each;
   named = tt;
 }
+
+-- with the item that met the fault they still are
+front_with_item : (s : ℕ) → s < 2
+    → Begins (items_of s (gal_moved ∷ dropped pack move_1 ∷ [])) (items_at feeds s)
+front_with_item zero lt = (ask_1 ∷ [], refl)
+front_with_item (suc zero) lt = (ask_2 ∷ [], refl)
+front_with_item (suc (suc s)) lt = absurd (omega (arith, lt))
+
+stopped-with_item : AreFronts feeds (gal_moved ∷ dropped pack move_1 ∷ []) Store
+stopped-with_item = record {
+  stations =
+      All-cons (λ (l : LogLine). l.station < 2) gal_moved (dropped pack move_1 ∷ []) gal_of_two
+      (All-cons (λ (l : LogLine). l.station < 2) (dropped pack move_1) [] pack_of_two
+      (All-nil (λ (l : LogLine). l.station < 2)));
+  front = front_with_item;
+  named = tt;
+}
+
+-- an item that isn't the next of its feed didn't meet it
+met_too_late : AreFronts feeds (gal_moved ∷ dropped pack ask_1 ∷ []) Store → ⊥
+met_too_late h = let behind =
+    h.front 0 pack_of_two in let e : move_1 ∷ ask_1 ∷ [] ≡ ask_1 ∷ behind.0 = behind.1 in cc
 
 -- what comes behind a lost item is none
 passed_over : AreFronts feeds (gal_asked ∷ []) Store → ⊥

@@ -77,12 +77,6 @@ pub record TakesOf (s : ℕ) (before after : Ring) (G : List LogLine) : Type 0 w
   pub of : AreOf s G
   pub taken : received_is after ≡ received_is before ++ items_of s G
 
--- the same, and then perhaps more, which was dropped
-pub record TakesSomeOf (s : ℕ) (before after : Ring) (G : List LogLine) : Type 0 where
-  pub ring : SameConsumer before after
-  pub of : AreOf s G
-  pub taken : Begins (received_is before ++ items_of s G) (received_is after)
-
 -- from the rings before to those after, the items of these lines were taken
 pub record Takes (before after : List Ring) (G : List LogLine) : Type 0 where
   pub rings : AllZip SameConsumer before after

@@ -1,11 +1,11 @@
 -- The log: the items that were taken, each with its reply.
-use Rattle.std.specs.Prelude.{◌≡◌, ℕ, ◌+◌, ◌<◌, ◌≤◌, ◌==◌, false, List, [], ◌∷◌, ◌++◌, filter, map, flat_map, All}
+use Rattle.std.specs.Prelude.{◌≡◌, ℕ, ◌+◌, ◌<◌, ◌≤◌, ◌==◌, ◌⊎◌, List, [], ◌∷◌, ◌++◌, filter, map, flat_map, All}
 use Rattle.hub_core.specs.declared.hub.answer.Arrival.{Arrival}
 use Rattle.nest_core.specs.Museum.{Museum}
 use Rattle.posting_core.specs.declared.entry.Entry.{Entry}
 use Rattle.hub_core.specs.Points.{posted, reply, whereabouts, IsPlaced}
 use Rattle.register_store.specs.Holdings.{Holding}
-use Rattle.hub_core.specs.StandsFor.{State, StandsFor}
+use Rattle.hub_core.specs.StandsFor.{State, StandsFor, StopsIn}
 use Rattle.serve_core.specs.declared.item.Item.{Item}
 use Rattle.serve_core.specs.declared.item.Item.TheVariants.{Scan, Ask, Bad}
 use Rattle.serve_core.specs.declared.item.Reply.{Reply}
@@ -50,16 +50,38 @@ IsPlacedReply S Unread = Unit {0}
 abbrev pub IsLineOf : ℕ → Item → LogLine → Type 0
 IsLineOf s item l = (l.station ≡ s) × (l.item ≡ item)
 
--- the hub took these lines: each is answered by looking back, and a hub that isn't down stands for all that they sent
-pub record Serves {R : Type 0} (holding : R → Holding) (before after : State R)
+-- each of these lines is answered by looking back, from the hub before them; the setup stays
+pub record Answers {R : Type 0} (holding : R → Holding) (before after : State R)
     (G : List LogLine) : Type 0 where
   pub museum : after.book.museum ≡ before.book.museum
   pub depth : after.book.depth ≡ before.book.depth
   pub placed : All (λ l. IsPlacedReply before.book.museum l.reply) G
   pub answered : (O : List Entry) (A : List Arrival) → StandsFor holding before O A
       → IsAnswered before.book.museum before.book.depth O A G
+
+-- the hub took these lines: it stands for all that they sent
+pub record Serves {R : Type 0} (holding : R → Holding) (before after : State R)
+    (G : List LogLine) : Type 0 where
+  pub answers : Answers holding before after G
   pub stands : (O : List Entry) (A : List Arrival) → StandsFor holding before O A
-      → after.down ≡ false → StandsFor holding after O (A ++ log_arrivals G)
+      → StandsFor holding after O (A ++ log_arrivals G)
+
+-- a fault met these arrivals: the hub has taken none of them, or was stopped in one
+abbrev pub Meets : {R : Type 0} → (R → Holding) → State R → List Entry → List Arrival
+    → List Arrival → Type 0
+Meets holding hub O A sent = StandsFor holding hub O A ⊎ StopsIn holding hub O A sent
+
+-- the hub took these lines, and then a fault met an item of station s: it stands for what the
+-- lines sent and has nothing of the item, or was stopped in it
+pub record ServesTo {R : Type 0} (holding : R → Holding) (before after : State R)
+    (G : List LogLine) (s : ℕ) (item : Item) : Type 0 where
+  pub answers : Answers holding before after G
+  pub meets : (O : List Entry) (A : List Arrival) → StandsFor holding before O A
+      → Meets holding after O (A ++ log_arrivals G) (sent_item s item)
+
+-- the item of station s that met a fault, as a line that no log has
+abbrev pub dropped : ℕ → Item → LogLine
+dropped s item = record { station = s; item = item; reply = Unread }
 
 -- at most one line of each station from `low` to below `high`, ascending
 abbrev pub Ascends : ℕ → ℕ → List LogLine → Type 0

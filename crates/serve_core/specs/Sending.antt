@@ -1,5 +1,5 @@
 -- What the threads hand back, and what a serving tells of its log.
-use Rattle.std.specs.Prelude.{ℕ, ◌≡◌, ◌<◌, ◌≤◌, ◌+◌, ◌-◌, ◌^◌, min, true, Option, Some, None, List, [], ◌++◌, length, slice_get, unwrap_or}
+use Rattle.std.specs.Prelude.{ℕ, ◌≡◌, ◌<◌, ◌≤◌, ◌+◌, ◌-◌, ◌^◌, min, true, Option, Some, None, ◌⊎◌, List, [], ◌∷◌, ◌++◌, length, slice_get, unwrap_or}
 use Rattle.rtrb.specs.Ring.{IsPair}
 use Rattle.hub_core.specs.declared.hub.answer.HubFault.{HubFault}
 use Rattle.hub_core.specs.declared.hub.answer.HubFault.TheVariants as hub
@@ -11,7 +11,9 @@ use Rattle.serve_core.specs.declared.ending.Room.{Room}
 use Rattle.serve_core.specs.declared.sending.Sent.{Sent}
 use Rattle.serve_core.specs.declared.serve_fault.ServeFault.{ServeFault}
 use Rattle.serve_core.specs.declared.serve_fault.ServeFault.TheVariants as serve
-use Rattle.serve_core.specs.Logs.{items_of, AreOfStations}
+use Rattle.register_store.specs.Holdings.{Holding}
+use Rattle.hub_core.specs.StandsFor.{State}
+use Rattle.serve_core.specs.Logs.{items_of, AreOfStations, Serves, ServesTo, dropped}
 use Rattle.serve_core.specs.Lanes.{Ring, received_at, sent_items, SameLane, IsEndOf, Begins}
 
 -- a front of these items went through the lane that was handed back, and all of them where it is whole
@@ -97,3 +99,61 @@ pub record AreFronts (feeds : List (List Item)) (G : List LogLine)
   pub stations : AreOfStations (length feeds) G
   pub front : (s : ℕ) → s < length feeds → Begins (items_of s G) (items_at feeds s)
   pub named : IsOneOf (length feeds) fault
+
+-- an item met the fault that ended a serving: it is the next of its feed after those in the log
+pub record Stops {R : Type 0} (holding : R → Holding) (before after : State R)
+    (feeds : List (List Item)) (G : List LogLine) (fault : ServeFault) : Type 0 where
+  pub station : ℕ
+  pub item : Item
+  pub served : ServesTo holding before after G station item
+  pub fronts : AreFronts feeds (G ++ dropped station item ∷ []) fault
+
+-- no item met the fault that ended a serving: the hub took the whole log
+pub record Leaves {R : Type 0} (holding : R → Holding) (before after : State R)
+    (feeds : List (List Item)) (G : List LogLine) (fault : ServeFault) : Type 0 where
+  pub served : Serves holding before after G
+  pub level : after.down ≡ before.down
+  pub fronts : AreFronts feeds G fault
+
+-- what a serving leaves after each fault
+abbrev pub AfterFault : {R : Type 0} → (R → Holding) → State R → State R → List (List Item)
+    → List LogLine → ServeFault → Type 0
+AfterFault holding before after feeds G serve.NoMemory =
+    Stops holding before after feeds G serve.NoMemory
+    ⊎ Leaves holding before after feeds G serve.NoMemory
+AfterFault holding before after feeds G serve.Store =
+    Stops holding before after feeds G serve.Store × (after.down ≡ true)
+AfterFault holding before after feeds G (serve.Unfinished s) =
+    Leaves holding before after feeds G (serve.Unfinished s)
+
+-- an item met the fault that ended the lanes: it is the next of its lane after those in the log
+pub record StopsLanes {R : Type 0} (holding : R → Holding) (before after : State R)
+    (cs : List Ring) (found : List Sent) (old new : List LogLine) : Type 0 where
+  pub lines : List LogLine
+  pub station : ℕ
+  pub item : Item
+  pub log : new ≡ old ++ lines
+  pub served : ServesTo holding before after lines station item
+  pub stations : AreOfStations (length cs) (lines ++ dropped station item ∷ [])
+  pub front : SentFront cs found (lines ++ dropped station item ∷ [])
+
+-- no item met the fault that ended the lanes
+pub record LeavesLanes {R : Type 0} (holding : R → Holding) (before after : State R)
+    (cs : List Ring) (found : List Sent) (old new : List LogLine) : Type 0 where
+  pub lines : List LogLine
+  pub log : new ≡ old ++ lines
+  pub served : Serves holding before after lines
+  pub level : after.down ≡ before.down
+  pub stations : AreOfStations (length cs) lines
+  pub front : SentFront cs found lines
+
+-- what ending the lanes leaves after each fault
+abbrev pub EndsLanes : {R : Type 0} → (R → Holding) → State R → State R → List Ring → List Sent
+    → List LogLine → List LogLine → ServeFault → Type 0
+EndsLanes holding before after cs found old new serve.NoMemory =
+    StopsLanes holding before after cs found old new
+    ⊎ LeavesLanes holding before after cs found old new
+EndsLanes holding before after cs found old new serve.Store =
+    StopsLanes holding before after cs found old new × (after.down ≡ true)
+EndsLanes holding before after cs found old new (serve.Unfinished s) =
+    LeavesLanes holding before after cs found old new × (s < length cs)

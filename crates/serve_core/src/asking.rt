@@ -1,11 +1,11 @@
 //! The hub asked about one item.
-ghost use Rattle.std.specs.Prelude.{◌≡◌, ◌++◌, ◌∷◌, [], List, true, false, IfOk, IsErrOf, OnOk, OnErr};
+ghost use Rattle.std.specs.Prelude.{◌≡◌, ◌++◌, ◌∷◌, [], List, true, IfOk, IsErrOf, OnOk, OnErr};
 ghost use Rattle.hub_core.specs.declared.hub.answer.Arrival.{Arrival};
 ghost use Rattle.posting_core.specs.declared.entry.Entry.{Entry};
 ghost use Rattle.hub_core.specs.Faults.{CountsStore};
 ghost use Rattle.hub_core.specs.StandsFor.{StandsFor};
 ghost use Rattle.serve_core.specs.declared.item.LogLine.{LogLine};
-ghost use Rattle.serve_core.specs.Logs.{item_reply, sent_item, IsPlacedReply, Serves, IsLineOf};
+ghost use Rattle.serve_core.specs.Logs.{item_reply, sent_item, IsPlacedReply, Meets, Serves, ServesTo, IsLineOf};
 
 use crate::{Item, LogLine, Reply};
 use hub_core::{Arrival, Hub, HubFault};
@@ -25,7 +25,10 @@ fn reply_to_item<R: Register>(
         × StandsFor R.holding hub.new O (A ++ sent_item station item)) }
     ensures level { OnOk result (hub.new.down ≡ hub.old.down) }
     ensures down { IsErrOf result HubFault.Down → hub.old.down ≡ true }
-    ensures fault { OnErr result (hub.new.down ≡ false → hub.new ≡ hub.old) }
+    ensures fault { OnErr result
+        ((O : List Entry) (A : List Arrival) → StandsFor R.holding hub.old O A →
+        Meets R.holding hub.new O A (sent_item station item)) }
+    ensures store { IsErrOf result HubFault.Store → hub.new.down ≡ true }
     ensures placed { IfOk result (IsPlacedReply hub.old.book.museum) }
     ensures count { CountsStore (R.refusals hub.old.register) (R.refusals hub.new.register) result }
     ensures museum { hub.new.book.museum ≡ hub.old.book.museum }
@@ -51,8 +54,8 @@ fn reply_to_item<R: Register>(
     }
 }
 
-/// Asks the hub an item of a station, and adds it to the log with its reply. The copy of the item and the log's room come
-/// before the hub is asked. After a fault the log is as it was.
+/// Asks the hub an item of a station, and adds it to the log with its reply. The copy of the item
+/// and the log's room come before the hub is asked. After a fault the log is as it was.
 pub(crate) fn log_item<R: Register>(
     alloc: Global,
     hub: &mut Hub<R>,
@@ -65,7 +68,9 @@ pub(crate) fn log_item<R: Register>(
         × IsLineOf station item line
         × Serves R.holding hub.old hub.new (line ∷ [])) }
     ensures fault { OnErr result
-        ((lines.new.items ≡ lines.old.items) × Serves R.holding hub.old hub.new []) }
+        ((lines.new.items ≡ lines.old.items)
+        × ServesTo R.holding hub.old hub.new [] station item) }
+    ensures store { IsErrOf result HubFault.Store → hub.new.down ≡ true }
     ensures level { OnOk result (hub.new.down ≡ hub.old.down) }
     ensures down { IsErrOf result HubFault.Down → hub.old.down ≡ true }
     ensures count { CountsStore (R.refusals hub.old.register) (R.refusals hub.new.register) result }

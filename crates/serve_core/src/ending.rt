@@ -1,5 +1,5 @@
 //! What the threads handed back, and the ends of their lanes.
-ghost use Rattle.std.specs.Prelude.{◌≡◌, ◌^◌, ◌<◌, ◌≤◌, ℕ, [], true, All, IsTrue, length, vec_len, IfNone, IfOk, IfSome};
+ghost use Rattle.std.specs.Prelude.{◌≡◌, ◌^◌, ◌<◌, ◌≤◌, ℕ, [], true, All, IsTrue, length, take, vec_len, IfNone, IfOk, IfSome};
 ghost use Rattle.std.specs.List.{AllZip};
 ghost use Rattle.rtrb.specs.Ring.{SameConsumer};
 ghost use Rattle.serve_core.specs.Lanes.{received_is, received_at, sent_items, Begins};
@@ -83,7 +83,8 @@ pub(crate) fn end_all(found: Vec<Sent>, ends: &mut Vec<LaneEnd>) -> Option<u32>
     requires few { vec_len found < 2 ^ 32 }
     requires room { (ends.old.items ≡ []) × (vec_len found ≤ ends.old.cap) }
     ensures ends { IfNone result (AllZip IsEndOfSent found.items ends.new.items) }
-    ensures missing { IfSome result (λ s. s < vec_len found) }
+    ensures missing { IfSome result
+        (λ s. (s < vec_len found) × AllZip IsEndOfSent (take s found.items) ends.new.items) }
 {
     let mut found = found;
     while !found.is_empty() {

@@ -1,11 +1,12 @@
 //! The end that takes from all lanes.
-ghost use Rattle.std.specs.Prelude.{◌≡◌, ◌^◌, ◌<◌, ◌≤◌, ◌++◌, ℕ, [], List, true, IfOk, IsErrOf, OnOk, vec_len, length};
+ghost use Rattle.std.specs.Prelude.{◌≡◌, ◌^◌, ◌<◌, ◌≤◌, ◌++◌, ◌∷◌, ℕ, [], List, true, IfOk, IsErrOf, OnOk, OnErr, vec_len, length};
 ghost use Rattle.std.specs.List.{AllZip};
 ghost use Rattle.rtrb.specs.Ring.{SameConsumer};
 ghost use Rattle.hub_core.specs.Faults.{CountsStore};
+ghost use Rattle.serve_core.specs.declared.item.Item.{Item};
 ghost use Rattle.serve_core.specs.declared.item.LogLine.{LogLine};
-ghost use Rattle.serve_core.specs.Logs.{AreOfStations, Serves, Ascends};
-ghost use Rattle.serve_core.specs.Lanes.{IsFresh, IsEndOn, Takes, TakesSome, TakesOf, TakesSomeOf, TakesFront, TakesLeft, Begins, SameEnds, end_items, ended_at, received_is, received_at};
+ghost use Rattle.serve_core.specs.Logs.{AreOfStations, Serves, ServesTo, dropped, Ascends};
+ghost use Rattle.serve_core.specs.Lanes.{IsFresh, IsEndOn, Takes, TakesSome, TakesOf, TakesFront, TakesLeft, Begins, SameEnds, end_items, ended_at, received_is, received_at};
 
 use crate::asking::log_item;
 use crate::lane::ROOM;
@@ -61,10 +62,16 @@ impl Intake {
         hub: &mut Hub<R>,
         log: &mut Log,
     ) -> Result<u32, HubFault>
-        ensures lines { (G : List LogLine) × (log.new ≡ log.old ++ G)
-            × Serves R.holding hub.old hub.new G × TakesSome self.old self.new G
-            × IfOk result
-            (λ n. Takes self.old self.new G × (n ≡ length G) × Ascends 0 (length self.old) G) }
+        ensures lines { IfOk result
+            (λ n. (G : List LogLine) × (log.new ≡ log.old ++ G)
+            × Serves R.holding hub.old hub.new G × Takes self.old self.new G
+            × (n ≡ length G) × Ascends 0 (length self.old) G) }
+        // The items of the lines were taken, and then one of a later station, which met the fault.
+        ensures fault { OnErr result
+            ((G : List LogLine) × (s : ℕ) × (item : Item) × (log.new ≡ log.old ++ G)
+            × ServesTo R.holding hub.old hub.new G s item
+            × Takes self.old self.new (G ++ dropped s item ∷ []) × Ascends 0 s G) }
+        ensures store { IsErrOf result HubFault.Store → hub.new.down ≡ true }
         ensures level { OnOk result (hub.new.down ≡ hub.old.down) }
         ensures down { IsErrOf result HubFault.Down → hub.old.down ≡ true }
         ensures count { CountsStore (R.refusals hub.old.register)
@@ -91,9 +98,18 @@ impl Intake {
         ends: Vec<LaneEnd>,
     ) -> Result<(), HubFault>
         requires { AllZip IsEndOn ends.items self }
-        ensures lines { (G : List LogLine) × (log.new ≡ log.old ++ G)
+        ensures lines { OnOk result
+            ((G : List LogLine) × (log.new ≡ log.old ++ G)
             × Serves R.holding hub.old hub.new G × AreOfStations (length self) G
-            × TakesFront self ends.items G × OnOk result (TakesLeft self ends.items G) }
+            × TakesLeft self ends.items G) }
+        // The lines and then the item that met the fault are the beginning of what was left in each
+        // lane.
+        ensures fault { OnErr result
+            ((G : List LogLine) × (s : ℕ) × (item : Item) × (log.new ≡ log.old ++ G)
+            × ServesTo R.holding hub.old hub.new G s item
+            × AreOfStations (length self) (G ++ dropped s item ∷ [])
+            × TakesFront self ends.items (G ++ dropped s item ∷ [])) }
+        ensures store { IsErrOf result HubFault.Store → hub.new.down ≡ true }
         ensures level { OnOk result (hub.new.down ≡ hub.old.down) }
         ensures down { IsErrOf result HubFault.Down → hub.old.down ≡ true }
         ensures count { CountsStore (R.refusals hub.old.register)
@@ -144,11 +160,15 @@ fn turn_all<R: Register>(
     lines: &mut Vec<LogLine>,
 ) -> Result<u32, HubFault>
     requires { vec_len rings.old < 2 ^ 32 }
-    ensures lines { (G : List LogLine) × (lines.new.items ≡ lines.old.items ++ G)
-        × Serves R.holding hub.old hub.new G × TakesSome rings.old.items rings.new.items G
-        × IfOk result
-        (λ n. Takes rings.old.items rings.new.items G × (n ≡ length G)
-        × Ascends 0 (vec_len rings.old) G) }
+    ensures lines { IfOk result
+        (λ n. (G : List LogLine) × (lines.new.items ≡ lines.old.items ++ G)
+        × Serves R.holding hub.old hub.new G × Takes rings.old.items rings.new.items G
+        × (n ≡ length G) × Ascends 0 (vec_len rings.old) G) }
+    ensures fault { OnErr result
+        ((G : List LogLine) × (s : ℕ) × (item : Item) × (lines.new.items ≡ lines.old.items ++ G)
+        × ServesTo R.holding hub.old hub.new G s item
+        × Takes rings.old.items rings.new.items (G ++ dropped s item ∷ []) × Ascends 0 s G) }
+    ensures store { IsErrOf result HubFault.Store → hub.new.down ≡ true }
     ensures few { vec_len rings.new ≡ vec_len rings.old }
     ensures level { OnOk result (hub.new.down ≡ hub.old.down) }
     ensures down { IsErrOf result HubFault.Down → hub.old.down ≡ true }
@@ -169,9 +189,15 @@ fn take_one<R: Register>(
     station: u32,
     lines: &mut Vec<LogLine>,
 ) -> Result<u32, HubFault>
-    ensures lines { (G : List LogLine) × (lines.new.items ≡ lines.old.items ++ G)
-        × Serves R.holding hub.old hub.new G × TakesSomeOf station ring.old ring.new G
-        × IfOk result (λ n. TakesOf station ring.old ring.new G × (n ≡ length G) × (n ≤ 1)) }
+    ensures lines { IfOk result
+        (λ n. (G : List LogLine) × (lines.new.items ≡ lines.old.items ++ G)
+        × Serves R.holding hub.old hub.new G × TakesOf station ring.old ring.new G
+        × (n ≡ length G) × (n ≤ 1)) }
+    ensures fault { OnErr result
+        ((item : Item) × (lines.new.items ≡ lines.old.items)
+        × ServesTo R.holding hub.old hub.new [] station item
+        × TakesOf station ring.old ring.new (dropped station item ∷ [])) }
+    ensures store { IsErrOf result HubFault.Store → hub.new.down ≡ true }
     ensures level { OnOk result (hub.new.down ≡ hub.old.down) }
     ensures down { IsErrOf result HubFault.Down → hub.old.down ≡ true }
     ensures count { CountsStore (R.refusals hub.old.register) (R.refusals hub.new.register) result }
@@ -195,9 +221,15 @@ fn take_left<R: Register>(
 ) -> Result<(), HubFault>
     requires few { vec_len rings.old < 2 ^ 32 }
     requires ends { AllZip IsEndOn ends.old.items rings.old.items }
-    ensures lines { (G : List LogLine) × (lines.new.items ≡ lines.old.items ++ G)
-        × Serves R.holding hub.old hub.new G × TakesSome rings.old.items rings.new.items G
-        × OnOk result (TakesLeft rings.old.items ends.old.items G) }
+    ensures lines { OnOk result
+        ((G : List LogLine) × (lines.new.items ≡ lines.old.items ++ G)
+        × Serves R.holding hub.old hub.new G × Takes rings.old.items rings.new.items G
+        × TakesLeft rings.old.items ends.old.items G) }
+    ensures fault { OnErr result
+        ((G : List LogLine) × (s : ℕ) × (item : Item) × (lines.new.items ≡ lines.old.items ++ G)
+        × ServesTo R.holding hub.old hub.new G s item
+        × Takes rings.old.items rings.new.items (G ++ dropped s item ∷ [])) }
+    ensures store { IsErrOf result HubFault.Store → hub.new.down ≡ true }
     ensures ends { AllZip IsEndOn ends.new.items rings.new.items
         × SameEnds ends.old.items ends.new.items }
     ensures level { OnOk result (hub.new.down ≡ hub.old.down) }
@@ -220,10 +252,15 @@ fn drain<R: Register>(
     lines: &mut Vec<LogLine>,
 ) -> Result<(), HubFault>
     requires { IsEndOn end.old ring.old }
-    ensures lines { (G : List LogLine) × (lines.new.items ≡ lines.old.items ++ G)
-        × Serves R.holding hub.old hub.new G × TakesSomeOf station ring.old ring.new G
-        × OnOk result
-        (TakesOf station ring.old ring.new G × (received_is ring.new ≡ end_items end.old)) }
+    ensures lines { OnOk result
+        ((G : List LogLine) × (lines.new.items ≡ lines.old.items ++ G)
+        × Serves R.holding hub.old hub.new G × TakesOf station ring.old ring.new G
+        × (received_is ring.new ≡ end_items end.old)) }
+    ensures fault { OnErr result
+        ((G : List LogLine) × (item : Item) × (lines.new.items ≡ lines.old.items ++ G)
+        × ServesTo R.holding hub.old hub.new G station item
+        × TakesOf station ring.old ring.new (G ++ dropped station item ∷ [])) }
+    ensures store { IsErrOf result HubFault.Store → hub.new.down ≡ true }
     ensures end { IsEndOn end.new ring.new × (end_items end.new ≡ end_items end.old) }
     ensures level { OnOk result (hub.new.down ≡ hub.old.down) }
     ensures down { IsErrOf result HubFault.Down → hub.old.down ≡ true }

@@ -3,9 +3,9 @@ ghost use Rattle.std.specs.Prelude.{◌≡◌, ◌<◌, ◌≤◌, ◌++◌, ◌
 ghost use Rattle.std.specs.List.{AllZip};
 ghost use Rattle.serve_core.specs.declared.item.LogLine.{LogLine};
 ghost use Rattle.serve_core.specs.declared.serve_fault.ServeFault.TheVariants as faults;
-ghost use Rattle.serve_core.specs.Logs.{Serves, AreOfStations};
+ghost use Rattle.serve_core.specs.Logs.{Answers, Serves, AreOfStations};
 ghost use Rattle.serve_core.specs.Lanes.{IsFresh};
-ghost use Rattle.serve_core.specs.Sending.{CountsServe, IsMerge, AreFronts, IsSentTo, HasRoom, SentFront, SentWhole, IsOneOf};
+ghost use Rattle.serve_core.specs.Sending.{CountsServe, IsMerge, AreFronts, AfterFault, EndsLanes, IsSentTo, HasRoom, SentWhole};
 
 use crate::ending::{Room, are_whole, end_all};
 use crate::intake::lanes;
@@ -52,7 +52,11 @@ pub fn serve<
     ensures served { IfOk result (λ s. Serves R.holding hub s.hub s.log) }
     ensures up { IfOk result (λ s. s.hub.down ≡ false) }
     ensures fronts { IfErr result (λ f. AreFronts (map F.items feeds.items) f.log f.fault) }
-    ensures answered { IfErr result (λ f. Serves R.holding hub f.hub f.log) }
+    ensures answered { IfErr result (λ f. Answers R.holding hub f.hub f.log) }
+    // The log has what the hub took, except the item that met the fault, if one did. The hub has
+    // nothing of that item, or was stopped in it, as always after Store.
+    ensures left { IfErr result
+        (λ f. AfterFault R.holding hub f.hub (map F.items feeds.items) f.log f.fault) }
     ensures uncounted { IfOk result (λ s. R.refusals s.hub.register ≡ R.refusals hub.register) }
     ensures counted { IfErr result
         (λ f. CountsServe (R.refusals hub.register) (R.refusals f.hub.register) f.fault) }
@@ -74,8 +78,9 @@ fn serve_all<
     requires feeds { vec_len feeds ≡ length hub.old.book.museum.stations }
     requires log { log.old ≡ [] }
     ensures merge { OnOk result (IsMerge (map F.items feeds.items) log.new) }
-    ensures fronts { IfErr result (AreFronts (map F.items feeds.items) log.new) }
-    ensures served { Serves R.holding hub.old hub.new log.new }
+    ensures served { OnOk result (Serves R.holding hub.old hub.new log.new) }
+    ensures left { IfErr result
+        (AfterFault R.holding hub.old hub.new (map F.items feeds.items) log.new) }
     ensures level { OnOk result (hub.new.down ≡ hub.old.down) }
     ensures uncounted { OnOk result (R.refusals hub.new.register ≡ R.refusals hub.old.register) }
     ensures counted { IfErr result
@@ -140,10 +145,10 @@ fn take_all<R: Register, F: Feed, T: Threads + Wait>(
     requires log { log.old ≡ [] }
     ensures merge { OnOk result
         (IsMerge (map F.items (map (λ h. h.promise.feed.value) prepared.children.items)) log.new) }
-    ensures fronts { IfErr result
-        (AreFronts (map F.items (map (λ h. h.promise.feed.value) prepared.children.items))
-        log.new) }
-    ensures served { Serves R.holding hub.old hub.new log.new }
+    ensures served { OnOk result (Serves R.holding hub.old hub.new log.new) }
+    ensures left { IfErr result
+        (AfterFault R.holding hub.old hub.new
+        (map F.items (map (λ h. h.promise.feed.value) prepared.children.items)) log.new) }
     ensures level { OnOk result (hub.new.down ≡ hub.old.down) }
     ensures uncounted { OnOk result (R.refusals hub.new.register ≡ R.refusals hub.old.register) }
     ensures counted { IfErr result
@@ -180,12 +185,12 @@ fn finish_all<R: Register>(
     requires lanes { AllZip IsSentTo room.found.items intake }
     requires few { vec_len room.found < 2 ^ 32 }
     requires ends { (room.ends.items ≡ []) × (vec_len room.found ≤ room.ends.cap) }
-    ensures lines { (G : List LogLine) × (log.new ≡ log.old ++ G)
+    ensures lines { OnOk result
+        ((G : List LogLine) × (log.new ≡ log.old ++ G)
         × Serves R.holding hub.old hub.new G × AreOfStations (length intake) G
-        × SentFront intake room.found.items G
-        × OnOk result
-        (All (λ sent. sent.whole ≡ true) room.found.items × SentWhole intake room.found.items G) }
-    ensures missing { IfErr result (IsOneOf (length intake)) }
+        × All (λ sent. sent.whole ≡ true) room.found.items × SentWhole intake room.found.items G) }
+    ensures left { IfErr result
+        (EndsLanes R.holding hub.old hub.new intake room.found.items log.old log.new) }
     ensures level { OnOk result (hub.new.down ≡ hub.old.down) }
     ensures uncounted { OnOk result (R.refusals hub.new.register ≡ R.refusals hub.old.register) }
     ensures counted { IfErr result

@@ -1,8 +1,9 @@
 //! Turning until the threads have ended.
-ghost use Rattle.std.specs.Prelude.{◌≡◌, List, [], ◌++◌, vec_len, OnOk};
+ghost use Rattle.std.specs.Prelude.{◌≡◌, ℕ, List, [], ◌∷◌, ◌++◌, true, vec_len, IsErrOf, OnOk, OnErr};
 ghost use Rattle.hub_core.specs.Faults.{CountsStore};
+ghost use Rattle.serve_core.specs.declared.item.Item.{Item};
 ghost use Rattle.serve_core.specs.declared.item.LogLine.{LogLine};
-ghost use Rattle.serve_core.specs.Logs.{Serves};
+ghost use Rattle.serve_core.specs.Logs.{Serves, ServesTo, dropped};
 ghost use Rattle.serve_core.specs.Lanes.{Takes, TakesSome};
 
 use crate::resting::rest;
@@ -41,9 +42,14 @@ pub(crate) fn turn_until<R: Register>(
     log: &mut Log,
     marks: &[Arc<AtomicBool>],
 ) -> Result<(), HubFault>
-    ensures lines { (G : List LogLine) × (log.new ≡ log.old ++ G)
-        × Serves R.holding hub.old hub.new G × TakesSome intake.old intake.new G
-        × OnOk result (Takes intake.old intake.new G) }
+    ensures lines { OnOk result
+        ((G : List LogLine) × (log.new ≡ log.old ++ G)
+        × Serves R.holding hub.old hub.new G × Takes intake.old intake.new G) }
+    ensures fault { OnErr result
+        ((G : List LogLine) × (s : ℕ) × (item : Item) × (log.new ≡ log.old ++ G)
+        × ServesTo R.holding hub.old hub.new G s item
+        × Takes intake.old intake.new (G ++ dropped s item ∷ [])) }
+    ensures store { IsErrOf result HubFault.Store → hub.new.down ≡ true }
     ensures level { OnOk result (hub.new.down ≡ hub.old.down) }
     ensures count { CountsStore (R.refusals hub.old.register) (R.refusals hub.new.register) result }
 {

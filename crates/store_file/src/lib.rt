@@ -1,14 +1,10 @@
-//! Connections to databases, shut in one place: what one holds is let go here, for all who open one.
+//! Closes connections to databases in memory: the drop of one is proved here once, for every test that
+//! opens one.
 #![tactic(auto)]
 
-use sqlite::{Connection, File, FileStore, MemStore};
+use sqlite::{Connection, MemStore};
 
-/// Shuts the connection to a database in a file.
-pub fn shut(conn: Connection<FileStore<File>>) {
-    drop(conn);
-}
-
-/// Shuts the connection to a database in memory.
+/// Closes the connection to a database in memory.
 pub fn shut_in_memory(conn: Connection<MemStore>) {
     drop(conn);
 }

@@ -96,6 +96,36 @@ pub(crate) fn run<D: Disk + Drop>(alloc: Global, files: Files<D>) -> Option<Ende
     over_files(alloc, files, Sending)
 }
 
+/// Opens a hub over the files, sends it the three messages, and closes the store. A run whose store
+/// is not closed is stopped.
+pub(crate) fn run_and_close<D: Disk + Drop>(
+    alloc: Global,
+    files: Files<D>,
+) -> Option<Ended<Sent, D>> {
+    if !files.log.may_be_used() || !files.db.may_be_used() {
+        drop(files);
+        return None;
+    }
+    match Connection::open_files(alloc, files, Options::new(7)) {
+        Ok(conn) => {
+            let (register, sent) = over(alloc, SqlRegister::adopt(conn));
+            match register.close() {
+                Ok(files) => judged(files, sent),
+                Err((_, files)) => judged(files, sent.map(unclosed)),
+            }
+        }
+        Err((_, left)) => judged(left.into_files(), Some(UNOPENED)),
+    }
+}
+
+/// The same run, with its store not closed.
+fn unclosed(sent: Sent) -> Sent {
+    Sent {
+        stopped: true,
+        ..sent
+    }
+}
+
 /// The three messages are sent to a hub over the store.
 #[derive(Clone, Copy)]
 struct Sending;

@@ -1,14 +1,15 @@
-//! Postings over a store whose disk stops at each of its calls in turn: as the program leaves the store, and as a crash of the
-//! machine does.
+//! Postings over a store whose disk stops at each of its calls in turn, the calls of closing it among
+//! them: as the program leaves the store, and as a crash of the machine does.
 
 use super::disks::{Pair, Stops, left_after, new_files};
-use super::sending::{Sent, run};
+use super::sending::{Sent, run, run_and_close};
 use std::alloc::Global;
 use std::process::Abort;
 
-/// Stops the log, or else the database, at its first call, at its second, and so on until a run isn't stopped; tells how
-/// many stops there were. After each the store is opened again, as it was left, or as a crash leaves it: each answered
-/// posting is there, perhaps the next, and the rest is taken. None where one is not so.
+/// Stops the log, or else the database, at its first call, at its second, and so on until a run that
+/// closes its store is not stopped; returns how many stops there were. After each the store is opened
+/// again, as it was left, or as a crash leaves it: each answered posting is there, perhaps the next,
+/// and the rest is taken. None if one is not so.
 fn count_stops(alloc: Global, in_log: bool, crashes: bool) -> Option<u64> {
     for calls in 0..10_000 {
         let files = new_files(alloc, Stops { in_log, calls });
@@ -19,9 +20,10 @@ fn count_stops(alloc: Global, in_log: bool, crashes: bool) -> Option<u64> {
     None
 }
 
-/// Whether a run over the files is stopped; none where a second run, over what it left, doesn't go on from there.
+/// Whether a run over the files is stopped, at its end by closing them; none if a second run, over
+/// what it left, doesn't go on from there.
 fn is_stopped(alloc: Global, files: Pair, crashes: bool) -> Option<bool> {
-    let first = run(alloc, files)?;
+    let first = run_and_close(alloc, files)?;
     let left = left_after(alloc, first.files, crashes)?;
     let second = run(alloc, left)?;
     if goes_on(first.given, second.given) {

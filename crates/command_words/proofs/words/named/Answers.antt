@@ -3,7 +3,8 @@ use Rattle.std.specs.Prelude.{find}
 use Rattle.std.specs.Str.{bytes_eq}
 use Rattle.std.specs.Option.{option_and_then}
 use Rattle.clap.specs.Words.{Text}
-use Rattle.command_words.specs.Commands.{Form, at, away, commands, contents, count, explain, history, loan, migrate}
+use Rattle.command_words.specs.Commands.{Form, at, away, commands, contents, copy, count, explain}
+use Rattle.command_words.specs.Commands.{history, loan, migrate}
 use Rattle.command_words.specs.Commands.{overdue, posted, register_app, replay, report_app, serve, stations, where_is}
 use Rattle.command_words.specs.Words.{Chooses, IsNamed, form_named, texts_of}
 use Rattle.command_words.specs.declared.command.Chosen.{Chosen}
@@ -62,6 +63,12 @@ unfolding register_app report_app
 returns-in-migrate c =
     in_arm (texts_of c.args.words.now) c.args.name.now (codes "migrate") (Some migrate) c.migrate.result
     c.requires c.in-migrate.is refl c.migrate.ensures
+
+pub returns-in-copy : goal.returns-in-copy
+unfolding register_app report_app
+returns-in-copy c =
+    in_arm (texts_of c.args.words.now) c.args.name.now (codes "copy") (Some copy) c.copy.result
+    c.requires c.in-copy.is refl c.copy.ensures
 
 pub returns-in-explain : goal.returns-in-explain
 unfolding register_app report_app

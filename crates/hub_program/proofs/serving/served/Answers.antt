@@ -5,7 +5,8 @@ use Rattle.hub_program.proofs.serving.served.Goals as goal
 
 pub write_log-told-requires-clause-stations : goal.write_log-told-requires-clause-stations
 write_log-told-requires-clause-stations g c =
-    of_stations c.args.hub.book.museum c.in-Ok.field-0.hub.book.museum c.ledger.result.now.museum c.in-Ok.ensures.served.museum (cc) _ _ (length-map c.args.feeds.items (λ f. f))
+    of_stations c.args.hub.book.museum c.in-Ok.field-0.hub.book.museum c.ledger.result.now.museum
+    c.in-Ok.ensures.served.answers.museum (cc) _ _ (length-map c.args.feeds.items (λ f. f))
     (omega (arith, c.args.feeds.ok.0, c.requires.feeds)) c.in-Ok.field-0.log c.lines.result.now (cc) c.in-Ok.ensures.merge.stations
 
 pub write_log-requires-clause-stations : goal.write_log-requires-clause-stations

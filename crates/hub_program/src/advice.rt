@@ -1,0 +1,218 @@
+//! What is known about the cause of a fault, and what its user can do: the `help:` line behind the
+//! fault's line.
+
+use crate::visible::add_quoted;
+use codes_core::{PlaceCode, ThingCode};
+use count_core::CountFault;
+use csv::{ByteRecord, ReaderBuilder};
+use nest_core::{SetupFault, field, field_count};
+use std::alloc::{AllocError, Global};
+use std::io::ErrorKind;
+
+/// The text of a `help:` line; none if nothing more is known, or if there is no memory for it.
+pub type Advice = Option<String>;
+
+/// On a file that cannot be read.
+pub fn on_file(alloc: Global, path: &str, kind: ErrorKind) -> Advice {
+    match kind {
+        ErrorKind::NotFound => format!(in alloc; "{path} does not exist").ok(),
+        ErrorKind::PermissionDenied => format!(in alloc; "{path} may not be read by you").ok(),
+        ErrorKind::IsADirectory => format!(in alloc; "{path} is a folder").ok(),
+        _ => format!(in alloc; "{path} cannot be read").ok(),
+    }
+}
+
+/// On a file that cannot be written.
+pub fn on_target(alloc: Global, path: &str, kind: ErrorKind) -> Advice {
+    match kind {
+        ErrorKind::NotFound => {
+            format!(in alloc; "the folder {} does not exist", folder_of(path)).ok()
+        }
+        ErrorKind::StorageFull | ErrorKind::QuotaExceeded | ErrorKind::FileTooLarge => {
+            format!(in alloc; "{path} cannot be written: the disk is full").ok()
+        }
+        ErrorKind::PermissionDenied | ErrorKind::ReadOnlyFilesystem => {
+            format!(in alloc; "{path} may not be written by you").ok()
+        }
+        _ => format!(in alloc; "{path} cannot be written").ok(),
+    }
+}
+
+/// The folder that a path names a file in.
+pub fn folder_of(path: &str) -> &str {
+    match path.rsplit_once('/') {
+        Some(("", _)) => "/",
+        Some((folder, _)) => folder,
+        None => ".",
+    }
+}
+
+/// On a setup file: the field at fault, and what belongs there.
+pub fn on_setup(alloc: Global, path: &str, bytes: &[u8], fault: SetupFault) -> Advice {
+    let Some(number) = fault.row() else {
+        return match fault {
+            SetupFault::NoStation => format!(in alloc; "{path} has no row station,NAME").ok(),
+            _ => on_encoding(alloc, path),
+        };
+    };
+    let row = row(alloc, bytes, number)?;
+    let mut text = format!(in alloc; "{path} row {number}: ").ok()?;
+    add_on_setup_row(&mut text, &row, fault).ok()?;
+    Some(text)
+}
+
+/// On a count list: the field at fault, and what belongs there.
+pub fn on_counts(alloc: Global, path: &str, bytes: &[u8], fault: CountFault) -> Advice {
+    let Some(number) = fault.row() else {
+        return on_encoding(alloc, path);
+    };
+    let row = row(alloc, bytes, number)?;
+    let mut text = format!(in alloc; "{path} row {number}: ").ok()?;
+    add_on_count_row(&mut text, &row, fault).ok()?;
+    Some(text)
+}
+
+/// On a file that is not UTF-8.
+fn on_encoding(alloc: Global, path: &str) -> Advice {
+    format!(in alloc; "{path} is not UTF-8 text: save it as CSV in UTF-8").ok()
+}
+
+/// Row `number` of the bytes, from 1, as `csv` gives it; none if there is no such row, or no memory
+/// for it.
+fn row(alloc: Global, bytes: &[u8], number: u64) -> Option<ByteRecord> {
+    let mut reader = ReaderBuilder::new()
+        .has_headers(false)
+        .flexible(true)
+        .from_reader(alloc, bytes);
+    let mut row = ByteRecord::new(alloc);
+    for _ in 0..number {
+        if !matches!(reader.read_byte_record(&mut row), Ok(true)) {
+            return None;
+        }
+    }
+    Some(row)
+}
+
+/// Appends what is wrong with a row of a setup.
+fn add_on_setup_row(
+    text: &mut String,
+    row: &ByteRecord,
+    fault: SetupFault,
+) -> Result<(), AllocError> {
+    match fault {
+        SetupFault::BadKind(_) => {
+            add_field(text, row, 0)?;
+            text.push_str(" is not station, place, box, own or lent")?;
+            add_separator(text, row)
+        }
+        SetupFault::BadFields(_) => {
+            add_fields(text, row)?;
+            text.push_str(": write ")?;
+            text.push_str(shape(field(row, 0)))?;
+            add_separator(text, row)
+        }
+        SetupFault::BadCode(_) => add_bad_code(text, row),
+        SetupFault::UnknownNormal(_) => {
+            add_field(text, row, 2)?;
+            text.push_str(" is in no row above: list a place before its objects")
+        }
+        SetupFault::Repeated(_) => {
+            add_field(text, row, 1)?;
+            text.push_str(" is in a row above too: delete one of them")
+        }
+        _ => {
+            add_field(text, row, 1)?;
+            text.push_str(" is one too many: 64 stations, 10000 places and 100000 things fit")
+        }
+    }
+}
+
+/// The fields that a row of a kind has.
+fn shape(kind: &[u8]) -> &'static str {
+    match str::from_utf8(kind) {
+        Ok("station") => "station,NAME",
+        Ok("place") => "place,CODE,inside or place,CODE,elsewhere",
+        Ok("box") => "box,CODE",
+        Ok("own") => "own,OBJECT,PLACE",
+        _ => "lent,OBJECT",
+    }
+}
+
+/// Appends which of a setup row's codes is wrong, and how one looks.
+fn add_bad_code(text: &mut String, row: &ByteRecord) -> Result<(), AllocError> {
+    let (at, wanted) = match str::from_utf8(field(row, 0)) {
+        Ok("station") => (1, "a station's name: 1 to 16 of A-Z, a-z, 0-9 and -"),
+        Ok("place") => (1, PLACE),
+        Ok("box") => (1, "a container's code such as C17"),
+        Ok("own") if ThingCode::parse(field(row, 1)).is_ok_and(is_own) => (2, PLACE),
+        Ok("own") => (1, "the number of an own object such as 2001.4.1"),
+        _ => (1, "the number of a borrowed object such as L1999.7"),
+    };
+    add_unlike(text, row, at, wanted)
+}
+
+/// How a place's code looks.
+const PLACE: &str = "a place's code such as S1 or S1-A";
+
+/// Whether it is an own object's code.
+fn is_own(code: ThingCode) -> bool {
+    matches!(code.kind(), codes_core::ThingKind::Own)
+}
+
+/// Appends what is wrong with a row of a count list.
+fn add_on_count_row(
+    text: &mut String,
+    row: &ByteRecord,
+    fault: CountFault,
+) -> Result<(), AllocError> {
+    match fault {
+        CountFault::BadFields(_) => {
+            add_fields(text, row)?;
+            text.push_str(": write PLACE,THING or PLACE")
+        }
+        CountFault::BadCode(_) if PlaceCode::parse(field(row, 0)).is_err() => {
+            add_unlike(text, row, 0, PLACE)?;
+            add_separator(text, row)
+        }
+        CountFault::BadCode(_) => {
+            add_unlike(text, row, 1, "a thing's code such as 2001.4.1 or C17")
+        }
+        _ => text.push_str("a list has at most 100000 rows"),
+    }
+}
+
+/// Appends that a field is not what it has to be.
+fn add_unlike(
+    text: &mut String,
+    row: &ByteRecord,
+    at: usize,
+    wanted: &str,
+) -> Result<(), AllocError> {
+    add_field(text, row, at)?;
+    text.push_str(" is not ")?;
+    text.push_str(wanted)
+}
+
+/// Appends a field in quotes.
+fn add_field(text: &mut String, row: &ByteRecord, at: usize) -> Result<(), AllocError> {
+    add_quoted(text, str::from_utf8(field(row, at)).unwrap_or(""))
+}
+
+/// Appends all fields in quotes.
+fn add_fields(text: &mut String, row: &ByteRecord) -> Result<(), AllocError> {
+    for at in 0..field_count(row) {
+        if at > 0 {
+            text.push_str(", ")?;
+        }
+        add_field(text, row, at)?;
+    }
+    Ok(())
+}
+
+/// Appends which separator the file needs, if the row seems to have another one.
+fn add_separator(text: &mut String, row: &ByteRecord) -> Result<(), AllocError> {
+    if field(row, 0).contains(&b';') || field(row, 0).contains(&b'\t') {
+        return text.push_str("; separate the fields by commas");
+    }
+    Ok(())
+}

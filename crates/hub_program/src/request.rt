@@ -1,0 +1,118 @@
+//! The report that the words ask for.
+
+use crate::fault::CommandFault;
+use crate::report::Report;
+use codes_core::{Day, LoanCode, PlaceCode, ThingCode};
+use command_words::{Chosen, Format};
+
+/// The record that a report is wanted of, and the form of its rows.
+#[derive(Clone, Copy)]
+pub struct Asked<'a> {
+    pub setup: &'a str,
+    pub store: &'a str,
+    pub format: Format,
+}
+
+/// The record that a command wants a report of, other than a count.
+pub fn asked_of<'a>(chosen: &Chosen<'a>) -> Result<Asked<'a>, CommandFault> {
+    match chosen {
+        Chosen::Overdue {
+            setup,
+            store,
+            format,
+            ..
+        }
+        | Chosen::Away {
+            setup,
+            store,
+            format,
+        }
+        | Chosen::History {
+            setup,
+            store,
+            format,
+            ..
+        }
+        | Chosen::Stations {
+            setup,
+            store,
+            format,
+        }
+        | Chosen::Where {
+            setup,
+            store,
+            format,
+            ..
+        }
+        | Chosen::Contents {
+            setup,
+            store,
+            format,
+            ..
+        }
+        | Chosen::Loan {
+            setup,
+            store,
+            format,
+            ..
+        }
+        | Chosen::At {
+            setup,
+            store,
+            format,
+            ..
+        }
+        | Chosen::Posted {
+            setup,
+            store,
+            format,
+            ..
+        } => Ok(Asked {
+            setup,
+            store,
+            format: *format,
+        }),
+        _ => Err(CommandFault::Words),
+    }
+}
+
+/// The report that a command wants, other than a count. The faults are those of a day, a code or a
+/// number.
+pub fn report(chosen: &Chosen<'_>) -> Result<Report, CommandFault> {
+    Ok(match chosen {
+        Chosen::Overdue { on, .. } => Report::Overdue(day(on)?),
+        Chosen::Away { .. } => Report::Away,
+        Chosen::History { code, .. } => Report::History(thing(code)?),
+        Chosen::Stations { .. } => Report::Stations,
+        Chosen::Where { code, .. } => Report::Where(thing(code)?),
+        Chosen::Contents { code, .. } => Report::Contents(thing(code)?),
+        Chosen::Loan { code, .. } => Report::Loan(loan(code)?),
+        Chosen::At { place: code, .. } => Report::At(place(code)?),
+        Chosen::Posted { from, .. } => Report::Posted(number(*from)?),
+        _ => return Err(CommandFault::Words),
+    })
+}
+
+fn day(text: &str) -> Result<Day, CommandFault> {
+    Day::parse(text.as_bytes()).map_err(CommandFault::Day)
+}
+
+fn thing(text: &str) -> Result<ThingCode, CommandFault> {
+    ThingCode::parse(text.as_bytes()).map_err(CommandFault::Code)
+}
+
+fn loan(text: &str) -> Result<LoanCode, CommandFault> {
+    LoanCode::parse(text.as_bytes()).map_err(CommandFault::Code)
+}
+
+fn place(text: &str) -> Result<PlaceCode, CommandFault> {
+    PlaceCode::parse(text.as_bytes()).map_err(CommandFault::Code)
+}
+
+/// The number of an entry, 1 if none is named.
+fn number(text: Option<&str>) -> Result<u64, CommandFault> {
+    match text {
+        None => Ok(1),
+        Some(text) => text.parse().map_err(|_| CommandFault::Number),
+    }
+}
