@@ -7,9 +7,9 @@ that they name, and each word. With --each only every Nth of these is tried, fro
 a run with few of them each is tried.
 
 What is answered has to be a named fault, on one line of standard error and with status 1 or 2, after whole lines of output; or
-status 0, whole lines, and nothing on standard error but notes. Words that aren't right may have the text of their reader, with status 2,
-and may ask for help. With a PEER, the plain program that bench/run builds, the answer to a session has to be the peer's, to the
-byte. It prints how many were tried, and the first that is wrong."""
+status 0, whole lines, and nothing on standard error but notes; a run with --strict may also end so with status 1. Words that aren't
+right may have the text of their reader, with status 2, and may ask for help. With a PEER, the plain program that bench/run builds,
+the answer to a session has to be the peer's, to the byte. It prints how many were tried, and the first that is wrong."""
 import os
 import pathlib
 import re
@@ -25,7 +25,7 @@ import seeds
 
 CASES = pathlib.Path(__file__).resolve().parent.parent / "cases"
 FAULT = re.compile(rb"fault [a-z]+( [A-Za-z0-9]+)?( row [0-9]+)?\n")
-LINES = re.compile(rb"([ -~]*\n)*")
+LINES = re.compile("([^\x00-\x1f\x7f\ufffd]*\n)*")  # of UTF-8, where what isn't so becomes U+FFFD
 TURNED = (b"\0", b"\xff", b'"', b"\n")
 FEW = 100  # an input with no more damages is tried with each of them
 
@@ -45,13 +45,13 @@ def answer(program, words, given, folder):
     return ended.returncode, ended.stdout, ended.stderr
 
 
-def may_be(said, of_words):
+def may_be(said, of_words, strict=False):
     status, out, errors = said
     errors = b"".join(line for line in errors.splitlines(True) if not line.startswith((b"help: ", b"note: ")))
-    if not LINES.fullmatch(out):
+    if not LINES.fullmatch(out.decode(errors="replace")):
         return of_words and status == 0 and not errors
-    if status == 0:
-        return not errors
+    if not errors and (status == 0 or (strict and status == 1 and out)):
+        return True
     if status in (1, 2) and FAULT.fullmatch(errors):
         return True
     return of_words and status == 2 and errors.startswith(b"error: ")
@@ -114,7 +114,7 @@ class Runs:
                 (folder / where).write_bytes(data)
             given = (folder / self.given).read_bytes() if (folder / self.given).exists() else b""
             said = answer(program, words, given, folder)
-        return may_be(said, of_words) or said
+        return may_be(said, of_words, b"--strict" in words) or said
 
     def run(self, program, folder):
         """The run itself, so that the next one stands on it."""
