@@ -29,8 +29,10 @@ class Impl:
         given = re.sub(r"<.*", "", trait.partition("<")[2].strip().rstrip(">")).split("::")
         # a drop is the type's own
         self.name = whole(of) + bare(trait).removesuffix("Drop") + "".join(it[:1].upper() + it[1:] for it in given)
-        if not trait and lines[0].startswith("impl "):
-            self.name = "+".join(re.findall(r"\w+", of))
+        words, given = re.findall(r"\w+", of), re.match(r"impl\s*(<(?:[^<>]|<[^<>]*>)*>)?", head)[1] or ""
+        # a type's arguments are in its name, if they are more than the impl's own parameters
+        if not trait and len(words) > 1 and words[1] not in re.findall(r"\w+", given):
+            self.name = "+".join(words)
         self.is_of_trait = bool(trait)
 
 
