@@ -1,10 +1,10 @@
 //! A connection that is asked nothing more once a statement has failed.
-ghost use Rattle.std.specs.Prelude.{◌≡◌, ◌≢◌, ◌⊎◌, true, Some, Err, reverse, All, IsNone, IfOk, IfErr, OnOk, OnErr};
+ghost use Rattle.std.specs.Prelude.{◌≡◌, ◌≢◌, ◌⊎◌, true, Some, Err, reverse, All, IsNone, is_some, IfOk, IfErr, OnOk, OnErr};
 ghost use Rattle.std.specs.Bool.{Decides};
 ghost use Rattle.sqlite.specs.Held.{state};
 ghost use Rattle.sqlite.specs.State.{HasCleanDisk};
 ghost use Rattle.register_store.specs.Holdings.{Each, Has, Comes, IsPosted, IsBound, IsNotBound};
-ghost use Rattle.register_store.specs.Registers.{is_failure, is_of_listing, IsOfStation, IsListFault};
+ghost use Rattle.register_store.specs.Registers.{Stops, is_failure, is_of_listing, IsOfStation, IsListFault};
 ghost use Rattle.register_store.specs.StoredRows.{AreSame, HasList, HasRows, IsBoundTo};
 ghost use Rattle.register_sql.specs.Binding.{IsNewness, IsUnfitFor};
 ghost use Rattle.register_sql.specs.Migrating.{Migrates, IsNotMigrated, IsCompleted, IsUnfit};
@@ -22,7 +22,7 @@ use sqlite::{Alter, Connection, Error, ErrorCode};
 use std::alloc::Global;
 
 /// A connection, whether a setup is bound to its store, and the error of the statement that failed. A failure may close
-/// the connection, which then shows nothing: it gets no further statement, and each call returns that error's fault.
+/// the connection, which then shows nothing: it gets no further statement, and each call returns Store.
 pub(crate) struct Link<S: Alter> {
     pub(crate) conn: Connection<S>,
     pub(crate) bound: bool,
@@ -76,9 +76,10 @@ pub(crate) fn bind_store<S: Alter>(
         → result ≡ Err StoreFault.Store → IsUnfitFor setup.now (state S.Store link.old.conn).now }
     ensures ready { OnOk result (link.new.bound ≡ true) }
     ensures not_ready { OnErr result (link.new.bound ≡ link.old.bound) }
+    ensures stops { Stops (is_some link.old.stopped) (is_some link.new.stopped) result }
 {
-    if let Some(error) = link.stopped {
-        return Err(fault_of(error));
+    if let Some(_) = link.stopped {
+        return Err(StoreFault::Store);
     }
     match bind(alloc, &mut link.conn, setup) {
         Ok(Ok(depth)) => {
@@ -100,9 +101,11 @@ pub(crate) fn store_is_new<S: Alter>(alloc: Global, link: &mut Link<S>) -> Resul
     ensures unchanged { Comes (in_store (state S.Store link.old.conn))
         (in_store (state S.Store link.new.conn)) AreSame }
     ensures still { link.new.bound ≡ link.old.bound }
+    ensures stops { Stops (is_some link.old.stopped) (is_some link.new.stopped) result }
+    ensures store { result ≡ Err StoreFault.Store → is_some link.new.stopped ≡ true }
 {
-    if let Some(error) = link.stopped {
-        return Err(fault_of(error));
+    if let Some(_) = link.stopped {
+        return Err(StoreFault::Store);
     }
     match is_new(alloc, &mut link.conn) {
         Ok(Ok(new)) => Ok(new),
@@ -130,9 +133,10 @@ pub(crate) fn migrate_store<S: Alter>(
     ensures unfit { HasCleanDisk (state S.Store link.new.conn) → IsNone link.new.stopped
         → result ≡ Err StoreFault.Store → IsUnfit setup.now (state S.Store link.old.conn).now }
     ensures still { link.new.bound ≡ link.old.bound }
+    ensures stops { Stops (is_some link.old.stopped) (is_some link.new.stopped) result }
 {
-    if let Some(error) = link.stopped {
-        return Err(fault_of(error));
+    if let Some(_) = link.stopped {
+        return Err(StoreFault::Store);
     }
     match migrate(alloc, &mut link.conn, setup) {
         Ok(answer) => answer,
@@ -159,9 +163,11 @@ pub(crate) fn list_store<S: Alter>(
     ensures unchanged { Comes (in_store (state S.Store link.old.conn))
         (in_store (state S.Store link.new.conn)) AreSame }
     ensures still { link.new.bound ≡ link.old.bound }
+    ensures stops { Stops (is_some link.old.stopped) (is_some link.new.stopped) result }
+    ensures store { result ≡ Err StoreFault.Store → is_some link.new.stopped ≡ true }
 {
-    if let Some(error) = link.stopped {
-        return Err(fault_of(error));
+    if let Some(_) = link.stopped {
+        return Err(StoreFault::Store);
     }
     match list(alloc, &mut link.conn, stations) {
         Ok(answer) => answer,
@@ -186,9 +192,11 @@ pub(crate) fn post_to_store<S: Alter>(
         (λ c d. AreSame c d ⊎ IsPosted entry.now changes.now c d)) }
     ensures faults { IfErr result (λ fault. is_failure fault ≡ true) }
     ensures still { link.new.bound ≡ link.old.bound }
+    ensures stops { Stops (is_some link.old.stopped) (is_some link.new.stopped) result }
+    ensures store { result ≡ Err StoreFault.Store → is_some link.new.stopped ≡ true }
 {
-    if let Some(error) = link.stopped {
-        return Err(fault_of(error));
+    if let Some(_) = link.stopped {
+        return Err(StoreFault::Store);
     }
     let row = match row_of(alloc, changes.entry, entry) {
         Ok(row) => row,
@@ -215,9 +223,10 @@ pub(crate) fn store_agrees<S: Alter>(
     ensures unchanged { Comes (in_store (state S.Store link.old.conn))
         (in_store (state S.Store link.new.conn)) AreSame }
     ensures still { link.new.bound ≡ link.old.bound }
+    ensures stops { Stops (is_some link.old.stopped) (is_some link.new.stopped) result }
 {
-    if let Some(error) = link.stopped {
-        return Err(fault_of(error));
+    if let Some(_) = link.stopped {
+        return Err(StoreFault::Store);
     }
     match agrees(alloc, &mut link.conn, ledger) {
         Ok(answer) => answer,

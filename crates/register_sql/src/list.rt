@@ -107,6 +107,7 @@ pub(crate) fn list<S: Alter>(
     ensures stationed { IfOk result
         (λ answer. IfOk answer (λ entries. All (IsOfStation stations) entries.items)) }
     ensures faults { IfOk result (λ answer. IfErr answer (λ fault. is_of_listing fault ≡ true)) }
+    ensures not_store { IfOk result (λ answer. IfErr answer (λ fault. fault ≢ StoreFault.Store)) }
     ensures cause { HasCleanDisk (state S.Store conn.new)
         → IfOk result (λ answer. IfErr answer (λ fault.
         (c : stored.Content) → AreRows (state S.Store conn.old).now.trees c

@@ -8,7 +8,7 @@ ghost use Rattle.sqlite.specs.State.{HasCleanDisk, store_error};
 ghost use Rattle.sqlite.specs.Opening.{is_open_error};
 ghost use Rattle.sqlite.specs.Steps.{over_memory};
 ghost use Rattle.register_store.specs.Holdings.{Has, Comes, IsBound, IsNotBound};
-ghost use Rattle.register_store.specs.Registers.{is_failure, CountsRefusal};
+ghost use Rattle.register_store.specs.Registers.{is_failure, CountsRefusal, Stops};
 ghost use Rattle.register_store.specs.StoredRows.{AreSame, IsBoundTo};
 ghost use Rattle.register_sql.specs.Binding.{IsNewness, IsSettled, IsUnfitFor};
 ghost use Rattle.register_sql.specs.Migrating.{Migrates, IsNotMigrated, IsCompleted, IsUnfit};
@@ -31,8 +31,8 @@ use sqlite_disk::Disk;
 use std::alloc::Global;
 use std::marker::Model;
 
-/// A register whose rows are in a database, behind a connection. Once a statement has failed, the register asks nothing
-/// more of the connection, and returns the fault of that error again.
+/// A register whose rows are in a database, behind a connection. Once a statement has failed, the register has stopped: it
+/// sends the connection nothing more, and each call returns Store.
 pub struct SqlRegister<S: Alter> {
     link: Link<S>,
     stations: u32,
@@ -196,6 +196,7 @@ impl<S: Alter> SqlRegister<S> {
         ensures still { (self.new.bound ≡ self.old.bound)
             × (self.new.stations ≡ self.old.stations) }
         ensures count { CountsRefusal self.old.refusals self.new.refusals result }
+        ensures stops { Stops self.old.stopped self.new.stopped result }
     {
         let answer = migrate_store(alloc, &mut self.link, setup);
         self.refusals = recount(self.refusals, &answer);
@@ -213,6 +214,8 @@ impl<S: Alter> SqlRegister<S> {
         ensures still { (self.new.bound ≡ self.old.bound)
             × (self.new.stations ≡ self.old.stations) }
         ensures count { CountsRefusal self.old.refusals self.new.refusals result }
+        ensures stops { Stops self.old.stopped self.new.stopped result }
+        ensures store { result ≡ Err StoreFault.Store → self.new.stopped ≡ true }
     {
         let answer = store_is_new(alloc, &mut self.link);
         self.refusals = recount(self.refusals, &answer);
@@ -260,6 +263,8 @@ impl<S: Alter> Register for SqlRegister<S> {
 
     ghost refusals = { λ r. r.refusals };
 
+    ghost is_stopped = { λ r. r.stopped };
+
     ghost can_refuse = { true };
 
     /// As for each register; and where no statement has failed, Store comes only of a store that is unfit for the setup.
@@ -277,6 +282,7 @@ impl<S: Alter> Register for SqlRegister<S> {
         ensures not_ready { OnErr result
             ((self.new.bound ≡ self.old.bound) × (self.new.stations ≡ self.old.stations)) }
         ensures count { CountsRefusal self.old.refusals self.new.refusals result }
+        ensures stops { Stops self.old.stopped self.new.stopped result }
         ensures unfit { HasCleanDisk (state S.Store self.new.conn) → self.new.stopped ≡ false
             → result ≡ Err StoreFault.Store → IsUnfitFor setup.now (state S.Store self.old.conn).now }
     {

@@ -1,5 +1,5 @@
 -- What a register promises of its faults and of what they leave.
-use Rattle.std.specs.Prelude.{ℕ, pos, ◌≡◌, ◌+◌, ◌-◌, ◌^◌, ◌<◌, ◌≤◌, ◌&&◌, min, Bool, true, false, not, List, [], ◌∷◌, ◌++◌, length, reverse, All, Result, Ok, Err, codes}
+use Rattle.std.specs.Prelude.{ℕ, pos, ◌≡◌, ◌+◌, ◌-◌, ◌^◌, ◌<◌, ◌≤◌, ◌&&◌, min, Bool, true, false, not, List, [], ◌∷◌, ◌++◌, length, reverse, All, Result, Ok, Err, OnOk, IfErr, codes}
 use Rattle.std.specs.List.{list_any}
 use Rattle.std.specs.List.Sorted.{IsPermutation, IsSortedByKey}
 use Rattle.std.specs.Ordering.{int_cmp, int_eq}
@@ -27,6 +27,13 @@ is_failure Store = true
 is_failure OtherSetup = false
 is_failure (Damaged at) = false
 is_failure OtherVersion = false
+
+-- Whether a register has stopped, before and after a call that returns this. A stopped register stays so and returns Store; after
+-- an Ok it runs; and it stops only with NoMemory or Store.
+pub record Stops {T : Type 0} (old new : Bool) (r : Result T StoreFault) : Type 0 where
+  pub going : OnOk r (new ≡ false)
+  pub stays : old ≡ true → (r ≡ Err Store) × (new ≡ true)
+  pub cause : new ≡ true → IfErr r (λ fault. is_failure fault ≡ true)
 
 -- what only a store outside can answer
 abbrev pub is_of_store : StoreFault → Bool

@@ -113,6 +113,8 @@ impl Register for PlainRegister {
 
     ghost refusals = { λ r. 0 };
 
+    ghost is_stopped = { λ r. false };
+
     ghost can_refuse = { false };
 
     fn bind(&mut self, alloc: Global, setup: &Setup) -> Result<u32, StoreFault> {

@@ -1,8 +1,8 @@
 //! What keeps a posted list.
-ghost use Rattle.std.specs.Prelude.{◌≡◌, ◌⊎◌, ℕ, Bool, true, length, reverse, All, IfOk, IfErr, OnOk, OnErr};
+ghost use Rattle.std.specs.Prelude.{◌≡◌, ◌⊎◌, ℕ, Bool, true, Err, length, reverse, All, IfOk, IfErr, OnOk, OnErr};
 ghost use Rattle.std.specs.Bool.{Decides};
 ghost use Rattle.register_store.specs.StoredRows.{AreSame, IsBoundTo, HasList, HasRows};
-ghost use Rattle.register_store.specs.Registers.{CountsRefusal, is_failure, is_of_store, is_of_listing, IsOfStation, IsListFault};
+ghost use Rattle.register_store.specs.Registers.{CountsRefusal, Stops, is_failure, is_of_store, is_of_listing, IsOfStation, IsListFault};
 ghost use Rattle.register_store.specs.Holdings.{Holding, Each, Has, Comes, IsPosted, IsBound, IsNotBound};
 
 use crate::StoreFault;
@@ -29,6 +29,9 @@ pub trait Register {
     /// How often it has answered Store, up to the last number of 64 bits.
     ghost refusals: { Self → ℕ };
 
+    /// It has stopped: its store failed a call, and it returns Store from then on.
+    ghost is_stopped: { Self → Bool };
+
     /// Such a register can answer Store and OtherVersion.
     ghost can_refuse: { Bool };
 
@@ -46,6 +49,7 @@ pub trait Register {
         ensures not_ready { OnErr result
             ((is_bound self.new ≡ is_bound self.old) × (stations self.new ≡ stations self.old)) }
         ensures count { CountsRefusal (refusals self.old) (refusals self.new) result }
+        ensures stops { Stops (is_stopped self.old) (is_stopped self.new) result }
         ensures able { IfErr result (λ fault. is_of_store fault ≡ true → can_refuse ≡ true) };
 
     /// All entries, oldest first. Damaged(i) for the least i, in the order of the rows' numbers, whose row hasn't
@@ -62,6 +66,8 @@ pub trait Register {
         ensures unchanged { Comes (holding self.old) (holding self.new) AreSame }
         ensures still { (is_bound self.new ≡ true) × (stations self.new ≡ stations self.old) }
         ensures count { CountsRefusal (refusals self.old) (refusals self.new) result }
+        ensures stops { Stops (is_stopped self.old) (is_stopped self.new) result }
+        ensures store { result ≡ Err StoreFault.Store → is_stopped self.new ≡ true }
         ensures able { IfErr result (λ fault. is_of_store fault ≡ true → can_refuse ≡ true) };
 
     /// Adds an entry and the spots of its changes, and puts their lines and the last day that it gives a loan in the
@@ -76,9 +82,12 @@ pub trait Register {
         ensures faults { IfErr result (λ fault. is_failure fault ≡ true) }
         ensures still { (is_bound self.new ≡ true) × (stations self.new ≡ stations self.old) }
         ensures count { CountsRefusal (refusals self.old) (refusals self.new) result }
+        ensures stops { Stops (is_stopped self.old) (is_stopped self.new) result }
+        ensures store { result ≡ Err StoreFault.Store → is_stopped self.new ≡ true }
         ensures able { IfErr result (λ fault. is_of_store fault ≡ true → can_refuse ≡ true) };
 
-    /// Whether the rows of spots, of lines and of last days are exactly those of the ledger.
+    /// Whether the rows of spots, of lines and of last days are exactly those of the ledger. Store may also mean that
+    /// two of these rows have one key.
     fn agrees(&mut self, alloc: Global, ledger: &Ledger) -> Result<bool, StoreFault>
         requires { is_bound self.old ≡ true }
         ensures told { IfOk result
@@ -88,5 +97,6 @@ pub trait Register {
         ensures unchanged { Comes (holding self.old) (holding self.new) AreSame }
         ensures still { (is_bound self.new ≡ true) × (stations self.new ≡ stations self.old) }
         ensures count { CountsRefusal (refusals self.old) (refusals self.new) result }
+        ensures stops { Stops (is_stopped self.old) (is_stopped self.new) result }
         ensures able { IfErr result (λ fault. is_of_store fault ≡ true → can_refuse ≡ true) };
 }
