@@ -1,4 +1,5 @@
--- Civil days (2024-05-01), each seen as its number from 1970-01-01.
+-- Defines days of the calendar (2024-05-01), their text, and their number: days from 1970-01-01,
+-- which is 0. The calendar is the proleptic Gregorian one of ISO 8601, in the years 1 to 9999.
 use Rattle.std.specs.Prelude.{ℕ, zero, suc, ℤ, pos, negsuc, ◌-ℤ◌, unsigned_abs, ◌≡◌, ◌+◌, ◌/◌, ◌%◌, ◌&&◌, ◌==◌, if◌then◌else◌, Bool, nat_lt, nat_le, List, [], ◌∷◌, ◌++◌, length, take, drop, slice_index, slice_range, Option, None}
 use Rattle.std.specs.Char.{is_ascii_digit}
 use Rattle.std.specs.List.{list_all}
@@ -7,7 +8,7 @@ use Rattle.codes_core.specs.declared.fault.CodeFault.{CodeFault}
 use Rattle.codes_core.specs.declared.fault.CodeFault.TheVariants.{NoSuchDay}
 use Rattle.codes_core.specs.Grammar.{number_of, code_fault}
 
--- four digits, a dash, two digits, a dash, two digits
+-- YYYY-MM-DD: four digits, a dash, two digits, a dash, two digits.
 abbrev pub is_day_shape : List ℕ → Bool
 is_day_shape text =
     (length text == 10) && list_all is_ascii_digit (take 4 text) && (slice_index text 4 == 45)
@@ -23,53 +24,56 @@ month_of text = number_of (slice_range text 5 7)
 abbrev pub date_of : List ℕ → ℕ
 date_of text = number_of (drop 8 text)
 
--- the calendar has this day, in the years 1 to 9999
+-- The calendar has this day, in the years 1 to 9999.
 abbrev pub is_civil : ℕ → ℕ → ℕ → Bool
 is_civil year month date =
     nat_lt 0 year && nat_lt 0 month && nat_le month 12 && nat_lt 0 date
     && nat_le date (days_in_month (pos year) month)
 
--- why the text is no day; without a fault it is the day of this number
+-- The first fault of a text as a day: Empty, BadShape or NoSuchDay. A text without a fault spells a
+-- day.
 abbrev pub day_fault : List ℕ → Option CodeFault
 day_fault text =
     code_fault NoSuchDay (is_day_shape text)
     (is_civil (year_of text) (month_of text) (date_of text)) text
 
+-- The number of the day that a text without a fault spells.
 abbrev pub day_number : List ℕ → ℤ
 day_number text = days_from_civil (pos (year_of text)) (month_of text) (date_of text)
 
--- the numbers of 0001-01-01 and of 9999-12-31
+-- The numbers of 0001-01-01 and of 9999-12-31, the first day and the last.
 abbrev pub first_number : ℤ
 first_number = negsuc 719161
 
 abbrev pub last_number : ℤ
 last_number = pos 2932896
 
--- the text spells the day of this number
+-- The text spells the day of this number.
 abbrev pub SpellsDay : List ℕ → ℤ → Type 0
 SpellsDay text number = (day_fault text ≡ None) × (day_number text ≡ number)
 
--- and no other text does
+-- The text spells the day of this number, and no other text does.
 pub record IsOnlySpelling (text : List ℕ) (number : ℤ) : Type 0 where
   pub spells : SpellsDay text number
   pub only : (other : List ℕ) → SpellsDay other number → other ≡ text
 
--- the last two digits of a number
+-- The last two digits of a number.
 abbrev pub two_digits : ℕ → List ℕ
 two_digits n = (48 + n / 10 % 10) ∷ (48 + n % 10) ∷ []
 
--- the text of a civil day, by its year, month and date
+-- The text of a day by its year, month and date.
 abbrev pub date_text : ℕ → ℕ → ℕ → List ℕ
 date_text year month date =
     two_digits (year / 100) ++ two_digits year ++ 45 ∷ two_digits month ++ 45 ∷ two_digits date
 
--- a day by its year, its month and its date
+-- A day by its year, month and date.
 pub record CivilDay : Type 0 where
   pub year : ℕ
   pub month : ℕ
   pub date : ℕ
 
--- the day after: the next of its month, else the first of the next month, else of the next year
+-- The next day: in the same month, on the first of the next month, or on 1 January of the next
+-- year.
 abbrev pub day_after : CivilDay → CivilDay
 day_after day =
     if nat_lt day.date (days_in_month (pos day.year) day.month)
@@ -77,7 +81,7 @@ day_after day =
     else (if nat_lt day.month 12 then record { year = day.year; month = day.month + 1; date = 1 }
     else record { year = day.year + 1; month = 1; date = 1 })
 
--- the day that comes so many days after 0001-01-01
+-- The day that comes this many days after 0001-01-01.
 abbrev pub day_from_first : ℕ → CivilDay
 day_from_first zero = record { year = 1; month = 1; date = 1 }
 day_from_first (suc n) = day_after (day_from_first n)
@@ -85,6 +89,7 @@ day_from_first (suc n) = day_after (day_from_first n)
 abbrev pub text_of_day : CivilDay → List ℕ
 text_of_day day = date_text day.year day.month day.date
 
--- the text that spells the day of this number
+-- The only text that spells the day of this number. A number outside `first_number` to
+-- `last_number` is no day's, and its text means nothing.
 unfoldable pub day_text : ℤ → List ℕ
 day_text number = text_of_day (day_from_first (unsigned_abs (number -ℤ first_number)))

@@ -1,22 +1,22 @@
--- Names as people give them.
+-- Defines names as people write them: of who authorises a loan, or signs a station off.
 use Rattle.std.specs.Prelude.{ℕ, ◌≡◌, ◌<◌, ◌≤◌, ◌==◌, ◌&&◌, not, nat_le, Bool, List, length, IsUtf8, IsTrue}
 use Rattle.std.specs.List.{list_all}
 use Rattle.codes_core.specs.declared.TheConstants.{LONGEST_NAME}
 use Rattle.codes_core.specs.declared.fault.NameFault.{NameFault}
 use Rattle.codes_core.specs.declared.fault.NameFault.TheVariants.{Empty, BadShape, NoMemory}
 
--- no control byte
+-- Not a control byte: 32 or above, and not 127.
 abbrev pub is_name_byte : ℕ → Bool
 is_name_byte b = nat_le 32 b && not (b == 127)
 
--- UTF-8 of 1 to 60 bytes, none of them a control
+-- UTF-8 of 1 to 60 bytes (`LONGEST_NAME`), none of them a control byte.
 pub record IsName (text : List ℕ) : Type 0 where
   pub utf8 : IsUtf8 text
   pub some : 0 < length text
   pub few : length text ≤ LONGEST_NAME
   pub plain : IsTrue (list_all is_name_byte text)
 
--- why the text is no name; a growth may be refused for any that is one
+-- The cause of each fault. NoMemory can come only for a text that is a name.
 abbrev pub IsNameFault : NameFault → List ℕ → Type 0
 IsNameFault Empty text = length text ≡ 0
 IsNameFault BadShape text = (0 < length text) × ¬ (IsName text)

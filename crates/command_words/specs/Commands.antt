@@ -1,53 +1,60 @@
--- The commands: what clap reads of each, and which values each needs.
+-- Defines the fifteen commands: the arguments that `clap` knows of each, and the values that each
+-- needs.
 use Rattle.std.specs.Prelude.{◌∷◌, [], Bool, List, Some, codes, map, true, false}
 use Rattle.clap.specs.Words.{App, Rule, Text, new_app, new_rule, with_rule}
 use Rattle.clap.specs.declared.builder.action.ArgAction.TheVariants.{Set, SetTrue, Append}
 
--- an option with a value, as --setup PATH
+-- An option with a value: --setup PATH.
 abbrev pub option_rule : Text → Rule
 option_rule id = record (new_rule id) { long = Some id; value_names = 1; action = Some Set }
 
--- an option without a value, as --csv
+-- An option without a value: --csv.
 abbrev pub flag_rule : Text → Rule
 flag_rule id = record (new_rule id) { long = Some id; action = Some SetTrue }
 
--- a value by its place, as LIST
+-- A value by its position: LIST.
 abbrev pub word_rule : Text → Rule
 word_rule id = record (new_rule id) { value_names = 1; action = Some Set }
 
--- values by their place, as FEEDS
+-- All values from a position on: FEEDS.
 abbrev pub words_rule : Text → Rule
 words_rule id = record (new_rule id) { value_names = 1; action = Some Append }
 
--- a command over a register, with a setup and a store
+-- A command with --setup and --store.
 unfoldable pub register_app : Text → App
 register_app name =
     with_rule (with_rule (new_app name) (option_rule (codes "setup"))) (option_rule (codes "store"))
 
--- a command whose rows are printed as CSV or as JSON where that is asked for
+-- A command with --csv and --json as well.
 unfoldable pub report_app : App → App
 report_app app = with_rule (with_rule app (flag_rule (codes "csv"))) (flag_rule (codes "json"))
 
--- a command as clap reads it, the values that have to be there, and whether it is a report, which asks for one form at most
+-- A command: its arguments, the values that it can't do without, and whether it is a report, which
+-- takes at most one of --csv and --json.
 pub record Form : Type 0 where
   pub app : App
   pub needed : List Text
   pub is_report : Bool
 
+-- A command that needs one value.
 abbrev pub one_needed : App → Text → Form
 one_needed app id = record { app = app; needed = id ∷ []; is_report = false }
 
+-- A command that needs a setup.
 abbrev pub setup_needed : App → Form
 setup_needed app = one_needed app (codes "setup")
 
+-- A command that needs a setup and a store.
 abbrev pub both_needed : App → Form
 both_needed app =
     record { app = app; needed = codes "setup" ∷ codes "store" ∷ []; is_report = false }
 
+-- A command that needs a setup, a store and one more value.
 abbrev pub all_needed : App → Text → Form
 all_needed app id =
     record { app = app; needed = codes "setup" ∷ codes "store" ∷ id ∷ []; is_report = false }
 
+-- The command is a report.
 abbrev pub report : Form → Form
 report form = record form { is_report = true }
 
@@ -92,6 +99,7 @@ explain = one_needed (with_rule (new_app (codes "explain")) (word_rule (codes "n
 abbrev pub stations : Form
 stations = report (both_needed (report_app (register_app (codes "stations"))))
 
+-- The command `where`.
 abbrev pub where_is : Form
 where_is = report
     (all_needed (report_app (with_rule (register_app (codes "where")) (word_rule (codes "code"))))
@@ -122,13 +130,13 @@ abbrev pub commands : List Form
 commands = replay ∷ serve ∷ count ∷ overdue ∷ away ∷ history ∷ migrate
     ∷ copy ∷ explain ∷ stations ∷ where_is ∷ contents ∷ loan ∷ at ∷ posted ∷ []
 
--- the program with none of its commands yet
+-- The program without any command.
 abbrev pub program_alone : App
 program_alone =
     record (new_app (codes "pairsalder"))
     { top = record (new_app (codes "pairsalder")).top { has_version = true } }
 
--- all commands at once, for words that name none of them
+-- The program with all its commands, for words that name none of them.
 abbrev pub overview : App
 overview = record program_alone {
   top = record program_alone.top { is_leaf = false };

@@ -1,4 +1,4 @@
--- What clap reads of the tables of commands and arguments.
+-- Defines the arguments and commands that `clap` gets from the program's two tables.
 use Rattle.std.specs.Prelude.{◌∷◌, [], List}
 use Rattle.clap.specs.Words.{App, Rule, Text, with_rule, with_subcommand}
 use Rattle.command_words.specs.Commands.{at, away, contents, copy, count, explain, flag_rule}
@@ -10,23 +10,24 @@ use Rattle.command_words.specs.declared.options.Kind.TheVariants.{Flag, Valued, 
 use Rattle.command_words.specs.declared.shapes.Name.{Name}
 use Rattle.command_words.specs.declared.shapes.Name.TheVariants as name
 
--- an argument of this kind
+-- An argument of this kind.
 abbrev pub rule_as : Kind → Text → Rule
 rule_as Valued id = option_rule id
 rule_as Flag id = flag_rule id
 rule_as Word id = word_rule id
 rule_as Words id = words_rule id
 
+-- The argument of a row of the table.
 abbrev pub rule_by : Argument → Rule
 rule_by argument = rule_as argument.kind argument.id.now
 
--- a command with these arguments more
+-- The command with these arguments added.
 abbrev pub with_arguments : App → List Argument → App
 with_arguments app [] = app
 with_arguments app (argument ∷ arguments) =
     with_arguments (with_rule app (rule_by argument)) arguments
 
--- the command of this name
+-- The command of this name.
 unfoldable pub app_by : Name → App
 app_by name.Replay = replay.app
 app_by name.Serve = serve.app
@@ -44,7 +45,7 @@ app_by name.Loan = loan.app
 app_by name.At = at.app
 app_by name.Posted = posted.app
 
--- a command with these commands below it
+-- The program with these commands added.
 abbrev pub with_commands : App → List Name → App
 with_commands above [] = above
 with_commands above (name ∷ names) =

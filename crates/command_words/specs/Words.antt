@@ -1,4 +1,6 @@
--- What the words of a command line choose, and why they choose nothing.
+-- Defines the command that the words of a command line choose, or the fault by which they choose
+-- none. `fault_of` and `matches_of` are `clap`'s: the kinds of error that it can report for the
+-- words, empty if it accepts them, and the values that it then has for each argument.
 use Rattle.std.specs.Prelude.{◌≡◌, ◌≢◌, ◌∷◌, [], ℕ, Bool, List, Option, Result, Some, None, MatchResult, codes, find, is_some}
 use Rattle.std.specs.Prelude.{◌&&◌, false, if◌then◌else◌, map, not, option_map, slice_get, true, unwrap_or}
 use Rattle.std.specs.Borrow.{Bor}
@@ -25,58 +27,60 @@ use Rattle.command_words.specs.declared.command.Chosen.TheVariants as command
 use Rattle.command_words.specs.declared.command.WordsFault.{WordsFault}
 use Rattle.command_words.specs.declared.command.WordsFault.TheVariants.{Missing, NoMemory, Refused}
 
+-- The texts of borrowed words.
 abbrev pub texts_of : List (Bor Text) → List Text
 texts_of words = map (λ w. w.now) words
 
+-- The text of a borrowed word.
 abbrev pub text_of : Option (Bor Text) → Option Text
 text_of word = option_map (λ w. w.now) word
 
--- the first word is this name
+-- The first word is this name.
 abbrev pub IsNamed : List Text → Text → Type 0
 IsNamed words name = slice_get words 0 ≡ Some name
 
--- the command whose name is the first word
+-- The command whose name is the first word.
 abbrev pub form_named : List Text → Option Form
 form_named words =
     option_and_then (λ word. find (λ form. bytes_eq word form.app.top.name) commands)
     (slice_get words 0)
 
--- all values of an argument, in clap's matches
+-- All values of an argument in `clap`'s matches.
 abbrev pub all_in : Text → List Row → List Text
 all_in id rows = unwrap_or (all_of id rows) []
 
--- the value that the words give an argument, the first where there are several
+-- The value of an argument, the first if there are several.
 abbrev pub value : App → List Text → Text → Option Text
 value app words id = first_of id (matches_of app words)
 
--- all values that the words give an argument
+-- All values of an argument.
 abbrev pub values : App → List Text → Text → List Text
 values app words id = all_in id (matches_of app words)
 
--- an option without a value is given: clap writes true for it
+-- An option without a value is given: `clap` then has the value true.
 abbrev pub is_true : Option Text → Bool
 is_true text = option_map_or (λ t. bytes_eq t (codes "true")) text false
 
 abbrev pub is_given : App → List Text → Text → Bool
 is_given app words id = is_true (value app words id)
 
--- the form of a report's rows, by whether each of the two options is given; none for both
+-- The form of a report's rows, by whether --csv and --json are given. None if both are.
 abbrev pub format_by : Bool → Bool → Option Format
 format_by true true = None
 format_by true false = Some Csv
 format_by false true = Some Json
 format_by false false = Some Lines
 
--- in clap's matches
+-- The form, by `clap`'s matches.
 abbrev pub format_found : List Row → Option Format
 format_found rows =
     format_by (is_true (first_of (codes "csv") rows)) (is_true (first_of (codes "json") rows))
 
--- in the words
+-- The form, by the words.
 abbrev pub format_in : App → List Text → Option Format
 format_in app words = format_found (matches_of app words)
 
--- the words name this command, and give it these values
+-- The first word is the command's name, and each of its values is the one that the words have.
 abbrev pub IsChosen : List Text → Chosen → Type 0
 IsChosen words (command.Replay setup store progress strict) = IsNamed words (codes "replay")
     × (value replay.app words (codes "setup") ≡ Some setup.now)
@@ -145,69 +149,71 @@ IsChosen words (command.Posted setup store from format) = IsNamed words (codes "
     × (value posted.app words (codes "from") ≡ text_of from)
     × (format_in posted.app words ≡ Some format)
 
--- what is refused in the words of a report: what clap refuses, and then both forms of its rows at once
+-- The errors in the words of a report: those of `clap`, and then --csv and --json together,
+-- reported like any two options that exclude each other.
 abbrev pub report_kinds : App → List Text → Kinds
 report_kinds app words =
     or_else (fault_of app words)
     (option_map_or (λ format. []) (format_in app words) (ArgumentConflict ∷ []))
 
--- what is refused in words that name a command, or none; where nothing is refused the list is empty
+-- The errors in words that name this command. Words that name none are read by all commands at
+-- once. Empty if there is no error.
 abbrev pub kinds_by : Option Form → List Text → Kinds
 kinds_by (Some form) words =
     if form.is_report then report_kinds form.app words else fault_of form.app words
 kinds_by None words = fault_of overview (codes "pairsalder" ∷ words)
 
--- a value that the command needs isn't there, or there is no command
+-- A value that the command needs is missing, or no command is named.
 abbrev pub lacks : Option Form → List Text → Bool
 lacks (Some form) words = list_any (λ id. not (is_some (value form.app words id))) form.needed
 lacks None words = true
 
--- 0 for help and the version, which were asked for, and else 2
+-- 0 for help and the version, which were asked for; 2 for a usage error.
 abbrev pub status_of_kind : ErrorKind → ℕ
 status_of_kind DisplayHelp = 0
 status_of_kind DisplayVersion = 0
 status_of_kind _ = 2
 
--- the exit status
+-- The exit status: 1 if memory ran out.
 abbrev pub status_of : WordsFault → ℕ
 status_of (Refused error) = status_of_kind (kind_of error)
 status_of Missing = 2
 status_of NoMemory = 1
 
--- clap's error is told as it is, but for want of memory
+-- An error of `clap` is passed on as it is, except out of memory.
 abbrev pub FromRefusal : Error → WordsFault → Type 0
 FromRefusal error (Refused told) = (told ≡ error) × (kind_of error ≢ OutOfMemory)
 FromRefusal error Missing = ⊥
 FromRefusal error NoMemory = kind_of error ≡ OutOfMemory
 
--- clap takes the words of a command, and makes these rows of them
+-- `clap` accepts the words, and these are its matches.
 abbrev pub IsRead : App → List Text → List Row → Type 0
 IsRead app words rows = (fault_of app words ≡ []) × (rows ≡ matches_of app words)
 
--- clap takes the words of a command, which name these files
+-- `clap` accepts the words, and they name these files.
 abbrev pub GivesFiles : App → List Text → Files → Type 0
 GivesFiles app words files = (fault_of app words ≡ [])
     × (value app words (codes "setup") ≡ text_of files.setup)
     × (value app words (codes "store") ≡ text_of files.store)
 
--- clap takes the words of a command, which name both files
+-- `clap` accepts the words, and they name both files.
 abbrev pub GivesRecord : App → List Text → Record → Type 0
 GivesRecord app words files = (fault_of app words ≡ [])
     × (value app words (codes "setup") ≡ Some files.setup.now)
     × (value app words (codes "store") ≡ Some files.store.now)
 
--- clap's matches have both files, and the form of a report's rows
+-- The matches have both files and one form.
 abbrev pub HoldsReport : List Row → Report → Type 0
 HoldsReport rows report = (first_of (codes "setup") rows ≡ Some report.setup.now)
     × (first_of (codes "store") rows ≡ Some report.store.now)
     × (format_found rows ≡ Some report.format)
 
--- the words of a report are taken, and name both files and the form of its rows
+-- The words of a report have no error, and name both files and one form.
 abbrev pub GivesReport : App → List Text → Report → Type 0
 GivesReport app words report =
     (report_kinds app words ≡ []) × HoldsReport (matches_of app words) report
 
--- clap's matches have both forms at once, or lack a file, or memory ran out
+-- The matches have both forms, or lack a file, or memory ran out.
 abbrev pub IsNoReport : List Row → WordsFault → Type 0
 IsNoReport rows (Refused error) =
     (format_found rows ≡ None) × (kind_of error ≡ ArgumentConflict)
@@ -215,27 +221,28 @@ IsNoReport rows Missing = (is_some (format_found rows) ≡ true)
     × (is_some (first_of (codes "setup") rows) && is_some (first_of (codes "store") rows) ≡ false)
 IsNoReport rows NoMemory = Unit {0}
 
--- clap refuses the words of a command, or memory ran out
+-- `clap` rejects the words, or memory ran out.
 abbrev pub IsRefused : App → List Text → WordsFault → Type 0
 IsRefused app words (Refused error) = IsAmong (kind_of error) (fault_of app words)
 IsRefused app words Missing = ⊥
 IsRefused app words NoMemory = Unit {0}
 
--- why a command, or none, isn't chosen
+-- Why these words choose nothing. Refused: an error in the words. Missing: there is no error, but a
+-- value or a command is missing. NoMemory can come in place of any result.
 abbrev pub IsFaultBy : Option Form → List Text → WordsFault → Type 0
 IsFaultBy form words (Refused error) = IsAmong (kind_of error) (kinds_by form words)
 IsFaultBy form words Missing = (kinds_by form words ≡ []) × (lacks form words ≡ true)
 IsFaultBy form words NoMemory = Unit {0}
 
--- what is refused in the words
+-- The errors in the words.
 abbrev pub refusals : List Text → Kinds
 refusals words = kinds_by (form_named words) words
 
--- why the words choose no command
+-- Why the words choose no command.
 abbrev pub IsFault : List Text → WordsFault → Type 0
 IsFault words fault = IsFaultBy (form_named words) words fault
 
--- what the words of a command come to
+-- The command that the words choose, or the fault.
 abbrev pub Chooses : Option Form → List Text → Result Chosen WordsFault → Type 0
 Chooses form words result = MatchResult result
     (λ chosen. (kinds_by form words ≡ []) × IsChosen words chosen)

@@ -1,9 +1,9 @@
--- The faults of a count list as they are printed.
+-- Defines how the fault of a count list is printed: its row and its name.
 use Rattle.std.specs.Prelude.{ℕ, List, Option, Some, None, codes}
 use Rattle.count_core.specs.declared.count_fault.CountFault.{CountFault}
 use Rattle.count_core.specs.declared.count_fault.CountFault.TheVariants.{NotCsv, BadFields, BadCode, TooMany, NoMemory}
 
--- the row with the fault, if it is a row's
+-- The row that has the fault. None for a fault of the whole file.
 abbrev pub row_of : CountFault → Option ℕ
 row_of NotCsv = None
 row_of (BadFields n) = Some n
@@ -11,7 +11,7 @@ row_of (BadCode n) = Some n
 row_of (TooMany n) = Some n
 row_of NoMemory = None
 
--- the fault's name
+-- The name of the fault.
 abbrev pub name_of : CountFault → List ℕ
 name_of NotCsv = codes "NotCsv"
 name_of (BadFields n) = codes "BadFields"

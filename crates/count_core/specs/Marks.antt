@@ -1,4 +1,4 @@
--- How rows that were looked up are marked Again, by a flag for each thing.
+-- Defines how a count marks rows Again: each thing that an earlier row names has a flag.
 use Rattle.std.specs.Prelude.{ℕ, ◌≡◌, ◌<◌, ◌==◌, ◌&&◌, not, Bool, true, false, List, length, Option, Some, None, if◌then◌else◌, slice_get, slice_set, unwrap_or}
 use Rattle.std.specs.List.{list_any}
 use Rattle.std.specs.Option.{option_map_or}
@@ -6,16 +6,18 @@ use Rattle.nest_core.specs.Museum.{Museum, is_container}
 use Rattle.count_core.specs.declared.answer.CountAnswer.{CountAnswer}
 use Rattle.count_core.specs.declared.answer.CountAnswer.TheVariants.{UnknownPlace, Counted, UnknownObject, Again, Unplaced, Found, Elsewhere}
 
--- the flag of this number; none is not set
+-- The flag of thing x. False if there is no thing.
 abbrev pub flagged : List Bool → Option ℕ → Bool
 flagged flags None = false
 flagged flags (Some x) = unwrap_or (slice_get flags x) false
 
+-- The flags with that of thing x set.
 abbrev pub with_flag : List Bool → Option ℕ → List Bool
 with_flag flags None = flags
 with_flag flags (Some x) = slice_set flags x true
 
--- Again goes before what was found, and an unknown place before Again
+-- The answer to a row whose thing has a flag. UnknownPlace comes before Again; every other answer
+-- is replaced.
 abbrev pub again_for : CountAnswer → CountAnswer
 again_for UnknownPlace = UnknownPlace
 again_for Counted = Again
@@ -25,20 +27,21 @@ again_for Unplaced = Again
 again_for Found = Again
 again_for (Elsewhere p) = Again
 
+-- The answer to a row, by whether its thing has a flag.
 abbrev pub mark : Bool → CountAnswer → CountAnswer
 mark before a = if before then again_for a else a
 
--- it has no flag, and is an object, not a container
+-- Thing x is an object, not a container, and has no flag.
 abbrev pub is_unflagged : Museum → List Bool → ℕ → Bool
 is_unflagged S flags x = not (flagged flags (Some x)) && not (is_container S x)
 
--- of rows of any kind, each naming a number or none
+-- For rows of any type. Each row names a number or none.
 module _ {X : Type 0} (number : X → Option ℕ) where
-  -- one of the rows names x
+  -- One of the rows names x.
   abbrev pub names_by : List X → ℕ → Bool
   names_by rows x = list_any (λ r. option_map_or (λ y. y == x) (number r) false) rows
 
-  -- so many flags, each telling whether one of the rows names its number
+  -- There is a flag for each number below `count`, set if one of the rows names the number.
   pub record AreNames (count : ℕ) (rows : List X) (flags : List Bool) : Type 0 where
     pub many : length flags ≡ count
     pub each : (x : ℕ) → x < count → flagged flags (Some x) ≡ names_by rows x

@@ -1,8 +1,9 @@
--- What is appended to a text.
+-- Defines appending bytes to a text.
 use Rattle.std.specs.Prelude.{ℕ, ◌≡◌, ◌+◌, ◌≤◌, ◌++◌, List, length, Result, String, string_bytes, string_len, string_capacity, IsOk, OnOk}
 use Rattle.std.specs.declared.alloc.Global.{Global}
 
--- these bytes are appended, for certain where the text has room for them; its room never shrinks
+-- The bytes are appended. That can fail only if the text has no room for them; the room never
+-- shrinks.
 pub record Adds {T E : Type 0} (old new : String Global) (bytes : List ℕ)
     (result : Result T E) : Type 0 where
   pub text : OnOk result (string_bytes new ≡ string_bytes old ++ bytes)

@@ -1,4 +1,5 @@
--- Why a hub gives no answer.
+-- Defines how a register's faults become those of a hub and of a replay, and that each Store fault
+-- is counted.
 use Rattle.std.specs.Prelude.{ℕ, ◌≡◌, ◌+◌, ◌-◌, ◌^◌, min, Result, Ok, Err}
 use Rattle.register_store.specs.declared.store_fault.StoreFault.{StoreFault}
 use Rattle.register_store.specs.declared.store_fault.StoreFault.TheVariants as store
@@ -7,7 +8,7 @@ use Rattle.hub_core.specs.declared.replay_fault.ReplayFault.TheVariants as repla
 use Rattle.hub_core.specs.declared.hub.answer.HubFault.{HubFault}
 use Rattle.hub_core.specs.declared.hub.answer.HubFault.TheVariants.{NoMemory, Store, Down}
 
--- a register's fault, as the hub tells it
+-- A register's fault as a hub's: NoMemory, or Store for all others.
 abbrev pub hub_fault : StoreFault → HubFault
 hub_fault store.NoMemory = NoMemory
 hub_fault store.Store = Store
@@ -15,20 +16,21 @@ hub_fault store.OtherSetup = Store
 hub_fault (store.Damaged at) = Store
 hub_fault store.OtherVersion = Store
 
--- Store is told only where the register's count of refusals rose, or stands at the last number of 64 bits
+-- Store adds one to the register's count of refusals, up to 2^64 - 1. Any other result leaves the
+-- count as it was.
 abbrev pub CountsStore : {T : Type 0} → ℕ → ℕ → Result T HubFault → Type 0
 CountsStore old new (Ok x) = new ≡ old
 CountsStore old new (Err NoMemory) = new ≡ old
 CountsStore old new (Err Store) = new ≡ min (old + 1) (2 ^ 64 - 1)
 CountsStore old new (Err Down) = new ≡ old
 
--- a hub's fault, as a replay tells it; a replay's hub isn't down
+-- A hub's fault as a replay's. The hub of a replay isn't down, so Down never comes.
 abbrev pub replay_fault : HubFault → ReplayFault
 replay_fault NoMemory = replay.NoMemory
 replay_fault Store = replay.Store
 replay_fault Down = replay.NoMemory
 
--- a replay tells Store only where the register's count rose so
+-- The same for the faults of a replay.
 abbrev pub CountsReplay : {T : Type 0} → ℕ → ℕ → Result T ReplayFault → Type 0
 CountsReplay old new (Ok x) = new ≡ old
 CountsReplay old new (Err replay.NoMemory) = new ≡ old

@@ -1,4 +1,4 @@
--- Where a fault can come once a line is read, and the text of its reply has room.
+-- Defines which requests can fail once they are read and their reply has room.
 use Rattle.std.specs.Prelude.{ℕ, ◌≡◌, ◌+◌, ◌≤◌, Bool, true, false, List, Option, Some, None, Result, OnErr, String, string_len, string_capacity}
 use Rattle.std.specs.declared.alloc.Global.{Global}
 use Rattle.nest_core.specs.Museum.{Museum}
@@ -14,28 +14,29 @@ use Rattle.hub_core.specs.declared.line.wording.TheConstants.{REPLY_ROOM}
 use Rattle.hub_core.specs.Points.{reply}
 use Rattle.hub_core.specs.StandsFor.{State, StandsFor}
 
--- the text has room for a reply
+-- The text has room for one reply, 128 bytes (`REPLY_ROOM`).
 abbrev pub HasRoom : String Global → Type 0
 HasRoom text = string_len text + REPLY_ROOM ≤ string_capacity text
 
--- an answer with posted entries; any other needs no memory
+-- The answer has posted entries. Any other answer needs no memory.
 abbrev pub is_posted : Answer → Bool
 is_posted (Refused refusal) = false
 is_posted Held = false
 is_posted (Posted first last) = true
 
--- what station s asks, after the arrivals A, may need memory or the store: it posts entries, or it is a question
+-- A request of station s, after the arrivals A, may need memory or the store: it posts entries, or
+-- it is a question.
 abbrev pub can_fail : Museum → ℕ → List Entry → List Arrival → ℕ → Request → Bool
 can_fail S depth O A s (Scan n message) =
     is_posted (reply S depth O A (record { station = s; n = n; message = message }))
 can_fail S depth O A s (Ask code) = true
 
--- so of a line without fault; one of no station of the setup needs neither
+-- The same of a line. One of an unknown station needs neither.
 abbrev pub line_can_fail : Museum → ℕ → List Entry → List Arrival → Option ℕ → Request → Bool
 line_can_fail S depth O A None request = false
 line_can_fail S depth O A (Some s) request = can_fail S depth O A s request
 
--- a fault comes only where it can, for every list of arrivals that the hub stood for
+-- A fault comes only if `can` is true of every list of arrivals that the hub stood for.
 abbrev pub FailsOnlyWhere : {R T : Type 0} → (R → Holding) → State R
     → (List Entry → List Arrival → Bool) → Result T HubFault → Type 0
 FailsOnlyWhere holding old can result =

@@ -1,4 +1,4 @@
--- Why a store can't be opened.
+-- Defines why a store can't be opened with a setup, and what an opened hub stands for.
 use Rattle.std.specs.Prelude.{ℕ, ◌≡◌, ◌⊎◌, ◌+◌, ◌==◌, ◌&&◌, nat_le, not, All, Bool, true, false, List, [], ◌∷◌, ◌++◌, length, map, reverse, Option, Some, None, Err}
 use Rattle.nest_core.specs.Museum.{Museum}
 use Rattle.posting_core.specs.declared.entry.Entry.{Entry}
@@ -18,7 +18,7 @@ use Rattle.hub_core.specs.Points.{arrival_of}
 use Rattle.hub_core.specs.StandsFor.{State, StandsFor, InStep, HasStore}
 use Rattle.register_store.specs.Registers.{CountsRefusal, is_failure, IsBindFault, IsOfStation, IsFirstWrong, bound_to}
 
--- entry number `at` is the first that may not follow those before it
+-- Entry number `at` is the first that may not follow those before it.
 pub record IsFirstUnlawful (S : Museum) (depth : ℕ) (O : List Entry) (at : ℕ) : Type 0 where
   pub before : List Entry
   pub entry : Entry
@@ -28,7 +28,7 @@ pub record IsFirstUnlawful (S : Museum) (depth : ℕ) (O : List Entry) (at : ℕ
   pub lawful : IsLawful S depth before
   pub wrong : Follows S depth before entry → ⊥
 
--- why a list of entries can't be posted again: no memory, or an entry that isn't what the rules give
+-- Why a list of entries can't be posted again: no memory, or an entry that the rules don't allow.
 abbrev pub IsJudgeFault : Museum → ℕ → List Entry → StoreFault → Type 0
 IsJudgeFault S depth O NoMemory = Unit {0}
 IsJudgeFault S depth O (Damaged at) = IsFirstUnlawful S depth O at
@@ -36,7 +36,7 @@ IsJudgeFault S depth O Store = ⊥
 IsJudgeFault S depth O OtherSetup = ⊥
 IsJudgeFault S depth O OtherVersion = ⊥
 
--- the same of one entry, after P
+-- The same of one entry, after P.
 abbrev pub IsEntryFault : Museum → ℕ → List Entry → Entry → StoreFault → Type 0
 IsEntryFault S depth P e NoMemory = Unit {0}
 IsEntryFault S depth P e (Damaged at) = (length P + 1 ≡ at) × (Follows S depth P e → ⊥)
@@ -44,16 +44,18 @@ IsEntryFault S depth P e Store = ⊥
 IsEntryFault S depth P e OtherSetup = ⊥
 IsEntryFault S depth P e OtherVersion = ⊥
 
--- a station that starts so may send this number next
+-- A station that starts so may send number n next: the number after its posted ones, at most
+-- 999,999, and no sign-off before it.
 abbrev pub may_send : Option Start → ℕ → Bool
 may_send None n = false
 may_send (Some start) n = (n == start.posted + 1) && (nat_le n LAST && not start.signed)
 
--- the store is bound to the setup with this depth limit, and a row is no row of an entry
+-- The store is bound to the setup, and row `at` is that of no entry.
 abbrev pub HasWrongRow : Museum → Content → ℕ → Type 0
 HasWrongRow S c at = (depth : ℕ) × IsBoundTo S depth c × IsFirstWrong (length S.stations) at c
 
--- it has a list of entries of the setup's stations, and the rules don't let it stand
+-- The store is bound to the setup and has a list of entries of its stations, and entry `at` breaks
+-- the rules.
 pub record HasWrongEntry (S : Museum) (c : Content) (at : ℕ) : Type 0 where
   pub depth : ℕ
   pub bound : IsBoundTo S depth c
@@ -62,7 +64,8 @@ pub record HasWrongEntry (S : Museum) (c : Content) (at : ℕ) : Type 0 where
   pub stationed : All (IsOfStation (length S.stations)) entries
   pub wrong : IsFirstUnlawful S depth entries at
 
--- it has a lawful list of entries, and its rows of spots, of lines and of last days aren't those of looking back
+-- The store is bound to the setup and has a lawful list, but its rows of spots, loan lines and last
+-- days are not those of looking back. The fault is Damaged(0).
 pub record HasOtherRows (S : Museum) (c : Content) (at : ℕ) : Type 0 where
   pub zero : at ≡ 0
   pub depth : ℕ
@@ -72,11 +75,12 @@ pub record HasOtherRows (S : Museum) (c : Content) (at : ℕ) : Type 0 where
   pub lawful : IsLawful S depth entries
   pub wrong : HasRows S entries c → ⊥
 
--- a row, an entry or the rows of looking back: what is wrong with the list of a bound store
+-- The list of a bound store is wrong: in a row, in an entry, or in the rows kept beside the
+-- entries.
 abbrev pub HasWrongList : Museum → Content → ℕ → Type 0
 HasWrongList S c at = HasWrongRow S c at ⊎ (HasWrongEntry S c at ⊎ HasOtherRows S c at)
 
--- why the list of a bound store can't be restored in a ledger
+-- Why the list of a bound store can't be restored in a ledger.
 abbrev pub IsRestoreFault : Museum → Content → StoreFault → Type 0
 IsRestoreFault S c NoMemory = Unit {0}
 IsRestoreFault S c Store = Unit {0}
@@ -84,7 +88,7 @@ IsRestoreFault S c OtherVersion = ⊥
 IsRestoreFault S c OtherSetup = ⊥
 IsRestoreFault S c (Damaged at) = HasWrongList S c at
 
--- why the rows of a store aren't those of looking back through these entries
+-- Why the rows of spots, loan lines and last days aren't those of looking back through P.
 abbrev pub IsRowsFault : Museum → List Entry → Content → StoreFault → Type 0
 IsRowsFault S P c NoMemory = Unit {0}
 IsRowsFault S P c Store = Unit {0}
@@ -92,7 +96,7 @@ IsRowsFault S P c OtherVersion = ⊥
 IsRowsFault S P c OtherSetup = ⊥
 IsRowsFault S P c (Damaged at) = (at ≡ 0) × (HasRows S P c → ⊥)
 
--- why a store can't be opened with a setup: each cause comes where none before it holds
+-- Why a store can't be opened with a setup. Each cause comes only if none before it holds.
 abbrev pub IsOpenFault : Museum → Content → StoreFault → Type 0
 IsOpenFault S c NoMemory = Unit {0}
 IsOpenFault S c Store = Unit {0}
@@ -100,12 +104,15 @@ IsOpenFault S c OtherVersion = IsBindFault S c OtherVersion
 IsOpenFault S c OtherSetup = IsBindFault S c OtherSetup
 IsOpenFault S c (Damaged at) = IsBindFault S c (Damaged at) ⊎ HasWrongList S (bound_to S c) at
 
--- nothing but want of memory, or a store that refuses, keeps the store from being opened with the setup
+-- If the store is quiet, only a lack of memory or a failing store keeps it from being opened with
+-- the setup: no other fault has its cause. By law (`laws::stored_list_opens`) the rows of a lawful
+-- list are so.
 abbrev pub OpensAgain : Holding → Museum → Type 0
 OpensAgain store S =
     Has store (λ c. (fault : StoreFault) → IsOpenFault S c fault → is_failure fault ≡ true)
 
--- a hub over the register, which stands for the list that the store had; the store is bound to its setup, and else as it was
+-- The hub stands for the list that the store had. The store is bound to its setup, and otherwise as
+-- it was.
 pub record Opened {R : Type 0} (holding : R → Holding) (S : Museum) (register : R)
     (hub : State R) : Type 0 where
   pub setup : hub.book.museum ≡ S
@@ -113,7 +120,8 @@ pub record Opened {R : Type 0} (holding : R → Holding) (S : Museum) (register 
   pub comes : Comes (holding register) (holding hub.register)
       (λ c d. HasList hub.book.posted c × IsBound S c d)
 
--- these entries are posted in a ledger that had none, each as the rules give it, and the stations start from them
+-- The entries P are posted in a ledger that had none, each allowed by the rules, and the stations
+-- start from them.
 pub record IsJudged (old : Book) (P : List Entry) (starts : List Start) (new : Book) : Type 0 where
   pub museum : new.museum ≡ old.museum
   pub depth : new.depth ≡ old.depth
@@ -121,19 +129,20 @@ pub record IsJudged (old : Book) (P : List Entry) (starts : List Start) (new : B
   pub lawful : IsLawful new.museum new.depth new.posted
   pub in_step : InStep (map opened starts) new.museum new.posted
 
--- the stations go on from what a ledger has posted
+-- The stations go on from what the ledger has posted.
 pub record GoesOn (sequences : List (Series Message)) (book : Book) : Type 0 where
   pub in_step : InStep sequences book.museum book.posted
   pub series : AllMatch is_sign_off (map arrival_of (reverse book.posted)) sequences
 
--- a new ledger has the store's list, and the stations go on from it
+-- A new ledger has the store's list, and the stations go on from it.
 pub record IsRestored (store : Holding) (old : Book) (sequences : List (Series Message))
     (new : Book) : Type 0 where
   pub museum : new.museum ≡ old.museum
   pub goes_on : GoesOn sequences new
   pub stored : HasStore store new
 
--- a ledger of the setup has the list that the store had, which is bound to the setup, and the stations go on from it
+-- A ledger of the setup has the list that the store had, the store is bound to the setup, and the
+-- stations go on from that list.
 pub record IsPrepared (old new : Holding) (S : Museum) (sequences : List (Series Message))
     (book : Book) : Type 0 where
   pub museum : book.museum ≡ S
@@ -141,10 +150,10 @@ pub record IsPrepared (old new : Holding) (S : Museum) (sequences : List (Series
   pub stored : HasStore new book
   pub comes : Comes old new (λ c d. HasList book.posted c × IsBound S c d)
 
--- the store isn't opened, for this cause, and is as it was, or bound
+-- The store isn't opened, for this cause. It is as it was, or bound.
 abbrev pub IsNotOpened : Museum → StoreFault → Content → Content → Type 0
 IsNotOpened S fault c d = IsOpenFault S c fault × (AreSame c d ⊎ IsBound S c d)
 
--- a refused opening counts where the store refused
+-- A failed opening adds one to the count if its fault is Store.
 abbrev pub CountsFault : ℕ → ℕ → StoreFault → Type 0
 CountsFault old new fault = CountsRefusal {T = Unit {0}} old new (Err fault)

@@ -1,4 +1,5 @@
--- The outcomes of lines.
+-- Defines the outcomes of lines, which a replay counts for `--progress` and `--strict`. Each line
+-- that has a reply is Answered first, and then has its own outcomes.
 use Rattle.std.specs.Prelude.{ℕ, ◌≡◌, ◌-◌, true, List, [], ◌∷◌, ◌++◌, drop, map, reverse, Option, Some, None, Result, Ok, Err, IfOk, if◌then◌else◌}
 use Rattle.nest_core.specs.Museum.{Museum}
 use Rattle.posting_core.specs.declared.entry.Entry.{Entry}
@@ -22,17 +23,17 @@ use Rattle.hub_core.specs.Points.{posted, reply}
 use Rattle.hub_core.specs.StandsFor.{State, StandsFor}
 use Rattle.hub_core.specs.Replayed.{Answered}
 
--- the entries from number `first` on; P has the newest first
+-- The verdicts of the entries from number `first` on. P has the newest first.
 abbrev pub posted_outcomes : ℕ → List Entry → List Outcome
 posted_outcomes first P = map (λ e. outcome.Posted e.verdict) (drop (first - 1) (reverse P))
 
--- a message with this answer, after which the entries P are posted
+-- The outcomes of a message with this answer, once the entries P are posted.
 abbrev pub answer_outcomes : List Entry → Answer → List Outcome
 answer_outcomes P (answer.Refused refusal) = outcome.Refused refusal ∷ []
 answer_outcomes P answer.Held = outcome.Held ∷ []
 answer_outcomes P (answer.Posted first last) = posted_outcomes first P
 
--- a line with this reply
+-- The outcomes of a line with this reply.
 abbrev pub reply_outcomes : List Entry → Reply → List Outcome
 reply_outcomes P says.Empty = []
 reply_outcomes P says.Bad = outcome.Answered ∷ outcome.Bad ∷ []
@@ -40,18 +41,18 @@ reply_outcomes P says.UnknownStation = outcome.Answered ∷ outcome.UnknownStati
 reply_outcomes P (says.Answered given) = outcome.Answered ∷ answer_outcomes P given
 reply_outcomes P says.Asked = outcome.Answered ∷ outcome.Asked ∷ []
 
--- one more arrival after the arrivals A
+-- The outcomes of one more arrival after A.
 abbrev pub arrival_outcomes : Museum → ℕ → List Entry → List Arrival → Arrival → List Outcome
 arrival_outcomes S depth O A r =
     outcome.Answered ∷ answer_outcomes (posted S depth O (A ++ r ∷ [])) (reply S depth O A r)
 
--- a request of station s after the arrivals A
+-- The outcomes of a request of station s after A.
 abbrev pub station_outcomes : Museum → ℕ → List Entry → List Arrival → ℕ → Request → List Outcome
 station_outcomes S depth O A s (Scan n message) =
     arrival_outcomes S depth O A (record { station = s; n = n; message = message })
 station_outcomes S depth O A s (Ask code) = outcome.Answered ∷ outcome.Asked ∷ []
 
--- a line without fault
+-- The outcomes of a line without a fault.
 abbrev pub request_outcomes : Museum → ℕ → List Entry → List Arrival → Option ℕ → Request
     → List Outcome
 request_outcomes S depth O A None request = outcome.Answered ∷ outcome.UnknownStation ∷ []
@@ -62,32 +63,33 @@ abbrev pub read_outcomes : Museum → ℕ → List Entry → List Arrival → Re
 read_outcomes S depth O A (Ok line) = request_outcomes S depth O A line.station line.request
 read_outcomes S depth O A (Err fault) = outcome.Answered ∷ outcome.Bad ∷ []
 
--- a line after the arrivals A; an empty one has no outcome
+-- The outcomes of a line after A. An empty line has none.
 abbrev pub line_outcomes : Museum → ℕ → List Entry → List Arrival → List ℕ → List Outcome
 line_outcomes S depth O A line =
     if is_empty line then []
     else (if is_too_long line then outcome.Answered ∷ outcome.Bad ∷ []
     else read_outcomes S depth O A (line_in S line))
 
--- lines, each after the arrivals of those before it
+-- The outcomes of lines, each after the arrivals of the lines before it.
 abbrev pub all_outcomes : Museum → ℕ → List Entry → List Arrival → List (List ℕ) → List Outcome
 all_outcomes S depth O A [] = []
 all_outcomes S depth O A (line ∷ rest) =
     line_outcomes S depth O A line ++ all_outcomes S depth O (A ++ line_arrivals S line) rest
 
--- the lines of the bytes, from the posted list O, after the arrivals A
+-- The outcomes of the lines of the bytes, from the posted list O, after A.
 abbrev pub outcomes : Museum → ℕ → List Entry → List Arrival → List ℕ → List Outcome
 outcomes S depth O A bytes = all_outcomes S depth O A (lines bytes)
 
--- for every list of arrivals that a hub stood for, a line with this reply has these outcomes; the
--- entries P are posted then
+-- For every list of arrivals that the hub stood for, the reply has the outcomes `came`. P is posted
+-- by then.
 abbrev pub HasOutcomes : {R : Type 0} → (R → Holding) → State R → List Entry
     → (List Entry → List Arrival → List Outcome) → Result Reply HubFault → Type 0
 HasOutcomes holding old P came result =
     IfOk result (λ said. (O : List Entry) (A : List Arrival) → StandsFor holding old O A
     → reply_outcomes P said ≡ came O A)
 
--- all lines read are answered, and a watch has seen their outcomes after those that it had seen
+-- All lines that were read are answered, and the watch has seen their outcomes after those it had
+-- seen.
 pub record Watched {Q : Type 0} (S : Museum) (depth : ℕ) (O : List Entry) (A : List Arrival)
     (i i' o o' : Option (List ℕ)) (holding : Q → Holding) (hub : State Q)
     (had_seen has_seen : List Outcome → Type 0) : Type 0 where

@@ -1,4 +1,5 @@
--- Where a list of arrivals leads, from a list of posted entries; entries stand newest first.
+-- Defines where a list of arrivals leads from a list of posted entries: which messages are held,
+-- which are posted, and the replies. Entries are listed newest first, arrivals oldest first.
 use Rattle.std.specs.Prelude.{ℕ, ◌<◌, All, ◌+◌, ◌-◌, ◌==◌, if◌then◌else◌, List, [], ◌∷◌, ◌++◌, length, fold, map, reverse, Option, Some, None}
 use Rattle.std.specs.Option.{option_map_or}
 use Rattle.nest_core.specs.Museum.{Museum, find_thing}
@@ -15,15 +16,15 @@ use Rattle.hub_core.specs.declared.hub.answer.Answer.TheVariants.{Refused, Held,
 use Rattle.hub_core.specs.declared.hub.answer.Where.{Where}
 use Rattle.hub_core.specs.declared.hub.answer.Where.TheVariants.{UnknownThing, Unplaced, At}
 
--- an arrival, as hold-back sees it
+-- An arrival in the form that hold-back uses.
 abbrev pub seen : Arrival → Arrived Message
 seen r = arrived r.station r.n r.message
 
--- what arrived for an entry
+-- The message of an entry in the form that hold-back uses.
 abbrev pub arrival_of : Entry → Arrived Message
 arrival_of e = arrived e.station e.n e.message
 
--- a message is posted with its verdict over the entries before it
+-- A message as the entry after P, with the verdict that P leads to.
 abbrev pub entry_of : Museum → ℕ → List Entry → Arrived Message → Entry
 entry_of S depth P r =
     record {
@@ -33,15 +34,17 @@ entry_of S depth P r =
       verdict = verdict S depth P r.message;
     }
 
+-- P with the message posted.
 abbrev pub post : Museum → ℕ → List Entry → Arrived Message → List Entry
 post S depth P r = entry_of S depth P r ∷ P
 
--- what is posted, and what was taken
+-- The posted entries, and the messages taken.
 pub record Point : Type 0 where
   pub posted : List Entry
   pub taken : List (Arrived Message)
 
--- the point at which this is taken: what came due of station s is posted
+-- The point once `taken` is the list of messages taken: what comes due at station s is posted in
+-- its order.
 abbrev pub point_with : Museum → ℕ → Point → ℕ → List (Arrived Message) → Point
 point_with S depth p s taken = record {
   posted = fold (post S depth) p.posted
@@ -50,17 +53,17 @@ point_with S depth p s taken = record {
   taken = taken;
 }
 
--- the point after one more arrival
+-- The point after one more arrival.
 abbrev pub point_after : Museum → ℕ → Point → Arrival → Point
 point_after S depth p r =
     point_with S depth p r.station (taken_after is_sign_off (length S.stations) p.taken (seen r))
 
--- the point after the arrivals A, from the posted list O
+-- The point after the arrivals A, one after another, from the posted list O.
 abbrev pub point : Museum → ℕ → List Entry → List Arrival → Point
 point S depth O A =
     fold (point_after S depth) (record { posted = O; taken = map arrival_of (reverse O) }) A
 
--- what comes due with one more arrival
+-- The messages that come due with one more arrival.
 abbrev pub due_with : Museum → ℕ → List Entry → List Arrival → Arrival → List (Arrived Message)
 due_with S depth O A r =
     let before = (point S depth O A).taken in
@@ -68,38 +71,41 @@ due_with S depth O A r =
     due taken r.station (ready is_sign_off before r.station)
     (ready is_sign_off taken r.station - ready is_sign_off before r.station)
 
--- the posted list
+-- The posted list after the arrivals A, from the posted list O.
 abbrev pub posted : Museum → ℕ → List Entry → List Arrival → List Entry
 posted S depth O A = (point S depth O A).posted
 
+-- The reply to an arrival: its refusal; Held if nothing is posted with it; otherwise the numbers of
+-- the first and the last entry posted with it.
 abbrev pub reply_from : Option Refusal → ℕ → ℕ → Answer
 reply_from (Some refusal) before now = Refused refusal
 reply_from None before now = if before == now then Held else Posted (before + 1) now
 
--- the reply to an arrival after A
+-- The reply to an arrival after the arrivals A.
 abbrev pub reply : Museum → ℕ → List Entry → List Arrival → Arrival → Answer
 reply S depth O A r =
     let p = point S depth O A in
     reply_from (refusal is_sign_off (length S.stations) p.taken r.station r.n) (length p.posted)
     (length (point_after S depth p r).posted)
 
--- where a thing with this place and these containers above it is
+-- Where a thing with this place and these containers above it is.
 abbrev pub where_from : Option ℕ → List ℕ → Where
 where_from None chain = Unplaced
 where_from (Some place) chain = At place chain
 
--- where the thing with the code is, after the entries P
+-- Where the thing with this code is after P: unknown, without a place, or at a place with the
+-- containers above it.
 abbrev pub whereabouts : Museum → List Entry → List ℕ → Where
 whereabouts S P code =
     option_map_or (λ x. where_from (place_at S P x) (chain_at S P x))
     (find_thing S code) UnknownThing
 
--- the posted messages of station s, in order
+-- The posted messages of station s, in their order.
 abbrev pub cut : ℕ → List Entry → List (Arrived Message)
 cut s [] = []
 cut s (e ∷ P) = if e.station == s then cut s P ++ arrival_of e ∷ [] else cut s P
 
--- the place and the containers are the setup's
+-- The place and the containers are in the setup.
 abbrev pub IsPlaced : Museum → Where → Type 0
 IsPlaced S UnknownThing = Unit {0}
 IsPlaced S Unplaced = Unit {0}

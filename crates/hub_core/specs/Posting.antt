@@ -1,4 +1,5 @@
--- What the posting of messages does to a ledger and a store; what it does to the store, where that had the ledger's rows.
+-- Defines how posting changes a ledger and its store together. Each clause about the store assumes
+-- that it had the ledger's rows before.
 use Rattle.std.specs.Prelude.{ℕ, ◌≡◌, ◌-◌, List}
 use Rattle.posting_core.specs.declared.message.Message.{Message}
 use Rattle.posting_core.specs.Messages.{is_sign_off}
@@ -10,19 +11,20 @@ use Rattle.register_store.specs.Holdings.{Holding}
 use Rattle.hub_core.specs.Points.{post}
 use Rattle.hub_core.specs.StandsFor.{InStep, Done, HasStore, HasSomeStore, HasEither, Stopped}
 
--- the next message is posted, with its verdict
+-- The next message is posted with its verdict, in the ledger and in the store.
 pub record Posts (old new : Holding) (before after : Book) (next : Arrived Message) : Type 0 where
   pub ledger : after ≡ record before { posted = post before.museum before.depth before.posted next }
   pub stored : HasStore old before → HasStore new after
 
--- it isn't posted in the ledger, and perhaps in the store
+-- The next message isn't posted in the ledger. The store may have it, and has a lawful list in any
+-- case.
 pub record LeavesUnposted (old new : Holding) (before after : Book)
     (next : Arrived Message) : Type 0 where
   pub ledger : after ≡ before
   pub left : HasStore old before → HasEither new before.museum before.depth before.posted next
   pub lawful : HasStore old before → HasSomeStore new after
 
--- all that is due at station s is posted
+-- All that is due at station s is posted.
 pub record PostsDue (old new : Holding) (s : ℕ) (sequences sequences' : List (Series Message))
     (before after : Book) : Type 0 where
   pub in_step : InStep sequences' after.museum after.posted
@@ -31,7 +33,7 @@ pub record PostsDue (old new : Holding) (s : ℕ) (sequences sequences' : List (
       (series_at sequences s).posted before.posted sequences' after.posted
   pub stored : HasStore old before → HasStore new after
 
--- a fault stopped the posting of what is due there
+-- A fault stopped the posting of what is due at station s.
 pub record StopsDue (old new : Holding) (s : ℕ) (sequences : List (Series Message))
     (before after : Book) : Type 0 where
   pub stopped : (taken : List (Arrived Message)) → IsPosting is_sign_off taken s sequences

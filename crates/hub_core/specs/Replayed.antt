@@ -1,4 +1,5 @@
--- What a replay leaves. `i` and `i'` are what the reader has left before and after, `o` and `o'` what the writer holds.
+-- Defines how a replay can end. `i` and `i'` are the bytes that the reader has left before and
+-- after, `o` and `o'` those that the writer holds.
 use Rattle.std.specs.Prelude.{ℕ, ◌≡◌, ◌≤◌, ◌++◌, Bool, true, false, List, Option, OnSome, Result, OnOk, IfErr, length, take}
 use Rattle.std.specs.Io.KnownBytes.{Appends, Consumes, IsAtEnd}
 use Rattle.nest_core.specs.Museum.{Museum}
@@ -12,12 +13,12 @@ use Rattle.hub_core.specs.Lines.{lines, ended}
 use Rattle.hub_core.specs.LineText.{text, arrivals}
 use Rattle.hub_core.specs.StandsFor.{State, StandsFor, TakesSome}
 
--- the lines that were read: at the end of the input the last one needs no line feed
+-- The lines that were read. At the end of the input the last line needs no line feed.
 abbrev pub lines_read : Bool → List ℕ → List ℕ
 lines_read true bytes = bytes
 lines_read false bytes = ended bytes
 
--- all lines read are answered
+-- All lines that were read are answered.
 pub record Answered {Q : Type 0} (S : Museum) (depth : ℕ) (O : List Entry) (A : List Arrival)
     (i i' o o' : Option (List ℕ)) (holding : Q → Holding) (hub : State Q)
     (at_end : Bool) : Type 0 where
@@ -27,7 +28,7 @@ pub record Answered {Q : Type 0} (S : Museum) (depth : ℕ) (O : List Entry) (A 
   pub written : Appends o o' (text S depth O A (lines_read at_end bytes))
   pub stands : StandsFor holding hub O (A ++ arrivals S (lines_read at_end bytes))
 
--- all lines read are taken, and k bytes of their replies are written
+-- All lines that were read are taken, and k bytes of their replies are written.
 pub record CutShort {Q : Type 0} (S : Museum) (depth : ℕ) (O : List Entry) (A : List Arrival)
     (i i' o o' : Option (List ℕ)) (holding : Q → Holding) (hub : State Q) : Type 0 where
   pub bytes : List ℕ
@@ -38,8 +39,8 @@ pub record CutShort {Q : Type 0} (S : Museum) (depth : ℕ) (O : List Entry) (A 
   pub written : Appends o o' (take k (text S depth O A (lines_read at_end bytes)))
   pub stands : StandsFor holding hub O (A ++ arrivals S (lines_read at_end bytes))
 
--- all lines before the one that met the fault are answered; the hub has taken that line's arrival or not, or was stopped
--- in it
+-- All lines before the one that met the fault are answered. The hub has taken the arrival of that
+-- line, or not, or was stopped at it.
 pub record BrokenOff {Q : Type 0} (S : Museum) (depth : ℕ) (O : List Entry) (A : List Arrival)
     (i i' o o' : Option (List ℕ)) (holding : Q → Holding) (hub : State Q) : Type 0 where
   pub before : List ℕ
@@ -50,7 +51,7 @@ pub record BrokenOff {Q : Type 0} (S : Museum) (depth : ℕ) (O : List Entry) (A
   pub written : Appends o o' (text S depth O A before)
   pub stands : TakesSome holding hub O (A ++ arrivals S before) (arrivals S line)
 
--- after each fault
+-- The end after each fault.
 abbrev pub AfterFault : {Q : Type 0} → Museum → ℕ → List Entry → List Arrival → Option (List ℕ)
     → Option (List ℕ) → Option (List ℕ) → Option (List ℕ) → (Q → Holding) → State Q → ReplayFault
     → Type 0
@@ -61,7 +62,8 @@ AfterFault S depth O A i i' o o' holding hub ReadFailed =
 AfterFault S depth O A i i' o o' holding hub WriteFailed =
     CutShort S depth O A i i' o o' holding hub
 
--- what a replay leaves, however it ends
+-- The end of a replay: after a fault as above; without one the hub isn't down. Its setup and depth
+-- limit never change.
 pub record EndsReplay {Q T : Type 0} (holding : Q → Holding) (refusals : Q → ℕ)
     (i i' o o' : Option (List ℕ)) (old new : State Q) (result : Result T ReplayFault) : Type 0 where
   pub faults : IfErr result

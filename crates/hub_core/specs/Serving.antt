@@ -1,4 +1,4 @@
--- What a call on a hub does that writes a text.
+-- Defines the effect of a call on a hub that takes arrivals and writes a reply.
 use Rattle.std.specs.Prelude.{ℕ, ◌≡◌, ◌++◌, false, List, Result, OnOk, OnErr}
 use Rattle.posting_core.specs.declared.entry.Entry.{Entry}
 use Rattle.register_store.specs.Holdings.{Holding}
@@ -7,9 +7,9 @@ use Rattle.hub_core.specs.declared.hub.answer.HubFault.{HubFault}
 use Rattle.hub_core.specs.Faults.{CountsStore}
 use Rattle.hub_core.specs.StandsFor.{State, StandsFor, TakesSome}
 
--- a hub serves what is sent: for every list of arrivals that it stood for, what is to be said stands in the text, behind
--- what is to stay there, and it stands for the list with what was sent; after a fault it has taken some of that, or was
--- stopped in it
+-- For every list of arrivals that the hub stood for, the reply `said` is appended to the text and
+-- the hub stands for the list with `sent` added. After a fault it has taken some of `sent`, or was
+-- stopped at one. Without a fault it isn't down.
 pub record Serves {R T : Type 0} (holding : R → Holding) (refusals : R → ℕ) (old new : State R)
     (before text : List ℕ) (said : List Entry → List Arrival → List ℕ) (sent : List Arrival)
     (result : Result T HubFault) : Type 0 where

@@ -1,4 +1,4 @@
--- What a hub stands for.
+-- Defines a hub and the arrivals that it stands for, which the contracts of its calls are about.
 use Rattle.std.specs.Prelude.{ℕ, ◌≡◌, ◌-◌, ◌<◌, ◌⊎◌, ◌++◌, ◌∷◌, Bool, true, false, List, length, fold, take}
 use Rattle.nest_core.specs.Museum.{Museum}
 use Rattle.posting_core.specs.declared.message.Message.{Message}
@@ -14,30 +14,31 @@ use Rattle.register_store.specs.Holdings.{Holding, Has}
 use Rattle.hub_core.specs.declared.hub.answer.Arrival.{Arrival}
 use Rattle.hub_core.specs.Points.{point, post, due_with}
 
--- what a hub is: its stations' series, its ledger's book, its register, and whether it is down
+-- A hub: the series of its stations, its ledger, its register, and whether it is down. A hub that
+-- is down refuses every call.
 pub record State (R : Type 0) : Type 0 where
   pub sequences : List (Series Message)
   pub book : Book
   pub register : R
   pub down : Bool
 
--- the store has the rows of the book, and can have no others
+-- If the store is quiet, its rows are those of the ledger's posted list.
 abbrev pub HasStore : Holding → Book → Type 0
 HasStore store book = Has store (IsStoreOf book.museum book.depth book.posted)
 
--- it has the rows of a lawful list
+-- If the store is quiet, its rows are those of some lawful list.
 abbrev pub HasSomeStore : Holding → Book → Type 0
 HasSomeStore store book =
     Has store (λ c. (P : List Entry) × IsLawful book.museum book.depth P
     × IsStoreOf book.museum book.depth P c)
 
--- it has the rows of this list, or of that with the next message posted
+-- If the store is quiet, its rows are those of P, or of P with the next message posted.
 abbrev pub HasEither : Holding → Museum → ℕ → List Entry → Arrived Message → Type 0
 HasEither store S depth P next =
     Has store (λ c. IsStoreOf S depth P c ⊎ IsStoreOf S depth (post S depth P next) c)
 
--- the hub isn't down, its posted list is that of the arrivals A from the posted list O, it holds what was taken above,
--- and its store has the posted list
+-- A hub stands for the arrivals A, from the posted list O, if it isn't down, its posted list is
+-- where they lead, its stations hold what was taken above that, and its store has the posted list.
 pub record StandsFor {R : Type 0} (holding : R → Holding) (hub : State R) (O : List Entry)
     (A : List Arrival) : Type 0 where
   pub up : hub.down ≡ false
@@ -45,8 +46,8 @@ pub record StandsFor {R : Type 0} (holding : R → Holding) (hub : State R) (O :
   pub series : AllMatch is_sign_off (point hub.book.museum hub.book.depth O A).taken hub.sequences
   pub stored : HasStore (holding hub.register) hub.book
 
--- a fault stopped the posting of these messages at `next`: those before it are posted, and the store has that list, or
--- that with `next`
+-- A fault stopped posting at message `next`. Those before it are posted, and the store has that
+-- list, with or without `next`.
 pub record Stopped (store : Holding) (S : Museum) (depth : ℕ) (before : List Entry)
     (messages : List (Arrived Message)) (now : List Entry) : Type 0 where
   pub done : List (Arrived Message)
@@ -56,20 +57,20 @@ pub record Stopped (store : Holding) (S : Museum) (depth : ℕ) (before : List E
   pub list : now ≡ fold (post S depth) before done
   pub stored : HasEither store S depth now next
 
--- the stations' counts and marks are those of the posted list
+-- The stations' counts and sign-offs are those of the posted list.
 pub record InStep (sequences : List (Series Message)) (S : Museum) (P : List Entry) : Type 0 where
   pub stations : length sequences ≡ length S.stations
   pub count : (s : ℕ) → s < length sequences → (series_at sequences s).posted ≡ count_at s P
   pub sign : (s : ℕ) → s < length sequences → (series_at sequences s).signed ≡ is_signed_off s P
 
--- all that is due at station s is posted, where k of its messages were posted before
+-- All that is due at station s is posted. k of its messages were posted before.
 pub record Done (S : Museum) (depth : ℕ) (taken : List (Arrived Message)) (s k : ℕ)
     (before : List Entry) (sequences : List (Series Message)) (now : List Entry) : Type 0 where
   pub matches : AllMatch is_sign_off taken sequences
   pub list : now ≡ fold (post S depth) before (due taken s k (ready is_sign_off taken s - k))
 
--- a fault stopped the hub in one of these arrivals: those before it are taken, some of what came due with it is posted,
--- and the store has that list, or that with the next message
+-- A fault stopped the hub at one of the arrivals. Those before it are taken; some of what came due
+-- with it is posted, and the store has that list, with or without the next message.
 pub record StopsIn {R : Type 0} (holding : R → Holding) (hub : State R) (O : List Entry)
     (A sent : List Arrival) : Type 0 where
   pub down : hub.down ≡ true
@@ -81,7 +82,7 @@ pub record StopsIn {R : Type 0} (holding : R → Holding) (hub : State R) (O : L
       (point hub.book.museum hub.book.depth O (A ++ before)).posted
       (due_with hub.book.museum hub.book.depth O (A ++ before) arrival) hub.book.posted
 
--- the hub has taken the first k of these arrivals, or was stopped in one of them
+-- The hub has taken the first k of the arrivals, or was stopped at one of them.
 abbrev pub TakesSome : {R : Type 0} → (R → Holding) → State R → List Entry → List Arrival
     → List Arrival → Type 0
 TakesSome holding hub O A sent =

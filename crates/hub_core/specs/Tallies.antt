@@ -1,4 +1,4 @@
--- Counts of outcomes.
+-- Defines the counts of outcomes that a replay keeps.
 use Rattle.std.specs.Prelude.{ℕ, ◌≡◌, ◌+◌, ◌-◌, ◌^◌, ◌==◌, ◌&&◌, min, Bool, true, false, List, fold, replicate, slice_index, slice_range, slice_set}
 use Rattle.std.specs.List.{list_all}
 use Rattle.posting_core.specs.VerdictNames.{is_applied, verdict_number}
@@ -9,7 +9,7 @@ use Rattle.hub_core.specs.declared.outcome.Outcome.TheVariants.{Answered, Bad, U
 use Rattle.hub_core.specs.declared.tally.Tally.{Tally}
 use Rattle.hub_core.specs.declared.tally.TheConstants.{REFUSALS, VERDICTS}
 
--- the place of a refusal's count
+-- The position of a refusal in the list of counts.
 abbrev pub refusal_place : Refusal → ℕ
 refusal_place refusal.UnknownStation = 0
 refusal_place refusal.BadNumber = 1
@@ -17,15 +17,15 @@ refusal_place refusal.Double = 2
 refusal_place refusal.SignedOff = 3
 refusal_place refusal.TooEarly = 4
 
--- a count goes up by one, but never above the last number of 64 bits
+-- One more, but never above 2^64 - 1.
 abbrev pub one_more : ℕ → ℕ
 one_more n = min (n + 1) (2 ^ 64 - 1)
 
--- the count in a place goes up by one
+-- The counts with one more at this position.
 abbrev pub one_more_at : List ℕ → ℕ → List ℕ
 one_more_at counts place = slice_set counts place (one_more (slice_index counts place))
 
--- nothing is counted
+-- The tally before any line.
 abbrev pub nothing_seen : Tally
 nothing_seen = record {
   lines = 0;
@@ -37,7 +37,7 @@ nothing_seen = record {
   asked = 0;
 }
 
--- one more outcome is counted
+-- The tally with one more outcome.
 abbrev pub tallied : Tally → Outcome → Tally
 tallied t Answered = record t { lines = one_more t.lines }
 tallied t Bad = record t { bad = one_more t.bad }
@@ -47,16 +47,16 @@ tallied t Held = record t { held = one_more t.held }
 tallied t (Posted verdict) = record t { posted = one_more_at t.posted (verdict_number verdict) }
 tallied t Asked = record t { asked = one_more t.asked }
 
--- the tally of these outcomes
+-- The tally of these outcomes.
 abbrev pub tally_of : List Outcome → Tally
 tally_of outcomes = fold tallied nothing_seen outcomes
 
--- a tally has seen these outcomes
+-- The tally is that of these outcomes.
 abbrev pub HasTallied : Tally → List Outcome → Type 0
 HasTallied t outcomes = t ≡ tally_of outcomes
 
--- no line is bad or of an unknown station, no message is refused, and no entry has a verdict above
--- number 0, which is Applied
+-- No line was bad or of an unknown station, no message was refused, and every entry was applied.
+-- Verdict number 0 is Applied.
 abbrev pub is_clean : Tally → Bool
 is_clean t =
     (t.bad == 0)
@@ -64,8 +64,7 @@ is_clean t =
     && (list_all (λ n. n == 0) t.refused
     && list_all (λ n. n == 0) (slice_range t.posted 1 VERDICTS)))
 
--- nothing went wrong: a line was answered, a message was held or posted as Applied, or there was a
--- question
+-- Nothing went wrong: a line was answered, a message was held or applied, or a question was asked.
 abbrev pub is_fine : Outcome → Bool
 is_fine Answered = true
 is_fine Bad = false

@@ -1,4 +1,6 @@
--- What a run leaves. `i` and `i'` are what the reader has left before and after, `o` and `o'` what the writer holds.
+-- Defines a run: a head with the setup, an empty line, and the lines to replay over a register in
+-- memory. `i` and `i'` are the bytes that the reader has left before and after, `o` and `o'` those
+-- that the writer holds.
 use Rattle.std.specs.Prelude.{ℕ, ◌≡◌, ◌≤◌, ◌<◌, ◌⊎◌, nat_lt, Bool, false, List, [], length, Option, Some, None, IfSome, if◌then◌else◌}
 use Rattle.std.specs.Option.{option_map}
 use Rattle.std.specs.List.{list_any}
@@ -20,38 +22,39 @@ use Rattle.hub_core.specs.LineText.{text}
 use Rattle.hub_core.specs.StandsFor.{State, StandsFor}
 use Rattle.hub_core.specs.Replayed.{AfterFault}
 
--- why a head is refused: it is too long, else the first fault of its setup
+-- The first fault of a head: HeadTooLong, then that of its setup.
 abbrev pub head_fault : List ℕ → Option RunFault
 head_fault bytes =
     if nat_lt LONGEST_HEAD (length bytes) then Some HeadTooLong
     else option_map Setup (setup_fault bytes)
 
--- the setup that a run's bytes list
+-- The setup in the head of the bytes.
 abbrev pub setup_in : List ℕ → Museum
 setup_in bytes = museum_of (rows_of (head bytes))
 
--- what a run writes for its bytes: the replies to the lines after the head, from nothing posted
+-- The text that a run writes for its bytes: the replies to the lines after the head, starting with
+-- nothing posted.
 abbrev pub run_text : List ℕ → List ℕ
 run_text bytes = text (setup_in bytes) NEW_DEPTH [] [] (after_head bytes)
 
--- an empty line has ended
+-- The bytes have a whole empty line.
 abbrev pub has_empty_line : List ℕ → Bool
 has_empty_line bytes = list_any is_blank (pieces (ended bytes))
 
--- a head was read in part: its empty line has not ended, and it isn't too long so far
+-- Part of a head was read: its empty line has not ended, and it isn't too long so far.
 pub record InHead (i i' : Option (List ℕ)) : Type 0 where
   pub bytes : List ℕ
   pub read : Consumes i i' bytes
   pub part : has_empty_line bytes ≡ false
   pub short : length (head bytes) ≤ LONGEST_HEAD
 
--- the head and its empty line were read, and the head isn't too long
+-- The head and its empty line were read, and the head isn't too long.
 abbrev pub TakesHead : Option (List ℕ) → Option (List ℕ) → List ℕ → Type 0
 TakesHead i i' taken =
     IfSome i (λ bytes. (taken ≡ head bytes) × (length taken ≤ LONGEST_HEAD)
     × (i' ≡ Some (after_head bytes)))
 
--- why a line of a head could not be read, where the head has room for so many bytes more
+-- Why a line of a head could not be read, if the head has room for this many more bytes.
 abbrev pub IsLineFault : ℕ → List ℕ → RunFault → Type 0
 IsLineFault room line NoMemory = length (head line) ≤ room
 IsLineFault room line Store = ⊥
@@ -60,14 +63,14 @@ IsLineFault room line WriteFailed = ⊥
 IsLineFault room line (Setup fault) = ⊥
 IsLineFault room line HeadTooLong = room < length (head line)
 
--- the start of a line of a head was taken
+-- The start of a line of a head was taken.
 pub record StopsInLine (i i' : Option (List ℕ)) (room : ℕ) (fault : RunFault) : Type 0 where
   pub bytes : List ℕ
   pub taken : Consumes i i' bytes
   pub one : HasNoFeed bytes
   pub cause : IsLineFault room bytes fault
 
--- why a run met no line
+-- Why a run ended before its lines.
 abbrev pub BeforeLines : Option (List ℕ) → Option (List ℕ) → RunFault → Type 0
 BeforeLines i i' NoMemory = InHead i i' ⊎ ((taken : List ℕ) × TakesHead i i' taken)
 BeforeLines i i' Store = ⊥
@@ -78,7 +81,7 @@ BeforeLines i i' (Setup fault) =
     × (i' ≡ Some (after_head bytes)))
 BeforeLines i i' HeadTooLong = IfSome i (λ bytes. head_fault (head bytes) ≡ Some HeadTooLong)
 
--- a setup's fault, as a run tells it
+-- A setup's fault as a run's.
 abbrev pub told_fault : SetupFault → RunFault
 told_fault setup.NotCsv = Setup setup.NotCsv
 told_fault (setup.BadKind row) = Setup (setup.BadKind row)
@@ -90,26 +93,27 @@ told_fault (setup.TooMany row) = Setup (setup.TooMany row)
 told_fault setup.NoStation = Setup setup.NoStation
 told_fault setup.NoMemory = NoMemory
 
--- a fault of a replay, as a run tells it
+-- A replay's fault as a run's.
 abbrev pub run_fault : ReplayFault → RunFault
 run_fault replay.NoMemory = NoMemory
 run_fault replay.Store = Store
 run_fault replay.ReadFailed = ReadFailed
 run_fault replay.WriteFailed = WriteFailed
 
--- the hub of a run, over a register in memory: it has this setup and nothing posted
+-- The hub of a run has this setup, and nothing posted.
 pub record IsFresh (hub : State Kept) (S : Museum) : Type 0 where
   pub museum : hub.book.museum ≡ S
   pub depth : hub.book.depth ≡ NEW_DEPTH
   pub stands : StandsFor in_memory hub [] []
 
--- the head has no fault and is read, and the hub has its setup
+-- The head was read and has no fault, and the hub has its setup.
 abbrev pub OpensHub : Option (List ℕ) → Option (List ℕ) → State Kept → Type 0
 OpensHub i i' hub =
     IfSome i (λ bytes. (head_fault (head bytes) ≡ None) × (i' ≡ Some (after_head bytes))
     × IsFresh hub (setup_in bytes))
 
--- a run met a fault in its lines, after a head without fault: what their replay leaves, over the run's hub
+-- The head has no fault, and a fault came in the lines. The end is that of a replay over the run's
+-- hub.
 abbrev pub InLines : Option (List ℕ) → Option (List ℕ) → Option (List ℕ) → Option (List ℕ)
     → ReplayFault → Type 0
 InLines i i' o o' fault = IfSome i (λ bytes. (head_fault (head bytes) ≡ None)
@@ -117,7 +121,7 @@ InLines i i' o o' fault = IfSome i (λ bytes. (head_fault (head bytes) ≡ None)
     × AfterFault (setup_in bytes) NEW_DEPTH [] []
     (Some (after_head bytes)) i' o o' in_memory hub fault))
 
--- after each fault of a run; before its lines nothing is written
+-- The end of a run after a fault: before the lines, with nothing written, or in the lines.
 abbrev pub AfterRun : Option (List ℕ) → Option (List ℕ) → Option (List ℕ) → Option (List ℕ)
     → RunFault → Type 0
 AfterRun i i' o o' fault =

@@ -1,9 +1,9 @@
--- What the work of a command has with it.
+-- Defines how many feeds the work of a command has.
 use Rattle.std.specs.Prelude.{ℕ, ◌≡◌, ⊤, vec_len}
 use Rattle.hub_program.specs.declared.work.Work.{Work}
 use Rattle.hub_program.specs.declared.work.Work.TheVariants.{Replay, Print, Serve, Migrate}
 
--- where stations are served there are so many feeds
+-- To serve n stations takes n feeds. Other work has none.
 abbrev pub HasFeeds : ℕ → Work → Type 0
 HasFeeds n Replay = ⊤
 HasFeeds n (Print report format) = ⊤

@@ -1,4 +1,5 @@
--- What a setup lists, each thing, place and station with its number from 0.
+-- Defines a setup: the stations, places and things of a museum, each with its position in its list,
+-- from 0, as its number.
 use Rattle.std.specs.Prelude.{ℕ, ◌≡◌, ◌+◌, ◌≤◌, ◌&&◌, Bool, true, false, not, nat_lt, List, [], length, map, Option, Some, None, is_none, option_map, slice_get}
 use Rattle.std.specs.List.{position, list_all}
 use Rattle.std.specs.Option.{option_map_or, option_and_then}
@@ -10,13 +11,14 @@ use Rattle.codes_core.specs.declared.thing.ThingKind.TheVariants.{Own, Borrowed,
 use Rattle.nest_core.specs.declared.TheConstants.{MOST_STATIONS, MOST_PLACES, MOST_THINGS}
 use Rattle.nest_core.specs.StationName.{is_station_name}
 
--- stations by name; places by code, each inside the museum or elsewhere; things by code, an own object with its normal place
+-- Stations by name; places by code, each inside the museum (true) or elsewhere, at a partner;
+-- things by code, an own object with its normal place. Numbers are the positions in these lists.
 pub record Museum : Type 0 where
   pub stations : List (List ℕ)
   pub places : List (List ℕ × Bool)
   pub things : List (List ℕ × Option ℕ)
 
--- nothing yet
+-- A setup without any rows.
 abbrev pub no_museum : Museum
 no_museum = record { stations = []; places = []; things = [] }
 
@@ -26,39 +28,39 @@ place_codes S = map (λ row. row.0) S.places
 abbrev pub thing_codes : Museum → List (List ℕ)
 thing_codes S = map (λ row. row.0) S.things
 
--- the number of the station with the name
+-- The number of the station with this name.
 abbrev pub find_station : Museum → List ℕ → Option ℕ
 find_station S name = position (bytes_eq name) S.stations
 
--- the number of the place with the code
+-- The number of the place with this code.
 abbrev pub find_place : Museum → List ℕ → Option ℕ
 find_place S code = position (bytes_eq code) (place_codes S)
 
--- the number of the thing with the code
+-- The number of the thing with this code.
 abbrev pub find_thing : Museum → List ℕ → Option ℕ
 find_thing S code = position (bytes_eq code) (thing_codes S)
 
--- the name of station s
+-- The name of station s.
 abbrev pub station_name_of : Museum → ℕ → Option (List ℕ)
 station_name_of S s = slice_get S.stations s
 
--- the code of place p
+-- The code of place p.
 abbrev pub place_code_of : Museum → ℕ → Option (List ℕ)
 place_code_of S p = slice_get (place_codes S) p
 
--- the code of thing x
+-- The code of thing x.
 abbrev pub thing_code_of : Museum → ℕ → Option (List ℕ)
 thing_code_of S x = slice_get (thing_codes S) x
 
--- place p is one of the museum's own; false where there is no place p
+-- Place p is the museum's own. False if there is no place p.
 abbrev pub is_inside : Museum → ℕ → Bool
 is_inside S p = option_map_or (λ row. row.1) (slice_get S.places p) false
 
--- place p is a partner's; false where there is no place p
+-- Place p is a partner's. False if there is no place p.
 abbrev pub is_elsewhere : Museum → ℕ → Bool
 is_elsewhere S p = option_map_or (λ row. not row.1) (slice_get S.places p) false
 
--- what thing x is, as its code says
+-- The kind of thing x, by its code.
 abbrev pub kind_of : Museum → ℕ → Option ThingKind
 kind_of S x = option_map thing_kind (thing_code_of S x)
 
@@ -86,35 +88,37 @@ is_borrowed S x = option_map_or is_borrowed_kind (kind_of S x) false
 abbrev pub is_container : Museum → ℕ → Bool
 is_container S x = option_map_or is_container_kind (kind_of S x) false
 
--- the normal place of thing x, which only an own object has
+-- The normal place of thing x. Only an own object has one.
 abbrev pub normal_of : Museum → ℕ → Option ℕ
 normal_of S x = option_and_then (λ row. row.1) (slice_get S.things x)
 
--- how many rows list it
+-- The number of rows that list the setup.
 abbrev pub row_count : Museum → ℕ
 row_count S = length S.stations + length S.places + length S.things
 
--- an own object has a normal place, which is one of so many, and others have none
+-- An own object has a normal place, one of this many places; other things have none.
 abbrev pub has_right_normal : ℕ → ThingKind → Option ℕ → Bool
 has_right_normal places Own None = false
 has_right_normal places Own (Some p) = nat_lt p places
 has_right_normal places Borrowed normal = is_none normal
 has_right_normal places Container normal = is_none normal
 
+-- The row has the code of a place.
 abbrev pub is_place_row : List ℕ × Bool → Bool
 is_place_row row = is_none (place_fault row.0)
 
--- a thing's code, with a normal place where it is to have one
+-- The row has the code of a thing, and a normal place exactly if its kind has one.
 abbrev pub is_thing_row : ℕ → List ℕ × Option ℕ → Bool
 is_thing_row places row =
     is_none (thing_fault row.0) && has_right_normal places (thing_kind row.0) row.1
 
--- what holds of every setup
+-- The invariant of every setup: valid names and codes, none listed twice, and at most 64 stations,
+-- 10,000 places and 100,000 things.
 pub record IsMuseum (S : Museum) : Type 0 where
   pub names : list_all is_station_name S.stations ≡ true
   pub codes_of_places : list_all is_place_row S.places ≡ true
   pub codes_of_things : list_all (is_thing_row (length S.places)) S.things ≡ true
-  -- none stands twice: each is found where it stands
+  -- No name or code is listed twice: each is found at its own number.
   pub each_station : (s : ℕ) (name : List ℕ) → station_name_of S s ≡ Some name
       → find_station S name ≡ Some s
   pub each_place : (p : ℕ) (code : List ℕ) → place_code_of S p ≡ Some code

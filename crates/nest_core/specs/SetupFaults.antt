@@ -1,9 +1,9 @@
--- The faults of a setup as they are printed.
+-- Defines how the fault of a setup is printed: its row and its name.
 use Rattle.std.specs.Prelude.{ℕ, List, Option, Some, None, codes}
 use Rattle.nest_core.specs.declared.setup_fault.SetupFault.{SetupFault}
 use Rattle.nest_core.specs.declared.setup_fault.SetupFault.TheVariants.{NotCsv, BadKind, BadFields, BadCode, Repeated, UnknownNormal, TooMany, NoStation, NoMemory}
 
--- the row with the fault, if it is a row's
+-- The row that has the fault. None for a fault of the whole file.
 abbrev pub row_of : SetupFault → Option ℕ
 row_of NotCsv = None
 row_of (BadKind n) = Some n
@@ -15,7 +15,7 @@ row_of (TooMany n) = Some n
 row_of NoStation = None
 row_of NoMemory = None
 
--- the fault's name
+-- The name of the fault.
 abbrev pub name_of : SetupFault → List ℕ
 name_of NotCsv = codes "NotCsv"
 name_of (BadKind n) = codes "BadKind"

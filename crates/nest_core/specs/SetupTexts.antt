@@ -1,4 +1,5 @@
--- The rows that list a setup: stations, then places, then things, each in number order.
+-- Defines the text rows of a setup, from which it can be read again: stations, then places, then
+-- things, each in the order of their numbers.
 use Rattle.std.specs.Prelude.{ℕ, Bool, List, [], ◌∷◌, ◌++◌, map, Option, Some, None, unwrap_or, codes, if◌then◌else◌}
 use Rattle.std.specs.List.{join_with_byte}
 use Rattle.codes_core.specs.Thing.{thing_kind}
@@ -13,13 +14,13 @@ abbrev pub place_fields : List ℕ × Bool → List (List ℕ)
 place_fields row =
     codes "place" ∷ row.0 ∷ (if row.1 then codes "inside" else codes "elsewhere") ∷ []
 
--- the first field of a thing's row
+-- The first field of a thing's row.
 abbrev pub kind_word : ThingKind → List ℕ
 kind_word Own = codes "own"
 kind_word Borrowed = codes "lent"
 kind_word Container = codes "box"
 
--- its normal place, where it has one
+-- The code of the normal place, if the thing has one.
 abbrev pub normal_fields : Museum → Option ℕ → List (List ℕ)
 normal_fields S None = []
 normal_fields S (Some p) = unwrap_or (place_code_of S p) [] ∷ []
@@ -27,11 +28,11 @@ normal_fields S (Some p) = unwrap_or (place_code_of S p) [] ∷ []
 abbrev pub thing_fields : Museum → List ℕ × Option ℕ → List (List ℕ)
 thing_fields S row = kind_word (thing_kind row.0) ∷ row.0 ∷ normal_fields S row.1
 
--- the fields of a row, joined by commas
+-- The fields of a row, joined by commas. Names and codes need no quotes.
 abbrev pub joined : List (List ℕ) → List ℕ
 joined fields = join_with_byte 44 fields
 
--- all rows
+-- All rows of a setup.
 abbrev pub setup_rows : Museum → List (List ℕ)
 setup_rows S =
     map (λ name. joined (station_fields name)) S.stations

@@ -1,5 +1,6 @@
--- What was agreed of loans, looking back through the posted entries, of which the newest stands first: a loan's terms,
--- whether it is authorised, and its last day.
+-- Defines what was agreed of loans, by looking back through the posted entries: a loan's terms,
+-- whether it is authorised, and its last day. The newest entry comes first, and only applied
+-- entries count.
 use Rattle.std.specs.Prelude.{ℕ, ℤ, ◌&&◌, Bool, false, List, [], ◌∷◌, ◌++◌, Option, Some, None, map, is_some, unwrap_or, if◌then◌else◌}
 use Rattle.std.specs.List.{find, list_any, position}
 use Rattle.std.specs.Option.{option_map, option_and_then, option_to_list}
@@ -11,7 +12,8 @@ use Rattle.posting_core.specs.declared.entry.Entry.{Entry}
 use Rattle.posting_core.specs.Messages.{loan_of}
 use Rattle.posting_core.specs.VerdictNames.{is_applied}
 
--- the terms of a loan: the partner's place, the objects, the first day and the last
+-- The terms of a loan: the code of the partner's place, the codes of the objects, and the first and
+-- the last day.
 pub record Agreement : Type 0 where
   pub loan : List ℕ
   pub partner : List ℕ
@@ -19,33 +21,35 @@ pub record Agreement : Type 0 where
   pub first : ℤ
   pub last : ℤ
 
+-- The agreement that a message makes.
 abbrev pub agreement_in : Message → Option Agreement
 agreement_in (Agree first last loan partner objects) =
     Some (record { loan = loan; partner = partner; objects = objects; first = first; last = last })
 agreement_in _ = None
 
--- the agreement that a message makes under this verdict
+-- The agreement that a message makes under this verdict.
 abbrev pub agreement_by : Verdict → Message → Option Agreement
 agreement_by verdict m = if is_applied verdict then agreement_in m else None
 
--- the agreements that were applied, the first agreed first
+-- All applied agreements, the first agreed first.
 abbrev pub agreements : List Entry → List Agreement
 agreements [] = []
 agreements (e ∷ P) = agreements P ++ option_to_list (agreement_by e.verdict e.message)
 
--- the agreement of a loan
+-- The agreement of a loan: the first with its code.
 abbrev pub agreement : List Entry → List ℕ → Option Agreement
 agreement P loan = find (λ t. bytes_eq loan t.loan) (agreements P)
 
--- the loans, in the order of their agreements
+-- The codes of the loans, in the order of their agreements.
 abbrev pub loans : List Entry → List (List ℕ)
 loans P = map (λ t. t.loan) (agreements P)
 
--- a loan's number in that order
+-- The number of a loan, from 0 in that order.
 abbrev pub loan_no : List Entry → List ℕ → Option ℕ
 loan_no P loan = position (bytes_eq loan) (loans P)
 
--- the number of the loan that goes on by a message under this verdict
+-- The number of the loan that a message continues under this verdict. A refused message continues
+-- none.
 abbrev pub loan_by : List Entry → Verdict → Message → Option ℕ
 loan_by P verdict m =
     option_and_then (λ loan. if is_applied verdict then loan_no P loan else None) (loan_of m)
@@ -53,26 +57,28 @@ loan_by P verdict m =
 abbrev pub is_agreed : List Entry → List ℕ → Bool
 is_agreed P loan = is_some (agreement P loan)
 
+-- The message authorises this loan.
 abbrev pub authorises : Message → List ℕ → Bool
 authorises (Authorise name l) loan = bytes_eq l loan
 authorises _ loan = false
 
--- an applied entry authorises the loan
+-- An applied entry authorises the loan.
 abbrev pub is_authorised : List Entry → List ℕ → Bool
 is_authorised P loan = list_any (λ e. is_applied e.verdict && authorises e.message loan) P
 
--- the last day to which a message extends the loan
+-- The new last day that a message sets for the loan.
 abbrev pub extension_in : Message → List ℕ → Option ℤ
 extension_in (Extend last l) loan = if bytes_eq l loan then Some last else None
 extension_in _ loan = None
 
--- the last day of a loan that was agreed until this one: that of its last applied extension, where there is one
+-- The last day of a loan that was agreed until `agreed`: that of its last applied extension, if
+-- there is one.
 abbrev pub last_from : List Entry → List ℕ → ℤ → ℤ
 last_from [] loan agreed = agreed
 last_from (e ∷ P) loan agreed =
     unwrap_or (if is_applied e.verdict then extension_in e.message loan else None)
     (last_from P loan agreed)
 
--- a loan's last day
+-- The last day of a loan: that of its last applied extension, otherwise the one agreed.
 abbrev pub last_day : List Entry → List ℕ → Option ℤ
 last_day P loan = option_map (λ t. last_from P loan t.last) (agreement P loan)

@@ -1,4 +1,4 @@
--- What a ledger is, what posting a message changes in it, and what it answers.
+-- Defines a ledger's view, its answers, and what posting a message changes in it.
 use Rattle.std.specs.Prelude.{ℕ, ℤ, ◌+◌, ◌&&◌, ◌||◌, Bool, false, List, [], length, map, Option, is_some, if◌then◌else◌}
 use Rattle.std.specs.List.{range_with_len, filter_map}
 use Rattle.std.specs.Option.{option_map, option_map_or}
@@ -21,13 +21,13 @@ use Rattle.posting_core.specs.Agreements.{Agreement, agreement_in, loan_by, loan
 use Rattle.posting_core.specs.Loans.{Crossing, crossing_in, objects_in, objects_of, objects, line, loan_state}
 use Rattle.posting_core.specs.Verdicts.{verdict, hangs_on_lines}
 
--- what a ledger is: the setup, the depth limit, and the posted entries, the newest first
+-- A ledger: the setup, the depth limit, and the posted entries, the newest first.
 pub record Book : Type 0 where
   pub museum : Museum
   pub depth : ℕ
   pub posted : List Entry
 
--- the answers of a ledger, by looking back through its entries
+-- The answers of a ledger follow, by looking back through its entries. First, a thing's place.
 abbrev pub place_in : Book → ℕ → Option ℕ
 place_in B x = place_at B.museum B.posted x
 
@@ -55,40 +55,42 @@ last_day_in B loan = last_day B.posted loan
 abbrev pub verdict_in : Book → Message → Verdict
 verdict_in B m = verdict B.museum B.depth B.posted m
 
--- a thing's place when the message is applied after P
+-- A thing's place after P and then this message, if it is applied.
 abbrev pub place_after : Museum → List Entry → Message → ℕ → Option ℕ
 place_after S P m x = place (length S.things) (with_put (put_in S P m) (puts S P)) x
 
--- a thing's new spot, where its place differs from the one before, numbered from 1 in the thing's list
+-- The new spot of a thing, if its place changes, with its number from 1 in the thing's list.
 abbrev pub new_spot : ℕ → ℕ → Option ℕ → Option ℕ → Option ℤ → ℕ → Option NewSpot
 new_spot number count before after day x =
     option_map (λ spot. record { thing = x; k = count + 1; spot = spot })
     (spot_from number before after day)
 
--- the new spots that the message writes where it is applied after P, ascending by thing
+-- The spots that the message adds if it is applied after P, in ascending order of things.
 abbrev pub new_spots : Museum → List Entry → Message → List NewSpot
 new_spots S P m = filter_map
     (λ x. new_spot (length P + 1) (length (spots S P x)) (place_at S P x) (place_after S P m x)
     (day_of m) x)
     (range_with_len 0 (length S.things))
 
--- the lines that an agreement makes, in the order of its list
+-- The lines that an agreement makes, one for each object in its order.
 abbrev pub lines_of_agreement : Museum → Agreement → List NewLine
 lines_of_agreement S t =
     map (λ o. record { loan = t.loan; object = o; stage = Awaiting }) (objects_of S t)
 
--- the lines that a crossing changes, ascending by object
+-- The lines that a crossing changes, one for each object that crosses, in ascending order.
 abbrev pub lines_of_crossing : Museum → List Entry → Crossing → List NewLine
 lines_of_crossing S P c =
     map (λ o. record { loan = c.loan; object = o; stage = c.stage }) (objects_in S P c.thing)
 
--- the lines that the message makes or changes where it is applied after P
+-- The lines that the message makes or changes if it is applied after P.
 abbrev pub new_lines : Museum → List Entry → Message → List NewLine
 new_lines S P m =
     option_map_or (lines_of_agreement S) (agreement_in m)
     (option_map_or (lines_of_crossing S P) (crossing_in m) [])
 
--- what posting the message changes; a refused one puts, carries and writes nothing
+-- Everything that posting the message changes: the number of its entry, its verdict, its put, what
+-- that moves, the new spots, the loan that it continues, and the loan lines. A refused message
+-- changes nothing but the list of entries.
 abbrev pub changes_of : Book → Message → Changes
 changes_of B m =
     let v = verdict_in B m in record {
@@ -101,20 +103,24 @@ changes_of B m =
       lines = if is_applied v then new_lines B.museum B.posted m else [];
     }
 
--- it makes or changes lines: it agrees a loan, or something crosses by it
+-- The message makes or changes loan lines.
 abbrev pub has_lines : Message → Bool
 has_lines m = is_some (agreement_in m) || is_some (crossing_in m)
 
--- something crosses by it that has something in it
+-- A container with something in it crosses.
 abbrev pub crosses_with : Book → Message → Bool
 crosses_with B m = option_map_or
     (λ c. holds_at B.museum B.posted (thing_no B.museum c.thing)) (crossing_in m) false
 
--- to judge it takes memory: its verdict hangs on the lines of several things that cross
+-- Judging the message may run out of memory: a container with something in it crosses, and the
+-- verdict depends on the lines of its contents.
 abbrev pub asks_lines : Book → Message → Bool
 asks_lines B m = crosses_with B m && hangs_on_lines (verdict_in B m)
 
--- to plan it takes memory: to judge it, or where it is applied and makes or changes lines, or takes something along
+-- Planning the message may run out of memory: to judge it, or because it is applied and changes
+-- loan lines or moves a container with its contents. Every other message is planned without memory:
+-- one refused before its lines are looked at, a move of a thing with nothing in it, an
+-- authorisation, an extension, a sign-off.
 abbrev pub asks_memory : Book → Message → Bool
 asks_memory B m =
     asks_lines B m

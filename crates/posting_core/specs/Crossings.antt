@@ -1,4 +1,5 @@
--- What is asked of what crosses under a loan before its lines.
+-- Defines what is established about a message that crosses under a loan before its lines are looked
+-- at.
 use Rattle.std.specs.Prelude.{ℕ, ◌≡◌, ◌<◌, true, not, List, ◌∷◌, length, Some}
 use Rattle.std.specs.Option.{option_map}
 use Rattle.nest_core.specs.Museum.{Museum, find_thing, is_elsewhere}
@@ -12,7 +13,8 @@ use Rattle.posting_core.specs.Loans.{line}
 use Rattle.posting_core.specs.Verdicts.{is_known, is_known_place}
 use Rattle.posting_core.specs.LoanRows.{LoanRow, line_of}
 
--- the numbers of the thing and of the loan, and what the loan's row says
+-- The thing has number x, the loan is agreed with number i, and the row agrees with looking back:
+-- authorised or not, last day, partner's place and lines.
 pub record IsFound (S : Museum) (P : List Entry) (code loan : List ℕ) (x i : ℕ)
     (row : LoanRow) : Type 0 where
   pub thing : find_thing S code ≡ Some x
@@ -24,7 +26,7 @@ pub record IsFound (S : Museum) (P : List Entry) (code loan : List ℕ) (x i : �
   pub partner : option_map (λ t. place_no S t.partner) (agreement P loan) ≡ Some row.partner
   pub lines : (o : ℕ) → line_of row o ≡ line S P loan o
 
--- the rows that a return and a receipt of thing x under a loan at place p begin with, before the rest
+-- The rows that a Return and a Receive both start with.
 abbrev pub incoming_rows : Museum → List Entry → List ℕ → List ℕ → List ℕ → List (Row Verdict)
     → List (Row Verdict)
 incoming_rows S P x loan p rest =

@@ -1,4 +1,5 @@
--- What is kept of messages.
+-- Defines how a ledger keeps a message: in 40 bytes if it puts a thing and its codes are short
+-- enough, otherwise whole.
 use Rattle.std.specs.Prelude.{◌≡◌, None, ⊤}
 use Rattle.codes_core.specs.Loan.{loan_fault}
 use Rattle.codes_core.specs.Place.{place_fault}
@@ -8,7 +9,7 @@ use Rattle.posting_core.specs.declared.kept_message.Form.TheVariants.{Move, Pack
 use Rattle.posting_core.specs.declared.message.Message.{Message}
 use Rattle.posting_core.specs.declared.message.Message.TheVariants as says
 
--- the message that is kept so
+-- The message that the form stands for.
 abbrev pub said : Form → Message
 said (Move day thing place) = says.Move day thing place
 said (Pack day thing container) = says.Pack day thing container
@@ -17,7 +18,7 @@ said (Return day thing loan place) = says.Return day thing loan place
 said (Receive day thing loan place) = says.Receive day thing loan place
 said (Whole m) = m.value
 
--- what stands in short are codes
+-- The short texts are codes, so that they give back the message.
 abbrev pub HasCodes : Form → Type 0
 HasCodes (Move day thing place) = (thing_fault thing ≡ None) × (place_fault place ≡ None)
 HasCodes (Pack day thing container) = (thing_fault thing ≡ None) × (thing_fault container ≡ None)

@@ -1,4 +1,5 @@
--- Which lists of entries the rules let stand.
+-- Defines which lists of entries can be posted: those in which each entry has the next number of
+-- its station, and the verdict that the entries before it lead to.
 use Rattle.std.specs.Prelude.{ℕ, ◌≡◌, ◌+◌, ◌<◌, ◌≤◌, ◌==◌, ◌&&◌, Bool, false, List, [], ◌∷◌, length, if◌then◌else◌}
 use Rattle.std.specs.List.{list_any}
 use Rattle.nest_core.specs.Museum.{Museum}
@@ -7,16 +8,18 @@ use Rattle.posting_core.specs.declared.entry.Entry.{Entry}
 use Rattle.posting_core.specs.Messages.{is_sign_off}
 use Rattle.posting_core.specs.Verdicts.{verdict}
 
--- how many entries of P a station has
+-- The number of entries of a station.
 abbrev pub count_at : ℕ → List Entry → ℕ
 count_at station [] = 0
 count_at station (e ∷ P) = (if e.station == station then 1 else 0) + count_at station P
 
--- the station's sign-off is posted
+-- The station's sign-off is posted.
 abbrev pub is_signed_off : ℕ → List Entry → Bool
 is_signed_off station P = list_any (λ e. (e.station == station) && is_sign_off e.message) P
 
--- the entry may follow P: it has the next number of a station of the setup, at most the last, after no sign-off, and its verdict over P
+-- The entry may follow the entries P: its station is in the setup and has not signed off, its
+-- number is the station's next, at most 999,999 (`LAST_NUMBER`), and its verdict is the one after
+-- P.
 pub record Follows (S : Museum) (depth : ℕ) (P : List Entry) (e : Entry) : Type 0 where
   pub known : e.station < length S.stations
   pub next : e.n ≡ count_at e.station P + 1
@@ -24,7 +27,7 @@ pub record Follows (S : Museum) (depth : ℕ) (P : List Entry) (e : Entry) : Typ
   pub unsigned : is_signed_off e.station P ≡ false
   pub judged : e.verdict ≡ verdict S depth P e.message
 
--- each entry may follow those before it
+-- Each entry may follow those before it.
 abbrev pub IsLawful : Museum → ℕ → List Entry → Type 0
 IsLawful S depth [] = Unit {0}
 IsLawful S depth (e ∷ P) = Follows S depth P e × IsLawful S depth P

@@ -1,4 +1,4 @@
--- What a ledger keeps of each loan, and what a message writes there.
+-- Defines what a ledger keeps of each loan, and what a message changes there.
 use Rattle.std.specs.Prelude.{ℕ, ℤ, ◌≡◌, Bool, true, false, List, [], ◌∷◌, ◌++◌, Option, None, map, slice_get, slice_set, nat_eq, if◌then◌else◌}
 use Rattle.std.specs.List.{position, find}
 use Rattle.std.specs.Option.{option_map_or, option_and_then}
@@ -17,7 +17,8 @@ use Rattle.posting_core.specs.Messages.{place_no, loan_of}
 use Rattle.posting_core.specs.Agreements.{Agreement, agreements, is_authorised, last_from}
 use Rattle.posting_core.specs.Loans.{stage, objects_of, state_by}
 
--- a loan: the partner's place, the objects and the stages of their lines, the last day, and whether it is authorised
+-- A loan: the number of the partner's place, the numbers of the objects and the stages of their
+-- lines, the last day, and whether it is authorised.
 pub record LoanRow : Type 0 where
   pub loan : List ℕ
   pub partner : ℕ
@@ -26,7 +27,7 @@ pub record LoanRow : Type 0 where
   pub last : ℤ
   pub authorised : Bool
 
--- the row of a loan, by looking back
+-- The row of a loan, by looking back.
 abbrev pub loan_row : Museum → List Entry → Agreement → LoanRow
 loan_row S P t = record {
   loan = t.loan;
@@ -37,19 +38,19 @@ loan_row S P t = record {
   authorised = is_authorised P t.loan;
 }
 
--- the rows of all loans, in the order of their agreements
+-- The rows of all loans, in the order of their agreements.
 abbrev pub loan_rows : Museum → List Entry → List LoanRow
 loan_rows S P = map (loan_row S P) (agreements P)
 
--- the stage of an object's line in a row
+-- The stage of an object's line, by the row.
 abbrev pub line_of : LoanRow → ℕ → Option LineStage
 line_of row o = option_and_then (slice_get row.stages) (position (nat_eq o) row.objects)
 
--- a row's state
+-- The state of a loan, by its row.
 abbrev pub state_of : LoanRow → LoanState
 state_of row = state_by row.authorised row.stages
 
--- the row of a loan that is just agreed, with its lines
+-- The row of a loan that was just agreed.
 abbrev pub agreed_row : Museum → Agreement → List NewLine → LoanRow
 agreed_row S t lines = record {
   loan = t.loan;
@@ -66,7 +67,7 @@ authorised_row row = record row { authorised = true }
 abbrev pub extended_row : ℤ → LoanRow → LoanRow
 extended_row last row = record row { last = last }
 
--- an object's line gets a stage, where the row has one
+-- The row with a new stage for an object's line, if the loan lists the object.
 abbrev pub with_stage : LoanRow → ℕ → LineStage → LoanRow
 with_stage row o s =
     record row {
@@ -74,18 +75,19 @@ with_stage row o s =
           (position (nat_eq o) row.objects) row.stages;
     }
 
--- each of the lines in turn
+-- The row with each of these lines set, one after another.
 abbrev pub with_lines : List NewLine → LoanRow → LoanRow
 with_lines [] row = row
 with_lines (l ∷ ls) row = with_lines ls (with_stage row l.object l.stage)
 
--- a loan's row is changed so
+-- The rows with that of one loan changed.
 abbrev pub changed : (LoanRow → LoanRow) → List ℕ → List LoanRow → List LoanRow
 changed change loan [] = []
 changed change loan (row ∷ rows) =
     if bytes_eq loan row.loan then change row ∷ rows else row ∷ changed change loan rows
 
--- the rows after an applied message that makes or changes these lines
+-- The rows after an applied message with these lines. An Agree adds a row, the other messages of a
+-- loan change its row, and the rest change none.
 abbrev pub rows_with : Museum → List LoanRow → Message → List NewLine → List LoanRow
 rows_with S rows (Agree first last loan partner objects) lines =
     rows ++ agreed_row S
@@ -98,19 +100,19 @@ rows_with S rows (Receive day x loan p) lines = changed (with_lines lines) loan 
 rows_with S rows (Extend last loan) lines = changed (extended_row last) loan rows
 rows_with S rows _ lines = rows
 
--- the number of the row of the loan that goes on by a message under this verdict
+-- The number of the row of the loan that a message continues under this verdict.
 abbrev pub row_by : List LoanRow → Verdict → Message → Option ℕ
 row_by rows verdict m = option_and_then
     (λ loan. if is_applied verdict then position (bytes_eq loan) (map (λ row. row.loan) rows)
     else None)
     (loan_of m)
 
--- none of the numbers stands twice
+-- No number occurs twice.
 abbrev pub AreOnce : List ℕ → Type 0
 AreOnce [] = Unit {0}
 AreOnce (o ∷ os) = (is_among o os ≡ false) × AreOnce os
 
--- an agreement can be kept with these lines: no object has two of them, and the loan is new
+-- The agreement can be kept with these lines: no object has two, and the loan is new.
 pub record MayAgree (rows : List LoanRow) (lines : List NewLine) (t : Agreement) : Type 0 where
   pub once : AreOnce (map (λ l. l.object) lines)
   pub new : find (λ row. bytes_eq t.loan row.loan) rows ≡ None

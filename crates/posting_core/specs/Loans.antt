@@ -1,4 +1,5 @@
--- How far loans have come, looking back through the posted entries: the stage of each object's line, and each loan's state.
+-- Defines how far loans have come, by looking back through the posted entries: the stage of each
+-- object's line, and each loan's state. Each object of a loan has a loan line, called a line here.
 use Rattle.std.specs.Prelude.{ℕ, ◌&&◌, Bool, true, false, not, List, [], ◌∷◌, Option, Some, None, map, filter, if◌then◌else◌}
 use Rattle.std.specs.List.{list_any, list_all}
 use Rattle.std.specs.Option.{option_map, option_map_or, option_and_then}
@@ -18,14 +19,16 @@ use Rattle.posting_core.specs.Agreements.{Agreement, agreement, is_authorised}
 use Rattle.posting_core.specs.VerdictNames.{is_applied}
 use Rattle.posting_core.specs.History.{carried_at}
 
--- a thing that crosses under a loan: the stage that the lines of its objects have before, and the one that they get
+-- A thing that leaves or arrives under a loan: the stage that the lines of its objects must have,
+-- and the stage that they then get.
 pub record Crossing : Type 0 where
   pub thing : List ℕ
   pub loan : List ℕ
   pub wanted : LineStage
   pub stage : LineStage
 
--- an exit under a loan out takes objects away; one under a loan in gives them back
+-- Under a loan out, an exit takes awaited objects away. Under a loan in, it gives back objects that
+-- are here.
 abbrev pub wanted_by_exit : List ℕ → LineStage
 wanted_by_exit loan = if is_out loan then Awaiting else Here
 
@@ -36,55 +39,57 @@ abbrev pub exit_of : List ℕ → List ℕ → Crossing
 exit_of x loan =
     record { thing = x; loan = loan; wanted = wanted_by_exit loan; stage = exit_stage loan }
 
--- a return takes back what a loan out took away
+-- A return brings back what a loan out took away.
 abbrev pub return_of : List ℕ → List ℕ → Crossing
 return_of x loan = record { thing = x; loan = loan; wanted = Away; stage = Back }
 
--- a receipt takes in what a loan in awaits
+-- A receipt takes in an awaited object of a loan in.
 abbrev pub receive_of : List ℕ → List ℕ → Crossing
 receive_of x loan = record { thing = x; loan = loan; wanted = Awaiting; stage = Here }
 
+-- The crossing of a message, if its kind has one.
 abbrev pub crossing_in : Message → Option Crossing
 crossing_in (Exit day x loan) = Some (exit_of x loan)
 crossing_in (Return day x loan p) = Some (return_of x loan)
 crossing_in (Receive day x loan p) = Some (receive_of x loan)
 crossing_in _ = None
 
--- the objects among what thing x carries, itself too where it is one
+-- The objects that cross with thing x: everything in it, and x itself, but no containers.
 abbrev pub objects_with : Museum → List Entry → ℕ → List ℕ
 objects_with S P x = filter (λ o. not (is_container S o)) (carried_at S P x)
 
--- those with the thing of a code
+-- The objects that cross with the thing of this code.
 abbrev pub objects_in : Museum → List Entry → List ℕ → List ℕ
 objects_in S P code = objects_with S P (thing_no S code)
 
--- the stage that an object's line gets by an entry after P, where it crosses under the loan in it
+-- The stage that an object's line gets from a message after P, if it crosses under this loan.
 abbrev pub stage_by : Museum → List Entry → Message → List ℕ → ℕ → Option LineStage
 stage_by S P m loan o = option_and_then
     (λ x. if bytes_eq x.loan loan && is_among o (objects_in S P x.thing) then Some x.stage
     else None)
     (crossing_in m)
 
--- the stage that the last applied crossing of the loan with the object in it gave; where there is none it is awaited
+-- The stage of an object's line under a loan: that of the last applied crossing of this loan with
+-- the object in it. Before any crossing, Awaiting.
 abbrev pub stage : Museum → List Entry → List ℕ → ℕ → LineStage
 stage S [] loan o = Awaiting
 stage S (e ∷ P) loan o =
     option_map_or (λ s. s) (if is_applied e.verdict then stage_by S P e.message loan o else None)
     (stage S P loan o)
 
--- the objects of an agreement, by number
+-- The numbers of an agreement's objects, in its order.
 abbrev pub objects_of : Museum → Agreement → List ℕ
 objects_of S t = map (thing_no S) t.objects
 
--- a loan's objects, by number, in the order of its agreement; none where it isn't agreed
+-- The numbers of a loan's objects, in the order of its agreement. Empty if the loan isn't agreed.
 abbrev pub objects : Museum → List Entry → List ℕ → List ℕ
 objects S P loan = option_map_or (objects_of S) (agreement P loan) []
 
--- the stage of an object's line, where the loan lists it
+-- The stage of an object's line. None if the loan doesn't list the object.
 abbrev pub line : Museum → List Entry → List ℕ → ℕ → Option LineStage
 line S P loan o = if is_among o (objects S P loan) then Some (stage S P loan o) else None
 
--- nothing more is owed
+-- The object is back with its owner, so that nothing more is owed.
 abbrev pub is_done : LineStage → Bool
 is_done Awaiting = false
 is_done Away = false
@@ -99,7 +104,8 @@ is_awaiting Back = false
 is_awaiting Here = false
 is_awaiting GivenBack = false
 
--- the state of a loan, whether or not authorised, by the stages of its lines
+-- The state of a loan by the stages of its lines: Draft until it is authorised; Closed once all
+-- lines are done; Running once any line is no longer awaited; otherwise Authorised.
 abbrev pub state_by : Bool → List LineStage → LoanState
 state_by authorised stages =
     if not authorised then Draft
@@ -107,7 +113,7 @@ state_by authorised stages =
     else (if list_any (λ s. not (is_awaiting s)) stages then Running
     else Authorised))
 
--- a loan's state
+-- The state of a loan. None if it isn't agreed.
 abbrev pub loan_state : Museum → List Entry → List ℕ → Option LoanState
 loan_state S P loan =
     option_map (λ t. state_by (is_authorised P loan) (map (stage S P loan) (objects_of S t)))

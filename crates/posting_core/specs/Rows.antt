@@ -1,4 +1,5 @@
--- What a ledger's fields keep of its entries: the nest of what they put where, each thing's spots by number, and the loans.
+-- Defines the invariant of a ledger's fields: the nest, each thing's spots by number, and the
+-- loans.
 use Rattle.std.specs.Prelude.{ℕ, ◌≡◌, ◌<◌, ◌++◌, List, [], ◌∷◌, Option, Some, length, slice_get, slice_set}
 use Rattle.std.specs.Option.{option_map_or}
 use Rattle.nest_core.specs.declared.put.Target.{Target}
@@ -12,22 +13,23 @@ use Rattle.posting_core.specs.History.{puts, place_at, spots}
 use Rattle.posting_core.specs.Lawful.{IsLawful}
 use Rattle.posting_core.specs.LoanRows.{LoanRow, loan_rows}
 
--- the place to which a thing comes that is put there
+-- The place that a thing gets from this target.
 abbrev pub place_to : Museum → List Entry → Target → Option ℕ
 place_to S P (At p) = Some p
 place_to S P (Within c) = place_at S P c
 
--- the spots of a thing that a list by number has
+-- A thing's spots, by the list that is kept.
 abbrev pub row_of : List (List Spot) → ℕ → List Spot
 row_of rows x = option_map_or (λ spots. spots) (slice_get rows x) []
 
--- each spot at the end of its thing's row
+-- The rows with each new spot at the end of its thing's row.
 abbrev pub rows_after : List (List Spot) → List NewSpot → List (List Spot)
 rows_after rows [] = rows
 rows_after rows (s ∷ ss) =
     rows_after (slice_set rows s.thing (row_of rows s.thing ++ s.spot ∷ [])) ss
 
--- what the fields keep
+-- The entries are lawful, the nest stands for their puts, and the rows of spots and of loans are
+-- those of looking back.
 pub record IsKept (S : Museum) (P : List Entry) (N : Nested) (rows : List (List Spot))
     (L : List LoanRow) : Type 0 where
   pub lawful : IsLawful S N.depth P

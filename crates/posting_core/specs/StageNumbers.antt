@@ -1,4 +1,4 @@
--- The number by which a store keeps the stage of a line.
+-- Defines the numbers by which a store keeps the stage of a loan line.
 use Rattle.std.specs.Prelude.{ℕ}
 use Rattle.posting_core.specs.declared.stage.LineStage.{LineStage}
 use Rattle.posting_core.specs.declared.stage.LineStage.TheVariants.{Awaiting, Away, Back, Here, GivenBack}

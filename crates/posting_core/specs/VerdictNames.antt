@@ -1,12 +1,15 @@
--- Of each verdict: whether it lets the message stand, its number and its name.
+-- Defines the numbers and the names of verdicts. A store keeps the number; replies and reports
+-- print the name.
 use Rattle.std.specs.Prelude.{ℕ, Bool, true, false, List, codes}
 use Rattle.posting_core.specs.declared.verdict.Verdict.{Verdict}
 use Rattle.posting_core.specs.declared.verdict.Verdict.TheVariants.{Applied, UnknownThing, UnknownPlace, ElsewherePlace, UnknownContainer, UnknownLoan, LoanKnown, InsidePartner, NoObjects, NotObject, Repeated, WrongOwner, BadTerm, AlreadyAuthorised, NotAuthorised, WrongDirection, NotHere, ContainerNotHere, Cycle, TooDeep, NotWithPartner, AlreadyHere, NotListed, WrongStage, TermOver, NotLater}
 
+-- The message takes effect. Any other verdict is the reason why it changes nothing.
 abbrev pub is_applied : Verdict → Bool
 is_applied Applied = true
 is_applied _ = false
 
+-- A store keeps these numbers, so that a verdict's number never changes.
 abbrev pub verdict_number : Verdict → ℕ
 verdict_number Applied = 0
 verdict_number UnknownThing = 1

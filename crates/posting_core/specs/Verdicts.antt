@@ -1,4 +1,5 @@
--- The verdict on a message after the entries P: the first of its kind's rows that holds.
+-- Defines the verdict on a message after the entries P. Each kind of message has a table of
+-- refusals with their causes, and the first row whose cause holds is the verdict.
 use Rattle.std.specs.Prelude.{ℕ, ℤ, ◌&&◌, ◌||◌, Bool, true, false, not, List, [], ◌∷◌, length, Option, Some, None, if◌then◌else◌, is_some, int_lt, int_le}
 use Rattle.std.specs.List.{list_any}
 use Rattle.std.specs.Option.{option_map_or}
@@ -22,25 +23,29 @@ use Rattle.posting_core.specs.Agreements.{agreement, is_agreed, is_authorised, l
 use Rattle.posting_core.specs.History.{puts, chain_at, place_at}
 use Rattle.posting_core.specs.Loans.{Crossing, exit_of, return_of, receive_of, objects_in, line}
 
--- the refusal of the first row whose cause holds; where none does, the message is applied
+-- The refusal of the first row whose cause holds. If none holds, the message is applied.
 abbrev pub first_of : List (Row Verdict) → Verdict
 first_of rows = first_or Applied rows
 
+-- The setup has the thing.
 abbrev pub is_known : Museum → List ℕ → Bool
 is_known S x = is_some (find_thing S x)
 
+-- The setup has the place.
 abbrev pub is_known_place : Museum → List ℕ → Bool
 is_known_place S p = is_some (find_place S p)
 
--- a thing with this place is elsewhere, or is borrowed and has no place yet
+-- Thing x with this place is not in the museum: the place is elsewhere, or a borrowed object has
+-- not arrived yet.
 abbrev pub is_away : Museum → ℕ → Option ℕ → Bool
 is_away S x (Some p) = is_elsewhere S p
 is_away S x None = is_borrowed S x
 
+-- The same of the thing with code x, at its place after P.
 abbrev pub is_not_here : Museum → List Entry → List ℕ → Bool
 is_not_here S P x = is_away S (thing_no S x) (place_at S P (thing_no S x))
 
--- the rows of a Move of thing x to place p
+-- A Move of thing x to place p.
 abbrev pub move_rows : Museum → List Entry → List ℕ → List ℕ → List (Row Verdict)
 move_rows S P x p =
     (UnknownThing if not (is_known S x))
@@ -49,25 +54,27 @@ move_rows S P x p =
     ∷ (NotHere if is_not_here S P x)
     ∷ []
 
--- a container of the setup
+-- The setup has it, and it is a container.
 abbrev pub is_known_container : Museum → List ℕ → Bool
 is_known_container S c = option_map_or (is_container S) (find_thing S c) false
 
--- a thing's place is inside; without a place it is neither inside nor elsewhere
+-- The thing's place is inside the museum. A thing without a place is neither inside nor elsewhere:
+-- so an own object that was never placed can be moved, but not lent, and a crate that was never
+-- placed can be moved, but not packed into.
 abbrev pub stands_inside : Museum → List Entry → List ℕ → Bool
 stands_inside S P x = option_map_or (is_inside S) (place_at S P (thing_no S x)) false
 
--- x is the container, or stands in its chain
+-- x is the container itself, or one of the containers above it.
 abbrev pub is_cycle : Museum → List Entry → List ℕ → List ℕ → Bool
 is_cycle S P x c = is_among (thing_no S x) (thing_no S c ∷ chain_at S P (thing_no S c))
 
--- with x in the container some thing would have more containers above it than the depth limit
+-- With x in the container, some thing would have more containers above it than the depth limit.
 abbrev pub is_deep_with : Museum → ℕ → List Entry → List ℕ → List ℕ → Bool
 is_deep_with S depth P x c =
     is_too_deep (put_at (last (puts S P)) (thing_no S x) (Within (thing_no S c)))
     (length S.things) depth
 
--- the rows of a Pack of thing x into container c
+-- A Pack of thing x into container c.
 abbrev pub pack_rows : Museum → ℕ → List Entry → List ℕ → List ℕ → List (Row Verdict)
 pack_rows S depth P x c =
     (UnknownThing if not (is_known S x))
@@ -78,16 +85,16 @@ pack_rows S depth P x c =
     ∷ (TooDeep if is_deep_with S depth P x c)
     ∷ []
 
--- a code of a container, as its shape says
+-- The code is a container's, by its first letter, whether or not the setup has it.
 abbrev pub is_container_code : List ℕ → Bool
 is_container_code x = is_container_kind (thing_kind x)
 
--- a loan out lists no borrowed object, a loan in no own one
+-- A loan out can't list a borrowed object, and a loan in can't list an own one.
 abbrev pub is_of_wrong_owner : List ℕ → List ℕ → Bool
 is_of_wrong_owner loan x =
     if is_out loan then is_borrowed_kind (thing_kind x) else is_own_kind (thing_kind x)
 
--- some code stands twice
+-- A code occurs twice.
 abbrev pub repeats : List (List ℕ) → Bool
 repeats [] = false
 repeats (x ∷ xs) = list_any (bytes_eq x) xs || repeats xs
@@ -96,7 +103,7 @@ abbrev pub is_empty : List (List ℕ) → Bool
 is_empty [] = true
 is_empty (x ∷ xs) = false
 
--- the rows of an Agree of a loan with the partner at this place: its objects, first day and last day
+-- An Agree of a loan: the partner's place, the objects, the first day and the last.
 abbrev pub agree_rows : Museum → List Entry → List ℕ → List ℕ → List (List ℕ) → ℤ → ℤ
     → List (Row Verdict)
 agree_rows S P loan partner objects first last =
@@ -111,7 +118,7 @@ agree_rows S P loan partner objects first last =
     ∷ (BadTerm if int_lt last first)
     ∷ []
 
--- the rows of an Authorise of a loan
+-- An Authorise of a loan.
 abbrev pub authorise_rows : List Entry → List ℕ → List (Row Verdict)
 authorise_rows P loan =
     (UnknownLoan if not (is_agreed P loan))
@@ -126,23 +133,25 @@ stage_eq Here Here = true
 stage_eq GivenBack GivenBack = true
 stage_eq _ _ = false
 
+-- The loan lists the object.
 abbrev pub is_listed : Museum → List Entry → List ℕ → ℕ → Bool
 is_listed S P loan o = is_some (line S P loan o)
 
--- the object has a line at the stage
+-- The loan lists the object, at this stage.
 abbrev pub is_at_stage : Museum → List Entry → List ℕ → LineStage → ℕ → Bool
 is_at_stage S P loan wanted o = option_map_or (stage_eq wanted) (line S P loan o) false
 
--- some of these objects has no line, where `lines` says which line each has
+-- The loan doesn't list one of these objects. `lines` has the stage of each line.
 abbrev pub any_unlisted : (ℕ → Option LineStage) → List ℕ → Bool
 any_unlisted lines objects = list_any (λ o. not (is_some (lines o))) objects
 
--- some of them has no line at the stage wanted
+-- One of these objects has no line at this stage.
 abbrev pub any_not_at : (ℕ → Option LineStage) → LineStage → List ℕ → Bool
 any_not_at lines wanted objects =
     list_any (λ o. not (option_map_or (stage_eq wanted) (lines o) false)) objects
 
--- the last rows of what crosses: of its objects' lines, and of the loan's last day where that is asked
+-- The last rows of each crossing: those of its objects' lines, and of the loan's last day. `late`
+-- is false for a crossing that may be late: a return, and an exit under a loan in.
 abbrev pub line_rows : (ℕ → Option LineStage) → LineStage → List ℕ → Bool → List (Row Verdict)
 line_rows lines wanted objects late =
     (NotListed if any_unlisted lines objects)
@@ -150,7 +159,8 @@ line_rows lines wanted objects late =
     ∷ (TermOver if late)
     ∷ []
 
--- a verdict that hangs on these rows: one of theirs, or that no row holds
+-- The verdict is one of those rows, or Applied. For a crossing it is known only after looking at
+-- the lines.
 abbrev pub hangs_on_lines : Verdict → Bool
 hangs_on_lines Applied = true
 hangs_on_lines NotListed = true
@@ -158,19 +168,21 @@ hangs_on_lines WrongStage = true
 hangs_on_lines TermOver = true
 hangs_on_lines _ = false
 
--- some object among what crosses isn't on the loan's list
+-- The loan doesn't list one of the objects that cross.
 abbrev pub carries_unlisted : Museum → List Entry → Crossing → Bool
 carries_unlisted S P c = any_unlisted (line S P c.loan) (objects_in S P c.thing)
 
--- some object among what crosses has no line at the stage wanted
+-- One of the objects that cross has no line at the stage that the crossing needs.
 abbrev pub carries_wrong_stage : Museum → List Entry → Crossing → Bool
 carries_wrong_stage S P c = any_not_at (line S P c.loan) c.wanted (objects_in S P c.thing)
 
--- the day is after the loan's last day
+-- The day is after the loan's last day. The last day itself is in time.
 abbrev pub is_over : List Entry → List ℕ → ℤ → Bool
 is_over P loan day = option_map_or (λ last. int_lt last day) (last_day P loan) false
 
--- the rows of an Exit of thing x under a loan
+-- An Exit of thing x under a loan. NotHere is stricter than for a Move: the thing must have a place
+-- inside. Under a loan in, a container can't leave (NotObject), and giving back is never late (no
+-- TermOver).
 abbrev pub exit_rows : Museum → List Entry → List ℕ → List ℕ → ℤ → List (Row Verdict)
 exit_rows S P x loan day =
     (UnknownThing if not (is_known S x))
@@ -183,13 +195,13 @@ exit_rows S P x loan day =
     ∷ (TermOver if is_out loan && is_over P loan day)
     ∷ []
 
--- the thing's place is the loan's partner place
+-- The thing's place is that of the loan's partner.
 abbrev pub is_with_partner : Museum → List Entry → List ℕ → List ℕ → Bool
 is_with_partner S P x loan =
     option_map_or (λ t. is_same_place (place_at S P (thing_no S x)) (Some (place_no S t.partner)))
     (agreement P loan) false
 
--- the rows of a Return of thing x under a loan to place p
+-- A Return of thing x under a loan to place p. It is never late.
 abbrev pub return_rows : Museum → List Entry → List ℕ → List ℕ → List ℕ → List (Row Verdict)
 return_rows S P x loan p =
     (UnknownThing if not (is_known S x))
@@ -203,7 +215,7 @@ return_rows S P x loan p =
     ∷ (WrongStage if carries_wrong_stage S P (return_of x loan))
     ∷ []
 
--- the rows of a Receive of thing x under a loan at place p
+-- A Receive of thing x under a loan at place p.
 abbrev pub receive_rows : Museum → List Entry → List ℕ → List ℕ → List ℕ → ℤ → List (Row Verdict)
 receive_rows S P x loan p day =
     (UnknownThing if not (is_known S x))
@@ -219,11 +231,11 @@ receive_rows S P x loan p day =
     ∷ (TermOver if is_over P loan day)
     ∷ []
 
--- the new last day is no later than the loan's last day
+-- The new last day is not after the present one.
 abbrev pub is_no_later : List Entry → List ℕ → ℤ → Bool
 is_no_later P loan day = option_map_or (λ last. int_le day last) (last_day P loan) false
 
--- the rows of an Extend of a loan to a last day
+-- An Extend of a loan to a new last day.
 abbrev pub extend_rows : List Entry → List ℕ → ℤ → List (Row Verdict)
 extend_rows P loan day =
     (UnknownLoan if not (is_agreed P loan))
@@ -231,7 +243,7 @@ extend_rows P loan day =
     ∷ (NotLater if is_no_later P loan day)
     ∷ []
 
--- the verdict, under a depth limit
+-- The verdict on a message, under a depth limit. A sign-off is always applied.
 abbrev pub verdict : Museum → ℕ → List Entry → Message → Verdict
 verdict S depth P (Move day x p) = first_of (move_rows S P x p)
 verdict S depth P (Pack day x c) = first_of (pack_rows S depth P x c)

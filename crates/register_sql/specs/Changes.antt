@@ -1,4 +1,4 @@
--- What one statement does to a whole store.
+-- Defines the effect of one statement on a whole store.
 use Rattle.std.specs.Prelude.{◌≡◌, ◌≢◌, ℕ, Bool, false, not, ◌∷◌, filter}
 use Rattle.std.specs.List.Sorted.{IsPermutation}
 use Rattle.sqlite.specs.Edit.{is_taken}
@@ -7,7 +7,7 @@ use Rattle.sqlite.specs.Order.{Row}
 use Rattle.sqlite.specs.Tree.{Trees}
 use Rattle.register_sql.specs.Tables.{hub_schema}
 
--- the other tables have the rows that they had
+-- The other tables have the same rows as before.
 pub record Spares (t : ℕ) (db next : Trees) : Type 0 where
   pub meta : 0 ≢ t → next 0 ≡ db 0
   pub setup : 2 ≢ t → next 2 ≡ db 2
@@ -16,7 +16,7 @@ pub record Spares (t : ℕ) (db next : Trees) : Type 0 where
   pub lines : 7 ≢ t → next 7 ≡ db 7
   pub terms : 9 ≢ t → next 9 ≡ db 9
 
--- a row is added, whose rowid no other has
+-- One row was added, with a rowid that no other row has.
 pub record Adds (t : ℕ) (row : Row) (db next : Database) : Type 0 where
   pub schema : next.schema ≡ hub_schema
   pub sound : IsDatabase next
@@ -24,7 +24,7 @@ pub record Adds (t : ℕ) (row : Row) (db next : Database) : Type 0 where
   pub free : is_taken (db.trees t) row ≡ false
   pub others : Spares t db.trees next.trees
 
--- the rows that pass the test are taken out
+-- The rows that pass the test were removed.
 pub record Removes (t : ℕ) (goes : Row → Bool) (db next : Database) : Type 0 where
   pub schema : next.schema ≡ hub_schema
   pub sound : IsDatabase next

@@ -1,4 +1,4 @@
--- What a store of version 1 knows of entries.
+-- Defines which entries a store of version 1 can have.
 use Rattle.std.specs.Prelude.{◌≡◌, ◌+◌, ◌&&◌, ℕ, Bool, true, false, List, ◌∷◌, ◌++◌, length, reverse, All}
 use Rattle.std.specs.List.Sorted.{IsPermutation, IsSortedByKey}
 use Rattle.std.specs.Ordering.{int_cmp}
@@ -10,29 +10,31 @@ use Rattle.posting_core.specs.declared.verdict.Verdict.TheVariants.{NotLater}
 use Rattle.register_store.specs.Registers.{IsOfStation}
 use Rattle.register_store.specs.StoredRows.{Content, PostingRow, IsPostingRow, ArePostings}
 
+-- Version 1 has no extensions.
 abbrev pub is_early_message : Message → Bool
 is_early_message (Extend last loan) = false
 is_early_message _ = true
 
+-- Version 1 has no verdict that only an extension can have.
 abbrev pub is_early_verdict : Verdict → Bool
 is_early_verdict NotLater = false
 is_early_verdict _ = true
 
--- it extends no loan, and isn't refused as only an extension is
+-- The entry is possible in version 1.
 abbrev pub is_early : Entry → Bool
 is_early e = is_early_message e.message && is_early_verdict e.verdict
 
--- an entry of one of so many stations that version 1 knows
+-- An entry of one of this many stations that is possible in version 1.
 pub record IsEarlyOf (stations : ℕ) (e : Entry) : Type 0 where
   pub stationed : IsOfStation stations e
   pub early : is_early e ≡ true
 
--- no such entry has such a row under this number
+-- The row, with this number, is that of no entry of version 1 of these stations.
 abbrev pub IsWrongEarly : ℕ → ℕ → PostingRow → Type 0
 IsWrongEarly stations number row =
     (e : Entry) → IsPostingRow number e row → IsEarlyOf stations e → ⊥
 
--- of these rows, oldest first, the first wrong one has this number
+-- In these rows, oldest first, row `at` is the first wrong one.
 pub record IsEarlyWrongAt (stations at : ℕ) (rows : List PostingRow) : Type 0 where
   pub before : List PostingRow
   pub row : PostingRow
@@ -44,7 +46,7 @@ pub record IsEarlyWrongAt (stations at : ℕ) (rows : List PostingRow) : Type 0 
   pub known : All (IsEarlyOf stations) entries
   pub wrong : IsWrongEarly stations at row
 
--- in the order of the rows' numbers, the first wrong row has this number
+-- In the order of the rows' numbers, row `at` is the first wrong one.
 pub record IsFirstEarlyWrong (stations at : ℕ) (c : Content) : Type 0 where
   pub rows : List PostingRow
   pub all : IsPermutation rows c.postings

@@ -1,4 +1,4 @@
--- The rows of spots, lines and last days, as they are read.
+-- Defines the rows of spots, loan lines and last days as the queries return them.
 use Rattle.std.specs.Prelude.{ℕ, ℤ, List, map}
 use Rattle.std.specs.List.Sorted.{IsPermutation}
 use Rattle.sqlite.specs.Order.{Row}
@@ -18,7 +18,7 @@ lines_shown kept = map line_cells (map line_row (held_lines kept))
 abbrev pub terms_shown : List (List ℕ × ℤ) → List Row
 terms_shown kept = map term_cells (term_rows kept)
 
--- a content has these rows, in some order
+-- The content has these rows, in any order.
 pub record AreFound (ss ls ts : List Row) (c : Content) : Type 0 where
   pub spots : IsPermutation (map spot_cells c.spots) ss
   pub lines : IsPermutation (map line_cells c.lines) ls

@@ -1,4 +1,5 @@
--- What a migration takes, what it makes of it, and why it refuses.
+-- Defines the migration of a store from version 1 to version 2: the stores that it accepts, the
+-- change, its steps, and the faults.
 use Rattle.std.specs.Prelude.{◌≡◌, ◌≢◌, ◌⊎◌, ℕ, true, false, List, [], ◌∷◌, length, map, drop, All, IsTrue}
 use Rattle.std.specs.List.{AllByRecursion}
 use Rattle.std.specs.List.Sorted.{IsPermutation}
@@ -20,48 +21,51 @@ use Rattle.register_sql.specs.Queries.{IsPart, IsSame, AreApart}
 use Rattle.register_sql.specs.Rows.{HasPart, AreRows, IsStored, Apart, meta_cells}
 use Rattle.register_sql.specs.Tables.{prefix, hub_schema, IsNoStore}
 
--- no row says this version
+-- No row has this version.
 abbrev pub Lacks : ℕ → List MetaRow → Type 0
 Lacks version meta = AllByRecursion (λ row. row ≢ version_row version) meta
 
--- the last days that entries gave loans, each in the place of the one before
+-- The last days that the entries set, each replacing the loan's previous one.
 abbrev pub days_given : List Entry → List TermRow
 days_given [] = []
 days_given (e ∷ P) =
     option_map_or (λ t. put is_same_loan t (days_given P)) (term_of e) (days_given P)
 
--- all that a migration changes: what the store says of itself, and the last days that its entries gave
+-- The whole change: the rows about the store, and the last days of its loans. Everything else
+-- stays.
 abbrev pub migrated : List Entry → Content → Content
 migrated P c = record c { meta = rows_of_meta 8; terms = days_given P }
 
--- a store of version 1 with this setup and these entries, each of which version 1 knows
+-- A store of version 1 with this setup and these entries, all possible in version 1.
 pub record IsOfFirst (S : Museum) (P : List Entry) (c : Content) : Type 0 where
   pub meta : IsPermutation first_meta c.meta
   pub setup : IsPermutation (rows_of_setup S) c.setup
   pub list : HasList P c
   pub known : All (IsEarlyOf (length S.stations)) P
 
--- a store of version 1 becomes one of version 2
+-- A store of version 1 became one of version 2.
 abbrev pub IsMigrated : Museum → Content → Content → Type 0
 IsMigrated S c d = (P : List Entry) × IsOfFirst S P c × AreSame (migrated P c) d
 
--- that, or the store is one of version 2 and is as it was
+-- The store was migrated, or it was of version 2 already and is as it was.
 abbrev pub Migrates : Museum → Content → Content → Type 0
 Migrates S c d = IsMigrated S c d ⊎ ((¬ Lacks 2 c.meta) × AreSame c d)
 
--- it says nothing of itself; or a version, and neither of the two that are known
+-- The store is new, or it has a version but neither 1 nor 2.
 abbrev pub IsUnknown : List MetaRow → Type 0
 IsUnknown meta =
     (is_new meta ≡ true) ⊎ ((has_other_version meta ≡ true) × Lacks 1 meta × Lacks 2 meta)
 
--- it says something, no version that is unknown, and isn't whole
+-- The store is old, has no unknown version, and its rows about itself are not those of version 1 or
+-- 2.
 pub record IsDamagedMeta (meta : List MetaRow) : Type 0 where
   pub old : is_new meta ≡ false
   pub known : has_other_version meta ≡ true → ¬ Lacks 1 meta
   pub lacks : Lacks 2 meta
   pub broken : ¬ IsPermutation first_meta meta
 
--- why a store can't be migrated: the first cause
+-- Why a store can't be migrated, in this order: OtherVersion; Damaged(0), if the rows about the
+-- store are not whole; OtherSetup; Damaged, with the number of the first wrong entry.
 abbrev pub IsMigrateFault : Museum → Content → StoreFault → Type 0
 IsMigrateFault S c NoMemory = Unit {0}
 IsMigrateFault S c Store = Unit {0}
@@ -73,13 +77,15 @@ IsMigrateFault S c (Damaged at) =
     ⊎ (IsPermutation first_meta c.meta × IsPermutation (rows_of_setup S) c.setup
     × IsFirstEarlyWrong (length S.stations) at c)
 
--- it isn't migrated, for this cause, and is as it was; for want of memory, or where it refused, it may be migrated
+-- The store isn't migrated, for this cause, and is as it was. After NoMemory or Store it may be
+-- migrated all the same.
 abbrev pub IsNotMigrated : Museum → StoreFault → Content → Content → Type 0
 IsNotMigrated S fault c d =
     IsMigrateFault S c fault × (AreSame c d ⊎ ((is_failure fault ≡ true) × IsMigrated S c d))
 
 -- ---- the steps of the transaction
 
+-- The tables other than `meta` have the same rows as before.
 pub record SparesEntries (db next : Trees) : Type 0 where
   pub setup : next 2 ≡ db 2
   pub postings : next 3 ≡ db 3
@@ -87,17 +93,17 @@ pub record SparesEntries (db next : Trees) : Type 0 where
   pub lines : next 7 ≡ db 7
   pub terms : next 9 ≡ db 9
 
--- the store says nothing of itself any more
+-- The rows about the store were removed.
 pub record ClearsMeta (db next : Trees) : Type 0 where
   pub meta : next 0 ≡ []
   pub others : SparesEntries db next
 
--- it says this instead
+-- The rows about the store were replaced by these.
 pub record RenewsMeta (rows : List MetaRow) (db next : Trees) : Type 0 where
   pub meta : IsPermutation (map meta_cells rows) (map (drop 1) (next 0))
   pub others : SparesEntries db next
 
--- the table of last days comes, empty, and the store says that it is of version 2
+-- The table of last days was created, empty, and the store has version 2.
 pub record Raises (db next : Trees) : Type 0 where
   pub meta : IsPermutation (map meta_cells (rows_of_meta 8)) (map (drop 1) (next 0))
   pub setup : next 2 ≡ db 2
@@ -106,93 +112,100 @@ pub record Raises (db next : Trees) : Type 0 where
   pub lines : next 7 ≡ db 7
   pub terms : next 9 ≡ []
 
--- the content of version 2 with the last days that these entries give, oldest first
+-- The content of version 2 with the last days that these entries set. They are listed oldest first.
 abbrev pub lifted : List Entry → Content → Content
 lifted entries c =
     with_each (λ e. with_some_term (term_of e)) entries
     (record c { meta = rows_of_meta 8; terms = [] })
 
+-- The content of version 1 becomes `lifted`.
 abbrev pub Lifts : List Entry → Trees → Trees → Type 0
 Lifts entries db next = (c : Content) → HasPart 5 db c → AreRows next (lifted entries c)
 
--- the transaction goes on, over a whole store
+-- The transaction goes on, over a whole store of version 2.
 pub record IsLifting (entries : List Entry) (old new : State) : Type 0 where
   pub within : Within new
   pub stays : IsTrue old.is_open → IsTrue new.is_open
   pub rows : Lifts entries old.now.trees new.now.trees
 
--- and is committed
+-- The migration is committed.
 pub record IsLifted (entries : List Entry) (old new : State) : Type 0 where
   pub is_open : IsTrue new.is_open
   pub whole : IsWhole new.now
   pub rows : Lifts entries old.now.trees new.now.trees
   pub committed : new.committed ≡ new.now
 
+-- A database that was migrated.
 pub record LeavesLifted (entries : List Entry) (old : State) (db : Trees) : Type 0 where
   pub sound : IsSound hub_schema db
   pub rows : Lifts entries old.now.trees db
 
 -- ---- the whole
 
--- a database that says that it is a store of version 1, and has this setup
+-- A database with the rows about a store of version 1, and with this setup.
 pub record IsFirstOf (S : Museum) (db : Trees) : Type 0 where
   pub meta : (c : Content) → HasPart 5 db c → IsPermutation first_meta c.meta
   pub setup : (c : Content) → HasPart 5 db c → IsPermutation (rows_of_setup S) c.setup
 
--- it can be migrated, if its entries can be listed
+-- The store can be migrated if its entries can be listed.
 pub record IsRaisable (S : Museum) (s : State) : Type 0 where
   pub part : IsPart 5 s
   pub meta_apart : Apart (s.now.trees 0)
   pub apart : AreApart 5 s.now.trees
   pub first : IsFirstOf S s.now.trees
 
--- the rows come, by being migrated, from those that a database holds
+-- The content is that of the database after it was migrated.
 abbrev pub ComesMigrated : Museum → Trees → Content → Type 0
 ComesMigrated S db d = (c : Content) × IsStored db c × IsMigrated S c d
 
+-- The store was migrated.
 pub record IsMoved (S : Museum) (old new : State) : Type 0 where
   pub was_open : IsTrue old.is_open
   pub ready : IsReady new
   pub content : (d : Content) × AreRows new.now.trees d
   pub comes : (d : Content) → AreRows new.now.trees d → ComesMigrated S old.now.trees d
 
+-- The store was of version 2 already, and is as it was.
 pub record IsSecond (old new : State) : Type 0 where
   pub same : IsSame old new
   pub second : (c : Content) → IsStored old.now.trees c → ¬ Lacks 2 c.meta
 
--- the store is of version 2 now
+-- The store is of version 2 now.
 abbrev pub IsRaised : Museum → State → State → Type 0
 IsRaised S old new = IsMoved S old new ⊎ IsSecond old new
 
--- each database that a later opening may find has all six tables
+-- Every database that a later opening may find has all six tables.
 abbrev pub LeavesSix : State → Type 0
 LeavesSix s = (db : Trees) → s.may_leave db → IsSound hub_schema db
 
--- so it is now; or it said that it is of version 2, and is as it was
+-- Every database that a later opening may find has all six tables; or the store was of version 2,
+-- and is as it was.
 abbrev pub IsCompleted : State → State → Type 0
 IsCompleted old new = LeavesSix new ⊎ IsSecond old new
 
--- the rowids of what a store of version 1 says of itself, of its setup, entries and lines, are numbers that differ
+-- In a store of version 1, the rowids of `meta`, the setup, the entries and the loan lines are
+-- numbers that differ.
 abbrev pub AreFirstApart : Trees → Type 0
 AreFirstApart db = Apart (db 0) × AreApart 5 db
 
--- one that says that it is of version 1, and has this setup, but other tables than its five, or rowids that don't differ
+-- A database with the rows about a store of version 1 and this setup, but with other tables than
+-- the five, or with rowids that don't differ.
 pub record IsUnfitFirst (S : Museum) (db : Database) : Type 0 where
   pub meta : (c : Content) → IsStored db.trees c → IsPermutation first_meta c.meta
   pub setup : (c : Content) → IsStored db.trees c → IsPermutation (rows_of_setup S) c.setup
   pub unfit : (db.schema ≢ prefix 5) ⊎ (¬ AreFirstApart db.trees)
 
--- what is refused as Store, where no statement fails
+-- A database that is rejected with Store although no statement fails.
 abbrev pub IsUnfit : Museum → Database → Type 0
 IsUnfit S db = IsNoStore db ⊎ IsUnfitFirst S db
 
--- it is refused for this cause, and nothing is changed
+-- The store is rejected for this cause, and nothing is changed.
 pub record IsLeft (S : Museum) (old new : State) (fault : StoreFault) : Type 0 where
   pub same : IsSame old new
   pub cause : (c : Content) → IsStored old.now.trees c → IsMigrateFault S c fault
   pub unfit : fault ≡ Store → IsUnfit S old.now
 
--- a database that is migrated
+-- A database that was migrated.
 pub record LeavesMoved (S : Museum) (old : State) (db : Trees) : Type 0 where
   pub sound : IsSound hub_schema db
   pub content : (d : Content) × AreRows db d

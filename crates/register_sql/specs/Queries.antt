@@ -1,4 +1,5 @@
--- What the store asks of its tables, each in the order of its rowids.
+-- Defines the queries of a store: their text, table and columns. Each returns its rows in the order
+-- of their rowids.
 use Rattle.std.specs.Prelude.{◌≡◌, ℕ, Bool, true, false, List, map, codes, IsTrue}
 use Rattle.std.specs.List.Sorted.{IsSorted}
 use Rattle.sqlite.specs.Effect.{IsDatabase}
@@ -11,6 +12,7 @@ use Rattle.register_sql.specs.Tables.{prefix}
 use Rattle.register_sql.specs.declared.queries.Query.{Query}
 use Rattle.register_sql.specs.declared.queries.Query.TheVariants.{Metas, Setups, Postings, Spots, Lines, Terms, MetaIds, SetupIds, PostingIds, LineIds, TermIds}
 
+-- The text of the query.
 abbrev pub text_of : Query → List ℕ
 text_of Metas = codes "SELECT name, val FROM meta ORDER BY rowid"
 text_of Setups = codes "SELECT id, txt FROM setup ORDER BY id"
@@ -24,7 +26,7 @@ text_of PostingIds = codes "SELECT id FROM posting ORDER BY id"
 text_of LineIds = codes "SELECT rowid FROM line ORDER BY rowid"
 text_of TermIds = codes "SELECT rowid FROM term ORDER BY rowid"
 
--- the tree of its table
+-- The tree of the query's table.
 abbrev pub tree_of : Query → ℕ
 tree_of Metas = 0
 tree_of Setups = 2
@@ -38,7 +40,8 @@ tree_of PostingIds = 3
 tree_of LineIds = 7
 tree_of TermIds = 9
 
--- how many of the tables a store has at least of which it is asked
+-- How many of its tables a store must have for this query. Postings are read only of a store that
+-- has at least all five tables of version 1.
 abbrev pub least_of : Query → ℕ
 least_of Metas = 1
 least_of Setups = 2
@@ -52,7 +55,7 @@ least_of PostingIds = 3
 least_of LineIds = 5
 least_of TermIds = 6
 
--- what it shows of a row
+-- The columns that the query returns of a row.
 abbrev pub shown_by : Query → Row → Row
 shown_by Metas = shown_meta
 shown_by Setups = shown_setup
@@ -66,7 +69,7 @@ shown_by PostingIds = shown_id
 shown_by LineIds = shown_id
 shown_by TermIds = shown_id
 
--- it shows the rowid first
+-- The first column is the rowid.
 abbrev pub shows_id : Query → Bool
 shows_id Metas = false
 shows_id Setups = true
@@ -80,33 +83,34 @@ shows_id PostingIds = true
 shows_id LineIds = true
 shows_id TermIds = true
 
--- what the table shows in a database
+-- The columns of all rows in the query's table.
 abbrev pub shown_in : Query → Trees → List Row
 shown_in query db = map (shown_by query) (db (tree_of query))
 
--- where the rowid is shown, the rows come in its order
+-- If the first column is the rowid, the rows come in its order.
 abbrev pub IsInOrder : Query → List Row → Type 0
 IsInOrder query rows = shows_id query ≡ true → IsSorted id_cmp rows
 
--- an open connection, between two transactions, to a sound store of the first so many tables
+-- An open connection to a sound store of the first `made` tables, with no transaction.
 pub record IsPart (made : ℕ) (s : State) : Type 0 where
   pub is_open : IsTrue s.is_open
   pub settled : s.now ≡ s.committed
   pub schema : s.now.schema ≡ prefix made
   pub sound : IsDatabase s.now
 
--- the connection was open and is, and sees what it saw
+-- The connection was open and still is, and has the same database.
 pub record IsSame (old new : State) : Type 0 where
   pub was_open : IsTrue old.is_open
   pub is_open : IsTrue new.is_open
   pub now : new.now ≡ old.now
   pub committed : new.committed ≡ old.committed
 
--- the rowids of the query's table, if it is among the first so many
+-- The rowids of the query's table, if it is there, are numbers that differ.
 abbrev pub IsApartIn : Query → ℕ → Trees → Type 0
 IsApartIn query made db = Apart (had (least_of query) made (db (tree_of query)))
 
--- the rowids of the tables of which rows are taken out again, and of the entries, are numbers that differ
+-- In the tables that are there, the rowids of the setup, the entries, the loan lines and the last
+-- days are numbers that differ.
 pub record AreApart (made : ℕ) (db : Trees) : Type 0 where
   pub setup : Apart (had 2 made (db 2))
   pub postings : Apart (had 3 made (db 3))

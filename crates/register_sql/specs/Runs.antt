@@ -1,4 +1,4 @@
--- What passes from one run to the next by the two files of a store.
+-- Defines what one run of the program leaves for the next in the two files of a store.
 use Rattle.std.specs.Prelude.{◌≡◌, []}
 use Rattle.sqlite.specs.Files.{HoldsDatabase, AreFoundIn, IsNothing, image_of}
 use Rattle.sqlite.specs.Recovery.{Image}
@@ -11,44 +11,46 @@ use Rattle.register_store.specs.StoredRows.{Content}
 use Rattle.register_sql.specs.Rows.{IsStored}
 use Rattle.register_sql.specs.Stores.{no_rows}
 
--- the store may hold the rows of this database, and no others
+-- The store may hold the content of this database, and no other.
 pub record HasIts (store : Holding) (db : Trees) : Type 0 where
   pub all : (c : Content) → IsStored db c → store.holds c
   pub only : (c : Content) → store.holds c → IsStored db c
 
--- The store is that of files which held this as they were opened. Where they held a database it has the rows of that one;
--- what else it can have is what the files can be read as, and where there was no database yet it has no row.
+-- The store is the one that the files held when they were opened. If they held a database, it has
+-- the rows of that database. Otherwise it has what the files can be read as; if there was no
+-- database yet, it has no rows.
 pub record IsFoundIn (image : Image) (store : Holding) : Type 0 where
   pub held : (db : Trees) → HoldsDatabase image db → HasIts store db
   pub read : (db : Trees) × AreFoundIn image db × HasIts store db
   pub new : IsNothing image → Has store (λ c. c ≡ no_rows)
 
--- files that hold this hold a database of the rows that the store may hold, and no others
+-- Files like these hold a database with rows that the store may have, and no others.
 abbrev pub HoldsRowsOf : Image → Holding → Type 0
 HoldsRowsOf image store = ∥ ((db : Trees) × HoldsDatabase image db × HasIts store db) ∥₁
 
--- the same of the two files, and of the database file with no log
+-- The same of the two files together, and of the database file without its log.
 pub record HoldsAlone (image : Image) (store : Holding) : Type 0 where
   pub both : HoldsRowsOf image store
   pub alone : HoldsRowsOf (record image { log = [] }) store
 
--- the rows of the store are in the database file alone, as the files read and after any crash
+-- The rows of the store are in the database file alone, as it reads now and after any crash.
 pub record IsCopied {D : Type 0} (g : Ghosts D) (store : Holding) (files : Files D) : Type 0 where
   pub was_quiet : store.is_quiet
   pub seen : HoldsAlone (image_of g files) store
   pub left : (image : Image) → outcomes g files.log files.db image → HoldsAlone image store
 
--- Whatever a crash or an end of the program leaves of the two files holds a database whose rows the store may have held.
+-- Whatever a crash or an end of the program leaves of the two files holds a database with rows that
+-- the store may have had.
 pub record IsLeft {D : Type 0} (g : Ghosts D) (store : Holding) (files : Files D) : Type 0 where
   pub was_quiet : store.is_quiet
   pub left : (image : Image) → outcomes g files.log files.db image
       → ∥ ((db : Trees) × HoldsDatabase image db × ((c : Content) → IsStored db c → store.holds c)) ∥₁
 
--- whatever the new store may hold, the old one may have held
+-- Whatever the new store may hold, the old one may have held.
 abbrev pub Lasts : Holding → Holding → Type 0
 Lasts old new = (c : Content) → new.holds c → ∥ old.holds c ∥₁
 
--- the two stores may hold the same rows
+-- The two stores may hold the same rows.
 pub record AreAlike (old new : Holding) : Type 0 where
   pub none_lost : (c : Content) → old.holds c → new.holds c
   pub none_added : (c : Content) → new.holds c → old.holds c

@@ -1,4 +1,5 @@
--- What a store says of itself, as the rows of `meta` and `setup` are read.
+-- Defines what the rows of `meta` and `setup` say about a store, in the order in which they are
+-- checked.
 use Rattle.std.specs.Prelude.{◌≡◌, ◌≢◌, ◌<◌, ℕ, ℤ, pos, true, List, [], ◌∷◌, length, slice_index_or, map, codes}
 use Rattle.std.specs.List.Sorted.{IsPermutation}
 use Rattle.sqlite.specs.Order.{Row}
@@ -11,19 +12,20 @@ use Rattle.register_sql.specs.Shown.{shown_setup, setup_shown}
 use Rattle.register_sql.specs.declared.told.Told.{Told}
 use Rattle.register_sql.specs.declared.told.Told.TheVariants.{New, OtherVersion, Damaged, Bound}
 
--- a row of the version, which is not 2
+-- A version other than 2.
 abbrev pub IsOther : Row → Type 0
 IsOther row = (n : ℤ) × (row ≡ Text (codes "version") ∷ Int n ∷ []) × (n ≢ pos 2)
 
+-- One of the rows has a version other than 2.
 abbrev pub HasOther : List Row → Type 0
 HasOther rows =
     (k : ℕ) × (row : Row) × (k < length rows) × (row ≡ slice_index_or rows k row) × IsOther row
 
--- they are the two rows of a store with this depth limit
+-- The two rows of a store with this depth limit.
 abbrev pub IsWhole : ℕ → List Row → Type 0
 IsWhole depth rows = IsPermutation (map meta_cells (rows_of_meta depth)) rows
 
--- what the rows of `meta` say, in the order of refusals
+-- The result of checking `meta`: New, OtherVersion, Damaged, or Bound with this depth limit.
 abbrev pub IsTold : List Row → Told → Type 0
 IsTold rows New = rows ≡ []
 IsTold rows OtherVersion = HasOther rows
@@ -31,10 +33,10 @@ IsTold rows Damaged =
     (rows ≢ []) × ¬ HasOther rows × ((depth : ℕ) → is_depth depth ≡ true → ¬ IsWhole depth rows)
 IsTold rows (Bound depth) = (is_depth depth ≡ true) × IsWhole depth rows
 
--- the setup with these texts, as it is shown
+-- The setup with these texts, as the query returns it.
 abbrev pub setup_rows_shown : List (List ℕ) → List Row
 setup_rows_shown texts = map setup_shown (setup_from 1 texts)
 
--- the setup that a store of the first so many tables shows
+-- The setup that the query returns of a store of the first `made` tables.
 abbrev pub setup_in : ℕ → Trees → List Row
 setup_in made db = map shown_setup (had 2 made (db 2))

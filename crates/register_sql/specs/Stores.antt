@@ -1,4 +1,4 @@
--- What a register over a connection keeps, and which rows its store may hold.
+-- Defines what a register over a connection keeps, and which rows its store may hold.
 use Rattle.std.specs.Prelude.{◌≡◌, ℕ, ◌+◌, ◌-◌, ◌^◌, min, Bool, true, false, [], Option, None, refl}
 use Rattle.std.specs.Coded.{Coded, code_by, coded×, coded_ℕ, coded_bool}
 use Rattle.sqlite.specs.Held.{Held, held_code}
@@ -13,8 +13,8 @@ use Rattle.register_sql.specs.Binding.{IsSettled}
 use Rattle.register_sql.specs.Posting.{IsReady}
 use Rattle.register_sql.specs.Rows.{AreRows, IsStored}
 
--- a register: its connection, whether a setup is bound to it, whether a statement has failed, how many stations the setup
--- has, and how often it refused
+-- The connection; whether a setup is bound to it; whether a statement has failed, after which the
+-- register is stopped; the number of stations in the setup; and how often it returned Store.
 pub record Kept (S : Type 0) : Type 0 where
   pub conn : Held S
   pub bound : Bool
@@ -22,6 +22,7 @@ pub record Kept (S : Type 0) : Type 0 where
   pub stations : ℕ
   pub refusals : ℕ
 
+-- The code of a register: that of its fields.
 abbrev pub kept_code : {S : Type 0} → Coded S → Coded (Kept S)
 kept_code {S} store =
     code_by (Held S × (Bool × (Bool × (ℕ × ℕ))))
@@ -35,18 +36,19 @@ kept_code {S} store =
       refusals = p.1.1.1.1;
     }) (λ _. refl)
 
--- the store is quiet where the disk has returned what was written, and it may hold the rows of each database that a later
--- opening may find
+-- The store is quiet if the disk has returned what was written. It may hold the content of each
+-- database that a later opening may find: one while the connection is open and has no transaction,
+-- one of two after a disk fault during a posting.
 abbrev pub in_store : State → Holding
 in_store s =
     record { is_quiet = HasCleanDisk s; holds = λ c. (db : Trees) × s.may_leave db × IsStored db c }
 
--- no row at all
+-- A content without any row.
 abbrev pub no_rows : Content
 no_rows = record { setup = []; meta = []; postings = []; spots = []; lines = []; terms = [] }
 
--- what is true of a register's connection: it is between two transactions; and until a statement has failed it is open,
--- over a whole store with some rows once a setup is bound
+-- The invariant of the connection: it has no transaction, and until a statement has failed it is
+-- open, over a whole store once a setup is bound.
 pub record IsKept (s : State) (bound : Bool) (stopped : Option Error) : Type 0 where
   pub between : s.in_transaction ≡ false
   pub settled : stopped ≡ None → HasCleanDisk s → IsSettled s
@@ -54,7 +56,7 @@ pub record IsKept (s : State) (bound : Bool) (stopped : Option Error) : Type 0 w
   pub content : stopped ≡ None → bound ≡ true → HasCleanDisk s
       → (c : Content) × AreRows s.now.trees c
 
--- how often a register has answered Store after this fault
+-- How often the register has returned Store after this fault.
 abbrev pub counted : ℕ → StoreFault → ℕ
 counted refusals NoMemory = refusals
 counted refusals Store = min (refusals + 1) (2 ^ 64 - 1)

@@ -1,4 +1,4 @@
--- A row that is none of those that are wanted.
+-- Defines when a store has a row of spots, loan lines or last days that no ledger could have.
 use Rattle.std.specs.Prelude.{◌≡◌, ◌≢◌, ◌<◌, ◌⊎◌, ℕ, ℤ, List, length, map, slice_index_or}
 use Rattle.std.specs.List.{AllByRecursion}
 use Rattle.nest_core.specs.Museum.{Museum}
@@ -11,7 +11,7 @@ use Rattle.register_store.specs.StoredRows.{spot_row, line_row, spots_by_thing, 
 use Rattle.register_sql.specs.Fits.{IsNoSpot, IsNoLine, IsNoTerm}
 use Rattle.register_sql.specs.Rows.{spot_cells, line_cells, term_cells}
 
--- the cells of what is wanted
+-- The cells of a wanted row.
 abbrev pub cells_of_spot : NewSpot → Row
 cells_of_spot s = spot_cells (spot_row s)
 
@@ -22,17 +22,19 @@ cells_of_line e =
 abbrev pub cells_of_term : List ℕ × ℤ → Row
 cells_of_term e = term_cells (record { loan = e.0; day = e.1 })
 
--- the row is none of the first so many
+-- The row is none of the first n wanted rows.
 abbrev pub IsNone : {T : Type 0} → (T → Row) → ℕ → List T → Row → Type 0
 IsNone {T} cells n wanted row = (k : ℕ) (d : T) → k < n → cells (slice_index_or wanted k d) ≢ row
 
--- one of the rows can be read as nothing, and is none of the wanted
+-- A stranger is among the rows: a row that can't be read as anything, and is none of the wanted
+-- ones.
 abbrev pub HasStranger : (Row → Type 0) → List Row → List Row → Type 0
 HasStranger IsNo wanted rows =
     (k : ℕ) × (row : Row) × (k < length rows) × (row ≡ slice_index_or rows k row) × IsNo row
     × AllByRecursion (λ r. r ≢ row) wanted
 
--- one of the rows of spots, of lines or of last days is such a one, where those of the ledger are wanted
+-- The store has a stranger among its rows of spots, loan lines or last days, compared with those of
+-- the ledger.
 abbrev pub AreStrange : Museum → List Entry → List Row → List Row → List Row → Type 0
 AreStrange S P ss ls ts =
     HasStranger IsNoSpot (map cells_of_spot (spots_by_thing S P)) ss

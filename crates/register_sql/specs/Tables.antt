@@ -1,4 +1,6 @@
--- The six tables of a store, as the database knows them once they are made one after another.
+-- Defines the six tables of a store, in the order in which they are created. The first five alone
+-- are a store of version 1. Each table and each index has its own tree; trees are numbered from 0
+-- in the order of creation.
 use Rattle.std.specs.Prelude.{◌≢◌, true, false, [], ◌∷◌, Some, None, codes, map, take, List, ℕ, zero, suc, Bool, Option}
 use Rattle.sqlite.specs.Collation.TheVariants.{Binary}
 use Rattle.sqlite.specs.Effect.{Database}
@@ -11,7 +13,7 @@ use Rattle.sqlite_schema.specs.declared.schema.Column.{Column}
 use Rattle.sqlite_schema.specs.declared.schema.Index.{Index}
 use Rattle.sqlite_value.specs.Keys.{plain}
 
--- a column of a STRICT table
+-- A column of a STRICT table.
 abbrev pub typed : List ℕ → Kind → Bool → Column
 typed name kind not_null =
     record {
@@ -23,7 +25,7 @@ typed name kind not_null =
       collation = Binary;
     }
 
--- a table with no rule beside its columns and keys; places count from 1, 0 is the rowid
+-- A table with no rules besides its columns and keys. Keys count columns from 1; 0 is the rowid.
 abbrev pub table : List ℕ → ℕ → List Column → Option ℕ → List ℕ → List (List ℕ) → Table
 table name tree columns key primary uniques = record {
   name = name;
@@ -40,13 +42,13 @@ table name tree columns key primary uniques = record {
   is_counted = false;
 }
 
--- what the store says of itself
+-- The rows about the store: version and depth limit.
 abbrev pub meta : Table
 meta = table (codes "meta") 0
     (typed (codes "name") Text true ∷ typed (codes "val") Integer true ∷ []) None (1 ∷ [])
     ((1 ∷ []) ∷ [])
 
--- the rows of the setup
+-- The rows of the setup.
 abbrev pub setup : Table
 setup = table (codes "setup") 2
     (typed (codes "id") Integer false ∷ typed (codes "txt") Text true ∷ []) (Some 0) (0 ∷ []) []
@@ -57,7 +59,7 @@ posting_columns =
     ∷ typed (codes "n") Integer true
     ∷ typed (codes "body") Text true ∷ typed (codes "verdict") Integer true ∷ []
 
--- the entries
+-- The posted entries.
 abbrev pub posting : Table
 posting = table (codes "posting") 3 posting_columns (Some 0) (0 ∷ []) ((2 ∷ 3 ∷ []) ∷ [])
 
@@ -67,7 +69,7 @@ spot_columns =
     ∷ typed (codes "entry") Integer true
     ∷ typed (codes "place") Integer true ∷ typed (codes "day") Integer true ∷ []
 
--- the spots of things
+-- The spots of things.
 abbrev pub spot : Table
 spot = table (codes "spot") 5 spot_columns None (1 ∷ 2 ∷ []) ((1 ∷ 2 ∷ []) ∷ [])
 
@@ -76,17 +78,17 @@ line_columns =
     typed (codes "loan") Text true ∷ typed (codes "object") Integer true
     ∷ typed (codes "stage") Integer true ∷ []
 
--- the objects of loans
+-- The objects of loans, with their stages.
 abbrev pub line : Table
 line = table (codes "line") 7 line_columns None (1 ∷ 2 ∷ []) ((1 ∷ 2 ∷ []) ∷ [])
 
--- the last days of loans
+-- The last days of loans.
 abbrev pub term : Table
 term = table (codes "term") 9
     (typed (codes "loan") Text true ∷ typed (codes "day") Integer true ∷ []) None (1 ∷ [])
     ((1 ∷ []) ∷ [])
 
--- the index that a UNIQUE or a PRIMARY KEY has by itself
+-- The index that SQLite makes for a UNIQUE or a PRIMARY KEY.
 abbrev pub automatic : List ℕ → ℕ → ℕ → List ℕ → Index
 automatic name tree over key =
     record {
@@ -113,10 +115,11 @@ line_index = automatic (codes "sqlite_autoindex_line_1") 8 7 (1 ∷ 2 ∷ [])
 abbrev pub term_index : Index
 term_index = automatic (codes "sqlite_autoindex_term_1") 10 9 (1 ∷ [])
 
+-- A schema of these tables and indexes alone.
 abbrev pub of_tables : List Table → List Index → Schema
 of_tables tables indexes = record { tables = tables; indexes = indexes; views = [] }
 
--- the table of this number, from 0 as they are made in turn
+-- The table of this number, from 0 in the order of creation.
 abbrev pub table_at : ℕ → Table
 table_at zero = meta
 table_at (suc zero) = setup
@@ -125,6 +128,7 @@ table_at (suc (suc (suc zero))) = spot
 table_at (suc (suc (suc (suc zero)))) = line
 table_at _ = term
 
+-- The index of this number, from 0 in the order of creation.
 abbrev pub index_at : ℕ → Index
 index_at zero = meta_index
 index_at (suc zero) = posting_index
@@ -138,20 +142,20 @@ all_tables = meta ∷ setup ∷ posting ∷ spot ∷ line ∷ term ∷ []
 abbrev pub all_indexes : List Index
 all_indexes = meta_index ∷ posting_index ∷ spot_index ∷ line_index ∷ term_index ∷ []
 
--- how many indexes the first so many tables have
+-- The number of indexes that the first n tables have. `setup` has none.
 abbrev pub index_count : ℕ → ℕ
 index_count zero = 0
 index_count (suc zero) = 1
 index_count (suc n) = n
 
--- the first so many of the tables, as they are made in turn; five are version 1, all six version 2
+-- The schema of the first `made` tables: five are version 1, all six version 2.
 abbrev pub prefix : ℕ → Schema
 prefix made = of_tables (take made all_tables) (take (index_count made) all_indexes)
 
--- the schema of a whole store
+-- The schema of a whole store.
 abbrev pub hub_schema : Schema
 hub_schema = prefix 6
 
--- a database whose tables are none of a store
+-- The tables are those of no store, whole or partly created.
 abbrev pub IsNoStore : Database → Type 0
 IsNoStore db = (made : ℕ) → db.schema ≢ prefix made

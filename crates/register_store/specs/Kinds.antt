@@ -1,4 +1,5 @@
--- The table of kinds, and the message that a JSON value spells by it.
+-- Defines the table of message kinds, and the message or the first fault of a JSON value by that
+-- table.
 use Rattle.std.specs.Prelude.{ℕ, ℤ, ◌&&◌, nat_le, Bool, false, List, [], ◌∷◌, length, map, Option, Some, None, is_some, option_and_then, unwrap_or, Result, Ok, Err, if◌then◌else◌, codes}
 use Rattle.std.specs.Option.{option_map_or}
 use Rattle.std.specs.List.{list_all}
@@ -16,53 +17,56 @@ use Rattle.register_store.specs.declared.key.Key.{Key}
 use Rattle.register_store.specs.declared.key.Key.TheVariants.{Kind, Thing, Place, Container, Day, By, Loan, Partner, Objects, First, Last}
 use Rattle.register_store.specs.Spelling.{key_name, is_thing, is_place, is_loan, is_day, is_name}
 
--- a key that a kind asks for, and which values may stand there
+-- A key of a kind, and which values are valid there.
 pub record Field : Type 0 where
   pub key : Key
   pub fits : Data → Bool
 
--- a string of such a text
+-- A string that passes the test.
 abbrev pub is_string : (List ℕ → Bool) → Data → Bool
 is_string test value = option_map_or test (as_str value) false
 
 infixl 10 ◌spells◌
+-- A key with a string that passes the test.
 abbrev pub ◌spells◌ : Key → (List ℕ → Bool) → Field
 key spells test = record { key = key; fits = is_string test }
 
+-- The items of an array, as a list.
 abbrev pub items_list : Items → List Data
 items_list no_items = []
 items_list (item d ds) = d ∷ items_list ds
 
--- strings of such a text, no more than a loan lists objects
+-- At most 256 strings (`MOST_OBJECTS`) that all pass the test.
 abbrev pub are_strings : (List ℕ → Bool) → Items → Bool
 are_strings test ds =
     nat_le (length (items_list ds)) MOST_OBJECTS && list_all (is_string test) (items_list ds)
 
 infixl 10 ◌lists◌
--- an array of them
+-- A key with an array of strings that pass the test. These are the objects of a loan.
 abbrev pub ◌lists◌ : Key → (List ℕ → Bool) → Field
 key lists test =
     record { key = key; fits = λ value. option_map_or (are_strings test) (as_array value) false }
 
--- the text of a string; no bytes where there is none
+-- The text of a string. Empty for any other value.
 abbrev pub text_of : Option Data → List ℕ
 text_of value = unwrap_or (option_and_then as_str value) []
 
--- the string at a key of an object
+-- The text of the string at a key.
 abbrev pub text_at : Data → Key → List ℕ
 text_at d key = text_of (get (key_name key) d)
 
--- the strings of the array at a key; none where there is none
+-- The texts of the strings in the array at a key.
 abbrev pub texts_at : Data → Key → List (List ℕ)
 texts_at d key =
     option_map_or (λ ds. map (λ value. text_of (Some value)) (items_list ds))
     (option_and_then as_array (get (key_name key) d)) []
 
--- the day that the string at a key spells
+-- The number of the day at a key.
 abbrev pub day_at : Data → Key → ℤ
 day_at d key = day_number (text_at d key)
 
--- a kind: its name, its keys in their order, and the message of an object in which each has a value that fits
+-- A kind: its name, its keys in the order in which they are checked, and the message of an object
+-- with a valid value at each key. Other keys of the object are ignored.
 pub record Row : Type 0 where
   pub name : List ℕ
   pub fields : List Field
@@ -136,58 +140,66 @@ extend_row = record {
   message = λ d. Extend (day_at d Last) (text_at d Loan);
 }
 
--- the kinds that name a loan
+-- The kinds that name a loan.
 abbrev pub loan_kinds : List Row
 loan_kinds = agree_row ∷ authorise_row ∷ exit_row ∷ return_row ∷ receive_row ∷ extend_row ∷ []
 
+-- All kinds.
 abbrev pub kinds : List Row
 kinds = move_row ∷ pack_row ∷ sign_off_row ∷ loan_kinds
 
--- the kinds whose messages keep a name or a list of objects, and so take memory
+-- The kinds whose messages keep a name or a list of objects, so that reading one allocates memory.
 abbrev pub kinds_that_grow : List Row
 kinds_that_grow = agree_row ∷ authorise_row ∷ sign_off_row ∷ []
 
+-- The kind of this name.
 abbrev pub kind_named : List Row → List ℕ → Option Row
 kind_named [] name = None
 kind_named (row ∷ rows) name = if bytes_eq name row.name then Some row else kind_named rows name
 
--- why a key is refused: it is missing, or its value doesn't fit
+-- Missing if there is no value, BadField if it isn't valid.
 abbrev pub value_fault : Field → Option Data → Option ReadFault
 value_fault field None = Some (Missing field.key)
 value_fault field (Some value) = if field.fits value then None else Some (BadField field.key)
 
+-- The fault of an object at a key.
 abbrev pub fault_at : Data → Field → Option ReadFault
 fault_at d field = value_fault field (get (key_name field.key) d)
 
+-- The fault, if there is one, otherwise the answer.
 abbrev pub unless_fault : Option ReadFault → Result message.Message ReadFault
     → Result message.Message ReadFault
 unless_fault None answer = answer
 unless_fault (Some fault) answer = Err fault
 
--- the fields are asked in their order: the first fault, else the message
+-- The first fault in the order of the fields, otherwise the message.
 abbrev pub of_fields : Data → List Field → message.Message → Result message.Message ReadFault
 of_fields d [] m = Ok m
 of_fields d (field ∷ fields) m = unless_fault (fault_at d field) (of_fields d fields m)
 
+-- The message of an object of this kind, or its first fault.
 abbrev pub of_row : Data → Row → Result message.Message ReadFault
 of_row d row = of_fields d row.fields (row.message d)
 
+-- BadKind if no kind has the name.
 abbrev pub of_named : Data → Option Row → Result message.Message ReadFault
 of_named d None = Err BadKind
 of_named d (Some row) = of_row d row
 
--- a value of a kind that takes memory
+-- The value is of a kind whose messages take memory.
 abbrev pub takes_memory : Data → Bool
 takes_memory d =
     is_some (option_and_then (kind_named kinds_that_grow)
     (option_and_then as_str (get (key_name Kind) d)))
 
--- by the value of the object's kind
+-- The message by the value at `kind`: Missing if there is none, BadKind if it isn't the name of a
+-- kind.
 abbrev pub of_kind : Data → Option Data → Result message.Message ReadFault
 of_kind d None = Err (Missing Kind)
 of_kind d (Some kind) = of_named d (option_and_then (kind_named kinds) (as_str kind))
 
--- the message that a value spells, else its first fault
+-- The message that a value spells, or its first fault: NotJson if it isn't an object, then those of
+-- its kind, then those of its keys in their order.
 abbrev pub of_json : Data → Result message.Message ReadFault
 of_json null = Err NotJson
 of_json (boolean b) = Err NotJson
@@ -196,10 +208,11 @@ of_json (string s) = Err NotJson
 of_json (array ds) = Err NotJson
 of_json (object ms) = of_kind (object ms) (get (key_name Kind) (object ms))
 
+-- NotJson if the bytes weren't JSON.
 abbrev pub of_read : Option Data → Result message.Message ReadFault
 of_read None = Err NotJson
 of_read (Some d) = of_json d
 
--- the message that bytes spell: they are UTF-8, and JSON
+-- The message that bytes spell, or their first fault: NotJson if they are not UTF-8 or not JSON.
 abbrev pub of_bytes : List ℕ → Result message.Message ReadFault
 of_bytes bytes = if is_utf8 bytes then of_read (read bytes) else Err NotJson

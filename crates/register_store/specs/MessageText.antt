@@ -1,4 +1,5 @@
--- The text of a message: the compact JSON of the object with its kind and its kind's keys.
+-- Defines the one text of a message: the compact JSON of an object with its kind and the keys of
+-- that kind.
 use Rattle.std.specs.Prelude.{ℕ, ℤ, ◌≡◌, ◌≤◌, true, List, [], ◌∷◌, length, map, None, codes}
 use Rattle.std.specs.List.{list_all}
 use Rattle.serde_json.specs.Data.{Data, string, array, object, Members, no_members, put}
@@ -16,31 +17,32 @@ use Rattle.register_store.specs.declared.key.Key.{Key}
 use Rattle.register_store.specs.declared.key.Key.TheVariants.{Kind, Thing, Place, Container, Day, By, Loan, Partner, Objects, First, Last}
 use Rattle.register_store.specs.Spelling.{key_name, is_thing}
 
--- a key and the value at it
+-- A key and its value.
 pub record Member : Type 0 where
   pub key : Key
   pub value : Data
 
 infixl 10 ◌is◌
--- a string
+-- A key with a string.
 abbrev pub ◌is◌ : Key → List ℕ → Member
 key is text = record { key = key; value = string text }
 
 infixl 10 ◌on◌
--- a day, as the one text that spells it
+-- A key with a day, as the only text that spells it.
 abbrev pub ◌on◌ : Key → ℤ → Member
 key on day = record { key = key; value = string (day_text day) }
 
 infixl 10 ◌are◌
--- an array of strings
+-- A key with an array of strings.
 abbrev pub ◌are◌ : Key → List (List ℕ) → Member
 key are texts = record { key = key; value = array (items_of (map string texts)) }
 
--- these members, in the ascending order of their keys' bytes
+-- The members of an object, in ascending order of the bytes of their keys.
 abbrev pub members_of : List Member → Members
 members_of [] = no_members
 members_of (m ∷ ms) = put (key_name m.key) m.value (members_of ms)
 
+-- The members of a message. The order here is that of the table of kinds; the text sorts them.
 abbrev pub members : message.Message → List Member
 members (Move day x p) = (Kind is codes "move") ∷ (Thing is x) ∷ (Place is p) ∷ (Day on day) ∷ []
 members (Pack day x c) =
@@ -58,27 +60,28 @@ members (Receive day x loan p) =
 members (SignOff name) = (Kind is codes "signoff") ∷ (By is name) ∷ []
 members (Extend last loan) = (Kind is codes "extend") ∷ (Loan is loan) ∷ (Last on last) ∷ []
 
--- the object of a message
+-- The object of a message.
 abbrev pub json : message.Message → Data
 json m = object (members_of (members m))
 
--- the one text of a message
+-- The one text of a message. By law (`laws::one_text`) no other text is kept for it.
 abbrev pub body_of : message.Message → List ℕ
 body_of m = compact_text (json m)
 
+-- The text is that of the message.
 abbrev pub IsTextOf : message.Message → List ℕ → Type 0
 IsTextOf m text = text ≡ body_of m
 
--- a day that its text spells, and no other text
+-- One text spells the day, and no other does.
 abbrev pub IsDay : ℤ → Type 0
 IsDay day = IsOnlySpelling (day_text day) day
 
--- codes of things, and no more than a loan lists
+-- Codes of things, at most as many as a loan can list.
 pub record AreThings (objects : List (List ℕ)) : Type 0 where
   pub things : list_all is_thing objects ≡ true
   pub few : length objects ≤ MOST_OBJECTS
 
--- what a message says is spelled as codes, names and days are; that of each message is
+-- The texts in a message are codes, names and days. This is the invariant of every message.
 abbrev pub IsSpelled : message.Message → Type 0
 IsSpelled (Move day x p) = (thing_fault x ≡ None) × (place_fault p ≡ None) × IsDay day
 IsSpelled (Pack day x c) = (thing_fault x ≡ None) × (thing_fault c ≡ None) × IsDay day

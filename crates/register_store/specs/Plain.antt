@@ -1,4 +1,4 @@
--- What a register in memory keeps.
+-- Defines what a register in memory keeps.
 use Rattle.std.specs.Prelude.{ℕ, ℤ, pos, ◌==◌, ◌&&◌, Bool, false, List, [], map, Option, Some, None, ⊤, Vec, String, string_bytes}
 use Rattle.std.specs.List.{flat_map}
 use Rattle.std.specs.Map.{lookup}
@@ -16,30 +16,30 @@ use Rattle.register_store.specs.MessageText.{body_of}
 use Rattle.register_store.specs.StoredRows.{Content, MetaRow, PostingRow, TermRow, AreSame, rows_of_meta}
 use Rattle.register_store.specs.Holdings.{Holding}
 
--- the rows, whether a setup is bound to it, and how many stations that has
+-- The rows, whether a setup is bound to them, and the number of stations in that setup.
 pub record Kept : Type 0 where
   pub content : Content
   pub bound : Bool
   pub stations : ℕ
 
--- nobody else writes memory, and it holds these rows, in any order
+-- Nobody else writes to memory, so it has these rows, in any order.
 abbrev pub rows_in_memory : Content → Holding
 rows_in_memory content = record { is_quiet = ⊤; holds = AreSame content }
 
 abbrev pub in_memory : Kept → Holding
 in_memory register = rows_in_memory register.content
 
--- the texts of the setup's rows, none where it is new
+-- The texts of the setup's rows, or none if the register is new.
 abbrev pub texts_of : Option (Vec (String Global) Global) → List (List ℕ)
 texts_of None = []
 texts_of (Some texts) = map string_bytes texts.items
 
--- what it says of itself, once it isn't new
+-- The rows about the store, or none if the register is new.
 abbrev pub meta_of : Option (Vec (String Global) Global) → List MetaRow
 meta_of None = []
 meta_of (Some texts) = rows_of_meta 12
 
--- the row of a posting whose numbers can be an entry's
+-- The row of a posting whose numbers are in range.
 abbrev pub posting_row : KeptPosting → PostingRow
 posting_row r =
     record {
@@ -50,7 +50,7 @@ posting_row r =
       verdict = pos r.verdict;
     }
 
--- the row of an entry that is kept under its number: its body is the message's one text
+-- The row of a kept entry. Its body is the one text of the message.
 abbrev pub kept_row : KeptEntry → PostingRow
 kept_row k = record {
   id = pos k.id;
@@ -60,31 +60,31 @@ kept_row k = record {
   verdict = pos (verdict_number k.verdict);
 }
 
--- lines of the same object under the same loan
+-- Both are lines of the same loan and object.
 abbrev pub has_same_key : NewLine → NewLine → Bool
 has_same_key l k = bytes_eq l.loan k.loan && (l.object == k.object)
 
--- the lines that are kept by loan and object
+-- The lines of a map by loan and object.
 abbrev pub held_lines : List (LineKey × LineStage) → List NewLine
 held_lines kept = map (λ e. record { loan = e.0.loan; object = e.0.object; stage = e.1 }) kept
 
--- the last days that are kept by loan
+-- The last days of a map by loan.
 abbrev pub term_rows : List (List ℕ × ℤ) → List TermRow
 term_rows kept = map (λ e. record { loan = e.0; day = e.1 }) kept
 
--- the lines of a loan with these objects
+-- The lines of a loan for these objects, by the ledger.
 abbrev pub lines_of_loan : Book → List ℕ → List ℕ → List NewLine
 lines_of_loan B loan os =
     flat_map (λ o.
     option_to_list
     (option_map (λ s. record { loan = loan; object = o; stage = s }) (line_in B loan o))) os
 
--- the last day of a loan
+-- The last day of a loan, by the ledger.
 abbrev pub day_of_loan : Book → List ℕ → List TermRow
 day_of_loan B loan =
     option_to_list (option_map (λ day. record { loan = loan; day = day }) (last_day_in B loan))
 
--- the key of the pair is kept, with its value
+-- The map has the key of the pair, with its value.
 abbrev pub is_kept : {K V : Type 0} → (K → K → Bool) → (V → V → Bool) → List (K × V) → K × V → Bool
 is_kept same_key same_value kept pair =
     option_map_or (λ value. same_value value pair.1) (lookup (same_key pair.0) kept) false

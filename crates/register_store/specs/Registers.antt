@@ -1,4 +1,4 @@
--- What a register promises of its faults and of what they leave.
+-- Defines the faults of a register: when each can come, and what it counts.
 use Rattle.std.specs.Prelude.{ℕ, pos, ◌≡◌, ◌+◌, ◌-◌, ◌^◌, ◌<◌, ◌≤◌, ◌&&◌, min, Bool, true, false, not, List, [], ◌∷◌, ◌++◌, length, reverse, All, Result, Ok, Err, OnOk, IfErr, codes}
 use Rattle.std.specs.List.{list_any}
 use Rattle.std.specs.List.Sorted.{IsPermutation, IsSortedByKey}
@@ -11,7 +11,8 @@ use Rattle.register_store.specs.declared.store_fault.StoreFault.{StoreFault}
 use Rattle.register_store.specs.declared.store_fault.StoreFault.TheVariants.{NoMemory, Store, OtherSetup, Damaged, OtherVersion}
 use Rattle.register_store.specs.StoredRows.{MetaRow, PostingRow, Content, rows_of_setup, rows_of_meta, is_depth, IsPostingRow, ArePostings}
 
--- how often a register has answered Store: once more, up to the last number of 64 bits
+-- Store adds one to the number of times that a register has returned it, up to 2^64 - 1. Any other
+-- result leaves the number as it was.
 abbrev pub CountsRefusal : {T : Type 0} → ℕ → ℕ → Result T StoreFault → Type 0
 CountsRefusal old new (Ok x) = new ≡ old
 CountsRefusal old new (Err NoMemory) = new ≡ old
@@ -20,7 +21,8 @@ CountsRefusal old new (Err OtherSetup) = new ≡ old
 CountsRefusal old new (Err (Damaged at)) = new ≡ old
 CountsRefusal old new (Err OtherVersion) = new ≡ old
 
--- no memory, or a store that refused: these can stand in place of any answer
+-- No memory, or a store that failed. These can come from any call; the other faults have a cause in
+-- the store's rows.
 abbrev pub is_failure : StoreFault → Bool
 is_failure NoMemory = true
 is_failure Store = true
@@ -28,14 +30,14 @@ is_failure OtherSetup = false
 is_failure (Damaged at) = false
 is_failure OtherVersion = false
 
--- Whether a register has stopped, before and after a call that returns this. A stopped register stays so and returns Store; after
--- an Ok it runs; and it stops only with NoMemory or Store.
+-- A stopped register stays stopped and returns Store. After an Ok it runs. Only NoMemory or Store can
+-- stop it.
 pub record Stops {T : Type 0} (old new : Bool) (r : Result T StoreFault) : Type 0 where
   pub going : OnOk r (new ≡ false)
   pub stays : old ≡ true → (r ≡ Err Store) × (new ≡ true)
   pub cause : new ≡ true → IfErr r (λ fault. is_failure fault ≡ true)
 
--- what only a store outside can answer
+-- The faults that only a store outside the program can have.
 abbrev pub is_of_store : StoreFault → Bool
 is_of_store NoMemory = false
 is_of_store Store = true
@@ -43,7 +45,7 @@ is_of_store OtherSetup = false
 is_of_store (Damaged at) = false
 is_of_store OtherVersion = true
 
--- what the listing of entries can answer
+-- The faults of listing the entries.
 abbrev pub is_of_listing : StoreFault → Bool
 is_of_listing NoMemory = true
 is_of_listing Store = true
@@ -51,28 +53,31 @@ is_of_listing OtherSetup = false
 is_of_listing (Damaged at) = true
 is_of_listing OtherVersion = false
 
--- the store is new: it says nothing of itself
+-- A store with no rows about itself is new.
 abbrev pub is_new : List MetaRow → Bool
 is_new [] = true
 is_new (row ∷ rows) = false
 
--- a new store takes the setup, and the depth limit 12; an old one stays
+-- A new store gets the setup and the depth limit 12. An old one stays as it is.
 abbrev pub bound_by : Bool → Museum → Content → Content
 bound_by true S c = record c { setup = rows_of_setup S; meta = rows_of_meta 12 }
 bound_by false S c = c
 
+-- The content after the store is bound to the setup.
 abbrev pub bound_to : Museum → Content → Content
 bound_to S c = bound_by (is_new c.meta) S c
 
+-- A row about the store has a version other than 2.
 abbrev pub has_other_version : List MetaRow → Bool
 has_other_version meta =
     list_any (λ row. bytes_eq row.name (codes "version") && not (int_eq row.val (pos 2))) meta
 
--- an old store of this version, with a depth limit that it allows
+-- The rows about the store are those of version 2, with a possible depth limit.
 abbrev pub IsWhole : List MetaRow → Type 0
 IsWhole meta = (depth : ℕ) × (is_depth depth ≡ true) × IsPermutation (rows_of_meta depth) meta
 
--- why a store can't be bound to a setup: the first cause
+-- Why a store can't be bound to a setup, in this order: OtherVersion; Damaged(0), if the rows about
+-- an old store aren't whole; OtherSetup.
 abbrev pub IsBindFault : Museum → Content → StoreFault → Type 0
 IsBindFault S c NoMemory = Unit {0}
 IsBindFault S c Store = Unit {0}
@@ -81,18 +86,18 @@ IsBindFault S c (Damaged at) =
     (at ≡ 0) × (is_new c.meta ≡ false) × (has_other_version c.meta ≡ false) × (IsWhole c.meta → ⊥)
 IsBindFault S c OtherSetup = IsWhole c.meta × (IsPermutation (rows_of_setup S) c.setup → ⊥)
 
--- the entry's station is one of so many, and its number one that a message can have
+-- The entry's station is one of this many, and its number is 1 to 999,999.
 pub record IsOfStation (stations : ℕ) (e : Entry) : Type 0 where
   pub known : e.station < stations
   pub first : 1 ≤ e.n
   pub few : e.n ≤ LAST_NUMBER
 
--- no entry of these stations has such a row under this number
+-- The row, with this number, is that of no entry of these stations.
 abbrev pub IsWrongRow : ℕ → ℕ → PostingRow → Type 0
 IsWrongRow stations number row =
     (e : Entry) → IsPostingRow number e row → IsOfStation stations e → ⊥
 
--- of these rows, oldest first, the first wrong one has this number
+-- In these rows, oldest first, row `at` is the first wrong one.
 pub record IsWrongAt (stations at : ℕ) (rows : List PostingRow) : Type 0 where
   pub before : List PostingRow
   pub row : PostingRow
@@ -104,14 +109,14 @@ pub record IsWrongAt (stations at : ℕ) (rows : List PostingRow) : Type 0 where
   pub stationed : All (IsOfStation stations) entries
   pub wrong : IsWrongRow stations at row
 
--- in the order of the rows' numbers, the first wrong row has this number
+-- In the order of the rows' numbers, row `at` is the first wrong one.
 pub record IsFirstWrong (stations at : ℕ) (c : Content) : Type 0 where
   pub rows : List PostingRow
   pub all : IsPermutation rows c.postings
   pub order : IsSortedByKey (λ row. row.id) int_cmp rows
   pub first : IsWrongAt stations at rows
 
--- why a store can't list its entries
+-- Why a store can't list its entries: Damaged, with the number of the first wrong row.
 abbrev pub IsListFault : ℕ → Content → StoreFault → Type 0
 IsListFault stations c NoMemory = Unit {0}
 IsListFault stations c Store = Unit {0}

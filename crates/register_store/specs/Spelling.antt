@@ -1,4 +1,4 @@
--- The words of the objects that spell messages: their keys, and which texts may stand there.
+-- Defines the keys of a JSON message as printed, and which texts are valid at them.
 use Rattle.std.specs.Prelude.{ℕ, ◌&&◌, nat_lt, nat_le, Bool, List, length, is_none, codes}
 use Rattle.std.specs.List.{list_all}
 use Rattle.std.specs.Str.{is_utf8}
@@ -28,23 +28,23 @@ key_name N = codes "n"
 key_name Message = codes "message"
 key_name Ask = codes "ask"
 
--- the text is a thing's code
+-- The text is a thing's code.
 abbrev pub is_thing : List ℕ → Bool
 is_thing text = is_none (thing_fault text)
 
--- a place's code
+-- The text is a place's code.
 abbrev pub is_place : List ℕ → Bool
 is_place text = is_none (place_fault text)
 
--- a loan's code
+-- The text is a loan's code.
 abbrev pub is_loan : List ℕ → Bool
 is_loan text = is_none (loan_fault text)
 
--- a day of the calendar
+-- The text is a day of the calendar.
 abbrev pub is_day : List ℕ → Bool
 is_day text = is_none (day_fault text)
 
--- a name: UTF-8 of some bytes and not too many, none of them a control
+-- The text is a name: UTF-8 of 1 to 60 bytes, none of them a control byte.
 abbrev pub is_name : List ℕ → Bool
 is_name text =
     is_utf8 text && nat_lt 0 (length text) && nat_le (length text) LONGEST_NAME

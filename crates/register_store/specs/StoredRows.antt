@@ -1,6 +1,7 @@
--- What a register keeps of a posted list, row by row. Rows stand newest first; a store may hold them in any order.
--- Cells are raw, integers and bytes as a table has them: so whatever stands in the tables of a store is a content, and
--- only some contents are those of a posted list.
+-- Defines the rows that a store has for a posted list. Rows are written newest first here; a store
+-- may have them in any order. Cells are raw integers and bytes, as in a table, so whatever is in
+-- the tables of a store is a content, a negative number or a stage of 9 included. Only some
+-- contents are those of a posted list.
 use Rattle.std.specs.Prelude.{ℕ, ℤ, pos, ◌≡◌, ◌+◌, ◌==◌, ◌&&◌, ◌||◌, Bool, true, not, Ok, List, [], ◌∷◌, ◌++◌, length, map, filter, reverse, Option, None, Some, if◌then◌else◌, codes}
 use Rattle.std.specs.List.{flat_map, range_with_len}
 use Rattle.std.specs.List.Sorted.{IsPermutation}
@@ -25,17 +26,17 @@ use Rattle.posting_core.specs.VerdictNames.{is_applied, verdict_number}
 use Rattle.register_store.specs.Kinds.{of_bytes}
 use Rattle.register_store.specs.MessageText.{IsTextOf}
 
--- a row of the setup, with its number from 1
+-- A row of the setup, with its number from 1.
 pub record SetupRow : Type 0 where
   pub id : ℤ
   pub text : List ℕ
 
--- what the store says of itself
+-- A row about the store: a word and its value.
 pub record MetaRow : Type 0 where
   pub name : List ℕ
   pub val : ℤ
 
--- a posted entry, with its number from 1 and its message as text
+-- An entry, with its number from 1, its message as text and its verdict as a number.
 pub record PostingRow : Type 0 where
   pub id : ℤ
   pub station : ℤ
@@ -43,7 +44,7 @@ pub record PostingRow : Type 0 where
   pub body : List ℕ
   pub verdict : ℤ
 
--- a spot, with its thing and its number in the thing's list
+-- A spot, with its thing and its number from 1 in the thing's list.
 pub record SpotRow : Type 0 where
   pub thing : ℤ
   pub k : ℤ
@@ -51,18 +52,18 @@ pub record SpotRow : Type 0 where
   pub place : ℤ
   pub day : ℤ
 
--- an object of a loan, with the stage that its line has come to
+-- A loan line: a loan, one of its objects, and the stage as a number.
 pub record LineRow : Type 0 where
   pub loan : List ℕ
   pub object : ℤ
   pub stage : ℤ
 
--- a loan with its last day
+-- A loan and its last day.
 pub record TermRow : Type 0 where
   pub loan : List ℕ
   pub day : ℤ
 
--- all rows of a store
+-- All rows of a store.
 pub record Content : Type 0 where
   pub setup : List SetupRow
   pub meta : List MetaRow
@@ -71,7 +72,7 @@ pub record Content : Type 0 where
   pub lines : List LineRow
   pub terms : List TermRow
 
--- the same rows, in some order
+-- The same rows, in any order.
 pub record AreSame (c d : Content) : Type 0 where
   pub setup : IsPermutation c.setup d.setup
   pub meta : IsPermutation c.meta d.meta
@@ -80,25 +81,27 @@ pub record AreSame (c d : Content) : Type 0 where
   pub lines : IsPermutation c.lines d.lines
   pub terms : IsPermutation c.terms d.terms
 
--- each text with its number, the last first
+-- Each text with its number, the last text first.
 abbrev pub numbered : List (List ℕ) → List SetupRow
 numbered [] = []
 numbered (text ∷ texts) = record { id = pos (length texts + 1); text = text } ∷ numbered texts
 
--- the rows of a setup
+-- The rows of a setup, numbered from 1.
 abbrev pub rows_of_setup : Museum → List SetupRow
 rows_of_setup S = numbered (reverse (setup_rows S))
 
--- the version of the store, and the depth limit that it was made with
+-- The rows about a store: version 2, and the depth limit that it was created with.
 abbrev pub rows_of_meta : ℕ → List MetaRow
 rows_of_meta depth =
     record { name = codes "version"; val = pos 2 }
     ∷ record { name = codes "depth"; val = pos depth } ∷ []
 
+-- A new store has the depth limit 12; one that was migrated from version 1 keeps 8.
 abbrev pub is_depth : ℕ → Bool
 is_depth depth = (depth == 8) || (depth == 12)
 
--- the row keeps the entry of this number: its body is the one text of the message, and reads back
+-- The row is that of entry `number`: its body is the one text of the message, and reads back as the
+-- message.
 pub record IsPostingRow (number : ℕ) (e : Entry) (row : PostingRow) : Type 0 where
   pub id : row.id ≡ pos number
   pub station : row.station ≡ pos e.station
@@ -107,14 +110,14 @@ pub record IsPostingRow (number : ℕ) (e : Entry) (row : PostingRow) : Type 0 w
   pub reads_back : of_bytes row.body ≡ Ok e.message
   pub verdict : row.verdict ≡ pos (verdict_number e.verdict)
 
--- the rows keep the entries
+-- The rows are those of the entries.
 abbrev pub ArePostings : List Entry → List PostingRow → Type 0
 ArePostings [] [] = Unit {0}
 ArePostings [] (row ∷ rows) = ⊥
 ArePostings (e ∷ P) [] = ⊥
 ArePostings (e ∷ P) (row ∷ rows) = IsPostingRow (length P + 1) e row × ArePostings P rows
 
--- the row of a spot
+-- The row of a spot.
 abbrev pub spot_row : NewSpot → SpotRow
 spot_row s =
     record {
@@ -125,93 +128,95 @@ spot_row s =
       day = s.spot.day;
     }
 
--- the row of a line
+-- The row of a loan line.
 abbrev pub line_row : NewLine → LineRow
 line_row l = record { loan = l.loan; object = pos l.object; stage = pos (stage_number l.stage) }
 
--- the spots that an entry wrote, posted after P
+-- The spots that entry e adds after P. A refused entry adds none.
 abbrev pub written : Museum → List Entry → Entry → List NewSpot
 written S P e = if is_applied e.verdict then new_spots S P e.message else []
 
--- all that the entries wrote
+-- All spots that the entries added, one entry at a time.
 abbrev pub all_written : Museum → List Entry → List NewSpot
 all_written S [] = []
 all_written S (e ∷ P) = reverse (written S P e) ++ all_written S P
 
--- a thing's spots, each with its number in the thing's list
+-- The spots of thing x, numbered from k.
 abbrev pub spots_of_thing : ℕ → ℕ → List Spot → List NewSpot
 spots_of_thing x k [] = []
 spots_of_thing x k (spot ∷ spots) =
     record { thing = x; k = k; spot = spot } ∷ spots_of_thing x (k + 1) spots
 
--- the spots of all things, by looking back
+-- The spots of all things, by looking back, thing by thing. By law
+-- (`laws::spots_are_of_looking_back`) they are the spots of `all_written`.
 abbrev pub spots_by_thing : Museum → List Entry → List NewSpot
 spots_by_thing S P =
     flat_map (λ x. spots_of_thing x 1 (spots S P x)) (range_with_len 0 (length S.things))
 
--- the lines under an agreement, each at its stage
+-- The lines of an agreement, each at its present stage.
 abbrev pub lines_under : Museum → List Entry → Agreement → List NewLine
 lines_under S P t =
     map (λ o. record { loan = t.loan; object = o; stage = stage S P t.loan o }) (objects_of S t)
 
--- the lines of all loans, by looking back
+-- The lines of all loans, by looking back.
 abbrev pub lines_by_loan : Museum → List Entry → List NewLine
 lines_by_loan S P = flat_map (lines_under S P) (agreements P)
 
--- the rows of all spots, and of all lines
+-- The rows of all spots.
 abbrev pub rows_of_spots : Museum → List Entry → List SpotRow
 rows_of_spots S P = map spot_row (all_written S P)
 
+-- The rows of all loan lines.
 abbrev pub rows_of_lines : Museum → List Entry → List LineRow
 rows_of_lines S P = map line_row (lines_by_loan S P)
 
--- the last days of all loans, by looking back
+-- The last days of all loans, by looking back.
 abbrev pub rows_of_terms : List Entry → List TermRow
 rows_of_terms P =
     map (λ t. record { loan = t.loan; day = last_from P t.loan t.last }) (agreements P)
 
--- the store has this list of entries
+-- The store has the entries P.
 pub record HasList (P : List Entry) (c : Content) : Type 0 where
   pub rows : List PostingRow
   pub each : ArePostings P rows
   pub all : IsPermutation rows c.postings
 
--- the store is bound to this setup, with this depth limit
+-- The store is bound to the setup, with this depth limit.
 pub record IsBoundTo (S : Museum) (depth : ℕ) (c : Content) : Type 0 where
   pub setup : IsPermutation (rows_of_setup S) c.setup
   pub meta : IsPermutation (rows_of_meta depth) c.meta
   pub limit : is_depth depth ≡ true
 
--- its rows of spots, lines and terms are those of looking back
+-- The rows of spots, loan lines and last days are those of looking back through P.
 pub record HasRows (S : Museum) (P : List Entry) (c : Content) : Type 0 where
   pub spots : IsPermutation (rows_of_spots S P) c.spots
   pub lines : IsPermutation (rows_of_lines S P) c.lines
   pub terms : IsPermutation (rows_of_terms P) c.terms
 
--- the stored rows of a posted list
+-- The store has all rows of a posted list, and no others.
 pub record IsStoreOf (S : Museum) (depth : ℕ) (P : List Entry) (c : Content) : Type 0 where
   pub bound : IsBoundTo S depth c
   pub list : HasList P c
   pub rows : HasRows S P c
 
--- a row in the place of those that are the same
+-- The rows with a new row in place of those with the same key.
 abbrev pub put : {R : Type 0} → (R → R → Bool) → R → List R → List R
 put same row rows = row ∷ filter (λ r. not (same row r)) rows
 
--- each of these rows in turn
+-- The rows after each of these was put, one after another.
 abbrev pub put_each : {R : Type 0} → (R → R → Bool) → List R → List R → List R
 put_each same [] rows = rows
 put_each same (new ∷ more) rows = put_each same more (put same new rows)
 
--- rows of the same object under the same loan
+-- Both are lines of the same loan and object.
 abbrev pub is_same_line : LineRow → LineRow → Bool
 is_same_line l k = bytes_eq l.loan k.loan && int_eq l.object k.object
 
--- rows of the same loan
+-- Both are last days of the same loan.
 abbrev pub is_same_loan : TermRow → TermRow → Bool
 is_same_loan t u = bytes_eq t.loan u.loan
 
--- the last day that a message says
+-- The last day that a message sets.
 abbrev pub term_in : Message → Option TermRow
 term_in (Move day x p) = None
 term_in (Pack day x c) = None
@@ -223,11 +228,12 @@ term_in (Receive day x loan p) = None
 term_in (SignOff name) = None
 term_in (Extend last loan) = Some (record { loan = loan; day = last })
 
--- the last day that an entry gives a loan
+-- The last day that an entry sets: that of an applied Agree or Extend.
 abbrev pub term_of : Entry → Option TermRow
 term_of e = if is_applied e.verdict then term_in e.message else None
 
--- one more posting: its spots are added, its lines and its last day take the place of those before
+-- The content with one more entry: its spots are added; its loan lines and its last day replace
+-- those before.
 abbrev pub with_posted : PostingRow → Entry → Changes → Content → Content
 with_posted row e changes c = record c {
   postings = row ∷ c.postings;

@@ -1,4 +1,5 @@
--- The words of each row's plain line, in their order; above each stands such a line.
+-- Defines the words of each row's plain line, in their order. An example of the line is above each
+-- definition.
 use Rattle.std.specs.Prelude.{◌∷◌, [], ℕ, Bool, List, None, Option, Some, codes, false, map}
 use Rattle.std.specs.Prelude.{option_map, string_bytes, true, unwrap_or}
 use Rattle.std.specs.Option.{option_map_or}
@@ -14,11 +15,11 @@ use Rattle.report_rows.specs.declared.places.CountedRow.{CountedRow}
 use Rattle.report_rows.specs.declared.spots.AwayRow.{AwayRow}
 use Rattle.report_rows.specs.declared.spots.SpotRow.{SpotRow}
 
--- a text, or a dash for none
+-- The text, or a dash if there is none.
 abbrev pub or_dash : Option (List ℕ) → Told
 or_dash t = text (unwrap_or t (codes "-"))
 
--- the word before codes, where there are some
+-- The word before the containers, if there are any.
 abbrev pub in_if : List (List ℕ) → Told
 in_if [] = nothing
 in_if (t ∷ ts) = text (codes "in")
@@ -37,7 +38,7 @@ content_words row = text (string_bytes row.thing)
     ∷ text row.state.now
     ∷ texts (map string_bytes row.containers.items) ∷ []
 
--- next 4; without a next number, signed off or full
+-- next 4; or, if there is no next number, signed off or full
 abbrev pub next_words : Option ℕ → Bool → List Told
 next_words (Some n) signed_off = text (codes "next") ∷ number n ∷ []
 next_words None true = text (codes "signed") ∷ text (codes "off") ∷ []
@@ -68,7 +69,7 @@ state_words row = text (string_bytes row.loan) ∷ text row.state.now ∷ []
 abbrev pub stage_words : List ℕ → LoanRow → List Told
 stage_words object row = text object ∷ text_if (option_map (λ t. t.now) row.stage) ∷ []
 
--- of an object of a loan its stage, else the loan's state
+-- An object of the loan has its stage, the loan itself its state.
 abbrev pub loan_words : LoanRow → List Told
 loan_words row = option_map_or (λ t. stage_words (string_bytes t) row) row.object (state_words row)
 
@@ -85,7 +86,7 @@ missing_words row = text (codes "missing")
     ∷ text (string_bytes row.place)
     ∷ text_if (option_map string_bytes row.thing) ∷ []
 
--- of a row of the count list its answer, else what the list misses
+-- A row of the count list has its answer, and an object that the list misses has its place.
 abbrev pub counted_words : CountedRow → List Told
 counted_words row = option_map_or (λ n. answer_words n row) row.row (missing_words row)
 

@@ -1,4 +1,4 @@
--- What is printed of a log.
+-- Defines the printed text of a log.
 use Rattle.std.specs.Prelude.{ℕ, List, [], ◌++◌, take, reverse, codes}
 use Rattle.nest_core.specs.Museum.{Museum}
 use Rattle.posting_core.specs.declared.entry.Entry.{Entry}
@@ -14,23 +14,24 @@ use Rattle.serve_core.specs.declared.item.LogLine.{LogLine}
 use Rattle.serve_core.specs.declared.item.Reply.{Reply}
 use Rattle.serve_core.specs.declared.item.Reply.TheVariants.{Answered, Found, Unread}
 
--- the name of a feed line's fault
+-- The name of a feed line's fault.
 abbrev pub line_fault_text : LineFault → List ℕ
 line_fault_text TooLong = codes "TooLong"
 line_fault_text (Read fault) = fault_text fault
 
--- a faulty line of a station's feed
+-- A faulty line of a station's feed: GAL line 3 bad NotJson.
 abbrev pub bad_item_line : List ℕ → ℕ → LineFault → List ℕ
 bad_item_line station line fault =
     station ++ codes " " ++ bad_line line (line_fault_text fault)
 
--- of the entries O, oldest first, those that stood with an answer
+-- The entries, of O with the oldest first, up to the last one posted with this answer.
 abbrev pub up_to : Answer → List Entry → List Entry
 up_to (Refused refusal) O = O
 up_to Held O = O
 up_to (Posted first last) O = take last O
 
--- what is said to an item of station s; no log has another pair
+-- The reply to an item of station s, in the words of a replay. A log has no other pair of item and
+-- reply.
 abbrev pub item_text : Museum → List Entry → ℕ → Item → Reply → List ℕ
 item_text S O s (Scan n message) (Answered answer) =
     answer_text (station_text S s) n (reverse (up_to answer O)) answer
@@ -38,6 +39,6 @@ item_text S O s (Ask code) (Found place) = asked_line (station_text S s) code (p
 item_text S O s (Bad line fault) Unread = bad_item_line (station_text S s) line fault
 item_text S O s _ _ = []
 
--- what is printed of a line of a log, after the entries O, oldest first
+-- The text of a line of a log. O has the posted entries, oldest first.
 abbrev pub logged_text : Museum → List Entry → LogLine → List ℕ
 logged_text S O l = item_text S O l.station l.item l.reply

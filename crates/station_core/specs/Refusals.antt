@@ -1,9 +1,8 @@
--- The words of the refusals.
+-- Defines the printed names of refusals.
 use Rattle.std.specs.Prelude.{ℕ, List, codes}
 use Rattle.station_core.specs.declared.Refusal.{Refusal}
 use Rattle.station_core.specs.declared.Refusal.TheVariants.{UnknownStation, BadNumber, Double, SignedOff, TooEarly}
 
--- a refusal's word in a reply
 abbrev pub refusal_name : Refusal → List ℕ
 refusal_name UnknownStation = codes "UnknownStation"
 refusal_name BadNumber = codes "BadNumber"

@@ -1,4 +1,5 @@
--- What a contract sees of a station: a count of posted messages, a mark, and a window of held ones.
+-- Defines the view of a station: how many of its messages are posted, whether it has signed off,
+-- and a window of the messages that are held back until the gap before them closes.
 use Rattle.std.specs.Prelude.{◌≡◌, ℕ, ◌+◌, ◌-◌, ◌≤◌, ◌==◌, ◌||◌, nat_lt, nat_le, Bool, true, false, if◌then◌else◌, List, [], ◌∷◌, ◌++◌, length, drop, replicate, slice_get, slice_set, Option, Some, None, is_some, option_and_then, unwrap_or, count_by, refl}
 use Rattle.std.specs.Coded.{Coded, code_by, coded×, coded_list, coded_option, coded_bool, coded_ℕ}
 use Rattle.circular_buffer.specs.Buffer.{Buffer}
@@ -7,35 +8,36 @@ use Rattle.station_core.specs.declared.Refusal.{Refusal}
 use Rattle.station_core.specs.declared.Refusal.TheVariants.{UnknownStation, BadNumber, Double, SignedOff, TooEarly}
 use Rattle.station_core.specs.declared.Start.{Start}
 
--- how many numbers above the posted ones a station may send; proofs take it as a word
+-- A station may send this many numbers, 256, above its posted messages. Defined apart from `WINDOW`
+-- so that proofs need not unfold the number.
 unfoldable pub window : ℕ
 window = WINDOW
 
--- messages 1 to `posted` are posted, and `signed` where the last of them is a sign-off;
--- place i of `slots` has message posted + 1 + i, where it is held
+-- Messages 1 to `posted` are posted. `signed`: the last of them is a sign-off. Slot i holds message
+-- posted + 1 + i, if it has arrived.
 pub record Series (M : Type 0) : Type 0 where
   pub posted : ℕ
   pub signed : Bool
   pub slots : List (Option M)
 
 module _ {M : Type 0} where
-  -- a series by its three parts
+  -- A series by its three fields.
   abbrev pub series : ℕ → Bool → List (Option M) → Series M
   series k b xs = record { posted = k; signed = b; slots = xs }
 
-  -- two series are one where their three parts are
+  -- The code of a series: that of its three fields.
   abbrev pub series_code : Coded M → Coded (Series M)
   series_code c =
       code_by (ℕ × (Bool × List (Option M)))
       (coded× coded_ℕ (coded× coded_bool (coded_list (coded_option c))))
       (λ q. (q.posted, (q.signed, q.slots))) (λ p. series p.0 p.1.0 p.1.1) (λ _. refl)
 
-  -- the message held in a place of the window
+  -- The message held in slot i.
   abbrev pub slot_at : List (Option M) → ℕ → Option M
   slot_at slots i = option_and_then (λ x. x) (slice_get slots i)
 
-  -- no more are posted than there are numbers, the ring has a place for each number of the window,
-  -- and nothing is held above the highest number that was taken, which is no more than the last
+  -- The invariant of the ring: it has one place for each number of the window, nothing is held
+  -- above the highest number that arrived, and neither count is above 999,999.
   pub record FitsWindow (posted highest : ℕ) (ring : Buffer (Option M)) : Type 0 where
     pub count : posted ≤ LAST
     pub last : highest ≤ LAST
@@ -43,19 +45,20 @@ module _ {M : Type 0} where
     pub room : ring.capacity ≡ window
     pub none_above : (i : ℕ) → highest ≤ posted + i → slot_at ring.items i ≡ None
 
-  -- the message held under the next number, which is that of the window's first place
+  -- The message held under the next number, in the first slot.
   abbrev pub next_held : Series M → Option M
   next_held q = slot_at q.slots 0
 
-  -- the message held under number n
+  -- The message held under number n.
   abbrev pub held_at : Series M → ℕ → Option M
   held_at q n = if nat_lt q.posted n then slot_at q.slots (n - q.posted - 1) else None
 
-  -- how many messages are held in the window
+  -- The number of messages held.
   abbrev pub held_count : Series M → ℕ
   held_count q = count_by is_some q.slots
 
-  -- the first refusal of number n that holds, at a station that there is
+  -- The first refusal that holds for number n, at a known station: BadNumber, Double, SignedOff,
+  -- TooEarly.
   abbrev pub refusal_at : Series M → ℕ → Option Refusal
   refusal_at q n =
       if (n == 0) || nat_lt LAST n then Some BadNumber
@@ -63,31 +66,32 @@ module _ {M : Type 0} where
       else (if q.signed then Some SignedOff
       else (if nat_lt (q.posted + window) n then Some TooEarly else None)))
 
-  -- the same, where there may be no such station
+  -- The same for a station that may not exist, which is UnknownStation.
   abbrev pub refusal_in : Option (Series M) → ℕ → Option Refusal
   refusal_in None n = Some UnknownStation
   refusal_in (Some q) n = refusal_at q n
 
-  -- the first refusal of number n of station s that holds
+  -- The first refusal that holds for number n of station s.
   abbrev pub refusal_of : List (Series M) → ℕ → ℕ → Option Refusal
   refusal_of all s n = refusal_in (slice_get all s) n
 
-  -- a station as it starts, with nothing held
+  -- A station as it starts, with nothing held.
   abbrev pub opened : Start → Series M
   opened s = series s.posted s.signed (replicate window None)
 
-  -- number n is held with its message
+  -- Message m is held under number n.
   abbrev pub with_held : Series M → ℕ → M → Series M
   with_held q n m = series q.posted q.signed (slice_set q.slots (n - q.posted - 1) (Some m))
 
-  -- number posted + 1 is counted as posted
+  -- The next number is posted. The window moves up by one, and what is held stays held under its
+  -- own number.
   abbrev pub counted : Series M → Series M
   counted q = series (q.posted + 1) q.signed (drop 1 q.slots ++ None ∷ [])
 
-  -- signed off, with nothing held
+  -- The station has signed off, with nothing held.
   abbrev pub closed : Series M → Series M
   closed q = series q.posted true (replicate (length q.slots) None)
 
-  -- the series of a station; one that isn't there has nothing posted
+  -- The series of station s. One that doesn't exist has nothing posted.
   abbrev pub series_at : List (Series M) → ℕ → Series M
   series_at all s = unwrap_or (slice_get all s) (series 0 false [])
