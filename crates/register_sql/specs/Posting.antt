@@ -5,7 +5,9 @@ use Rattle.sqlite.specs.State.{State, HasCleanDisk, KeepsCommit, Survives}
 use Rattle.sqlite.specs.Tree.{Trees}
 use Rattle.sqlite.specs.declared.error.Error.{Error}
 use Rattle.sqlite_catalog.specs.Listing.{IsSound}
-use Rattle.register_store.specs.StoredRows.{Content, PostingRow, SpotRow, LineRow, TermRow, put, is_same_line, is_same_loan}
+use Rattle.posting_core.specs.declared.entry.Changes.{Changes}
+use Rattle.posting_core.specs.declared.entry.Entry.{Entry}
+use Rattle.register_store.specs.StoredRows.{Content, PostingRow, SpotRow, LineRow, TermRow, IsPostingRow, put, is_same_line, is_same_loan, with_posted}
 use Rattle.register_sql.specs.Rows.{AreRows, Apart}
 use Rattle.register_sql.specs.Tables.{hub_schema}
 
@@ -107,6 +109,13 @@ pub record IsDone (old new : State) (change : Content → Content) : Type 0 wher
 pub record LeavesWhole (old : State) (change : Content → Content) (db : Trees) : Type 0 where
   pub sound : IsSound hub_schema db
   pub rows : Turns change old.now.trees db
+
+-- A database that a crash during a posting may leave, other than those from before the posting: it
+-- has the entry and all its changes.
+abbrev pub LeavesPosted : Entry → Changes → State → Trees → Type 0
+LeavesPosted e changes old db =
+    (row : PostingRow) × IsPostingRow changes.entry e row
+    × LeavesWhole old (with_posted row e changes) db
 
 -- The connection has the same database as before.
 pub record IsBack (old new : State) : Type 0 where

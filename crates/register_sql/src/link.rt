@@ -2,12 +2,13 @@
 ghost use Rattle.std.specs.Prelude.{◌≡◌, ◌≢◌, ◌⊎◌, true, Some, Err, reverse, All, IsNone, is_some, IfOk, IfErr, OnOk, OnErr};
 ghost use Rattle.std.specs.Bool.{Decides};
 ghost use Rattle.sqlite.specs.Held.{state};
-ghost use Rattle.sqlite.specs.State.{HasCleanDisk};
+ghost use Rattle.sqlite.specs.State.{HasCleanDisk, Survives};
 ghost use Rattle.register_store.specs.Holdings.{Each, Has, Comes, IsPosted, IsBound, IsNotBound};
 ghost use Rattle.register_store.specs.Registers.{Stops, is_failure, is_of_listing, IsOfStation, IsListFault};
 ghost use Rattle.register_store.specs.StoredRows.{AreSame, HasList, HasRows, IsBoundTo};
-ghost use Rattle.register_sql.specs.Binding.{IsNewness, IsUnfitFor};
+ghost use Rattle.register_sql.specs.Binding.{IsNewness, IsUnfitFor, LeavesBound};
 ghost use Rattle.register_sql.specs.Migrating.{Migrates, IsNotMigrated, IsCompleted, IsUnfit};
+ghost use Rattle.register_sql.specs.Posting.{LeavesPosted};
 ghost use Rattle.register_sql.specs.Stores.{in_store, IsKept};
 
 use crate::agree::agrees;
@@ -76,6 +77,8 @@ pub(crate) fn bind_store<S: Alter>(
         → result ≡ Err StoreFault.Store → IsUnfitFor setup.now (state S.Store link.old.conn).now }
     ensures ready { OnOk result (link.new.bound ≡ true) }
     ensures not_ready { OnErr result (link.new.bound ≡ link.old.bound) }
+    ensures crash { Survives (state S.Store link.old.conn) (state S.Store link.new.conn)
+        (LeavesBound setup.now (state S.Store link.old.conn)) }
     ensures stops { Stops (is_some link.old.stopped) (is_some link.new.stopped) result }
 {
     if let Some(_) = link.stopped {
@@ -192,6 +195,8 @@ pub(crate) fn post_to_store<S: Alter>(
         (λ c d. AreSame c d ⊎ IsPosted entry.now changes.now c d)) }
     ensures faults { IfErr result (λ fault. is_failure fault ≡ true) }
     ensures still { link.new.bound ≡ link.old.bound }
+    ensures crash { Survives (state S.Store link.old.conn) (state S.Store link.new.conn)
+        (LeavesPosted entry.now changes.now (state S.Store link.old.conn)) }
     ensures stops { Stops (is_some link.old.stopped) (is_some link.new.stopped) result }
     ensures store { result ≡ Err StoreFault.Store → is_some link.new.stopped ≡ true }
 {

@@ -1,16 +1,17 @@
 //! The register over a connection to a database.
-ghost use Rattle.std.specs.Prelude.{◌≡◌, true, false, Err, length, IsTrue, IfOk, IfErr, OnOk, OnErr, is_some};
+ghost use Rattle.std.specs.Prelude.{◌≡◌, ◌⊎◌, true, false, Err, length, IsTrue, IfOk, IfErr, OnOk, OnErr, is_some};
 ghost use Rattle.sqlite.specs.Held.{state};
 ghost use Rattle.sqlite.specs.Files.{file_state, IsClosed};
 ghost use Rattle.sqlite_store.specs.FileStore.{view, log_frames, files as store_files};
 ghost use Rattle.sqlite_trees.specs.View.{IsClean};
-ghost use Rattle.sqlite.specs.State.{HasCleanDisk, store_error};
+ghost use Rattle.sqlite.specs.State.{HasCleanDisk, Survives, store_error};
 ghost use Rattle.sqlite.specs.Opening.{is_open_error};
 ghost use Rattle.sqlite.specs.Steps.{over_memory};
-ghost use Rattle.register_store.specs.Holdings.{Has, Comes, IsBound, IsNotBound};
+ghost use Rattle.register_store.specs.Holdings.{Has, Comes, IsPosted, IsBound, IsNotBound};
 ghost use Rattle.register_store.specs.Registers.{is_failure, CountsRefusal, Stops};
 ghost use Rattle.register_store.specs.StoredRows.{AreSame, IsBoundTo};
-ghost use Rattle.register_sql.specs.Binding.{IsNewness, IsSettled, IsUnfitFor};
+ghost use Rattle.register_sql.specs.Binding.{IsNewness, IsSettled, IsUnfitFor, LeavesBound};
+ghost use Rattle.register_sql.specs.Posting.{LeavesPosted};
 ghost use Rattle.register_sql.specs.Migrating.{Migrates, IsNotMigrated, IsCompleted, IsUnfit};
 ghost use Rattle.register_sql.specs.Stores.{in_store, no_rows};
 ghost use Rattle.register_sql.specs.Runs.{HasIts, IsFoundIn, IsCopied, IsLeft};
@@ -267,7 +268,8 @@ impl<S: Alter> Register for SqlRegister<S> {
 
     ghost can_refuse = { true };
 
-    /// As for each register; and where no statement has failed, Store comes only of a store that is unfit for the setup.
+    /// As for each register. If no statement has failed, Store means that the store is unfit for the setup. A crash during
+    /// the call leaves a database from before it, or one that is bound to the setup.
     fn bind(&mut self, alloc: Global, setup: &Setup) -> Result<u32, StoreFault>
         ensures bound { IfOk result
             (λ depth. Has (in_store (state S.Store self.new.conn)) (IsBoundTo setup.now depth)) }
@@ -282,6 +284,8 @@ impl<S: Alter> Register for SqlRegister<S> {
         ensures not_ready { OnErr result
             ((self.new.bound ≡ self.old.bound) × (self.new.stations ≡ self.old.stations)) }
         ensures count { CountsRefusal self.old.refusals self.new.refusals result }
+        ensures crash { Survives (state S.Store self.old.conn) (state S.Store self.new.conn)
+            (LeavesBound setup.now (state S.Store self.old.conn)) }
         ensures stops { Stops self.old.stopped self.new.stopped result }
         ensures unfit { HasCleanDisk (state S.Store self.new.conn) → self.new.stopped ≡ false
             → result ≡ Err StoreFault.Store → IsUnfitFor setup.now (state S.Store self.old.conn).now }
@@ -300,7 +304,23 @@ impl<S: Alter> Register for SqlRegister<S> {
         answer
     }
 
-    fn post(&mut self, alloc: Global, entry: &Entry, changes: &Changes) -> Result<(), StoreFault> {
+    /// As for each register; and a crash during the call leaves a database from before it, or one with the whole posting.
+    fn post(&mut self, alloc: Global, entry: &Entry, changes: &Changes) -> Result<(), StoreFault>
+        ensures posted { OnOk result
+            (Comes (in_store (state S.Store self.old.conn))
+            (in_store (state S.Store self.new.conn)) (IsPosted entry.now changes.now)) }
+        ensures failed { OnErr result
+            (Comes (in_store (state S.Store self.old.conn))
+            (in_store (state S.Store self.new.conn))
+            (λ c d. AreSame c d ⊎ IsPosted entry.now changes.now c d)) }
+        ensures faults { IfErr result (λ fault. is_failure fault ≡ true) }
+        ensures still { (self.new.bound ≡ true) × (self.new.stations ≡ self.old.stations) }
+        ensures count { CountsRefusal self.old.refusals self.new.refusals result }
+        ensures stops { Stops self.old.stopped self.new.stopped result }
+        ensures store { result ≡ Err StoreFault.Store → self.new.stopped ≡ true }
+        ensures crash { Survives (state S.Store self.old.conn) (state S.Store self.new.conn)
+            (LeavesPosted entry.now changes.now (state S.Store self.old.conn)) }
+    {
         let answer = post_to_store(alloc, &mut self.link, entry, changes);
         self.refusals = recount(self.refusals, &answer);
         answer

@@ -1,6 +1,7 @@
 use Rattle.std.proofs.Common.{◌≡◌, refl, sym, subst}
 use Rattle.std.proofs.lemmas.Result.{IfErr-at_err}
 use Rattle.sqlite.specs.Held.{state}
+use Rattle.register_store.specs.declared.store_fault.StoreFault.TheVariants.{Store}
 use Rattle.register_store.specs.Holdings.{Comes}
 use Rattle.register_sql.specs.Migrating.{IsNotMigrated, IsLeft, LeavesMoved}
 use Rattle.register_sql.specs.Stores.{in_store}
@@ -10,8 +11,8 @@ use Rattle.register_sql.proofs.link.migrate_store.Goals as goal
 
 pub returns-in-Some-clause-refused : goal.returns-in-Some-clause-refused
 returns-in-Some-clause-refused g c =
-    still_unmoved c.args.setup.now c.fault_of.result (state g.S.Store c.args.link.now.conn)
-    c.fault_of.ensures.failure
+    still_unmoved c.args.setup.now Store (state g.S.Store c.args.link.now.conn)
+    refl
 
 pub returns-in-Ok-clause-invariant : goal.returns-in-Ok-clause-invariant
 returns-in-Ok-clause-invariant g c =
