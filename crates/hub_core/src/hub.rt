@@ -10,7 +10,7 @@ ghost use Rattle.station_core.specs.declared.Refusal.{Refusal};
 ghost use Rattle.register_store.specs.Holdings.{Comes};
 ghost use Rattle.hub_core.specs.Openings.{CountsFault, Opened, IsNotOpened, OpensAgain};
 ghost use Rattle.hub_core.specs.Faults.{CountsStore};
-ghost use Rattle.hub_core.specs.Points.{point, reply, reply_from, due_with, whereabouts, cut, IsPlaced};
+ghost use Rattle.hub_core.specs.Points.{point, reply, reply_from, due_with, whereabouts, is_enclosed, cut, IsPlaced};
 
 pub(crate) mod answer;
 mod opening;
@@ -161,13 +161,15 @@ impl<R: Register> Hub<R> {
         Ok(answer_from(before, self.ledger.posted().len() as u64))
     }
 
-    /// Where the thing with the code is. The faults: Down exactly where the hub is down; NoMemory.
+    /// Where the thing with the code is. The faults: Down exactly if the hub is down; NoMemory, only for a thing in a container.
     pub fn ask(&self, alloc: Global, code: &ThingCode) -> Result<Where, HubFault>
         ensures answer { IfOk result
             (λ place. place ≡ whereabouts self.now.book.museum self.now.book.posted code.now) }
         ensures placed { IfOk result (IsPlaced self.now.book.museum) }
         ensures down { IsErrOf result HubFault.Down ↔ (self.now.down ≡ true) }
         ensures never_store { IfErr result (λ fault. fault ≢ HubFault.Store) }
+        ensures memory { IsErrOf result HubFault.NoMemory
+            → is_enclosed (whereabouts self.now.book.museum self.now.book.posted code.now) ≡ true }
     {
         if self.is_down() {
             return Err(HubFault::Down);
@@ -282,6 +284,8 @@ fn whereabouts(alloc: Global, ledger: &Ledger, code: &ThingCode) -> Result<Where
     ensures answer { IfOk result
         (λ place. place ≡ whereabouts ledger.now.museum ledger.now.posted code.now) }
     ensures placed { IfOk result (IsPlaced ledger.now.museum) }
+    ensures memory { OnErr result
+        (is_enclosed (whereabouts ledger.now.museum ledger.now.posted code.now) ≡ true) }
 {
     let Some(thing) = ledger.setup().thing(code) else {
         return Ok(Where::UnknownThing);

@@ -42,10 +42,10 @@ impl<'a> Spots<'a> {
         }
     }
 
-    /// The last that is left.
+    /// The last that is left. At the end it returns None, and stays there.
     pub fn next_back(&mut self) -> Option<Spot>
         ensures last { IfSome result (λ spot. self.old ≡ self.new ++ spot ∷ []) }
-        ensures none { IfNone result (self.old ≡ []) }
+        ensures none { IfNone result ((self.old ≡ []) × (self.new ≡ [])) }
     {
         if self.left == 0 {
             return None;
