@@ -11,7 +11,7 @@ use Rattle.std.proofs.lemmas.List.FromFn.{get_or-map-range_with_len, length-map-
 use Rattle.nest_core.specs.Museum.{Museum, find_place, find_thing, place_codes, thing_codes}
 use Rattle.posting_core.specs.Book.{Book, place_in}
 use Rattle.count_core.specs.declared.count_row.CountRow.{CountRow}
-use Rattle.count_core.specs.declared.looking.Looked.{Looked}
+use Rattle.count_core.specs.declared.lookup.Looked.{Looked}
 use Rattle.count_core.specs.declared.answer.CountAnswer.{CountAnswer}
 use Rattle.count_core.specs.declared.answer.CountAnswer.TheVariants.{UnknownPlace, Counted, UnknownObject, Again, Found, Elsewhere}
 use Rattle.count_core.specs.Marks.{AreNames, flagged, with_flag, again_for, mark}

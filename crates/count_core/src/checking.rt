@@ -3,8 +3,8 @@ ghost use Rattle.std.specs.Prelude.{◌≡◌, ◌<◌, All, IfOk, length, map};
 ghost use Rattle.std.specs.List.{range_with_len};
 ghost use Rattle.count_core.specs.Counts.{look_at, answers, missing, IsAnswerIn, IsMissingIn};
 
-use crate::looking::{Looked, look};
-use crate::marking::marked;
+use crate::lookup::{Looked, look};
+use crate::marks::marked;
 use crate::missing::missing;
 use crate::{CountReport, CountRow};
 use codes_core::NoMemory;

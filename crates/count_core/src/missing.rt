@@ -4,8 +4,8 @@ ghost use Rattle.std.specs.List.{range_with_len};
 ghost use Rattle.count_core.specs.Counts.{look_at, mentioned, missing, missing_at, named, IsMissingIn};
 ghost use Rattle.count_core.specs.Marks.{AreNames};
 
-use crate::looking::{Looked, looked_in};
-use crate::marking::set_flag;
+use crate::lookup::{Looked, looked_in};
+use crate::marks::set_flag;
 use crate::unnamed::unnamed_in_each;
 use crate::{CountRow, MissingObject};
 use codes_core::NoMemory;

@@ -6,7 +6,7 @@ ghost use Rattle.posting_core.specs.Book.{loans_in};
 ghost use Rattle.count_core.specs.Reports.{overdue, is_overdue, is_owed, is_out_still, away, is_away, in_place, IsAwayIn};
 
 use crate::AwayObject;
-use crate::looking::is_in;
+use crate::lookup::is_in;
 use codes_core::{Day, LoanCode, NoMemory, PlaceCode, ThingKind};
 use nest_core::ThingNo;
 use posting_core::{Ledger, LineStage};

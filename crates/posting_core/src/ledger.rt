@@ -19,7 +19,7 @@ mod rules;
 use self::judged::{Judged, unput};
 use crate::kept_loan::KeptLoan;
 use crate::kept_loans::KeptLoans;
-use crate::placing::place;
+use crate::placement::place;
 use crate::recording::record;
 use crate::spot_rows::SpotRows;
 use crate::{

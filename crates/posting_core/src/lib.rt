@@ -10,7 +10,7 @@ mod ledger;
 mod message;
 mod numbers;
 mod objects;
-mod placing;
+mod placement;
 mod posted_entry;
 mod recording;
 mod spot_rows;

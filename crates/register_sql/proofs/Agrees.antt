@@ -52,11 +52,11 @@ keeps_term eq old new loan day row none is cells = ap terms_shown (is ∙ insert
 
 -- ---- whether they are those of the ledger
 
-pub told_of : (a b c : Bool) (S : Museum) (P : List Entry) (wanted kept sorted : List NewSpot) (lines kept_lines : List (LineKey × LineStage)) (terms kept_terms : List (List ℕ × ℤ))
+pub identity_of : (a b c : Bool) (S : Museum) (P : List Entry) (wanted kept sorted : List NewSpot) (lines kept_lines : List (LineKey × LineStage)) (terms kept_terms : List (List ℕ × ℤ))
     → wanted ≡ spots_by_thing S P → held_lines lines ≡ lines_by_loan S P → term_rows terms ≡ rows_of_terms P → IsPermutation kept sorted
     → Decides a (IsPermutation wanted sorted) → Decides b (IsPermutation lines kept_lines) → Decides c (IsPermutation terms kept_terms)
     → (d : Content) → IsPermutation (map spot_row kept) d.spots → IsPermutation (map line_row (held_lines kept_lines)) d.lines → IsPermutation (term_rows kept_terms) d.terms → Decides (a && (b && c)) (HasRows S P d)
-told_of a b c S P wanted kept sorted lines kept_lines terms kept_terms is lined dated same has_spots has_lines has_terms d spots ls ts =
+identity_of a b c S P wanted kept sorted lines kept_lines terms kept_terms is lined dated same has_spots has_lines has_terms d spots ls ts =
     let plain : Content = content_of None [] (reverse sorted) (held_lines kept_lines) (term_rows kept_terms) in
     let e : Content = record plain { spots = d.spots; lines = d.lines; terms = d.terms } in
     let turned : IsPermutation (reverse sorted) kept = IsPermutation-sym _ _ (IsPermutation-trans _ _ _ same (IsPermutation-reverse sorted)) in

@@ -31,11 +31,11 @@ use Rattle.register_sql.specs.Making.{MakesWhole, IsMadeWhole, LeavesMade, setup
 use Rattle.register_sql.specs.Posting.{IsWhole}
 use Rattle.register_sql.specs.Queries.{shown_in, IsPart, IsSame, AreApart}
 use Rattle.register_sql.specs.Rows.{HasPart, AreRows, IsStored, had, meta_cells, setup_cells}
-use Rattle.register_sql.specs.Says.{IsOther, HasOther, IsTold, setup_rows_shown, setup_in}
+use Rattle.register_sql.specs.Says.{IsOther, HasOther, IsIdentity, setup_rows_shown, setup_in}
 use Rattle.register_sql.specs.Shown.{shown_meta, shown_setup, setup_shown}
 use Rattle.register_sql.specs.Tables.{prefix}
 use Rattle.register_sql.specs.declared.queries.Query.TheVariants.{Metas}
-use Rattle.register_sql.specs.declared.told.Told.TheVariants as told
+use Rattle.register_sql.specs.declared.identity.Identity.TheVariants as told
 use Rattle.register_sql.proofs.Contents.{content_in, same_part, one_prefix, unmapped}
 use Rattle.register_sql.proofs.Removed.{map_twice}
 use Rattle.register_sql.proofs.Rising.{here, part_same}
@@ -142,24 +142,24 @@ none_other rows ms held none = go (list_any other rows) refl
     go false is = sym (others_are ms) ∙ list_any-IsPermutation other _ rows held ∙ is
 
 -- the store is refused for what it says
-pub told_other : (S : Museum) (made : ℕ) → 1 ≤ made → (db : Trees) (rows : List Row) → IsPermutation (shown_in Metas db) rows → IsTold rows told.OtherVersion → (c : Content) → HasPart made db c → IsBindFault S c OtherVersion
+pub told_other : (S : Museum) (made : ℕ) → 1 ≤ made → (db : Trees) (rows : List Row) → IsPermutation (shown_in Metas db) rows → IsIdentity rows told.OtherVersion → (c : Content) → HasPart made db c → IsBindFault S c OtherVersion
 told_other S made some db rows read is c held =
     sym (others_are c.meta) ∙ list_any-IsPermutation other _ rows (metas_read made some db c rows held read) ∙ any_at rows is.0 is.1 (omega (arith, is.2)) is.3 (is_other is.1 is.4)
 
-pub told_damaged : (S : Museum) (made : ℕ) → 1 ≤ made → (db : Trees) (rows : List Row) → IsPermutation (shown_in Metas db) rows → IsTold rows told.Damaged → (c : Content) → HasPart made db c → IsBindFault S c (Damaged 0)
+pub told_damaged : (S : Museum) (made : ℕ) → 1 ≤ made → (db : Trees) (rows : List Row) → IsPermutation (shown_in Metas db) rows → IsIdentity rows told.Damaged → (c : Content) → HasPart made db c → IsBindFault S c (Damaged 0)
 told_damaged S made some db rows read is c held =
     let metas = metas_read made some db c rows held read in
     (refl, some_old c.meta rows is.0 metas, none_other rows c.meta metas is.1, λ whole. is.2 whole.0 whole.1 (IsPermutation-trans _ _ _ (IsPermutation-map meta_cells _ _ whole.2) metas))
 
 -- a store that says nothing of itself
-pub told_new : (db : Trees) (rows : List Row) → IsPermutation (shown_in Metas db) rows → IsTold rows told.New → db 0 ≡ []
+pub told_new : (db : Trees) (rows : List Row) → IsPermutation (shown_in Metas db) rows → IsIdentity rows told.New → db 0 ≡ []
 told_new db rows read is = none (db 0) (subst (IsPermutation (shown_in Metas db)) is read)
   where
     none : (table : List Row) → IsPermutation (map shown_meta table) [] → table ≡ []
     none [] h = refl
     none (r ∷ table) h = absurd (omega (arith, length_permutation _ _ h))
 
-pub whole_meta : (made : ℕ) → 1 ≤ made → (db : Trees) (rows : List Row) (depth : ℕ) → IsPermutation (shown_in Metas db) rows → IsTold rows (told.Bound depth) → (c : Content) → HasPart made db c → IsPermutation (rows_of_meta depth) c.meta
+pub whole_meta : (made : ℕ) → 1 ≤ made → (db : Trees) (rows : List Row) (depth : ℕ) → IsPermutation (shown_in Metas db) rows → IsIdentity rows (told.Bound depth) → (c : Content) → HasPart made db c → IsPermutation (rows_of_meta depth) c.meta
 whole_meta made some db rows depth read is c held = same_metas _ _ rows is.1 (metas_read made some db c rows held read)
 
 -- ---- the setup
@@ -178,7 +178,7 @@ unfolding setup_back
 has_the_setup S made db is c held =
     IsPermutation-trans _ _ _ (setup_rows_are S) (unmapped setup_shown setup_back (λ r. refl) (setup_from 1 (setup_rows S)) c.setup (setup_in made db) (is.0 refl) (setups_shown made db c held))
 
-pub other_setup : (S : Museum) (made : ℕ) → 1 ≤ made → (db : Trees) (rows : List Row) (depth : ℕ) → IsPermutation (shown_in Metas db) rows → IsTold rows (told.Bound depth)
+pub other_setup : (S : Museum) (made : ℕ) → 1 ≤ made → (db : Trees) (rows : List Row) (depth : ℕ) → IsPermutation (shown_in Metas db) rows → IsIdentity rows (told.Bound depth)
     → Decides false (IsPermutation (setup_rows_shown (setup_rows S)) (setup_in made db)) → (c : Content) → HasPart made db c → IsBindFault S c OtherSetup
 other_setup S made some db rows depth read is differs c held = (
   (depth, is.0, whole_meta made some db rows depth read is c held),
@@ -216,7 +216,7 @@ pub sound_in : (made : ℕ) (s : State) → IsPart made s → IsSound (prefix ma
 sound_in made s part = subst (λ k. IsSound k s.now.trees) part.schema part.sound
 
 -- an old store of this version, with this setup
-pub bound_old : (S : Museum) (depth : ℕ) (old new : State) (rows : List Row) → IsPart 6 old → IsPermutation (shown_in Metas old.now.trees) rows → IsTold rows (told.Bound depth)
+pub bound_old : (S : Museum) (depth : ℕ) (old new : State) (rows : List Row) → IsPart 6 old → IsPermutation (shown_in Metas old.now.trees) rows → IsIdentity rows (told.Bound depth)
     → Decides true (IsPermutation (setup_rows_shown (setup_rows S)) (setup_in 6 old.now.trees)) → AreApart 6 old.now.trees → IsSame old new → IsBoundAs S depth old new
 bound_old S depth old new rows part read is has apart same =
     let db = old.now.trees in
@@ -358,7 +358,7 @@ is_six made s few many part = let six : made ≡ 6 = omega arith in subst (λ k.
 
 -- ---- what was told of the store decides
 
-pub new_there : (made : ℕ) → 1 ≤ made → (old mid : State) → IsSame old mid → (rows : List Row) → IsPermutation (shown_in Metas old.now.trees) rows → IsTold rows told.New → had 1 made (mid.now.trees 0) ≡ []
+pub new_there : (made : ℕ) → 1 ≤ made → (old mid : State) → IsSame old mid → (rows : List Row) → IsPermutation (shown_in Metas old.now.trees) rows → IsIdentity rows told.New → had 1 made (mid.now.trees 0) ≡ []
 new_there made some old mid same rows read is =
     here 1 made (mid.now.trees 0) some ∙ ap (λ (k : Database). k.trees 0) same.now ∙ told_new old.now.trees rows read is
 

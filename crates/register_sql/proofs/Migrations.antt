@@ -31,7 +31,7 @@ use Rattle.register_sql.specs.Rows.{HasPart, AreRows, IsStored, Apart, meta_cell
 use Rattle.register_sql.specs.Says.{HasOther, setup_rows_shown, setup_in}
 use Rattle.register_sql.specs.Shown.{setup_shown}
 use Rattle.register_sql.specs.Tables.{IsNoStore}
-use Rattle.register_sql.specs.declared.age.Age.TheVariants as age
+use Rattle.register_sql.specs.declared.version.Age.TheVariants as age
 use Rattle.register_sql.specs.declared.queries.Query.TheVariants.{Metas, MetaIds}
 use Rattle.register_sql.proofs.Binds.{metas_read, same_metas, none_new, some_old, none_other, told_other, setup_rows_are, setups_shown, has_the_setup, part_of, sound_in, other_fault}
 use Rattle.register_sql.proofs.Contents.{content_in, same_part}

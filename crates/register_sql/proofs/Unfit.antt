@@ -12,10 +12,10 @@ use Rattle.register_store.specs.declared.store_fault.StoreFault.TheVariants.{NoM
 use Rattle.register_sql.specs.Binding.{IsSettled, IsRefused, IsUnfitFor}
 use Rattle.register_sql.specs.Queries.{shown_in, IsPart, IsSame, AreApart}
 use Rattle.register_sql.specs.Rows.{HasPart, IsStored, had, meta_cells}
-use Rattle.register_sql.specs.Says.{IsTold, setup_rows_shown, setup_in}
+use Rattle.register_sql.specs.Says.{IsIdentity, setup_rows_shown, setup_in}
 use Rattle.register_sql.specs.Tables.{hub_schema, IsNoStore}
 use Rattle.register_sql.specs.declared.queries.Query.TheVariants.{Metas}
-use Rattle.register_sql.specs.declared.told.Told.TheVariants as told
+use Rattle.register_sql.specs.declared.identity.Identity.TheVariants as told
 use Rattle.register_sql.proofs.Binds.{none_new, whole_meta, has_the_setup, part_of, sound_in}
 use Rattle.register_sql.proofs.Prefixes.{same_count}
 
@@ -46,7 +46,7 @@ new_unfit S made few old part none other =
     }))
 
 -- an old one
-pub old_unfit : (S : Museum) (made : ℕ) → 1 ≤ made → made ≤ 6 → (old : State) (rows : List Row) (depth : ℕ) → IsPart made old → IsPermutation (shown_in Metas old.now.trees) rows → IsTold rows (told.Bound depth)
+pub old_unfit : (S : Museum) (made : ℕ) → 1 ≤ made → made ≤ 6 → (old : State) (rows : List Row) (depth : ℕ) → IsPart made old → IsPermutation (shown_in Metas old.now.trees) rows → IsIdentity rows (told.Bound depth)
     → Decides true (IsPermutation (setup_rows_shown (setup_rows S)) (setup_in made old.now.trees)) → (old.now.schema ≢ hub_schema) ⊎ (¬ AreApart 6 old.now.trees) → IsUnfitFor S old.now
 old_unfit S made some few old rows depth part read is has unfit =
     let held : (c : Content) → IsStored old.now.trees c → HasPart made old.now.trees c = part_of made few old.now.trees (sound_in made old part) in

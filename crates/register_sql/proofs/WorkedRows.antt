@@ -24,11 +24,11 @@ use Rattle.register_sql.specs.Making.{MakesWhole, setup_from}
 use Rattle.register_sql.specs.Posting.{with_posting, with_spot, with_line, without_line, with_each, with_some_term}
 use Rattle.register_sql.specs.Queries.{shown_in, AreApart}
 use Rattle.register_sql.specs.Rows.{HasPart, AreRows, had, spot_cells, line_cells, same_id}
-use Rattle.register_sql.specs.Says.{IsOther, IsTold, setup_in, setup_rows_shown}
+use Rattle.register_sql.specs.Says.{IsOther, IsIdentity, setup_in, setup_rows_shown}
 use Rattle.register_sql.specs.Stores.{in_store, no_rows, counted}
 use Rattle.register_sql.specs.Tables.{hub_schema, table_at, index_at, all_tables, all_indexes, index_count}
 use Rattle.register_sql.specs.declared.queries.Query.TheVariants.{Metas, Setups, Postings, Spots, Lines, Terms, LineIds}
-use Rattle.register_sql.specs.declared.told.Told.TheVariants as told
+use Rattle.register_sql.specs.declared.identity.Identity.TheVariants as told
 
 -- ---- a store with an entry, its spot, two lines of a loan and its last day
 
@@ -225,10 +225,10 @@ taken = refl
 
 -- ---- what it says of itself
 
-says_whole : IsTold (shown_in Metas tables) (told.Bound 12)
+says_whole : IsIdentity (shown_in Metas tables) (told.Bound 12)
 says_whole = (refl, held.meta)
 
-says_nothing : IsTold [] told.New
+says_nothing : IsIdentity [] told.New
 says_nothing = refl
 
 version_one : IsOther (Text (codes "version") ∷ Int (pos 1) ∷ [])

@@ -15,8 +15,8 @@ ghost use Rattle.register_sql.specs.Queries.{shown_in, IsPart, IsSame};
 ghost use Rattle.register_sql.specs.Rows.{AreRows};
 
 use crate::queries::{Query, read};
-use crate::strange::are_strange;
-use crate::typed::{line_of, spot_of, term_of};
+use crate::mismatch::are_strange;
+use crate::row_values::{line_of, spot_of, term_of};
 use codes_core::{Day, LoanCode};
 use indexmap::IndexMap;
 use posting_core::{Ledger, LineStage, NewSpot};

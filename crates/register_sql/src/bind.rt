@@ -7,14 +7,14 @@ ghost use Rattle.register_sql.specs.Binding.{IsSettled, IsRefused, IsBoundAs, Is
 ghost use Rattle.register_sql.specs.Posting.{Survived};
 ghost use Rattle.register_sql.specs.Queries.{shown_in, IsPart, IsSame};
 ghost use Rattle.register_sql.specs.Rows.{had};
-ghost use Rattle.register_sql.specs.Says.{IsTold};
-ghost use Rattle.register_sql.specs.declared.told.Told.TheVariants as told;
+ghost use Rattle.register_sql.specs.Says.{IsIdentity};
+ghost use Rattle.register_sql.specs.declared.identity.Identity.TheVariants as told;
 
 use crate::make::make_whole;
 use crate::queries::Query;
 use crate::rowids::are_all_apart;
 use crate::schema::tables_made;
-use crate::told::{Told, has_setup, told_of};
+use crate::identity::{Identity, has_setup, identity_of};
 use codes_core::NoMemory;
 use nest_core::Setup;
 use register_store::{NEW_DEPTH, StoreFault, row_texts};
@@ -70,7 +70,7 @@ fn compare<S: Alter>(
     requires part { HasCleanDisk (state S.Store conn.old) → IsPart made (state S.Store conn.old) }
     requires told { HasCleanDisk (state S.Store conn.old) → (rows : _)
         × IsPermutation (shown_in Query.Metas (state S.Store conn.old).now.trees) rows
-        × IsTold rows (told.Bound depth) }
+        × IsIdentity rows (told.Bound depth) }
     requires between { conn.old.in_transaction ≡ false }
     ensures between { conn.new.in_transaction ≡ false }
     ensures bound { HasCleanDisk (state S.Store conn.new)
@@ -119,15 +119,15 @@ fn bind_told<S: Alter>(
     ensures crash { Survives (state S.Store conn.old) (state S.Store conn.new)
         (LeavesBound setup.now (state S.Store conn.old)) }
 {
-    let told = told_of(conn, made)?;
-    match told {
-        Told::New => {
+    let identity = identity_of(conn, made)?;
+    match identity {
+        Identity::New => {
             let answer = make_new(alloc, conn, setup, made);
             answer
         }
-        Told::OtherVersion => Ok(Err(StoreFault::OtherVersion)),
-        Told::Damaged => Ok(Err(StoreFault::Damaged(0))),
-        Told::Bound(depth) => {
+        Identity::OtherVersion => Ok(Err(StoreFault::OtherVersion)),
+        Identity::Damaged => Ok(Err(StoreFault::Damaged(0))),
+        Identity::Bound(depth) => {
             let answer = compare(alloc, conn, setup, made, depth);
             answer
         }
@@ -191,9 +191,9 @@ pub(crate) fn is_new<S: Alter>(
         None => Ok(Ok(false)),
         Some(0) => Ok(Ok(true)),
         Some(made) => {
-            let told = told_of(conn, made)?;
-            match told {
-                Told::New => Ok(Ok(true)),
+            let identity = identity_of(conn, made)?;
+            match identity {
+                Identity::New => Ok(Ok(true)),
                 _ => Ok(Ok(false)),
             }
         }

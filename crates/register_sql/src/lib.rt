@@ -2,24 +2,24 @@
 #![tactic(auto)]
 
 mod again;
-mod age;
 mod agree;
 mod bind;
-mod early;
+mod identity;
 mod link;
 mod list;
 mod make;
 mod migrate;
+mod mismatch;
 mod put;
 mod queries;
-mod raise;
+mod row_values;
 mod rowids;
 mod schema;
 mod sql;
-mod strange;
 mod table;
-mod told;
-mod typed;
+mod upgrade;
+mod version;
+mod version_one;
 
 pub use again::{closed_and_opened, left_and_opened};
 pub use link::fault_of;

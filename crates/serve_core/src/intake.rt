@@ -8,7 +8,7 @@ ghost use Rattle.serve_core.specs.declared.item.LogLine.{LogLine};
 ghost use Rattle.serve_core.specs.Logs.{AreOfStations, Serves, ServesTo, dropped, Ascends};
 ghost use Rattle.serve_core.specs.Lanes.{IsFresh, IsEndOn, Takes, TakesSome, TakesOf, TakesFront, TakesLeft, Begins, SameEnds, end_items, ended_at, received_is, received_at};
 
-use crate::asking::log_item;
+use crate::item_replies::log_item;
 use crate::lane::ROOM;
 use crate::{Item, Lane, LaneEnd, Log, LogLine};
 use codes_core::NoMemory;

@@ -1,19 +1,19 @@
 //! Threads round the hub: one feed and one lane a station.
 #![tactic(auto)]
 
-mod asking;
 mod ending;
 mod feed;
 mod intake;
 mod item;
+mod item_replies;
 mod lane;
 mod log;
-mod resting;
+mod pause;
 mod sending;
 mod serve_fault;
 mod serving;
 mod text_feed;
-mod turning;
+mod turns;
 mod wording;
 
 pub use feed::{Feed, ListFeed};

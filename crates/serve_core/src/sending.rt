@@ -4,7 +4,7 @@ ghost use Rattle.std.specs.List.{AllZip};
 ghost use Rattle.serve_core.specs.Lanes.{sent_items, SameLane};
 ghost use Rattle.serve_core.specs.Sending.{Sends};
 
-use crate::resting::rest;
+use crate::pause::rest;
 use crate::{Feed, Full, Item, Lane};
 use codes_core::NoMemory;
 use std::alloc::{AllocError, Global};

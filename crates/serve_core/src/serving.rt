@@ -10,7 +10,7 @@ ghost use Rattle.serve_core.specs.Sending.{CountsServe, IsMerge, AreFronts, Afte
 use crate::ending::{Room, are_whole, end_all};
 use crate::intake::lanes;
 use crate::sending::{SendsAll, Sent, join_all, start_all};
-use crate::turning::{drop_until, give_up, turn_until};
+use crate::turns::{drop_until, give_up, turn_until};
 use crate::{Feed, Intake, Log, ServeFault};
 use codes_core::NoMemory;
 use hub_core::Hub;

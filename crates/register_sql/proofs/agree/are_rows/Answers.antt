@@ -8,7 +8,7 @@ use Rattle.register_store.specs.Plain.{held_lines, term_rows}
 use Rattle.register_store.specs.StoredRows.{HasRows}
 use Rattle.register_store.proofs.LedgerRows.{line_keys_differ, term_keys_differ}
 use Rattle.register_store.proofs.SpotOrder.{rows_ascend}
-use Rattle.register_sql.proofs.Agrees.{told_of}
+use Rattle.register_sql.proofs.Agrees.{identity_of}
 use Rattle.register_sql.proofs.agree.are_rows.Goals as goal
 
 by_thing : (a b : NewSpot) → a.thing < b.thing → (ghosts).cmp a b ≡ Less
@@ -34,7 +34,7 @@ pub returns-clause-told : goal.returns-clause-told
 returns-clause-told c d spots lines terms =
     let ledger = c.args.ledger.now in
     subst (λ b. Decides b (HasRows ledger.museum ledger.posted d)) (sym c.are_all.ensures)
-    (told_of c.has_rows-same_spots.result c.has_all-same_lines.result c.has_all-same_terms.result ledger.museum ledger.posted c.deref.result.now c.args.spots.now.items c.has_rows-same_spots.new.rows.items
+    (identity_of c.has_rows-same_spots.result c.has_all-same_lines.result c.has_all-same_terms.result ledger.museum ledger.posted c.deref.result.now c.args.spots.now.items c.has_rows-same_spots.new.rows.items
     c.deref-2.result.now c.args.lines.now.entries c.deref-3.result.now c.args.terms.now.entries
     (c.deref.ensures.value ∙ c.in_ok-wanted_spots.ensures) (ap held_lines c.deref-2.ensures.value ∙ c.in_ok-wanted_lines.ensures) (ap term_rows c.deref-3.ensures.value ∙ c.in_ok-wanted_terms.ensures)
     c.has_rows-same_spots.ensures.same c.has_rows-same_spots.ensures.told c.has_all-same_lines.ensures c.has_all-same_terms.ensures d spots lines terms)
