@@ -27,7 +27,7 @@ returns-in-New-clause-told g c clean =
     let some : 1 ≤ made = search rules in
     let few : made ≤ 6 = search rules in
     let part : IsPart made old = search rules in
-    let it = c.in_ok-told-in-Some.ensures.told clean in
+    let it = c.in_ok-identity-in-Some.ensures.told clean in
     let none : IsIdentity it.0 told.New = subst (IsIdentity it.0) c.in-New.is it.2 in
     inr (new_by made some few old it.0 part it.1 none)
 
@@ -41,9 +41,9 @@ returns-in_default g c = record {
       let some : 1 ≤ made = search rules in
       let few : made ≤ 6 = search rules in
       let part : IsPart made old = search rules in
-      let it = c.in_ok-told-in-Some.ensures.told clean in
+      let it = c.in_ok-identity-in-Some.ensures.told clean in
       inr (old_by made some few old it.0 part it.1
-      (says_some it.0 c.in_ok-told-in-Some.told it.2 c.in_default.not-New));
-  same = c.in_ok-told-in-Some.ensures.same;
+      (says_some it.0 c.in_ok-identity-in-Some.told it.2 c.in_default.not-New));
+  same = c.in_ok-identity-in-Some.ensures.same;
   survives = c.identity_of.ensures.survives;
 }
