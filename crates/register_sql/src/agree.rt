@@ -14,8 +14,8 @@ ghost use Rattle.register_sql.specs.Posting.{Survived};
 ghost use Rattle.register_sql.specs.Queries.{shown_in, IsPart, IsSame};
 ghost use Rattle.register_sql.specs.Rows.{AreRows};
 
-use crate::queries::{Query, read};
 use crate::mismatch::are_strange;
+use crate::queries::{Query, read};
 use crate::row_values::{line_of, spot_of, term_of};
 use codes_core::{Day, LoanCode};
 use indexmap::IndexMap;

@@ -10,11 +10,11 @@ ghost use Rattle.register_sql.specs.Rows.{had};
 ghost use Rattle.register_sql.specs.Says.{IsIdentity};
 ghost use Rattle.register_sql.specs.declared.identity.Identity.TheVariants as told;
 
+use crate::identity::{Identity, has_setup, identity_of};
 use crate::make::make_whole;
 use crate::queries::Query;
 use crate::rowids::are_all_apart;
 use crate::schema::tables_made;
-use crate::identity::{Identity, has_setup, identity_of};
 use codes_core::NoMemory;
 use nest_core::Setup;
 use register_store::{NEW_DEPTH, StoreFault, row_texts};

@@ -153,7 +153,10 @@ fn judge(rows: &[Row]) -> Identity
 }
 
 /// What a store of the first so many tables, of which `meta` is one, says of itself.
-pub(crate) fn identity_of<S: Alter>(conn: &mut Connection<S>, made: usize) -> Result<Identity, Error>
+pub(crate) fn identity_of<S: Alter>(
+    conn: &mut Connection<S>,
+    made: usize,
+) -> Result<Identity, Error>
     requires some { 1 ≤ made }
     requires few { made ≤ 6 }
     requires part { HasCleanDisk (state S.Store conn.old) → IsPart made (state S.Store conn.old) }

@@ -15,13 +15,13 @@ ghost use Rattle.register_sql.specs.Posting.{Survived};
 ghost use Rattle.register_sql.specs.Queries.{shown_in, IsPart, IsSame};
 ghost use Rattle.register_sql.specs.declared.version.Age.TheVariants as age;
 
-use crate::version::{Age, age_in};
-use crate::version_one::early_list;
+use crate::identity::has_setup;
 use crate::queries::Query;
-use crate::upgrade::lift_whole;
 use crate::rowids::{are_all_apart, is_apart};
 use crate::schema::tables_made;
-use crate::identity::has_setup;
+use crate::upgrade::lift_whole;
+use crate::version::{Age, age_in};
+use crate::version_one::early_list;
 use nest_core::Setup;
 use register_store::StoreFault;
 use sqlite::{Alter, Connection, Error};

@@ -10,8 +10,8 @@ ghost use Rattle.register_sql.specs.Queries.{shown_in, IsPart, IsSame};
 ghost use Rattle.register_sql.specs.Rows.{meta_cells};
 ghost use Rattle.register_sql.specs.Says.{HasOther};
 
-use crate::queries::{Query, read};
 use crate::identity::{has_other, is_meta};
+use crate::queries::{Query, read};
 use sqlite::{Alter, Connection, Error, Row};
 
 /// What the rows of `meta` say of the version.
