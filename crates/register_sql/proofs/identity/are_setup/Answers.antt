@@ -20,8 +20,12 @@ returns-then-not-is_setup c =
     let low : at < length texts = omega (arith, same, c.rows-test.true) in
     let many : length (map string_bytes texts) ≡ length texts = length-map texts string_bytes in
     let bytes : text ≡ string_bytes c.index-texts-at.result = search rules in
-    let is : text ≡ get_or (map string_bytes texts) at text = bytes ∙ ap string_bytes c.index-texts-at.is ∙ sym (get_or-map string_bytes texts at c.index-texts-at.result text low) in
-    not_there c.args.rows.now (map string_bytes texts) at c.index-rows-at.result text c.is_setup.result (omega (arith, low, many)) c.index-rows-at.is is c.is_setup.ensures (search rules)
+    let is : text ≡ get_or (map string_bytes texts) at text =
+        bytes ∙ ap string_bytes c.index-texts-at.is
+        ∙ sym (get_or-map string_bytes texts at c.index-texts-at.result text low) in
+    not_there c.args.rows.now (map string_bytes texts) at c.index-rows-at.result text
+        c.is_setup.result (omega (arith, low, many)) c.index-rows-at.is is c.is_setup.ensures
+        (search rules)
 
 pub rows-preserved : goal.rows-preserved
 rows-preserved c =
@@ -32,8 +36,12 @@ rows-preserved c =
     let low : at < length texts = omega (arith, same, c.rows-test.true) in
     let many : length (map string_bytes texts) ≡ length texts = length-map texts string_bytes in
     let bytes : text ≡ string_bytes c.index-texts-at.result = search rules in
-    let is : text ≡ get_or (map string_bytes texts) at text = bytes ∙ ap string_bytes c.index-texts-at.is ∙ sym (get_or-map string_bytes texts at c.index-texts-at.result text low) in
-    one_further c.args.rows.now (map string_bytes texts) at c.index-rows-at.result text c.rows-test.true (omega (arith, low, many)) c.index-rows-at.is is (c.is_setup.ensures.0 (search rules)) c.rows.invariant
+    let is : text ≡ get_or (map string_bytes texts) at text =
+        bytes ∙ ap string_bytes c.index-texts-at.is
+        ∙ sym (get_or-map string_bytes texts at c.index-texts-at.result text low) in
+    one_further c.args.rows.now (map string_bytes texts) at c.index-rows-at.result text
+        c.rows-test.true (omega (arith, low, many)) c.index-rows-at.is is
+        (c.is_setup.ensures.0 (search rules)) c.rows.invariant
 
 pub returns : goal.returns
 returns c =
@@ -44,5 +52,6 @@ returns c =
     let many : length (map string_bytes texts) ≡ length texts = length-map texts string_bytes in
     let high = c.rows-test.false in
     let all : rows ≡ setup_rows_shown (map string_bytes texts) =
-    sym (take_all at rows high) ∙ c.rows.invariant ∙ ap setup_rows_shown (take_all at (map string_bytes texts) (omega (arith, same, many, high))) in
+    sym (take_all at rows high) ∙ c.rows.invariant ∙ ap setup_rows_shown
+        (take_all at (map string_bytes texts) (omega (arith, same, many, high))) in
     (λ _. all, λ _. refl)

@@ -11,4 +11,5 @@ invariant-entries g l =
     let now = state g.S.Store l.tx.conn.now in
     (l.tx.conn.ghost_name ≡ l.fn.tx.conn.ghost_name)
     × Survives old now (λ _. ⊥)
-    × (HasCleanDisk now → SoFar old now (with_each (λ e. with_some_term (term_of e)) l.entries) (with_each (λ e. with_some_term (term_of e)) (drop l.entry-index l.entries)))
+    × (HasCleanDisk now → SoFar old now (with_each (λ e. with_some_term (term_of e)) l.entries)
+        (with_each (λ e. with_some_term (term_of e)) (drop l.entry-index l.entries)))

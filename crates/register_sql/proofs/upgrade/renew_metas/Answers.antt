@@ -15,7 +15,8 @@ returns-clause-wrote g c clean =
     let mid = state g.S.Store c.clear_metas.new.tx.conn.now in
     let new = state g.S.Store c.add_metas.new.tx.conn.now in
     let early : HasCleanDisk mid = omega (arith, c.add_metas.ensures.survives.clean) in
-    goes_then 6 6 ClearsMeta (AddsMeta (rows_of_meta 8)) (RenewsMeta (rows_of_meta 8)) old mid new c.add_metas.result (renews (rows_of_meta 8))
+    goes_then 6 6 ClearsMeta (AddsMeta (rows_of_meta 8)) (RenewsMeta (rows_of_meta 8)) old mid new
+        c.add_metas.result (renews (rows_of_meta 8))
     (c.in_ok-clear_metas.ensures.wrote early) (c.add_metas.ensures.wrote clean)
 
 pub returns-clause-kept : goal.returns-clause-kept
@@ -25,4 +26,5 @@ returns-clause-kept g c clean =
     kept_then _ _ _ (c.clear_metas.ensures.kept early) (c.add_metas.ensures.kept clean)
 
 pub returns-clause-survives : goal.returns-clause-survives
-returns-clause-survives g c = survives_on _ _ _ c.clear_metas.ensures.survives c.add_metas.ensures.survives
+returns-clause-survives g c = survives_on _ _ _ c.clear_metas.ensures.survives
+    c.add_metas.ensures.survives

@@ -5,4 +5,5 @@ use Rattle.register_sql.specs.Rows.{meta_cells}
 use Rattle.register_sql.proofs.version.lacks_version.Given as goal
 
 abbrev pub invariant-rows : goal.invariant-rows
-invariant-rows l = (k : ℕ) (d : Row) → k < l.row-index → slice_index_or l.rows k d ≢ meta_cells (version_row l.version)
+invariant-rows l = (k : ℕ) (d : Row) → k < l.row-index
+    → slice_index_or l.rows k d ≢ meta_cells (version_row l.version)
