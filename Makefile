@@ -1,8 +1,13 @@
-# Pairsalder: `make` builds the proved program, `make run` runs it on the example, `make test` runs every test.
+# Pairsalder: `make` builds the proved program, `make run` runs it on the example, `make test` runs every test, and
+# `make install` installs it with its man page and completions below PREFIX.
 RT ?= rt
 SOURCES := crates.txt $(shell find crates -path '*/out' -prune -o -type f \( -name '*.rt' -o -name '*.antt' \) -print)
 
-.PHONY: all run test clean
+PREFIX ?= /usr/local
+DESTDIR ?=
+SHARE = $(DESTDIR)$(PREFIX)/share
+
+.PHONY: all run test install uninstall clean
 
 all: bin/pairsalder
 
@@ -22,6 +27,19 @@ run: bin/pairsalder
 
 test:
 	@RT="$(RT)" checks/test
+
+# The man page and the completions are written from the help of the program that is installed.
+install: bin/pairsalder
+	@install -D bin/pairsalder "$(DESTDIR)$(PREFIX)/bin/pairsalder"
+	@packaging/generate.py bin/pairsalder "$(SHARE)"
+	@install -D -m 644 -t "$(SHARE)/doc/pairsalder" LICENSE-MIT LICENSE-APACHE
+	@echo "installed below $(DESTDIR)$(PREFIX)"
+
+uninstall:
+	rm -f "$(DESTDIR)$(PREFIX)/bin/pairsalder" "$(SHARE)/man/man1/pairsalder.1" \
+	  "$(SHARE)/bash-completion/completions/pairsalder" "$(SHARE)/zsh/site-functions/_pairsalder" \
+	  "$(SHARE)/fish/vendor_completions.d/pairsalder.fish"
+	rm -rf "$(SHARE)/doc/pairsalder"
 
 clean:
 	rm -rf bin crates/*/out
