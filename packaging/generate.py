@@ -206,9 +206,8 @@ complete -o bashdefault -o default -F _{NAME} {NAME}
 
 
 def zsh_action(it):
-    if it.choices:
-        return f"({' '.join(it.choices)})"
-    return "_files" if it.is_file else ""
+    # an empty list offers nothing; with no action at all, zsh would offer no options beside the value either
+    return "_files" if it.is_file else f"({' '.join(it.choices)})"
 
 
 def zsh_spec(it):
@@ -234,7 +233,7 @@ def zsh(whole, commands):
 _{NAME}() {{
     local state
     local -a commands
-    _arguments \\
+    _arguments -A "-*" \\
                 {zsh_specs(whole.options)} \\
                 '1:command:->command' '*::argument:->argument' && return
     case $state in
