@@ -1,13 +1,22 @@
-# Pairsalder: `make` builds the proved program, `make run` runs it on the example, `make test` runs every test, and
-# `make install` installs it with its man page and completions below PREFIX.
+# Pairsalder: `make` builds the proved program, `make run` runs it on the example, `make try` does so before any proof,
+# `make test` runs every test, and `make install` installs the program with a man page and completions below PREFIX.
 RT ?= rt
 SOURCES := crates.txt $(shell find crates -path '*/out' -prune -o -type f \( -name '*.rt' -o -name '*.antt' \) -print)
 
+EXAMPLE := examples/first_day/session.txt
 PREFIX ?= /usr/local
 DESTDIR ?=
 SHARE = $(DESTDIR)$(PREFIX)/share
 
-.PHONY: all run test install uninstall clean
+# Runs a program on the example.
+define show
+@echo "--- $(EXAMPLE): a setup, an empty line, and lines"
+@cat $(EXAMPLE)
+@echo "--- the replies"
+@$(1) < $(EXAMPLE)
+endef
+
+.PHONY: all run try test install uninstall clean
 
 all: bin/pairsalder
 
@@ -20,10 +29,18 @@ bin/pairsalder: $(SOURCES)
 	@cp crates/hub_program/out/hub_program $@
 
 run: bin/pairsalder
-	@echo "--- examples/first_day/session.txt: a setup, an empty line, and lines"
-	@cat examples/first_day/session.txt
-	@echo "--- the replies"
-	@bin/pairsalder < examples/first_day/session.txt
+	$(call show,$<)
+
+# The program as `rt try` builds it, before any proof.
+bin/pairsalder_unproved: crates.txt $(filter %.rt,$(SOURCES))
+	@mkdir -p bin
+	@echo "building without a proof: some minutes the first time; the log is in $@.log"
+	@RT="$(RT)" packaging/unproved.py $@
+
+try:
+	@echo "This proves nothing: 'make' proves the program."
+	@$(MAKE) --no-print-directory bin/pairsalder_unproved
+	$(call show,bin/pairsalder_unproved)
 
 test:
 	@RT="$(RT)" checks/test
