@@ -20,13 +20,10 @@ endef
 
 all: bin/pairsalder
 
-# `rt run` proves the program and all that it stands on, builds it, and runs it once; we keep what it built.
+# Proves the program and all that it stands on, and builds it. What was proved before on this machine is not proved again.
 bin/pairsalder: $(SOURCES)
 	@mkdir -p bin
-	@echo "proving and building: some minutes the first time; the log is in bin/build.log"
-	@cd crates/hub_program && $(RT) run < stdin > ../../bin/first_run.txt 2> ../../bin/build.log \
-	  || { tail -40 ../../bin/build.log; exit 1; }
-	@cp crates/hub_program/out/hub_program $@
+	@RT="$(RT)" packaging/prove.py $@
 
 run: bin/pairsalder
 	$(call show,$<)
