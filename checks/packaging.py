@@ -15,7 +15,7 @@ MAN = "man/man1/pairsalder.1"
 # each file, and the parts of it that are about one command
 FILES = {
     MAN: r"^\.SS {}\n(.*?)^\.S[SH]",
-    "bash-completion/completions/pairsalder": r"^ +{}\) (.*?);;",
+    "bash-completion/completions/pairsalder": r"^ +\*-{}\) (.*?);;",
     "zsh/site-functions/_pairsalder": r"^ +{}\) (.*?);;",
     "fish/vendor_completions.d/pairsalder.fish": r"_from {}' ([^\n]*)",
 }

@@ -112,7 +112,7 @@ def paragraphs(text):
             yield ".EE\n.RE"
 
 
-def term(it):
+def roff_term(it):
     """An argument as a man page shows it: names are bold, and values are italic."""
     named = ", ".join(rf"\fB{roff(flag)}\fR" for flag in it.flags)
     value = rf"\fI{roff(it.value)}\fR" if it.value else ""
@@ -122,7 +122,7 @@ def term(it):
 def described(arguments):
     for it in arguments:
         choices = f" One of: {', '.join(it.choices)}." if it.choices and it.value != "COMMAND" else ""
-        yield f".TP\n{term(it)}\n{roff(it.help)}.{roff(choices)}"
+        yield f".TP\n{roff_term(it)}\n{roff(it.help)}.{roff(choices)}"
 
 
 def synopsis(usage):
@@ -133,7 +133,7 @@ def synopsis(usage):
 def man_page(whole, commands, version):
     number, _, proved = version.partition("\n")
     lines = [f'.\\" {ORIGIN}', f'.TH {NAME.upper()} 1 "" "{roff(number)}" "User Commands"', ".ad l\n.nh"]
-    lines += [".SH NAME", roff(f"{NAME} - {' '.join(whole.about.split()).rstrip('.')}").replace("\\-", "\\-", 1)]
+    lines += [".SH NAME", roff(f"{NAME} - {' '.join(whole.about.split()).rstrip('.')}")]
     lines += [".SH SYNOPSIS", *synopsis(whole.usage)]
     lines += [".SH DESCRIPTION", *paragraphs(whole.more)]
     lines += [".SH OPTIONS", *described(whole.options), ".SH COMMANDS"]
@@ -157,33 +157,30 @@ def flags(options):
 
 
 def bash_values(commands):
-    """The cases of options that take a value, by the command and the option."""
+    """The cases of options that take a value, by the command and the option. A space stands for nothing to offer."""
     for it in commands:
         for option in it.options:
             if option.value:
-                values = f"words={quoted(' '.join(option.choices))}" if option.choices else "no_files=1"
+                values = "return" if option.is_file else f"words={quoted(' '.join(option.choices) or ' ')}"
                 names = " | ".join(quoted(f"{it.name} {flag}") for flag in option.flags)
-                yield f"        {names}) {'return' if option.is_file else values} ;;"
+                yield f"        {names}) {values} ;;"
 
 
 def bash_words(commands):
-    """The cases of all other words, by the command."""
+    """The cases of all other words, by the command. For a command that takes files these are the options alone."""
     for it in commands:
         words = [choice for argument in it.arguments for choice in argument.choices] + flags(it.options)
-        if any(argument.is_file for argument in it.arguments):
-            # files, unless the word begins an option
-            yield f"        {it.name}) [[ $word == -* ]] || return; words={quoted(' '.join(words))} ;;"
-        else:
-            yield f"        {it.name}) words={quoted(' '.join(words))} ;;"
+        files = any(argument.is_file for argument in it.arguments)
+        yield f"        *-{it.name}) {'[[ $word == -* ]] || return; ' if files else ''}words={quoted(' '.join(words))} ;;"
 
 
 def bash(whole, commands):
     first = " ".join([it.name for it in commands] + flags(whole.options))
     values, words = "\n".join(bash_values(commands)), "\n".join(bash_words(commands))
     return f"""# bash completion for {NAME}, {ORIGIN}
-# Where it offers nothing, and does not return by no_files, bash offers files.
+# If it returns early, a file is wanted, and bash offers files.
 _{NAME}() {{
-    local word=${{COMP_WORDS[COMP_CWORD]}} before=${{COMP_WORDS[COMP_CWORD - 1]}} words= no_files=
+    local word=${{COMP_WORDS[COMP_CWORD]}} before=${{COMP_WORDS[COMP_CWORD - 1]}} words=
     COMPREPLY=()
     [[ $word == = ]] && word=
     [[ $before == = ]] && before=${{COMP_WORDS[COMP_CWORD - 2]}}
@@ -191,13 +188,10 @@ _{NAME}() {{
     case "${{COMP_WORDS[1]}} $before" in
 {values}
     esac
-    if [[ -z $words$no_files ]]; then
-        if ((COMP_CWORD == 1)); then words={quoted(first)}; else
-            case ${{COMP_WORDS[1]}} in
+    [[ $words ]] || case $COMP_CWORD-${{COMP_WORDS[1]}} in
+        1-*) words={quoted(first)} ;;
 {words}
-            esac
-        fi
-    fi
+    esac
     compopt +o bashdefault +o default 2> /dev/null
     COMPREPLY=($(compgen -W "$words" -- "$word"))
 }}
