@@ -1,6 +1,6 @@
 #!/usr/bin/env python3
-"""Whether the man page and the completions have every command and option of the help, offer them in the shells that are
-installed, and agree on the version with the program and with CHANGELOG.md.
+"""Whether the man page and the completions have every command and option of the help, offer them
+in the shells that are installed, and agree on the version with the program and CHANGELOG.md.
 
 Usage: packaging.py PROGRAM. It prints what is wrong."""
 import os
@@ -22,10 +22,13 @@ FILES = {
 # a shell that completes `pairsalder re`, and prints what it offers
 SHELLS = {
     "bash": """source "$1"; COMP_WORDS=(pairsalder re) COMP_CWORD=1
-        complete -p pairsalder | grep -q -- "-F _pairsalder " && _pairsalder; echo "${COMPREPLY[@]}" """,
+        complete -p pairsalder | grep -q -- "-F _pairsalder " && _pairsalder
+        echo "${COMPREPLY[@]}" """,
     "zsh": """zmodload zsh/zpty; zpty inner zsh -f -i
-        zpty -w inner "fpath=(${1:h} \\$fpath); autoload -Uz compinit; compinit -D -u; pairsalder() { echo offers:\\$1 }"
-        zpty -w -n inner $'pairsalder re\\t\\n'; zpty -r inner said '*offers:replay*'; echo $said""",
+        zpty -w inner "fpath=(${1:h} \\$fpath); autoload -Uz compinit; compinit -D -u"
+        zpty -w inner "pairsalder() { echo offers:\\$1 }"
+        zpty -w -n inner $'pairsalder re\\t\\n'
+        zpty -r inner said '*offers:replay*'; echo $said""",
     "fish": "source $argv[2]; complete -C 'pairsalder re'",
 }
 
@@ -36,7 +39,8 @@ def printed(*words):
 
 def flags(text):
     """The options that a help lists."""
-    rows = re.findall(r"^ +(-.*?)(?:  |$)", text.partition("Options:\n")[2].partition("\n\n")[0], re.M)
+    section = text.partition("Options:\n")[2].partition("\n\n")[0]
+    rows = re.findall(r"^ +(-.*?)(?:  |$)", section, re.M)
     return set(re.findall(r"--?[\w-]+", " ".join(rows)))
 
 
@@ -47,7 +51,7 @@ def plain(text):
 
 
 def lacking(text, words):
-    return [word for word in sorted(words) if not re.search(rf"(?<![\w-]){re.escape(word)}(?![\w-])", text)]
+    return sorted(set(words) - set(re.findall(r"(?<![\w-])[\w-]+", text)))
 
 
 def of_text(path, text, helps):
@@ -59,7 +63,8 @@ def of_text(path, text, helps):
     yield from (f"{path}: no {word}" for word in lacking(text, {*common, *helps} - {""}))
     for name in helps:
         part = "\n".join(re.findall(FILES[path].format(name), text, re.M | re.S))
-        yield from (f"{path}: no {word} of {name}" for word in lacking(part, flags(helps[name]) - common))
+        own = flags(helps[name]) - common
+        yield from (f"{path}: no {word} of {name}" for word in lacking(part, own))
 
 
 def of_shells(folder):
@@ -77,16 +82,17 @@ def of_man(path):
     """The warnings of man, if it is installed."""
     if shutil.which("man"):
         words = ["man", "--warnings", "-E", "UTF-8", "-l", "-Tutf8", "-Z", path]
-        ran = subprocess.run(words, stdout=subprocess.DEVNULL, stderr=subprocess.PIPE, text=True, check=False)
+        ran = subprocess.run(words, capture_output=True, check=False)
         if ran.returncode or ran.stderr:
-            yield f"man: status {ran.returncode} {ran.stderr}"
+            yield f"man: status {ran.returncode} {ran.stderr.decode()}"
 
 
 def of_versions(program, page):
     """The version, if it is not the same everywhere."""
     with open(os.path.join(ROOT, "CHANGELOG.md"), encoding="utf-8") as file:
         newest = re.search(r"^## \[(\d+\.\d+\.\d+)\]", file.read(), re.M)
-    found = [printed(program, "--version").split("\n")[0], *re.findall(r'^\.TH .* "" "(.*?)"', page, re.M)]
+    titles = re.findall(r'^\.TH .* "" "(.*?)"', page, re.M)
+    found = [printed(program, "--version").split("\n")[0], *titles]
     if not newest or found != [f"pairsalder {newest[1]}"] * 2:
         yield f"versions: CHANGELOG.md {newest and newest[1]}, --version and man page {found}"
 
@@ -94,16 +100,19 @@ def of_versions(program, page):
 def main():
     program = os.path.abspath(sys.argv[1])
     overview = printed(program, "--help")
-    names = re.findall(r"^  (\w+)  +\w", overview.partition("Commands:")[2].partition("Options:")[0], re.M)
+    listed = overview.partition("Commands:")[2].partition("Options:")[0]
+    names = re.findall(r"^  (\w+)  +\w", listed, re.M)
     helps = {"": overview} | {name: printed(program, "help", name) for name in names}
     with tempfile.TemporaryDirectory() as folder:
-        subprocess.run([os.path.join(ROOT, "packaging", "generate.py"), program, folder], check=True)
+        generate = os.path.join(ROOT, "packaging", "generate.py")
+        subprocess.run([generate, program, folder], check=True)
         texts = {}
         for path in FILES:
             with open(os.path.join(folder, path), encoding="utf-8") as file:
                 texts[path] = file.read()
         wrong = [it for path, text in texts.items() for it in of_text(path, text, helps)]
-        wrong += [*of_shells(folder), *of_man(os.path.join(folder, MAN)), *of_versions(program, texts[MAN])]
+        wrong += [*of_shells(folder), *of_man(os.path.join(folder, MAN))]
+        wrong += of_versions(program, texts[MAN])
     print("\n".join(wrong) or f"{len(names)} commands in {len(FILES)} files")
     return bool(wrong) or len(names) < 2
 

@@ -1,7 +1,7 @@
 #!/usr/bin/env python3
 """Writes the man page and the completions for bash, zsh and fish, from the program's own help.
 
-Usage: generate.py PROGRAM SHARE. SHARE is the folder that they go below, for example /usr/local/share."""
+Usage: generate.py PROGRAM SHARE. SHARE is the folder that they go below, as /usr/local/share."""
 import os
 import re
 import subprocess
@@ -40,7 +40,8 @@ class Command:
 
 
 def printed(program, *words):
-    return subprocess.run([program, *words], capture_output=True, check=True, encoding="utf-8").stdout
+    how = {"capture_output": True, "check": True, "encoding": "utf-8"}
+    return subprocess.run([program, *words], **how).stdout
 
 
 def rows(text, heading):
@@ -64,7 +65,8 @@ def argument(term, told, names):
     if value and value[1] == "COMMAND":
         listed = names
     told = told.replace(choices[0], "") if choices else told
-    return Argument(re.findall(r"--?\w[\w-]*", term), value[1] if value else "", "..." in term, told, listed)
+    named = re.findall(r"--?\w[\w-]*", term)
+    return Argument(named, value[1] if value else "", "..." in term, told, listed)
 
 
 def command(name, text, names=()):
@@ -72,10 +74,12 @@ def command(name, text, names=()):
     about, _, rest = text.partition("Usage: ")
     usage, _, rest = rest.partition("\n\n")
     # what follows the options, which come last
-    more = re.split(r"^Options:\n(?: +\S.*\n)+", rest, flags=re.M)[-1] if "Options:\n" in rest else ""
+    parts = re.split(r"^Options:\n(?: +\S.*\n)+", rest, flags=re.M)
+    more = parts[-1].strip() if len(parts) > 1 else ""
     arguments = [argument(*row, names) for row in rows(rest, "Arguments")]
     options = [argument(*row, names) for row in rows(rest, "Options")]
-    return Command(name, about.strip(), [line.strip() for line in usage.split("\n")], arguments, options, more.strip())
+    lines = [line.strip() for line in usage.split("\n")]
+    return Command(name, about.strip(), lines, arguments, options, more)
 
 
 def read(program):
@@ -90,12 +94,12 @@ def read(program):
 
 # The man page.
 
+ESCAPES = {"\\": "\\e", "-": "\\-", "'": "\\(aq", "`": "\\(ga", "^": "\\(ha", "~": "\\(ti"}
+
 
 def roff(text):
     """A text as it stands in a line of a man page."""
-    for plain, written in (("\\", "\\e"), ("-", "\\-"), ("'", "\\(aq"), ("`", "\\(ga"), ("^", "\\(ha"), ("~", "\\(ti")):
-        text = text.replace(plain, written)
-    return re.sub(r"^\.", r"\\&.", text, flags=re.M)
+    return re.sub(r"^\.", r"\\&.", text.translate(str.maketrans(ESCAPES)), flags=re.M)
 
 
 def paragraphs(text):
@@ -121,7 +125,8 @@ def roff_term(it):
 
 def described(arguments):
     for it in arguments:
-        choices = f" One of: {', '.join(it.choices)}." if it.choices and it.value != "COMMAND" else ""
+        is_listed = it.choices and it.value != "COMMAND"
+        choices = f" One of: {', '.join(it.choices)}." if is_listed else ""
         yield f".TP\n{roff_term(it)}\n{roff(it.help)}.{roff(choices)}"
 
 
@@ -132,14 +137,17 @@ def synopsis(usage):
 
 def man_page(whole, commands, version):
     number, _, proved = version.partition("\n")
-    lines = [f'.\\" {ORIGIN}', f'.TH {NAME.upper()} 1 "" "{roff(number)}" "User Commands"', ".ad l\n.nh"]
+    lines = [f'.\\" {ORIGIN}', f'.TH {NAME.upper()} 1 "" "{roff(number)}" "User Commands"']
+    # ragged right, no hyphens
+    lines += [".ad l", ".nh"]
     lines += [".SH NAME", roff(f"{NAME} - {' '.join(whole.about.split()).rstrip('.')}")]
     lines += [".SH SYNOPSIS", *synopsis(whole.usage)]
     lines += [".SH DESCRIPTION", *paragraphs(whole.more)]
     lines += [".SH OPTIONS", *described(whole.options), ".SH COMMANDS"]
     for it in commands:
         lines += [f".SS {roff(it.name)}", f"{roff(it.about)}.", ".PP", *synopsis(it.usage)]
-        lines += described(it.arguments + [option for option in it.options if "--help" not in option.flags])
+        lines += described(it.arguments)
+        lines += described(option for option in it.options if "--help" not in option.flags)
         lines += paragraphs(it.more) if it.more else []
     lines += [".SH VERSION", f"{roff(number)}.", ".PP", roff(proved)]
     return "\n".join(lines) + "\n"
@@ -157,21 +165,25 @@ def flags(options):
 
 
 def bash_values(commands):
-    """The cases of options that take a value, by the command and the option. A space stands for nothing to offer."""
+    """The cases of options that take a value, by the command and the option. A space stands for
+    nothing to offer."""
     for it in commands:
         for option in it.options:
             if option.value:
-                values = "return" if option.is_file else f"words={quoted(' '.join(option.choices) or ' ')}"
+                words = quoted(" ".join(option.choices) or " ")
                 names = " | ".join(quoted(f"{it.name} {flag}") for flag in option.flags)
-                yield f"        {names}) {values} ;;"
+                yield f"        {names}) {'return' if option.is_file else f'words={words}'} ;;"
 
 
 def bash_words(commands):
-    """The cases of all other words, by the command. For a command that takes files these are the options alone."""
+    """The cases of all other words, by the command. For a command that takes files these are the
+    options alone."""
     for it in commands:
-        words = [choice for argument in it.arguments for choice in argument.choices] + flags(it.options)
-        files = any(argument.is_file for argument in it.arguments)
-        yield f"        *-{it.name}) {'[[ $word == -* ]] || return; ' if files else ''}words={quoted(' '.join(words))} ;;"
+        choices = [choice for argument in it.arguments for choice in argument.choices]
+        words = quoted(" ".join(choices + flags(it.options)))
+        takes_files = any(argument.is_file for argument in it.arguments)
+        unless = "[[ $word == -* ]] || return; " if takes_files else ""
+        yield f"        *-{it.name}) {unless}words={words} ;;"
 
 
 def bash(whole, commands):
@@ -200,7 +212,7 @@ complete -o bashdefault -o default -F _{NAME} {NAME}
 
 
 def zsh_action(it):
-    # an empty list offers nothing; with no action at all, zsh would offer no options beside the value either
+    # an empty list offers nothing; with no action zsh would offer no options beside the value
     return "_files" if it.is_file else f"({' '.join(it.choices)})"
 
 
@@ -219,8 +231,9 @@ def zsh_specs(arguments):
 
 def zsh(whole, commands):
     offered = "\n".join(f"                {quoted(f'{it.name}:{it.about}')}" for it in commands)
+    head = "_arguments \\\n                "
     cases = "\n".join(
-        f"            {it.name}) _arguments \\\n                {zsh_specs(it.options + it.arguments)} ;;" for it in commands
+        f"            {it.name}) {head}{zsh_specs(it.options + it.arguments)} ;;" for it in commands
     )
     return f"""#compdef {NAME}
 # zsh completion for {NAME}, {ORIGIN}

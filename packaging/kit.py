@@ -9,5 +9,5 @@ def rt():
     name = os.environ.get("RT") or "rt"
     found = shutil.which(name)
     if not found:
-        sys.exit(f"{name} is not there: put the `rt` of the Rattle kit on the path, or run make RT=/path/to/rt")
+        sys.exit(f"{name} not found: put the Rattle kit's rt on the path, or use RT=/path/to/rt")
     return os.path.abspath(found)

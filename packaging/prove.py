@@ -1,8 +1,10 @@
 #!/usr/bin/env python3
-"""Proves the program and builds it: each crate that it stands on, as many at once as processors and memory allow.
+"""Proves the program and builds it: each crate that it stands on, as many at once as processors
+and memory allow.
 
-Usage: prove.py PROGRAM. RT names the command `rt`. Each crate that is proved is kept on this machine, so that after an
-interruption only the others are left. The log goes to build.log beside PROGRAM."""
+Usage: prove.py PROGRAM. RT names the command `rt`. Each crate that is proved is kept on this
+machine, so that after an interruption only the others are left. The log goes to build.log beside
+PROGRAM."""
 import os
 import re
 import shutil
@@ -28,7 +30,8 @@ def needed(lines, crate):
     """The crate, and each that it stands on."""
     found = [crate]
     for name in found:
-        found += [it for it in lines[name].partition(":")[2].split() if it in lines and it not in found]
+        libraries = lines[name].partition(":")[2].split()
+        found += [it for it in libraries if it in lines and it not in found]
     return found
 
 
@@ -46,7 +49,8 @@ def copy(names, lines, room):
 
 
 def follow(output, log, total):
-    """Copies the output to the log, and prints how far the proof has come, and why a crate is not proved."""
+    """Copies the output to the log, and prints how far the proof has come, and why a crate is not
+    proved."""
     begun, done, functions, section = time.monotonic(), 0, "", []
     for line in output:
         log.write(line)
@@ -57,10 +61,12 @@ def follow(output, log, total):
         if ended := re.match(r"rt: (\w+) (proved$|is kept: )", line):
             done += 1
             how = functions if ended[2] == "proved" else ", by an earlier run"
-            print(f"{time.monotonic() - begun:6.0f} s  {done} of {total} crates proved: {ended[1]}{how}", flush=True)
+            seconds = time.monotonic() - begun
+            print(f"{seconds:6.0f} s  {done} of {total} crates proved: {ended[1]}{how}", flush=True)
             section = []
         elif re.match(r"rt: \w+ NOT PROVED", line):
-            print(*section[-20:], sep="", end="", flush=True)
+            told = [it for it in section if not it.endswith(": proved\n")]
+            print(*told[-20:], sep="", end="", flush=True)
             section = []
         elif re.match(r"rt: (note: |FAILED: |.*; waiting for it$)", line):
             print(line, end="", flush=True)
@@ -86,7 +92,7 @@ def main():
         signal.signal(number, lambda number, _: sys.exit(128 + number))
     lines = lines_of(os.path.join(ROOT, "crates.txt"))
     names = needed(lines, TOP)
-    print(f"proving {len(names)} crates and building the program; the log is in {os.path.relpath(log)}", flush=True)
+    print(f"proving {len(names)} crates; the log is in {os.path.relpath(log)}", flush=True)
     with tempfile.TemporaryDirectory(prefix="pairsalder-", ignore_cleanup_errors=True) as room:
         copy(names, lines, room)
         with open(log, "w", encoding="utf-8") as file:
@@ -96,7 +102,8 @@ def main():
             os.replace(f"{program}.new", program)
             return 0
     with open(log, encoding="utf-8") as file:
-        print("the program was not built:\n", *file.readlines()[-3:], sep="", end="", file=sys.stderr)
+        last = "".join(file.readlines()[-3:])
+    print(f"the program was not built:\n{last}", end="", file=sys.stderr)
     return 1
 
 
