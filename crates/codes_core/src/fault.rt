@@ -10,11 +10,11 @@ use thiserror::Error;
 /// returned. `BadNumber` is for things and loans only, `NoSuchDay` for days only.
 #[derive(Clone, Copy, Debug, PartialEq, Eq, Error)]
 pub enum CodeFault {
-    #[error("no bytes")]
+    #[error("empty")]
     Empty,
-    #[error("not the shape of such a code")]
+    #[error("not the form of this code")]
     BadShape,
-    #[error("a number that is not from 1 to 999999 or begins with 0")]
+    #[error("a number outside 1 to 999999, or one that begins with 0")]
     BadNumber,
     #[error("no such day")]
     NoSuchDay,
@@ -23,7 +23,7 @@ pub enum CodeFault {
 /// Why a text is rejected as a name. If several apply, the first in this order is returned.
 #[derive(Clone, Copy, Debug, PartialEq, Eq, Error)]
 pub enum NameFault {
-    #[error("no bytes")]
+    #[error("empty")]
     Empty,
     #[error("not UTF-8 of at most 60 bytes without control bytes")]
     BadShape,

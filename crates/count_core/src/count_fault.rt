@@ -20,7 +20,7 @@ pub enum CountFault {
     #[error("row {0}: not a code of a place or of a thing")]
     BadCode(u64),
     /// The row is one over the limit of [`MOST_COUNT_ROWS`](crate::MOST_COUNT_ROWS).
-    #[error("row {0}: one more than there may be")]
+    #[error("row {0}: one more than the limit")]
     TooMany(u64),
     /// A request for memory was refused. It can come at any row.
     #[error("out of memory")]

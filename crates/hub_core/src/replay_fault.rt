@@ -10,7 +10,7 @@ pub enum ReplayFault {
     #[error("out of memory")]
     NoMemory,
     /// The store failed, for another reason than memory.
-    #[error("the store refused")]
+    #[error("the store failed")]
     Store,
     /// The reader failed, or the input didn't end within 4,294,967,295 reads.
     #[error("the input could not be read")]

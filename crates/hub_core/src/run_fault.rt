@@ -13,7 +13,7 @@ pub enum RunFault {
     NoMemory,
     /// The store failed, for another reason than memory. A run's store is in memory, so this never
     /// comes from [`run`](crate::run).
-    #[error("the store refused")]
+    #[error("the store failed")]
     Store,
     /// The reader failed, or the input didn't end within 4,294,967,295 reads.
     #[error("the input could not be read")]

@@ -12,17 +12,17 @@ use thiserror::Error;
 pub enum SetupFault {
     #[error("not UTF-8")]
     NotCsv,
-    #[error("row {0}: not station, place, box, own or lent")]
+    #[error("row {0}: not a station, place, box, own or lent")]
     BadKind(u64),
-    #[error("row {0}: not the fields of its kind")]
+    #[error("row {0}: wrong fields for its kind")]
     BadFields(u64),
-    #[error("row {0}: not a code or name as its kind wants it")]
+    #[error("row {0}: not a code or name of this kind")]
     BadCode(u64),
     #[error("row {0}: listed in an earlier row")]
     Repeated(u64),
     #[error("row {0}: no earlier row lists the normal place")]
     UnknownNormal(u64),
-    #[error("row {0}: one more than there may be")]
+    #[error("row {0}: one more than the limit")]
     TooMany(u64),
     #[error("no station")]
     NoStation,

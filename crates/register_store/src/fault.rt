@@ -14,9 +14,9 @@ pub enum ReadFault {
     NotJson,
     #[error("no key {0}")]
     Missing(Key),
-    #[error("no such kind of message")]
+    #[error("unknown kind of message")]
     BadKind,
-    #[error("a wrong value at the key {0}")]
+    #[error("a wrong value for the key {0}")]
     BadField(Key),
     #[error("out of memory")]
     NoMemory,

@@ -11,7 +11,7 @@ pub enum StoreFault {
     #[error("out of memory")]
     NoMemory,
     /// The store failed, but not for lack of memory.
-    #[error("the store refused")]
+    #[error("the store failed")]
     Store,
     /// The store was made for another setup.
     #[error("the store is of another setup")]

@@ -11,10 +11,10 @@ pub enum ServeFault {
     #[error("out of memory")]
     NoMemory,
     /// The register's store failed, for another reason than memory.
-    #[error("the store refused")]
+    #[error("the store failed")]
     Store,
     /// The lane of this station had no end.
-    #[error("a lane gave no end")]
+    #[error("a lane has no end")]
     Unfinished(StationNo),
 }
 

@@ -43,7 +43,7 @@ pub enum HubFault {
     #[error("out of memory")]
     NoMemory,
     /// The register's store failed, for another reason than memory.
-    #[error("the store refused")]
+    #[error("the store failed")]
     Store,
     /// The hub met a fault earlier.
     #[error("the hub is down")]
