@@ -1,4 +1,4 @@
-//! A row looked up by itself, and whether a thing is in a place.
+//! Looks up one row, and whether a thing is in a place.
 ghost use Rattle.std.specs.Prelude.{◌≡◌, ◌<◌, IfSome, length, slice_get, Some};
 ghost use Rattle.nest_core.specs.Museum.{find_place};
 ghost use Rattle.count_core.specs.Counts.{answer_for, found_from, look, looked_of, named};
@@ -9,7 +9,8 @@ use codes_core::PlaceCode;
 use nest_core::{PlaceNo, ThingNo};
 use posting_core::Ledger;
 
-/// What is said to a row where no row before it names its thing, and the numbers of that thing and of its place.
+/// The answer to a row on its own, as if no earlier row named its thing, with the numbers of its
+/// thing and its place.
 #[derive(Clone, Copy, Debug, PartialEq)]
 pub(crate) struct Looked {
     pub answer: CountAnswer,
@@ -17,7 +18,7 @@ pub(crate) struct Looked {
     pub place: Option<PlaceNo>,
 }
 
-/// The row looked up by itself.
+/// Looks up a row on its own.
 pub(crate) fn look(ledger: &Ledger, row: &CountRow) -> Looked
     ensures { result ≡ looked_of ledger.now row.now }
 {
@@ -38,7 +39,7 @@ fn named(ledger: &Ledger, row: &CountRow) -> Option<ThingNo>
     ledger.setup().thing(&row.object?)
 }
 
-/// What is said to a row of these numbers.
+/// The answer to a row whose place and thing have these numbers.
 fn answer_of(
     ledger: &Ledger,
     row: &CountRow,
@@ -59,7 +60,8 @@ fn answer_of(
     }
 }
 
-/// What is said to a known place and the object that it is to hold, none where the setup doesn't have it.
+/// The answer to a known place and the object that was seen there; None if the setup doesn't have
+/// the object.
 fn object_answer(ledger: &Ledger, sought: &PlaceCode, thing: Option<ThingNo>) -> CountAnswer
     requires { IfSome thing (λ x. x < length ledger.now.museum.things) }
     ensures { result ≡ answer_for ledger.now sought.now thing }
@@ -83,7 +85,7 @@ fn placed_answer(ledger: &Ledger, sought: &PlaceCode, place: PlaceNo) -> CountAn
     CountAnswer::Elsewhere(place)
 }
 
-/// Whether the thing's place is the one with the code, or lies in it. The thing's number is below the setup's count.
+/// Whether the thing's place is the one with this code, or lies in it.
 pub(crate) fn is_in(ledger: &Ledger, thing: ThingNo, sought: &PlaceCode) -> bool
     requires { thing < length ledger.now.museum.things }
     ensures { result ≡ is_in ledger.now sought.now thing }
@@ -94,7 +96,7 @@ pub(crate) fn is_in(ledger: &Ledger, thing: ThingNo, sought: &PlaceCode) -> bool
     }
 }
 
-/// What was found of row i, from 0.
+/// The result for row i, from 0.
 pub(crate) fn looked_in(looked: &[Looked], i: usize) -> Looked
     requires { i < length looked.now }
     ensures { slice_get looked.now i ≡ Some result }

@@ -1,4 +1,4 @@
-//! Rows that were looked up, marked Again where an earlier one names the same thing.
+//! Marks rows Again if an earlier row names the same thing.
 ghost use Rattle.std.specs.Prelude.{◌≡◌, IfOk, length, map, Some};
 ghost use Rattle.std.specs.List.{range_with_len};
 ghost use Rattle.count_core.specs.Counts.{look_at, answers, named};
@@ -10,14 +10,14 @@ use codes_core::NoMemory;
 use posting_core::Ledger;
 use std::alloc::Global;
 
-/// What is said to each row, and for each thing whether a row names it.
+/// The answer to each row, and for each thing whether a row names it.
 #[derive(Drop)]
 pub(crate) struct MarkedRows {
     pub answers: Vec<CountAnswer>,
     pub named: Vec<bool>,
 }
 
-/// What is said to each row, in order: Again where the row names a thing that one before it names.
+/// Goes through the rows in order. A row becomes Again if an earlier one names its thing.
 pub(crate) fn marked(
     alloc: Global,
     ledger: &Ledger,
@@ -43,7 +43,7 @@ pub(crate) fn marked(
     })
 }
 
-/// What is said to the row, by the flags of the things that those before it name; from then on its thing is flagged.
+/// The answer to a row, by the flags of the things that earlier rows name. Flags the row's thing.
 fn marked_one(flags: &mut Vec<bool>, first: Looked) -> CountAnswer
     ensures answer { result ≡ mark (flagged flags.old.items first.thing) first.answer }
     ensures flags { flags.new.items ≡ with_flag flags.old.items first.thing }
@@ -54,7 +54,7 @@ fn marked_one(flags: &mut Vec<bool>, first: Looked) -> CountAnswer
     }
 }
 
-/// Sets a flag, if there is one of this number; whether it was set before.
+/// Sets the flag of this number, if there is one, and returns whether it was set before.
 pub(crate) fn set_flag(flags: &mut Vec<bool>, number: u32) -> bool
     ensures before { result ≡ flagged flags.old.items (Some number) }
     ensures flags { flags.new.items ≡ with_flag flags.old.items (Some number) }

@@ -1,4 +1,4 @@
-//! Puts into the nest, for those who don't count what they touch.
+//! Puts into the nest, without counting steps.
 ghost use Rattle.std.specs.Prelude.{◌≡◌, ◌<◌, ◌∷◌, List, OnOk, OnErr, IfSome};
 ghost use Rattle.nest_core.specs.Nest.{StandsFor, MayGo, target_kept};
 ghost use Rattle.nest_core.specs.Puts.{with_put, carried_by};
@@ -9,6 +9,7 @@ use nest_core::{Nest, Put, Steps, ThingNo};
 use std::marker::Brand;
 use std::sync::ledger::{Blank, Ledger};
 
+/// Puts a thing, with a step counter of its own.
 fn put_over<L: Ledger>(
     blank: Blank,
     nest: &mut Nest,
@@ -33,7 +34,8 @@ fn put_over<L: Ledger>(
     nest.put_with(put.thing, put.to, carried, &mut steps)
 }
 
-/// Puts a thing where it goes, if it goes anywhere, with what it carries; after NoMemory the nest is unchanged.
+/// Carries out a put, if there is one. `carried` is what the thing carries. Fails with `NoMemory`,
+/// and then the nest is unchanged.
 pub(crate) fn place(nest: &mut Nest, put: Option<Put>, carried: &[ThingNo]) -> Result<(), NoMemory>
     requires may { IfSome put (λ p. (p.thing < nest.old.things) × MayGo nest.old p.thing p.to) }
     requires carried { IfSome put (λ p. carried.now

@@ -1,4 +1,4 @@
-//! A store is bound to a setup: a new one is made whole, an old one is compared and never written.
+//! Binds a store to a setup: fills a new store, or compares an old one.
 ghost use Rattle.std.specs.Prelude.{◌≡◌, ◌≢◌, ◌≤◌, [], true, false, IfOk, IfErr, OnOk};
 ghost use Rattle.std.specs.List.Sorted.{IsPermutation};
 ghost use Rattle.sqlite.specs.Held.{state};
@@ -21,10 +21,11 @@ use register_store::{NEW_DEPTH, StoreFault, row_texts};
 use sqlite::{Alter, Connection, Error};
 use std::alloc::Global;
 
-/// The depth limit of a store that is bound, or why it isn't.
+/// The depth limit of the bound store, or why it isn't bound.
 type Answer = Result<u32, StoreFault>;
 
-/// Makes a store of the first so many tables whole, which says nothing of itself.
+/// Completes a new store that has the first `made` tables and no row about itself. Faults: Store if
+/// its rowids aren't distinct numbers; NoMemory.
 fn make_new<S: Alter>(
     alloc: Global,
     conn: &mut Connection<S>,
@@ -57,7 +58,9 @@ fn make_new<S: Alter>(
     Ok(Ok(NEW_DEPTH))
 }
 
-/// Compares a store of the first so many tables that says that it has this depth limit.
+/// Compares a store of the first `made` tables, whose rows about itself are right and have this
+/// depth limit. Faults: NoMemory; OtherSetup; Store if a table is missing or rowids aren't distinct
+/// numbers.
 fn compare<S: Alter>(
     alloc: Global,
     conn: &mut Connection<S>,
@@ -99,7 +102,7 @@ fn compare<S: Alter>(
     Ok(Ok(depth))
 }
 
-/// Binds a store of the first so many tables, of which the one that says what the store is is among them.
+/// Binds a store of the first `made` tables, one of which is `meta`.
 fn bind_told<S: Alter>(
     alloc: Global,
     conn: &mut Connection<S>,
@@ -134,7 +137,9 @@ fn bind_told<S: Alter>(
     }
 }
 
-/// Binds the store to the setup. The outer fault is that of a statement, after which the connection may be shut.
+/// Binds the store to the setup, and returns its depth limit or the cause of the rejection. A
+/// rejected store stays as it was. The outer error is that of a failed statement, after which the
+/// connection may be closed.
 pub(crate) fn bind<S: Alter>(
     alloc: Global,
     conn: &mut Connection<S>,
@@ -168,8 +173,9 @@ pub(crate) fn bind<S: Alter>(
     }
 }
 
-/// Whether a store says nothing of itself yet, so that binding it to a setup begins a record. A database with other tables
-/// than a store's is none. The outer fault is that of a statement, after which the connection may be shut.
+/// Returns whether the store has no rows about itself, so that binding it begins a record. False if
+/// the database has other tables than a store's. The outer error is that of a failed statement,
+/// after which the connection may be closed.
 pub(crate) fn is_new<S: Alter>(
     alloc: Global,
     conn: &mut Connection<S>,

@@ -1,4 +1,5 @@
-//! What an old store says of itself, and its setup.
+//! Reads what a store's tables `meta` and `setup` say about it: its version, its depth limit and
+//! its setup.
 ghost use Rattle.std.specs.Prelude.{◌≡◌, ◌<◌, ◌≤◌, ◌+◌, ◌∷◌, [], pos, ℕ, ℤ, true, false, map, codes, length, IfOk, IfSome, IfNone, OnOk, string_bytes};
 ghost use Rattle.std.specs.Bool.{Decides};
 ghost use Rattle.std.specs.List.Sorted.{IsPermutation};
@@ -21,20 +22,20 @@ use sqlite::{Alter, Connection, Error, Row};
 use sqlite_value::value::ValueRef;
 use std::alloc::Global;
 
-/// What the rows of `meta` say.
+/// The result of checking the rows of `meta`.
 #[derive(Clone, Copy, Debug, PartialEq, Eq)]
 pub(crate) enum Identity {
-    /// Nothing: the store is new.
+    /// There are none: the store is new.
     New,
-    /// It is of another version.
+    /// A row has another version than 2.
     OtherVersion,
-    /// They aren't the version and a depth limit alone.
+    /// They aren't exactly the version 2 and a possible depth limit.
     Damaged,
-    /// It is of this version, with this depth limit.
+    /// They have the version 2 and this depth limit.
     Bound(u32),
 }
 
-/// Whether the row's cell is this text.
+/// Whether the cell is this text.
 pub(crate) fn is_text(row: &Row, at: usize, text: &str) -> bool
     requires { at < length row.now }
     ensures { Decides result (column row.now at ≡ Text text.now) }
@@ -45,7 +46,7 @@ pub(crate) fn is_text(row: &Row, at: usize, text: &str) -> bool
     }
 }
 
-/// Whether the row's cell is this number.
+/// Whether the cell is this number.
 pub(crate) fn is_number(row: &Row, at: usize, number: u64) -> bool
     requires { at < length row.now }
     ensures { Decides result (column row.now at ≡ Int (pos number)) }
@@ -56,7 +57,7 @@ pub(crate) fn is_number(row: &Row, at: usize, number: u64) -> bool
     }
 }
 
-/// Whether these two are the same number.
+/// Whether the two numbers are equal.
 fn is_same_number(found: i64, number: u64) -> bool
     ensures { Decides result (found ≡ pos number) }
 {
@@ -66,7 +67,7 @@ fn is_same_number(found: i64, number: u64) -> bool
     }
 }
 
-/// Whether the row's cell is some number.
+/// Whether the cell is any integer.
 fn is_some_number(row: &Row, at: usize) -> bool
     requires { at < length row.now }
     ensures { Decides result ((n : ℤ) × (column row.now at ≡ Int n)) }
@@ -74,14 +75,14 @@ fn is_some_number(row: &Row, at: usize) -> bool
     matches!(row.get_ref(at), Ok(ValueRef::Int(_)))
 }
 
-/// Whether it is the row of `meta` with this name and value.
+/// Whether the row of `meta` has this name and value.
 pub(crate) fn is_meta(row: &Row, name: &str, val: u32) -> bool
     ensures { Decides result (row.now ≡ Text name.now ∷ Int (pos val) ∷ []) }
 {
     row.column_count() == 2 && is_text(row, 0, name) && is_number(row, 1, u64::from(val))
 }
 
-/// Whether it is the row of another version.
+/// Whether the row has another version than 2.
 fn is_other(row: &Row) -> bool
     ensures { Decides result (IsOther row.now) }
 {
@@ -91,7 +92,7 @@ fn is_other(row: &Row) -> bool
         && !is_number(row, 1, 2)
 }
 
-/// Whether one of the rows is that of another version.
+/// Whether one of the rows has another version than 2.
 pub(crate) fn has_other(rows: &[Row]) -> bool
     ensures { Decides result (HasOther rows.now) }
 {
@@ -103,7 +104,7 @@ pub(crate) fn has_other(rows: &[Row]) -> bool
     false
 }
 
-/// Whether these two say the version and this depth limit.
+/// Whether the first row has version 2 and the second this depth limit.
 fn are_pair(version: &Row, depth: &Row, limit: u32) -> bool
     ensures { Decides result ((version.now ≡ Text (codes "version") ∷ Int (pos 2) ∷ [])
         × (depth.now ≡ Text (codes "depth") ∷ Int (pos limit) ∷ [])) }
@@ -111,7 +112,7 @@ fn are_pair(version: &Row, depth: &Row, limit: u32) -> bool
     is_meta(version, "version", 2) && is_meta(depth, "depth", limit)
 }
 
-/// Whether these are the two rows of a store with this depth limit.
+/// Whether these are the two rows of a store with this depth limit, in any order.
 #[tactic(auto, using(crate::proofs::Pairs::one_order, crate::proofs::Pairs::other_order, crate::proofs::Pairs::either_order))]
 fn is_whole(rows: &[Row], limit: u32) -> bool
     ensures { Decides result (IsWhole limit rows.now) }
@@ -122,7 +123,7 @@ fn is_whole(rows: &[Row], limit: u32) -> bool
     }
 }
 
-/// The depth limit of a store of which these are the two rows.
+/// Returns the depth limit in the two rows about a store; None if they aren't those of a store.
 fn depth_of(rows: &[Row]) -> Option<u32>
     ensures some { IfSome result (λ depth. (is_depth depth ≡ true) × IsWhole depth rows.now) }
     ensures none { IfNone result ((depth : ℕ) → is_depth depth ≡ true → ¬ IsWhole depth rows.now) }
@@ -136,7 +137,7 @@ fn depth_of(rows: &[Row]) -> Option<u32>
     None
 }
 
-/// What the rows of `meta` say.
+/// Checks the rows of `meta`.
 fn judge(rows: &[Row]) -> Identity
     ensures { IsIdentity rows.now result }
 {
@@ -152,7 +153,7 @@ fn judge(rows: &[Row]) -> Identity
     }
 }
 
-/// What a store of the first so many tables, of which `meta` is one, says of itself.
+/// Reads and checks `meta` in a store of the first `made` tables.
 pub(crate) fn identity_of<S: Alter>(
     conn: &mut Connection<S>,
     made: usize,
@@ -172,14 +173,14 @@ pub(crate) fn identity_of<S: Alter>(
     Ok(judge(&rows))
 }
 
-/// Whether it is the row of the setup with this number and text.
+/// Whether the row of `setup` has this number and text.
 fn is_setup(row: &Row, id: u64, text: &str) -> bool
     ensures { Decides result (row.now ≡ setup_shown (record { id = pos id; text = text.now })) }
 {
     row.column_count() == 2 && is_number(row, 0, id) && is_text(row, 1, text)
 }
 
-/// Whether these are the rows of the setup with these texts, in the order of their numbers.
+/// Whether these are the rows of `setup` with these texts, numbered from 1.
 fn are_setup(rows: &[Row], texts: &[String]) -> bool
     ensures { Decides result (rows.now ≡ setup_rows_shown (map string_bytes texts.now)) }
 {
@@ -194,7 +195,8 @@ fn are_setup(rows: &[Row], texts: &[String]) -> bool
     true
 }
 
-/// Whether the setup of a store of the first so many tables has these texts: it has none where its table isn't there.
+/// Returns whether the setup of a store of the first `made` tables has these texts. Without its
+/// table it has none.
 fn has_texts<S: Alter>(
     conn: &mut Connection<S>,
     texts: &[String],
@@ -217,7 +219,9 @@ fn has_texts<S: Alter>(
     Ok(are_setup(&rows, texts))
 }
 
-/// Whether a store of the first so many tables has this setup: it has none where its table isn't there.
+/// Returns whether a store of the first `made` tables has this setup. Without the table `setup` it
+/// has no rows of one. The inner fault is NoMemory, the outer error that of a failed statement. The
+/// store stays as it was.
 pub(crate) fn has_setup<S: Alter>(
     alloc: Global,
     conn: &mut Connection<S>,

@@ -1,4 +1,4 @@
-//! Whether a row is none of those that are wanted.
+//! Finds *strangers*: rows that can't be read, and that no ledger could have.
 ghost use Rattle.std.specs.Prelude.{◌≡◌, ◌<◌, true, length, map, IsTrue, IfOk, IfErr};
 ghost use Rattle.std.specs.Bool.{Decides};
 ghost use Rattle.std.specs.List.Sorted.{IsPermutation};
@@ -20,7 +20,7 @@ use sqlite::Row;
 use sqlite_value::value::ValueRef;
 use std::alloc::Global;
 
-/// Whether the row's cell is this day.
+/// Whether the cell is this day.
 fn is_day(row: &Row, at: usize, day: Day) -> bool
     requires { at < length row.now }
     ensures { Decides result (column row.now at ≡ Int day) }
@@ -31,7 +31,7 @@ fn is_day(row: &Row, at: usize, day: Day) -> bool
     }
 }
 
-/// Whether it is the row of this spot.
+/// Whether the row is that of this spot.
 fn is_spot(row: &Row, spot: &NewSpot) -> bool
     ensures { Decides result (row.now ≡ cells_of_spot spot.now) }
 {
@@ -43,7 +43,7 @@ fn is_spot(row: &Row, spot: &NewSpot) -> bool
         && is_day(row, 4, spot.spot.day)
 }
 
-/// Whether it is the row of this line.
+/// Whether the row is that of this loan line.
 fn is_line(row: &Row, line: &(LineKey, LineStage)) -> bool
     ensures { Decides result (row.now ≡ cells_of_line line.now) }
 {
@@ -53,14 +53,14 @@ fn is_line(row: &Row, line: &(LineKey, LineStage)) -> bool
         && is_number(row, 2, u64::from(line.1.number()))
 }
 
-/// Whether it is the row of this last day.
+/// Whether the row is that of this last day.
 fn is_term(row: &Row, term: &(LoanCode, Day)) -> bool
     ensures { Decides result (row.now ≡ cells_of_term term.now) }
 {
     row.column_count() == 2 && is_text(row, 0, term.0.as_str()) && is_day(row, 1, term.1)
 }
 
-/// Whether it is the row of none of these spots.
+/// Whether the row is that of none of these spots.
 fn is_no_spot(row: &Row, wanted: &[NewSpot]) -> bool
     ensures { Decides result (IsNone cells_of_spot (length wanted.now) wanted.now row.now) }
 {
@@ -72,7 +72,7 @@ fn is_no_spot(row: &Row, wanted: &[NewSpot]) -> bool
     true
 }
 
-/// Whether it is the row of none of these lines.
+/// Whether the row is that of none of these loan lines.
 fn is_no_line(row: &Row, wanted: &[(LineKey, LineStage)]) -> bool
     ensures { Decides result (IsNone cells_of_line (length wanted.now) wanted.now row.now) }
 {
@@ -84,7 +84,7 @@ fn is_no_line(row: &Row, wanted: &[(LineKey, LineStage)]) -> bool
     true
 }
 
-/// Whether it is the row of none of these last days.
+/// Whether the row is that of none of these last days.
 fn is_no_term(row: &Row, wanted: &[(LoanCode, Day)]) -> bool
     ensures { Decides result (IsNone cells_of_term (length wanted.now) wanted.now row.now) }
 {
@@ -96,7 +96,7 @@ fn is_no_term(row: &Row, wanted: &[(LoanCode, Day)]) -> bool
     true
 }
 
-/// Whether the row can't be read as a spot, and is none of the wanted ones.
+/// Whether the row can't be read as a spot, and is none of the wanted spots.
 fn is_strange_spot(row: &Row, wanted: &[NewSpot]) -> bool
     ensures { Decides result
         (IsNoSpot row.now × IsNone cells_of_spot (length wanted.now) wanted.now row.now) }
@@ -107,7 +107,7 @@ fn is_strange_spot(row: &Row, wanted: &[NewSpot]) -> bool
     }
 }
 
-/// Whether one of the rows is such a one.
+/// Whether any row is a stranger among spots.
 fn has_strange_spot(rows: &[Row], wanted: &[NewSpot]) -> bool
     ensures { Decides result (HasStranger IsNoSpot (map cells_of_spot wanted.now) rows.now) }
 {
@@ -119,7 +119,7 @@ fn has_strange_spot(rows: &[Row], wanted: &[NewSpot]) -> bool
     false
 }
 
-/// The same of lines.
+/// Whether the row can't be read as a loan line, and is none of the wanted ones.
 fn is_strange_line(row: &Row, wanted: &[(LineKey, LineStage)]) -> bool
     ensures { Decides result
         (IsNoLine row.now × IsNone cells_of_line (length wanted.now) wanted.now row.now) }
@@ -130,7 +130,7 @@ fn is_strange_line(row: &Row, wanted: &[(LineKey, LineStage)]) -> bool
     }
 }
 
-/// The same of lines.
+/// Whether any row is a stranger among loan lines.
 fn has_strange_line(rows: &[Row], wanted: &[(LineKey, LineStage)]) -> bool
     ensures { Decides result (HasStranger IsNoLine (map cells_of_line wanted.now) rows.now) }
 {
@@ -142,7 +142,7 @@ fn has_strange_line(rows: &[Row], wanted: &[(LineKey, LineStage)]) -> bool
     false
 }
 
-/// The same of last days.
+/// Whether the row can't be read as a last day, and is none of the wanted ones.
 fn is_strange_term(row: &Row, wanted: &[(LoanCode, Day)]) -> bool
     ensures { Decides result
         (IsNoTerm row.now × IsNone cells_of_term (length wanted.now) wanted.now row.now) }
@@ -153,7 +153,7 @@ fn is_strange_term(row: &Row, wanted: &[(LoanCode, Day)]) -> bool
     }
 }
 
-/// The same of last days.
+/// Whether any row is a stranger among last days.
 fn has_strange_term(rows: &[Row], wanted: &[(LoanCode, Day)]) -> bool
     ensures { Decides result (HasStranger IsNoTerm (map cells_of_term wanted.now) rows.now) }
 {
@@ -165,7 +165,8 @@ fn has_strange_term(rows: &[Row], wanted: &[(LoanCode, Day)]) -> bool
     false
 }
 
-/// Whether one of the rows that were read can't be a row of the ledger.
+/// Returns whether any of the store's rows is a stranger: then they aren't the rows of the ledger.
+/// Fault: NoMemory; the contract allows Store, too.
 pub(crate) fn are_strange(
     alloc: Global,
     spots: &[Row],

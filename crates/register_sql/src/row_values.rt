@@ -1,4 +1,4 @@
-//! Spots, lines and last days out of their rows.
+//! Reads spots, loan lines and last days from their rows.
 ghost use Rattle.std.specs.Prelude.{◌≡◌, ◌≢◌, ◌<◌, ◌^◌, ℕ, ℤ, pos, List, length, IfSome, IfNone};
 ghost use Rattle.sqlite.specs.Order.{column};
 ghost use Rattle.sqlite.specs.declared.types.Value.TheVariants.{Int, Text};
@@ -13,7 +13,7 @@ use register_store::LineKey;
 use sqlite::Row;
 use sqlite_value::value::ValueRef;
 
-/// The number in a cell; none where it has no number.
+/// The integer in a cell; None if it holds something else.
 fn int_at(row: &Row, at: usize) -> Option<i64>
     requires { at < length row.now }
     ensures read { IfSome result (λ n. column row.now at ≡ Int n) }
@@ -25,7 +25,7 @@ fn int_at(row: &Row, at: usize) -> Option<i64>
     }
 }
 
-/// The number of 32 bits in a cell.
+/// The unsigned 32-bit number in a cell.
 fn u32_at(row: &Row, at: usize) -> Option<u32>
     requires { at < length row.now }
     ensures read { IfSome result (λ n. column row.now at ≡ Int (pos n)) }
@@ -65,7 +65,7 @@ fn loan_at(row: &Row, at: usize) -> Option<LoanCode>
     }
 }
 
-/// The spot of a row; none where it is that of no spot.
+/// Reads the row of a spot; None if it is that of no possible spot.
 pub(crate) fn spot_of(row: &Row) -> Option<NewSpot>
     ensures read { IfSome result (λ spot. spot_cells (spot_row spot) ≡ row.now) }
     ensures fits { IfSome result FitsSpot }
@@ -84,7 +84,7 @@ pub(crate) fn spot_of(row: &Row) -> Option<NewSpot>
     })
 }
 
-/// The line of a row; none where it is that of no line.
+/// Reads the row of a loan line; None if it is that of no possible loan line.
 pub(crate) fn line_of(row: &Row) -> Option<(LineKey, LineStage)>
     ensures read { IfSome result
         (λ e. line_cells (line_row (record { loan = e.0.loan; object = e.0.object; stage = e.1 }))
@@ -102,7 +102,7 @@ pub(crate) fn line_of(row: &Row) -> Option<(LineKey, LineStage)>
     Some((LineKey { loan, object }, stage))
 }
 
-/// The last day of a row, with its loan; none where it is that of no loan's last day.
+/// Reads the row of a loan and its last day; None if it is that of no possible last day.
 pub(crate) fn term_of(row: &Row) -> Option<(LoanCode, Day)>
     ensures read { IfSome result (λ e. term_cells (record { loan = e.0; day = e.1 }) ≡ row.now) }
     ensures fits { IfSome result (λ e. FitsTerm (record { loan = e.0; day = e.1 })) }

@@ -1,4 +1,4 @@
-//! A store of version 1 becomes one of version 2, in one transaction.
+//! Turns the tables of version 1 into those of version 2, in one transaction.
 ghost use Rattle.std.specs.Prelude.{◌≡◌, OnOk, OnErr, IsTrue, false};
 ghost use Rattle.sqlite.specs.Held.{state};
 ghost use Rattle.sqlite.specs.State.{HasCleanDisk, Survives};
@@ -15,10 +15,10 @@ use crate::put::{put_some_term, run};
 use posting_core::Entry;
 use sqlite::{Alter, Connection, Error, Transaction};
 
-/// The depth limit of a store of version 1, which it keeps.
+/// The depth limit of a store of version 1. A migrated store keeps it.
 const FIRST_DEPTH: u32 = 8;
 
-/// Takes out what the store says of itself.
+/// Removes the rows about the store.
 fn clear_metas<S: Alter>(tx: &mut Transaction<'_, S>) -> Result<(), Error>
     requires made { IsMaking 6 (state S.Store tx.old.conn.now) }
     requires apart { HasCleanDisk (state S.Store tx.old.conn.now)
@@ -33,7 +33,7 @@ fn clear_metas<S: Alter>(tx: &mut Transaction<'_, S>) -> Result<(), Error>
     run(tx, "DELETE FROM meta", &[])
 }
 
-/// Makes the store say that it is of version 2, with the depth limit that it had.
+/// Replaces the rows about the store with version 2 and the old depth limit.
 fn renew_metas<S: Alter>(tx: &mut Transaction<'_, S>) -> Result<(), Error>
     requires made { IsMaking 6 (state S.Store tx.old.conn.now) }
     requires apart { HasCleanDisk (state S.Store tx.old.conn.now)
@@ -49,7 +49,7 @@ fn renew_metas<S: Alter>(tx: &mut Transaction<'_, S>) -> Result<(), Error>
     add_metas(tx, FIRST_DEPTH)
 }
 
-/// Makes the table of last days, which is empty, and the store say that it is of version 2.
+/// Creates the table of last days, empty, and sets version 2.
 fn raise<S: Alter>(tx: &mut Transaction<'_, S>) -> Result<(), Error>
     requires made { IsMaking 5 (state S.Store tx.old.conn.now) }
     requires apart { HasCleanDisk (state S.Store tx.old.conn.now)
@@ -65,7 +65,8 @@ fn raise<S: Alter>(tx: &mut Transaction<'_, S>) -> Result<(), Error>
     renew_metas(tx)
 }
 
-/// Puts the last day that each entry gives a loan, oldest first, in the place of the one before.
+/// Writes the last days that the entries set. They come oldest first, so that a later one replaces
+/// an earlier one.
 fn put_terms<S: Alter>(tx: &mut Transaction<'_, S>, entries: &[Entry]) -> Result<(), Error>
     requires { IsWithin (state S.Store tx.old.conn.now) }
     ensures same_reference { tx.new.conn.ghost_name ≡ tx.old.conn.ghost_name }
@@ -80,7 +81,7 @@ fn put_terms<S: Alter>(tx: &mut Transaction<'_, S>, entries: &[Entry]) -> Result
     Ok(())
 }
 
-/// Makes all that a migration changes.
+/// Makes all changes of a migration.
 fn lift<S: Alter>(tx: &mut Transaction<'_, S>, entries: &[Entry]) -> Result<(), Error>
     requires made { IsMaking 5 (state S.Store tx.old.conn.now) }
     requires metas { HasCleanDisk (state S.Store tx.old.conn.now)
@@ -100,8 +101,9 @@ fn lift<S: Alter>(tx: &mut Transaction<'_, S>, entries: &[Entry]) -> Result<(), 
     put_terms(tx, entries)
 }
 
-/// Migrates a store of version 1 with these entries, oldest first, in one transaction: a crash leaves the rows from before
-/// the call or those of version 2, and after an Ok the latter.
+/// Migrates a store of version 1 with these entries, oldest first, in one transaction. After an
+/// error the database is as it was, if the connection is still open. Once the call has returned, a
+/// crash leaves the rows from before it, or those of version 2; after an Ok, the latter.
 pub(crate) fn lift_whole<S: Alter>(conn: &mut Connection<S>, entries: &[Entry]) -> Result<(), Error>
     requires part { HasCleanDisk (state S.Store conn.old) → IsPart 5 (state S.Store conn.old) }
     requires metas { HasCleanDisk (state S.Store conn.old)

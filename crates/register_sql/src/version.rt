@@ -1,4 +1,4 @@
-//! Of which version a store says that it is.
+//! Finds the version of a store, by its rows in `meta`.
 ghost use Rattle.std.specs.Prelude.{◌≡◌, ◌≤◌, pos, codes, false, IfOk, OnOk};
 ghost use Rattle.std.specs.Bool.{Decides};
 ghost use Rattle.std.specs.List.Sorted.{IsPermutation};
@@ -14,22 +14,22 @@ use crate::identity::{has_other, is_meta};
 use crate::queries::{Query, read};
 use sqlite::{Alter, Connection, Error, Row};
 
-/// What the rows of `meta` say of the version.
+/// The version of a store.
 #[derive(Clone, Copy, Debug, PartialEq, Eq)]
 pub(crate) enum Age {
-    /// Nothing: the store is new.
+    /// `meta` has no rows: the store is new.
     New,
-    /// It is version 2.
+    /// A row has version 2.
     Second,
-    /// It is version 1, with the depth limit 8.
+    /// The rows are version 1 and the depth limit 8.
     First,
-    /// It is another version.
+    /// A row has another version, and none has 1 or 2.
     Other,
-    /// They aren't the version and a depth limit alone.
+    /// Anything else.
     Damaged,
 }
 
-/// Whether no row says this version.
+/// Whether no row has this version.
 fn lacks_version(rows: &[Row], version: u32) -> bool
     ensures { Decides result (LacksRow version rows.now) }
 {
@@ -41,7 +41,7 @@ fn lacks_version(rows: &[Row], version: u32) -> bool
     true
 }
 
-/// Whether these two say version 1 and the depth limit 8.
+/// Whether the first row has version 1 and the second the depth limit 8.
 fn are_first_pair(version: &Row, depth: &Row) -> bool
     ensures { Decides result
         ((version.now ≡ meta_cells (version_row 1))
@@ -50,7 +50,7 @@ fn are_first_pair(version: &Row, depth: &Row) -> bool
     is_meta(version, "version", 1) && is_meta(depth, "depth", 8)
 }
 
-/// Whether these are the two rows of a store of version 1.
+/// Whether these are the two rows of a store of version 1, in any order.
 fn are_first(rows: &[Row]) -> bool
     ensures { Decides result (IsFirst rows.now) }
 {
@@ -60,14 +60,14 @@ fn are_first(rows: &[Row]) -> bool
     }
 }
 
-/// Whether a version is said, but neither 1 nor 2, where it isn't 2.
+/// Whether a row has a version other than 1 and 2. The caller has checked that none has 2.
 fn says_another(rows: &[Row]) -> bool
     ensures { Decides result (HasOther rows.now × LacksRow 1 rows.now) }
 {
     has_other(rows) && lacks_version(rows, 1)
 }
 
-/// What the rows of `meta` say of the version.
+/// Finds the version in the rows of `meta`.
 fn age_of(rows: &[Row]) -> Age
     ensures { IsAged rows.now result }
 {
@@ -86,7 +86,7 @@ fn age_of(rows: &[Row]) -> Age
     Age::Damaged
 }
 
-/// What a store of the first so many tables, of which `meta` is one, says of its version.
+/// Reads the version of a store of the first `made` tables. The store stays as it was.
 pub(crate) fn age_in<S: Alter>(conn: &mut Connection<S>, made: usize) -> Result<Age, Error>
     requires some { 1 ≤ made }
     requires few { made ≤ 6 }

@@ -1,4 +1,4 @@
-//! The entries of a store of version 1, which knows neither extensions nor the verdict that refuses them.
+//! Reads the entries of a store of version 1, which has no extension and no verdict NotLater.
 ghost use Rattle.std.specs.Prelude.{◌≡◌, ◌≢◌, true, false, map, reverse, All, ℕ, List, IfOk, IfErr, OnOk};
 ghost use Rattle.sqlite.specs.Held.{state};
 ghost use Rattle.sqlite.specs.State.{HasCleanDisk};
@@ -18,14 +18,15 @@ use register_store::StoreFault;
 use sqlite::{Alter, Connection, Error, Row};
 use std::alloc::Global;
 
-/// Whether version 1 knows the message's kind and the verdict.
+/// Whether version 1 has the message's kind and the verdict.
 fn is_early(entry: &Entry) -> bool
     ensures { result ≡ is_early entry.now }
 {
     !matches!(entry.message, Message::Extend { .. }) && !matches!(entry.verdict, Verdict::NotLater)
 }
 
-/// The entry that the row keeps under this number, where version 1 knows it.
+/// Returns the entry of version 1 in row `number`, counted from 1. Faults: Damaged(number) if the
+/// row is that of no such entry of these stations; NoMemory.
 fn early_entry(alloc: Global, row: &Row, number: u64, stations: u32) -> Result<Entry, StoreFault>
     ensures kept { IfOk result
         (λ entry. (p : stored.PostingRow) → posting_shown p ≡ row.now
@@ -47,8 +48,8 @@ fn early_entry(alloc: Global, row: &Row, number: u64, stations: u32) -> Result<E
     }
 }
 
-/// The entries that the rows keep, oldest first; Damaged at the first row that keeps none of these stations and of version 1
-/// under its number.
+/// Returns the entries in the rows, oldest first. Faults: Damaged with the number of the first row
+/// that is no entry of version 1 of these stations; NoMemory.
 fn early_entries(alloc: Global, rows: &[Row], stations: u32) -> Result<Vec<Entry>, StoreFault>
     ensures kept { IfOk result
         (λ entries. (ps : List stored.PostingRow) → map posting_shown ps ≡ rows.now
@@ -69,7 +70,9 @@ fn early_entries(alloc: Global, rows: &[Row], stations: u32) -> Result<Vec<Entry
     Ok(entries)
 }
 
-/// The entries of a store of version 1, oldest first, or why it can't list them.
+/// Returns the entries of a store of version 1, oldest first. The inner fault is Damaged with the
+/// number of the first wrong row, or NoMemory. The outer error is that of a failed statement. The
+/// store stays as it was.
 pub(crate) fn early_list<S: Alter>(
     alloc: Global,
     conn: &mut Connection<S>,

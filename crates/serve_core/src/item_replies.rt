@@ -1,4 +1,4 @@
-//! The hub asked about one item.
+//! Passes one item to the hub.
 ghost use Rattle.std.specs.Prelude.{◌≡◌, ◌++◌, ◌∷◌, [], List, true, IfOk, IsErrOf, OnOk, OnErr};
 ghost use Rattle.hub_core.specs.declared.hub.answer.Arrival.{Arrival};
 ghost use Rattle.posting_core.specs.declared.entry.Entry.{Entry};
@@ -12,7 +12,7 @@ use hub_core::{Arrival, Hub, HubFault};
 use register_store::Register;
 use std::alloc::Global;
 
-/// Asks the hub an item of a station. A Bad item is not for the hub.
+/// Passes an item of a station to the hub. A faulty line isn't passed on.
 fn reply_to_item<R: Register>(
     alloc: Global,
     hub: &mut Hub<R>,
@@ -54,8 +54,9 @@ fn reply_to_item<R: Register>(
     }
 }
 
-/// Asks the hub an item of a station, and adds it to the log with its reply. The copy of the item
-/// and the log's room come before the hub is asked. After a fault the log is as it was.
+/// Passes an item of a station to the hub, and adds it to the log with its reply. The item is
+/// copied, and the log's room is made, before the hub is called: after that the line can always be
+/// added. After a fault the log is as it was.
 pub(crate) fn log_item<R: Register>(
     alloc: Global,
     hub: &mut Hub<R>,

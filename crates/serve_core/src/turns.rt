@@ -1,4 +1,4 @@
-//! Turning until the threads have ended.
+//! Takes turns until the threads have ended.
 ghost use Rattle.std.specs.Prelude.{◌≡◌, ℕ, List, [], ◌∷◌, ◌++◌, true, vec_len, IsErrOf, OnOk, OnErr};
 ghost use Rattle.hub_core.specs.Faults.{CountsStore};
 ghost use Rattle.serve_core.specs.declared.item.Item.{Item};
@@ -26,14 +26,14 @@ fn all_ended(marks: &[Arc<AtomicBool>]) -> bool {
     true
 }
 
-/// Leaves the processor to other threads where nothing was taken.
+/// Rests if nothing was taken.
 fn rest_if_none(rt: &impl Wait, taken: u32) {
     if taken == 0 {
         rest(rt, 1);
     }
 }
 
-/// Turns until all threads have ended, or up to a fault.
+/// Takes turns until all threads have ended, or up to a fault.
 pub(crate) fn turn_until<R: Register>(
     rt: &impl Wait,
     alloc: Global,
@@ -63,7 +63,7 @@ pub(crate) fn turn_until<R: Register>(
     unreachable!()
 }
 
-/// Empties the lanes until all threads have ended.
+/// Empties the lanes until all threads have ended. Otherwise a thread could wait for room forever.
 pub(crate) fn drop_until(rt: &impl Wait, intake: &mut Intake, marks: &[Arc<AtomicBool>])
     ensures { TakesSome intake.old intake.new [] }
 {
@@ -77,7 +77,7 @@ pub(crate) fn drop_until(rt: &impl Wait, intake: &mut Intake, marks: &[Arc<Atomi
     unreachable!()
 }
 
-/// Empties the lanes until the threads that were started have ended; what they hand back is dropped.
+/// Empties the lanes until the threads that were started have ended, and drops what they hand back.
 pub(crate) fn give_up<F: Feed, T: Threads + Wait>(
     rt: &T,
     intake: &mut Intake,
