@@ -36,4 +36,3 @@ mod WorkedFirst
 pub mod Runs
 pub mod Blank
 pub mod Newness
-pub mod Crashes

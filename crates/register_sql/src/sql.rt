@@ -331,6 +331,7 @@ impl<S: Alter> Register for SqlRegister<S> {
     /// a crash leaves a database that could be left before, or one with the entry and all its
     /// changes. If the register had stopped before, the fault is Store.
     fn post(&mut self, alloc: Global, entry: &Entry, changes: &Changes) -> Result<(), StoreFault>
+        requires { self.old.bound ≡ true }
         ensures posted { OnOk result
             (Comes (in_store (state S.Store self.old.conn))
             (in_store (state S.Store self.new.conn)) (IsPosted entry.now changes.now)) }

@@ -43,7 +43,7 @@ returns-in_default g c = record {
       let part : IsPart made old = search rules in
       let it = c.in_ok-identity-in-Some.ensures.told clean in
       inr (old_by made some few old it.0 part it.1
-      (says_some it.0 c.in_ok-identity-in-Some.told it.2 c.in_default.not-New));
+      (says_some it.0 c.in_ok-identity-in-Some.identity it.2 c.in_default.not-New));
   same = c.in_ok-identity-in-Some.ensures.same;
   survives = c.identity_of.ensures.survives;
 }
