@@ -35,7 +35,7 @@ The last column names the function whose contract refuses the edit, and the clau
 contract, often that of a private function. A few edits keep every contract and are refused by a test; `checks/tested_edits`
 tries these, and `make test` doesn't.
 
-[TRIED](TRIED.md#what-rt-plant-says) lists what no contract can exclude. [CONTRIBUTING](../CONTRIBUTING.md) describes how to
+[PROMISES](PROMISES.md#what-is-neither-proved-nor-tested) lists what no contract can exclude. [CONTRIBUTING](../CONTRIBUTING.md) describes how to
 write an edit.
 """
 HEAD = re.compile(r"wrong: (.+)\nrefused by: ([\w:]+)((?:, \w+)*)\n(?:because: (.+)\n)?(?=file: )")

@@ -11,7 +11,8 @@ use Rattle.serde_json.specs.Read.{number_of, number_from}
 
 -- the parts of digits alone
 abbrev digits : List ℕ → Parts
-digits s = record { whole = s; point = false; fraction = []; exponent_negative = false; exponent = []; len = length s }
+digits s = record { whole = s; point = false; fraction = []; exponent_negative = false;
+    exponent = []; len = length s }
 
 scan_digits : (s : List ℕ) → IsNumeral 10 s → scan s ≡ digits s
 scan_digits s is =
@@ -29,7 +30,8 @@ no_minus : (s : List ℕ) → IsNumeral 10 s → (slice_index s 0 == 45) ≡ fal
 no_minus [] is = absurd (let none = is.0 in omega arith)
 no_minus (d ∷ ds) is = let range = digit_from_value d is.1.0 in grind (arith, nat_tests)
 
-pub digits_read : (s : List ℕ) (n : ℕ) → IsNumeral 10 s → n ≡ digits_value 10 s → n < 2 ^ 64 → (if nat_lt n (2 ^ 64) then Some (unsigned n) else None) ≡ number_of s
+pub digits_read : (s : List ℕ) (n : ℕ) → IsNumeral 10 s → n ≡ digits_value 10 s → n < 2 ^ 64
+    → (if nat_lt n (2 ^ 64) then Some (unsigned n) else None) ≡ number_of s
 unfolding number_of
 digits_read s n is value less =
     let some : nat_lt 0 (length s) ≡ true = let long = is.0 in grind (arith, nat_tests) in

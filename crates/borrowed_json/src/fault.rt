@@ -1,14 +1,14 @@
-//! Why a text is no value.
+//! Why bytes are rejected as a JSON value.
 use bumpalo::ResetError;
 use json::Invalid;
 use std::alloc::{AllocError, AllocFailed};
 
-/// Why bytes could not be read.
+/// Why bytes are rejected.
 #[derive(Clone, Copy, Debug, PartialEq, Eq)]
 pub enum TextFault {
-    /// They are no UTF-8, no JSON, nested too deep, or have a number out of range.
+    /// They are not UTF-8, not JSON, nested too deep, or have a number that is out of range.
     NotJson,
-    /// A growth was refused.
+    /// Memory could not be allocated.
     NoMemory,
 }
 

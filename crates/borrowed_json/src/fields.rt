@@ -1,15 +1,16 @@
-//! What is read of a value, whether it owns its text or borrows it.
+//! Access to the fields of a JSON value, whether it owns its text or borrows it.
 ghost use Rattle.std.specs.Prelude.{◌≡◌, is_some, map, option_map, option_and_then};
 ghost use Rattle.serde_json.specs.Data.{Data};
 ghost use Rattle.serde_json.specs.Find.{get, as_number, as_str, as_array, as_object, as_u64};
 ghost use Rattle.serde_json.specs.View.{items_of};
 
-/// A JSON value, as its fields are read.
+/// A JSON value whose fields can be read. A method returns `None` for a value of another type.
 pub trait Fields {
-    /// The data that it stands for.
+    /// The data that the value stands for.
     ghost seen: { Self → Data };
 
-    /// The value of a name, where this is an object that has it; of a name that came twice the last.
+    /// The value at a key, if this is an object that has it. If a key occurs twice, the last value
+    /// counts.
     fn at(&self, name: &str) -> Option<&Self>
         ensures { option_map (λ v. seen v.now) result ≡ get name.now (seen self.now) };
 
@@ -17,15 +18,15 @@ pub trait Fields {
     fn has_members(&self) -> bool
         ensures { result ≡ is_some (as_object (seen self.now)) };
 
-    /// The text of a string.
+    /// The text, if this is a string.
     fn text(&self) -> Option<&str>
         ensures { option_map (λ s. s.now) result ≡ as_str (seen self.now) };
 
-    /// The whole number of 64 bits that this is.
+    /// The number, if this is a whole number from 0 to 2^64 - 1.
     fn whole_number(&self) -> Option<u64>
         ensures { result ≡ option_and_then as_u64 (as_number (seen self.now)) };
 
-    /// The items of an array.
+    /// The items, if this is an array.
     fn items(&self) -> Option<&[Self]>
         ensures { option_map (λ v. items_of (map seen v.now)) result
             ≡ as_array (seen self.now) };

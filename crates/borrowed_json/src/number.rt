@@ -1,4 +1,4 @@
-//! Numbers read.
+//! Reads the numbers of a JSON text.
 ghost use Rattle.std.specs.Prelude.{◌≡◌, ◌==◌, ◌<◌, length, true, false, IsTrue};
 ghost use Rattle.std.specs.Prelude.{IfSome, option_map, slice_index};
 ghost use Rattle.std.specs.Str.Parse.{IsNumeral, digits_value};
@@ -8,8 +8,8 @@ ghost use Rattle.serde_json.specs.View.{number_view};
 use fast_float::{Numeral, parse_u64};
 use serde_json::Number;
 
-/// The number that a token of JSON writes, where it is in range. Most are digits alone, in which no point and no exponent
-/// have to be looked for.
+/// The number of a JSON number token, or `None` if it is out of range. Most tokens are only digits,
+/// so these are tried first.
 pub(crate) fn number_of(text: &str) -> Option<Number>
     ensures { option_map number_view result ≡ number_of text.now }
 {
@@ -24,7 +24,8 @@ pub(crate) fn number_of(text: &str) -> Option<Number>
     }
 }
 
-/// The number that digits alone write, where it fits 64 bits.
+/// The number, if the token is only digits and fits 64 bits. After `None`, the token is read in
+/// full.
 fn digits_alone(bytes: &[u8]) -> Option<u64>
     ensures { IfSome result (λ n. IsNumeral 10 bytes.now × (n ≡ digits_value 10 bytes.now)) }
 {
@@ -34,7 +35,7 @@ fn digits_alone(bytes: &[u8]) -> Option<u64>
     parse_u64(bytes).ok()
 }
 
-/// The number of a numeral without a sign: whole where it fits 64 bits.
+/// The number without a sign: whole if it fits 64 bits, otherwise the nearest float.
 fn unsigned(numeral: &Numeral<'_>) -> Option<Number>
     ensures { option_map number_view result ≡ number_from false numeral.now }
 {
@@ -44,7 +45,8 @@ fn unsigned(numeral: &Numeral<'_>) -> Option<Number>
     }
 }
 
-/// The number of a numeral after a minus: whole where it fits 64 bits and isn't 0.
+/// The number after a minus sign: whole if it fits 64 bits and isn't 0, otherwise the nearest
+/// float.
 fn negative(numeral: &Numeral<'_>) -> Option<Number>
     ensures { option_map number_view result ≡ number_from true numeral.now }
 {
@@ -56,14 +58,14 @@ fn negative(numeral: &Numeral<'_>) -> Option<Number>
     nearest(true, numeral)
 }
 
-/// The nearest float, where it is finite.
+/// The nearest float, or `None` if it isn't finite.
 fn nearest(negative: bool, numeral: &Numeral<'_>) -> Option<Number>
     ensures { option_map number_view result ≡ float_of negative numeral.now }
 {
     Number::from_f64(numeral.to_float::<f64>(negative))
 }
 
-/// Whether a minus stands first.
+/// Whether the text starts with a minus sign.
 fn has_minus(bytes: &[u8]) -> bool
     ensures value { result ≡ (slice_index bytes.now 0 == 45) }
     ensures len { IsTrue result → 0 < length bytes.now }

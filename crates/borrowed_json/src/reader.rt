@@ -1,4 +1,4 @@
-//! Values read, in one pass over the tokens of a text.
+//! Reads values in one pass over the tokens of a text.
 ghost use Rattle.std.specs.Prelude.{◌≡◌, ◌<◌, length, Some, None, Err, IfOk, OnOk, IsUtf8};
 ghost use Rattle.json.specs.Json.{value, items, members};
 ghost use Rattle.serde_json.specs.Data.{no_members};
@@ -12,17 +12,19 @@ use bumpalo::collections::into_bump_slice;
 use json::{Reader, Token};
 use std::alloc::Global;
 
-/// How deep arrays and objects may nest, as serde_json reads them.
+/// How deep arrays and objects may nest: the limit of `serde_json`.
 const MAX_DEPTH: usize = 127;
 
-/// How many members of an object there is room for from the start.
+/// How many members a new object has room for.
 const MEMBERS: usize = 8;
 
 impl<'a> Value<'a> {
-    /// The value that bytes spell, as serde_json's `from_slice` reads them, else NotJson: they are
-    /// UTF-8 of one JSON value, in which arrays and objects nest at most 127 deep and every number
-    /// is in range. NoMemory may stand in place of any answer. The scratch serves one text after
-    /// the other.
+    /// Returns the value that the bytes spell, as `from_slice` of `serde_json` does. The scratch
+    /// can be used for the next text as soon as the value is gone.
+    ///
+    /// Fails with `NotJson` if the bytes are not UTF-8 of one JSON value, if arrays and objects
+    /// nest more than 127 deep, or if a number is out of range. Any call may fail with `NoMemory`
+    /// instead.
     pub fn from_slice(
         alloc: Global,
         bytes: &'a [u8],
@@ -36,7 +38,8 @@ impl<'a> Value<'a> {
         Value::in_lists(bytes, tokens, lists)
     }
 
-    /// The same, with the lists of arrays and objects in this arena.
+    /// The same as [`from_slice`](Self::from_slice), with the lists of arrays and objects in this
+    /// arena.
     pub fn in_lists(
         bytes: &'a [u8],
         tokens: &'a mut TokenScratch,
@@ -53,7 +56,7 @@ impl<'a> Value<'a> {
     }
 }
 
-/// The value that a text spells.
+/// Returns the value that a text spells.
 fn read_all<'a>(
     text: &'a str,
     tokens: &'a mut TokenScratch,
@@ -70,7 +73,8 @@ fn read_all<'a>(
     Ok(value)
 }
 
-/// The value that begins at the next token, with arrays and objects nested so deep at most.
+/// Returns the value that starts at the next token, with at most `depth` levels of arrays and
+/// objects.
 #[cycle(read)]
 #[inline(always)]
 fn read<'a>(lists: &'a Bump, reader: &mut Reader<'a>, depth: usize) -> Result<Value<'a>, TextFault>
@@ -105,7 +109,7 @@ fn read<'a>(lists: &'a Bump, reader: &mut Reader<'a>, depth: usize) -> Result<Va
     }
 }
 
-/// The items of an array that has begun.
+/// Returns the items of an array, after its opening bracket.
 #[cycle(read)]
 #[inline(never)]
 fn read_items<'a>(
@@ -128,7 +132,7 @@ fn read_items<'a>(
     Ok(into_bump_slice(found))
 }
 
-/// The members of an object that has begun, in the order of the text.
+/// Returns the members of an object, after its opening brace, in the order of the text.
 #[cycle(read)]
 #[inline(never)]
 fn read_members<'a>(

@@ -1,15 +1,15 @@
-//! The memory in which texts are read.
+//! Memory for reading one text after another.
 ghost use Rattle.std.specs.Prelude.{◌≡◌, IfErr};
 
 use crate::{TextFault, TokenScratch};
 use bumpalo::Bump;
 use std::alloc::Global;
 
-/// How many bytes there are for lists at the start: enough for ten messages that move a thing.
+/// The first size of the arena, in bytes: enough for ten messages that move a thing.
 const ROOM: usize = 4096;
 
-/// The memory in which texts are read, one after the other. Their lists stand in an arena, which is
-/// emptied once more than half of it is used.
+/// Memory for reading one text after another. The lists of a text are in an arena, which is emptied
+/// before a text once more than half of it is used.
 #[derive(Drop)]
 pub struct Scratch {
     tokens: TokenScratch,
@@ -17,7 +17,7 @@ pub struct Scratch {
 }
 
 impl Scratch {
-    /// Takes no memory.
+    /// An empty scratch. Takes no memory.
     pub fn new(alloc: Global) -> Scratch {
         Scratch {
             tokens: TokenScratch::new(alloc),
@@ -25,7 +25,7 @@ impl Scratch {
         }
     }
 
-    /// What a reader of tokens needs, and room for the lists of a text. The fault: NoMemory.
+    /// Lends the memory for the tokens and the lists of a text. Fails with `NoMemory`.
     pub(crate) fn lend(&mut self, alloc: Global) -> Result<(&mut TokenScratch, &Bump), TextFault>
         ensures { IfErr result (λ fault. fault ≡ TextFault.NoMemory) }
     {

@@ -1,4 +1,4 @@
-//! A value that borrows its text.
+//! A JSON value that borrows its text.
 ghost use Rattle.std.specs.Prelude.{◌≡◌, option_map};
 ghost use Rattle.serde_json.specs.Find.{get_member};
 ghost use Rattle.borrowed_json.specs.View.{view, members_view};
@@ -6,8 +6,8 @@ ghost use Rattle.borrowed_json.specs.View.{view, members_view};
 use crate::Fields;
 use serde_json::Number;
 
-/// A JSON value whose texts and lists are borrowed. An object keeps its members in the order of the
-/// text; of a key that comes twice the last counts.
+/// A JSON value that borrows its strings and lists. An object keeps its members in the order of the
+/// text. If a key occurs twice, the last value counts.
 #[derive(Clone, Copy)]
 pub enum Value<'a> {
     Null,
@@ -58,7 +58,7 @@ impl<'a> Fields for Value<'a> {
     }
 }
 
-/// The value of the last member of this name.
+/// The value of the last member with this name.
 fn find<'a>(members: &'a [(&'a str, Value<'a>)], name: &str) -> Option<&'a Value<'a>>
     ensures { option_map (λ v. view v.now) result
         ≡ get_member name.now (members_view members.now) }

@@ -26,11 +26,14 @@ abbrev pub following : ℕ → List ℕ → List (List ℕ)
 following mark [] = []
 following mark (b ∷ bs) = parts mark bs
 
-pub parts-front : (mark : ℕ) (text : List ℕ) → parts mark text ≡ front mark text ∷ following mark (rest mark text)
+pub parts-front : (mark : ℕ) (text : List ℕ)
+    → parts mark text ≡ front mark text ∷ following mark (rest mark text)
 parts-front mark [] = refl
 parts-front mark (b ∷ bs) =
     rw (take_while-cons (is_plain mark) b bs)
-    (elim (b == mark) as (λ t. cond t ([] ∷ parts mark bs) (in_first b (parts mark bs)) ≡ cond (not t) (b ∷ front mark bs) [] ∷ following mark (drop (length (cond (not t) (b ∷ front mark bs) [])) (b ∷ bs))) [
+    (elim (b == mark) as (λ t. cond t ([] ∷ parts mark bs) (in_first b (parts mark bs))
+        ≡ cond (not t) (b ∷ front mark bs) [] ∷ following mark
+        (drop (length (cond (not t) (b ∷ front mark bs) [])) (b ∷ bs))) [
       | true ↦ refl
       | false ↦ ap (in_first b) (parts-front mark bs)
     ])
@@ -51,36 +54,46 @@ swapped false false c = refl
 no_less : (a : ℕ) → nat_le (suc a) 0 ≡ false
 no_less a = grind (arith, nat_tests)
 
-tail_few : (p : List ℕ → Bool) (mark n : ℕ) (bs : List ℕ) → are_few p n (following mark bs) ≡ goes_on p mark n bs
+tail_few : (p : List ℕ → Bool) (mark n : ℕ) (bs : List ℕ)
+    → are_few p n (following mark bs) ≡ goes_on p mark n bs
 tail_few p mark n [] = let none : nat_le 0 n ≡ true = grind (arith, nat_tests) in rw none refl
 tail_few p mark n (b ∷ bs) = refl
 
 -- a text has a part at least
-pub are_few-zero : (p : List ℕ → Bool) (mark n : ℕ) (text : List ℕ) → n ≡ 0 → are_few p n (parts mark text) ≡ false
-are_few-zero p mark n text none = rw (none, parts-front mark text, no_less (length (following mark (rest mark text)))) refl
+pub are_few-zero : (p : List ℕ → Bool) (mark n : ℕ) (text : List ℕ) → n ≡ 0
+    → are_few p n (parts mark text) ≡ false
+are_few-zero p mark n text none =
+    rw (none, parts-front mark text, no_less (length (following mark (rest mark text)))) refl
 
-pub first_then : (p : List ℕ → Bool) (mark n : ℕ) (text : List ℕ) → are_few p (suc n) (parts mark text) ≡ p (front mark text) && goes_on p mark n (rest mark text)
+pub first_then : (p : List ℕ → Bool) (mark n : ℕ) (text : List ℕ)
+    → are_few p (suc n) (parts mark text) ≡ p (front mark text) && goes_on p mark n (rest mark text)
 first_then p mark n text =
     rw (parts-front mark text, le_step (length (following mark (rest mark text))) n)
-    (swapped (nat_le (length (following mark (rest mark text))) n) (p (front mark text)) (list_all p (following mark (rest mark text)))
+    (swapped (nat_le (length (following mark (rest mark text))) n) (p (front mark text))
+        (list_all p (following mark (rest mark text)))
     ∙ ap (λ t. p (front mark text) && t) (tail_few p mark n (rest mark text)))
 
-pub front_taken : (mark : ℕ) (text : List ℕ) → take (length (front mark text)) text ≡ front mark text
+pub front_taken : (mark : ℕ) (text : List ℕ)
+    → take (length (front mark text)) text ≡ front mark text
 front_taken mark text = rw (length-prefix_len (is_plain mark) text) refl
 
 -- a text that is cut before its first mark: its first part is one or not, and then the rest goes on
-pub few_by : (p : List ℕ → Bool) (mark n count : ℕ) (text first behind : List ℕ) (is_one : Bool) → (n ≡ 0 → ⊥) → count ≡ length (front mark text) → first ≡ take count text → behind ≡ drop count text → p first ≡ is_one
+pub few_by : (p : List ℕ → Bool) (mark n count : ℕ) (text first behind : List ℕ) (is_one : Bool)
+    → (n ≡ 0 → ⊥) → count ≡ length (front mark text) → first ≡ take count text
+    → behind ≡ drop count text → p first ≡ is_one
     → are_few p n (parts mark text) ≡ is_one && goes_on p mark (n - 1) behind
 few_by p mark zero count text first behind is_one some at cut rest_is told = absurd (some refl)
 few_by p mark (suc n) count text first behind is_one some at cut rest_is told =
     let less : suc n - 1 ≡ n = omega arith in
     rw (← told, cut, rest_is, at, less, front_taken mark text) (first_then p mark n text)
 
-pub goes_on-nil : (p : List ℕ → Bool) (mark n : ℕ) (bs : List ℕ) → length bs < 1 → goes_on p mark n bs ≡ true
+pub goes_on-nil : (p : List ℕ → Bool) (mark n : ℕ) (bs : List ℕ) → length bs < 1
+    → goes_on p mark n bs ≡ true
 goes_on-nil p mark n [] none = refl
 goes_on-nil p mark n (b ∷ bs) none = absurd (omega arith)
 
-pub goes_on-cons : (p : List ℕ → Bool) (mark n : ℕ) (bs : List ℕ) → 1 ≤ length bs → goes_on p mark n bs ≡ are_few p n (parts mark (drop 1 bs))
+pub goes_on-cons : (p : List ℕ → Bool) (mark n : ℕ) (bs : List ℕ) → 1 ≤ length bs
+    → goes_on p mark n bs ≡ are_few p n (parts mark (drop 1 bs))
 goes_on-cons p mark n [] some = absurd (omega arith)
 goes_on-cons p mark n (b ∷ bs) some = refl
 
@@ -89,28 +102,41 @@ pub following-nil : (mark : ℕ) (bs : List ℕ) → length bs < 1 → following
 following-nil mark [] none = refl
 following-nil mark (b ∷ bs) none = absurd (omega arith)
 
-pub following-cons : (mark : ℕ) (bs : List ℕ) → 1 ≤ length bs → following mark bs ≡ parts mark (drop 1 bs)
+pub following-cons : (mark : ℕ) (bs : List ℕ) → 1 ≤ length bs
+    → following mark bs ≡ parts mark (drop 1 bs)
 following-cons mark [] some = absurd (omega arith)
 following-cons mark (b ∷ bs) some = refl
 
-pub cut_by : (mark count : ℕ) (text first behind : List ℕ) → count ≡ length (front mark text) → first ≡ take count text → behind ≡ drop count text
+pub cut_by : (mark count : ℕ) (text first behind : List ℕ) → count ≡ length (front mark text)
+    → first ≡ take count text → behind ≡ drop count text
     → parts mark text ≡ first ∷ following mark behind
-cut_by mark count text first behind at cut rest_is = rw (cut, rest_is, at, front_taken mark text) (parts-front mark text)
+cut_by mark count text first behind at cut rest_is =
+    rw (cut, rest_is, at, front_taken mark text) (parts-front mark text)
 
 -- a slice from n on is all that follows
 pub all_taken : (n : ℕ) (bs : List ℕ) → take (length bs - n) (drop n bs) ≡ drop n bs
 all_taken n bs = rw (← length-drop n bs) (take-length (drop n bs))
 
-pub front_and_rest : (mark : ℕ) (bs : List ℕ) → length (front mark bs) + length (rest mark bs) ≡ length bs
-front_and_rest mark bs = omega (arith, length-prefix_len (is_plain mark) bs, length-drop (length (front mark bs)) bs, prefix_len-le-length (is_plain mark) bs)
+pub front_and_rest : (mark : ℕ) (bs : List ℕ)
+    → length (front mark bs) + length (rest mark bs) ≡ length bs
+front_and_rest mark bs = omega (arith, length-prefix_len (is_plain mark) bs,
+    length-drop (length (front mark bs)) bs, prefix_len-le-length (is_plain mark) bs)
 
 -- parts whose bytes pass a test that only ASCII passes
-pub ascii_parts : (mark : ℕ) (p : ℕ → Bool) → mark < 128 → ((b : ℕ) → p b ≡ true → b < 128) → (text : List ℕ) → list_all (list_all p) (parts mark text) ≡ true → IsAscii text
+pub ascii_parts : (mark : ℕ) (p : ℕ → Bool) → mark < 128 → ((b : ℕ) → p b ≡ true → b < 128)
+    → (text : List ℕ) → list_all (list_all p) (parts mark text) ≡ true → IsAscii text
 ascii_parts mark p low only [] h = IsAscii-nil
-ascii_parts mark p low only (b ∷ bs) h = elim (b == mark) as (λ t. b == mark ≡ t → list_all (list_all p) (cond t ([] ∷ parts mark bs) (in_first b (parts mark bs))) ≡ true → IsAscii (b ∷ bs)) [
-  | true ↦ λ e g. let is_mark = eqb-true b mark e in IsAscii-cons b bs (omega arith) (ascii_parts mark p low only bs g)
+ascii_parts mark p low only (b ∷ bs) h =
+    elim (b == mark) as (λ t. b == mark ≡ t
+    → list_all (list_all p) (cond t ([] ∷ parts mark bs) (in_first b (parts mark bs))) ≡ true
+    → IsAscii (b ∷ bs)) [
+  | true ↦ λ e g. let is_mark = eqb-true b mark e in
+      IsAscii-cons b bs (omega arith) (ascii_parts mark p low only bs g)
   | false ↦ λ e g.
-      let both : ((p b && list_all p (front mark bs)) ≡ true) × (list_all (list_all p) (following mark (rest mark bs)) ≡ true) = and_parts _ _ (rw (parts-front mark bs) at g) in
+      let both : ((p b && list_all p (front mark bs)) ≡ true)
+          × (list_all (list_all p) (following mark (rest mark bs)) ≡ true) =
+          and_parts _ _ (rw (parts-front mark bs) at g) in
       let first : (p b ≡ true) × (list_all p (front mark bs) ≡ true) = and_parts _ _ both.0 in
-      IsAscii-cons b bs (only b first.0) (ascii_parts mark p low only bs (rw (parts-front mark bs, first.1, both.1) refl))
+      IsAscii-cons b bs (only b first.0)
+          (ascii_parts mark p low only bs (rw (parts-front mark bs, first.1, both.1) refl))
 ] refl h

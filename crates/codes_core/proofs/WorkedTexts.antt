@@ -115,7 +115,8 @@ in_a_bay : map (λ place. lies_in place (codes "S1-A"))
     ≡ true ∷ false ∷ false ∷ []
 in_a_bay = refl
 
--- the last control byte below a blank, a blank, a tilde, the control byte above it, the first byte of é
+-- the last control byte below a blank, a blank, a tilde, the control byte above it, the first byte
+-- of é
 name_bytes : map is_name_byte (31 ∷ 32 ∷ 126 ∷ 127 ∷ 195 ∷ [])
     ≡ false ∷ true ∷ true ∷ false ∷ true ∷ []
 name_bytes = refl
@@ -127,14 +128,16 @@ no_bytes = refl
 
 -- the kinds of the longest codes
 longest_kinds : map thing_kind
-    (codes "2001.999999.999999.999999z" ∷ codes "L2001.999999.999999.999999z" ∷ codes "C999999" ∷ [])
+    (codes "2001.999999.999999.999999z" ∷ codes "L2001.999999.999999.999999z"
+        ∷ codes "C999999" ∷ [])
     ≡ Own ∷ Borrowed ∷ Container ∷ []
 longest_kinds = refl
 
 -- a name has up to 60 bytes
 longest_name : IsName (replicate 60 97)
 unfolding encode
-longest_name = record { utf8 = (replicate 60 97, (refl, refl)); some = leb-true 1 60 refl; few = leb-true 60 60 refl; plain = refl }
+longest_name = record { utf8 = (replicate 60 97, (refl, refl)); some = leb-true 1 60 refl;
+    few = leb-true 60 60 refl; plain = refl }
 
 too_long_a_name : ¬ IsName (replicate 61 97)
 too_long_a_name name = let few : 61 ≤ 60 = name.few in omega arith
@@ -145,4 +148,5 @@ empty_name name = let some : 0 < 0 = name.some in omega arith
 -- the bytes of no characters
 name_of_no_text : ¬ IsName (255 ∷ [])
 unfolding is_utf8 chars
-name_of_no_text name = let text : is_utf8 (255 ∷ []) ≡ true = is_utf8-from_IsUtf8 (255 ∷ []) name.utf8 in cc
+name_of_no_text name = let text : is_utf8 (255 ∷ []) ≡ true =
+    is_utf8-from_IsUtf8 (255 ∷ []) name.utf8 in cc

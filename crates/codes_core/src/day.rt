@@ -1,4 +1,4 @@
-//! Civil days.
+//! Days of the calendar: parsing, writing and day numbers.
 ghost use Rattle.std.specs.Prelude.{◌≡◌, true, false, ◌++◌, ◌-ℤ◌, ◌≤◌, ◌≤ℤ◌, pos, List, ℕ, None, Some, IfSome, IfNone, OnOk, OnErr, MatchResult, MatchOption, string_bytes};
 ghost use Rattle.jiff_core.specs.Calendar.{days_from_civil};
 ghost use Rattle.codes_core.specs.Day.{is_day_shape, is_civil, day_fault, day_number, first_number, last_number, IsOnlySpelling, day_text, date_text, two_digits};
@@ -10,15 +10,17 @@ use jiff_core::civil::Date;
 use std::alloc::Global;
 use std::marker::Model;
 
-/// The number of 0001-01-01.
+/// The day number of 0001-01-01.
 const FIRST: i64 = -719_162;
 
-/// The number of 9999-12-31.
+/// The day number of 9999-12-31.
 const LAST: i64 = 2_932_896;
 
-/// A civil day of the years 1 to 9999, seen as its number: 0 is 1970-01-01, and each later day is one more.
-/// Its spelling is the year in four digits, the month and the date in two, with dashes between (`2024-05-01`).
-/// Its default is day 0.
+/// A day of the years 1 to 9999 in the proleptic Gregorian calendar, spelled `YYYY-MM-DD`
+/// (`2024-05-01`).
+///
+/// Contracts see it as its day number: the days since 1970-01-01, negative before that. The default
+/// is day 0.
 #[derive(Clone, Copy, Debug, Default, PartialEq, Eq, PartialOrd, Ord, Hash)]
 pub struct Day {
     number: i32,
@@ -38,8 +40,10 @@ impl Model for Day {
 }
 
 impl Day {
-    /// The day that the bytes spell, else their first fault: Empty, BadShape, or NoSuchDay where the year is
-    /// 0000 or the calendar has no such day.
+    /// Returns the day that the bytes spell.
+    ///
+    /// Fails with the first of these that applies: `Empty`; `BadShape`, if the bytes are not digits
+    /// in the form `YYYY-MM-DD`; `NoSuchDay`, if the calendar has no such day or the year is 0000.
     pub fn parse(bytes: &[u8]) -> Result<Day, CodeFault>
         ensures exact { MatchResult result
             (λ day. (day ≡ day_number bytes.now) × (day_fault bytes.now ≡ None))
@@ -60,7 +64,8 @@ impl Day {
         }
     }
 
-    /// Appends the day's one spelling; after NoMemory the text is unchanged.
+    /// Appends the day as `YYYY-MM-DD`, its only spelling. Fails with `NoMemory`, and then `out` is
+    /// unchanged.
     pub fn write(&self, _alloc: Global, out: &mut String) -> Result<(), NoMemory>
         ensures ok { OnOk result
             ((text : List ℕ) × IsOnlySpelling text self.now
@@ -80,7 +85,7 @@ impl Day {
         Spelling::new(&text_of(date.year.unsigned_abs(), date.month, date.day))
     }
 
-    /// Its number: 0 is 1970-01-01.
+    /// The day number: the days since 1970-01-01.
     pub fn number(self) -> i32
         ensures number { result ≡ self }
         ensures spelled { IsOnlySpelling (day_text self) self }
@@ -88,7 +93,7 @@ impl Day {
         self.number
     }
 
-    /// The day of this number; none outside the years 1 to 9999.
+    /// Returns the day with this number, or `None` outside the years 1 to 9999.
     pub fn numbered(number: i64) -> Option<Day>
         ensures some { IfSome result (λ day. day ≡ number) }
         ensures none { IfNone result ((first_number ≤ℤ number) × (number ≤ℤ last_number) → ⊥) }
@@ -101,7 +106,7 @@ impl Day {
         })
     }
 
-    /// How many days this day is after the other, negative where it is before it.
+    /// Returns the days from `other` to this day, negative if this day is the earlier one.
     pub fn days_after(self, other: Day) -> i32
         ensures { result ≡ self -ℤ other }
     {
@@ -109,7 +114,7 @@ impl Day {
     }
 }
 
-/// The day of this year, month and date, where the calendar has it and the year is not 0.
+/// The day of this year, month and date. `None` if the calendar has no such day or the year is 0.
 fn civil_day(year: u16, month: u16, date: u16) -> Option<Day>
     requires year { year ≤ 9999 }
     requires month { month ≤ 99 }
@@ -139,7 +144,7 @@ fn is_day_shape(text: &[u8]) -> bool
         && are_digits(&text[8..])
 }
 
-/// The text of a civil day.
+/// The text `YYYY-MM-DD`.
 fn text_of(year: u16, month: u8, date: u8) -> [u8; 10]
     ensures { result ≡ date_text year month date }
 {
@@ -150,6 +155,7 @@ fn text_of(year: u16, month: u8, date: u8) -> [u8; 10]
     [y1, y2, y3, y4, b'-', m1, m2, b'-', d1, d2]
 }
 
+/// The last two digits of a number.
 fn two_digits(n: u16) -> [u8; 2]
     ensures { result ≡ two_digits n }
 {

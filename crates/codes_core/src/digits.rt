@@ -1,4 +1,4 @@
-//! Groups of digits.
+//! Tests on decimal digits, and the number that they spell.
 ghost use Rattle.std.specs.Prelude.{◌≡◌, ◌≤◌, ◌<◌, ◌^◌, length, IsTrue};
 ghost use Rattle.std.specs.Char.{is_ascii_digit};
 ghost use Rattle.std.specs.List.{list_all};
@@ -11,14 +11,15 @@ pub(crate) fn is_digits(text: &[u8]) -> bool
     !text.is_empty() && are_digits(text)
 }
 
-/// Whether each byte is a digit.
+/// Whether every byte is a digit. True for the empty text.
 pub(crate) fn are_digits(text: &[u8]) -> bool
     ensures { result ≡ list_all is_ascii_digit text.now }
 {
     text.iter().all(|b| b.is_ascii_digit())
 }
 
-/// Whether one digit or more are a number from 1 to 999,999 without a 0 before it.
+/// Whether the digits, if there is at least one, spell a number from 1 to 999,999 without a leading
+/// 0.
 pub(crate) fn is_right_number(digits: &[u8]) -> bool
     ensures { result ≡ is_right_number digits.now }
 {

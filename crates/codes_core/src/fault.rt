@@ -1,4 +1,4 @@
-//! Why a text is no code, and that memory is used up.
+//! Why a text is rejected as a code or a name, and the fault for failed allocations.
 ghost use Rattle.std.specs.Prelude.{◌≡◌, Bool, None, Some, MatchResult};
 ghost use Rattle.codes_core.specs.declared.fault.CodeFault.TheVariants.{BadNumber};
 ghost use Rattle.codes_core.specs.Grammar.{code_fault, numbers_of};
@@ -6,23 +6,24 @@ ghost use Rattle.codes_core.specs.Grammar.{code_fault, numbers_of};
 use std::alloc::{AllocError, AllocFailed};
 use thiserror::Error;
 
-/// Why a text is no code. Where several hold, the first in this order is told.
+/// Why a text is rejected as a code or a day. If several apply, the first in this order is
+/// returned. `BadNumber` is for things and loans only, `NoSuchDay` for days only.
 #[derive(Clone, Copy, Debug, PartialEq, Eq, Error)]
 pub enum CodeFault {
-    #[error("no bytes")]
+    #[error("empty")]
     Empty,
-    #[error("not the shape of such a code")]
+    #[error("not the form of this code")]
     BadShape,
-    #[error("a number that is not from 1 to 999999 or begins with 0")]
+    #[error("a number outside 1 to 999999, or one that begins with 0")]
     BadNumber,
     #[error("no such day")]
     NoSuchDay,
 }
 
-/// Why a text is no name. Where several hold, the first in this order is told.
+/// Why a text is rejected as a name. If several apply, the first in this order is returned.
 #[derive(Clone, Copy, Debug, PartialEq, Eq, Error)]
 pub enum NameFault {
-    #[error("no bytes")]
+    #[error("empty")]
     Empty,
     #[error("not UTF-8 of at most 60 bytes without control bytes")]
     BadShape,
@@ -30,7 +31,7 @@ pub enum NameFault {
     NoMemory,
 }
 
-/// A growth was refused.
+/// Memory could not be allocated.
 #[derive(Clone, Copy, Debug, PartialEq, Eq, Error)]
 #[error("out of memory")]
 pub struct NoMemory;
@@ -58,8 +59,11 @@ impl From<AllocError> for NameFault {
     }
 }
 
-/// The first fault of a code's text, by whether its numbers are right, where it has the code's shape: Empty where it has no
-/// bytes, BadShape where it hasn't the shape, BadNumber where it has, and a number in it isn't right.
+/// Returns the first fault of a code's text: `Empty`; `BadShape`, if `numbers` is `None`;
+/// `BadNumber`, if it is `Some(false)`.
+///
+/// `numbers` is `None` if the text does not have the code's shape, otherwise whether the numbers in
+/// it are valid.
 pub(crate) fn test(bytes: &[u8], numbers: Option<bool>) -> Result<(), CodeFault>
     ensures { (has_shape is_right : Bool) → numbers ≡ numbers_of has_shape is_right
         → MatchResult result (λ _. code_fault BadNumber has_shape is_right bytes.now ≡ None)

@@ -1,4 +1,4 @@
-//! The groups of a code, between its dots.
+//! Checks the groups of a code, the parts between its dots.
 ghost use Rattle.std.specs.Prelude.{◌≡◌, ◌≤◌, ◌&&◌, not, ◌==◌, length, take_while};
 ghost use Rattle.std.specs.List.{list_all};
 ghost use Rattle.std.specs.Option.{option_map};
@@ -6,7 +6,7 @@ ghost use Rattle.codes_core.specs.Grammar.{is_digits, is_right_number, is_year, 
 
 use crate::digits::{is_digits, is_right_number};
 
-/// How many bytes stand before the first dot.
+/// The number of bytes before the first dot.
 fn group_length(text: &[u8]) -> usize
     ensures count { result ≡ length (take_while (λ b. not (b == 46)) text.now) }
     ensures within { result ≤ length text.now }
@@ -14,7 +14,7 @@ fn group_length(text: &[u8]) -> usize
     text.iter().take_while(|b| **b != b'.').count()
 }
 
-/// Whether each group is a right number, where the text is at most so many groups, each of one digit or more.
+/// Whether every group is a valid number. `None` if the text is not one to `most` groups of digits.
 fn digit_groups(text: &[u8], most: u32) -> Option<bool>
     ensures { result
         ≡ numbers_of (are_few is_digits most (groups text.now))
@@ -34,7 +34,7 @@ fn digit_groups(text: &[u8], most: u32) -> Option<bool>
     }
 }
 
-/// Whether one more number is right too, where that is told of the others.
+/// Whether a number and those after it are valid. `None` if the text after it has the wrong shape.
 fn with_number(is_right: bool, others: Option<bool>) -> Option<bool>
     ensures { result ≡ option_map (λ o. is_right && o) others }
 {
@@ -50,8 +50,8 @@ fn is_year(digits: &[u8]) -> bool
     digits.len() == 4 && is_digits(digits)
 }
 
-/// Whether each group behind the first is a right number, where the text is four digits and one to so many further groups
-/// of digits.
+/// Whether every group after the first is a valid number. `None` if the text is not four digits and
+/// then one to `most` groups of digits.
 pub(crate) fn numbers_of(text: &[u8], most: u32) -> Option<bool>
     ensures { result
         ≡ numbers_of (are_groups most (groups text.now)) (has_right_groups (groups text.now)) }

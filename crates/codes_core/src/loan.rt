@@ -1,4 +1,4 @@
-//! Codes of loans.
+//! The codes of loans.
 ghost use Rattle.std.specs.Prelude.{◌≡◌, ◌++◌, None, Some, OnOk, OnErr, MatchResult, string_bytes, ◌≤◌, ◌<◌, length, MatchOption};
 ghost use Rattle.codes_core.specs.Grammar.{numbers_of};
 ghost use Rattle.codes_core.specs.Loan.{is_out, is_loan_shape, has_loan_number, loan_fault};
@@ -10,11 +10,11 @@ use crate::{CodeFault, NoMemory};
 use std::alloc::Global;
 use std::marker::Model;
 
-/// A loan's code, seen as its one spelling: `LO` for a loan out or `LI` for a loan in, four digits, which may be
-/// any, a dot, and a number from 1 to 999,999 without a 0 before it (`LO2024.1`).
+/// A loan's code (`LO2024.1`): `LO` for a loan out or `LI` for a loan in, any four digits, a dot,
+/// and a number from 1 to 999,999 without a leading 0. Contracts see it as its bytes.
 #[derive(Clone, Copy, Debug, PartialEq, Eq, Hash)]
 pub struct LoanCode {
-    // at most LO or LI, four digits, a dot and six digits
+    // at most `LO` or `LI`, four digits, a dot and six digits
     spelling: Spelling<13>,
 }
 
@@ -32,9 +32,10 @@ impl Model for LoanCode {
 }
 
 impl LoanCode {
-    /// The code that the bytes spell, else their first fault: Empty, BadShape or BadNumber.
+    /// Returns the code that the bytes spell. Fails with the first of `Empty`, `BadShape` and
+    /// `BadNumber` that applies.
     pub fn parse(bytes: &[u8]) -> Result<LoanCode, CodeFault>
-        // What is read is the bytes themselves, and nothing else is a code.
+        // The code is the bytes themselves. Parsing fails only for bytes that are not a code.
         ensures exact { MatchResult result
             (λ code. (code ≡ bytes.now) × (loan_fault bytes.now ≡ None))
             (λ fault. loan_fault bytes.now ≡ Some fault) }
@@ -45,7 +46,7 @@ impl LoanCode {
         })
     }
 
-    /// The code's one spelling.
+    /// The code as text.
     pub fn as_str(&self) -> &str
         ensures text { result.now ≡ self.now }
         ensures code { loan_fault self.now ≡ None }
@@ -53,7 +54,7 @@ impl LoanCode {
         self.spelling.as_str()
     }
 
-    /// The code's one spelling in room for K bytes, where it has no more.
+    /// The code with room for only `K` bytes, or `None` if it is longer.
     pub fn shortened<const K: usize>(&self) -> Option<Spelling<K>>
         requires { K ≤ 13 }
         ensures { MatchOption result (K < length self.now)
@@ -62,7 +63,7 @@ impl LoanCode {
         self.spelling.shortened()
     }
 
-    /// The bytes of the code's one spelling.
+    /// The code as bytes.
     pub fn as_bytes(&self) -> &[u8]
         ensures text { result.now ≡ self.now }
         ensures code { loan_fault self.now ≡ None }
@@ -70,7 +71,7 @@ impl LoanCode {
         self.spelling.as_bytes()
     }
 
-    /// Appends the code's one spelling; after NoMemory the text is unchanged.
+    /// Appends the code. Fails with `NoMemory`, and then `out` is unchanged.
     pub fn write(&self, _alloc: Global, out: &mut String) -> Result<(), NoMemory>
         ensures ok { OnOk result (string_bytes out.new ≡ string_bytes out.old ++ self.now) }
         ensures err { OnErr result (string_bytes out.new ≡ string_bytes out.old) }
@@ -78,7 +79,7 @@ impl LoanCode {
         self.spelling.write(out)
     }
 
-    /// Whether it is a loan out; else it is a loan in.
+    /// Whether this is a loan out. Otherwise it is a loan in.
     pub fn is_out(&self) -> bool
         ensures { result ≡ is_out self.now }
     {
@@ -92,7 +93,8 @@ fn is_out(text: &[u8]) -> bool
     text.starts_with(b"LO")
 }
 
-/// Whether the number of a loan's code is right, where the text has the shape of one.
+/// Whether the number in a loan's code is valid. `None` if the text does not have the shape of a
+/// loan's code.
 fn loan_number(text: &[u8]) -> Option<bool>
     ensures { result ≡ numbers_of (is_loan_shape text.now) (has_loan_number text.now) }
 {

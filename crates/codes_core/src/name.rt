@@ -1,4 +1,4 @@
-//! Names of people who sign off or authorise.
+//! Names of people who authorise a loan or sign a station off.
 ghost use Rattle.std.specs.Prelude.{◌≡◌, ◌++◌, OnOk, OnErr, IfOk, MatchResult, string_bytes};
 ghost use Rattle.codes_core.specs.Name.{IsName, IsNameFault, is_name_byte};
 ghost use Rattle.std.specs.List.{list_all};
@@ -7,7 +7,8 @@ use crate::{LONGEST_NAME, NameFault, NoMemory};
 use std::alloc::Global;
 use std::marker::Model;
 
-/// A name as somebody gave it, seen as its bytes: UTF-8 of 1 to 60 bytes, none below 32 and none 127.
+/// A person's name as it was written: UTF-8 of 1 to 60 bytes ([`LONGEST_NAME`]), none of them below
+/// 32 or equal to 127. Contracts see it as its bytes.
 #[derive(Debug, Drop)]
 pub struct Name {
     text: String,
@@ -25,9 +26,10 @@ impl Model for Name {
 }
 
 impl Name {
-    /// The name that the bytes are, else their first fault: Empty, BadShape, or NoMemory where a growth was refused.
+    /// Returns the name with these bytes. Fails with the first of `Empty`, `BadShape` and
+    /// `NoMemory` that applies.
     pub fn new(alloc: Global, bytes: &[u8]) -> Result<Name, NameFault>
-        // NoMemory can come of any bytes that are a name.
+        // NoMemory can come for any bytes that are a name, and for no others.
         ensures exact { MatchResult result (λ name. (name ≡ bytes.now) × IsName bytes.now)
             (λ fault. IsNameFault fault bytes.now) }
     {
@@ -53,7 +55,7 @@ impl Name {
         self.text.as_str()
     }
 
-    /// Another name of the same text; else NoMemory.
+    /// Returns a copy. Fails with `NoMemory`.
     pub fn copy(&self, alloc: Global) -> Result<Name, NoMemory>
         ensures { IfOk result (λ copy. copy ≡ self.now) }
     {
@@ -62,7 +64,7 @@ impl Name {
         })
     }
 
-    /// Appends the name; after NoMemory the text is unchanged.
+    /// Appends the name. Fails with `NoMemory`, and then `out` is unchanged.
     pub fn write(&self, _alloc: Global, out: &mut String) -> Result<(), NoMemory>
         ensures ok { OnOk result (string_bytes out.new ≡ string_bytes out.old ++ self.now) }
         ensures err { OnErr result (string_bytes out.new ≡ string_bytes out.old) }

@@ -1,4 +1,4 @@
-//! Codes of places.
+//! The codes of places.
 ghost use Rattle.std.specs.Prelude.{◌≡◌, ◌++◌, ◌≤◌, not, ◌==◌, length, take_while, None, Some, OnOk, OnErr, MatchResult, string_bytes, ◌<◌, MatchOption};
 ghost use Rattle.std.specs.List.{list_all};
 ghost use Rattle.codes_core.specs.Place.{is_segment, is_segment_byte, is_place_shape, place_fault, lies_in, ends_segment};
@@ -9,11 +9,11 @@ use crate::{CodeFault, NoMemory};
 use std::alloc::Global;
 use std::marker::Model;
 
-/// A place's code, seen as its one spelling: one to four segments from the building down to the shelf, each
-/// of 1 to 8 of A-Z and 0-9, joined by dashes (`S1-A`).
+/// A place's code (`S1-A`): one to four segments joined by dashes, from the building down to the
+/// shelf. A segment is 1 to 8 of `A` to `Z` and `0` to `9`. Contracts see the code as its bytes.
 #[derive(Clone, Copy, Debug, PartialEq, Eq, Hash)]
 pub struct PlaceCode {
-    // at most four segments of 8 and three dashes
+    // at most four segments of 8 bytes and three dashes
     spelling: Spelling<35>,
 }
 
@@ -31,14 +31,15 @@ impl Model for PlaceCode {
 }
 
 impl PlaceCode {
-    /// The code that the bytes spell, else their first fault: Empty or BadShape.
+    /// Returns the code that the bytes spell. Fails with the first of `Empty` and `BadShape` that
+    /// applies.
     pub fn parse(bytes: &[u8]) -> Result<PlaceCode, CodeFault>
-        // What is read is the bytes themselves, and nothing else is a code.
+        // The code is the bytes themselves. Parsing fails only for bytes that are not a code.
         ensures exact { MatchResult result
             (λ code. (code ≡ bytes.now) × (place_fault bytes.now ≡ None))
             (λ fault. place_fault bytes.now ≡ Some fault) }
     {
-        // A place has no number that could be wrong.
+        // A place's code has no numbers that could be wrong.
         let numbers = is_place_shape(bytes, 4).then_some(true);
         test(bytes, numbers)?;
         Ok(PlaceCode {
@@ -46,7 +47,7 @@ impl PlaceCode {
         })
     }
 
-    /// The code's one spelling.
+    /// The code as text.
     pub fn as_str(&self) -> &str
         ensures text { result.now ≡ self.now }
         ensures code { place_fault self.now ≡ None }
@@ -54,7 +55,7 @@ impl PlaceCode {
         self.spelling.as_str()
     }
 
-    /// The code's one spelling in room for K bytes, where it has no more.
+    /// The code with room for only `K` bytes, or `None` if it is longer.
     pub fn shortened<const K: usize>(&self) -> Option<Spelling<K>>
         requires { K ≤ 35 }
         ensures { MatchOption result (K < length self.now)
@@ -63,7 +64,7 @@ impl PlaceCode {
         self.spelling.shortened()
     }
 
-    /// The bytes of the code's one spelling.
+    /// The code as bytes.
     pub fn as_bytes(&self) -> &[u8]
         ensures text { result.now ≡ self.now }
         ensures code { place_fault self.now ≡ None }
@@ -71,7 +72,7 @@ impl PlaceCode {
         self.spelling.as_bytes()
     }
 
-    /// Appends the code's one spelling; after NoMemory the text is unchanged.
+    /// Appends the code. Fails with `NoMemory`, and then `out` is unchanged.
     pub fn write(&self, _alloc: Global, out: &mut String) -> Result<(), NoMemory>
         ensures ok { OnOk result (string_bytes out.new ≡ string_bytes out.old ++ self.now) }
         ensures err { OnErr result (string_bytes out.new ≡ string_bytes out.old) }
@@ -79,7 +80,7 @@ impl PlaceCode {
         self.spelling.write(out)
     }
 
-    /// Whether the place is the other or lies in it: S1-A lies in S1, S10 does not.
+    /// Whether this place is `other` or lies in it: `S1-A` lies in `S1`, and `S10` does not.
     pub fn lies_in(&self, other: &PlaceCode) -> bool
         ensures { result ≡ lies_in self.now other.now }
     {
@@ -96,6 +97,7 @@ fn lies_in(place: &[u8], other: &[u8]) -> bool
     }
 }
 
+/// Whether a segment ends before this text: it is empty, or starts with a dash.
 fn ends_segment(behind: &[u8]) -> bool
     ensures { result ≡ ends_segment behind.now }
 {
@@ -105,7 +107,7 @@ fn ends_segment(behind: &[u8]) -> bool
     }
 }
 
-/// How many bytes stand before the first dash.
+/// The number of bytes before the first dash.
 fn segment_length(text: &[u8]) -> usize
     ensures count { result ≡ length (take_while (λ b. not (b == 45)) text.now) }
     ensures within { result ≤ length text.now }

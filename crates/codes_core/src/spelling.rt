@@ -1,4 +1,4 @@
-//! A short text that is kept in place.
+//! A short text that is kept in place, without an allocation.
 ghost use Rattle.std.specs.Prelude.{◌≡◌, ◌++◌, ◌≤◌, ◌<◌, ◌-◌, length, replicate, OnOk, OnErr, MatchOption, string_bytes};
 ghost use Rattle.std.specs.Str.{bytes_eq, IsAscii};
 ghost use Rattle.std.specs.Cmp.Rules.{comparing, hashing};
@@ -9,7 +9,8 @@ use std::fmt;
 use std::hash::{Hash, Hasher};
 use std::marker::Model;
 
-/// A text of at most N bytes of ASCII, seen as its bytes. Its length is kept in one byte.
+/// An ASCII text of at most `N` bytes, padded with zeros. Contracts see it as its bytes, without
+/// the padding. The length takes only one byte, so `N` must be below 256.
 #[derive(Clone, Copy)]
 pub struct Spelling<const N: usize> {
     text: [u8; N],
@@ -34,7 +35,7 @@ impl<const N: usize> Model for Spelling<N> {
 }
 
 impl<const N: usize> Spelling<N> {
-    /// The text itself, which is ASCII of at most N bytes.
+    /// Keeps this text, which must be ASCII of at most `N` bytes. `N` must be below 256.
     pub fn new(text: &[u8]) -> Spelling<N>
         requires fits { length text.now ≤ N }
         requires ascii { IsAscii text.now }
@@ -47,7 +48,7 @@ impl<const N: usize> Spelling<N> {
         }
     }
 
-    /// The text in less room, where it has no more than K bytes.
+    /// The text with room for only `K` bytes, or `None` if it is longer.
     pub(crate) fn shortened<const K: usize>(&self) -> Option<Spelling<K>>
         requires { K ≤ N }
         ensures { MatchOption result (K < length self.now) (λ short. short ≡ self.now) }
@@ -63,7 +64,7 @@ impl<const N: usize> Spelling<N> {
         })
     }
 
-    /// The text's bytes, without what pads them.
+    /// The text as bytes, without the padding.
     pub fn as_bytes(&self) -> &[u8]
         ensures { result.now ≡ self.now }
     {
@@ -77,7 +78,7 @@ impl<const N: usize> Spelling<N> {
         str::from_utf8(&self.text[..self.len as usize]).unwrap()
     }
 
-    /// Appends the text; after NoMemory what was there is unchanged.
+    /// Appends the text. Fails with `NoMemory`, and then `out` is unchanged.
     pub fn write(&self, out: &mut String) -> Result<(), NoMemory>
         ensures ok { OnOk result (string_bytes out.new ≡ string_bytes out.old ++ self.now) }
         ensures err { OnErr result (string_bytes out.new ≡ string_bytes out.old) }
@@ -87,7 +88,7 @@ impl<const N: usize> Spelling<N> {
     }
 }
 
-/// The text with zeros behind it.
+/// The text, padded with zeros.
 fn padded<const N: usize>(text: &[u8]) -> [u8; N]
     requires { length text.now ≤ N }
     ensures { result ≡ text.now ++ replicate (N - length text.now) 0 }
@@ -111,7 +112,7 @@ impl<const N: usize> Eq for Spelling<N> {
     ghost laws = { Prim.search (comparing, rules) };
 }
 
-/// The text is handed to the hasher whole: a hasher that takes words of it then does so.
+/// Hashes the text as one slice, so that a hasher can read it in whole words.
 impl<const N: usize> Hash for Spelling<N> {
     ghost use Rattle.std.specs.Prelude.{◌∷◌, []};
 

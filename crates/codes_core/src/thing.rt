@@ -1,4 +1,4 @@
-//! Codes of things.
+//! The codes of things.
 ghost use Rattle.std.specs.Prelude.{◌≡◌, ◌++◌, None, Some, OnOk, OnErr, MatchResult, string_bytes, ◌≤◌, ◌<◌, length, MatchOption};
 ghost use Rattle.codes_core.specs.Grammar.{is_digits, is_right_number, numbers_of};
 ghost use Rattle.codes_core.specs.Thing.{thing_kind, without_letter, is_object_shape, has_object_numbers, is_thing_shape, has_thing_numbers, thing_fault};
@@ -11,22 +11,28 @@ use crate::{CodeFault, NoMemory};
 use std::alloc::Global;
 use std::marker::Model;
 
-/// What a thing is: an object of the museum's own, an object on loan to it, or a crate, box or tray.
+/// What a thing is.
 #[derive(Clone, Copy, Debug, PartialEq, Eq)]
 pub enum ThingKind {
+    /// An object that the museum owns.
     Own,
+    /// An object on loan to the museum.
     Borrowed,
+    /// A crate, box or tray.
     Container,
 }
 
-/// A thing's code, seen as its one spelling.
+/// A thing's code. Contracts see it as its bytes.
 ///
-/// An own object's is four digits, one to three times a dot and a number, and at most one letter a-z
-/// (`2001.4.2a`); a borrowed object's is `L` and the same (`L1999.7`); a container's is `C` and a number (`C17`).
-/// A number is from 1 to 999,999 without a 0 before it. The four digits may be any.
+/// - An own object: any four digits, one to three times a dot and a number, and at most one letter
+///   `a` to `z` (`2001.4.2a`).
+/// - A borrowed object: `L` and the same (`L1999.7`).
+/// - A container: `C` and a number (`C17`).
+///
+/// A number is from 1 to 999,999 without a leading 0.
 #[derive(Clone, Copy, Debug, PartialEq, Eq, Hash)]
 pub struct ThingCode {
-    // at most an L, four digits, three times a dot and six digits, and a letter
+    // at most `L`, four digits, three times a dot and six digits, and a letter
     spelling: Spelling<27>,
 }
 
@@ -44,9 +50,10 @@ impl Model for ThingCode {
 }
 
 impl ThingCode {
-    /// The code that the bytes spell, else their first fault: Empty, BadShape or BadNumber.
+    /// Returns the code that the bytes spell. Fails with the first of `Empty`, `BadShape` and
+    /// `BadNumber` that applies.
     pub fn parse(bytes: &[u8]) -> Result<ThingCode, CodeFault>
-        // What is read is the bytes themselves, and nothing else is a code.
+        // The code is the bytes themselves. Parsing fails only for bytes that are not a code.
         ensures exact { MatchResult result
             (λ code. (code ≡ bytes.now) × (thing_fault bytes.now ≡ None))
             (λ fault. thing_fault bytes.now ≡ Some fault) }
@@ -57,7 +64,7 @@ impl ThingCode {
         })
     }
 
-    /// The code's one spelling.
+    /// The code as text.
     pub fn as_str(&self) -> &str
         ensures text { result.now ≡ self.now }
         ensures code { thing_fault self.now ≡ None }
@@ -65,7 +72,7 @@ impl ThingCode {
         self.spelling.as_str()
     }
 
-    /// The code's one spelling in room for K bytes, where it has no more.
+    /// The code with room for only `K` bytes, or `None` if it is longer.
     pub fn shortened<const K: usize>(&self) -> Option<Spelling<K>>
         requires { K ≤ 27 }
         ensures { MatchOption result (K < length self.now)
@@ -74,7 +81,7 @@ impl ThingCode {
         self.spelling.shortened()
     }
 
-    /// The bytes of the code's one spelling.
+    /// The code as bytes.
     pub fn as_bytes(&self) -> &[u8]
         ensures text { result.now ≡ self.now }
         ensures code { thing_fault self.now ≡ None }
@@ -82,7 +89,7 @@ impl ThingCode {
         self.spelling.as_bytes()
     }
 
-    /// Appends the code's one spelling; after NoMemory the text is unchanged.
+    /// Appends the code. Fails with `NoMemory`, and then `out` is unchanged.
     pub fn write(&self, _alloc: Global, out: &mut String) -> Result<(), NoMemory>
         ensures ok { OnOk result (string_bytes out.new ≡ string_bytes out.old ++ self.now) }
         ensures err { OnErr result (string_bytes out.new ≡ string_bytes out.old) }
@@ -90,7 +97,7 @@ impl ThingCode {
         self.spelling.write(out)
     }
 
-    /// What the code says the thing is.
+    /// What the thing is, by the first letter of its code.
     pub fn kind(&self) -> ThingKind
         ensures { result ≡ thing_kind self.now }
     {
@@ -102,7 +109,7 @@ impl ThingCode {
     }
 }
 
-/// The text without the one letter a-z that may stand at its end.
+/// The text without the one letter `a` to `z` that may end it.
 fn without_letter(text: &[u8]) -> &[u8]
     ensures { result.now ≡ without_letter text.now }
 {
@@ -112,14 +119,16 @@ fn without_letter(text: &[u8]) -> &[u8]
     }
 }
 
-/// Whether the numbers of an object's code are right, where the text has the shape of one.
+/// Whether the numbers in an own object's code are valid. `None` if the text does not have the
+/// shape of one.
 fn object_numbers(text: &[u8]) -> Option<bool>
     ensures { result ≡ numbers_of (is_object_shape text.now) (has_object_numbers text.now) }
 {
     numbers_of(without_letter(text), 3)
 }
 
-/// Whether the numbers of a thing's code are right, where the text has the shape of one.
+/// Whether the numbers in a thing's code are valid. `None` if the text does not have the shape of
+/// one.
 fn thing_numbers(text: &[u8]) -> Option<bool>
     ensures { result ≡ numbers_of (is_thing_shape text.now) (has_thing_numbers text.now) }
 {
@@ -131,7 +140,7 @@ fn thing_numbers(text: &[u8]) -> Option<bool>
     }
 }
 
-/// Whether the number of a container's code is right, where it is of digits.
+/// Whether the number in a container's code, after the `C`, is valid. `None` if it is not digits.
 fn container_number(digits: &[u8]) -> Option<bool>
     ensures { result ≡ numbers_of (is_digits digits.now) (is_right_number digits.now) }
 {

@@ -131,7 +131,7 @@ pub enum WordsFault {
     #[error("{0}")]
     Refused(Error),
     /// `clap` refuses nothing, and there is no command, or a value that it needs isn't there.
-    #[error("no command, or not all that it needs")]
+    #[error("no command, or not everything that it needs")]
     Missing,
     /// A growth was refused.
     #[error("out of memory")]

@@ -1,4 +1,4 @@
-//! The bytes of a database file.
+//! Writes the bytes of a database file to an output.
 ghost use Rattle.std.specs.Prelude.{◌≡◌, IfOk, IsTrue, OnOk};
 ghost use Rattle.std.specs.Io.KnownBytes.{Appends};
 
@@ -6,22 +6,23 @@ use sqlite_disk::Disk;
 use std::alloc::Global;
 use std::io::{ErrorKind, Write};
 
-/// Why the bytes of a file were not written to another.
+/// Why the bytes of a file were not written.
 #[derive(Clone, Copy, Debug, PartialEq, Eq)]
 pub enum PourFault {
     /// There is no memory for the bytes.
     NoMemory,
     /// The file could not be read.
     ReadFailed,
-    /// The output could not be written; a front of the bytes may be in it.
+    /// The output could not be written. It may have the first part of the bytes.
     WriteFailed(ErrorKind),
 }
 
-/// Writes all bytes of a file to the output. They are read into memory first. The faults, first that holds: ReadFailed
-/// where the length cannot be read, NoMemory, ReadFailed, WriteFailed.
+/// Writes all bytes of a file to the output. They are read into memory first. The file stays as it
+/// was. Faults, in this order: ReadFailed, if the length can't be read; NoMemory; ReadFailed;
+/// WriteFailed.
 pub fn pour<D: Disk, W: Write>(alloc: Global, file: &mut D, output: &mut W) -> Result<(), PourFault>
     requires { IsTrue (D.Disk.is_usable file.old) }
-    // Where the disk has returned what was written, the output has grown by exactly the file's bytes.
+    // If the disk returned what was written, the output has grown by exactly the file's bytes.
     ensures whole { OnOk result (IsTrue (D.Disk.is_clean file.new)
         → Appends (W.contents output.old) (W.contents output.new) (D.Disk.seen file.old)) }
     ensures same { D.Disk.seen file.new ≡ D.Disk.seen file.old }
@@ -33,7 +34,7 @@ pub fn pour<D: Disk, W: Write>(alloc: Global, file: &mut D, output: &mut W) -> R
     }
 }
 
-/// All bytes of a file.
+/// Reads all bytes of a file.
 fn read_whole<D: Disk>(alloc: Global, file: &mut D) -> Result<Vec<u8>, PourFault>
     requires { IsTrue (D.Disk.is_usable file.old) }
     ensures whole { IfOk result

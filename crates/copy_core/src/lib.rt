@@ -1,7 +1,18 @@
-//! A backup of a store: its database file's bytes in another file, and a test that this file has the same record.
+//! A backup of a store: writes the bytes of its database file to another file, and checks that the
+//! other file has the same record.
 //!
-//! [`pour`] writes the bytes of a database file to an output. [`opens_to`] opens a store and compares what it has with a
-//! ledger: where it answers true, the store has the rows of that ledger, and no others.
+//! [`pour`] writes all bytes of a database file to an output. [`opens_to`] opens the store that was
+//! made of them, judges all its entries again, and compares it with a ledger.
+//!
+//! The contracts promise: after an Ok of `pour`, the output has grown by exactly the file's bytes,
+//! if the disk returns what was written. If `opens_to` returns true, the store has the rows of the
+//! ledger's entries, and can have no others. A store that isn't a copy may also fail to open, with
+//! the faults of `Hub::open`.
+//!
+//! ```text
+//! pour(alloc, &mut files.db, &mut output)?;
+//! let (register, same) = opens_to(alloc, setup, copied_register, &ledger)?;
+//! ```
 #![tactic(auto)]
 
 mod bytes;

@@ -1,4 +1,4 @@
-//! Whether a store has the record of a ledger.
+//! Checks that a store has the record of a ledger.
 ghost use Rattle.std.specs.Prelude.{◌≡◌, ℕ, true, IfOk};
 ghost use Rattle.register_store.specs.Holdings.{Has};
 ghost use Rattle.register_store.specs.StoredRows.{IsStoreOf};
@@ -10,9 +10,9 @@ use posting_core::{Ledger, PostedEntry};
 use register_store::{Register, StoreFault, message_text};
 use std::alloc::Global;
 
-/// Opens the store of a register with a setup, judging all its entries again, and compares it with a ledger of that setup.
-/// Returns the register, and whether the store has the ledger's entries. The faults are those of opening a hub, and
-/// NoMemory.
+/// Opens a hub over the register with this setup, which judges all its entries again, and compares
+/// the entries with the ledger's. The setup is the ledger's. Returns the register, and whether the
+/// entries are the same. Faults: those of opening a hub; NoMemory.
 pub fn opens_to<R: Register>(
     alloc: Global,
     setup: Setup,
@@ -21,6 +21,7 @@ pub fn opens_to<R: Register>(
 ) -> Result<(R, bool), OpenFault<R>>
     requires { setup ≡ ledger.now.museum }
     // If it returns true, the store has the rows of the ledger's entries, and can have no others.
+    // The clause leaves the depth limit open.
     ensures same { IfOk result (λ r. r.1 ≡ true → (depth : ℕ)
         × Has (R.holding r.0) (IsStoreOf ledger.now.museum depth ledger.now.posted)) }
 {
@@ -36,7 +37,7 @@ pub fn opens_to<R: Register>(
     }
 }
 
-/// Whether entries are the same, in the same order.
+/// Whether the entries are the same, in the same order.
 #[tactic(auto, using(std::proofs::lemmas::List::take_more_same, std::proofs::lemmas::List::take_all))]
 fn are_same(alloc: Global, ones: &[PostedEntry], others: &[PostedEntry]) -> Result<bool, NoMemory>
     ensures { IfOk result (λ same. same ≡ true → ones.now ≡ others.now) }
@@ -52,7 +53,7 @@ fn are_same(alloc: Global, ones: &[PostedEntry], others: &[PostedEntry]) -> Resu
     Ok(true)
 }
 
-/// Whether two entries are the same: station, number, verdict, and the text of the message.
+/// Whether two entries have the same station, number and verdict, and the same text of the message.
 fn is_same(alloc: Global, one: &PostedEntry, other: &PostedEntry) -> Result<bool, NoMemory>
     ensures { IfOk result (λ same. same ≡ true → one.now ≡ other.now) }
 {

@@ -38,14 +38,17 @@ rows =
     ∷ counted_alone (codes "S2")
     ∷ []
 
-count_list : answers (book placed) rows ≡ Found ∷ Elsewhere s2 ∷ Again ∷ UnknownObject ∷ UnknownPlace ∷ Unplaced ∷ Counted ∷ []
+count_list : answers (book placed) rows ≡ Found ∷ Elsewhere s2 ∷ Again ∷ UnknownObject
+    ∷ UnknownPlace ∷ Unplaced ∷ Counted ∷ []
 count_list = refl
 
 count_list-missing : missing (book placed) rows ≡ record { place = s1; object = object_3 } ∷ []
 count_list-missing = refl
 
 -- a place that is mentioned twice is told once, and a row of an unknown place names its thing too
-count_list-once : missing (book placed) (counted_alone (codes "S1") ∷ row (codes "S9") (codes "2001.4.1") ∷ counted_alone (codes "S1") ∷ [])
+count_list-once : missing (book placed)
+    (counted_alone (codes "S1") ∷ row (codes "S9") (codes "2001.4.1") ∷ counted_alone
+    (codes "S1") ∷ [])
     ≡ record { place = s1; object = object_3 } ∷ []
 count_list-once = refl
 
@@ -63,7 +66,8 @@ count_list-outer_known = refl
 count_list-outer_whole : outer_places (book placed).museum (codes "S10") ≡ []
 count_list-outer_whole = refl
 
-count_list-outer_each : map (outer_of (book placed).museum) (0 ∷ 1 ∷ 2 ∷ 3 ∷ 4 ∷ []) ≡ (s1 ∷ []) ∷ (s1 ∷ s1_a ∷ []) ∷ (s2 ∷ []) ∷ (museum_x ∷ []) ∷ (lender_y ∷ []) ∷ []
+count_list-outer_each : map (outer_of (book placed).museum) (0 ∷ 1 ∷ 2 ∷ 3 ∷ 4 ∷ []) ≡ (s1 ∷ [])
+    ∷ (s1 ∷ s1_a ∷ []) ∷ (s2 ∷ []) ∷ (museum_x ∷ []) ∷ (lender_y ∷ []) ∷ []
 count_list-outer_each = refl
 
 count_list-outer_none : outer_of (book placed).museum 5 ≡ []
@@ -76,7 +80,8 @@ one_asked = [] ∷ (s1 ∷ s1_a ∷ []) ∷ [] ∷ [] ∷ [] ∷ []
 count_list-asked : AreOuter (book placed).museum one_asked
 count_list-asked = record { many = refl; each = each }
   where
-    each : (p : ℕ) → list_at one_asked p ≢ [] → list_at one_asked p ≡ outer_of (book placed).museum p
+    each : (p : ℕ) → list_at one_asked p ≢ []
+        → list_at one_asked p ≡ outer_of (book placed).museum p
     each zero some = absurd (some refl)
     each (suc zero) some = refl
     each (suc (suc zero)) some = absurd (some refl)
@@ -92,7 +97,8 @@ count_list-asked_wrong h = absurd (let e = h.each 0 (λ none. cc) in cc)
 abbrev first_flagged : List Bool
 first_flagged = false ∷ false ∷ true ∷ false ∷ false ∷ false ∷ []
 
-count_list-unflagged : map (is_unflagged_in (book placed) first_flagged s1) (object_1 ∷ object_2 ∷ object_3 ∷ []) ≡ false ∷ false ∷ true ∷ []
+count_list-unflagged : map (is_unflagged_in (book placed) first_flagged s1)
+    (object_1 ∷ object_2 ∷ object_3 ∷ []) ≡ false ∷ false ∷ true ∷ []
 count_list-unflagged = refl
 
 -- all three are where they belong, or not
@@ -100,7 +106,8 @@ count_list-away : away (book placed) ≡ record { object = object_2; place = Som
 count_list-away = refl
 
 -- own objects that were never placed are away
-nothing_posted-away : away (book []) ≡ record { object = object_1; place = None } ∷ record { object = object_2; place = None } ∷ record { object = object_3; place = None } ∷ []
+nothing_posted-away : away (book []) ≡ record { object = object_1; place = None }
+    ∷ record { object = object_2; place = None } ∷ record { object = object_3; place = None } ∷ []
 nothing_posted-away = refl
 
 -- taken_out_of_a_crate: a crate in a crate, with an object in it that is then taken out
@@ -119,7 +126,8 @@ taken_out_of_a_crate-in_place : in_place (book taken_out) (codes "S1") ≡ crate
 taken_out_of_a_crate-in_place = refl
 
 -- containers are never missing
-taken_out_of_a_crate-missing : missing (book taken_out) (counted_alone (codes "S1") ∷ []) ≡ record { place = s1; object = object_1 } ∷ []
+taken_out_of_a_crate-missing : missing (book taken_out) (counted_alone (codes "S1") ∷ [])
+    ≡ record { place = s1; object = object_1 } ∷ []
 taken_out_of_a_crate-missing = refl
 
 -- nor unflagged
@@ -156,11 +164,13 @@ loan_out-in_time = refl
 loan_out-overdue : overdue (book lent) june_1 ≡ loan ∷ []
 loan_out-overdue = refl
 
-loan_out-away : away (book lent) ≡ record { object = object_1; place = Some museum_x } ∷ record { object = object_2; place = Some s2 } ∷ []
+loan_out-away : away (book lent) ≡ record { object = object_1; place = Some museum_x }
+    ∷ record { object = object_2; place = Some s2 } ∷ []
 loan_out-away = refl
 
 -- a loan that is back is not overdue
-loan_out-returned : overdue (book (run lent ((gal, Return june_1 (codes "2001.4.1") loan (codes "S1")) ∷ []))) june_1 ≡ []
+loan_out-returned : overdue
+    (book (run lent ((gal, Return june_1 (codes "2001.4.1") loan (codes "S1")) ∷ []))) june_1 ≡ []
 loan_out-returned = refl
 
 -- extend_tour: the last day is the extended one
@@ -189,10 +199,12 @@ here = run [] (
 loan_in-overdue : overdue (book here) june_1 ≡ loan_in ∷ []
 loan_in-overdue = refl
 
-loan_in-given_back : overdue (book (run here ((gal, Exit june_1 (codes "L1999.7") loan_in) ∷ []))) june_1 ≡ []
+loan_in-given_back : overdue (book (run here ((gal, Exit june_1 (codes "L1999.7") loan_in) ∷ [])))
+    june_1 ≡ []
 loan_in-given_back = refl
 
--- count_faults: of rows that are read, empty fields at the end don't count, and a row without a field is skipped
+-- count_faults: of rows that are read, empty fields at the end don't count, and a row without a
+-- field is skipped
 
 abbrev read : List Fields
 read =
@@ -204,13 +216,16 @@ read =
 count_faults-none : first_fault [] read ≡ None
 count_faults-none = refl
 
-count_faults-rows : counts_of read ≡ row (codes "S1") (codes "2001.4.1") ∷ counted_alone (codes "S2") ∷ []
+count_faults-rows : counts_of read ≡ row (codes "S1") (codes "2001.4.1") ∷ counted_alone
+    (codes "S2") ∷ []
 count_faults-rows = refl
 
-count_faults-fields : first_fault [] (([] ∷ []) ∷ (codes "S1" ∷ codes "C1" ∷ codes "x" ∷ []) ∷ []) ≡ Some (BadFields 2)
+count_faults-fields : first_fault [] (([] ∷ []) ∷ (codes "S1" ∷ codes "C1" ∷ codes "x" ∷ []) ∷ [])
+    ≡ Some (BadFields 2)
 count_faults-fields = refl
 
-count_faults-code : first_fault [] ((codes "S1" ∷ codes "2001.4.1" ∷ []) ∷ (codes "S1" ∷ codes "C01" ∷ []) ∷ []) ≡ Some (BadCode 2)
+count_faults-code : first_fault []
+    ((codes "S1" ∷ codes "2001.4.1" ∷ []) ∷ (codes "S1" ∷ codes "C01" ∷ []) ∷ []) ≡ Some (BadCode 2)
 count_faults-code = refl
 
 -- a thing without a place

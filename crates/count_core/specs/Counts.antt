@@ -6,7 +6,7 @@ use Rattle.std.specs.List.{list_any, filter_map, flat_map, range_with_len}
 use Rattle.nest_core.specs.Museum.{Museum, find_place, find_thing, place_code_of, is_container}
 use Rattle.posting_core.specs.Book.{Book, place_in}
 use Rattle.count_core.specs.declared.count_row.CountRow.{CountRow}
-use Rattle.count_core.specs.declared.looking.Looked.{Looked}
+use Rattle.count_core.specs.declared.lookup.Looked.{Looked}
 use Rattle.count_core.specs.declared.answer.MissingObject.{MissingObject}
 use Rattle.count_core.specs.declared.answer.CountAnswer.{CountAnswer}
 use Rattle.count_core.specs.declared.answer.CountAnswer.TheVariants.{UnknownPlace, Counted, UnknownObject, Again, Unplaced, Found, Elsewhere}

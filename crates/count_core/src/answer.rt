@@ -1,22 +1,22 @@
-//! What is told of a count list, and of the museum.
+//! The answers to a count list, and the rows of reports.
 use nest_core::{PlaceNo, ThingNo};
 
-/// What is said to a row of a count list.
+/// The answer to a row of a count list: the first of these that applies.
 #[derive(Clone, Copy, Debug, PartialEq)]
 pub enum CountAnswer {
-    /// The setup has no such place.
+    /// The setup doesn't have the place.
     UnknownPlace,
-    /// The row names no object: the place was counted.
+    /// The row names no object: its place was looked at.
     Counted,
-    /// The setup has no such thing.
+    /// The setup doesn't have the thing.
     UnknownObject,
-    /// A row before it names the same thing.
+    /// An earlier row names the same thing.
     Again,
     /// The thing was never placed.
     Unplaced,
     /// The thing's place is the row's place, or lies in it.
     Found,
-    /// The thing's place, which doesn't lie in the row's.
+    /// The thing is at this place, which isn't the row's and doesn't lie in it.
     Elsewhere(PlaceNo),
 }
 
@@ -27,15 +27,16 @@ pub struct MissingObject {
     pub object: ThingNo,
 }
 
-/// What is told of a count list: what is said to each row, in order; and for each place of the list, by first mention,
-/// the objects in it that no row names, ascending.
+/// The result of checking a count list: the answer to each row, in order; and for each place of the
+/// list, in the order of first mention, the objects in it that no row names, in ascending order.
 #[derive(Debug, Drop)]
 pub struct CountReport {
     pub answers: Vec<CountAnswer>,
     pub missing: Vec<MissingObject>,
 }
 
-/// An own object that isn't at its normal place, with its place, or none where it was never placed.
+/// An own object that isn't at its normal place, with its current place. None if it was never
+/// placed.
 #[derive(Clone, Copy, Debug, PartialEq)]
 pub struct AwayObject {
     pub object: ThingNo,

@@ -1,10 +1,10 @@
-//! A count list checked against the ledger, by workers.
+//! Checks a count list against the ledger, with workers.
 ghost use Rattle.std.specs.Prelude.{◌≡◌, ◌<◌, All, IfOk, length, map};
 ghost use Rattle.std.specs.List.{range_with_len};
 ghost use Rattle.count_core.specs.Counts.{look_at, answers, missing, IsAnswerIn, IsMissingIn};
 
-use crate::looking::{Looked, look};
-use crate::marking::marked;
+use crate::lookup::{Looked, look};
+use crate::marks::marked;
 use crate::missing::missing;
 use crate::{CountReport, CountRow};
 use codes_core::NoMemory;
@@ -13,21 +13,22 @@ use rayon::prelude::*;
 use std::alloc::{AllocError, Global};
 use std::thread::Threads;
 
-/// Is told of each row of a count list, numbered from 1, by the worker that looks it up.
+/// Called for each row of a count list, numbered from 1, by the worker that looks it up.
 pub trait Probe {
+    /// A worker looks up this row.
     fn seen(&self, row: usize);
 }
 
-/// Nobody is told.
+/// A probe that does nothing.
 struct NoProbe;
 
 impl Probe for NoProbe {
     fn seen(&self, _row: usize) {}
 }
 
-/// The report on a count list, else NoMemory. Each row has the first answer that holds, in the order of
-/// [`CountAnswer`](crate::CountAnswer): of its place, of its thing, of the rows before it, and of where the thing is.
-/// Containers are never missing. It is the same whatever the number of workers.
+/// Checks a count list. Each row gets the first answer that applies, in the order of
+/// [`CountAnswer`](crate::CountAnswer). Containers are never missing. The report is the same for
+/// any number of workers. Fault: NoMemory.
 pub fn check(
     rt: &(impl Threads + Sync),
     alloc: Global,
@@ -44,7 +45,7 @@ pub fn check(
     check_by(rt, alloc, ledger, rows, &NoProbe)
 }
 
-/// The report as `check` gives it. Workers look the rows up, each by itself, and tell the probe.
+/// Like [`check`], and the workers call the probe.
 pub fn check_by<P: Probe + Sync>(
     rt: &(impl Threads + Sync),
     alloc: Global,
@@ -69,7 +70,7 @@ pub fn check_by<P: Probe + Sync>(
     })
 }
 
-/// Each row looked up by itself, by workers who tell the probe.
+/// Looks up each row on its own, with workers.
 fn looked<P: Probe + Sync>(
     rt: &(impl Threads + Sync),
     alloc: Global,

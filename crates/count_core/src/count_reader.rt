@@ -1,4 +1,4 @@
-//! Reading a count list.
+//! Reads a count list.
 ghost use Rattle.std.specs.Prelude.{◌≡◌, ◌≢◌, ◌++◌, ◌∷◌, [], length, false, true, None, Some, if◌then◌else◌, OnOk, IfErr, MatchResult};
 ghost use Rattle.std.specs.Option.{option_to_list};
 ghost use Rattle.std.specs.Str.{is_utf8};
@@ -12,11 +12,13 @@ use csv::{ByteRecord, ReaderBuilder};
 use nest_core::{field, field_count};
 use std::alloc::Global;
 
-/// The rows of a count list, each a place and, if it names one, a thing: rows as `csv` gives them, without a header
-/// and with one byte order mark dropped. Empty fields at a row's end don't count, and a row without a field is skipped.
+/// Reads a count list: rows as `csv` returns them, without a header, and with a byte order mark at
+/// the start dropped. Each row has a place and, if something was seen there, a thing. Empty fields
+/// at a row's end don't count, and a row with no fields left is skipped.
 ///
-/// Else the first fault: NotCsv; then the first row with one, with BadFields, BadCode and TooMany in this order, where at
-/// most [`MOST_COUNT_ROWS`] rows are kept. NoMemory can stand in place of any but NotCsv.
+/// Faults, in this order: NotCsv, if the bytes aren't UTF-8; then that of the first row with a
+/// fault, and in it BadFields, BadCode, TooMany (one row more than [`MOST_COUNT_ROWS`]). NoMemory
+/// can come instead of any but NotCsv.
 pub fn read_counts(alloc: Global, bytes: &[u8]) -> Result<Vec<CountRow>, CountFault>
     ensures exact { MatchResult result
         (λ rows. (count_fault bytes.now ≡ None) × (rows.items ≡ counts_of (rows_of bytes.now)))
@@ -29,7 +31,7 @@ pub fn read_counts(alloc: Global, bytes: &[u8]) -> Result<Vec<CountRow>, CountFa
     read_rows(alloc, bytes)
 }
 
-/// What the rows list, else the fault of the first that has one, or NoMemory.
+/// Reads the rows, up to the first that has a fault.
 fn read_rows(alloc: Global, bytes: &[u8]) -> Result<Vec<CountRow>, CountFault>
     ensures { MatchResult result
         (λ rows. (first_fault [] (rows_of bytes.now) ≡ None)
@@ -43,7 +45,7 @@ fn read_rows(alloc: Global, bytes: &[u8]) -> Result<Vec<CountRow>, CountFault>
         .from_reader(alloc, bytes);
     let mut row = ByteRecord::new(alloc);
     for number in 1..u64::MAX {
-        // Bytes in memory are read without a fault but for memory.
+        // Bytes in memory can always be read, so only memory can be lacking.
         let Ok(found) = reader.read_byte_record(&mut row) else {
             return Err(CountFault::NoMemory);
         };
@@ -52,11 +54,11 @@ fn read_rows(alloc: Global, bytes: &[u8]) -> Result<Vec<CountRow>, CountFault>
         }
         add_row(&mut kept, number, &row)?;
     }
-    // No memory holds so many rows.
+    // No memory holds this many rows.
     Err(CountFault::NoMemory)
 }
 
-/// Adds row `number`, if it isn't skipped; else its first fault, or NoMemory.
+/// Adds row `number`, if it isn't skipped. Faults: BadFields, BadCode, TooMany; NoMemory.
 fn add_row(kept: &mut Vec<CountRow>, number: u64, row: &ByteRecord) -> Result<(), CountFault>
     ensures ok { OnOk result (
         (row_fault (length kept.old.items) number (fields_of row.now) ≡ None)
@@ -70,7 +72,7 @@ fn add_row(kept: &mut Vec<CountRow>, number: u64, row: &ByteRecord) -> Result<()
     }
 }
 
-/// Adds a row, which has this number in the file, where it fits; else TooMany, or NoMemory.
+/// Adds a row, which is number `number` of the file. Faults: TooMany; NoMemory.
 fn keep(
     kept: &mut Vec<CountRow>,
     number: u64,
@@ -90,7 +92,7 @@ fn keep(
     Ok(())
 }
 
-/// What row `number` counts, or nothing where it is skipped; else its first fault by itself: BadFields or BadCode.
+/// Reads row `number`; None if it is skipped. Faults: BadFields, BadCode.
 fn read_row(number: u64, row: &ByteRecord) -> Result<Option<CountRow>, CountFault>
     ensures { MatchResult result
         (λ read. (own_fault number (fields_of row.now) ≡ None)
@@ -110,7 +112,7 @@ fn read_row(number: u64, row: &ByteRecord) -> Result<Option<CountRow>, CountFaul
     }
 }
 
-/// The count row of so many fields, if its codes are right.
+/// Reads the codes of a row with this many fields; None if one is wrong.
 fn count_row(row: &ByteRecord, fields: usize) -> Option<CountRow>
     requires { fields ≡ field_count (fields_of row.now) }
     ensures { result ≡ (if has_codes (fields_of row.now) then Some (count_row (fields_of row.now))

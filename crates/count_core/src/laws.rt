@@ -1,4 +1,4 @@
-//! Laws of counts and of reports, each on a function that does nothing.
+//! Laws about counts and reports. Each is stated on a function that does nothing.
 ghost use Rattle.std.specs.Prelude.{◌≡◌, ◌≢◌, ◌<◌, ◌⊎◌, ℕ, ℤ, List, [], Contains, length, true, Some};
 ghost use Rattle.codes_core.specs.Place.{lies_in};
 ghost use Rattle.nest_core.specs.Museum.{is_own, normal_of, place_code_of};
@@ -10,7 +10,7 @@ ghost use Rattle.count_core.specs.Accounts.{IsOverdue, CountsAll, named_by_row, 
 ghost use Rattle.count_core.specs.Counts.{answers, missing, named};
 ghost use Rattle.count_core.specs.Reports.{away, away_object, in_place, overdue};
 
-/// A loan is overdue exactly where its last day has passed and an object of it is still owed.
+/// A loan is overdue exactly if its last day has passed and one of its objects is still owed.
 pub fn overdue_is_owed_too_long()
     ensures told { (B : Book) (day : ℤ) (loan : List ℕ) → Contains (overdue B day) loan
         → IsOverdue B day loan }
@@ -18,7 +18,7 @@ pub fn overdue_is_owed_too_long()
         → Contains (overdue B day) loan }
 {}
 
-/// An own object is away exactly where its current place isn't its normal one, and no other thing is.
+/// An own object is away exactly if its current place isn't its normal one. No other thing is away.
 pub fn away_is_not_at_the_normal_place()
     ensures own { (B : Book) (x : ℕ) → Contains (away B) (away_object B x)
         → is_own B.museum x ≡ true }
@@ -35,7 +35,8 @@ pub fn places_hold_what_lies_in_them()
         → Contains (in_place B inner) x → Contains (in_place B outer) x }
 {}
 
-/// Each thing with a place is in that place, and at one place only: of two places that it is in, one lies in the other.
+/// Each thing with a place is in that place, and at one place only: of two places that it is in,
+/// one lies in the other.
 pub fn things_are_at_one_place()
     ensures somewhere { (B : Book) (x p : ℕ) (code : List ℕ) → x < length B.museum.things
         → place_in B x ≡ Some p → place_code_of B.museum p ≡ Some code
@@ -45,7 +46,8 @@ pub fn things_are_at_one_place()
         → (lies_in one other ≡ true) ⊎ (lies_in other one ≡ true) }
 {}
 
-/// Each row of a count list has one answer, and only the first that names a thing can find it.
+/// Each row of a count list has one answer, and only the first row that names a thing can have
+/// Found.
 pub fn rows_are_answered_once()
     ensures each { (B : Book) (rows : List CountRow) → length (answers B rows) ≡ length rows }
     ensures found_once { (B : Book) (rows : List CountRow) (i j x : ℕ) → i < j
@@ -53,7 +55,8 @@ pub fn rows_are_answered_once()
         → answer_of_row B rows j ≢ Some Found }
 {}
 
-/// What a count list misses was named by none of its rows; and nothing is missing where it names all that its places hold.
+/// No row of the list names what is missing. If the rows name all that is in their places, nothing
+/// is missing.
 pub fn missing_is_what_no_row_names()
     ensures unnamed { (B : Book) (rows : List CountRow) (m : MissingObject) (r : CountRow)
         → Contains (missing B rows) m → Contains rows r → named B.museum r ≢ Some m.object }

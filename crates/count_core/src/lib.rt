@@ -1,4 +1,24 @@
-//! Count lists checked against the ledger, and reports on it: what is overdue, what is away, what is in a place.
+//! Checks count lists against the ledger, and reports on the ledger: what is overdue, what is away,
+//! what is in a place.
+//!
+//! [`read_counts`] reads a list of [`CountRow`]s, and [`check`] compares it with the ledger. Its
+//! [`CountReport`] has an answer for each row, and the objects that the list misses. [`overdue`],
+//! [`away`] and [`in_place`] are the other reports.
+//!
+//! The contracts promise:
+//!
+//! - A list is read exactly, or rejected with its first fault.
+//! - The report is the one that the definitions give, whatever the number of workers.
+//! - All places and things in a report are in the setup. `laws` has what follows from the
+//!   definitions, such as that no thing is Found twice.
+//!
+//! The only fault of a report is NoMemory.
+//!
+//! ```text
+//! let rows = read_counts(alloc, bytes)?;
+//! let report = check(&rt, alloc, hub.ledger(), rows.as_slice())?;
+//! let loans = overdue(alloc, hub.ledger(), day)?;
+//! ```
 #![tactic(auto)]
 
 mod answer;
@@ -7,8 +27,8 @@ mod count_fault;
 mod count_reader;
 mod count_row;
 pub mod laws;
-mod looking;
-mod marking;
+mod lookup;
+mod marks;
 mod missing;
 mod outer;
 mod reports;
@@ -21,5 +41,5 @@ pub use count_reader::read_counts;
 pub use count_row::CountRow;
 pub use reports::{away, in_place, overdue};
 
-/// The most rows of a count list.
+/// The most rows of a count list, not counting skipped ones.
 pub const MOST_COUNT_ROWS: usize = 100_000;

@@ -1,11 +1,11 @@
-//! The objects that a count list misses.
+//! Finds the objects that a count list misses.
 ghost use Rattle.std.specs.Prelude.{◌≡◌, ◌<◌, ◌++◌, All, IfOk, OnOk, length, map};
 ghost use Rattle.std.specs.List.{range_with_len};
 ghost use Rattle.count_core.specs.Counts.{look_at, mentioned, missing, missing_at, named, IsMissingIn};
 ghost use Rattle.count_core.specs.Marks.{AreNames};
 
-use crate::looking::{Looked, looked_in};
-use crate::marking::set_flag;
+use crate::lookup::{Looked, looked_in};
+use crate::marks::set_flag;
 use crate::unnamed::unnamed_in_each;
 use crate::{CountRow, MissingObject};
 use codes_core::NoMemory;
@@ -13,8 +13,9 @@ use nest_core::{PlaceNo, ThingNo};
 use posting_core::Ledger;
 use std::alloc::Global;
 
-/// For each known place of the rows, by first mention and once, the objects in it that no row names, ascending; by the
-/// flags of the things that rows name.
+/// Returns the objects that no row names in each known place of the rows. The places come once
+/// each, in the order of first mention, and the objects in ascending order. `flags` marks the
+/// things that rows name.
 pub(crate) fn missing(
     alloc: Global,
     ledger: &Ledger,
@@ -39,7 +40,7 @@ pub(crate) fn missing(
     Ok(missing)
 }
 
-/// The known places of the rows, which were looked up, by first mention and once.
+/// The known places of the rows, once each, in the order of first mention.
 fn mentioned(
     alloc: Global,
     ledger: &Ledger,

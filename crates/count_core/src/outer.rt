@@ -1,4 +1,4 @@
-//! The places that a place lies in, found by its code.
+//! Finds the places that a place lies in, by its code.
 ghost use Rattle.std.specs.Prelude.{◌≡◌, ◌<◌, ◌≤◌, IfOk, OnOk, length};
 ghost use Rattle.codes_core.specs.Place.{ends_segment};
 ghost use Rattle.count_core.specs.Inside.{outer_place, outer_of, lists, list_at, AreOuter};
@@ -7,7 +7,8 @@ use codes_core::{NoMemory, PlaceCode};
 use nest_core::{PlaceNo, Setup};
 use std::alloc::Global;
 
-/// Looks up in which places the place lies, if nobody asked for it before.
+/// Looks up the places that this place lies in, unless that was done before. `outer` has one list
+/// for each place, empty until it is needed.
 pub(crate) fn ask(
     alloc: Global,
     setup: &Setup,
@@ -25,7 +26,7 @@ pub(crate) fn ask(
     Ok(())
 }
 
-/// The places in which a place lies: at most three around it, outermost first, and then itself.
+/// The places that a place lies in: at most three around it, outermost first, and then itself.
 fn outer_places(alloc: Global, setup: &Setup, place: PlaceNo) -> Result<Vec<PlaceNo>, NoMemory>
     requires { place < length setup.now.places }
     ensures { IfOk result (λ v. v.items ≡ outer_of setup.now place) }
@@ -43,7 +44,7 @@ fn outer_places(alloc: Global, setup: &Setup, place: PlaceNo) -> Result<Vec<Plac
     Ok(places)
 }
 
-/// The place whose code is the first bytes of this one, so many, if a segment ends there.
+/// The place whose code is the first `end` bytes of this one, if a segment ends there.
 fn outer_place(setup: &Setup, text: &[u8], end: usize) -> Option<PlaceNo>
     requires { end ≤ length text.now }
     ensures { result ≡ outer_place setup.now text.now end }

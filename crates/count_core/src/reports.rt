@@ -1,4 +1,5 @@
-//! Reports on the ledger: what is overdue, what is away from its normal place, and what is in a place.
+//! Reports on the ledger: what is overdue, what is away from its normal place, and what is in a
+//! place.
 ghost use Rattle.std.specs.Prelude.{◌≡◌, ◌<◌, All, IfOk, length, slice_get, Some, false};
 ghost use Rattle.std.specs.List.{list_any};
 ghost use Rattle.std.specs.Option.{option_map_or};
@@ -6,14 +7,14 @@ ghost use Rattle.posting_core.specs.Book.{loans_in};
 ghost use Rattle.count_core.specs.Reports.{overdue, is_overdue, is_owed, is_out_still, away, is_away, in_place, IsAwayIn};
 
 use crate::AwayObject;
-use crate::looking::is_in;
+use crate::lookup::is_in;
 use codes_core::{Day, LoanCode, NoMemory, PlaceCode, ThingKind};
 use nest_core::ThingNo;
 use posting_core::{Ledger, LineStage};
 use std::alloc::Global;
 
-/// The loans under which an object is still owed and whose last day is before the day, in the order of their
-/// agreements; else NoMemory.
+/// Returns the overdue loans, in the order of their agreements: an object is still owed, and the
+/// last day, as extended, is before `day`. Fault: NoMemory.
 pub fn overdue(alloc: Global, ledger: &Ledger, day: Day) -> Result<Vec<LoanCode>, NoMemory>
     ensures { IfOk result (λ loans. loans.items ≡ overdue ledger.now day) }
 {
@@ -27,7 +28,7 @@ pub fn overdue(alloc: Global, ledger: &Ledger, day: Day) -> Result<Vec<LoanCode>
     Ok(loans)
 }
 
-/// Whether the loan, which has this number, is overdue.
+/// Whether the loan, which is number i in the order of agreements, is overdue.
 fn is_overdue(ledger: &Ledger, i: usize, loan: &LoanCode, day: Day) -> bool
     requires { slice_get (loans_in ledger.now) i ≡ Some loan.now }
     ensures { result ≡ is_overdue ledger.now day loan.now }
@@ -38,7 +39,7 @@ fn is_overdue(ledger: &Ledger, i: usize, loan: &LoanCode, day: Day) -> bool
     last < day && has_owed(ledger, loan, ledger.objects(i))
 }
 
-/// Whether one of the objects is owed under the loan.
+/// Whether one of the objects is still owed under the loan.
 fn has_owed(ledger: &Ledger, loan: &LoanCode, objects: &[ThingNo]) -> bool
     ensures { result ≡ list_any (is_owed ledger.now loan.now) objects.now }
 {
@@ -50,15 +51,15 @@ fn has_owed(ledger: &Ledger, loan: &LoanCode, objects: &[ThingNo]) -> bool
     false
 }
 
-/// Whether a line's object has crossed under its loan, and hasn't gone back.
+/// Whether the object of this loan line has crossed under its loan, and hasn't gone back.
 fn is_owed(line: Option<LineStage>) -> bool
     ensures { result ≡ option_map_or is_out_still line false }
 {
     matches!(line, Some(LineStage::Away | LineStage::Here))
 }
 
-/// The own objects that aren't at their normal place itself, ascending, each with its place; those that were never
-/// placed are among them. Else NoMemory.
+/// Returns the own objects that aren't exactly at their normal place, in ascending order, each with
+/// its place. Objects that were never placed are among them. Fault: NoMemory.
 pub fn away(alloc: Global, ledger: &Ledger) -> Result<Vec<AwayObject>, NoMemory>
     ensures objects { IfOk result (λ objects. objects.items ≡ away ledger.now) }
     ensures within { IfOk result (λ objects. All (IsAwayIn ledger.now.museum) objects.items) }
@@ -81,7 +82,8 @@ fn is_away(ledger: &Ledger, thing: ThingNo) -> bool
     matches!(setup.kind(thing), ThingKind::Own) && ledger.place_of(thing) != setup.normal(thing)
 }
 
-/// The things whose place is the one with the code, or lies in it, ascending; else NoMemory.
+/// Returns the things whose place is the one with this code, or lies in it, in ascending order.
+/// Fault: NoMemory.
 pub fn in_place(alloc: Global, ledger: &Ledger, place: &PlaceCode) -> Result<Vec<ThingNo>, NoMemory>
     ensures things { IfOk result (λ things. things.items ≡ in_place ledger.now place.now) }
     ensures within { IfOk result

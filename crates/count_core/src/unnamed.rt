@@ -1,4 +1,4 @@
-//! The objects that no row names, place by place.
+//! Finds the objects that no row names, place by place.
 ghost use Rattle.std.specs.Prelude.{◌≡◌, ◌<◌, ◌==◌, ◌+◌, ◌++◌, ◌∷◌, [], ℕ, All, IfOk, OnOk, cond, filter, length, map, replicate};
 ghost use Rattle.count_core.specs.Inside.{lists, list_at, AreOuter, AreUnflaggedIn};
 ghost use Rattle.count_core.specs.Marks.{is_unflagged};
@@ -9,7 +9,7 @@ use nest_core::{PlaceNo, Setup, ThingNo};
 use posting_core::Ledger;
 use std::alloc::{AllocError, Global};
 
-/// For each place the objects in it that have no flag, ascending.
+/// For each place, the objects in it that have no flag, in ascending order.
 pub(crate) fn unnamed_in_each(
     alloc: Global,
     ledger: &Ledger,
@@ -27,7 +27,7 @@ pub(crate) fn unnamed_in_each(
     Ok(unnamed)
 }
 
-/// As many empty lists.
+/// This many empty lists.
 fn empty_lists(alloc: Global, count: u32) -> Result<Vec<Vec<ThingNo>>, AllocError>
     ensures { IfOk result (λ v. lists v.items ≡ replicate count []) }
 {
@@ -38,8 +38,7 @@ fn empty_lists(alloc: Global, count: u32) -> Result<Vec<Vec<ThingNo>>, AllocErro
     Ok(empty)
 }
 
-/// Adds the thing to the lists of the places that it is in, if it is an object without a flag; asks for the places around its
-/// own.
+/// If the thing is an object without a flag, adds it to the lists of the places that it is in.
 fn add_unnamed(
     alloc: Global,
     unnamed: &mut Vec<Vec<ThingNo>>,
@@ -75,7 +74,7 @@ fn is_unflagged(setup: &Setup, flags: &[bool], thing: ThingNo) -> bool
     !flags[thing as usize] && !matches!(setup.kind(thing), ThingKind::Container)
 }
 
-/// Adds the thing to the list of each of the places, as often as this is among them.
+/// Adds the thing to the list of each of these places.
 fn push_to_each(
     unnamed: &mut Vec<Vec<ThingNo>>,
     places: &[PlaceNo],

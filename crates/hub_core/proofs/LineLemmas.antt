@@ -10,7 +10,8 @@ before_feed : (p rest : List ℕ) → HasNoFeed p → take_while (λ b. not (b =
 before_feed [] rest h = take_while-cons (λ b. not (b == 10)) 10 rest
 before_feed (x ∷ p) rest h =
     take_while-cons (λ b. not (b == 10)) x (p ++ 10 ∷ rest)
-    ∙ ap (λ t. cond (not t) (x ∷ take_while (λ b. not (b == 10)) (p ++ 10 ∷ rest)) []) (ne_eqb x 10 h.0)
+    ∙ ap (λ t. cond (not t) (x ∷ take_while (λ b. not (b == 10)) (p ++ 10 ∷ rest)) [])
+        (ne_eqb x 10 h.0)
     ∙ ap (λ (xs : List ℕ). x ∷ xs) (before_feed p rest h.1)
 
 before_end : (p : List ℕ) → HasNoFeed p → take_while (λ b. not (b == 10)) p ≡ p
@@ -27,10 +28,12 @@ pub line_last : (p : List ℕ) → HasNoFeed p → line_of p ≡ without_return 
 line_last p h = ap without_return (before_end p h)
 
 -- a line with its line feed is the first piece
-pub pieces_fed : (p rest : List ℕ) → HasNoFeed p → pieces (p ++ 10 ∷ rest) ≡ (p ++ 10 ∷ []) ∷ pieces rest
+pub pieces_fed : (p rest : List ℕ) → HasNoFeed p
+    → pieces (p ++ 10 ∷ rest) ≡ (p ++ 10 ∷ []) ∷ pieces rest
 pieces_fed [] rest h = refl
 pieces_fed (x ∷ p) rest h =
-    ap (λ t. if t then (x ∷ []) ∷ pieces (p ++ 10 ∷ rest) else before x (pieces (p ++ 10 ∷ rest))) (ne_eqb x 10 h.0)
+    ap (λ t. if t then (x ∷ []) ∷ pieces (p ++ 10 ∷ rest) else before x (pieces (p ++ 10 ∷ rest)))
+        (ne_eqb x 10 h.0)
     ∙ ap (before x) (pieces_fed p rest h.1)
 
 pub pieces_last : (x : ℕ) (p : List ℕ) → HasNoFeed (x ∷ p) → pieces (x ∷ p) ≡ (x ∷ p) ∷ []
@@ -42,18 +45,23 @@ pieces_last x (y ∷ p) h =
 ended_fed : (p rest : List ℕ) → HasNoFeed p → ended (p ++ 10 ∷ rest) ≡ p ++ 10 ∷ ended rest
 ended_fed [] rest h = refl
 ended_fed (x ∷ p) rest h =
-    ap (λ t. if t then x ∷ ended (p ++ 10 ∷ rest) else (if is_empty (ended (p ++ 10 ∷ rest)) then [] else x ∷ ended (p ++ 10 ∷ rest))) (ne_eqb x 10 h.0)
+    ap (λ t. if t then x ∷ ended (p ++ 10 ∷ rest) else
+        (if is_empty (ended (p ++ 10 ∷ rest)) then [] else x ∷ ended (p ++ 10 ∷ rest)))
+        (ne_eqb x 10 h.0)
     ∙ ap (λ (xs : List ℕ). if is_empty xs then [] else x ∷ xs) (ended_fed p rest h.1)
     ∙ kept p
   where
-    kept : (q : List ℕ) → (if is_empty (q ++ 10 ∷ ended rest) then [] else x ∷ (q ++ 10 ∷ ended rest)) ≡ x ∷ (q ++ 10 ∷ ended rest)
+    kept : (q : List ℕ)
+        → (if is_empty (q ++ 10 ∷ ended rest) then [] else x ∷ (q ++ 10 ∷ ended rest)) ≡ x
+        ∷ (q ++ 10 ∷ ended rest)
     kept [] = refl
     kept (y ∷ q) = refl
 
 pub ended_none : (p : List ℕ) → HasNoFeed p → ended p ≡ []
 ended_none [] h = refl
 ended_none (x ∷ p) h =
-    ap (λ t. if t then x ∷ ended p else (if is_empty (ended p) then [] else x ∷ ended p)) (ne_eqb x 10 h.0)
+    ap (λ t. if t then x ∷ ended p else (if is_empty (ended p) then [] else x ∷ ended p))
+        (ne_eqb x 10 h.0)
     ∙ ap (λ (xs : List ℕ). if is_empty xs then [] else x ∷ xs) (ended_none p h.1)
 
 -- whole lines: what comes behind them is cut apart
@@ -68,14 +76,16 @@ pub whole_more : (c p : List ℕ) → IsWhole c → HasNoFeed p → IsWhole (c +
 whole_more c p w h = record {
   cut = λ x.
       let one : (p ++ 10 ∷ []) ++ x ≡ p ++ 10 ∷ x = append_assoc p (10 ∷ []) x in
-      let here : pieces (c ++ (p ++ 10 ∷ [])) ≡ pieces c ++ (p ++ 10 ∷ []) ∷ [] = w.cut (p ++ 10 ∷ []) ∙ ap (λ (q : List (List ℕ)). pieces c ++ q) (pieces_fed p [] h) in
+      let here : pieces (c ++ (p ++ 10 ∷ [])) ≡ pieces c ++ (p ++ 10 ∷ []) ∷ [] =
+          w.cut (p ++ 10 ∷ []) ∙ ap (λ (q : List (List ℕ)). pieces c ++ q) (pieces_fed p [] h) in
       ap pieces (append_assoc c (p ++ 10 ∷ []) x ∙ ap (λ (q : List ℕ). c ++ q) one)
       ∙ w.cut (p ++ 10 ∷ x)
       ∙ ap (λ (q : List (List ℕ)). pieces c ++ q) (pieces_fed p x h)
       ∙ sym (append_assoc (pieces c) ((p ++ 10 ∷ []) ∷ []) (pieces x))
       ∙ ap (λ (q : List (List ℕ)). q ++ pieces x) (sym here);
   through = λ x.
-      ap ended (append_assoc c (p ++ 10 ∷ []) x ∙ ap (λ (q : List ℕ). c ++ q) (append_assoc p (10 ∷ []) x))
+      ap ended (append_assoc c (p ++ 10 ∷ []) x ∙ ap (λ (q : List ℕ). c ++ q)
+          (append_assoc p (10 ∷ []) x))
       ∙ w.through (p ++ 10 ∷ x)
       ∙ ap (λ (q : List ℕ). c ++ q) (ended_fed p x h ∙ sym (append_assoc p (10 ∷ []) (ended x)))
       ∙ sym (append_assoc c (p ++ 10 ∷ []) (ended x));

@@ -11,12 +11,15 @@ module _ (a b c : Option (List ℕ)) (most : ℕ) (held held_new bytes : List �
   abbrev grown : TakesPiece b c most held held_new end → List ℕ
   grown p = bytes ++ p.bytes
 
-  joined : (p : TakesPiece b c most held held_new end) (fed : Bool) → is_feed end ≡ fed → Consumes a b bytes → Consumes a c ((bytes ++ p.bytes) ++ feed_if fed)
+  joined : (p : TakesPiece b c most held held_new end) (fed : Bool) → is_feed end ≡ fed
+      → Consumes a b bytes → Consumes a c ((bytes ++ p.bytes) ++ feed_if fed)
   joined p fed e taken =
       subst (Consumes a c) (sym (append_assoc bytes p.bytes (feed_if fed)))
-      (subst (λ t. Consumes a c (bytes ++ (p.bytes ++ feed_if t))) e (Consumes-trans a b c bytes _ taken p.taken))
+      (subst (λ t. Consumes a c (bytes ++ (p.bytes ++ feed_if t))) e
+          (Consumes-trans a b c bytes _ taken p.taken))
 
-  pub line_fed : Consumes a b bytes → HasNoFeed bytes → held ≡ take most bytes → TakesPiece b c most held held_new end → end ≡ Feed → TakesLine a c most held_new true
+  pub line_fed : Consumes a b bytes → HasNoFeed bytes → held ≡ take most bytes
+      → TakesPiece b c most held held_new end → end ≡ Feed → TakesLine a c most held_new true
   line_fed taken one kept p e = record {
     bytes = bytes ++ p.bytes;
     taken = joined p true (ap is_feed e) taken;
@@ -25,7 +28,8 @@ module _ (a b c : Option (List ℕ)) (most : ℕ) (held held_new bytes : List �
     last = λ f. absurd (true≢false f);
   }
 
-  pub line_last : Consumes a b bytes → HasNoFeed bytes → held ≡ take most bytes → TakesPiece b c most held held_new end → end ≡ Input → TakesLine a c most held_new false
+  pub line_last : Consumes a b bytes → HasNoFeed bytes → held ≡ take most bytes
+      → TakesPiece b c most held held_new end → end ≡ Input → TakesLine a c most held_new false
   line_last taken one kept p e = record {
     bytes = bytes ++ p.bytes;
     taken = joined p false (ap is_feed e) taken;
@@ -34,7 +38,8 @@ module _ (a b c : Option (List ℕ)) (most : ℕ) (held held_new bytes : List �
     last = λ f. end_after a b c bytes taken (p.last e);
   }
 
-  pub line_open : Consumes a b bytes → HasNoFeed bytes → held ≡ take most bytes → TakesPiece b c most held held_new end → end ≡ Open
+  pub line_open : Consumes a b bytes → HasNoFeed bytes → held ≡ take most bytes
+      → TakesPiece b c most held held_new end → end ≡ Open
       → (more : List ℕ) × Consumes a c more × HasNoFeed more × (held_new ≡ take most more)
   line_open taken one kept p e = (
     bytes ++ p.bytes,

@@ -15,15 +15,22 @@ use Rattle.hub_core.specs.Points.{where_from, whereabouts}
 abbrev pub book_at : Museum → ℕ → List Entry → Book
 book_at S depth P = record { museum = S; depth = depth; posted = P }
 
-pub alike_after : (S : Museum) (depth : ℕ) (Q P L : List Entry) → Q ≡ L ++ P → are_refused L ≡ true → AnswerAlike (book_at S depth Q) (book_at S depth P)
-alike_after S depth Q P L is refused = subst (λ (K : List Entry). AnswerAlike (book_at S depth K) (book_at S depth P)) (sym is) (all_unchanged (book_at S depth P) L refused)
+pub alike_after : (S : Museum) (depth : ℕ) (Q P L : List Entry) → Q ≡ L ++ P → are_refused L ≡ true
+    → AnswerAlike (book_at S depth Q) (book_at S depth P)
+alike_after S depth Q P L is refused =
+    subst (λ (K : List Entry). AnswerAlike (book_at S depth K) (book_at S depth P)) (sym is)
+    (all_unchanged (book_at S depth P) L refused)
 
-pub same_whereabouts : (S : Museum) (depth : ℕ) (Q P L : List Entry) (code : List ℕ) → Q ≡ L ++ P → are_refused L ≡ true → whereabouts S Q code ≡ whereabouts S P code
+pub same_whereabouts : (S : Museum) (depth : ℕ) (Q P L : List Entry) (code : List ℕ) → Q ≡ L ++ P
+    → are_refused L ≡ true → whereabouts S Q code ≡ whereabouts S P code
 same_whereabouts S depth Q P L code is refused = by (find_thing S code)
   where
     alike : AnswerAlike (book_at S depth Q) (book_at S depth P)
     alike = alike_after S depth Q P L is refused
 
-    by : (x : Option ℕ) → option_map_or (λ x. where_from (place_at S Q x) (chain_at S Q x)) x UnknownThing ≡ option_map_or (λ x. where_from (place_at S P x) (chain_at S P x)) x UnknownThing
+    by : (x : Option ℕ) → option_map_or (λ x. where_from (place_at S Q x) (chain_at S Q x)) x
+        UnknownThing ≡ option_map_or (λ x. where_from (place_at S P x) (chain_at S P x)) x
+        UnknownThing
     by None = refl
-    by (Some x) = ap (λ p. where_from p (chain_at S Q x)) (alike.places x) ∙ ap (where_from (place_at S P x)) (alike.chains x)
+    by (Some x) = ap (λ p. where_from p (chain_at S Q x)) (alike.places x)
+        ∙ ap (where_from (place_at S P x)) (alike.chains x)

@@ -21,16 +21,20 @@ digits_few n small = length-decimal-le 20 n (omega arith) (omega (arith, small))
 
 short_by_test : (name : List ℕ) → is_station_name name ≡ true → length name ≤ 16
 short_by_test name h =
-    let sized : (nat_lt 0 (length name) && nat_le (length name) 16) ≡ true = (and_parts _ (list_all is_station_byte name) h).0 in
+    let sized : (nat_lt 0 (length name) && nat_le (length name) 16) ≡ true =
+        (and_parts _ (list_all is_station_byte name) h).0 in
     let short : nat_le (length name) 16 ≡ true = (and_parts (nat_lt 0 (length name)) _ sized).1 in
     grind (arith, nat_tests)
 
 -- a station's name is short
-pub name_short : (S : Museum) (s : ℕ) (name : List ℕ) → list_all is_station_name S.stations ≡ true → station_name_of S s ≡ Some name → length name ≤ 16
-name_short S s name names is = short_by_test name (passes_at is_station_name S.stations s name names is)
+pub name_short : (S : Museum) (s : ℕ) (name : List ℕ) → list_all is_station_name S.stations ≡ true
+    → station_name_of S s ≡ Some name → length name ≤ 16
+name_short S s name names is =
+    short_by_test name (passes_at is_station_name S.stations s name names is)
 
 -- and so is a refusal's
-pub word_short : (refusal : Refusal) (word : List ℕ) → word ≡ refusal_name refusal → length word ≤ 14
+pub word_short : (refusal : Refusal) (word : List ℕ) → word ≡ refusal_name refusal
+    → length word ≤ 14
 word_short refusal word is = subst (λ (w : List ℕ). length w ≤ 14) (sym is) (by refusal)
   where
     by : (refusal : Refusal) → length (refusal_name refusal) ≤ 14
@@ -42,11 +46,14 @@ word_short refusal word is = subst (λ (w : List ℕ). length w ≤ 14) (sym is)
 
 -- there is room for each of these replies
 module _ (used room : ℕ) (has : used + REPLY_ROOM ≤ room) (n : ℕ) (small : n < 2 ^ 64) where
-  pub refused_fits : (name word : List ℕ) → length name ≤ 16 → length word ≤ 14 → used + length (refused_line name n word) ≤ room
-  refused_fits name word short brief = let digits = digits_few n small in simp length-append (omega (arith, has, short, brief, digits))
+  pub refused_fits : (name word : List ℕ) → length name ≤ 16 → length word ≤ 14
+      → used + length (refused_line name n word) ≤ room
+  refused_fits name word short brief = let digits = digits_few n small in
+      simp length-append (omega (arith, has, short, brief, digits))
 
   pub held_fits : (name : List ℕ) → length name ≤ 16 → used + length (held_line name n) ≤ room
-  held_fits name short = let digits = digits_few n small in simp length-append (omega (arith, has, short, digits))
+  held_fits name short = let digits = digits_few n small in
+      simp length-append (omega (arith, has, short, digits))
 
   pub unknown_fits : used + length (unknown_station_line n) ≤ room
   unknown_fits = let digits = digits_few n small in simp length-append (omega (arith, has, digits))
@@ -60,10 +67,12 @@ no_fault (Ok x) P is = tt
 no_fault (Err e) P is = absurd (true≢false (sym is))
 
 -- the text of containers, where there are any
-pub chain_length : (S : Museum) (cs : List ℕ) (i : ℕ) → i < length cs → length (chain_text S cs) ≡ suc (suc (suc (length (flat_map (container_text S) cs))))
+pub chain_length : (S : Museum) (cs : List ℕ) (i : ℕ) → i < length cs
+    → length (chain_text S cs) ≡ suc (suc (suc (length (flat_map (container_text S) cs))))
 chain_length S [] i within = absurd (omega arith)
 chain_length S (c ∷ cs) i within = refl
 
 -- the text of one container
-pub container_length : (S : Museum) (x : ℕ) (code : List ℕ) → thing_code_of S x ≡ Some code → length (container_text S x) ≡ suc (length code)
+pub container_length : (S : Museum) (x : ℕ) (code : List ℕ) → thing_code_of S x ≡ Some code
+    → length (container_text S x) ≡ suc (length code)
 container_length S x code is = ap (λ it. suc (length (unwrap_or it []))) is

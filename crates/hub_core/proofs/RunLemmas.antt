@@ -47,11 +47,13 @@ no_entries P c none list =
     omega arith
 
 -- a register with nothing lacks nothing but memory
-only_memory : (S : Museum) (fault : StoreFault) → IsOpenFault S nothing fault → CountsFault 0 0 fault → fault ≡ store.NoMemory
+only_memory : (S : Museum) (fault : StoreFault) → IsOpenFault S nothing fault
+    → CountsFault 0 0 fault → fault ≡ store.NoMemory
 only_memory S store.NoMemory cause count = refl
 only_memory S store.Store cause count = absurd (omega (arith, count))
 only_memory S store.OtherVersion cause count = absurd (true≢false (sym cause))
-only_memory S store.OtherSetup cause count = absurd (omega (arith, length_permutation _ _ cause.0.2))
+only_memory S store.OtherSetup cause count =
+    absurd (omega (arith, length_permutation _ _ cause.0.2))
 only_memory S (store.Damaged at) (inl cause) count = absurd (true≢false cause.1)
 only_memory S (store.Damaged at) (inr (inl (depth, bound, wrong))) count =
     let none = length_permutation _ _ wrong.all in
@@ -62,8 +64,11 @@ only_memory S (store.Damaged at) (inr (inr (inl wrong))) count =
     let some = ap length wrong.wrong.all in
     absurd (omega (arith, length-append wrong.wrong.after (wrong.wrong.entry ∷ wrong.wrong.before)))
 only_memory S (store.Damaged at) (inr (inr (inr wrong))) count =
-    let none = nil_from_length wrong.entries (no_entries wrong.entries (bound_to S nothing) refl wrong.list) in
-    let has : HasRows S [] (bound_to S nothing) = record { spots = IsPermutation-refl []; lines = IsPermutation-refl []; terms = IsPermutation-refl [] } in
+    let none = nil_from_length wrong.entries
+        (no_entries wrong.entries (bound_to S nothing) refl wrong.list) in
+    let has : HasRows S [] (bound_to S nothing) =
+        record { spots = IsPermutation-refl []; lines = IsPermutation-refl [];
+        terms = IsPermutation-refl [] } in
     absurd (wrong.wrong (subst (λ P. HasRows S P (bound_to S nothing)) (sym none) has))
 
 -- nothing, in any order
@@ -78,13 +83,19 @@ only_nothing c same =
     rw (setup, meta, postings, spots, lines, terms) refl
 
 -- what a hub that was opened over nothing is
-pub opened_fresh : (S : Museum) (register : Kept) (hub : State Kept) → register.content ≡ nothing → Opened in_memory S register hub → IsFresh hub S
+pub opened_fresh : (S : Museum) (register : Kept) (hub : State Kept) → register.content ≡ nothing
+    → Opened in_memory S register hub → IsFresh hub S
 opened_fresh S register hub new opened =
-    let (c, was, step) = opened.comes.from tt hub.register.content (same_itself hub.register.content) in
+    let (c, was, step) = opened.comes.from tt hub.register.content
+        (same_itself hub.register.content) in
     let is : c ≡ nothing = only_nothing c (subst (λ (k : Content). AreSame k c) new was) in
-    let store = opened.stands.stored.each tt hub.register.content (same_itself hub.register.content) in
-    let empty : hub.book.posted ≡ [] = nil_from_length hub.book.posted (no_entries hub.book.posted c (ap (λ (k : Content). k.postings) is) step.0) in
-    let at : AreSame (bound_to S nothing) hub.register.content = subst (λ (k : Content). AreSame (bound_to S k) hub.register.content) is step.1 in
+    let store = opened.stands.stored.each tt hub.register.content
+        (same_itself hub.register.content) in
+    let empty : hub.book.posted ≡ [] =
+        nil_from_length hub.book.posted
+        (no_entries hub.book.posted c (ap (λ (k : Content). k.postings) is) step.0) in
+    let at : AreSame (bound_to S nothing) hub.register.content =
+        subst (λ (k : Content). AreSame (bound_to S k) hub.register.content) is step.1 in
     let meta = IsPermutation-trans _ _ _ store.bound.meta (IsPermutation-sym _ _ at.meta) in
     record {
       museum = opened.setup;
@@ -93,42 +104,59 @@ opened_fresh S register hub new opened =
     }
 
 -- one that was not
-pub only_memory_lacks : (S : Museum) (register left : Kept) (fault : StoreFault) → register.content ≡ nothing → Comes (in_memory register) (in_memory left) (IsNotOpened S fault) → CountsFault 0 0 fault → fault ≡ store.NoMemory
+pub only_memory_lacks : (S : Museum) (register left : Kept) (fault : StoreFault)
+    → register.content ≡ nothing → Comes (in_memory register) (in_memory left) (IsNotOpened S fault)
+    → CountsFault 0 0 fault → fault ≡ store.NoMemory
 only_memory_lacks S register left fault new comes count =
     let (c, was, cause) = comes.from tt left.content (same_itself left.content) in
     let is : c ≡ nothing = only_nothing c (subst (λ (k : Content). AreSame k c) new was) in
     only_memory S fault (subst (λ (k : Content). IsOpenFault S k fault) is cause.0) count
 
 -- over the head that was read
-pub opens_hub : (i i1 : Option (List ℕ)) (taken given : List ℕ) (setup : Museum) (hub : State Kept) → given ≡ taken → TakesHead i i1 taken → setup_fault given ≡ None → setup ≡ museum_of (rows_of given) → IsFresh hub setup → OpensHub i i1 hub
+pub opens_hub : (i i1 : Option (List ℕ)) (taken given : List ℕ) (setup : Museum) (hub : State Kept)
+    → given ≡ taken → TakesHead i i1 taken → setup_fault given ≡ None
+    → setup ≡ museum_of (rows_of given) → IsFresh hub setup → OpensHub i i1 hub
 opens_hub None i1 taken given setup hub at takes none is fresh = tt
 opens_hub (Some bytes) i1 taken given setup hub at (is_head, short, left) none is fresh =
     let all : given ≡ head bytes = at ∙ is_head in
-    let few : length (head bytes) ≤ LONGEST_HEAD = subst (λ (l : List ℕ). length l ≤ LONGEST_HEAD) is_head short in
+    let few : length (head bytes) ≤ LONGEST_HEAD =
+        subst (λ (l : List ℕ). length l ≤ LONGEST_HEAD) is_head short in
     let within : nat_lt LONGEST_HEAD (length (head bytes)) ≡ false = grind (arith, nat_tests) in
-    let whole : setup_fault (head bytes) ≡ None = subst (λ (l : List ℕ). setup_fault l ≡ None) all none in (
-      ap (λ t. if t then Some HeadTooLong else option_map Setup (setup_fault (head bytes))) within ∙ ap (option_map Setup) whole,
+    let whole : setup_fault (head bytes) ≡ None =
+        subst (λ (l : List ℕ). setup_fault l ≡ None) all none in (
+      ap (λ t. if t then Some HeadTooLong else option_map Setup (setup_fault (head bytes))) within
+          ∙ ap (option_map Setup) whole,
       left,
-      subst (λ (S : Museum). IsFresh hub S) (is ∙ ap (λ (l : List ℕ). museum_of (rows_of l)) all) fresh,
+      subst (λ (S : Museum). IsFresh hub S)
+          (is ∙ ap (λ (l : List ℕ). museum_of (rows_of l)) all) fresh,
     )
 
 -- the lines after the head are all answered
 pub lines_answered : (i i1 i2 o o' : Option (List ℕ)) (hub new : State Kept) → OpensHub i i1 hub
-    → ((O : List Entry) (A : List Arrival) → StandsFor in_memory hub O A → Answered hub.book.museum hub.book.depth O A i1 i2 o o' in_memory new true)
-    → IfSome i (λ bytes. (head_fault (head bytes) ≡ None) × IsAtEnd i2 × Appends o o' (run_text bytes))
+    → ((O : List Entry) (A : List Arrival) → StandsFor in_memory hub O A
+        → Answered hub.book.museum hub.book.depth O A i1 i2 o o' in_memory new true)
+    → IfSome i (λ bytes. (head_fault (head bytes) ≡ None) × IsAtEnd i2
+        × Appends o o' (run_text bytes))
 lines_answered None i1 i2 o o' hub new opens answered = tt
 lines_answered (Some bytes) i1 i2 o o' hub new opens answered =
     let fresh = opens.2 in
-    let all : Answered (setup_in bytes) NEW_DEPTH [] [] (Some (after_head bytes)) i2 o o' in_memory new true =
-    subst (λ (S : Museum). Answered S NEW_DEPTH [] [] (Some (after_head bytes)) i2 o o' in_memory new true) fresh.museum
-    (subst (λ depth. Answered hub.book.museum depth [] [] (Some (after_head bytes)) i2 o o' in_memory new true) fresh.depth
-    (subst (λ (left : Option (List ℕ)). Answered hub.book.museum hub.book.depth [] [] left i2 o o' in_memory new true) opens.1 (answered [] [] fresh.stands))) in
-    let whole = whole_input (setup_in bytes) NEW_DEPTH [] [] (Some (after_head bytes)) i2 o o' in_memory new all in
+    let all : Answered (setup_in bytes) NEW_DEPTH [] [] (Some (after_head bytes)) i2 o o'
+        in_memory new true =
+    subst (λ (S : Museum). Answered S NEW_DEPTH [] [] (Some (after_head bytes)) i2 o o' in_memory
+        new true) fresh.museum
+    (subst (λ depth. Answered hub.book.museum depth [] [] (Some (after_head bytes)) i2 o o'
+        in_memory new true) fresh.depth
+    (subst (λ (left : Option (List ℕ)). Answered hub.book.museum hub.book.depth [] [] left i2 o o'
+        in_memory new true) opens.1 (answered [] [] fresh.stands))) in
+    let whole = whole_input (setup_in bytes) NEW_DEPTH [] [] (Some (after_head bytes)) i2 o o'
+        in_memory new all in
     (opens.0, whole.0, whole.1)
 
 -- a fault in them
-pub lines_fault : (i i1 i2 o o' : Option (List ℕ)) (hub new : State Kept) (fault : ReplayFault) → OpensHub i i1 hub
-    → ((O : List Entry) (A : List Arrival) → StandsFor in_memory hub O A → AfterFault hub.book.museum hub.book.depth O A i1 i2 o o' in_memory new fault)
+pub lines_fault : (i i1 i2 o o' : Option (List ℕ)) (hub new : State Kept) (fault : ReplayFault)
+    → OpensHub i i1 hub
+    → ((O : List Entry) (A : List Arrival) → StandsFor in_memory hub O A
+        → AfterFault hub.book.museum hub.book.depth O A i1 i2 o o' in_memory new fault)
     → InLines i i2 o o' fault
 lines_fault None i1 i2 o o' hub new fault opens after = tt
 lines_fault (Some bytes) i1 i2 o o' hub new fault opens after =
@@ -136,15 +164,23 @@ lines_fault (Some bytes) i1 i2 o o' hub new fault opens after =
       opens.0,
       (
         new,
-        subst (λ (S : Museum). AfterFault S NEW_DEPTH [] [] (Some (after_head bytes)) i2 o o' in_memory new fault) fresh.museum
-            (subst (λ depth. AfterFault hub.book.museum depth [] [] (Some (after_head bytes)) i2 o o' in_memory new fault) fresh.depth
-            (subst (λ (left : Option (List ℕ)). AfterFault hub.book.museum hub.book.depth [] [] left i2 o o' in_memory new fault) opens.1 (after [] [] fresh.stands))),
+        subst (λ (S : Museum). AfterFault S NEW_DEPTH [] [] (Some (after_head bytes)) i2 o o'
+            in_memory new fault) fresh.museum
+            (subst (λ depth. AfterFault hub.book.museum depth [] [] (Some (after_head bytes)) i2 o
+                o' in_memory new fault) fresh.depth
+            (subst (λ (left : Option (List ℕ)). AfterFault hub.book.museum hub.book.depth [] [] left
+                i2 o o' in_memory new fault) opens.1 (after [] [] fresh.stands))),
       ),
     )
 
 -- a register that never refused makes no fault of the store
-pub no_store : {U : Type 0} (r : Result U RunFault) (met : ReplayFault) → IsErrAnd r (λ fault. fault ≡ run_fault met) → CountsReplay {T = U} 0 0 (Err met) → IfErr r (λ fault. fault ≢ Store)
-no_store r replay.NoMemory is count = if_err r (λ fault. fault ≢ Store) NoMemory is (λ same. absurd (cc))
+pub no_store : {U : Type 0} (r : Result U RunFault) (met : ReplayFault)
+    → IsErrAnd r (λ fault. fault ≡ run_fault met) → CountsReplay {T = U} 0 0 (Err met)
+    → IfErr r (λ fault. fault ≢ Store)
+no_store r replay.NoMemory is count =
+    if_err r (λ fault. fault ≢ Store) NoMemory is (λ same. absurd (cc))
 no_store r replay.Store is count = absurd (omega (arith, count))
-no_store r replay.ReadFailed is count = if_err r (λ fault. fault ≢ Store) ReadFailed is (λ same. absurd (cc))
-no_store r replay.WriteFailed is count = if_err r (λ fault. fault ≢ Store) WriteFailed is (λ same. absurd (cc))
+no_store r replay.ReadFailed is count =
+    if_err r (λ fault. fault ≢ Store) ReadFailed is (λ same. absurd (cc))
+no_store r replay.WriteFailed is count =
+    if_err r (λ fault. fault ≢ Store) WriteFailed is (λ same. absurd (cc))

@@ -65,11 +65,13 @@ unfolding window
 no_number = refl
 
 -- in whatever order they come, GAL's messages are posted in theirs
-pub one_station : cut 0 (posted museum 12 [] (moved 2 ∷ moved 1 ∷ [])) ≡ arrived 0 1 (moved 1).message ∷ arrived 0 2 (moved 2).message ∷ []
+pub one_station : cut 0 (posted museum 12 [] (moved 2 ∷ moved 1 ∷ [])) ≡ arrived 0 1
+    (moved 1).message ∷ arrived 0 2 (moved 2).message ∷ []
 unfolding window
 one_station = refl
 
-pub at_a_place : whereabouts museum (posted museum 12 [] (moved 1 ∷ [])) (codes "2001.4.1") ≡ At 0 []
+pub at_a_place : whereabouts museum (posted museum 12 [] (moved 1 ∷ []))
+    (codes "2001.4.1") ≡ At 0 []
 unfolding window
 at_a_place = refl
 
@@ -86,16 +88,19 @@ returned = refl
 abbrev of_gal : Members → Data
 of_gal members = object (put (codes "station") (string (codes "GAL")) members)
 
-pub question : line_of museum (of_gal (put (codes "ask") (string (codes "2001.4.1")) no_members)) ≡ Ok (record { station = Some 0; request = Ask (codes "2001.4.1") })
+pub question : line_of museum (of_gal (put (codes "ask") (string (codes "2001.4.1")) no_members))
+    ≡ Ok (record { station = Some 0; request = Ask (codes "2001.4.1") })
 question = refl
 
-pub wrong_question : line_of museum (of_gal (put (codes "ask") (string (codes "2001.04")) no_members)) ≡ Err (BadField key.Ask)
+pub wrong_question : line_of museum
+    (of_gal (put (codes "ask") (string (codes "2001.04")) no_members)) ≡ Err (BadField key.Ask)
 wrong_question = refl
 
 pub no_request : line_of museum (of_gal no_members) ≡ Err (Missing key.N)
 no_request = refl
 
-pub no_message : line_of museum (of_gal (put (codes "n") (number (unsigned 1)) no_members)) ≡ Err (Missing key.Message)
+pub no_message : line_of museum (of_gal (put (codes "n") (number (unsigned 1)) no_members))
+    ≡ Err (Missing key.Message)
 no_message = refl
 
 pub no_station : line_of museum (object no_members) ≡ Err (Missing key.Station)
@@ -105,7 +110,8 @@ pub a_list : line_of museum (array no_items) ≡ Err NotJson
 a_list = refl
 
 -- a line of a feed, whatever its station: none is looked for, and none is known
-pub question_of_any : object_of (object (put (codes "ask") (string (codes "2001.4.1")) no_members)) ≡ Ok (Ask (codes "2001.4.1"))
+pub question_of_any : object_of (object (put (codes "ask") (string (codes "2001.4.1")) no_members))
+    ≡ Ok (Ask (codes "2001.4.1"))
 question_of_any = refl
 
 pub no_request_of_any : object_of (object no_members) ≡ Err (Missing key.N)
@@ -118,7 +124,8 @@ pub no_json_of_any : request_read None ≡ Err NotJson
 no_json_of_any = refl
 
 -- as it stands in the file
-pub question_of_none : request_read (read (codes "{\"station\":\"NONE\",\"ask\":\"2001.4.1\"}")) ≡ Ok (Ask (codes "2001.4.1"))
+pub question_of_none : request_read (read (codes "{\"station\":\"NONE\",\"ask\":\"2001.4.1\"}"))
+    ≡ Ok (Ask (codes "2001.4.1"))
 unfolding serde_json_on_literals
 question_of_none = refl
 
@@ -130,14 +137,16 @@ pub first_run : posted_line (codes "GAL") 1 1 (codes "Applied") ≡ codes "GAL 1
 unfolding digits
 first_run = refl
 
-pub first_run_asked : asked_line (codes "GAL") (codes "2001.4.1") (codes "at S1") ≡ codes "GAL ask 2001.4.1 at S1\n"
+pub first_run_asked : asked_line (codes "GAL") (codes "2001.4.1") (codes "at S1")
+    ≡ codes "GAL ask 2001.4.1 at S1\n"
 first_run_asked = refl
 
 pub held_text : held_line (codes "GAL") 3 ≡ codes "GAL 3 held\n"
 unfolding digits
 held_text = refl
 
-pub refused_text : refused_line (codes "GAL") 0 (codes "BadNumber") ≡ codes "GAL 0 refused BadNumber\n"
+pub refused_text : refused_line (codes "GAL") 0 (codes "BadNumber")
+    ≡ codes "GAL 0 refused BadNumber\n"
 unfolding digits
 refused_text = refl
 
@@ -150,49 +159,64 @@ unfolding digits
 bad_text = refl
 
 -- what GAL is told, line by line
-pub first_run_move : station_reply museum 12 [] [] 0 (Scan 1 (moved 1).message) ≡ codes "GAL 1 posted 1 Applied\n"
+pub first_run_move : station_reply museum 12 [] [] 0 (Scan 1 (moved 1).message)
+    ≡ codes "GAL 1 posted 1 Applied\n"
 unfolding window digits
 first_run_move = refl
 
-pub first_run_question : station_reply museum 12 [] (moved 1 ∷ []) 0 (Ask (codes "2001.4.1")) ≡ codes "GAL ask 2001.4.1 at S1\n"
+pub first_run_question : station_reply museum 12 [] (moved 1 ∷ []) 0 (Ask (codes "2001.4.1"))
+    ≡ codes "GAL ask 2001.4.1 at S1\n"
 unfolding window digits
 first_run_question = refl
 
-pub double_text : station_reply museum 12 [] (moved 1 ∷ []) 0 (Scan 1 (moved 1).message) ≡ codes "GAL 1 refused Double\n"
+pub double_text : station_reply museum 12 [] (moved 1 ∷ []) 0 (Scan 1 (moved 1).message)
+    ≡ codes "GAL 1 refused Double\n"
 unfolding window digits
 double_text = refl
 
-pub posted_texts : station_reply museum 12 [] (moved 2 ∷ []) 0 (Scan 1 (moved 1).message) ≡ codes "GAL 1 posted 1 Applied\nGAL 2 posted 2 Applied\n"
+pub posted_texts : station_reply museum 12 [] (moved 2 ∷ []) 0 (Scan 1 (moved 1).message)
+    ≡ codes "GAL 1 posted 1 Applied\nGAL 2 posted 2 Applied\n"
 unfolding window digits
 posted_texts = refl
 
 -- what a watch sees of them
-pub held_outcome : station_outcomes museum 12 [] [] 0 (Scan 2 (moved 2).message) ≡ outcome.Answered ∷ outcome.Held ∷ []
+pub held_outcome : station_outcomes museum 12 [] [] 0 (Scan 2 (moved 2).message) ≡ outcome.Answered
+    ∷ outcome.Held ∷ []
 unfolding window
 held_outcome = refl
 
-pub posted_outcome : station_outcomes museum 12 [] (moved 2 ∷ []) 0 (Scan 1 (moved 1).message) ≡ outcome.Answered ∷ outcome.Posted verdict.Applied ∷ outcome.Posted verdict.Applied ∷ []
+pub posted_outcome : station_outcomes museum 12 [] (moved 2 ∷ []) 0 (Scan 1 (moved 1).message)
+    ≡ outcome.Answered ∷ outcome.Posted verdict.Applied ∷ outcome.Posted verdict.Applied ∷ []
 unfolding window
 posted_outcome = refl
 
-pub double_outcome : station_outcomes museum 12 [] (moved 1 ∷ []) 0 (Scan 1 (moved 1).message) ≡ outcome.Answered ∷ outcome.Refused Double ∷ []
+pub double_outcome : station_outcomes museum 12 [] (moved 1 ∷ []) 0 (Scan 1 (moved 1).message)
+    ≡ outcome.Answered ∷ outcome.Refused Double ∷ []
 unfolding window
 double_outcome = refl
 
-pub question_outcome : station_outcomes museum 12 [] [] 0 (Ask (codes "2001.4.1")) ≡ outcome.Answered ∷ outcome.Asked ∷ []
+pub question_outcome : station_outcomes museum 12 [] [] 0 (Ask (codes "2001.4.1"))
+    ≡ outcome.Answered ∷ outcome.Asked ∷ []
 question_outcome = refl
 
-pub unknown_outcome : request_outcomes museum 12 [] [] None (Ask (codes "2001.4.1")) ≡ outcome.Answered ∷ outcome.UnknownStation ∷ []
+pub unknown_outcome : request_outcomes museum 12 [] [] None (Ask (codes "2001.4.1"))
+    ≡ outcome.Answered ∷ outcome.UnknownStation ∷ []
 unknown_outcome = refl
 
 -- two entries of one line
-pub two_posted : slice_index (tally_of (outcome.Answered ∷ outcome.Posted verdict.Applied ∷ outcome.Posted verdict.Applied ∷ [])).posted 0 ≡ 2
+pub two_posted : slice_index
+    (tally_of (outcome.Answered ∷ outcome.Posted verdict.Applied ∷ outcome.Posted verdict.Applied
+    ∷ [])).posted 0 ≡ 2
 two_posted = refl
 
-pub one_line : (tally_of (outcome.Answered ∷ outcome.Posted verdict.Applied ∷ outcome.Posted verdict.Applied ∷ [])).lines ≡ 1
+pub one_line :
+    (tally_of (outcome.Answered ∷ outcome.Posted verdict.Applied ∷ outcome.Posted verdict.Applied
+    ∷ [])).lines ≡ 1
 one_line = refl
 
-pub clean : is_clean (tally_of (outcome.Answered ∷ outcome.Held ∷ outcome.Answered ∷ outcome.Posted verdict.Applied ∷ [])) ≡ true
+pub clean : is_clean
+    (tally_of (outcome.Answered ∷ outcome.Held ∷ outcome.Answered ∷ outcome.Posted verdict.Applied
+    ∷ [])) ≡ true
 clean = refl
 
 pub not_clean : is_clean (tally_of (outcome.Answered ∷ outcome.Posted verdict.NotHere ∷ [])) ≡ false

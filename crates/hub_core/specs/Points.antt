@@ -1,6 +1,6 @@
 -- Defines where a list of arrivals leads from a list of posted entries: which messages are held,
 -- which are posted, and the replies. Entries are listed newest first, arrivals oldest first.
-use Rattle.std.specs.Prelude.{ℕ, ◌<◌, All, ◌+◌, ◌-◌, ◌==◌, if◌then◌else◌, List, [], ◌∷◌, ◌++◌, length, fold, map, reverse, Option, Some, None}
+use Rattle.std.specs.Prelude.{ℕ, ◌<◌, All, ◌+◌, ◌-◌, ◌==◌, if◌then◌else◌, Bool, true, false, List, [], ◌∷◌, ◌++◌, length, fold, map, reverse, Option, Some, None}
 use Rattle.std.specs.Option.{option_map_or}
 use Rattle.nest_core.specs.Museum.{Museum, find_thing}
 use Rattle.posting_core.specs.declared.message.Message.{Message}
@@ -99,6 +99,13 @@ abbrev pub whereabouts : Museum → List Entry → List ℕ → Where
 whereabouts S P code =
     option_map_or (λ x. where_from (place_at S P x) (chain_at S P x))
     (find_thing S code) UnknownThing
+
+-- The thing is in a container.
+abbrev pub is_enclosed : Where → Bool
+is_enclosed UnknownThing = false
+is_enclosed Unplaced = false
+is_enclosed (At place []) = false
+is_enclosed (At place (c ∷ more)) = true
 
 -- The posted messages of station s, in their order.
 abbrev pub cut : ℕ → List Entry → List (Arrived Message)

@@ -1,4 +1,4 @@
-//! The hub.
+//! The hub, and its calls.
 ghost use Rattle.std.specs.Prelude.{◌≡◌, ◌≢◌, ◌+◌, ◌<◌, ◌↔◌, None, List, [], ◌∷◌, ◌++◌, ℕ, length, reverse, true, false, IfOk, OnOk, OnErr, IsErrOf, IfErr};
 ghost use Rattle.posting_core.specs.declared.entry.Entry.{Entry};
 ghost use Rattle.hub_core.specs.declared.hub.answer.Arrival.{Arrival};
@@ -10,7 +10,7 @@ ghost use Rattle.station_core.specs.declared.Refusal.{Refusal};
 ghost use Rattle.register_store.specs.Holdings.{Comes};
 ghost use Rattle.hub_core.specs.Openings.{CountsFault, Opened, IsNotOpened, OpensAgain};
 ghost use Rattle.hub_core.specs.Faults.{CountsStore};
-ghost use Rattle.hub_core.specs.Points.{point, reply, reply_from, due_with, whereabouts, cut, IsPlaced};
+ghost use Rattle.hub_core.specs.Points.{point, reply, reply_from, due_with, whereabouts, is_enclosed, cut, IsPlaced};
 
 pub(crate) mod answer;
 mod opening;
@@ -28,8 +28,8 @@ use station_core::Sequences;
 use std::alloc::Global;
 use std::marker::Model;
 
-/// The hub: it takes arrivals from all stations, holds back what is early, and posts the rest in each station's order,
-/// each entry in the register and in the ledger.
+/// The hub takes arrivals from all stations and holds back those that come early. It posts the
+/// others in each station's order: each entry first in the register, then in the ledger.
 pub struct Hub<R: Register> {
     sequences: Sequences<Message>,
     ledger: Ledger,
@@ -52,7 +52,7 @@ impl<R: Register> Model for Hub<R> {
         × (h.down ≡ true → HasSomeStore (R.holding h.register) h.ledger) };
 }
 
-/// Written out, so that whoever drops a hub calls it: a derived drop would stand whole at each of their ways out.
+/// Manual `Drop`: a derived one is inlined at every return and slows the proof.
 impl<R: Register + Drop> Drop for Hub<R> {
     fn drop(self) {
         let Hub {
@@ -67,7 +67,7 @@ impl<R: Register + Drop> Drop for Hub<R> {
     }
 }
 
-/// Why a hub could not be opened, and its register, which it hands back.
+/// Why a hub could not be opened, with its register, which is handed back.
 #[derive(Debug, Drop)]
 pub struct OpenFault<R> {
     pub fault: StoreFault,
@@ -77,15 +77,22 @@ pub struct OpenFault<R> {
 impl<R: Register> Hub<R> {
     ghost use Rattle.hub_core.specs.StandsFor.{State, StandsFor, Stopped};
 
-    /// A hub over this setup and what the register has. Binds the register, reads all its entries, judges them again in
-    /// their order, and compares its rows of spots, of lines and of last days. The faults, first that holds: those of the
-    /// binding; those of the reading; Damaged(i) for the first entry, from 1, whose station, number or verdict isn't what
-    /// the rules give; Damaged(0) where those rows aren't the entries'. NoMemory and Store can stand in place of any
-    /// answer. A refused opening may have bound a new store; the setup is dropped.
+    /// Opens a hub with this setup over what the register has. It binds the register, reads all its
+    /// entries, judges them again in their order, and compares the register's rows of spots, loan
+    /// lines and last days with the entries'.
+    ///
+    /// Faults, in this order:
+    /// - those of [`Register::bind`] and then of [`Register::all`];
+    /// - Damaged(i), for the first entry, counted from 1, whose station, number or verdict isn't
+    ///   the one that the rules give;
+    /// - Damaged(0), if the rows aren't those of the entries.
+    ///
+    /// NoMemory and Store can come instead of any other result. After a fault the register's store
+    /// is as it was, or bound. The setup is dropped.
     pub fn open(alloc: Global, setup: Setup, register: R) -> Result<Hub<R>, OpenFault<R>>
-        // It stands for the list that the store had, which is bound then.
+        // The hub stands for the list that the store had, and the store is bound now.
         ensures opened { IfOk result (λ hub. Opened R.holding setup register hub) }
-        // A refused opening leaves the store as it was, or bound.
+        // After a fault the store is as it was, or bound.
         ensures refused { IfErr result
             (λ failed. Comes (R.holding register) (R.holding failed.register)
             (IsNotOpened setup failed.fault)) }
@@ -106,10 +113,12 @@ impl<R: Register> Hub<R> {
         }
     }
 
-    /// Takes an arrival, and posts what is due. After NoMemory or Store the hub is down, and answers Down from then on.
-    /// What is refused or held takes no memory, and always succeeds on a hub that isn't down.
+    /// Takes an arrival, and posts what comes due with it. Faults: Down, exactly if the hub is
+    /// down; NoMemory and Store, after which the hub is down. A message that is refused or held
+    /// meets neither of these two (clause `answers`).
     pub fn arrive(&mut self, alloc: Global, arrival: Arrival) -> Result<Answer, HubFault>
-        // For every list of arrivals: the reply is that of looking back, and the hub stands for the list with this one.
+        // For every list of arrivals that the hub stands for: the reply is that of looking back,
+        // and the hub then stands for the list with this arrival added.
         ensures headline { IfOk result
             (λ answer. (O : List Entry) (A : List Arrival) → StandsFor R.holding self.old O A →
             (answer ≡ reply self.old.book.museum self.old.book.depth O A arrival)
@@ -118,14 +127,14 @@ impl<R: Register> Hub<R> {
         ensures down { IsErrOf result HubFault.Down ↔ (self.old.down ≡ true) }
         ensures fault { OnErr result (self.new.down ≡ true) }
         ensures closed { self.old.down ≡ true → self.new ≡ self.old }
-        // A fault comes while messages are due: those before one of them are posted, and the store has that list, or that
-        // with the one.
+        // A fault stops the posting at one of the due messages. Those before it are posted, and the
+        // store has that list, or that list with the one message.
         ensures after_fault { OnErr result
             ((O : List Entry) (A : List Arrival) → StandsFor R.holding self.old O A →
             Stopped (R.holding self.new.register) self.old.book.museum self.old.book.depth
             self.old.book.posted
             (due_with self.old.book.museum self.old.book.depth O A arrival) self.new.book.posted) }
-        // What is refused or held meets no fault.
+        // A message that is refused or held meets no fault.
         ensures answers { OnErr result
             ((O : List Entry) (A : List Arrival) → StandsFor R.holding self.old O A →
             (first : ℕ) × (last : ℕ)
@@ -161,13 +170,16 @@ impl<R: Register> Hub<R> {
         Ok(answer_from(before, self.ledger.posted().len() as u64))
     }
 
-    /// Where the thing with the code is. The faults: Down exactly where the hub is down; NoMemory.
+    /// Returns where the thing with the code is. Faults: Down, exactly if the hub is down;
+    /// NoMemory, only for a thing in a container.
     pub fn ask(&self, alloc: Global, code: &ThingCode) -> Result<Where, HubFault>
         ensures answer { IfOk result
             (λ place. place ≡ whereabouts self.now.book.museum self.now.book.posted code.now) }
         ensures placed { IfOk result (IsPlaced self.now.book.museum) }
         ensures down { IsErrOf result HubFault.Down ↔ (self.now.down ≡ true) }
         ensures never_store { IfErr result (λ fault. fault ≢ HubFault.Store) }
+        ensures memory { IsErrOf result HubFault.NoMemory
+            → is_enclosed (whereabouts self.now.book.museum self.now.book.posted code.now) ≡ true }
     {
         if self.is_down() {
             return Err(HubFault::Down);
@@ -175,11 +187,12 @@ impl<R: Register> Hub<R> {
         Ok(whereabouts(alloc, &self.ledger, code)?)
     }
 
-    /// The posted entries, oldest first.
+    /// Returns the posted entries, oldest first.
     pub fn posted(&self) -> &[PostedEntry]
         ensures list { reverse result.now ≡ self.now.book.posted }
         ensures lawful { IsLawful self.now.book.museum self.now.book.depth self.now.book.posted }
-        // For all that the hub stands for: the entries of each station are the longest unbroken run of what it sent.
+        // Whatever the hub stands for: the posted messages of each station are the longest unbroken
+        // run of those it sent.
         ensures runs { (O : List Entry) (A : List Arrival) → StandsFor R.holding self.now O A
             → (s : ℕ) →
             cut s self.now.book.posted
@@ -189,8 +202,8 @@ impl<R: Register> Hub<R> {
         self.ledger.posted()
     }
 
-    /// How many messages of the station are held: taken, and waiting for a number below them. 0 if
-    /// there is no such station.
+    /// Returns how many messages of the station are held: taken, but waiting for one with a lower
+    /// number. 0 if there is no such station.
     pub fn held_count(&self, station: StationNo) -> usize
         ensures { result ≡ held_count (series_at self.now.sequences station) }
     {
@@ -200,11 +213,12 @@ impl<R: Register> Hub<R> {
         self.sequences.held_count(station)
     }
 
-    /// The number that the station has to send next: the one above its last posted message. 1 if there
-    /// is no such station.
+    /// Returns the number that the station has to send next: one more than its last posted message.
+    /// 1 if there is no such station.
     pub fn awaited(&self, station: StationNo) -> u64
         ensures count { result ≡ (series_at self.now.sequences station).posted + 1 }
-        // For all that the hub stands for: the first number above the run of what the station sent.
+        // Whatever the hub stands for: it is the first number after the run of what the station
+        // sent.
         ensures next { (O : List Entry) (A : List Arrival) → StandsFor R.holding self.now O A
             → station < length self.now.sequences →
             result ≡ ready is_sign_off (point self.now.book.museum self.now.book.depth O A).taken
@@ -216,21 +230,21 @@ impl<R: Register> Hub<R> {
         self.sequences.posted_count(station) as u64 + 1
     }
 
-    /// The ledger.
+    /// Returns the ledger.
     pub fn ledger(&self) -> &Ledger
         ensures { result.now ≡ self.now.book }
     {
         &self.ledger
     }
 
-    /// Whether the hub has met a fault, since when it answers nothing.
+    /// Returns whether the hub has met a fault. Then [`Hub::arrive`] and [`Hub::ask`] return Down.
     pub fn is_down(&self) -> bool
         ensures { result ≡ self.now.down }
     {
         self.down
     }
 
-    /// Ends the hub, and returns its ledger and its register, both as they are.
+    /// Ends the hub, and returns its ledger and its register as they are.
     pub fn into_parts(self) -> (Ledger, R)
         ensures ledger { result.0 ≡ self.book }
         ensures register { result.1 ≡ self.register }
@@ -245,7 +259,9 @@ impl<R: Register> Hub<R> {
         (ledger, register)
     }
 
-    /// Gives the register back, as it is. It opens again with the hub's setup, after a fault too.
+    /// Ends the hub, and returns its register as it is. The register can be opened again with the
+    /// hub's setup, even after a fault: if its store is quiet, only NoMemory or Store can prevent
+    /// that.
     pub fn close(self) -> R
         ensures same { result ≡ self.register }
         ensures opens_again { OpensAgain (R.holding result) self.book.museum }
@@ -263,7 +279,7 @@ impl<R: Register> Hub<R> {
     }
 }
 
-/// What is said to an arrival that is taken, by how many entries were posted before, and how many are now.
+/// The answer to an arrival that was taken, by the numbers of entries posted before it and now.
 fn answer_from(before: u64, now: u64) -> Answer
     requires { before < u64.MAX }
     ensures { result ≡ reply_from None before now }
@@ -277,11 +293,13 @@ fn answer_from(before: u64, now: u64) -> Answer
     }
 }
 
-/// Where the thing with the code is, by the ledger.
+/// Where the thing with the code is, in this ledger.
 fn whereabouts(alloc: Global, ledger: &Ledger, code: &ThingCode) -> Result<Where, NoMemory>
     ensures answer { IfOk result
         (λ place. place ≡ whereabouts ledger.now.museum ledger.now.posted code.now) }
     ensures placed { IfOk result (IsPlaced ledger.now.museum) }
+    ensures memory { OnErr result
+        (is_enclosed (whereabouts ledger.now.museum ledger.now.posted code.now) ≡ true) }
 {
     let Some(thing) = ledger.setup().thing(code) else {
         return Ok(Where::UnknownThing);

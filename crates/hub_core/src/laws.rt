@@ -1,4 +1,4 @@
-//! Laws of what is posted, each on a function that does nothing.
+//! Laws about what is posted. Each is stated on a function that does nothing.
 ghost use Rattle.std.specs.Prelude.{◌≡◌, ℕ, ◌+◌, ◌<◌, ◌≤◌, true, List, [], ◌∷◌, ◌++◌, length, Some};
 ghost use Rattle.std.specs.List.{slice_get};
 ghost use Rattle.nest_core.specs.Museum.{Museum};
@@ -24,13 +24,13 @@ ghost use Rattle.hub_core.specs.StandsFor.{State, HasStore};
 
 use register_store::Register;
 
-/// The posted messages of a station are numbered 1, 2, 3 and so on, without a gap.
+/// The posted messages of a station have the numbers 1, 2, 3 and so on, without a gap.
 pub fn numbers_without_gap()
     ensures { (S : Museum) (depth : ℕ) (P : List Entry) (s i : ℕ) (r : Arrived Message)
         → IsLawful S depth P → slice_get (cut s P) i ≡ Some r → r.n ≡ i + 1 }
 {}
 
-/// A refused arrival leaves what is posted, and what is held, as they were.
+/// A refused arrival leaves what is posted, and what is held, as it was.
 pub fn refused_changes_nothing()
     ensures { (S : Museum) (depth : ℕ) (O : List Entry) (A : List Arrival) (r : Arrival)
         (why : Refusal) →
@@ -38,8 +38,8 @@ pub fn refused_changes_nothing()
         → point S depth O (A ++ r ∷ []) ≡ point S depth O A }
 {}
 
-/// What an arrival posts with refused verdicts alone changes no answer: the ledger tells the same of every thing and of
-/// every loan as before, and where a thing is is answered the same.
+/// An arrival that posts only refused verdicts changes no answer: the ledger's answers about every
+/// thing and every loan stay the same, and so does where each thing is.
 pub fn refused_verdicts_change_no_answer()
     ensures ledger { (S : Museum) (depth : ℕ) (O : List Entry) (A : List Arrival) (r : Arrival)
         (L : List Entry) →
@@ -53,7 +53,7 @@ pub fn refused_verdicts_change_no_answer()
         ≡ whereabouts S (posted S depth O A) code }
 {}
 
-/// Whatever is sent again under a number that is posted is Double, and changes nothing.
+/// A message that is sent again under a posted number is refused as Double, and changes nothing.
 pub fn resent_is_double()
     ensures { (S : Museum) (depth : ℕ) (O : List Entry) (A : List Arrival) (r : Arrival)
         → r.station < length S.stations → 1 ≤ r.n → r.n ≤ LAST →
@@ -62,7 +62,8 @@ pub fn resent_is_double()
         × (point S depth O (A ++ r ∷ []) ≡ point S depth O A) }
 {}
 
-/// Two hubs that took the same unbroken messages of a station have posted the same messages of it, in the same order.
+/// If two hubs took the same unbroken run of a station's messages, they have posted the same
+/// messages of it, in the same order.
 pub fn same_taken_same_posted()
     ensures { (S T : Museum) (depth limit : ℕ) (O Q : List Entry) (A B : List Arrival) (s : ℕ)
         → IsLawful S depth (point S depth O A).posted → IsLawful T limit (point T limit Q B).posted
@@ -72,16 +73,15 @@ pub fn same_taken_same_posted()
         cut s (point T limit Q B).posted ≡ cut s (point S depth O A).posted }
 {}
 
-/// A store that has the rows of a lawful list can be opened: nothing but want of memory, or a store that refuses, keeps it
-/// from that.
+/// A store with the rows of a lawful list can be opened: only NoMemory or Store can prevent it.
 pub fn stored_list_opens()
     ensures { (S : Museum) (depth : ℕ) (P : List Entry) (c : Content) (fault : StoreFault)
         → IsLawful S depth P → IsStoreOf S depth P c → IsOpenFault S c fault
         → is_failure fault ≡ true }
 {}
 
-/// Where a store has the rows of a lawful list, it has those of the list with the next entry after a posting of it that was
-/// answered Ok, and no others.
+/// A store that has the rows of a lawful list has, after the next entry was posted with Ok, the
+/// rows of the list with that entry, and no others.
 pub fn next_entry_is_stored<R: Register>()
     ensures { (old new : R) (book : Book) (r : Arrived Message)
         → IsLawful book.museum book.depth book.posted →
@@ -93,7 +93,7 @@ pub fn next_entry_is_stored<R: Register>()
         (record book { posted = post book.museum book.depth book.posted r }) }
 {}
 
-/// A store that was opened, closed and opened again has the same posted list.
+/// A store that is opened, closed and opened again has the same posted list.
 pub fn opened_again_is_the_same<R: Register>()
     ensures { (S T : Museum) (register : R) (first second : State R) (c : Content)
         → Opened R.holding S register first → Opened R.holding T first.register second →
@@ -101,7 +101,7 @@ pub fn opened_again_is_the_same<R: Register>()
         → second.book.posted ≡ first.book.posted }
 {}
 
-/// Two openings of a store that can hold only these rows tell the same posted list.
+/// Two openings of a store that can hold only these rows find the same posted list.
 pub fn openings_tell_the_same<R: Register>()
     ensures { (S T : Museum) (register : R) (one other : State R) (c d e : Content)
         → ((k : Content) → (R.holding register).holds k → AreSame c k) →

@@ -1,4 +1,4 @@
-//! A line: its bytes, what it asks, what is done and said, and the words of it.
+//! One line: its bytes, its request, the reply, and the words of the reply.
 
 pub(crate) mod bytes;
 pub(crate) mod reply;

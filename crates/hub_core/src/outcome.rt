@@ -3,11 +3,11 @@
 use posting_core::Verdict;
 use station_core::Refusal;
 
-/// An outcome of a line. An empty line has none. Any other line has [`Outcome::Answered`] and then one
-/// of the others, or an [`Outcome::Posted`] for each entry that it posts.
+/// An outcome of a line. An empty line has none. Any other line has [`Outcome::Answered`] and then
+/// one other outcome, or an [`Outcome::Posted`] for each entry that it posts.
 #[derive(Clone, Copy, Debug, PartialEq, Eq)]
 pub enum Outcome {
-    /// The line isn't empty and is answered. Its other outcomes follow.
+    /// The line isn't empty and has a reply. Its other outcomes follow.
     Answered,
     /// The line is faulty or too long.
     Bad,
@@ -15,7 +15,7 @@ pub enum Outcome {
     UnknownStation,
     /// The message is refused for this reason.
     Refused(Refusal),
-    /// The message is held: it waits for a number below it.
+    /// The message is held: it waits for one with a lower number.
     Held,
     /// An entry is posted with this verdict.
     Posted(Verdict),
@@ -28,8 +28,8 @@ pub trait Watch {
     ghost use Rattle.std.specs.Prelude.{List, [], ◌∷◌, ◌++◌};
     ghost use Rattle.hub_core.specs.declared.outcome.Outcome.{Outcome};
 
-    /// It has seen these outcomes, oldest first. A watch that keeps only counts says so of every list
-    /// with those counts.
+    /// The watch has seen these outcomes, oldest first. For a watch that keeps only counts, this is
+    /// true of every list with those counts.
     ghost has_seen: { Self → List Outcome → Type 0 };
 
     /// Sees one more outcome.

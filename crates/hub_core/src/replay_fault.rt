@@ -1,4 +1,4 @@
-//! Why a replay stops.
+//! The faults that stop a replay.
 
 use crate::HubFault;
 use thiserror::Error;
@@ -6,16 +6,16 @@ use thiserror::Error;
 /// Why a replay stopped.
 #[derive(Clone, Copy, Debug, PartialEq, Eq, Error)]
 pub enum ReplayFault {
-    /// A growth was refused.
+    /// A request for memory was refused.
     #[error("out of memory")]
     NoMemory,
-    /// The store refused, for another cause than memory.
-    #[error("the store refused")]
+    /// The store failed, for another reason than memory.
+    #[error("the store failed")]
     Store,
-    /// The reader failed, or gave no end within 4,294,967,295 reads.
+    /// The reader failed, or the input didn't end within 4,294,967,295 reads.
     #[error("the input could not be read")]
     ReadFailed,
-    /// The writer failed, took no byte, or hadn't taken a reply within 4,294,967,295 writes.
+    /// The writer failed, took no byte, or didn't take a reply within 4,294,967,295 writes.
     #[error("the output could not be written")]
     WriteFailed,
 }
@@ -29,6 +29,7 @@ impl From<HubFault> for ReplayFault {
     fn from(fault: HubFault) -> ReplayFault {
         match fault {
             HubFault::Store => ReplayFault::Store,
+            // The hub of a replay isn't down, so Down never comes.
             HubFault::NoMemory | HubFault::Down => ReplayFault::NoMemory,
         }
     }

@@ -1,4 +1,4 @@
-//! Why a run stops.
+//! The faults that stop a run.
 
 use crate::ReplayFault;
 use nest_core::SetupFault;
@@ -8,22 +8,23 @@ use thiserror::Error;
 /// Why a run stopped.
 #[derive(Clone, Copy, Debug, PartialEq, Eq, Error)]
 pub enum RunFault {
-    /// A growth was refused.
+    /// A request for memory was refused.
     #[error("out of memory")]
     NoMemory,
-    /// The store refused, for another cause than memory.
-    #[error("the store refused")]
+    /// The store failed, for another reason than memory. A run's store is in memory, so this never
+    /// comes from [`run`](crate::run).
+    #[error("the store failed")]
     Store,
-    /// The reader failed, or gave no end within 4,294,967,295 reads.
+    /// The reader failed, or the input didn't end within 4,294,967,295 reads.
     #[error("the input could not be read")]
     ReadFailed,
-    /// The writer failed, took no byte, or hadn't taken a reply within 4,294,967,295 writes.
+    /// The writer failed, took no byte, or didn't take a reply within 4,294,967,295 writes.
     #[error("the output could not be written")]
     WriteFailed,
-    /// The first fault of the setup.
+    /// The setup has this fault, which is its first.
     #[error("the setup: {0}")]
     Setup(SetupFault),
-    /// The head has more than LONGEST_HEAD bytes.
+    /// The head has more than [`LONGEST_HEAD`](crate::LONGEST_HEAD) bytes.
     #[error("the setup is too long")]
     HeadTooLong,
 }

@@ -1,4 +1,5 @@
-//! A stream of lines: the setup at its head, the lines answered one after the other, and both as a run.
+//! A stream of lines: the setup at its head, the lines answered one after another, and a run, which
+//! is both.
 
 pub(crate) mod head;
 pub(crate) mod lines;

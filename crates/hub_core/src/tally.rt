@@ -1,4 +1,4 @@
-//! Counts of the outcomes of lines.
+//! Counts the outcomes of lines.
 ghost use Rattle.std.specs.Prelude.{◌≡◌, ◌<◌, ◌==◌, List, slice_index};
 ghost use Rattle.std.specs.List.{list_all};
 ghost use Rattle.posting_core.specs.VerdictNames.{verdict_number};
@@ -9,13 +9,13 @@ use crate::{Outcome, Watch};
 use posting_core::Verdict;
 use station_core::Refusal;
 
-/// How many refusals there are: TooEarly is the last.
+/// The number of refusals. TooEarly is the last one.
 const REFUSALS: usize = Refusal::TooEarly as usize + 1;
 
-/// How many verdicts there are: NotLater is the last.
+/// The number of verdicts. NotLater is the last one.
 pub const VERDICTS: usize = Verdict::NotLater as usize + 1;
 
-/// A watch that counts each outcome. A count stops at the last number of 64 bits.
+/// A watch that counts each outcome. Counts stop at 2^64 - 1.
 #[derive(Clone, Copy, Debug)]
 pub struct Tally {
     lines: u64,
@@ -43,60 +43,60 @@ impl Tally {
         }
     }
 
-    /// How many lines are answered. Empty lines aren't counted.
+    /// Returns how many lines have a reply. Empty lines aren't counted.
     pub fn lines(&self) -> u64
         ensures { result ≡ self.now.lines }
     {
         self.lines
     }
 
-    /// How many lines are faulty or too long.
+    /// Returns how many lines are faulty or too long.
     pub fn bad(&self) -> u64
         ensures { result ≡ self.now.bad }
     {
         self.bad
     }
 
-    /// How many lines name a station that the setup doesn't have.
+    /// Returns how many lines name a station that the setup doesn't have.
     pub fn unknown_station(&self) -> u64
         ensures { result ≡ self.now.unknown_station }
     {
         self.unknown_station
     }
 
-    /// How many messages are refused for this reason.
+    /// Returns how many messages are refused for this reason.
     pub fn refused(&self, refusal: Refusal) -> u64
         ensures { result ≡ slice_index self.now.refused (refusal_place refusal) }
     {
         self.refused[refusal_place(refusal)]
     }
 
-    /// How many messages were held when they arrived.
+    /// Returns how many messages were held when they arrived.
     pub fn held(&self) -> u64
         ensures { result ≡ self.now.held }
     {
         self.held
     }
 
-    /// How many entries are posted with this verdict.
+    /// Returns how many entries are posted with this verdict.
     pub fn posted(&self, verdict: Verdict) -> u64
         ensures { result ≡ slice_index self.now.posted (verdict_number verdict) }
     {
         self.posted[verdict_place(verdict)]
     }
 
-    /// How many lines are questions.
+    /// Returns how many lines are questions.
     pub fn asked(&self) -> u64
         ensures { result ≡ self.now.asked }
     {
         self.asked
     }
 
-    /// Whether nothing went wrong: no line is bad or of an unknown station, no message is refused,
-    /// and each entry is Applied.
+    /// Returns whether nothing went wrong: no line is bad or of an unknown station, no message is
+    /// refused, and every entry is Applied.
     pub fn is_clean(&self) -> bool
         ensures counts { result ≡ is_clean self.now }
-        // Whatever it has seen, each outcome is fine.
+        // This is so exactly if each outcome that it has seen is fine.
         ensures seen { (outcomes : List Outcome) → HasTallied self.now outcomes
             → result ≡ list_all is_fine outcomes }
     {
@@ -140,14 +140,14 @@ impl Watch for Tally {
     }
 }
 
-/// Whether each of the counts is 0.
+/// Whether all counts are 0.
 fn are_zero(counts: &[u64]) -> bool
     ensures { result ≡ list_all (λ n. n == 0) counts.now }
 {
     counts.iter().all(|count| *count == 0)
 }
 
-/// The place of a refusal's count.
+/// The index of a refusal's count.
 fn refusal_place(refusal: Refusal) -> usize
     ensures place { result ≡ refusal_place refusal }
     ensures within { result < REFUSALS }
@@ -161,7 +161,7 @@ fn refusal_place(refusal: Refusal) -> usize
     }
 }
 
-/// The place of a verdict's count.
+/// The index of a verdict's count.
 fn verdict_place(verdict: Verdict) -> usize
     ensures place { result ≡ verdict_number verdict }
     ensures within { result < VERDICTS }

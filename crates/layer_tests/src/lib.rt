@@ -1,4 +1,14 @@
-//! Tests of the layers by their public calls, in a crate of their own: what tests stand in would be proved twice.
+//! Tests of the other crates, through their public calls.
+//!
+//! The tests are in a crate of their own, because a crate with tests in it is proved twice. They
+//! cover what no contract promises and no case in `cases/` shows: that calls succeed if there is
+//! memory, that a store survives a disk that stops at any call, and that feeds are served side by
+//! side. This crate promises nothing itself. `docs/PROMISES.md` lists what is tested here.
+//!
+//! ```text
+//! cd crates/layer_tests
+//! rt try --test      # runs the tests before any proof
+//! ```
 #![tactic(auto)]
 
 #[cfg(test)]

@@ -1,7 +1,9 @@
-//! Tests of the layers by their public calls. What runs through the program stands in `cases/`.
+//! Tests of the other crates, through their public calls. `cases/` has the tests that run through
+//! the program.
 //!
-//! A setup, a register, a ledger and a hub are let go by `drop`, and no `?` stands while one is held: where one ends with
-//! its scope, each way out takes the prover from 2 to 17 seconds.
+//! A setup, a register, a ledger and a hub are dropped by `drop`, and no `?` is used while one of
+//! them is alive. If one ended with its scope, the prover would need 2 to 17 seconds for each
+//! return.
 
 mod codes;
 mod counts;
@@ -26,14 +28,14 @@ use nest_core::Setup;
 use std::alloc::Global;
 use std::test::Fail;
 
-/// The museum of the worked rows: a setup with rows of every kind. C1 and C2 are things 0 and 1, the objects 2 to 5; S1,
-/// S1-A and S2 are places 0 to 2, the partners' 3 and 4; PACK and GAL are stations 0 and 1.
+/// A setup with rows of every kind. C1 and C2 are things 0 and 1, the objects are 2 to 5. S1, S1-A
+/// and S2 are places 0 to 2, the partners' places 3 and 4. PACK and GAL are stations 0 and 1.
 const MUSEUM: &str =
     "station,PACK\nstation,GAL\nplace,S1,inside\nplace,S1-A,inside\nplace,S2,inside\n\
     place,MUSEUM-X,elsewhere\nplace,LENDER-Y,elsewhere\nbox,C1\nbox,C2\nown,2001.4.1,S1-A\nown,2001.4.2,S1-A\n\
     own,2001.4.3,S1-A\nlent,L1999.7\n";
 
-/// 2001.4.1 goes to S1.
+/// Moves 2001.4.1 to S1.
 const TO_S1: &str = r#"{"kind":"move","thing":"2001.4.1","place":"S1","day":"2024-05-01"}"#;
 
 /// A setup of one station, one place and one object.
@@ -51,7 +53,7 @@ fn small_museum(alloc: Global) -> Result<Setup, Fail> {
     setup_of(alloc, SMALL)
 }
 
-/// What was made, where all went well with it.
+/// Returns the value that was made, unless the steps after that failed.
 fn kept<T: Drop>(made: T, told: Result<(), Fail>) -> Result<T, Fail> {
     match told {
         Ok(()) => Ok(made),

@@ -16,26 +16,30 @@ use Rattle.nest_core.specs.declared.setup_row.SetupRow.{SetupRow}
 use Rattle.nest_core.specs.declared.setup_row.SetupRow.TheVariants as lists
 use Rattle.nest_core.proofs.Choices.{no_choice, no_first, no_second, choice, choices}
 
-box_right : (t : Bool) (k : ThingKind) → (t && is_of_kind Container k) ≡ true → (t && has_normal k None) ≡ true
+box_right : (t : Bool) (k : ThingKind) → (t && is_of_kind Container k) ≡ true
+    → (t && has_normal k None) ≡ true
 box_right true Own e = absurd (cc)
 box_right true Borrowed e = refl
 box_right true Container e = refl
 box_right false k e = absurd (cc)
 
-lent_right : (t : Bool) (k : ThingKind) → (t && is_of_kind Borrowed k) ≡ true → (t && has_normal k None) ≡ true
+lent_right : (t : Bool) (k : ThingKind) → (t && is_of_kind Borrowed k) ≡ true
+    → (t && has_normal k None) ≡ true
 lent_right true Own e = absurd (cc)
 lent_right true Borrowed e = refl
 lent_right true Container e = refl
 lent_right false k e = absurd (cc)
 
-own_right : (t u : Bool) (k : ThingKind) (place : List ℕ) → (t && is_of_kind Own k && u) ≡ true → (t && has_normal k (Some place)) ≡ true
+own_right : (t u : Bool) (k : ThingKind) (place : List ℕ) → (t && is_of_kind Own k && u) ≡ true
+    → (t && has_normal k (Some place)) ≡ true
 own_right true u Own place e = refl
 own_right true u Borrowed place e = absurd (cc)
 own_right true u Container place e = absurd (cc)
 own_right false u k place e = absurd (cc)
 
 -- what a row with right codes lists can be listed
-pub listed_right : (k : RowKind) (row : Fields) → has_codes k row ≡ true → is_right (listed k row) ≡ true
+pub listed_right : (k : RowKind) (row : Fields) → has_codes k row ≡ true
+    → is_right (listed k row) ≡ true
 listed_right kind.Station row h = h
 listed_right kind.Place row h = h
 listed_right kind.Box row h = box_right _ (thing_kind (field row 1)) h
@@ -43,15 +47,19 @@ listed_right kind.Own row h = own_right _ _ (thing_kind (field row 1)) (field ro
 listed_right kind.Lent row h = lent_right _ (thing_kind (field row 1)) h
 
 -- the fault of a row by its parts
-pub fault_of : (S : Museum) (n : ℕ) (row : Fields) (t : Bool) (k : Option RowKind) → (field_count row == 0) ≡ t → row_kind (field row 0) ≡ k
+pub fault_of : (S : Museum) (n : ℕ) (row : Fields) (t : Bool) (k : Option RowKind)
+    → (field_count row == 0) ≡ t → row_kind (field row 0) ≡ k
     → row_fault S n row ≡ cond t None (kind_fault S n row k)
 fault_of S n row t k e f =
-    ap (λ b. cond b None (kind_fault S n row (row_kind (field row 0)))) e ∙ ap (λ q. cond t None (kind_fault S n row q)) f
+    ap (λ b. cond b None (kind_fault S n row (row_kind (field row 0)))) e
+        ∙ ap (λ q. cond t None (kind_fault S n row q)) f
 
-pub row_of : (S : Museum) (row : Fields) (t : Bool) (k : Option RowKind) → (field_count row == 0) ≡ t → row_kind (field row 0) ≡ k
+pub row_of : (S : Museum) (row : Fields) (t : Bool) (k : Option RowKind)
+    → (field_count row == 0) ≡ t → row_kind (field row 0) ≡ k
     → with_row S row ≡ cond t S (with_kind S row k)
 row_of S row t k e f =
-    ap (λ b. cond b S (with_kind S row (row_kind (field row 0)))) e ∙ ap (λ q. cond t S (with_kind S row q)) f
+    ap (λ b. cond b S (with_kind S row (row_kind (field row 0)))) e
+        ∙ ap (λ q. cond t S (with_kind S row q)) f
 
 faults_over : (n : ℕ) (a b : Bool) (o : Option SetupFault) → a ≡ true → b ≡ true
     → first_or o ((Some (BadFields n) if not a) ∷ (Some (BadCode n) if not b) ∷ []) ≡ o
@@ -76,12 +84,15 @@ chosen_is true x y e = (refl, cc)
 chosen_is false x y e = absurd (cc)
 
 -- what the tests of a row tell
-pub is_read : (row : Fields) (k : RowKind) (item : SetupRow) (count wanted : ℕ) (word : Bool) → count ≡ field_count row → (count ≡ 0 → ⊥)
-    → row_kind (field row 0) ≡ Some k → wanted ≡ fields_of_kind k → count ≡ wanted → word ≡ has_word k row → word ≡ true
+pub is_read : (row : Fields) (k : RowKind) (item : SetupRow) (count wanted : ℕ) (word : Bool)
+    → count ≡ field_count row → (count ≡ 0 → ⊥)
+    → row_kind (field row 0) ≡ Some k → wanted ≡ fields_of_kind k → count ≡ wanted
+        → word ≡ has_word k row → word ≡ true
     → cond (has_codes k row) (Some (listed k row)) None ≡ Some item → IsRead row k item
 is_read row k item count wanted word counted some kind_is wants enough has right chosen =
     let codes = chosen_is (has_codes k row) (listed k row) item chosen in
-    let fields : (field_count row == fields_of_kind k) ≡ true = same_number _ _ (sym counted ∙ enough ∙ wants) in
+    let fields : (field_count row == fields_of_kind k) ≡ true =
+        same_number _ _ (sym counted ∙ enough ∙ wants) in
     let said : has_word k row ≡ true = sym has ∙ right in
     record {
       some = not_zero (field_count row) (λ none. some (counted ∙ none));
@@ -91,14 +102,17 @@ is_read row k item count wanted word counted some kind_is wants enough has right
       item_is = codes.1;
     }
 
-pub fault_read : (S : Museum) (n : ℕ) (row : Fields) (k : RowKind) (item : SetupRow) → IsRead row k item → row_fault S n row ≡ listing_fault S n item
+pub fault_read : (S : Museum) (n : ℕ) (row : Fields) (k : RowKind) (item : SetupRow)
+    → IsRead row k item → row_fault S n row ≡ listing_fault S n item
 fault_read S n row k item is =
     fault_of S n row false (Some k) is.some is.kind_is
     ∙ faults_over n _ _ (listing_fault S n (listed k row)) is.fields is.codes
     ∙ ap (listing_fault S n) (sym is.item_is)
 
-pub with_read : (S : Museum) (row : Fields) (k : RowKind) (item : SetupRow) → IsRead row k item → with_row S row ≡ with_listed S item
-with_read S row k item is = row_of S row false (Some k) is.some is.kind_is ∙ ap (with_listed S) (sym is.item_is)
+pub with_read : (S : Museum) (row : Fields) (k : RowKind) (item : SetupRow) → IsRead row k item
+    → with_row S row ≡ with_listed S item
+with_read S row k item is = row_of S row false (Some k) is.some is.kind_is ∙ ap (with_listed S)
+    (sym is.item_is)
 
 -- what a row of the kind lists, if its codes are right
 abbrev chosen : RowKind → Fields → Option SetupRow
@@ -111,24 +125,43 @@ thing_read wanted code = cond (is_thing_code wanted code) (Some code) None
 abbrev place_read : List ℕ → Option (List ℕ)
 place_read code = cond (is_place_code code) (Some code) None
 
-pub box_listed : (k : RowKind) (row : Fields) (code thing : List ℕ) → k ≡ kind.Box → code ≡ field row 1 → thing_read Container code ≡ Some thing → Some (lists.Thing thing None) ≡ chosen k row
-box_listed k row code thing is at read = rw is (choice (is_thing_code Container (field row 1)) (field row 1) thing (λ c. lists.Thing c None) (rw at at read))
+pub box_listed : (k : RowKind) (row : Fields) (code thing : List ℕ) → k ≡ kind.Box
+    → code ≡ field row 1 → thing_read Container code ≡ Some thing
+    → Some (lists.Thing thing None) ≡ chosen k row
+box_listed k row code thing is at read =
+    rw is (choice (is_thing_code Container (field row 1)) (field row 1) thing
+    (λ c. lists.Thing c None) (rw at at read))
 
-pub lent_listed : (k : RowKind) (row : Fields) (code thing : List ℕ) → k ≡ kind.Lent → code ≡ field row 1 → thing_read Borrowed code ≡ Some thing → Some (lists.Thing thing None) ≡ chosen k row
-lent_listed k row code thing is at read = rw is (choice (is_thing_code Borrowed (field row 1)) (field row 1) thing (λ c. lists.Thing c None) (rw at at read))
+pub lent_listed : (k : RowKind) (row : Fields) (code thing : List ℕ) → k ≡ kind.Lent
+    → code ≡ field row 1 → thing_read Borrowed code ≡ Some thing
+    → Some (lists.Thing thing None) ≡ chosen k row
+lent_listed k row code thing is at read =
+    rw is (choice (is_thing_code Borrowed (field row 1)) (field row 1) thing
+    (λ c. lists.Thing c None) (rw at at read))
 
-pub lent_refused : (k : RowKind) (row : Fields) (code : List ℕ) → k ≡ kind.Lent → code ≡ field row 1 → thing_read Borrowed code ≡ None → ◌≡◌ {A = Option SetupRow} None (chosen k row)
-lent_refused k row code is at read = rw is (no_choice (is_thing_code Borrowed (field row 1)) (field row 1) (lists.Thing (field row 1) None) (rw at at read))
+pub lent_refused : (k : RowKind) (row : Fields) (code : List ℕ) → k ≡ kind.Lent → code ≡ field row 1
+    → thing_read Borrowed code ≡ None → ◌≡◌ {A = Option SetupRow} None (chosen k row)
+lent_refused k row code is at read =
+    rw is (no_choice (is_thing_code Borrowed (field row 1)) (field row 1)
+    (lists.Thing (field row 1) None) (rw at at read))
 
-pub own_listed : (k : RowKind) (row : Fields) (code thing place normal : List ℕ) → k ≡ kind.Own → code ≡ field row 1 → place ≡ field row 2
-    → thing_read Own code ≡ Some thing → place_read place ≡ Some normal → Some (lists.Thing thing (Some normal)) ≡ chosen k row
+pub own_listed : (k : RowKind) (row : Fields) (code thing place normal : List ℕ) → k ≡ kind.Own
+    → code ≡ field row 1 → place ≡ field row 2
+    → thing_read Own code ≡ Some thing → place_read place ≡ Some normal
+        → Some (lists.Thing thing (Some normal)) ≡ chosen k row
 own_listed k row code thing place normal is at then read found =
-    rw is (choices (is_thing_code Own (field row 1)) (is_place_code (field row 2)) (field row 1) thing (field row 2) normal (λ c p. lists.Thing c (Some p)) (rw at at read) (rw then at found))
+    rw is (choices (is_thing_code Own (field row 1)) (is_place_code (field row 2)) (field row 1)
+        thing (field row 2) normal (λ c p. lists.Thing c (Some p)) (rw at at read)
+        (rw then at found))
 
-pub own_refused : (k : RowKind) (row : Fields) (code : List ℕ) → k ≡ kind.Own → code ≡ field row 1 → thing_read Own code ≡ None → ◌≡◌ {A = Option SetupRow} None (chosen k row)
+pub own_refused : (k : RowKind) (row : Fields) (code : List ℕ) → k ≡ kind.Own → code ≡ field row 1
+    → thing_read Own code ≡ None → ◌≡◌ {A = Option SetupRow} None (chosen k row)
 own_refused k row code is at read =
-    rw is (no_first (is_thing_code Own (field row 1)) (is_place_code (field row 2)) (field row 1) (lists.Thing (field row 1) (Some (field row 2))) (rw at at read))
+    rw is (no_first (is_thing_code Own (field row 1)) (is_place_code (field row 2)) (field row 1)
+        (lists.Thing (field row 1) (Some (field row 2))) (rw at at read))
 
-pub normal_refused : (k : RowKind) (row : Fields) (place : List ℕ) → k ≡ kind.Own → place ≡ field row 2 → place_read place ≡ None → ◌≡◌ {A = Option SetupRow} None (chosen k row)
+pub normal_refused : (k : RowKind) (row : Fields) (place : List ℕ) → k ≡ kind.Own
+    → place ≡ field row 2 → place_read place ≡ None → ◌≡◌ {A = Option SetupRow} None (chosen k row)
 normal_refused k row place is then found =
-    rw is (no_second (is_thing_code Own (field row 1)) (is_place_code (field row 2)) (field row 2) (lists.Thing (field row 1) (Some (field row 2))) (rw then at found))
+    rw is (no_second (is_thing_code Own (field row 1)) (is_place_code (field row 2)) (field row 2)
+        (lists.Thing (field row 1) (Some (field row 2))) (rw then at found))

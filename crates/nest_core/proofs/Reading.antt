@@ -13,7 +13,8 @@ use Rattle.nest_core.specs.SetupRows.{Fields, first_fault, museum_of, row_fault,
 use Rattle.nest_core.specs.declared.setup_fault.SetupFault.{SetupFault}
 use Rattle.nest_core.proofs.CsvRows.{left_at_start, left_none, left_some, next_leaves, rows_left}
 
--- the rows before row n of the text are listed in S and have no fault, and what is left is read from this state
+-- the rows before row n of the text are listed in S and have no fault, and what is left is read
+-- from this state
 pub record IsUpTo (text : List ℕ) (S : Museum) (n : ℕ) (s : State) (xs : List ℕ) : Type 0 where
   pub before : List Fields
   pub rows : records default_config text ≡ before ++ rows_left s xs
@@ -39,46 +40,61 @@ some_first : (o q : Option SetupFault) (f : SetupFault) → o ≡ Some f → opt
 some_first o q f e = ap (λ g. option_or g q) e
 
 -- the fault of the next row, as the definition has it
-here_is : (S : Museum) (n : ℕ) (before : List Fields) (row : Fields) (o : Option SetupFault) → S ≡ museum_of before → n ≡ length before + 1 → row_fault S n row ≡ o
+here_is : (S : Museum) (n : ℕ) (before : List Fields) (row : Fields) (o : Option SetupFault)
+    → S ≡ museum_of before → n ≡ length before + 1 → row_fault S n row ≡ o
     → row_fault (museum_of before) (length before + 1) row ≡ o
-here_is S n before row o museum number e = ap (λ T. row_fault T (length before + 1) row) (sym museum) ∙ ap (λ m. row_fault S m row) (sym number) ∙ e
+here_is S n before row o museum number e =
+    ap (λ T. row_fault T (length before + 1) row) (sym museum) ∙ ap (λ m. row_fault S m row)
+    (sym number) ∙ e
 
 -- one more row
-pub one_more : (text : List ℕ) (S T : Museum) (n : ℕ) (s : State) (xs : List ℕ) (row : Fields) (t : State) (ys : List ℕ) → IsUpTo text S n s xs
-    → next_record default_config s [] [] xs ≡ Some (row, t, ys) → row_fault S n row ≡ None → T ≡ with_row S row → IsUpTo text T (n + 1) t ys
+pub one_more : (text : List ℕ) (S T : Museum) (n : ℕ) (s : State) (xs : List ℕ) (row : Fields)
+    (t : State) (ys : List ℕ) → IsUpTo text S n s xs
+    → next_record default_config s [] [] xs ≡ Some (row, t, ys) → row_fault S n row ≡ None
+        → T ≡ with_row S row → IsUpTo text T (n + 1) t ys
 one_more text S T n s xs row t ys up next none with =
     let left = left_some s xs (row, t, ys) up.rests next in
-    let museum : museum_of (up.before ++ row ∷ []) ≡ with_row S row = fold_push with_row no_museum up.before row ∙ ap (λ m. with_row m row) (sym up.museum) in
+    let museum : museum_of (up.before ++ row ∷ []) ≡ with_row S row =
+        fold_push with_row no_museum up.before row ∙ ap (λ m. with_row m row) (sym up.museum) in
     record {
       before = up.before ++ row ∷ [];
-      rows = up.rows ∙ ap (λ rows. up.before ++ rows) left ∙ sym (append_assoc up.before (row ∷ []) (rows_left t ys));
+      rows = up.rows ∙ ap (λ rows. up.before ++ rows) left
+          ∙ sym (append_assoc up.before (row ∷ []) (rows_left t ys));
       museum = with ∙ sym museum;
       number = omega (arith, length-append up.before (row ∷ []), up.number);
       fault = up.fault ∙ ap (first_fault up.before) left
-          ∙ none_first (row_fault (museum_of up.before) (length up.before + 1) row) (first_fault (up.before ++ row ∷ []) (rows_left t ys))
+          ∙ none_first (row_fault (museum_of up.before) (length up.before + 1) row)
+              (first_fault (up.before ++ row ∷ []) (rows_left t ys))
           (here_is S n up.before row None up.museum up.number none);
       rests = (next_leaves default_config s [] [] xs (row, t, ys) next).rests;
     }
 
 -- a row with a fault
-pub fault_here : (text : List ℕ) (S : Museum) (n : ℕ) (s : State) (xs : List ℕ) (row : Fields) (t : State) (ys : List ℕ) (f : SetupFault) → IsUpTo text S n s xs
-    → next_record default_config s [] [] xs ≡ Some (row, t, ys) → row_fault S n row ≡ Some f → first_fault [] (records default_config text) ≡ Some f
+pub fault_here : (text : List ℕ) (S : Museum) (n : ℕ) (s : State) (xs : List ℕ) (row : Fields)
+    (t : State) (ys : List ℕ) (f : SetupFault) → IsUpTo text S n s xs
+    → next_record default_config s [] [] xs ≡ Some (row, t, ys) → row_fault S n row ≡ Some f
+        → first_fault [] (records default_config text) ≡ Some f
 fault_here text S n s xs row t ys f up next some =
     up.fault ∙ ap (first_fault up.before) (left_some s xs (row, t, ys) up.rests next)
-    ∙ some_first (row_fault (museum_of up.before) (length up.before + 1) row) (first_fault (up.before ++ row ∷ []) (rows_left t ys)) f
+    ∙ some_first (row_fault (museum_of up.before) (length up.before + 1) row)
+        (first_fault (up.before ++ row ∷ []) (rows_left t ys)) f
     (here_is S n up.before row (Some f) up.museum up.number some)
 
 -- no more row
-pub at_end : (text : List ℕ) (S : Museum) (n : ℕ) (s : State) (xs : List ℕ) → IsUpTo text S n s xs → next_record default_config s [] [] xs ≡ None
-    → (first_fault [] (records default_config text) ≡ None) × (S ≡ museum_of (records default_config text))
+pub at_end : (text : List ℕ) (S : Museum) (n : ℕ) (s : State) (xs : List ℕ) → IsUpTo text S n s xs
+    → next_record default_config s [] [] xs ≡ None
+    → (first_fault [] (records default_config text) ≡ None)
+        × (S ≡ museum_of (records default_config text))
 at_end text S n s xs up next =
     let left = left_none s xs next in (
       up.fault ∙ ap (first_fault up.before) left,
-      up.museum ∙ ap museum_of (sym (up.rows ∙ ap (λ rows. up.before ++ rows) left ∙ append-nil up.before)),
+      up.museum ∙ ap museum_of
+          (sym (up.rows ∙ ap (λ rows. up.before ++ rows) left ∙ append-nil up.before)),
     )
 
 -- without a mark a text is no longer
-strip_most : (b : Bool) (a c d : ℕ) (rest : List ℕ) → length (cond b rest (a ∷ c ∷ d ∷ rest)) ≤ length (a ∷ c ∷ d ∷ rest)
+strip_most : (b : Bool) (a c d : ℕ) (rest : List ℕ)
+    → length (cond b rest (a ∷ c ∷ d ∷ rest)) ≤ length (a ∷ c ∷ d ∷ rest)
 strip_most true a c d rest = omega arith
 strip_most false a c d rest = omega arith
 
@@ -90,7 +106,8 @@ strip_few (a ∷ b ∷ []) = omega arith
 strip_few (a ∷ b ∷ c ∷ rest) = strip_most (is_bom a b c) a b c rest
 
 -- after the last byte there is no more row
-pub spent : (s : State) (xs : List ℕ) → ends_at_end s ≡ false → length xs ≡ 0 → next_record default_config s [] [] xs ≡ None
+pub spent : (s : State) (xs : List ℕ) → ends_at_end s ≡ false → length xs ≡ 0
+    → next_record default_config s [] [] xs ≡ None
 unfolding next_record
 spent s [] rests none = rw rests refl
 spent s (x ∷ xs) rests none = absurd (omega arith)

@@ -16,7 +16,8 @@ use Rattle.nest_core.specs.Nest.{pack_bar, moved_by, leaves}
 use Rattle.nest_core.specs.declared.setup_fault.SetupFault.TheVariants.{BadCode, BadFields, BadKind, NoStation, Repeated, UnknownNormal}
 
 abbrev file : List ℕ
-file = codes "station,GAL\nplace,S1,inside\nplace,MUSEUM-X,elsewhere\nbox,C1\nown,2001.4.1,S1\nlent,L1999.7\n"
+file = codes
+    "station,GAL\nplace,S1,inside\nplace,MUSEUM-X,elsewhere\nbox,C1\nown,2001.4.1,S1\nlent,L1999.7\n"
 
 abbrev museum : Museum
 museum = record {
@@ -43,7 +44,9 @@ unfolding next_record records_from strip_bom
 a_museum-right = refl
 
 -- its rows are those of the file
-pub a_museum-rows : setup_rows museum ≡ codes "station,GAL" ∷ codes "place,S1,inside" ∷ codes "place,MUSEUM-X,elsewhere" ∷ codes "box,C1" ∷ codes "own,2001.4.1,S1" ∷ codes "lent,L1999.7" ∷ []
+pub a_museum-rows : setup_rows museum ≡ codes "station,GAL" ∷ codes "place,S1,inside"
+    ∷ codes "place,MUSEUM-X,elsewhere" ∷ codes "box,C1" ∷ codes "own,2001.4.1,S1"
+    ∷ codes "lent,L1999.7" ∷ []
 a_museum-rows = refl
 
 pub shelf : first_fault [] (rows_of (codes "shelf,S1")) ≡ Some (BadKind 1)
@@ -72,11 +75,13 @@ unfolding next_record records_from strip_bom
 skipped = refl
 
 -- one byte order mark goes, and empty fields at a row's end don't count
-pub marked : first_fault [] (rows_of (0xEF ∷ 0xBB ∷ 0xBF ∷ codes "station,GAL,,\r\nbox,C1,,\r\n")) ≡ None
+pub marked : first_fault [] (rows_of (0xEF ∷ 0xBB ∷ 0xBF ∷ codes "station,GAL,,\r\nbox,C1,,\r\n"))
+    ≡ None
 unfolding next_record records_from strip_bom
 marked = refl
 
-pub marked_twice : first_fault [] (rows_of (0xEF ∷ 0xBB ∷ 0xBF ∷ 0xEF ∷ 0xBB ∷ 0xBF ∷ codes "station,GAL")) ≡ Some (BadKind 1)
+pub marked_twice : first_fault []
+    (rows_of (0xEF ∷ 0xBB ∷ 0xBF ∷ 0xEF ∷ 0xBB ∷ 0xBF ∷ codes "station,GAL")) ≡ Some (BadKind 1)
 unfolding next_record records_from strip_bom
 marked_twice = refl
 
@@ -93,13 +98,16 @@ unfolding next_record records_from strip_bom
 empty_file = refl
 
 -- of several rows that hold the first one speaks; where none holds, the other does
-first_of_two : first_or (codes "other") ((codes "one" if false) ∷ (codes "two" if true) ∷ (codes "three" if true) ∷ []) ≡ codes "two"
+first_of_two : first_or (codes "other")
+    ((codes "one" if false) ∷ (codes "two" if true) ∷ (codes "three" if true) ∷ []) ≡ codes "two"
 first_of_two = refl
 
-none_holds : first_or (codes "other") ((codes "one" if false) ∷ (codes "two" if false) ∷ []) ≡ codes "other"
+none_holds : first_or (codes "other") ((codes "one" if false) ∷ (codes "two" if false) ∷ [])
+    ≡ codes "other"
 none_holds = refl
 
--- What is put where, by puts alone: each list stands newest first. Six things, of which 0 and 1 are crates.
+-- What is put where, by puts alone: each list stands newest first. Six things, of which 0 and 1 are
+-- crates.
 
 abbrev at : ℕ → ℕ → Put
 at x p = record { thing = x; to = At p }
@@ -107,24 +115,28 @@ at x p = record { thing = x; to = At p }
 abbrev into : ℕ → ℕ → Put
 into x c = record { thing = x; to = Within c }
 
--- contents_in_order: the content list of crate 0 after each put, and the things whose place the put changes
+-- contents_in_order: the content list of crate 0 after each put, and the things whose place the put
+-- changes
 
 abbrev one_put : List Put
 one_put = at 0 0 ∷ []
 
-contents_in_order-1 : (moved_by 6 [] (at 0 0) ≡ 0 ∷ []) × (contents one_put 0 ≡ []) × (holds_things one_put 0 ≡ false)
+contents_in_order-1 : (moved_by 6 [] (at 0 0) ≡ 0 ∷ []) × (contents one_put 0 ≡ [])
+    × (holds_things one_put 0 ≡ false)
 contents_in_order-1 = (refl, refl, refl)
 
 abbrev two_puts : List Put
 two_puts = into 2 0 ∷ one_put
 
-contents_in_order-2 : (moved_by 6 one_put (into 2 0) ≡ 2 ∷ []) × (contents two_puts 0 ≡ 2 ∷ []) × (holds_things two_puts 0 ≡ true)
+contents_in_order-2 : (moved_by 6 one_put (into 2 0) ≡ 2 ∷ []) × (contents two_puts 0 ≡ 2 ∷ [])
+    × (holds_things two_puts 0 ≡ true)
 contents_in_order-2 = (refl, refl, refl)
 
 abbrev three_puts : List Put
 three_puts = into 3 0 ∷ two_puts
 
-contents_in_order-3 : (moved_by 6 two_puts (into 3 0) ≡ 3 ∷ []) × (contents three_puts 0 ≡ 2 ∷ 3 ∷ [])
+contents_in_order-3 : (moved_by 6 two_puts (into 3 0) ≡ 3 ∷ [])
+    × (contents three_puts 0 ≡ 2 ∷ 3 ∷ [])
 contents_in_order-3 = (refl, refl)
 
 -- packed again, a thing goes to the end and doesn't move
@@ -151,7 +163,8 @@ contents_in_order-6 = (refl, refl)
 contents_in_order-carried : carried 6 six_puts 0 ≡ 0 ∷ 2 ∷ []
 contents_in_order-carried = refl
 
-contents_in_order-places : map (place 6 six_puts) (0 ∷ 1 ∷ 2 ∷ 3 ∷ []) ≡ Some 2 ∷ None ∷ Some 2 ∷ Some 0 ∷ []
+contents_in_order-places : map (place 6 six_puts) (0 ∷ 1 ∷ 2 ∷ 3 ∷ []) ≡ Some 2 ∷ None ∷ Some 2
+    ∷ Some 0 ∷ []
 contents_in_order-places = refl
 
 -- crate_in_crate: crate 1 in crate 0, and thing 2 in crate 1
@@ -168,7 +181,8 @@ crate_in_crate-carried = refl
 crate_in_crate-moved : moved_by 6 crate_in_crate (at 0 2) ≡ 0 ∷ 1 ∷ 2 ∷ []
 crate_in_crate-moved = refl
 
--- cycle: crate 1 is in crate 0; neither 1 nor 0 itself can take 0, and 0 put where it is moves nothing
+-- cycle: crate 1 is in crate 0; neither 1 nor 0 itself can take 0, and 0 put where it is moves
+-- nothing
 
 abbrev cycle : List Put
 cycle = into 1 0 ∷ at 1 0 ∷ at 0 0 ∷ []
@@ -185,10 +199,12 @@ cycle-itself = refl
 cycle-moved : moved_by 6 cycle (at 0 0) ≡ []
 cycle-moved = refl
 
--- too_deep: crates 0 to 8, each in the one before, thing 9 in the last but one; crate 11 stands elsewhere
+-- too_deep: crates 0 to 8, each in the one before, thing 9 in the last but one; crate 11 stands
+-- elsewhere
 
 abbrev eight_crates : List Put
-eight_crates = into 9 7 ∷ into 7 6 ∷ into 6 5 ∷ into 5 4 ∷ into 4 3 ∷ into 3 2 ∷ into 2 1 ∷ into 1 0 ∷ at 0 0 ∷ []
+eight_crates = into 9 7 ∷ into 7 6 ∷ into 6 5 ∷ into 5 4 ∷ into 4 3 ∷ into 3 2 ∷ into 2 1 ∷ into 1 0
+    ∷ at 0 0 ∷ []
 
 -- eight containers above it are as many as may be
 too_deep-last : pack_bar (last eight_crates) 12 8 8 7 ≡ None
@@ -208,9 +224,12 @@ too_deep-inside : pack_bar (last nine_crates) 12 8 0 11 ≡ Some TooDeep
 too_deep-inside = refl
 
 -- under the limit of new stores both may be packed
-too_deep-limit : (pack_bar (last nine_crates) 12 12 10 8 ≡ None) × (pack_bar (last nine_crates) 12 12 0 11 ≡ None)
+too_deep-limit : (pack_bar (last nine_crates) 12 12 10 8 ≡ None)
+    × (pack_bar (last nine_crates) 12 12 0 11 ≡ None)
 too_deep-limit = (refl, refl)
 
--- the bound on a put alone refuses a put that writes every place anew, a step each: of seventeen things that stand nowhere
-bound-alone : (before : ℕ) → before + 17 ≤ before + 8 * (length (carried 17 [] 0) + length (leaves [] 0) + 1) → ⊥
+-- the bound on a put alone refuses a put that writes every place anew, a step each: of seventeen
+-- things that stand nowhere
+bound-alone : (before : ℕ) → before + 17 ≤ before + 8 *
+    (length (carried 17 [] 0) + length (leaves [] 0) + 1) → ⊥
 bound-alone before h = let low : before + 17 ≤ before + 16 = h in omega arith

@@ -1,4 +1,4 @@
-//! The setup: what the museum lists, and the look-ups in it.
+//! The setup: what the museum lists, and the lookups in it.
 ghost use Rattle.std.specs.Prelude.{◌≡◌, ◌≢◌, ◌<◌, ◌≤◌, ◌+◌, true, length, None, Some, IfSome, OnOk, OnErr, IfErr};
 ghost use Rattle.std.specs.Option.{option_and_then};
 ghost use Rattle.nest_core.specs.Museum.{IsMuseum, find_station, find_place, find_thing, station_name_of, place_code_of, thing_code_of, is_inside, kind_of, normal_of, row_count, no_museum};
@@ -23,7 +23,8 @@ pub type PlaceNo = u32;
 /// A station's number, from 0 in the order of the setup's rows.
 pub type StationNo = u32;
 
-/// The museum's stations, places and things, which stay as they are; seen as what it lists, in number order.
+/// The museum's stations, places and things. A setup doesn't change. Contracts see it as its three
+/// lists, in the order of the numbers.
 pub struct Setup {
     stations: IndexSet<StationName>,
     places: IndexMap<PlaceCode, bool>,
@@ -48,7 +49,7 @@ impl Model for Setup {
         { stations = s.stations.keys; places = s.places.entries; things = s.things.entries }) };
 }
 
-/// Written out, so that whoever drops a setup calls it: a derived drop would stand whole at each of their ways out.
+/// Manual `Drop`: a derived one is inlined at every return and slows the proof.
 impl Drop for Setup {
     fn drop(self) {
         let Setup {
@@ -63,15 +64,15 @@ impl Drop for Setup {
 }
 
 impl Setup {
-    /// What holds of every setup: its codes are codes, none stands twice, and its lists are within their limits. Does
-    /// nothing: its contract is the law.
+    /// The invariant of every setup, for proofs: its names and codes are valid, none is listed
+    /// twice, and no list is longer than its limit. The function does nothing.
     pub fn is_museum(&self)
         ensures { IsMuseum self.now }
     {
         let _ = &self.things;
     }
 
-    /// How many stations there are.
+    /// The number of stations, at most [`MOST_STATIONS`].
     pub fn stations(&self) -> u32
         ensures count { result ≡ length self.now.stations }
         ensures few { result ≤ MOST_STATIONS }
@@ -79,7 +80,7 @@ impl Setup {
         self.stations.len() as u32
     }
 
-    /// How many places there are.
+    /// The number of places, at most [`MOST_PLACES`].
     pub fn places(&self) -> u32
         ensures count { result ≡ length self.now.places }
         ensures few { result ≤ MOST_PLACES }
@@ -87,7 +88,7 @@ impl Setup {
         self.places.len() as u32
     }
 
-    /// How many things there are.
+    /// The number of things, at most [`MOST_THINGS`].
     pub fn things(&self) -> u32
         ensures count { result ≡ length self.now.things }
         ensures few { result ≤ MOST_THINGS }
@@ -95,7 +96,7 @@ impl Setup {
         self.things.len() as u32
     }
 
-    /// How many rows list it: one for each station, place and thing.
+    /// The number of rows that list the setup: one for each station, place and thing.
     pub fn rows(&self) -> u32
         ensures count { result ≡ row_count self.now }
         ensures few { result ≤ MOST_STATIONS + MOST_PLACES + MOST_THINGS }
@@ -103,7 +104,7 @@ impl Setup {
         self.stations() + self.places() + self.things()
     }
 
-    /// The number of the station with the name.
+    /// The number of the station with this name, or `None` if there is none.
     pub fn station(&self, name: &str) -> Option<StationNo>
         ensures found { result ≡ find_station self.now name.now }
         ensures within { IfSome result (λ s. s < length self.now.stations) }
@@ -114,7 +115,7 @@ impl Setup {
         Some(number as u32)
     }
 
-    /// The number of the place with the code.
+    /// The number of the place with this code, or `None` if there is none.
     pub fn place(&self, code: &PlaceCode) -> Option<PlaceNo>
         ensures found { result ≡ find_place self.now code.now }
         ensures within { IfSome result (λ p. p < length self.now.places) }
@@ -123,7 +124,7 @@ impl Setup {
         Some(number as u32)
     }
 
-    /// The number of the thing with the code.
+    /// The number of the thing with this code, or `None` if there is none.
     pub fn thing(&self, code: &ThingCode) -> Option<ThingNo>
         ensures found { result ≡ find_thing self.now code.now }
         ensures within { IfSome result (λ x. x < length self.now.things) }
@@ -132,7 +133,7 @@ impl Setup {
         Some(number as u32)
     }
 
-    /// The name of a station.
+    /// The name of a station, which must be one of the setup.
     pub fn station_name(&self, station: StationNo) -> &str
         requires { station < length self.now.stations }
         ensures { station_name_of self.now station ≡ Some result.now }
@@ -140,7 +141,7 @@ impl Setup {
         self.stations.get_index(station as usize).unwrap().as_str()
     }
 
-    /// The code of a place.
+    /// The code of a place, which must be one of the setup.
     pub fn place_code(&self, place: PlaceNo) -> PlaceCode
         requires { place < length self.now.places }
         ensures { place_code_of self.now place ≡ Some result }
@@ -148,7 +149,7 @@ impl Setup {
         *self.places.get_index(place as usize).unwrap().0
     }
 
-    /// The code of a thing.
+    /// The code of a thing, which must be one of the setup.
     pub fn thing_code(&self, thing: ThingNo) -> ThingCode
         requires { thing < length self.now.things }
         ensures { thing_code_of self.now thing ≡ Some result }
@@ -156,7 +157,7 @@ impl Setup {
         *self.things.get_index(thing as usize).unwrap().0
     }
 
-    /// What a thing is.
+    /// What a thing of the setup is.
     pub fn kind(&self, thing: ThingNo) -> ThingKind
         requires { thing < length self.now.things }
         ensures { kind_of self.now thing ≡ Some result }
@@ -164,7 +165,7 @@ impl Setup {
         self.thing_code(thing).kind()
     }
 
-    /// Whether a place is one of the museum's own; else it is a partner's.
+    /// Whether a place of the setup belongs to the museum. Otherwise it is a partner's.
     pub fn is_inside(&self, place: PlaceNo) -> bool
         requires { place < length self.now.places }
         ensures { result ≡ is_inside self.now place }
@@ -172,7 +173,7 @@ impl Setup {
         *self.places.get_index(place as usize).unwrap().1
     }
 
-    /// The normal place of a thing, which an own object has and no other.
+    /// The normal location of a thing of the setup. Only own objects have one.
     pub fn normal(&self, thing: ThingNo) -> Option<PlaceNo>
         requires { thing < length self.now.things }
         ensures normal { result ≡ normal_of self.now thing }
@@ -181,7 +182,7 @@ impl Setup {
         *self.things.get_index(thing as usize).unwrap().1
     }
 
-    /// A setup that lists nothing yet.
+    /// A setup without any rows.
     pub(crate) fn new(alloc: Global) -> Setup
         ensures { result ≡ no_museum }
     {
@@ -192,8 +193,8 @@ impl Setup {
         }
     }
 
-    /// Adds what row `number` lists behind the rest; else the first fault: Repeated, UnknownNormal, TooMany
-    /// or NoMemory, and nothing is added.
+    /// Adds what row `number` lists at the end of its list. Fails with the first of `Repeated`,
+    /// `UnknownNormal`, `TooMany` and `NoMemory` that applies, and then nothing is added.
     pub(crate) fn add(&mut self, number: u64, row: SetupRow) -> Result<(), SetupFault>
         requires { is_right row ≡ true }
         ensures ok { OnOk result
@@ -256,7 +257,7 @@ impl Setup {
         Ok(())
     }
 
-    /// The number of the normal place, where there is one and it is listed.
+    /// The number of the normal location, if there is one and it is listed.
     fn normal_no(&self, normal: Option<PlaceCode>) -> Option<PlaceNo>
         ensures { result ≡ option_and_then (find_place self.now) normal }
     {

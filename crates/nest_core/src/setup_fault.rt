@@ -1,27 +1,28 @@
-//! Why bytes are no setup.
+//! Why a setup file is rejected.
 ghost use Rattle.std.specs.Prelude.{◌≡◌};
 ghost use Rattle.nest_core.specs.SetupFaults.{name_of, row_of};
 
 use std::alloc::{AllocError, AllocFailed};
 use thiserror::Error;
 
-/// Why bytes are no setup. Where several hold, the first row with a fault is told, and of it the first in this
-/// order; each fault of a row has the row's number from 1 among those that `csv` gives.
+/// Why a setup file is rejected. `NotCsv` comes before all others, then the first fault of the
+/// first row that has one, in this order, then `NoStation`. A row's number counts from 1 the rows
+/// that `csv` returns.
 #[derive(Clone, Copy, Debug, PartialEq, Eq, Error)]
 pub enum SetupFault {
     #[error("not UTF-8")]
     NotCsv,
-    #[error("row {0}: not station, place, box, own or lent")]
+    #[error("row {0}: not a station, place, box, own or lent")]
     BadKind(u64),
-    #[error("row {0}: not the fields of its kind")]
+    #[error("row {0}: wrong fields for its kind")]
     BadFields(u64),
-    #[error("row {0}: not a code or name as its kind wants it")]
+    #[error("row {0}: not a code or name of this kind")]
     BadCode(u64),
     #[error("row {0}: listed in an earlier row")]
     Repeated(u64),
     #[error("row {0}: no earlier row lists the normal place")]
     UnknownNormal(u64),
-    #[error("row {0}: one more than there may be")]
+    #[error("row {0}: one more than the limit")]
     TooMany(u64),
     #[error("no station")]
     NoStation,
@@ -30,7 +31,7 @@ pub enum SetupFault {
 }
 
 impl SetupFault {
-    /// The fault's name.
+    /// The name of the fault.
     pub fn name(&self) -> &'static str
         ensures { result.now ≡ name_of self.now }
     {
@@ -47,7 +48,7 @@ impl SetupFault {
         }
     }
 
-    /// The number of the row with the fault, from 1, if it is a row's.
+    /// The row that has the fault, from 1. `None` if the fault isn't one of a row.
     pub fn row(&self) -> Option<u64>
         ensures { result ≡ row_of self.now }
     {

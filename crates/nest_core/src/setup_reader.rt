@@ -1,4 +1,4 @@
-//! Reading a setup file.
+//! Reads a setup file.
 ghost use Rattle.std.specs.Prelude.{◌≡◌, ◌≢◌, ◌⊎◌, [], true, false, None, Some, OnOk, IfErr, MatchResult};
 ghost use Rattle.std.specs.Str.{is_utf8};
 ghost use Rattle.csv.specs.Reading.{has_failed};
@@ -14,12 +14,14 @@ use csv::{ByteRecord, Reader, ReaderBuilder};
 use std::alloc::Global;
 
 impl Setup {
-    /// The setup that the bytes list, one station, place, container, own or borrowed object a row: rows as `csv`
-    /// gives them, without a header and with one byte order mark dropped. Empty fields at a row's end don't count,
-    /// and a row without a field is skipped.
+    /// Returns the setup that the bytes list, with one station, place, container, own object or
+    /// borrowed object in a row. The rows are those of `csv`, without a header and after at most
+    /// one byte order mark. Empty fields at the end of a row don't count, and a row without any
+    /// field is skipped.
     ///
-    /// Else the first fault: NotCsv; then the first row with one, with BadKind, BadFields, BadCode, Repeated,
-    /// UnknownNormal and TooMany in this order; then NoStation. NoMemory can stand in place of any but NotCsv.
+    /// Fails with the first of these that applies: `NotCsv`; for the first row with a fault, the
+    /// first of `BadKind`, `BadFields`, `BadCode`, `Repeated`, `UnknownNormal` and `TooMany`;
+    /// `NoStation`. `NoMemory` may come instead of any of these but `NotCsv`.
     pub fn read(alloc: Global, bytes: &[u8]) -> Result<Setup, SetupFault>
         ensures exact { MatchResult result
             (λ setup. (setup_fault bytes.now ≡ None) × (setup ≡ museum_of (rows_of bytes.now)))
@@ -37,7 +39,8 @@ impl Setup {
     }
 }
 
-/// What the rows list, else the fault of the first that has one, or NoMemory.
+/// Returns the setup that the rows list. Fails with the fault of the first row that has one, or
+/// with `NoMemory`.
 fn read_rows(alloc: Global, bytes: &[u8]) -> Result<Setup, SetupFault>
     ensures { MatchResult result
         (λ setup. (first_fault [] (rows_of bytes.now) ≡ None)
@@ -54,9 +57,9 @@ fn read_rows(alloc: Global, bytes: &[u8]) -> Result<Setup, SetupFault>
     Ok(setup)
 }
 
-/// Adds what the rows list to a setup that lists nothing; else the fault of the first that has one, or NoMemory:
-/// where the reader stopped for want of memory, or a row with nothing wrong couldn't be listed. Each row is read
-/// into `row`.
+/// Adds what the rows list to an empty setup, and reads each row into `row`. Fails with the fault
+/// of the first row that has one. Fails with `NoMemory` if the reader ran out of memory, or if a
+/// row without a fault couldn't be added.
 fn add_rows(
     setup: &mut Setup,
     reader: &mut Reader<&[u8]>,
@@ -72,7 +75,7 @@ fn add_rows(
     ensures gives_up { result ≡ Err SetupFault.NoMemory
         → (has_failed reader.new ≡ true) ⊎ CanBeListed setup.new (fields_of row.new) }
 {
-    // Each row takes a byte at least.
+    // Each row has at least one byte, so there are no more rows than bytes.
     for before in 0..bytes.len() as u64 {
         match reader.read_byte_record(row) {
             Ok(true) => add_row(setup, before + 1, row)?,
@@ -83,7 +86,8 @@ fn add_rows(
     Ok(())
 }
 
-/// Adds what row `number` lists, if it isn't skipped; else its first fault, or NoMemory where it has none.
+/// Adds what row `number` lists, unless the row is skipped. Fails with the row's first fault, or
+/// with `NoMemory` if it has none.
 fn add_row(setup: &mut Setup, number: u64, row: &ByteRecord) -> Result<(), SetupFault>
     ensures ok { OnOk result
         ((row_fault setup.old number (fields_of row.now) ≡ None)

@@ -1,4 +1,4 @@
-//! What one row of a setup file lists.
+//! One row of a setup file: its fields, and what it lists.
 ghost use Rattle.std.specs.Prelude.{◌≡◌, ◌≢◌, ◌==◌, is_none, true, None, Some, IfOk, IfErr, MatchOption, if◌then◌else◌};
 ghost use Rattle.csv.specs.Records.{fields_of};
 ghost use Rattle.nest_core.specs.Museum.{Museum};
@@ -9,7 +9,8 @@ use crate::station_name::StationName;
 use codes_core::{PlaceCode, ThingCode, ThingKind};
 use csv::ByteRecord;
 
-/// What a row's first field says that it lists.
+/// What a row lists, by the word in its first field. `box` is a container, `own` an own object, and
+/// `lent` a borrowed one.
 #[derive(Clone, Copy, Debug, PartialEq, Eq)]
 pub(crate) enum RowKind {
     Station,
@@ -19,8 +20,8 @@ pub(crate) enum RowKind {
     Lent,
 }
 
-/// What a row lists: a station, a place inside the museum or elsewhere, or a thing with an own object's
-/// normal place.
+/// What a row lists: a station; a place, and whether it is inside the museum; or a thing, with its
+/// normal location if it is an own object.
 #[derive(Clone, Copy, Debug)]
 pub(crate) enum SetupRow {
     Station(StationName),
@@ -28,14 +29,14 @@ pub(crate) enum SetupRow {
     Thing(ThingCode, Option<PlaceCode>),
 }
 
-/// A field of a row of a file, by its number from 0; empty where there is none.
+/// Field `i` of a row, from 0. Empty if the row is shorter.
 pub fn field(row: &ByteRecord, i: usize) -> &[u8]
     ensures { result.now ≡ field (fields_of row.now) i }
 {
     row.get(i).unwrap_or(&[])
 }
 
-/// How many fields a row of a file has, without the empty ones at its end.
+/// The number of fields in a row, without the empty ones at its end.
 pub fn field_count(row: &ByteRecord) -> usize
     ensures { result ≡ field_count (fields_of row.now) }
 {
@@ -48,7 +49,7 @@ pub fn field_count(row: &ByteRecord) -> usize
     count
 }
 
-/// What a row's first field says that it lists, if it is a word for that.
+/// What a row lists, by its first field. `None` for any other word.
 fn row_kind(word: &[u8]) -> Option<RowKind>
     ensures { result ≡ row_kind word.now }
 {
@@ -67,7 +68,7 @@ fn row_kind(word: &[u8]) -> Option<RowKind>
     }
 }
 
-/// How many fields a row of the kind has.
+/// The number of fields that a row of this kind has, the first one included.
 fn fields_of_kind(kind: RowKind) -> usize
     ensures { result ≡ fields_of_kind kind }
 {
@@ -77,7 +78,8 @@ fn fields_of_kind(kind: RowKind) -> usize
     }
 }
 
-/// Whether a place's row says where it is.
+/// Whether the third field of a place's row is `inside` or `elsewhere`. True for rows of other
+/// kinds.
 fn has_word(kind: RowKind, row: &ByteRecord) -> bool
     ensures { result ≡ has_word kind (fields_of row.now) }
 {
@@ -90,7 +92,7 @@ fn has_word(kind: RowKind, row: &ByteRecord) -> bool
     }
 }
 
-/// The code that the bytes are, if they are one of the kind.
+/// The code that the bytes spell, if it is that of a thing of this kind.
 fn thing_code(bytes: &[u8], kind: ThingKind) -> Option<ThingCode>
     ensures { result ≡ (if is_thing_code kind bytes.now then Some bytes.now else None) }
 {
@@ -100,14 +102,15 @@ fn thing_code(bytes: &[u8], kind: ThingKind) -> Option<ThingCode>
     }
 }
 
-/// The code that the bytes are, if they are one.
+/// The code that the bytes spell, if it is a place's.
 fn place_code(bytes: &[u8]) -> Option<PlaceCode>
     ensures { result ≡ (if is_place_code bytes.now then Some bytes.now else None) }
 {
     PlaceCode::parse(bytes).ok()
 }
 
-/// What a row of the kind lists, if its codes are as the kind wants them.
+/// What a row of this kind lists. `None` if its name, or one of its codes, isn't valid for this
+/// kind.
 fn listed(kind: RowKind, row: &ByteRecord) -> Option<SetupRow>
     ensures { result
         ≡ (if has_codes kind (fields_of row.now) then Some (listed kind (fields_of row.now))
@@ -138,10 +141,10 @@ fn listed(kind: RowKind, row: &ByteRecord) -> Option<SetupRow>
 }
 
 impl SetupRow {
-    /// What the row lists, or nothing where it is skipped; else its first fault by itself: BadKind, BadFields
-    /// or BadCode.
+    /// Returns what row `number` lists, or `None` if the row has no fields and is skipped. Fails
+    /// with the first of `BadKind`, `BadFields` and `BadCode` that applies.
     pub fn read(number: u64, row: &ByteRecord) -> Result<Option<SetupRow>, SetupFault>
-        // S is whatever the rows before it list.
+        // S is the setup that the rows before this one list, whatever they are.
         ensures ok { IfOk result (λ read. MatchOption read
             ((S : Museum)
             → (row_fault S number (fields_of row.now) ≡ None)

@@ -1,4 +1,4 @@
-//! The rows that list a setup, as text.
+//! Writes the rows that list a setup.
 ghost use Rattle.std.specs.Prelude.{◌≡◌, ◌-◌, ◌<◌, ◌≤◌, length, map, Some, IfOk, slice_get, string_bytes};
 ghost use Rattle.nest_core.specs.Museum.{row_count};
 ghost use Rattle.nest_core.specs.SetupTexts.{joined, kind_word, place_fields, setup_rows, station_fields, thing_fields};
@@ -8,8 +8,9 @@ use codes_core::{NoMemory, ThingKind};
 use std::alloc::Global;
 
 impl Setup {
-    /// Row i of those that list the setup, from 1: stations, then places, then things, each in number order, its
-    /// fields joined by commas as in a setup file; or NoMemory.
+    /// Returns row `i` of the rows that list the setup, from 1, as in a setup file: stations, then
+    /// places, then things, each in the order of their numbers, with the fields joined by commas.
+    /// Fails with `NoMemory`.
     pub fn row_text(&self, alloc: Global, i: u32) -> Result<String, NoMemory>
         requires from_one { 1 ≤ i }
         requires within { i ≤ row_count self.now }
@@ -75,7 +76,7 @@ impl Setup {
     }
 }
 
-/// The first field of a thing's row.
+/// The word in the first field of a thing's row.
 fn kind_word(kind: ThingKind) -> &'static str
     ensures { result.now ≡ kind_word kind }
 {

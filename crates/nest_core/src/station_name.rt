@@ -1,4 +1,4 @@
-//! Names of stations.
+//! The names of stations.
 ghost use Rattle.std.specs.Prelude.{◌≡◌, true, false, IfSome, IfNone};
 ghost use Rattle.std.specs.List.{list_all};
 ghost use Rattle.nest_core.specs.StationName.{is_station_name, is_station_byte};
@@ -6,7 +6,8 @@ ghost use Rattle.nest_core.specs.StationName.{is_station_name, is_station_byte};
 use codes_core::Spelling;
 use std::marker::Model;
 
-/// A station's name, seen as its bytes: 1 to 16 of A-Z, a-z, 0-9 and the dash.
+/// A station's name: 1 to 16 of `A` to `Z`, `a` to `z`, `0` to `9` and the dash. Contracts see it
+/// as its bytes.
 #[derive(Clone, Copy, Debug, PartialEq, Eq, Hash)]
 pub(crate) struct StationName {
     spelling: Spelling<16>,
@@ -26,7 +27,7 @@ impl Model for StationName {
 }
 
 impl StationName {
-    /// The name that the bytes are, if they are one.
+    /// The name with these bytes, or `None` if they aren't a station's name.
     pub fn parse(bytes: &[u8]) -> Option<StationName>
         ensures name { IfSome result
             (λ name. (name ≡ bytes.now) × (is_station_name bytes.now ≡ true)) }

@@ -10,11 +10,15 @@ use Rattle.posting_core.specs.VerdictNames.{is_applied}
 use Rattle.posting_core.specs.Verdicts.{first_of}
 
 -- no row of an applied message holds
-pub none_holds : (rows : List (Row Verdict)) → list_all (λ row. not (is_applied row.says)) rows ≡ true → first_of rows ≡ Applied → AllByRecursion (λ row. row.holds ≡ false) rows
+pub none_holds : (rows : List (Row Verdict))
+    → list_all (λ row. not (is_applied row.says)) rows ≡ true → first_of rows ≡ Applied
+    → AllByRecursion (λ row. row.holds ≡ false) rows
 none_holds [] refusals h = tt
 none_holds (row ∷ rows) refusals h =
-    let parts = and_parts (not (is_applied row.says)) (list_all (λ row. not (is_applied row.says)) rows) refusals in
-    elim row.holds as (λ b. row.holds ≡ b → (if b then row.says else first_of rows) ≡ Applied → (b ≡ false) × AllByRecursion (λ row. row.holds ≡ false) rows) [
+    let parts = and_parts (not (is_applied row.says))
+        (list_all (λ row. not (is_applied row.says)) rows) refusals in
+    elim row.holds as (λ b. row.holds ≡ b → (if b then row.says else first_of rows) ≡ Applied
+        → (b ≡ false) × AllByRecursion (λ row. row.holds ≡ false) rows) [
       | true ↦ λ e k. absurd (false≢true (ap (λ v. not (is_applied v)) (sym k) ∙ parts.0))
       | false ↦ λ e k. (refl, none_holds rows parts.1 k)
     ] refl h

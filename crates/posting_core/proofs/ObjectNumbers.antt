@@ -1,4 +1,5 @@
--- The numbers of a loan's objects: different codes have different numbers, so that no number stands twice where no code does.
+-- The numbers of a loan's objects: different codes have different numbers, so that no number stands
+-- twice where no code does.
 use Rattle.std.specs.Prelude.{◌≡◌, ℕ, ◌+◌, ◌<◌, ◌==◌, ◌||◌, Bool, true, false, not, List, [], ◌∷◌, ◌++◌, length, map, Some, nat_eq, refl, zero, suc}
 use Rattle.std.specs.Bool.{Decides}
 use Rattle.std.specs.List.{list_any}
@@ -19,23 +20,30 @@ use Rattle.posting_core.specs.Verdicts.{is_known, repeats}
 use Rattle.posting_core.proofs.Among.{code_found}
 
 -- things of the setup with one number are one
-same_thing : (S : Museum) (x y : List ℕ) → not (is_known S x) ≡ false → not (is_known S y) ≡ false → thing_no S x ≡ thing_no S y → x ≡ y
+same_thing : (S : Museum) (x y : List ℕ) → not (is_known S x) ≡ false → not (is_known S y) ≡ false
+    → thing_no S x ≡ thing_no S y → x ≡ y
 same_thing S x y known_x known_y same =
-    let codes : Some x ≡ Some y = sym (code_found S x (not-false (is_known S x) known_x)) ∙ ap (thing_code_of S) same ∙ code_found S y (not-false (is_known S y) known_y) in cc
+    let codes : Some x ≡ Some y = sym (code_found S x (not-false (is_known S x) known_x))
+        ∙ ap (thing_code_of S) same ∙ code_found S y (not-false (is_known S y) known_y) in cc
 
 -- a number stands among others only where its code does
-unlike : (S : Museum) (x : List ℕ) (ys : List (List ℕ)) → not (is_known S x) ≡ false → list_any (λ y. not (is_known S y)) ys ≡ false → list_any (bytes_eq x) ys ≡ false → is_among (thing_no S x) (map (thing_no S) ys) ≡ false
+unlike : (S : Museum) (x : List ℕ) (ys : List (List ℕ)) → not (is_known S x) ≡ false
+    → list_any (λ y. not (is_known S y)) ys ≡ false → list_any (bytes_eq x) ys ≡ false
+    → is_among (thing_no S x) (map (thing_no S) ys) ≡ false
 unlike S x [] known all apart = refl
 unlike S x (y ∷ ys) known all apart =
     let both = or_parts (not (is_known S y)) (list_any (λ z. not (is_known S z)) ys) all in
     let two = or_parts (bytes_eq x y) (list_any (bytes_eq x) ys) apart in
-    elim (thing_no S y == thing_no S x) as (λ b. (thing_no S y == thing_no S x) ≡ b → (b || is_among (thing_no S x) (map (thing_no S) ys)) ≡ false) [
+    elim (thing_no S y == thing_no S x) as (λ b. (thing_no S y == thing_no S x) ≡ b
+        → (b || is_among (thing_no S x) (map (thing_no S) ys)) ≡ false) [
       | true ↦ λ e. let same : thing_no S x ≡ thing_no S y = grind (arith, nat_tests) in
-          absurd (false≢true (sym two.0 ∙ (bytes_eq-Decides x y).1 (same_thing S x y known both.0 same)))
+          absurd (false≢true (sym two.0 ∙ (bytes_eq-Decides x y).1
+              (same_thing S x y known both.0 same)))
       | false ↦ λ e. unlike S x ys known both.1 two.1
     ] refl
 
-pub numbers_once : (S : Museum) (xs : List (List ℕ)) → list_any (λ x. not (is_known S x)) xs ≡ false → repeats xs ≡ false → AreOnce (map (thing_no S) xs)
+pub numbers_once : (S : Museum) (xs : List (List ℕ)) → list_any (λ x. not (is_known S x)) xs ≡ false
+    → repeats xs ≡ false → AreOnce (map (thing_no S) xs)
 numbers_once S [] known once = tt
 numbers_once S (x ∷ xs) known once =
     let both = or_parts (not (is_known S x)) (list_any (λ y. not (is_known S y)) xs) known in
@@ -43,10 +51,12 @@ numbers_once S (x ∷ xs) known once =
     (unlike S x xs both.0 both.1 two.0, numbers_once S xs both.1 two.1)
 
 -- and a code only where its number does
-other_code : (S : Museum) (x : List ℕ) (ys : List (List ℕ)) → is_among (thing_no S x) (map (thing_no S) ys) ≡ false → list_any (bytes_eq x) ys ≡ false
+other_code : (S : Museum) (x : List ℕ) (ys : List (List ℕ))
+    → is_among (thing_no S x) (map (thing_no S) ys) ≡ false → list_any (bytes_eq x) ys ≡ false
 other_code S x [] apart = refl
 other_code S x (y ∷ ys) apart =
-    let both = or_parts (thing_no S y == thing_no S x) (is_among (thing_no S x) (map (thing_no S) ys)) apart in
+    let both = or_parts (thing_no S y == thing_no S x)
+        (is_among (thing_no S x) (map (thing_no S) ys)) apart in
     let other : bytes_eq x y ≡ false = false_from_ne_true (bytes_eq x y) (λ e.
     let same : thing_no S x ≡ thing_no S y = ap (thing_no S) ((bytes_eq-Decides x y).0 e) in
     let numbers : (thing_no S y == thing_no S x) ≡ true = grind (arith, nat_tests) in
@@ -58,9 +68,13 @@ codes_once S [] once = refl
 codes_once S (x ∷ xs) (apart, once) = rw (other_code S x xs apart) (codes_once S xs once)
 
 -- so the numbers tell whether some code stands twice
-pub repeats_told : (S : Museum) (xs : List (List ℕ)) (once : Bool) → list_any (λ x. not (is_known S x)) xs ≡ false → Decides once (AreOnce (map (thing_no S) xs)) → not once ≡ repeats xs
+pub repeats_told : (S : Museum) (xs : List (List ℕ)) (once : Bool)
+    → list_any (λ x. not (is_known S x)) xs ≡ false → Decides once (AreOnce (map (thing_no S) xs))
+    → not once ≡ repeats xs
 repeats_told S xs once known told = elim (repeats xs) as (λ r. repeats xs ≡ r → not once ≡ r) [
-  | true ↦ λ e. ap not (false_from_ne_true once (λ yes. false≢true (sym (codes_once S xs (told.0 yes)) ∙ e)))
+  | true ↦
+      λ e. ap not (false_from_ne_true once
+      (λ yes. false≢true (sym (codes_once S xs (told.0 yes)) ∙ e)))
   | false ↦ λ e. ap not (told.1 (numbers_once S xs known e))
 ] refl
 
@@ -74,11 +88,14 @@ once_more (o ∷ os) n (apart, once) new =
     (rw (list_any-append (λ y. y == o) os (n ∷ []), apart, other) refl, once_more os n once both.1)
 
 -- what passes for none doesn't for one
-none_at : {X : Type 0} (p : X → Bool) (xs : List X) (i : ℕ) (d : X) → i < length xs → list_any p xs ≡ false → p (get_or xs i d) ≡ false
-none_at p xs i d less none = false_from_ne_true (p (get_or xs i d)) (λ passes. false≢true (sym none ∙ list_any_at p xs i d less passes))
+none_at : {X : Type 0} (p : X → Bool) (xs : List X) (i : ℕ) (d : X) → i < length xs
+    → list_any p xs ≡ false → p (get_or xs i d) ≡ false
+none_at p xs i d less none = false_from_ne_true (p (get_or xs i d))
+    (λ passes. false≢true (sym none ∙ list_any_at p xs i d less passes))
 
 -- where each stands once, each stands in none of the places before it
-pub once_among : (ns : List ℕ) (i d : ℕ) → i < length ns → AreOnce ns → is_among (get_or ns i d) (take i ns) ≡ false
+pub once_among : (ns : List ℕ) (i d : ℕ) → i < length ns → AreOnce ns
+    → is_among (get_or ns i d) (take i ns) ≡ false
 once_among [] i d less once = absurd (omega arith)
 once_among (o ∷ os) zero d less once = refl
 once_among (o ∷ os) (suc i) d less (apart, once) =
@@ -95,16 +112,25 @@ among_turned n (o ∷ os) apart =
     rw other (among_turned n os both.1)
 
 -- one more of a list that is gone through
-pub one_more_of : {X Y : Type 0} (f : X → Y) (xs : List X) (i : ℕ) (d : X) → i < length xs → map f (take i xs) ++ f (get_or xs i d) ∷ [] ≡ map f (take (i + 1) xs)
-one_more_of f xs i d less = sym (ap (map f) (take_more xs i d less) ∙ map-append f (take i xs) (get_or xs i d ∷ []))
+pub one_more_of : {X Y : Type 0} (f : X → Y) (xs : List X) (i : ℕ) (d : X) → i < length xs
+    → map f (take i xs) ++ f (get_or xs i d) ∷ [] ≡ map f (take (i + 1) xs)
+one_more_of f xs i d less =
+    sym (ap (map f) (take_more xs i d less) ∙ map-append f (take i xs) (get_or xs i d ∷ []))
 
 -- and one more line's object, where no object has two lines
-pub one_more_object : (lines : List NewLine) (i : ℕ) (d : NewLine) → i < length lines → AreOnce (map (λ l. l.object) lines) →
-    insert_key nat_eq (map (λ l. l.object) (take i lines)) (get_or lines i d).object ≡ map (λ l. l.object) (take (i + 1) lines)
+pub one_more_object : (lines : List NewLine) (i : ℕ) (d : NewLine) → i < length lines
+    → AreOnce (map (λ l. l.object) lines) →
+    insert_key nat_eq (map (λ l. l.object) (take i lines)) (get_or lines i d).object
+        ≡ map (λ l. l.object) (take (i + 1) lines)
 one_more_object lines i d less once =
     let object : NewLine → ℕ = λ l. l.object in
     let within : i < length (map object lines) = omega (arith, less, length-map lines object) in
-    let among : is_among (get_or (map object lines) i d.object) (take i (map object lines)) ≡ false = once_among (map object lines) i d.object within once in
+    let among : is_among (get_or (map object lines) i d.object) (take i (map object lines))
+        ≡ false = once_among (map object lines) i d.object within once in
     let here : is_among (get_or lines i d).object (map object (take i lines)) ≡ false =
-    ap (λ n. is_among n (map object (take i lines))) (sym (get_or-map object lines i d d.object less)) ∙ ap (is_among (get_or (map object lines) i d.object)) (sym (take-map object i lines)) ∙ among in
-    rw (among_turned (get_or lines i d).object (map object (take i lines)) here) (one_more_of object lines i d less)
+    ap (λ n. is_among n (map object (take i lines)))
+        (sym (get_or-map object lines i d d.object less))
+        ∙ ap (is_among (get_or (map object lines) i d.object))
+        (sym (take-map object i lines)) ∙ among in
+    rw (among_turned (get_or lines i d).object (map object (take i lines)) here)
+        (one_more_of object lines i d less)

@@ -33,120 +33,178 @@ use Rattle.posting_core.specs.Rows.{place_to}
 use Rattle.posting_core.proofs.AppliedRows.{none_holds, applied_is}
 use Rattle.posting_core.proofs.Agreed.{agreement_sound}
 
-found_below : (xs : List (List ℕ)) (code : List ℕ) (n : ℕ) → n ≡ length xs → is_some (position (bytes_eq code) xs) ≡ true → unwrap_or (position (bytes_eq code) xs) n < n
-found_below xs code n same = elim (position (bytes_eq code) xs) as (λ o. position (bytes_eq code) xs ≡ o → is_some o ≡ true → unwrap_or o n < n) [
+found_below : (xs : List (List ℕ)) (code : List ℕ) (n : ℕ) → n ≡ length xs
+    → is_some (position (bytes_eq code) xs) ≡ true → unwrap_or (position (bytes_eq code) xs) n < n
+found_below xs code n same = elim (position (bytes_eq code) xs) as
+    (λ o. position (bytes_eq code) xs ≡ o → is_some o ≡ true → unwrap_or o n < n) [
   | None ↦ λ e h. absurd (false≢true h)
   | Some i ↦ λ e h. subst (λ k. i < k) (sym same) (position-Some (bytes_eq code) xs i [] e).0
 ] refl
 
 pub thing_below : (S : Museum) (x : List ℕ) → is_known S x ≡ true → thing_no S x < length S.things
-thing_below S x known = found_below (thing_codes S) x (length S.things) (sym (length-map S.things (λ row. row.0))) known
+thing_below S x known = found_below (thing_codes S) x (length S.things)
+    (sym (length-map S.things (λ row. row.0))) known
 
-pub place_below : (S : Museum) (p : List ℕ) → is_known_place S p ≡ true → place_no S p < length S.places
-place_below S p known = found_below (place_codes S) p (length S.places) (sym (length-map S.places (λ row. row.0))) known
+pub place_below : (S : Museum) (p : List ℕ) → is_known_place S p ≡ true
+    → place_no S p < length S.places
+place_below S p known = found_below (place_codes S) p (length S.places)
+    (sym (length-map S.places (λ row. row.0))) known
 
 -- a container of the setup is known
 container_known : (S : Museum) (c : List ℕ) → is_known_container S c ≡ true → is_known S c ≡ true
-container_known S c = elim (find_thing S c) as (λ o. option_map_or (is_container S) o false ≡ true → is_some o ≡ true) [ None ↦ λ h. h | Some i ↦ λ h. refl ]
+container_known S c = elim (find_thing S c) as (λ o. option_map_or (is_container S) o false ≡ true
+    → is_some o ≡ true) [ None ↦ λ h. h | Some i ↦ λ h. refl ]
 
--- a put of an applied message: of a known thing, to a known place or into a container that has room for it
+-- a put of an applied message: of a known thing, to a known place or into a container that has room
+-- for it
 pub record IsAllowedPut (S : Museum) (depth : ℕ) (P : List Entry) (put : Put) : Type 0 where
   pub thing : put.thing < length S.things
   pub place : IfSome (place_of (Some put.to)) (λ p. p < length S.places)
   pub room : IsAllowed (last (puts S P)) (length S.things) depth put.thing put.to
 
 -- what leaves under a loan goes to a place of the setup
-leaves_to : (S : Museum) (depth : ℕ) (P : List Entry) (x loan : List ℕ) (day : ℤ) → IsLawful S depth P → thing_no S x < length S.things → IfSome (put_in S P (Exit day x loan)) (IsAllowedPut S depth P)
-leaves_to S depth P x loan day lawful thing = elim (agreement P loan) as (λ o. agreement P loan ≡ o → IfSome (option_map (λ t. record { thing = thing_no S x; to = At (place_no S t.partner) }) o) (IsAllowedPut S depth P)) [
+leaves_to : (S : Museum) (depth : ℕ) (P : List Entry) (x loan : List ℕ) (day : ℤ)
+    → IsLawful S depth P → thing_no S x < length S.things
+    → IfSome (put_in S P (Exit day x loan)) (IsAllowedPut S depth P)
+leaves_to S depth P x loan day lawful thing =
+    elim (agreement P loan) as (λ o. agreement P loan ≡ o
+    → IfSome (option_map (λ t. record { thing = thing_no S x; to = At (place_no S t.partner) }) o)
+    (IsAllowedPut S depth P)) [
   | None ↦ λ e. tt
-  | Some t ↦ λ e. record { thing = thing; place = place_below S t.partner (agreement_sound S depth P loan t lawful e).partner; room = tt }
+  | Some t ↦
+      λ e. record { thing = thing; place = place_below S t.partner
+      (agreement_sound S depth P loan t lawful e).partner; room = tt }
 ] refl
 
-put_applied : (S : Museum) (depth : ℕ) (P : List Entry) (m : Message) → IsLawful S depth P → verdict S depth P m ≡ Applied → IfSome (put_in S P m) (IsAllowedPut S depth P)
+put_applied : (S : Museum) (depth : ℕ) (P : List Entry) (m : Message) → IsLawful S depth P
+    → verdict S depth P m ≡ Applied → IfSome (put_in S P m) (IsAllowedPut S depth P)
 put_applied S depth P (Move day x p) lawful h =
     let none = none_holds (move_rows S P x p) refl h in
-    record { thing = thing_below S x (not-false (is_known S x) none.0); place = place_below S p (not-false (is_known_place S p) none.1.0); room = tt }
+    record { thing = thing_below S x (not-false (is_known S x) none.0);
+        place = place_below S p (not-false (is_known_place S p) none.1.0); room = tt }
 put_applied S depth P (Pack day x c) lawful h =
     let none = none_holds (pack_rows S depth P x c) refl h in
     record {
       thing = thing_below S x (not-false (is_known S x) none.0);
       place = tt;
-      room = (thing_below S c (container_known S c (not-false (is_known_container S c) none.1.0)), none.1.1.1.1.0, none.1.1.1.1.1.0);
+      room = (thing_below S c (container_known S c (not-false (is_known_container S c) none.1.0)),
+          none.1.1.1.1.0, none.1.1.1.1.1.0);
     }
 put_applied S depth P (Exit day x loan) lawful h =
-    leaves_to S depth P x loan day lawful (thing_below S x (not-false (is_known S x) (none_holds (exit_rows S P x loan day) refl h).0))
+    leaves_to S depth P x loan day lawful
+        (thing_below S x (not-false (is_known S x)
+        (none_holds (exit_rows S P x loan day) refl h).0))
 put_applied S depth P (Return day x loan p) lawful h =
     let none = none_holds (return_rows S P x loan p) refl h in
-    record { thing = thing_below S x (not-false (is_known S x) none.0); place = place_below S p (not-false (is_known_place S p) none.1.0); room = tt }
+    record { thing = thing_below S x (not-false (is_known S x) none.0);
+        place = place_below S p (not-false (is_known_place S p) none.1.0); room = tt }
 put_applied S depth P (Receive day x loan p) lawful h =
     let none = none_holds (receive_rows S P x loan p day) refl h in
-    record { thing = thing_below S x (not-false (is_known S x) none.0); place = place_below S p (not-false (is_known_place S p) none.1.0); room = tt }
+    record { thing = thing_below S x (not-false (is_known S x) none.0);
+        place = place_below S p (not-false (is_known_place S p) none.1.0); room = tt }
 put_applied S depth P (Agree first final loan partner objects) lawful h = tt
 put_applied S depth P (Authorise name loan) lawful h = tt
 put_applied S depth P (SignOff name) lawful h = tt
 put_applied S depth P (Extend final loan) lawful h = tt
 
-pub put_allowed : (S : Museum) (depth : ℕ) (P : List Entry) (v : Verdict) (m : Message) → IsLawful S depth P → v ≡ verdict S depth P m → IfSome (put_by S P v m) (IsAllowedPut S depth P)
+pub put_allowed : (S : Museum) (depth : ℕ) (P : List Entry) (v : Verdict) (m : Message)
+    → IsLawful S depth P → v ≡ verdict S depth P m
+    → IfSome (put_by S P v m) (IsAllowedPut S depth P)
 put_allowed S depth P v m lawful judged =
-    elim (is_applied v) as (λ t. is_applied v ≡ t → IfSome (if t then put_in S P m else None) (IsAllowedPut S depth P)) [
+    elim (is_applied v) as (λ t. is_applied v ≡ t
+        → IfSome (if t then put_in S P m else None) (IsAllowedPut S depth P)) [
       | true ↦ λ e. put_applied S depth P m lawful (sym judged ∙ applied_is v e)
       | false ↦ λ e. tt
     ] refl
 
 -- that of a ledger's applied message
-pub allowed_in : (B : Book) (m : Message) {put : Put} → IsLawful B.museum B.depth B.posted → verdict_in B m ≡ Applied → put_in B.museum B.posted m ≡ Some put → IsAllowedPut B.museum B.depth B.posted put
-allowed_in B m lawful applied is = subst (λ p. IfSome p (IsAllowedPut B.museum B.depth B.posted)) is (put_applied B.museum B.depth B.posted m lawful applied)
+pub allowed_in : (B : Book) (m : Message) {put : Put} → IsLawful B.museum B.depth B.posted
+    → verdict_in B m ≡ Applied → put_in B.museum B.posted m ≡ Some put
+    → IsAllowedPut B.museum B.depth B.posted put
+allowed_in B m lawful applied is =
+    subst (λ p. IfSome p (IsAllowedPut B.museum B.depth B.posted)) is
+    (put_applied B.museum B.depth B.posted m lawful applied)
 
 -- what puts a thing is applied
-pub by_applied : (S : Museum) (P : List Entry) (v : Verdict) (m : Message) {put : Put} → put_by S P v m ≡ Some put → (is_applied v ≡ true) × (put_in S P m ≡ Some put)
-by_applied S P v m {put} = elim (is_applied v) as (λ b. (if b then put_in S P m else None) ≡ Some put → (b ≡ true) × (put_in S P m ≡ Some put)) [
+pub by_applied : (S : Museum) (P : List Entry) (v : Verdict) (m : Message) {put : Put}
+    → put_by S P v m ≡ Some put → (is_applied v ≡ true) × (put_in S P m ≡ Some put)
+by_applied S P v m {put} = elim (is_applied v) as
+    (λ b. (if b then put_in S P m else None) ≡ Some put → (b ≡ true) × (put_in S P m ≡ Some put)) [
   | true ↦ λ is. (refl, is)
   | false ↦ λ is. absurd (none-some _ is)
 ]
 
 -- it may go into a nest that stands for the puts before it
-pub may_go : (N : Nested) (S : Museum) (P : List Entry) (put : Put) → N.things ≡ length S.things → N.places ≡ length S.places → StandsFor N (puts S P) → IsAllowedPut S N.depth P put →
+pub may_go : (N : Nested) (S : Museum) (P : List Entry) (put : Put) → N.things ≡ length S.things
+    → N.places ≡ length S.places → StandsFor N (puts S P) → IsAllowedPut S N.depth P put →
     (put.thing < N.things) × MayGo N put.thing put.to
 may_go N S P put things places stands allowed =
-    (subst (λ n. put.thing < n) (sym things) allowed.thing, to put.to allowed.place (subst (λ n. IsAllowed (last (puts S P)) n N.depth put.thing put.to) (sym things) allowed.room))
+    (subst (λ n. put.thing < n) (sym things) allowed.thing,
+        to put.to allowed.place (subst (λ n. IsAllowed (last (puts S P)) n N.depth put.thing put.to)
+        (sym things) allowed.room))
   where
-    to : (t : Target) → IfSome (place_of (Some t)) (λ p. p < length S.places) → IsAllowed (last (puts S P)) N.things N.depth put.thing t → MayGo N put.thing t
+    to : (t : Target) → IfSome (place_of (Some t)) (λ p. p < length S.places)
+        → IsAllowed (last (puts S P)) N.things N.depth put.thing t → MayGo N put.thing t
     to (At p) place room = subst (λ n. p < n) (sym places) place
-    to (Within c) place (less, apart, low) = may_pack N (puts S P) put.thing c stands less (rw (apart, low) refl)
+    to (Within c) place (less, apart, low) =
+        may_pack N (puts S P) put.thing c stands less (rw (apart, low) refl)
 
-with_sound : (S : Museum) (depth : ℕ) (P : List Entry) (o : Option Put) → IfSome o (IsAllowedPut S depth P) → IsSound (length S.things) depth (last (puts S P)) → IsSound (length S.things) depth (last (with_put o (puts S P)))
+with_sound : (S : Museum) (depth : ℕ) (P : List Entry) (o : Option Put)
+    → IfSome o (IsAllowedPut S depth P) → IsSound (length S.things) depth (last (puts S P))
+    → IsSound (length S.things) depth (last (with_put o (puts S P)))
 with_sound S depth P None allowed sound = sound
-with_sound S depth P (Some put) allowed sound = sound_put (length S.things) depth (last (puts S P)) put.thing put.to sound allowed.thing allowed.room
+with_sound S depth P (Some put) allowed sound =
+    sound_put (length S.things) depth (last (puts S P)) put.thing put.to sound allowed.thing
+    allowed.room
 
 -- over a lawful list no chain is cut, none is longer than the depth limit, and all are of things
-pub lawful_sound : (S : Museum) (depth : ℕ) (P : List Entry) → IsLawful S depth P → IsSound (length S.things) depth (last (puts S P))
-lawful_sound S depth [] lawful = record { small = λ y c e. absurd (none-some _ e); ended = λ y. refl; far = λ y ge. refl }
+pub lawful_sound : (S : Museum) (depth : ℕ) (P : List Entry) → IsLawful S depth P
+    → IsSound (length S.things) depth (last (puts S P))
+lawful_sound S depth [] lawful =
+    record { small = λ y c e. absurd (none-some _ e); ended = λ y. refl; far = λ y ge. refl }
 lawful_sound S depth (e ∷ P) (follows, lawful) =
-    with_sound S depth P (put_by S P e.verdict e.message) (put_allowed S depth P e.verdict e.message lawful follows.judged) (lawful_sound S depth P lawful)
+    with_sound S depth P (put_by S P e.verdict e.message)
+        (put_allowed S depth P e.verdict e.message lawful follows.judged)
+        (lawful_sound S depth P lawful)
 
 -- what the put of an applied message does to a thing
-module _ {S : Museum} {depth : ℕ} {P : List Entry} (m : Message) {put : Put} (lawful : IsLawful S depth P) (is : put_in S P m ≡ Some put) (allowed : IsAllowedPut S depth P put) (y : ℕ) where
+module _ {S : Museum} {depth : ℕ} {P : List Entry} (m : Message) {put : Put}
+    (lawful : IsLawful S depth P) (is : put_in S P m ≡ Some put)
+    (allowed : IsAllowedPut S depth P put) (y : ℕ) where
   -- what its thing carries comes to the place of its target
-  pub comes_along : is_carried (length S.things) (puts S P) put.thing y ≡ true → place_after S P m y ≡ place_to S P put.to
-  comes_along carried = ap (λ o. place_by (last (with_put o (puts S P))) (length S.things) y) is ∙ to put.to allowed.room
+  pub comes_along : is_carried (length S.things) (puts S P) put.thing y ≡ true
+      → place_after S P m y ≡ place_to S P put.to
+  comes_along carried = ap (λ o. place_by (last (with_put o (puts S P))) (length S.things) y) is
+      ∙ to put.to allowed.room
     where
-      to : (t : Target) → IsAllowed (last (puts S P)) (length S.things) depth put.thing t → place_by (put_at (last (puts S P)) put.thing t) (length S.things) y ≡ place_to S P t
-      to (At p) room = place_carried (length S.things) depth (last (puts S P)) put.thing (At p) y (lawful_sound S depth P lawful) allowed.thing room carried
-      to (Within c) room = place_packed (length S.things) depth (last (puts S P)) put.thing c y (lawful_sound S depth P lawful) allowed.thing room carried
+      to : (t : Target) → IsAllowed (last (puts S P)) (length S.things) depth put.thing t
+          → place_by (put_at (last (puts S P)) put.thing t) (length S.things) y ≡ place_to S P t
+      to (At p) room = place_carried (length S.things) depth (last (puts S P)) put.thing (At p) y
+          (lawful_sound S depth P lawful) allowed.thing room carried
+      to (Within c) room = place_packed (length S.things) depth (last (puts S P)) put.thing c y
+          (lawful_sound S depth P lawful) allowed.thing room carried
 
   -- what it doesn't carry stays where it is
-  pub stays : is_carried (length S.things) (puts S P) put.thing y ≡ false → place_after S P m y ≡ place_at S P y
+  pub stays : is_carried (length S.things) (puts S P) put.thing y ≡ false
+      → place_after S P m y ≡ place_at S P y
   stays apart =
       ap (λ o. place_by (last (with_put o (puts S P))) (length S.things) y) is
-      ∙ place_stays (length S.things) depth (last (puts S P)) put.thing put.to y (lawful_sound S depth P lawful) allowed.thing allowed.room apart
+      ∙ place_stays (length S.things) depth (last (puts S P)) put.thing put.to y
+          (lawful_sound S depth P lawful) allowed.thing allowed.room apart
 
 -- the containers above a thing are things
-above_below : (n d : ℕ) (at : ℕ → Option Target) → IsSound n d at → (steps x : ℕ) → All (λ c. c < n) (above at steps x)
+above_below : (n d : ℕ) (at : ℕ → Option Target) → IsSound n d at → (steps x : ℕ)
+    → All (λ c. c < n) (above at steps x)
 above_below n d at sound zero x = All-nil (λ (c : ℕ). c < n)
-above_below n d at sound (suc steps) x = elim (container_of (at x)) as (λ o. container_of (at x) ≡ o → All (λ c. c < n) (option_map_or (λ c. c ∷ above at steps c) o [])) [
+above_below n d at sound (suc steps) x = elim (container_of (at x)) as (λ o. container_of (at x) ≡ o
+    → All (λ c. c < n) (option_map_or (λ c. c ∷ above at steps c) o [])) [
   | None ↦ λ e. All-nil (λ (c : ℕ). c < n)
-  | Some c ↦ λ e. All-cons (λ (y : ℕ). y < n) c (above at steps c) (sound.small x c e) (above_below n d at sound steps c)
+  | Some c ↦ λ e. All-cons (λ (y : ℕ). y < n) c (above at steps c) (sound.small x c e)
+      (above_below n d at sound steps c)
 ] refl
 
-pub chain_below : (S : Museum) (depth : ℕ) (P : List Entry) (x : ℕ) → IsLawful S depth P → All (λ c. c < length S.things) (chain_at S P x)
-chain_below S depth P x lawful = above_below (length S.things) depth (last (puts S P)) (lawful_sound S depth P lawful) (length S.things) x
+pub chain_below : (S : Museum) (depth : ℕ) (P : List Entry) (x : ℕ) → IsLawful S depth P
+    → All (λ c. c < length S.things) (chain_at S P x)
+chain_below S depth P x lawful =
+    above_below (length S.things) depth (last (puts S P)) (lawful_sound S depth P lawful)
+    (length S.things) x

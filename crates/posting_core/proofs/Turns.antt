@@ -28,16 +28,21 @@ use Rattle.posting_core.proofs.Accounted.{IsApplied, IsLeft, GoesWith, HasCrosse
 elsewhere_is : (S : Museum) (p : ℕ) → p < length S.places → is_elsewhere S p ≡ not (is_inside S p)
 elsewhere_is S p less =
     let is = slice_get-get_or S.places p ([], false) less in
-    ap (λ o. option_map_or (λ r. not r.1) o false) is ∙ sym (ap (λ o. not (option_map_or (λ r. r.1) o false)) is)
+    ap (λ o. option_map_or (λ r. not r.1) o false) is
+        ∙ sym (ap (λ o. not (option_map_or (λ r. r.1) o false)) is)
 
-inside_if_not_elsewhere : (S : Museum) (p : ℕ) → p < length S.places → is_elsewhere S p ≡ false → is_inside S p ≡ true
+inside_if_not_elsewhere : (S : Museum) (p : ℕ) → p < length S.places → is_elsewhere S p ≡ false
+    → is_inside S p ≡ true
 inside_if_not_elsewhere S p less h = not-false (is_inside S p) (sym (elsewhere_is S p less) ∙ h)
 
-pub elsewhere_if_not_inside : (S : Museum) (p : ℕ) → p < length S.places → is_inside S p ≡ false → is_elsewhere S p ≡ true
+pub elsewhere_if_not_inside : (S : Museum) (p : ℕ) → p < length S.places → is_inside S p ≡ false
+    → is_elsewhere S p ≡ true
 elsewhere_if_not_inside S p less h = elsewhere_is S p less ∙ ap not h
 
 pub not_elsewhere_inside : (S : Museum) (p : ℕ) → is_inside S p ≡ true → is_elsewhere S p ≡ false
-not_elsewhere_inside S p = elim (slice_get S.places p) as (λ o. option_map_or (λ r. r.1) o false ≡ true → option_map_or (λ r. not r.1) o false ≡ false) [ None ↦ λ h. refl | Some row ↦ λ h. ap not h ]
+not_elsewhere_inside S p = elim (slice_get S.places p) as
+    (λ o. option_map_or (λ r. r.1) o false ≡ true → option_map_or (λ r. not r.1) o false ≡ false)
+    [ None ↦ λ h. refl | Some row ↦ λ h. ap not h ]
 
 -- a place inside that a thing has
 pub record IsInside (S : Museum) (place : Option ℕ) : Type 0 where
@@ -45,13 +50,18 @@ pub record IsInside (S : Museum) (place : Option ℕ) : Type 0 where
   pub is : place ≡ Some at
   pub inside : is_inside S at ≡ true
 
-inside_is : (S : Museum) (place : Option ℕ) → option_map_or (is_inside S) place false ≡ true → IsInside S place
+inside_is : (S : Museum) (place : Option ℕ) → option_map_or (is_inside S) place false ≡ true
+    → IsInside S place
 inside_is S None h = absurd (false≢true h)
 inside_is S (Some p) h = record { at = p; is = refl; inside = h }
 
 -- the place of a message is a known one that isn't elsewhere
-comes_inside : (S : Museum) (p : List ℕ) → not (is_known_place S p) ≡ false → is_elsewhere S (place_no S p) ≡ false → IsInside S (Some (place_no S p))
-comes_inside S p known there = record { at = place_no S p; is = refl; inside = inside_if_not_elsewhere S (place_no S p) (place_below S p (not-false (is_known_place S p) known)) there }
+comes_inside : (S : Museum) (p : List ℕ) → not (is_known_place S p) ≡ false
+    → is_elsewhere S (place_no S p) ≡ false → IsInside S (Some (place_no S p))
+comes_inside S p known there =
+    record { at = place_no S p; is = refl;
+    inside = inside_if_not_elsewhere S (place_no S p)
+    (place_below S p (not-false (is_known_place S p) known)) there }
 
 -- an object of the setup
 pub record IsObject (S : Museum) (o : ℕ) : Type 0 where
@@ -94,7 +104,8 @@ pub record HasReceived (S : Museum) (P : List Entry) (e : Entry) (o : ℕ) : Typ
   pub loan_in : is_out loan ≡ false
   pub before : option_map_or (is_inside S) (place_at S P o) false ≡ false
   pub after : IsInside S (place_at S (e ∷ P) o)
-  pub crossed : HasCrossed S P e (record { thing = x; loan = loan; wanted = Awaiting; stage = Here }) o
+  pub crossed : HasCrossed S P e
+      (record { thing = x; loan = loan; wanted = Awaiting; stage = Here }) o
   pub ready : IsReady S P (record { thing = x; loan = loan; wanted = Awaiting; stage = Here }) o
 
 -- what happens to an object
@@ -106,14 +117,17 @@ pub data Turn (S : Museum) (P : List Entry) (e : Entry) (o : ℕ) : Type 0 where
   Received : HasReceived S P e o → Turn S P e o
 
 -- what an applied entry means for an object
-module _ {S : Museum} {depth : ℕ} {P : List Entry} {e : Entry} {o : ℕ} (a : IsApplied S depth P e) (object : IsObject S o) where
+module _ {S : Museum} {depth : ℕ} {P : List Entry} {e : Entry} {o : ℕ} (a : IsApplied S depth P e)
+    (object : IsObject S o) where
   -- by a message that nothing crosses by, and that puts nothing
   nothing : put_in S P e.message ≡ None → crossing_in e.message ≡ None → Turn S P e o
-  nothing unput uncrossed = Left (record { stays = nothing_put a o unput; stages = nothing_crosses a o uncrossed })
+  nothing unput uncrossed =
+      Left (record { stays = nothing_put a o unput; stages = nothing_crosses a o uncrossed })
 
   -- by one that nothing crosses by
   moves : (put : Put) → put_in S P e.message ≡ Some put → crossing_in e.message ≡ None →
-      is_away S put.thing (place_at S P put.thing) ≡ false → IsInside S (place_to S P put.to) → Turn S P e o
+      is_away S put.thing (place_at S P put.thing) ≡ false → IsInside S (place_to S P put.to)
+          → Turn S P e o
   moves put is uncrossed here to = by_carried a o put is
       (λ goes. Moved (record {
         thing = put.thing;
@@ -126,26 +140,37 @@ module _ {S : Museum} {depth : ℕ} {P : List Entry} {e : Entry} {o : ℕ} (a : 
       (λ apart stays. Left (record { stays = stays; stages = nothing_crosses a o uncrossed }))
 
   -- by whether the object crosses
-  crosses : (put : Put) (c : Crossing) → put_in S P e.message ≡ Some put → crossing_in e.message ≡ Some c → put.thing ≡ thing_no S c.thing → carries_unlisted S P c ≡ false → carries_wrong_stage S P c ≡ false →
+  crosses : (put : Put) (c : Crossing) → put_in S P e.message ≡ Some put
+      → crossing_in e.message ≡ Some c → put.thing ≡ thing_no S c.thing
+      → carries_unlisted S P c ≡ false → carries_wrong_stage S P c ≡ false →
       (GoesWith S P e put o → HasCrossed S P e c o → IsReady S P c o → Turn S P e o) → Turn S P e o
   crosses put c is cross same unlisted wrong turn = by_carried a o put is
-      (λ goes. let among = carried_among S P c.thing o object.below object.object (subst (λ x. is_carried (length S.things) (puts S P) x o ≡ true) same goes.carried) in
+      (λ goes. let among = carried_among S P c.thing o object.below object.object
+          (subst (λ x. is_carried (length S.things) (puts S P) x o ≡ true) same goes.carried) in
       turn goes (crosses_with a o c cross among) (ready S P c o unlisted wrong among))
       (λ apart stays. Left (record {
         stays = stays;
-        stages = crosses_without a o c cross (apart_not_among S P c.thing o object.object (subst (λ x. is_carried (length S.things) (puts S P) x o ≡ false) same apart));
+        stages = crosses_without a o c cross
+            (apart_not_among S P c.thing o object.object
+            (subst (λ x. is_carried (length S.things) (puts S P) x o ≡ false) same apart));
       }))
 
-  exits : (x loan : List ℕ) (day : ℤ) → e.message ≡ Exit day x loan → first_of (exit_rows S P x loan day) ≡ Applied → Turn S P e o
+  exits : (x loan : List ℕ) (day : ℤ) → e.message ≡ Exit day x loan
+      → first_of (exit_rows S P x loan day) ≡ Applied → Turn S P e o
   exits x loan day is h =
       let none = none_holds (exit_rows S P x loan day) refl h in
-      let stands = inside_is S (place_at S P (thing_no S x)) (not-false (stands_inside S P x) none.1.1.1.1.0) in
+      let stands = inside_is S (place_at S P (thing_no S x))
+          (not-false (stands_inside S P x) none.1.1.1.1.0) in
       elim (agreement P loan) as (λ t. agreement P loan ≡ t → is_some t ≡ true → Turn S P e o) [
         | None ↦ λ found agreed. absurd (false≢true agreed)
         | Some t ↦ λ found agreed.
             let put : Put = record { thing = thing_no S x; to = At (place_no S t.partner) } in
-            let puts_it : put_in S P e.message ≡ Some put = ap (put_in S P) is ∙ ap (option_map (λ t. record { thing = thing_no S x; to = At (place_no S t.partner) })) found in
-            crosses put (exit_of x loan) puts_it (ap crossing_in is) refl none.1.1.1.1.1.0 none.1.1.1.1.1.1.0
+            let puts_it : put_in S P e.message ≡ Some put =
+                ap (put_in S P) is
+                ∙ ap (option_map (λ t. record { thing = thing_no S x;
+                to = At (place_no S t.partner) })) found in
+            crosses put (exit_of x loan) puts_it (ap crossing_in is) refl none.1.1.1.1.1.0
+                none.1.1.1.1.1.1.0
             (λ goes crossed ready. Exited (record {
               x = x;
               loan = loan;
@@ -158,10 +183,12 @@ module _ {S : Museum} {depth : ℕ} {P : List Entry} {e : Entry} {o : ℕ} (a : 
             }))
       ] refl (not-false (is_agreed P loan) none.1.0)
 
-  returns : (x loan p : List ℕ) (day : ℤ) → e.message ≡ Return day x loan p → first_of (return_rows S P x loan p) ≡ Applied → Turn S P e o
+  returns : (x loan p : List ℕ) (day : ℤ) → e.message ≡ Return day x loan p
+      → first_of (return_rows S P x loan p) ≡ Applied → Turn S P e o
   returns x loan p day is h =
       let none = none_holds (return_rows S P x loan p) refl h in
-      crosses (record { thing = thing_no S x; to = At (place_no S p) }) (record { thing = x; loan = loan; wanted = Away; stage = Back })
+      crosses (record { thing = thing_no S x; to = At (place_no S p) })
+          (record { thing = x; loan = loan; wanted = Away; stage = Back })
       (ap (put_in S P) is) (ap crossing_in is) refl none.1.1.1.1.1.1.1.0 none.1.1.1.1.1.1.1.1.0
       (λ goes crossed ready. Returned (record {
         x = x;
@@ -172,10 +199,12 @@ module _ {S : Museum} {depth : ℕ} {P : List Entry} {e : Entry} {o : ℕ} (a : 
         ready = ready;
       }))
 
-  receives : (x loan p : List ℕ) (day : ℤ) → e.message ≡ Receive day x loan p → first_of (receive_rows S P x loan p day) ≡ Applied → Turn S P e o
+  receives : (x loan p : List ℕ) (day : ℤ) → e.message ≡ Receive day x loan p
+      → first_of (receive_rows S P x loan p day) ≡ Applied → Turn S P e o
   receives x loan p day is h =
       let none = none_holds (receive_rows S P x loan p day) refl h in
-      crosses (record { thing = thing_no S x; to = At (place_no S p) }) (record { thing = x; loan = loan; wanted = Awaiting; stage = Here })
+      crosses (record { thing = thing_no S x; to = At (place_no S p) })
+          (record { thing = x; loan = loan; wanted = Awaiting; stage = Here })
       (ap (put_in S P) is) (ap crossing_in is) refl none.1.1.1.1.1.1.1.1.0 none.1.1.1.1.1.1.1.1.1.0
       (λ goes crossed ready. Received (record {
         x = x;
@@ -190,11 +219,15 @@ module _ {S : Museum} {depth : ℕ} {P : List Entry} {e : Entry} {o : ℕ} (a : 
   by : (m : Message) → e.message ≡ m → verdict S depth P m ≡ Applied → Turn S P e o
   by (Move day x p) is h =
       let none = none_holds (move_rows S P x p) refl h in
-      moves (record { thing = thing_no S x; to = At (place_no S p) }) (ap (put_in S P) is) (ap crossing_in is) none.1.1.1.0 (comes_inside S p none.1.0 none.1.1.0)
+      moves (record { thing = thing_no S x; to = At (place_no S p) }) (ap (put_in S P) is)
+          (ap crossing_in is) none.1.1.1.0 (comes_inside S p none.1.0 none.1.1.0)
   by (Pack day x c) is h =
       let none = none_holds (pack_rows S depth P x c) refl h in
-      moves (record { thing = thing_no S x; to = Within (thing_no S c) }) (ap (put_in S P) is) (ap crossing_in is) none.1.1.0 (inside_is S (place_at S P (thing_no S c)) (not-false (stands_inside S P c) none.1.1.1.0))
-  by (Agree first final loan partner objects) is h = nothing (ap (put_in S P) is) (ap crossing_in is)
+      moves (record { thing = thing_no S x; to = Within (thing_no S c) }) (ap (put_in S P) is)
+          (ap crossing_in is) none.1.1.0
+          (inside_is S (place_at S P (thing_no S c)) (not-false (stands_inside S P c) none.1.1.1.0))
+  by (Agree first final loan partner objects) is h =
+      nothing (ap (put_in S P) is) (ap crossing_in is)
   by (Authorise name loan) is h = nothing (ap (put_in S P) is) (ap crossing_in is)
   by (Exit day x loan) is h = exits x loan day is h
   by (Return day x loan p) is h = returns x loan p day is h

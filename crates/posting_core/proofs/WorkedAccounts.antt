@@ -22,34 +22,44 @@ use Rattle.posting_core.proofs.WorkedRows.{museum, museum_x, s2, object_1, objec
 use Rattle.posting_core.proofs.WorkedLoansOut.{may_31, june_30, loan_1, leaves, spot_on, two_agreed, three_packed, refused_unauthorised, ready, loan_out, both_back, extend_tour}
 use Rattle.posting_core.proofs.WorkedLoansIn.{loan_in_1, june_5, awaited, here}
 
--- loan_out: before anything is agreed each object is home; the crate takes two along, and the third stays home
+-- loan_out: before anything is agreed each object is home; the crate takes two along, and the third
+-- stays home
 
 three_packed-home : IsHome (book three_packed) object_1
 three_packed-home = record { place = refl; loans = λ loan at. absurd (none-some _ at) }
 
 -- another loan than the one agreed has no line
-other_loan : (P : List Entry) (agreed : List ℕ) (t : Agreement) (o : ℕ) → ((loan : List ℕ) → agreement P loan ≡ cond (bytes_eq loan agreed) (Some t) None) → (loan : List ℕ) → bytes_eq loan agreed ≡ false → line_in (book P) loan o ≡ None
+other_loan : (P : List Entry) (agreed : List ℕ) (t : Agreement) (o : ℕ)
+    → ((loan : List ℕ) → agreement P loan ≡ cond (bytes_eq loan agreed) (Some t) None)
+    → (loan : List ℕ) → bytes_eq loan agreed ≡ false → line_in (book P) loan o ≡ None
 other_loan P agreed t o found loan other =
-    ap (λ u. if is_among o (option_map_or (objects_of museum) u []) then Some (stage museum P loan o) else None) (found loan ∙ ap (λ b. cond b (Some t) None) other)
+    ap (λ u. if is_among o (option_map_or (objects_of museum) u []) then Some
+        (stage museum P loan o) else None) (found loan ∙ ap (λ b. cond b (Some t) None) other)
 
-only_loan : (P : List Entry) (agreed : List ℕ) (t : Agreement) (o : ℕ) → ((loan : List ℕ) → agreement P loan ≡ cond (bytes_eq loan agreed) (Some t) None) → (loan : List ℕ) {line : LineStage} → line_in (book P) loan o ≡ Some line → loan ≡ agreed
-only_loan P agreed t o found loan {line} at = elim (bytes_eq loan agreed) as (λ b. bytes_eq loan agreed ≡ b → loan ≡ agreed) [
+only_loan : (P : List Entry) (agreed : List ℕ) (t : Agreement) (o : ℕ)
+    → ((loan : List ℕ) → agreement P loan ≡ cond (bytes_eq loan agreed) (Some t) None)
+    → (loan : List ℕ) {line : LineStage} → line_in (book P) loan o ≡ Some line → loan ≡ agreed
+only_loan P agreed t o found loan {line} at =
+    elim (bytes_eq loan agreed) as (λ b. bytes_eq loan agreed ≡ b → loan ≡ agreed) [
   | true ↦ λ h. (bytes_eq-Decides loan agreed).0 h
   | false ↦ λ h. absurd (none-some _ (sym (other_loan P agreed t o found loan h) ∙ at))
 ] refl
 
 terms_out : Agreement
-terms_out = record { loan = loan_1; partner = codes "MUSEUM-X"; objects = codes "2001.4.1" ∷ codes "2001.4.2" ∷ []; first = may; last = may_31 }
+terms_out = record { loan = loan_1; partner = codes "MUSEUM-X";
+    objects = codes "2001.4.1" ∷ codes "2001.4.2" ∷ []; first = may; last = may_31 }
 
 loan_out-away : IsUnderOne (book loan_out) Away object_1 loan_1
 unfolding terms_out
-loan_out-away = (refl, λ other at. only_loan loan_out loan_1 terms_out object_1 (λ loan. refl) other at)
+loan_out-away =
+    (refl, λ other at. only_loan loan_out loan_1 terms_out object_1 (λ loan. refl) other at)
 
 loan_out-partner : partner_in (book loan_out) loan_1 ≡ Some museum_x
 loan_out-partner = refl
 
 loan_out-lent : IsLent (book loan_out) object_1
-loan_out-lent = record { loan = loan_1; loan_out = refl; away = loan_out-away; partner = museum_x; agreed = refl; place = refl; elsewhere = refl }
+loan_out-lent = record { loan = loan_1; loan_out = refl; away = loan_out-away; partner = museum_x;
+    agreed = refl; place = refl; elsewhere = refl }
 
 -- what leaves does so under an authorised loan, and by its last day
 loan_out-authorised : IsAuthorised ready (leaves (codes "C1") loan_1 may_31)
@@ -71,7 +81,8 @@ abbrev drafted : List Entry
 drafted = run three_packed ((pack, two_agreed) ∷ [])
 
 abbrev refused : Entry
-refused = record { station = pack; n = 6; message = leaves (codes "C1") loan_1 may; verdict = NotAuthorised }
+refused = record { station = pack; n = 6; message = leaves (codes "C1") loan_1 may;
+    verdict = NotAuthorised }
 
 refused_unauthorised-alike : AnswerAlike (book refused_unauthorised) (book drafted)
 refused_unauthorised-alike = unchanged (book drafted) refused refl
@@ -83,42 +94,52 @@ both_back-over = inl refl
 -- loan_in: the object is with its lender until it comes, and then a guest
 
 awaited-with_lender : IsWithLender (book awaited) borrowed
-awaited-with_lender = record { place = tt; loans = λ loan. not_here (is_among borrowed (objects museum awaited loan)) }
+awaited-with_lender =
+    record { place = tt; loans = λ loan. not_here
+    (is_among borrowed (objects museum awaited loan)) }
   where
     not_here : (b : Bool) → (if b then Some Awaiting else None) ≢ Some Here
     not_here true at = let same : Some Awaiting ≡ Some Here = at in cc
     not_here false at = absurd (none-some _ at)
 
 terms_in : Agreement
-terms_in = record { loan = loan_in_1; partner = codes "LENDER-Y"; objects = codes "L1999.7" ∷ []; first = may; last = may_31 }
+terms_in = record { loan = loan_in_1; partner = codes "LENDER-Y"; objects = codes "L1999.7" ∷ [];
+    first = may; last = may_31 }
 
 here-here : IsUnderOne (book here) Here borrowed loan_in_1
 unfolding terms_in
 here-here = (refl, λ other at. only_loan here loan_in_1 terms_in borrowed (λ loan. refl) other at)
 
 here-guest : IsGuest (book here) borrowed
-here-guest = record { loan = loan_in_1; loan_in = refl; here = here-here; at = s2; place = refl; inside = refl }
+here-guest = record { loan = loan_in_1; loan_in = refl; here = here-here; at = s2; place = refl;
+    inside = refl }
 
 -- how a ledger goes on
 
 ready-later : later (book []) loan_out ≡ book loan_out
 ready-later = refl
 
-loan_out-spots_for : map (spots_for (changes_of (book ready) (leaves (codes "C1") loan_1 may_31))) (object_1 ∷ object_3 ∷ []) ≡ (spot_on 11 museum_x may_31 ∷ []) ∷ [] ∷ []
+loan_out-spots_for : map (spots_for (changes_of (book ready) (leaves (codes "C1") loan_1 may_31)))
+    (object_1 ∷ object_3 ∷ []) ≡ (spot_on 11 museum_x may_31 ∷ []) ∷ [] ∷ []
 loan_out-spots_for = refl
 
-loan_out-names_line : map (names_line (changes_of (book ready) (leaves (codes "C1") loan_1 may_31)) loan_1) (object_1 ∷ object_2 ∷ object_3 ∷ []) ≡ true ∷ true ∷ false ∷ []
+loan_out-names_line : map (names_line (changes_of (book ready) (leaves (codes "C1") loan_1 may_31))
+    loan_1) (object_1 ∷ object_2 ∷ object_3 ∷ []) ≡ true ∷ true ∷ false ∷ []
 loan_out-names_line = refl
 
 -- a line goes on from awaited to away to back, and never the other way
-loan_out-forward : map (λ P. goes_forward (line_in (book ready) loan_1 object_1) (line_in (book P) loan_1 object_1)) (ready ∷ loan_out ∷ both_back ∷ three_packed ∷ []) ≡ true ∷ true ∷ true ∷ false ∷ []
+loan_out-forward : map (λ P. goes_forward (line_in (book ready) loan_1 object_1)
+    (line_in (book P) loan_1 object_1)) (ready ∷ loan_out ∷ both_back ∷ three_packed ∷ []) ≡ true
+    ∷ true ∷ true ∷ false ∷ []
 loan_out-forward = refl
 
-loan_out-onward : map (is_onward Away) (Awaiting ∷ Away ∷ Back ∷ Here ∷ GivenBack ∷ []) ≡ false ∷ true ∷ true ∷ false ∷ false ∷ []
+loan_out-onward : map (is_onward Away) (Awaiting ∷ Away ∷ Back ∷ Here ∷ GivenBack ∷ []) ≡ false
+    ∷ true ∷ true ∷ false ∷ false ∷ []
 loan_out-onward = refl
 
 -- extend_tour: the last day moves on
-extend_tour-moves_on : MovesOn (last_day_in (book loan_out) loan_1) (last_day_in (book extend_tour) loan_1)
+extend_tour-moves_on : MovesOn (last_day_in (book loan_out) loan_1)
+    (last_day_in (book extend_tour) loan_1)
 extend_tour-moves_on = (june_30, refl, grind (arith, ints))
 
 -- what leaves under the loan in is an object, and C1 is none

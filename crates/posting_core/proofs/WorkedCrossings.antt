@@ -1,4 +1,5 @@
--- What is asked before the lines of what crosses, and the loan that goes on, computed on worked rows: after two agreements, of
+-- What is asked before the lines of what crosses, and the loan that goes on, computed on worked
+-- rows: after two agreements, of
 -- which the first is authorised, the crate C1, which holds objects of both, is asked about.
 use Rattle.std.specs.Prelude.{ℕ, ◌≡◌, true, false, List, [], ◌∷◌, Some, None, map, refl, codes}
 use Rattle.std.proofs.Common.{arith, sym}
@@ -24,17 +25,21 @@ abbrev two_loans : List Entry
 two_loans = run now_authorised ((pack, agreed loan_2 (codes "2001.4.3" ∷ [])) ∷ [])
 
 -- the numbers of loans are those of the order in which they were agreed
-numbers : map (loan_no two_loans) (loan_1 ∷ loan_2 ∷ codes "LO2024.3" ∷ []) ≡ Some 0 ∷ Some 1 ∷ None ∷ []
+numbers : map (loan_no two_loans) (loan_1 ∷ loan_2 ∷ codes "LO2024.3" ∷ []) ≡ Some 0
+    ∷ Some 1 ∷ None ∷ []
 numbers = refl
 
 abbrev extended : Message
 extended = Extend june_1 loan_2
 
 -- a loan goes on by a message that is applied, and by none that is refused, nor by one of no loan
-goes_on : loan_by two_loans Applied extended ∷ loan_by two_loans NotAuthorised extended ∷ loan_by two_loans Applied (Move may (codes "C1") (codes "S2")) ∷ [] ≡ Some 1 ∷ None ∷ None ∷ []
+goes_on : loan_by two_loans Applied extended ∷ loan_by two_loans NotAuthorised extended
+    ∷ loan_by two_loans Applied (Move may (codes "C1") (codes "S2")) ∷ [] ≡ Some 1
+    ∷ None ∷ None ∷ []
 goes_on = refl
 
-row_goes_on : row_by (loan_rows museum two_loans) Applied extended ∷ row_by (loan_rows museum two_loans) NotAuthorised extended ∷ [] ≡ Some 1 ∷ None ∷ []
+row_goes_on : row_by (loan_rows museum two_loans) Applied extended
+    ∷ row_by (loan_rows museum two_loans) NotAuthorised extended ∷ [] ≡ Some 1 ∷ None ∷ []
 row_goes_on = refl
 
 three_once : AreOnce (3 ∷ 1 ∷ 2 ∷ [])
@@ -54,11 +59,13 @@ found_last : last_day two_loans loan_1 ≡ Some may_31
 found_last = refl
 
 abbrev row_1 : LoanRow
-row_1 = record { loan = loan_1; partner = museum_x; objects = object_1 ∷ object_2 ∷ []; stages = Awaiting ∷ Awaiting ∷ []; last = may_31; authorised = true }
+row_1 = record { loan = loan_1; partner = museum_x; objects = object_1 ∷ object_2 ∷ [];
+    stages = Awaiting ∷ Awaiting ∷ []; last = may_31; authorised = true }
 
 found_rows : loan_rows museum two_loans ≡
     row_1
-    ∷ record { loan = loan_2; partner = museum_x; objects = object_3 ∷ []; stages = Awaiting ∷ []; last = may_31; authorised = false }
+    ∷ record { loan = loan_2; partner = museum_x; objects = object_3 ∷ []; stages = Awaiting ∷ [];
+        last = may_31; authorised = false }
     ∷ []
 found_rows = refl
 
@@ -84,7 +91,8 @@ is_not_found h = let number : Some 0 ≡ Some 1 = h.number in cc
 -- the rows that a return and a receipt begin with, one after the other
 incoming : first_of (incoming_rows museum two_loans (codes "C9") (codes "LO2024.3") (codes "S9") [])
     ∷ first_of (incoming_rows museum two_loans (codes "C1") (codes "LO2024.3") (codes "S9") [])
-    ∷ first_of (incoming_rows museum two_loans (codes "C1") (codes "LO2024.3") (codes "MUSEUM-X") [])
+    ∷ first_of (incoming_rows museum two_loans (codes "C1") (codes "LO2024.3")
+        (codes "MUSEUM-X") [])
     ∷ first_of (incoming_rows museum two_loans (codes "C1") (codes "LO2024.3") (codes "S1") [])
     ∷ first_of (incoming_rows museum two_loans (codes "C1") loan_1 (codes "S1") [])
     ∷ [] ≡ UnknownThing ∷ UnknownPlace ∷ ElsewherePlace ∷ UnknownLoan ∷ Applied ∷ []

@@ -1,4 +1,5 @@
--- The order of the verdicts on loans computed on worked rows: where two neighbouring causes hold, the first is told.
+-- The order of the verdicts on loans computed on worked rows: where two neighbouring causes hold,
+-- the first is told.
 use Rattle.std.specs.Prelude.{ℕ, ◌≡◌, List, [], ◌∷◌, map, refl, codes}
 use Rattle.posting_core.specs.declared.message.Message.{Message}
 use Rattle.posting_core.specs.declared.message.Message.TheVariants.{Agree, Return, Receive, Extend}
@@ -39,7 +40,8 @@ given_back = run both_authorised (
 abbrev told_after : List Entry → List Message → List Verdict
 told_after P ms = map (verdict museum 8 P) ms
 
--- the last three list a container twice, a borrowed object twice, and a borrowed object for a term that ends before it begins
+-- the last three list a container twice, a borrowed object twice, and a borrowed object for a term
+-- that ends before it begins
 agree : told_after drafts (
     Agree may may_31 (codes "LO2024.9") (codes "S9") (codes "2009.1" ∷ [])
     ∷ Agree may may_31 loan_1 (codes "S9") (first_object ∷ [])
@@ -49,7 +51,8 @@ agree : told_after drafts (
     ∷ agreed (codes "LO2024.9") (codes "L1999.7" ∷ codes "L1999.7" ∷ [])
     ∷ Agree may april_30 (codes "LO2024.9") (codes "MUSEUM-X") (codes "L1999.7" ∷ [])
     ∷ [])
-    ≡ UnknownThing ∷ UnknownPlace ∷ LoanKnown ∷ InsidePartner ∷ NotObject ∷ Repeated ∷ WrongOwner ∷ []
+    ≡ UnknownThing ∷ UnknownPlace ∷ LoanKnown ∷ InsidePartner ∷ NotObject ∷ Repeated
+        ∷ WrongOwner ∷ []
 agree = refl
 
 exit-drafts : told_after drafts (
@@ -61,11 +64,14 @@ exit-drafts : told_after drafts (
     ≡ UnknownThing ∷ UnknownLoan ∷ NotObject ∷ NotAuthorised ∷ []
 exit-drafts = refl
 
-exit-authorised : told_after both_authorised (leaves (codes "2001.4.2") loan_1 may ∷ []) ≡ NotHere ∷ []
+exit-authorised : told_after both_authorised (leaves (codes "2001.4.2") loan_1 may ∷ [])
+    ≡ NotHere ∷ []
 exit-authorised = refl
 
--- what is not listed has no stage wanted either; the line of what came back isn't awaited, and the term is over
-exit-here : told_after came_back (leaves (codes "2001.4.2") loan_1 may ∷ leaves first_object loan_1 june_1 ∷ []) ≡ NotListed ∷ WrongStage ∷ []
+-- what is not listed has no stage wanted either; the line of what came back isn't awaited, and the
+-- term is over
+exit-here : told_after came_back (leaves (codes "2001.4.2") loan_1 may ∷ leaves first_object loan_1
+    june_1 ∷ []) ≡ NotListed ∷ WrongStage ∷ []
 exit-here = refl
 
 return-drafts : told_after drafts (
@@ -77,7 +83,9 @@ return-drafts : told_after drafts (
     ≡ UnknownThing ∷ ElsewherePlace ∷ UnknownLoan ∷ NotAuthorised ∷ []
 return-drafts = refl
 
-return-authorised : told_after both_authorised (Return may first_object loan_in_1 (codes "S1") ∷ Return may (codes "2001.4.2") loan_1 (codes "S1") ∷ []) ≡ WrongDirection ∷ NotWithPartner ∷ []
+return-authorised : told_after both_authorised
+    (Return may first_object loan_in_1 (codes "S1") ∷ Return may (codes "2001.4.2") loan_1
+    (codes "S1") ∷ []) ≡ WrongDirection ∷ NotWithPartner ∷ []
 return-authorised = refl
 
 receive-drafts : told_after drafts (
@@ -90,11 +98,15 @@ receive-drafts : told_after drafts (
     ≡ UnknownThing ∷ ElsewherePlace ∷ UnknownLoan ∷ NotObject ∷ NotAuthorised ∷ []
 receive-drafts = refl
 
-receive-here : told_after came_back (Receive may first_object loan_1 (codes "S1") ∷ Receive may (codes "2001.4.2") loan_in_1 (codes "S1") ∷ []) ≡ WrongDirection ∷ AlreadyHere ∷ []
+receive-here : told_after came_back
+    (Receive may first_object loan_1 (codes "S1") ∷ Receive may (codes "2001.4.2") loan_in_1
+    (codes "S1") ∷ []) ≡ WrongDirection ∷ AlreadyHere ∷ []
 receive-here = refl
 
-receive-given_back : told_after given_back (Receive may (codes "2001.4.2") loan_in_1 (codes "S1") ∷ Receive june_1 (codes "L1999.7") loan_in_1 (codes "S1") ∷ []) ≡ NotListed ∷ WrongStage ∷ []
+receive-given_back : told_after given_back (Receive may (codes "2001.4.2") loan_in_1 (codes "S1")
+    ∷ Receive june_1 (codes "L1999.7") loan_in_1 (codes "S1") ∷ []) ≡ NotListed ∷ WrongStage ∷ []
 receive-given_back = refl
 
-extend : told_after drafts (Extend june_1 (codes "LO2024.9") ∷ Extend april_30 loan_1 ∷ []) ≡ UnknownLoan ∷ NotAuthorised ∷ []
+extend : told_after drafts (Extend june_1 (codes "LO2024.9") ∷ Extend april_30 loan_1 ∷ [])
+    ≡ UnknownLoan ∷ NotAuthorised ∷ []
 extend = refl

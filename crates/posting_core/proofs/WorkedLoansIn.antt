@@ -50,20 +50,25 @@ loan_in = run here (
     ∷ (gal, leaves (codes "L1999.7") loan_in_1 june_5)
     ∷ [])
 
-loan_in-verdicts : verdicts loan_in ≡ Applied ∷ Applied ∷ NotHere ∷ Applied ∷ AlreadyHere ∷ Applied ∷ Applied ∷ NotHere ∷ []
+loan_in-verdicts : verdicts loan_in ≡ Applied ∷ Applied ∷ NotHere ∷ Applied ∷ AlreadyHere ∷ Applied
+    ∷ Applied ∷ NotHere ∷ []
 loan_in-verdicts = refl
 
-loan_in-lines : map (λ P. line_in (book P) loan_in_1 borrowed) (awaited ∷ here ∷ loan_in ∷ []) ≡ Some Awaiting ∷ Some Here ∷ Some GivenBack ∷ []
+loan_in-lines : map (λ P. line_in (book P) loan_in_1 borrowed) (awaited ∷ here ∷ loan_in ∷ [])
+    ≡ Some Awaiting ∷ Some Here ∷ Some GivenBack ∷ []
 loan_in-lines = refl
 
-loan_in-states : map (λ P. state_in (book P) loan_in_1) (awaited ∷ here ∷ loan_in ∷ []) ≡ Some Authorised ∷ Some Running ∷ Some Closed ∷ []
+loan_in-states : map (λ P. state_in (book P) loan_in_1) (awaited ∷ here ∷ loan_in ∷ [])
+    ≡ Some Authorised ∷ Some Running ∷ Some Closed ∷ []
 loan_in-states = refl
 
-loan_in-places : map (λ P. place_in (book P) borrowed) (awaited ∷ here ∷ loan_in ∷ []) ≡ None ∷ Some s2 ∷ Some lender_y ∷ []
+loan_in-places : map (λ P. place_in (book P) borrowed) (awaited ∷ here ∷ loan_in ∷ []) ≡ None
+    ∷ Some s2 ∷ Some lender_y ∷ []
 loan_in-places = refl
 
 loan_in-spots : spots_in (book loan_in) borrowed ≡
-    record { entry = 4; place = s1; day = may_31 } ∷ spot 6 s2 ∷ record { entry = 7; place = lender_y; day = june_5 } ∷ []
+    record { entry = 4; place = s1; day = may_31 } ∷ spot 6 s2
+        ∷ record { entry = 7; place = lender_y; day = june_5 } ∷ []
 loan_in-spots = refl
 
 -- a receipt writes the object's first spot, and its line
@@ -72,7 +77,8 @@ loan_in-receiving : changes_of (book awaited) (received may_31) ≡ record {
   verdict = Applied;
   put = put_at borrowed s1;
   carried = borrowed ∷ [];
-  spots = record { thing = borrowed; k = 1; spot = record { entry = 4; place = s1; day = may_31 } } ∷ [];
+  spots = record { thing = borrowed; k = 1;
+      spot = record { entry = 4; place = s1; day = may_31 } } ∷ [];
   loan = Some 0;
   lines = record { loan = loan_in_1; object = borrowed; stage = Here } ∷ [];
 }
@@ -114,18 +120,24 @@ tour_of_verdicts = run tour_loans (
 tour_of_verdicts-verdicts : verdicts tour_of_verdicts ≡
     InsidePartner ∷ NoObjects ∷ NotObject ∷ Repeated ∷ WrongOwner ∷ BadTerm
     ∷ Applied ∷ LoanKnown ∷ Applied ∷ AlreadyAuthorised ∷ UnknownLoan ∷ WrongDirection
-    ∷ ElsewherePlace ∷ UnknownPlace ∷ UnknownThing ∷ UnknownContainer ∷ ContainerNotHere ∷ Applied ∷ NotObject ∷ []
+    ∷ ElsewherePlace ∷ UnknownPlace ∷ UnknownThing ∷ UnknownContainer ∷ ContainerNotHere ∷ Applied
+        ∷ NotObject ∷ []
 tour_of_verdicts-verdicts = refl
 
 -- what is refused agrees nothing and places nothing
-tour_of_verdicts-loans : map (λ P. loans_in (book P)) (tour_agreements ∷ tour_loans ∷ tour_of_verdicts ∷ []) ≡ [] ∷ (loan_1 ∷ []) ∷ (loan_1 ∷ loan_in_1 ∷ []) ∷ []
+tour_of_verdicts-loans : map (λ P. loans_in (book P))
+    (tour_agreements ∷ tour_loans ∷ tour_of_verdicts ∷ []) ≡ [] ∷ (loan_1 ∷ [])
+    ∷ (loan_1 ∷ loan_in_1 ∷ []) ∷ []
 tour_of_verdicts-loans = refl
 
-tour_of_verdicts-states : map (state_in (book tour_of_verdicts)) (loan_1 ∷ loan_in_1 ∷ codes "LO2024.9" ∷ []) ≡ Some Authorised ∷ Some Draft ∷ None ∷ []
+tour_of_verdicts-states : map (state_in (book tour_of_verdicts))
+    (loan_1 ∷ loan_in_1 ∷ codes "LO2024.9" ∷ []) ≡ Some Authorised ∷ Some Draft ∷ None ∷ []
 tour_of_verdicts-states = refl
 
-tour_of_verdicts-lines : map (λ P. line_in (book P) loan_1 object_1) (tour_agreements ∷ tour_of_verdicts ∷ []) ≡ None ∷ Some Awaiting ∷ []
+tour_of_verdicts-lines : map (λ P. line_in (book P) loan_1 object_1)
+    (tour_agreements ∷ tour_of_verdicts ∷ []) ≡ None ∷ Some Awaiting ∷ []
 tour_of_verdicts-lines = refl
 
-tour_of_verdicts-places : map (place_in (book tour_of_verdicts)) (crate_1 ∷ object_1 ∷ borrowed ∷ []) ≡ None ∷ None ∷ None ∷ []
+tour_of_verdicts-places : map (place_in (book tour_of_verdicts))
+    (crate_1 ∷ object_1 ∷ borrowed ∷ []) ≡ None ∷ None ∷ None ∷ []
 tour_of_verdicts-places = refl

@@ -65,7 +65,8 @@ new x k s = record { thing = x; k = k; spot = s }
 abbrev new_line : ℕ → LineStage → NewLine
 new_line o stage = record { loan = loan_1; object = o; stage = stage }
 
--- loan_out: two of three objects in a crate are agreed; the third is taken out, and the crate leaves on the last day
+-- loan_out: two of three objects in a crate are agreed; the third is taken out, and the crate
+-- leaves on the last day
 
 abbrev pub three_packed : List Entry
 three_packed = run [] (
@@ -79,7 +80,8 @@ abbrev pub two_agreed : Message
 two_agreed = agreed loan_1 (codes "2001.4.1" ∷ codes "2001.4.2" ∷ [])
 
 abbrev pub refused_unauthorised : List Entry
-refused_unauthorised = run three_packed ((pack, two_agreed) ∷ (pack, leaves (codes "C1") loan_1 may) ∷ [])
+refused_unauthorised = run three_packed
+    ((pack, two_agreed) ∷ (pack, leaves (codes "C1") loan_1 may) ∷ [])
 
 abbrev pub now_authorised : List Entry
 now_authorised = run refused_unauthorised ((pack, authorised loan_1) ∷ [])
@@ -95,17 +97,21 @@ abbrev pub loan_out : List Entry
 loan_out = run ready ((pack, leaves (codes "C1") loan_1 may_31) ∷ [])
 
 loan_out-verdicts : verdicts loan_out ≡
-    Applied ∷ Applied ∷ Applied ∷ Applied ∷ Applied ∷ NotAuthorised ∷ Applied ∷ NotListed ∷ Applied ∷ TermOver ∷ Applied ∷ []
+    Applied ∷ Applied ∷ Applied ∷ Applied ∷ Applied ∷ NotAuthorised ∷ Applied ∷ NotListed ∷ Applied
+        ∷ TermOver ∷ Applied ∷ []
 loan_out-verdicts = refl
 
-loan_out-lines : map (line_in (book loan_out) loan_1) (object_1 ∷ object_2 ∷ object_3 ∷ crate_1 ∷ []) ≡ Some Away ∷ Some Away ∷ None ∷ None ∷ []
+loan_out-lines : map (line_in (book loan_out) loan_1)
+    (object_1 ∷ object_2 ∷ object_3 ∷ crate_1 ∷ []) ≡ Some Away ∷ Some Away ∷ None ∷ None ∷ []
 loan_out-lines = refl
 
 -- before it leaves, each line awaits its crossing
-loan_out-lines_before : map (line_in (book ready) loan_1) (object_1 ∷ object_2 ∷ object_3 ∷ []) ≡ Some Awaiting ∷ Some Awaiting ∷ None ∷ []
+loan_out-lines_before : map (line_in (book ready) loan_1) (object_1 ∷ object_2 ∷ object_3 ∷ [])
+    ≡ Some Awaiting ∷ Some Awaiting ∷ None ∷ []
 loan_out-lines_before = refl
 
-loan_out-states : map (λ P. state_in (book P) loan_1) (three_packed ∷ refused_unauthorised ∷ now_authorised ∷ ready ∷ loan_out ∷ []) ≡
+loan_out-states : map (λ P. state_in (book P) loan_1)
+    (three_packed ∷ refused_unauthorised ∷ now_authorised ∷ ready ∷ loan_out ∷ []) ≡
     None ∷ Some Draft ∷ Some Authorised ∷ Some Authorised ∷ Some Running ∷ []
 loan_out-states = refl
 
@@ -115,14 +121,17 @@ loan_out-loans = refl
 loan_out-objects : objects_of_loan (book loan_out) loan_1 ≡ object_1 ∷ object_2 ∷ []
 loan_out-objects = refl
 
-loan_out-last_day : map (last_day_in (book loan_out)) (loan_1 ∷ loan_2 ∷ []) ≡ Some may_31 ∷ None ∷ []
+loan_out-last_day : map (last_day_in (book loan_out)) (loan_1 ∷ loan_2 ∷ [])
+    ≡ Some may_31 ∷ None ∷ []
 loan_out-last_day = refl
 
 -- what left is at the partner's, in its crate; what was taken out is here
-loan_out-places : map (place_in (book loan_out)) (crate_1 ∷ object_1 ∷ object_2 ∷ object_3 ∷ []) ≡ Some museum_x ∷ Some museum_x ∷ Some museum_x ∷ Some s2 ∷ []
+loan_out-places : map (place_in (book loan_out)) (crate_1 ∷ object_1 ∷ object_2 ∷ object_3 ∷ [])
+    ≡ Some museum_x ∷ Some museum_x ∷ Some museum_x ∷ Some s2 ∷ []
 loan_out-places = refl
 
-loan_out-chains : map (chain_in (book loan_out)) (object_1 ∷ object_2 ∷ object_3 ∷ []) ≡ (crate_1 ∷ []) ∷ (crate_1 ∷ []) ∷ [] ∷ []
+loan_out-chains : map (chain_in (book loan_out)) (object_1 ∷ object_2 ∷ object_3 ∷ [])
+    ≡ (crate_1 ∷ []) ∷ (crate_1 ∷ []) ∷ [] ∷ []
 loan_out-chains = refl
 
 loan_out-spots : map (spots_in (book loan_out)) (object_1 ∷ object_3 ∷ []) ≡
@@ -130,8 +139,10 @@ loan_out-spots : map (spots_in (book loan_out)) (object_1 ∷ object_3 ∷ []) �
 loan_out-spots = refl
 
 -- an agreement makes its lines, in the order of its list, and writes no spot
-loan_out-agreeing : changes_of (book three_packed) (agreed loan_1 (codes "2001.4.2" ∷ codes "2001.4.1" ∷ [])) ≡
-    record { entry = 5; verdict = Applied; put = None; carried = []; spots = []; loan = None; lines = new_line object_2 Awaiting ∷ new_line object_1 Awaiting ∷ [] }
+loan_out-agreeing : changes_of (book three_packed)
+    (agreed loan_1 (codes "2001.4.2" ∷ codes "2001.4.1" ∷ [])) ≡
+    record { entry = 5; verdict = Applied; put = None; carried = []; spots = []; loan = None;
+        lines = new_line object_2 Awaiting ∷ new_line object_1 Awaiting ∷ [] }
 loan_out-agreeing = refl
 
 -- an exit changes the lines of all objects that cross, ascending, and writes a spot of each thing
@@ -140,34 +151,50 @@ loan_out-leaving : changes_of (book ready) (leaves (codes "C1") loan_1 may_31) �
   verdict = Applied;
   put = put_at crate_1 museum_x;
   carried = crate_1 ∷ object_1 ∷ object_2 ∷ [];
-  spots = new crate_1 2 (spot_on 11 museum_x may_31) ∷ new object_1 2 (spot_on 11 museum_x may_31) ∷ new object_2 2 (spot_on 11 museum_x may_31) ∷ [];
+  spots = new crate_1 2 (spot_on 11 museum_x may_31) ∷ new object_1 2 (spot_on 11 museum_x may_31)
+      ∷ new object_2 2 (spot_on 11 museum_x may_31) ∷ [];
   loan = Some 0;
   lines = new_line object_1 Away ∷ new_line object_2 Away ∷ [];
 }
 loan_out-leaving = refl
 
 -- a refused one changes neither
-loan_out-refused : changes_of (book ready) (leaves (codes "C1") loan_1 june_1) ≡ record { entry = 11; verdict = TermOver; put = None; carried = []; spots = []; loan = None; lines = [] }
+loan_out-refused : changes_of (book ready) (leaves (codes "C1") loan_1 june_1)
+    ≡ record { entry = 11; verdict = TermOver; put = None; carried = []; spots = []; loan = None;
+    lines = [] }
 loan_out-refused = refl
 
 -- an authorisation changes no line
-loan_out-authorising : changes_of (book refused_unauthorised) (authorised loan_1) ≡ record { entry = 7; verdict = Applied; put = None; carried = []; spots = []; loan = Some 0; lines = [] }
+loan_out-authorising : changes_of (book refused_unauthorised) (authorised loan_1)
+    ≡ record { entry = 7; verdict = Applied; put = None; carried = []; spots = []; loan = Some 0;
+    lines = [] }
 loan_out-authorising = refl
 
 -- something crosses with what is in it where a crate crosses by a loan
-loan_out-crosses_with : map (crosses_with (book ready)) (leaves (codes "C1") loan_1 may_31 ∷ leaves (codes "2001.4.3") loan_1 may_31 ∷ moved (codes "C1") (codes "S1") ∷ authorised loan_1 ∷ []) ≡ true ∷ false ∷ false ∷ false ∷ []
+loan_out-crosses_with : map (crosses_with (book ready))
+    (leaves (codes "C1") loan_1 may_31 ∷ leaves (codes "2001.4.3") loan_1 may_31
+    ∷ moved (codes "C1") (codes "S1") ∷ authorised loan_1 ∷ []) ≡ true ∷ false ∷ false ∷ false ∷ []
 loan_out-crosses_with = refl
 
--- the lines are asked where the crate leaves in time or late, and not where it isn't with the partner, or is an object alone
-loan_out-asks_lines : map (asks_lines (book ready)) (leaves (codes "C1") loan_1 may_31 ∷ leaves (codes "C1") loan_1 june_1 ∷ returned (codes "C1") loan_1 (codes "S1") may_31 ∷ leaves (codes "2001.4.3") loan_1 may_31 ∷ []) ≡ true ∷ true ∷ false ∷ false ∷ []
+-- the lines are asked where the crate leaves in time or late, and not where it isn't with the
+-- partner, or is an object alone
+loan_out-asks_lines : map (asks_lines (book ready))
+    (leaves (codes "C1") loan_1 may_31 ∷ leaves (codes "C1") loan_1 june_1 ∷ returned (codes "C1")
+    loan_1 (codes "S1") may_31 ∷ leaves (codes "2001.4.3") loan_1 may_31 ∷ []) ≡ true ∷ true ∷ false
+    ∷ false ∷ []
 loan_out-asks_lines = refl
 
--- memory is asked too where lines are made, and not where an object alone is refused, or nothing is put
-loan_out-asks_memory : map (asks_memory (book ready)) (leaves (codes "C1") loan_1 may_31 ∷ agreed loan_2 (codes "2001.4.1" ∷ []) ∷ leaves (codes "2001.4.3") loan_1 may_31 ∷ authorised loan_1 ∷ []) ≡ true ∷ true ∷ false ∷ false ∷ []
+-- memory is asked too where lines are made, and not where an object alone is refused, or nothing is
+-- put
+loan_out-asks_memory : map (asks_memory (book ready))
+    (leaves (codes "C1") loan_1 may_31 ∷ agreed loan_2 (codes "2001.4.1" ∷ [])
+    ∷ leaves (codes "2001.4.3") loan_1 may_31 ∷ authorised loan_1 ∷ []) ≡ true ∷ true ∷ false
+    ∷ false ∷ []
 loan_out-asks_memory = refl
 
 -- a crate takes along what is in it, an object nothing
-loan_out-takes_along : map (takes_along museum ready) (put_at crate_1 s2 ∷ put_at object_3 s1 ∷ None ∷ []) ≡ true ∷ false ∷ false ∷ []
+loan_out-takes_along : map (takes_along museum ready)
+    (put_at crate_1 s2 ∷ put_at object_3 s1 ∷ None ∷ []) ≡ true ∷ false ∷ false ∷ []
 loan_out-takes_along = refl
 
 -- returned_piece_by_piece: each object comes back alone, and then the crate, empty
@@ -187,17 +214,22 @@ returned_piece_by_piece = run both_back (
     ∷ (pack, returned (codes "C1") loan_1 (codes "S2") june_2)
     ∷ [])
 
-returned_piece_by_piece-verdicts : verdicts returned_piece_by_piece ≡ verdicts loan_out ++ NotHere ∷ Applied ∷ Applied ∷ Applied ∷ NotWithPartner ∷ []
+returned_piece_by_piece-verdicts : verdicts returned_piece_by_piece ≡ verdicts loan_out ++ NotHere
+    ∷ Applied ∷ Applied ∷ Applied ∷ NotWithPartner ∷ []
 returned_piece_by_piece-verdicts = refl
 
-returned_piece_by_piece-lines : map (λ P. map (line_in (book P) loan_1) (object_1 ∷ object_2 ∷ [])) (first_back ∷ both_back ∷ returned_piece_by_piece ∷ []) ≡
+returned_piece_by_piece-lines : map (λ P. map (line_in (book P) loan_1) (object_1 ∷ object_2 ∷ []))
+    (first_back ∷ both_back ∷ returned_piece_by_piece ∷ []) ≡
     (Some Back ∷ Some Away ∷ []) ∷ (Some Back ∷ Some Back ∷ []) ∷ (Some Back ∷ Some Back ∷ []) ∷ []
 returned_piece_by_piece-lines = refl
 
-returned_piece_by_piece-states : map (λ P. state_in (book P) loan_1) (first_back ∷ both_back ∷ returned_piece_by_piece ∷ []) ≡ Some Running ∷ Some Closed ∷ Some Closed ∷ []
+returned_piece_by_piece-states : map (λ P. state_in (book P) loan_1)
+    (first_back ∷ both_back ∷ returned_piece_by_piece ∷ []) ≡ Some Running ∷ Some Closed
+    ∷ Some Closed ∷ []
 returned_piece_by_piece-states = refl
 
-returned_piece_by_piece-places : map (place_in (book returned_piece_by_piece)) (crate_1 ∷ object_1 ∷ object_2 ∷ []) ≡ Some s2 ∷ Some s1 ∷ Some s1 ∷ []
+returned_piece_by_piece-places : map (place_in (book returned_piece_by_piece))
+    (crate_1 ∷ object_1 ∷ object_2 ∷ []) ≡ Some s2 ∷ Some s1 ∷ Some s1 ∷ []
 returned_piece_by_piece-places = refl
 
 returned_piece_by_piece-chain : chain_in (book returned_piece_by_piece) object_1 ≡ []
@@ -212,10 +244,13 @@ return_under_another_loan = run loan_out (
     ∷ (pack, returned (codes "2001.4.1") loan_2 (codes "S1") may)
     ∷ [])
 
-return_under_another_loan-verdicts : verdicts return_under_another_loan ≡ verdicts loan_out ++ Applied ∷ Applied ∷ WrongStage ∷ []
+return_under_another_loan-verdicts : verdicts return_under_another_loan ≡ verdicts loan_out
+    ++ Applied ∷ Applied ∷ WrongStage ∷ []
 return_under_another_loan-verdicts = refl
 
-return_under_another_loan-lines : map (λ loan. line_in (book return_under_another_loan) loan object_1) (loan_1 ∷ loan_2 ∷ []) ≡ Some Away ∷ Some Awaiting ∷ []
+return_under_another_loan-lines : map
+    (λ loan. line_in (book return_under_another_loan) loan object_1) (loan_1 ∷ loan_2 ∷ [])
+    ≡ Some Away ∷ Some Awaiting ∷ []
 return_under_another_loan-lines = refl
 
 return_under_another_loan-loans : loans_in (book return_under_another_loan) ≡ loan_1 ∷ loan_2 ∷ []
@@ -229,13 +264,15 @@ crate_returns = run loan_out ((pack, returned (codes "C1") loan_1 (codes "S2") j
 crate_returns-verdicts : verdicts crate_returns ≡ verdicts loan_out ++ Applied ∷ []
 crate_returns-verdicts = refl
 
-crate_returns-lines : map (line_in (book crate_returns) loan_1) (object_1 ∷ object_2 ∷ []) ≡ Some Back ∷ Some Back ∷ []
+crate_returns-lines : map (line_in (book crate_returns) loan_1) (object_1 ∷ object_2 ∷ [])
+    ≡ Some Back ∷ Some Back ∷ []
 crate_returns-lines = refl
 
 crate_returns-state : state_in (book crate_returns) loan_1 ≡ Some Closed
 crate_returns-state = refl
 
-crate_returns-spots : spots_in (book crate_returns) object_1 ≡ spot 2 s1 ∷ spot_on 11 museum_x may_31 ∷ spot_on 12 s2 june_2 ∷ []
+crate_returns-spots : spots_in (book crate_returns) object_1 ≡ spot 2 s1 ∷ spot_on 11 museum_x
+    may_31 ∷ spot_on 12 s2 june_2 ∷ []
 crate_returns-spots = refl
 
 crate_returns-chain : chain_in (book crate_returns) object_1 ≡ crate_1 ∷ []
@@ -251,14 +288,17 @@ extend_tour = run loan_out (
     ∷ (pack, extended loan_1 june_10)
     ∷ [])
 
-extend_tour-verdicts : verdicts extend_tour ≡ verdicts loan_out ++ NotLater ∷ UnknownLoan ∷ Applied ∷ NotLater ∷ []
+extend_tour-verdicts : verdicts extend_tour ≡ verdicts loan_out ++ NotLater ∷ UnknownLoan ∷ Applied
+    ∷ NotLater ∷ []
 extend_tour-verdicts = refl
 
 extend_tour-last_day : last_day_in (book extend_tour) loan_1 ≡ Some june_30
 extend_tour-last_day = refl
 
 -- an extension changes no line and writes no spot
-extend_tour-extending : changes_of (book loan_out) (extended loan_1 june_30) ≡ record { entry = 12; verdict = Applied; put = None; carried = []; spots = []; loan = Some 0; lines = [] }
+extend_tour-extending : changes_of (book loan_out) (extended loan_1 june_30)
+    ≡ record { entry = 12; verdict = Applied; put = None; carried = []; spots = []; loan = Some 0;
+    lines = [] }
 extend_tour-extending = refl
 
 -- extend_unauthorised: a draft isn't extended
@@ -287,10 +327,12 @@ extend_then_exit = run [] (
     ∷ (pack, leaves (codes "2001.4.1") loan_1 june_1)
     ∷ [])
 
-extend_then_exit-verdicts : verdicts extend_then_exit ≡ Applied ∷ Applied ∷ Applied ∷ TermOver ∷ Applied ∷ Applied ∷ []
+extend_then_exit-verdicts : verdicts extend_then_exit ≡ Applied ∷ Applied ∷ Applied ∷ TermOver
+    ∷ Applied ∷ Applied ∷ []
 extend_then_exit-verdicts = refl
 
-extend_then_exit-spots : spots_in (book extend_then_exit) object_1 ≡ spot 1 s1 ∷ spot_on 6 museum_x june_1 ∷ []
+extend_then_exit-spots : spots_in (book extend_then_exit) object_1 ≡ spot 1 s1
+    ∷ spot_on 6 museum_x june_1 ∷ []
 extend_then_exit-spots = refl
 
 -- extend_closed: a loan that is closed may be extended, and stays closed

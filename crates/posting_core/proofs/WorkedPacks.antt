@@ -40,58 +40,79 @@ filled = run nested ((pack, packed (codes "2001.4.1") (codes "C2")) ∷ [])
 abbrev crate_in_crate : List Entry
 crate_in_crate = run filled ((pack, moved (codes "C1") (codes "S2")) ∷ [])
 
-crate_in_crate-verdicts : verdicts crate_in_crate ≡ Applied ∷ Applied ∷ Applied ∷ Applied ∷ Applied ∷ []
+crate_in_crate-verdicts : verdicts crate_in_crate ≡ Applied ∷ Applied ∷ Applied ∷ Applied
+    ∷ Applied ∷ []
 crate_in_crate-verdicts = refl
 
-crate_in_crate-chains : map (chain_at museum crate_in_crate) (crate_1 ∷ crate_2 ∷ object_1 ∷ object_2 ∷ []) ≡ [] ∷ (crate_1 ∷ []) ∷ (crate_2 ∷ crate_1 ∷ []) ∷ [] ∷ []
+crate_in_crate-chains : map (chain_at museum crate_in_crate)
+    (crate_1 ∷ crate_2 ∷ object_1 ∷ object_2 ∷ []) ≡ [] ∷ (crate_1 ∷ [])
+    ∷ (crate_2 ∷ crate_1 ∷ []) ∷ [] ∷ []
 crate_in_crate-chains = refl
 
-crate_in_crate-places : map (place_in (book crate_in_crate)) (crate_1 ∷ crate_2 ∷ object_1 ∷ object_2 ∷ []) ≡ Some s2 ∷ Some s2 ∷ Some s2 ∷ None ∷ []
+crate_in_crate-places : map (place_in (book crate_in_crate))
+    (crate_1 ∷ crate_2 ∷ object_1 ∷ object_2 ∷ []) ≡ Some s2 ∷ Some s2 ∷ Some s2 ∷ None ∷ []
 crate_in_crate-places = refl
 
 crate_in_crate-spots : map (spots museum crate_in_crate) (crate_1 ∷ crate_2 ∷ object_1 ∷ []) ≡
     (spot 1 s1 ∷ spot 5 s2 ∷ []) ∷ (spot 2 s1 ∷ spot 5 s2 ∷ []) ∷ (spot 4 s1 ∷ spot 5 s2 ∷ []) ∷ []
 crate_in_crate-spots = refl
 
-crate_in_crate-carried : map (carried_at museum crate_in_crate) (crate_1 ∷ crate_2 ∷ object_1 ∷ []) ≡ (crate_1 ∷ crate_2 ∷ object_1 ∷ []) ∷ (crate_2 ∷ object_1 ∷ []) ∷ (object_1 ∷ []) ∷ []
+crate_in_crate-carried : map (carried_at museum crate_in_crate) (crate_1 ∷ crate_2 ∷ object_1 ∷ [])
+    ≡ (crate_1 ∷ crate_2 ∷ object_1 ∷ []) ∷ (crate_2 ∷ object_1 ∷ []) ∷ (object_1 ∷ []) ∷ []
 crate_in_crate-carried = refl
 
 -- a crate that holds things takes memory to carry them; an empty one, or an object, takes none
-crate_in_crate-holds : map (holds_at museum crate_in_crate) (crate_1 ∷ crate_2 ∷ object_1 ∷ []) ≡ true ∷ true ∷ false ∷ []
+crate_in_crate-holds : map (holds_at museum crate_in_crate) (crate_1 ∷ crate_2 ∷ object_1 ∷ [])
+    ≡ true ∷ true ∷ false ∷ []
 crate_in_crate-holds = refl
 
-crate_in_crate-asks : map (asks_memory (book crate_in_crate)) (moved (codes "C1") (codes "S1") ∷ moved (codes "2001.4.1") (codes "S1") ∷ moved (codes "C9") (codes "S1") ∷ []) ≡ true ∷ false ∷ false ∷ []
+crate_in_crate-asks : map (asks_memory (book crate_in_crate))
+    (moved (codes "C1") (codes "S1") ∷ moved (codes "2001.4.1") (codes "S1") ∷ moved (codes "C9")
+    (codes "S1") ∷ []) ≡ true ∷ false ∷ false ∷ []
 crate_in_crate-asks = refl
 
 -- what was put straight into each
-crate_in_crate-contents : map (contents (puts museum crate_in_crate)) (crate_1 ∷ crate_2 ∷ []) ≡ (crate_2 ∷ []) ∷ (object_1 ∷ []) ∷ []
+crate_in_crate-contents : map (contents (puts museum crate_in_crate)) (crate_1 ∷ crate_2 ∷ [])
+    ≡ (crate_2 ∷ []) ∷ (object_1 ∷ []) ∷ []
 crate_in_crate-contents = refl
 
 crate_in_crate-puts : puts museum filled ≡
-    record { thing = object_1; to = Within crate_2 } ∷ record { thing = crate_2; to = Within crate_1 } ∷ record { thing = crate_2; to = At s1 } ∷ record { thing = crate_1; to = At s1 } ∷ []
+    record { thing = object_1; to = Within crate_2 }
+        ∷ record { thing = crate_2; to = Within crate_1 } ∷ record { thing = crate_2; to = At s1 }
+        ∷ record { thing = crate_1; to = At s1 } ∷ []
 crate_in_crate-puts = refl
 
 -- a Pack writes the spot of what comes to another place with it, here the first of the object
 crate_in_crate-packing : changes_of (book nested) (packed (codes "2001.4.1") (codes "C2")) ≡
-    record { entry = 4; verdict = Applied; put = put_in object_1 crate_2; carried = object_1 ∷ []; spots = new object_1 1 4 s1 ∷ []; loan = None; lines = [] }
+    record { entry = 4; verdict = Applied; put = put_in object_1 crate_2; carried = object_1 ∷ [];
+        spots = new object_1 1 4 s1 ∷ []; loan = None; lines = [] }
 crate_in_crate-packing = refl
 
 -- and none where the container stands in the same place
 crate_in_crate-repacking : changes_of (book filled) (packed (codes "2001.4.1") (codes "C1")) ≡
-    record { entry = 5; verdict = Applied; put = put_in object_1 crate_1; carried = object_1 ∷ []; spots = []; loan = None; lines = [] }
+    record { entry = 5; verdict = Applied; put = put_in object_1 crate_1; carried = object_1 ∷ [];
+        spots = []; loan = None; lines = [] }
 crate_in_crate-repacking = refl
 
--- a crate's Move writes a spot of each thing that it carries, with the next number of that thing's list
+-- a crate's Move writes a spot of each thing that it carries, with the next number of that thing's
+-- list
 crate_in_crate-moving : changes_of (book filled) (moved (codes "C1") (codes "S2")) ≡
-    record { entry = 5; verdict = Applied; put = put_at crate_1 s2; carried = crate_1 ∷ crate_2 ∷ object_1 ∷ []; spots = new crate_1 2 5 s2 ∷ new crate_2 2 5 s2 ∷ new object_1 2 5 s2 ∷ []; loan = None; lines = [] }
+    record { entry = 5; verdict = Applied; put = put_at crate_1 s2;
+        carried = crate_1 ∷ crate_2 ∷ object_1 ∷ []; spots =
+        new crate_1 2 5 s2 ∷ new crate_2 2 5 s2 ∷ new object_1 2 5 s2 ∷ []; loan =
+        None; lines = [] }
 crate_in_crate-moving = refl
 
 -- packed again, each thing that comes along has the next number of its own list
 abbrev taken_apart : List Entry
-taken_apart = run crate_in_crate ((pack, packed (codes "2001.4.2") (codes "C2")) ∷ (pack, moved (codes "C2") (codes "S1")) ∷ [])
+taken_apart = run crate_in_crate
+    ((pack, packed (codes "2001.4.2") (codes "C2")) ∷ (pack, moved (codes "C2") (codes "S1")) ∷ [])
 
 taken_apart-packing : changes_of (book taken_apart) (packed (codes "C2") (codes "C1")) ≡
-    record { entry = 8; verdict = Applied; put = put_in crate_2 crate_1; carried = crate_2 ∷ object_1 ∷ object_2 ∷ []; spots = new crate_2 4 8 s2 ∷ new object_1 4 8 s2 ∷ new object_2 3 8 s2 ∷ []; loan = None; lines = [] }
+    record { entry = 8; verdict = Applied; put = put_in crate_2 crate_1;
+        carried = crate_2 ∷ object_1 ∷ object_2 ∷ []; spots =
+        new crate_2 4 8 s2 ∷ new object_1 4 8 s2 ∷ new object_2 3 8 s2 ∷ []; loan =
+        None; lines = [] }
 taken_apart-packing = refl
 
 -- taken_out_of_a_crate: what was taken out stays where it was put when the crate moves on
@@ -102,20 +123,25 @@ taken_out_of_a_crate = run crate_in_crate (
     ∷ (pack, moved (codes "C1") (codes "S1"))
     ∷ [])
 
-taken_out_of_a_crate-spots : map (spots museum taken_out_of_a_crate) (crate_1 ∷ crate_2 ∷ object_1 ∷ []) ≡
-    (spot 1 s1 ∷ spot 5 s2 ∷ spot 7 s1 ∷ []) ∷ (spot 2 s1 ∷ spot 5 s2 ∷ spot 7 s1 ∷ []) ∷ (spot 4 s1 ∷ spot 5 s2 ∷ spot 6 s1_a ∷ []) ∷ []
+taken_out_of_a_crate-spots : map (spots museum taken_out_of_a_crate)
+    (crate_1 ∷ crate_2 ∷ object_1 ∷ []) ≡
+    (spot 1 s1 ∷ spot 5 s2 ∷ spot 7 s1 ∷ []) ∷ (spot 2 s1 ∷ spot 5 s2 ∷ spot 7 s1 ∷ [])
+        ∷ (spot 4 s1 ∷ spot 5 s2 ∷ spot 6 s1_a ∷ []) ∷ []
 taken_out_of_a_crate-spots = refl
 
-taken_out_of_a_crate-places : map (place_in (book taken_out_of_a_crate)) (crate_1 ∷ crate_2 ∷ object_1 ∷ []) ≡ Some s1 ∷ Some s1 ∷ Some s1_a ∷ []
+taken_out_of_a_crate-places : map (place_in (book taken_out_of_a_crate))
+    (crate_1 ∷ crate_2 ∷ object_1 ∷ []) ≡ Some s1 ∷ Some s1 ∷ Some s1_a ∷ []
 taken_out_of_a_crate-places = refl
 
 taken_out_of_a_crate-chain : chain_at museum taken_out_of_a_crate object_1 ≡ []
 taken_out_of_a_crate-chain = refl
 
-taken_out_of_a_crate-carried : carried_at museum taken_out_of_a_crate crate_1 ≡ crate_1 ∷ crate_2 ∷ []
+taken_out_of_a_crate-carried : carried_at museum taken_out_of_a_crate crate_1 ≡ crate_1
+    ∷ crate_2 ∷ []
 taken_out_of_a_crate-carried = refl
 
-taken_out_of_a_crate-contents : map (contents (puts museum taken_out_of_a_crate)) (crate_1 ∷ crate_2 ∷ []) ≡ (crate_2 ∷ []) ∷ [] ∷ []
+taken_out_of_a_crate-contents : map (contents (puts museum taken_out_of_a_crate))
+    (crate_1 ∷ crate_2 ∷ []) ≡ (crate_2 ∷ []) ∷ [] ∷ []
 taken_out_of_a_crate-contents = refl
 
 -- cycle: no crate goes into itself, nor into what is in it
@@ -134,13 +160,16 @@ cycle-numbers : reverse (map (λ e. e.n) cycle) ≡ 1 ∷ 2 ∷ 3 ∷ 4 ∷ 5 �
 cycle-numbers = refl
 
 -- the refused Packs put nothing anywhere, and the Move to where the crate is writes no spot
-cycle-spots : map (spots museum cycle) (crate_1 ∷ crate_2 ∷ []) ≡ (spot 1 s1 ∷ []) ∷ (spot 2 s1 ∷ []) ∷ []
+cycle-spots : map (spots museum cycle) (crate_1 ∷ crate_2 ∷ []) ≡ (spot 1 s1 ∷ [])
+    ∷ (spot 2 s1 ∷ []) ∷ []
 cycle-spots = refl
 
 cycle-chains : map (chain_at museum cycle) (crate_1 ∷ crate_2 ∷ []) ≡ [] ∷ (crate_1 ∷ []) ∷ []
 cycle-chains = refl
 
-cycle-change : changes_of (book nested) (packed (codes "C1") (codes "C2")) ≡ record { entry = 4; verdict = Cycle; put = None; carried = []; spots = []; loan = None; lines = [] }
+cycle-change : changes_of (book nested) (packed (codes "C1") (codes "C2"))
+    ≡ record { entry = 4; verdict = Cycle; put = None; carried = []; spots = []; loan = None;
+    lines = [] }
 cycle-change = refl
 
 -- too_deep: eight containers above a thing, under a limit of eight
@@ -149,7 +178,9 @@ cycle-change = refl
 abbrev crates : Museum
 crates = record museum {
   things = museum.things
-      ++ ((codes "C3", None) ∷ (codes "C4", None) ∷ (codes "C5", None) ∷ (codes "C6", None) ∷ (codes "C7", None) ∷ (codes "C8", None) ∷ (codes "C9", None) ∷ (codes "C10", None) ∷ []);
+      ++ ((codes "C3", None) ∷ (codes "C4", None) ∷ (codes "C5", None) ∷ (codes "C6", None)
+          ∷ (codes "C7", None) ∷ (codes "C8", None) ∷ (codes "C9", None)
+          ∷ (codes "C10", None) ∷ []);
 }
 
 abbrev eight_deep : List Entry
@@ -173,33 +204,39 @@ too_deep = run_in crates eight_deep (
     ∷ (pack, packed (codes "C1") (codes "C10"))
     ∷ [])
 
-too_deep-verdicts : verdicts too_deep ≡ Applied ∷ Applied ∷ Applied ∷ Applied ∷ Applied ∷ Applied ∷ Applied ∷ Applied ∷ Applied ∷ Applied ∷ TooDeep ∷ Applied ∷ TooDeep ∷ []
+too_deep-verdicts : verdicts too_deep ≡ Applied ∷ Applied ∷ Applied ∷ Applied ∷ Applied ∷ Applied
+    ∷ Applied ∷ Applied ∷ Applied ∷ Applied ∷ TooDeep ∷ Applied ∷ TooDeep ∷ []
 too_deep-verdicts = refl
 
 -- C8 to C3 have the numbers 11 to 6
-too_deep-chain : chain_at crates too_deep object_1 ≡ 11 ∷ 10 ∷ 9 ∷ 8 ∷ 7 ∷ 6 ∷ crate_2 ∷ crate_1 ∷ []
+too_deep-chain : chain_at crates too_deep object_1 ≡ 11 ∷ 10 ∷ 9 ∷ 8 ∷ 7 ∷ 6 ∷ crate_2
+    ∷ crate_1 ∷ []
 too_deep-chain = refl
 
 too_deep-unplaced : spots crates too_deep object_2 ≡ []
 too_deep-unplaced = refl
 
-too_deep-carried : carried_at crates too_deep crate_1 ≡ crate_1 ∷ crate_2 ∷ object_1 ∷ 6 ∷ 7 ∷ 8 ∷ 9 ∷ 10 ∷ 11 ∷ 12 ∷ []
+too_deep-carried : carried_at crates too_deep crate_1 ≡ crate_1 ∷ crate_2 ∷ object_1 ∷ 6 ∷ 7 ∷ 8 ∷ 9
+    ∷ 10 ∷ 11 ∷ 12 ∷ []
 too_deep-carried = refl
 
--- the first row of a Pack that holds: the thing, the container, where the thing is, where the container is, the cycle, the depth
+-- the first row of a Pack that holds: the thing, the container, where the thing is, where the
+-- container is, the cycle, the depth
 
 order-thing : verdict museum 8 [] (packed (codes "2009.1") (codes "2001.4.2")) ≡ UnknownThing
 order-thing = refl
 
 -- an object is no container, nor is a code that the setup doesn't have
-order-container : map (λ c. verdict museum 8 [] (packed (codes "L1999.7") c)) (codes "2001.4.2" ∷ codes "C9" ∷ []) ≡ UnknownContainer ∷ UnknownContainer ∷ []
+order-container : map (λ c. verdict museum 8 [] (packed (codes "L1999.7") c))
+    (codes "2001.4.2" ∷ codes "C9" ∷ []) ≡ UnknownContainer ∷ UnknownContainer ∷ []
 order-container = refl
 
 order-not_here : verdict museum 8 [] (packed (codes "L1999.7") (codes "C1")) ≡ NotHere
 order-not_here = refl
 
 -- a container without a place isn't here
-order-container_not_here : map (λ x. verdict museum 8 [] (packed x (codes "C1"))) (codes "2001.4.1" ∷ codes "C1" ∷ []) ≡ ContainerNotHere ∷ ContainerNotHere ∷ []
+order-container_not_here : map (λ x. verdict museum 8 [] (packed x (codes "C1")))
+    (codes "2001.4.1" ∷ codes "C1" ∷ []) ≡ ContainerNotHere ∷ ContainerNotHere ∷ []
 order-container_not_here = refl
 
 -- where both the cycle and the depth bar it, the cycle is told

@@ -1,4 +1,5 @@
--- The definitions computed on worked rows: what a reader can follow by hand, each proved by computing.
+-- The definitions computed on worked rows: what a reader can follow by hand, each proved by
+-- computing.
 use Rattle.std.specs.Prelude.{ℕ, ℤ, pos, ◌+◌, ◌*◌, ◌≡◌, ◌<◌, ◌≤◌, true, false, List, [], ◌∷◌, Option, Some, None, map, reverse, refl, codes}
 use Rattle.std.proofs.Common.{arith, sym}
 use Rattle.nest_core.specs.declared.put.Target.TheVariants.{At}
@@ -16,12 +17,15 @@ use Rattle.posting_core.specs.Verdicts.{verdict}
 use Rattle.posting_core.specs.Lawful.{Follows, IsLawful, count_at, is_signed_off}
 use Rattle.posting_core.specs.Book.{Book, place_in, changes_of}
 
--- two stations, three places of the museum's own and two partners', two crates, three own objects and a borrowed one
+-- two stations, three places of the museum's own and two partners', two crates, three own objects
+-- and a borrowed one
 abbrev pub museum : Museum
 museum = record {
   stations = codes "PACK" ∷ codes "GAL" ∷ [];
-  places = (codes "S1", true) ∷ (codes "S1-A", true) ∷ (codes "S2", true) ∷ (codes "MUSEUM-X", false) ∷ (codes "LENDER-Y", false) ∷ [];
-  things = (codes "C1", None) ∷ (codes "C2", None) ∷ (codes "2001.4.1", Some 1) ∷ (codes "2001.4.2", Some 1) ∷ (codes "2001.4.3", Some 1) ∷ (codes "L1999.7", None) ∷ [];
+  places = (codes "S1", true) ∷ (codes "S1-A", true) ∷ (codes "S2", true)
+      ∷ (codes "MUSEUM-X", false) ∷ (codes "LENDER-Y", false) ∷ [];
+  things = (codes "C1", None) ∷ (codes "C2", None) ∷ (codes "2001.4.1", Some 1)
+      ∷ (codes "2001.4.2", Some 1) ∷ (codes "2001.4.3", Some 1) ∷ (codes "L1999.7", None) ∷ [];
 }
 
 -- numbers in it
@@ -76,7 +80,8 @@ signed_off = SignOff (codes "Ada")
 
 -- one more entry: the station's next number, and the verdict of the rules
 abbrev entry_in : Museum → List Entry → ℕ → Message → Entry
-entry_in S P station m = record { station = station; n = count_at station P + 1; message = m; verdict = verdict S 8 P m }
+entry_in S P station m = record { station = station; n = count_at station P + 1; message = m;
+    verdict = verdict S 8 P m }
 
 -- the entries of what these stations told, in this order, after P
 abbrev pub run_in : Museum → List Entry → List (ℕ × Message) → List Entry
@@ -124,34 +129,47 @@ held_then_posted-spots = refl
 held_then_posted-other : spots museum held_then_posted object_2 ≡ spot 2 s2 ∷ []
 held_then_posted-other = refl
 
-held_then_posted-places : map (place_in (book held_then_posted)) (object_1 ∷ object_2 ∷ borrowed ∷ []) ≡ Some s1_a ∷ Some s2 ∷ None ∷ []
+held_then_posted-places : map (place_in (book held_then_posted))
+    (object_1 ∷ object_2 ∷ borrowed ∷ []) ≡ Some s1_a ∷ Some s2 ∷ None ∷ []
 held_then_posted-places = refl
 
 held_then_posted-puts : puts museum held_then_posted ≡
-    record { thing = object_1; to = At s1_a } ∷ record { thing = object_2; to = At s2 } ∷ record { thing = object_1; to = At s1 } ∷ []
+    record { thing = object_1; to = At s1_a } ∷ record { thing = object_2; to = At s2 }
+        ∷ record { thing = object_1; to = At s1 } ∷ []
 held_then_posted-puts = refl
 
 -- what one more message would change: a spot with the next number of its thing's list
-held_then_posted-change : changes_of (book held_then_posted) (moved (codes "2001.4.1") (codes "S2")) ≡
-    record { entry = 4; verdict = Applied; put = put_at object_1 s2; carried = object_1 ∷ []; spots = record { thing = object_1; k = 3; spot = spot 4 s2 } ∷ []; loan = None; lines = [] }
+held_then_posted-change : changes_of (book held_then_posted)
+    (moved (codes "2001.4.1") (codes "S2")) ≡
+    record { entry = 4; verdict = Applied; put = put_at object_1 s2; carried = object_1 ∷ [];
+        spots = record { thing = object_1; k = 3; spot = spot 4 s2 } ∷ []; loan = None; lines = [] }
 held_then_posted-change = refl
 
 -- a first placement has the number 1
-held_then_posted-first : changes_of (book held_then_posted) (moved (codes "2001.4.3") (codes "S2")) ≡
-    record { entry = 4; verdict = Applied; put = put_at object_3 s2; carried = object_3 ∷ []; spots = record { thing = object_3; k = 1; spot = spot 4 s2 } ∷ []; loan = None; lines = [] }
+held_then_posted-first : changes_of (book held_then_posted)
+    (moved (codes "2001.4.3") (codes "S2")) ≡
+    record { entry = 4; verdict = Applied; put = put_at object_3 s2; carried = object_3 ∷ [];
+        spots = record { thing = object_3; k = 1; spot = spot 4 s2 } ∷ []; loan = None; lines = [] }
 held_then_posted-first = refl
 
--- a Move to the place where the thing is puts it there again, and writes nothing but the posted list
-held_then_posted-same : changes_of (book held_then_posted) (moved (codes "2001.4.1") (codes "S1-A")) ≡
-    record { entry = 4; verdict = Applied; put = put_at object_1 s1_a; carried = object_1 ∷ []; spots = []; loan = None; lines = [] }
+-- a Move to the place where the thing is puts it there again, and writes nothing but the posted
+-- list
+held_then_posted-same : changes_of (book held_then_posted)
+    (moved (codes "2001.4.1") (codes "S1-A")) ≡
+    record { entry = 4; verdict = Applied; put = put_at object_1 s1_a; carried = object_1 ∷ [];
+        spots = []; loan = None; lines = [] }
 held_then_posted-same = refl
 
 -- a sign-off puts nothing, and neither does a refused Move
-held_then_posted-sign_off : changes_of (book held_then_posted) signed_off ≡ record { entry = 4; verdict = Applied; put = None; carried = []; spots = []; loan = None; lines = [] }
+held_then_posted-sign_off : changes_of (book held_then_posted) signed_off
+    ≡ record { entry = 4; verdict = Applied; put = None; carried = []; spots = []; loan = None;
+    lines = [] }
 held_then_posted-sign_off = refl
 
-held_then_posted-refused : changes_of (book held_then_posted) (moved (codes "2001.4.1") (codes "MUSEUM-X")) ≡
-    record { entry = 4; verdict = ElsewherePlace; put = None; carried = []; spots = []; loan = None; lines = [] }
+held_then_posted-refused : changes_of (book held_then_posted)
+    (moved (codes "2001.4.1") (codes "MUSEUM-X")) ≡
+    record { entry = 4; verdict = ElsewherePlace; put = None; carried = []; spots = []; loan = None;
+        lines = [] }
 held_then_posted-refused = refl
 
 -- tour_of_verdicts: refused Moves keep their numbers and place nothing
@@ -165,7 +183,8 @@ tour = run held_then_posted (
     ∷ (pack, moved (codes "2001.4.1") (codes "S2"))
     ∷ [])
 
-tour-verdicts : verdicts tour ≡ Applied ∷ Applied ∷ Applied ∷ ElsewherePlace ∷ UnknownPlace ∷ UnknownThing ∷ NotHere ∷ Applied ∷ []
+tour-verdicts : verdicts tour ≡ Applied ∷ Applied ∷ Applied ∷ ElsewherePlace ∷ UnknownPlace
+    ∷ UnknownThing ∷ NotHere ∷ Applied ∷ []
 tour-verdicts = refl
 
 tour-numbers : reverse (map (λ e. e.n) tour) ≡ 1 ∷ 2 ∷ 3 ∷ 1 ∷ 2 ∷ 3 ∷ 4 ∷ 5 ∷ []
@@ -177,7 +196,8 @@ tour-spots = refl
 tour-borrowed : spots museum tour borrowed ≡ []
 tour-borrowed = refl
 
--- the first row that holds: the thing, then the place, then what the place is, then where the thing is
+-- the first row that holds: the thing, then the place, then what the place is, then where the thing
+-- is
 
 order-thing : verdict museum 8 [] (moved (codes "2009.1") (codes "S9")) ≡ UnknownThing
 order-thing = refl
@@ -209,7 +229,8 @@ crates-verdicts : verdicts crates ≡ Applied ∷ Applied ∷ Applied ∷ Applie
 crates-verdicts = refl
 
 -- the third entry leaves C1 where it is, and writes no spot
-crates-spots : map (spots museum crates) (crate_1 ∷ crate_2 ∷ []) ≡ (spot 1 s1 ∷ spot 4 s2 ∷ []) ∷ (spot 2 s1 ∷ []) ∷ []
+crates-spots : map (spots museum crates) (crate_1 ∷ crate_2 ∷ []) ≡ (spot 1 s1 ∷ spot 4 s2 ∷ [])
+    ∷ (spot 2 s1 ∷ []) ∷ []
 crates-spots = refl
 
 crates-chain : chain_at museum crates crate_2 ≡ []
@@ -237,7 +258,8 @@ sign_off-numbers = refl
 sign_off-spots : spots museum sign_off object_1 ≡ spot 1 s1_a ∷ spot 4 s1 ∷ []
 sign_off-spots = refl
 
-sign_off-signed : map (λ station. is_signed_off station sign_off) (pack ∷ gal ∷ []) ≡ false ∷ true ∷ []
+sign_off-signed : map (λ station. is_signed_off station sign_off) (pack ∷ gal ∷ [])
+    ≡ false ∷ true ∷ []
 sign_off-signed = refl
 
 most_objects : MOST_OBJECTS ≡ 256
@@ -250,18 +272,23 @@ most_entries = refl
 -- which lists the rules let stand
 
 -- the next entry of a station that has not signed off may follow
-follows : (P : List Entry) (station : ℕ) (m : Message) → station < 2 → count_at station P < 999999 → is_signed_off station P ≡ false → Follows museum 8 P (entry_of P station m)
-follows P station m known few unsigned = record { known = known; next = refl; few = omega arith; unsigned = unsigned; judged = refl }
+follows : (P : List Entry) (station : ℕ) (m : Message) → station < 2 → count_at station P < 999999
+    → is_signed_off station P ≡ false → Follows museum 8 P (entry_of P station m)
+follows P station m known few unsigned =
+    record { known = known; next = refl; few = omega arith; unsigned = unsigned; judged = refl }
 
 -- applied and refused entries, of both stations
-lawful-tour : IsLawful museum 8 (run [] ((pack, moved (codes "2001.4.1") (codes "S9")) ∷ (gal, signed_off) ∷ (pack, moved (codes "2001.4.1") (codes "S1")) ∷ []))
+lawful-tour : IsLawful museum 8
+    (run [] ((pack, moved (codes "2001.4.1") (codes "S9")) ∷ (gal, signed_off)
+    ∷ (pack, moved (codes "2001.4.1") (codes "S1")) ∷ []))
 lawful-tour =
     let P1 = entry_of [] pack (moved (codes "2001.4.1") (codes "S9")) ∷ [] in
     let P2 = entry_of P1 gal signed_off ∷ P1 in (
       follows P2 pack (moved (codes "2001.4.1") (codes "S1")) (omega arith) (omega arith) refl,
       (
         follows P1 gal signed_off (omega arith) (omega arith) refl,
-        (follows [] pack (moved (codes "2001.4.1") (codes "S9")) (omega arith) (omega arith) refl, tt),
+        (follows [] pack (moved (codes "2001.4.1") (codes "S9")) (omega arith)
+            (omega arith) refl, tt),
       ),
     )
 

@@ -1,4 +1,4 @@
-//! What is posted, and what a posting changes.
+//! Posted entries, and what posting an entry changes.
 
 use crate::{LineStage, Message, Verdict};
 use codes_core::{Day, LoanCode, NoMemory};
@@ -7,10 +7,11 @@ use smallvec::SmallVec;
 use std::alloc::Global;
 use std::marker::Model;
 
-/// An entry's number in the posted list, from 1.
+/// The number of an entry in the posted list, from 1.
 pub type EntryNo = u32;
 
-/// A posted message: its station by number, its own number among that station's, from 1, and its verdict.
+/// A posted message: the number of its station, the number that the station gave it (from 1), and
+/// its verdict.
 #[derive(Drop)]
 pub struct Entry {
     pub station: StationNo,
@@ -19,7 +20,8 @@ pub struct Entry {
     pub verdict: Verdict,
 }
 
-/// A place at which a thing came to be: the number of the entry, from 1, that brought it there, and the day.
+/// One location of a thing: the number of the entry that brought it there, the place, and the
+/// location date.
 #[derive(Clone, Copy, Debug, Default, PartialEq, Eq, PartialOrd, Ord)]
 pub struct Spot {
     pub entry: EntryNo,
@@ -27,7 +29,7 @@ pub struct Spot {
     pub day: Day,
 }
 
-/// A new spot of a thing, with its number, from 1, in the thing's list.
+/// A new spot of a thing. `k` is its number among the thing's spots, from 1.
 #[derive(Clone, Copy, Debug, Default, PartialEq, Eq, PartialOrd, Ord)]
 pub struct NewSpot {
     pub thing: ThingNo,
@@ -35,7 +37,7 @@ pub struct NewSpot {
     pub spot: Spot,
 }
 
-/// New spots that an entry writes; seen as their list. One alone takes no memory.
+/// The new spots that an entry adds. A list of one takes no memory. Contracts see it as the list.
 #[derive(Debug)]
 pub struct NewSpots {
     items: SmallVec<NewSpot, 1>,
@@ -52,7 +54,7 @@ impl Model for NewSpots {
     ghost invariant = { λ s. 1 ≤ s.items.capacity };
 }
 
-/// Written out, so that whoever drops new spots calls it.
+/// Manual `Drop`: a derived one is inlined at every return and slows the proof.
 impl Drop for NewSpots {
     fn drop(self) {
         let NewSpots { items } = self;
@@ -63,7 +65,7 @@ impl Drop for NewSpots {
 impl NewSpots {
     ghost use Rattle.std.specs.Prelude.{◌≡◌, ◌<◌, ◌++◌, ◌∷◌, [], length, OnOk, OnErr};
 
-    /// None. Takes no memory.
+    /// An empty list. Takes no memory.
     pub fn new(alloc: Global) -> NewSpots
         ensures { result ≡ [] }
     {
@@ -72,7 +74,8 @@ impl NewSpots {
         }
     }
 
-    /// One more; after NoMemory, which comes only where there is one already, they are unchanged.
+    /// Adds a spot at the end. Fails with `NoMemory`, but only if there is a spot already, and then
+    /// the list is unchanged.
     pub fn push(&mut self, spot: NewSpot) -> Result<(), NoMemory>
         ensures ok { OnOk result (self.new ≡ self.old ++ spot ∷ []) }
         ensures err { OnErr result (self.new ≡ self.old) }
@@ -82,7 +85,7 @@ impl NewSpots {
         Ok(())
     }
 
-    /// The new spots, in their order.
+    /// The spots, in their order.
     pub fn as_slice(&self) -> &[NewSpot]
         ensures { result.now ≡ self.now }
     {
@@ -90,7 +93,7 @@ impl NewSpots {
     }
 }
 
-/// A line of a loan that an entry makes or changes: the loan, the object, and the stage that its line then has.
+/// A loan line that an entry makes or changes: the loan, the object, and the line's new stage.
 #[derive(Clone, Copy, Debug, PartialEq, Eq)]
 pub struct NewLine {
     pub loan: LoanCode,
@@ -98,12 +101,13 @@ pub struct NewLine {
     pub stage: LineStage,
 }
 
-/// Lines that an entry makes or changes; seen as their list. One alone takes no memory.
+/// The loan lines that an entry makes or changes. A list of one takes no memory. Contracts see it
+/// as the list.
 #[derive(Debug, Drop)]
 pub struct NewLines {
-    // the line, where there is one alone
+    // the line, if there is only one
     one: Option<NewLine>,
-    // the lines, where there are several
+    // the lines, if there are several
     several: Vec<NewLine>,
 }
 
@@ -122,7 +126,7 @@ impl Model for NewLines {
 impl NewLines {
     ghost use Rattle.std.specs.Prelude.{◌≡◌, ◌<◌, ◌++◌, ◌∷◌, [], length, OnOk, OnErr};
 
-    /// None. Takes no memory.
+    /// An empty list. Takes no memory.
     pub fn new(alloc: Global) -> NewLines
         ensures { result ≡ [] }
     {
@@ -132,7 +136,8 @@ impl NewLines {
         }
     }
 
-    /// One more; after NoMemory, which comes only where there is one already, they are unchanged.
+    /// Adds a line at the end. Fails with `NoMemory`, but only if there is a line already, and then
+    /// the list is unchanged.
     pub fn push(&mut self, line: NewLine) -> Result<(), NoMemory>
         ensures ok { OnOk result (self.new ≡ self.old ++ line ∷ []) }
         ensures err { OnErr result (self.new ≡ self.old) }
@@ -162,17 +167,24 @@ impl NewLines {
     }
 }
 
-/// What posting a message changes: the number of its entry, from 1, its verdict, where it puts its thing, what that carries,
-/// ascending and with itself, the new spots, the loan that goes on by it, numbered from 0 in the order of the agreements, and
-/// the lines of its loan that it makes or changes; no put and none of these where it is refused. The spots ascend by thing, at
-/// most one of each. An agreement's lines stand in the order of its list, those of a crossing ascend by object.
+/// What posting a message changes. For a refused message there is no put and no loan, and the lists
+/// are empty.
 #[derive(Debug, Drop)]
 pub struct Changes {
+    /// The number that the entry gets, from 1.
     pub entry: EntryNo,
+    /// The verdict on the message.
     pub verdict: Verdict,
+    /// Where the message puts its thing, if it puts one.
     pub put: Option<Put>,
+    /// Everything that moves with the put, the thing itself included, in ascending order.
     pub carried: ThingNos,
+    /// The new spots, in ascending order of things, at most one for each thing.
     pub spots: NewSpots,
+    /// The number of the agreed loan that the message continues, from 0 in the order of the
+    /// agreements.
     pub loan: Option<usize>,
+    /// The loan lines that the message makes (in the order of the agreement) or changes (in
+    /// ascending order of objects).
     pub lines: NewLines,
 }

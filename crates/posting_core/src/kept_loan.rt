@@ -1,4 +1,4 @@
-//! What a ledger keeps of one loan.
+//! One loan, as a ledger keeps it.
 ghost use Rattle.std.specs.Prelude.{◌≡◌, ◌<◌, false, map, IfOk};
 ghost use Rattle.posting_core.specs.Messages.{place_no};
 ghost use Rattle.posting_core.specs.Loans.{is_done, is_awaiting, state_by};
@@ -12,7 +12,7 @@ use nest_core::{PlaceNo, Setup, ThingNo};
 use std::alloc::Global;
 use std::marker::Model;
 
-/// A loan, its objects found by number; seen as its row.
+/// A loan whose objects are found by number. Contracts see it as its row.
 pub(crate) struct KeptLoan {
     loan: LoanCode,
     partner: PlaceNo,
@@ -41,7 +41,7 @@ impl Model for KeptLoan {
     ghost invariant = { λ k. length k.stages.items ≡ length k.objects.keys };
 }
 
-/// Written out, so that whoever drops a kept loan calls it.
+/// Manual `Drop`: a derived one is inlined at every return and slows the proof.
 impl Drop for KeptLoan {
     fn drop(self) {
         let KeptLoan {
@@ -58,7 +58,8 @@ impl Drop for KeptLoan {
 }
 
 impl KeptLoan {
-    /// A loan that is just agreed, with a line of each of its objects.
+    /// A loan that was just agreed, with a line for each of its objects. No object may have two
+    /// lines. Fails with `NoMemory`.
     pub(crate) fn new(
         alloc: Global,
         setup: &Setup,
@@ -103,14 +104,14 @@ impl KeptLoan {
         self.partner
     }
 
-    /// The objects, in the order of the agreement.
+    /// The objects by number, in the order of the agreement.
     pub(crate) fn objects(&self) -> &[ThingNo]
         ensures { result.now ≡ self.now.objects }
     {
         self.objects.as_slice()
     }
 
-    /// The stage of an object's line, where the loan lists it.
+    /// The stage of an object's line, or `None` if the loan doesn't list the object.
     pub(crate) fn stage_of(&self, object: ThingNo) -> Option<LineStage>
         ensures { result ≡ line_of self.now object }
     {
@@ -118,7 +119,7 @@ impl KeptLoan {
         Some(self.stages[i])
     }
 
-    /// How far the loan has come.
+    /// The state of the loan.
     pub(crate) fn state(&self) -> LoanState
         ensures { result ≡ state_of self.now }
     {
@@ -139,21 +140,22 @@ impl KeptLoan {
         self.authorised
     }
 
-    /// The loan is authorised.
+    /// Marks the loan as authorised.
     pub(crate) fn authorise(&mut self)
         ensures { self.new ≡ authorised_row self.old }
     {
         self.authorised = true;
     }
 
-    /// The loan gets another last day.
+    /// Sets the last day.
     pub(crate) fn extend(&mut self, last: Day)
         ensures { self.new ≡ extended_row last self.old }
     {
         self.last = last;
     }
 
-    /// The lines get their stages, in turn.
+    /// Sets the stages of these lines, one after another. A line of an object that the loan doesn't
+    /// list changes nothing.
     pub(crate) fn cross(&mut self, lines: &[NewLine])
         ensures { self.new ≡ with_lines lines.now self.old }
     {
@@ -171,7 +173,7 @@ impl KeptLoan {
     }
 }
 
-/// The objects of these lines, which differ.
+/// The objects of these lines, which must differ. Fails with `NoMemory`.
 fn objects_of(alloc: Global, lines: &[NewLine]) -> Result<IndexSet<ThingNo>, NoMemory>
     requires { AreOnce (map (λ l. l.object) lines.now) }
     ensures { IfOk result (λ objects. objects.keys ≡ map (λ l. l.object) lines.now) }
@@ -183,7 +185,7 @@ fn objects_of(alloc: Global, lines: &[NewLine]) -> Result<IndexSet<ThingNo>, NoM
     Ok(objects)
 }
 
-/// The stages of these lines.
+/// The stages of these lines. Fails with `NoMemory`.
 fn stages_of(alloc: Global, lines: &[NewLine]) -> Result<Vec<LineStage>, NoMemory>
     ensures { IfOk result (λ stages. stages.items ≡ map (λ l. l.stage) lines.now) }
 {

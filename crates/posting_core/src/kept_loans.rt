@@ -1,4 +1,4 @@
-//! What a ledger keeps of all loans, found by their codes.
+//! All loans, as a ledger keeps them.
 ghost use Rattle.std.specs.Prelude.{◌≡◌, ◌<◌, ◌++◌, ◌∷◌, [], List, ℕ, length, map, slice_get, Some, IfSome, OnOk, OnErr};
 ghost use Rattle.std.specs.List.{find, position};
 ghost use Rattle.std.specs.Option.{option_map};
@@ -12,7 +12,8 @@ use indexmap::IndexSet;
 use std::alloc::Global;
 use std::marker::Model;
 
-/// The loans, in the order of their agreements, each found by its code or by its number; seen as their rows.
+/// The loans, in the order of their agreements. Each is found by its code or by its number.
+/// Contracts see them as their rows.
 #[derive(Drop)]
 pub(crate) struct KeptLoans {
     codes: IndexSet<LoanCode>,
@@ -31,7 +32,7 @@ impl Model for KeptLoans {
 }
 
 impl KeptLoans {
-    /// No loan yet. Takes no memory.
+    /// An empty list of loans. Takes no memory.
     pub(crate) fn new(alloc: Global) -> KeptLoans
         ensures { result ≡ [] }
     {
@@ -41,14 +42,14 @@ impl KeptLoans {
         }
     }
 
-    /// How many loans there are.
+    /// The number of loans.
     pub(crate) fn len(&self) -> usize
         ensures { result ≡ length self.now }
     {
         self.rows.len()
     }
 
-    /// A loan by its number, from 0 in the order of the agreements.
+    /// The loan with this number, from 0 in the order of the agreements.
     pub(crate) fn at(&self, i: usize) -> &KeptLoan
         requires { i < length self.now }
         ensures { slice_get self.now i ≡ Some result.now }
@@ -56,7 +57,7 @@ impl KeptLoans {
         &self.rows[i]
     }
 
-    /// The number of the loan of a code, and the loan.
+    /// The loan with this code, and its number. `None` if there is none.
     pub(crate) fn get(&self, loan: &LoanCode) -> Option<(usize, &KeptLoan)>
         ensures number { option_map (λ found. found.0) result
             ≡ position (bytes_eq loan.now) (map (λ row. row.loan) self.now) }
@@ -67,7 +68,8 @@ impl KeptLoans {
         Some((i, &self.rows[i]))
     }
 
-    /// One more loan, whose code is new; after NoMemory they are unchanged, and the loan is dropped.
+    /// Adds a loan, whose code must be new. Fails with `NoMemory`, and then the loans are unchanged
+    /// and the new one is dropped.
     pub(crate) fn push(&mut self, loan: KeptLoan) -> Result<(), NoMemory>
         requires { find (λ row. bytes_eq loan.loan row.loan) self.old ≡ None }
         ensures ok { OnOk result (self.new ≡ self.old ++ loan ∷ []) }
@@ -79,7 +81,7 @@ impl KeptLoans {
         Ok(())
     }
 
-    /// The loan of a number, if there is one, is authorised.
+    /// Marks the loan with this number, if there is a number, as authorised.
     pub(crate) fn authorise(&mut self, number: Option<usize>)
         requires { IfSome number (λ i. i < length self.old) }
         ensures { (loan : List ℕ)
@@ -91,7 +93,7 @@ impl KeptLoans {
         }
     }
 
-    /// The loan of a number, if there is one, gets another last day.
+    /// Sets the last day of the loan with this number, if there is a number.
     pub(crate) fn extend(&mut self, number: Option<usize>, last: Day)
         requires { IfSome number (λ i. i < length self.old) }
         ensures { (loan : List ℕ)
@@ -103,7 +105,8 @@ impl KeptLoans {
         }
     }
 
-    /// Lines of the loan of a number, if there is one, get their stages, in turn.
+    /// Sets the stages of these lines of the loan with this number, if there is a number, one after
+    /// another.
     pub(crate) fn cross(&mut self, number: Option<usize>, lines: &[NewLine])
         requires { IfSome number (λ i. i < length self.old) }
         ensures { (loan : List ℕ)

@@ -1,4 +1,4 @@
-//! Messages as they are kept.
+//! Messages, as a ledger keeps them.
 ghost use Rattle.std.specs.Prelude.{◌≡◌, ◌<◌, true, is_some, None, IfOk, IfSome, MatchOption};
 ghost use Rattle.posting_core.specs.KeptForms.{said, HasCodes};
 ghost use Rattle.codes_core.specs.Thing.{thing_fault};
@@ -11,15 +11,17 @@ use codes_core::{Day, LoanCode, NoMemory, PlaceCode, Spelling, ThingCode};
 use std::alloc::Global;
 use std::marker::Model;
 
-/// A message as it is kept, seen as the message. A code has room for the longest of its kind, and most are much shorter: so
-/// what puts a thing is kept with short codes, and any other message, or one with a longer code, stands elsewhere. It takes 40
-/// bytes, where a message takes 88.
+/// A message as it is kept: in 40 bytes, where a message takes 88. Contracts see it as the message.
+///
+/// A code's type has room for the longest code, and most codes are much shorter. A message that
+/// puts a thing is kept with less room for its codes, if they fit. Any other message is kept whole,
+/// in memory of its own.
 pub struct KeptMessage {
     form: Form,
 }
 
-/// What is kept of a message, in 40 bytes each: where there are three codes they have to be shorter. Where there is a day, it
-/// stands first, so that the bytes behind it are copied in whole words.
+/// The form of a kept message, of 40 bytes. With three codes there is less room for each. The day
+/// comes first, so that the bytes after it are copied in whole words.
 #[derive(Drop)]
 pub(crate) enum Form {
     Move {
@@ -63,7 +65,7 @@ impl Model for KeptMessage {
     ghost invariant = { λ m. HasCodes m.form };
 }
 
-/// Written out, so that whoever drops a kept message calls it.
+/// Manual `Drop`: a derived one is inlined at every return and slows the proof.
 impl Drop for KeptMessage {
     fn drop(self) {
         let KeptMessage { form } = self;
@@ -72,7 +74,7 @@ impl Drop for KeptMessage {
 }
 
 impl KeptMessage {
-    /// What keeps the message. The fault: NoMemory.
+    /// Keeps a copy of the message. Fails with `NoMemory`.
     pub fn new(alloc: Global, message: &Message) -> Result<KeptMessage, NoMemory>
         ensures { IfOk result (λ kept. kept ≡ message.now) }
     {
@@ -83,7 +85,7 @@ impl KeptMessage {
         Ok(KeptMessage { form })
     }
 
-    /// The message, where it stands whole: so does each that puts nothing.
+    /// The message, if it is kept whole. Every message that puts nothing is.
     pub fn as_message(&self) -> Option<&Message>
         ensures { MatchOption result (is_some (day_of self.now) ≡ true)
             (λ message. message.now ≡ self.now) }
@@ -94,7 +96,7 @@ impl KeptMessage {
         }
     }
 
-    /// A copy of the message. The fault: NoMemory.
+    /// Returns a copy of the message. Fails with `NoMemory`.
     pub fn to_message(&self, alloc: Global) -> Result<Message, NoMemory>
         ensures { IfOk result (λ message. message ≡ self.now) }
     {
@@ -145,7 +147,7 @@ impl KeptMessage {
     }
 }
 
-/// What puts a thing, where its codes are short.
+/// The short form of a message that puts a thing, if its codes fit.
 fn in_short(message: &Message) -> Option<Form>
     ensures { IfSome result (λ form. HasCodes form × (said form ≡ message.now)) }
 {
@@ -173,7 +175,7 @@ fn in_short(message: &Message) -> Option<Form>
     }
 }
 
-/// A return or a receipt, where its codes are short.
+/// The short form of a return or a receipt, if its codes fit.
 fn incoming_in_short(message: &Message) -> Option<Form>
     ensures { IfSome result (λ form. HasCodes form × (said form ≡ message.now)) }
 {
@@ -204,7 +206,7 @@ fn incoming_in_short(message: &Message) -> Option<Form>
     }
 }
 
-/// The thing's code that is spelled so.
+/// The thing's code with this spelling.
 fn thing_of<const N: usize>(spelling: &Spelling<N>) -> ThingCode
     requires { thing_fault spelling.now ≡ None }
     ensures { result ≡ spelling.now }
@@ -212,7 +214,7 @@ fn thing_of<const N: usize>(spelling: &Spelling<N>) -> ThingCode
     ThingCode::parse(spelling.as_bytes()).unwrap()
 }
 
-/// The loan's code that is spelled so.
+/// The loan's code with this spelling.
 fn loan_of<const N: usize>(spelling: &Spelling<N>) -> LoanCode
     requires { loan_fault spelling.now ≡ None }
     ensures { result ≡ spelling.now }
@@ -220,7 +222,7 @@ fn loan_of<const N: usize>(spelling: &Spelling<N>) -> LoanCode
     LoanCode::parse(spelling.as_bytes()).unwrap()
 }
 
-/// The place's code that is spelled so.
+/// The place's code with this spelling.
 fn place_of<const N: usize>(spelling: &Spelling<N>) -> PlaceCode
     requires { place_fault spelling.now ≡ None }
     ensures { result ≡ spelling.now }

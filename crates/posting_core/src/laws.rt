@@ -1,4 +1,4 @@
-//! Laws of what a ledger has posted, each on a function that does nothing.
+//! Laws of what a ledger has posted. The functions do nothing: their contracts are the laws.
 ghost use Rattle.std.specs.Prelude.{◌≡◌, ◌≢◌, ◌⊎◌, ◌↔◌, ◌<◌, ◌∷◌, ◌++◌, ℕ, List, [], length, None, Some, true, false, IfSome, All, is_some};
 ghost use Rattle.std.specs.List.{last_or, AllAdjacentBelow};
 ghost use Rattle.std.specs.Option.{option_map};
@@ -14,7 +14,7 @@ ghost use Rattle.posting_core.specs.Onward.{later, GoesOn, are_refused, spots_fo
 
 use crate::Ledger;
 
-/// The last spot of a thing is its current place, and a thing without a place has no spot.
+/// A thing's last spot is its current location, and a thing without a place has no spots.
 pub fn last_spot_is_current(ledger: &Ledger)
     ensures current { (x : ℕ)
         → option_map (λ spot. spot.place) (last_or None (spots_in ledger.now x))
@@ -24,7 +24,7 @@ pub fn last_spot_is_current(ledger: &Ledger)
     ledger.is_lawful();
 }
 
-/// No spot is written where the place does not change: each spot of a thing is at another place than the one before it.
+/// A spot is added only if the place changes: each spot is at another place than the one before it.
 pub fn each_spot_is_a_change(ledger: &Ledger)
     ensures { (x : ℕ)
         → AllAdjacentBelow (λ one next. one.place ≢ next.place) (spots_in ledger.now x)
@@ -33,8 +33,9 @@ pub fn each_spot_is_a_change(ledger: &Ledger)
     ledger.is_lawful();
 }
 
-/// An own object is home, or it is lent: it is elsewhere exactly where it is away under exactly one loan out, and then
-/// it is at the place of that loan's partner.
+/// An own object is home or lent. If it is home, it is inside or has no place yet, and it is away
+/// under no loan. If it is lent, it is away under exactly one loan, which is a loan out, and it is
+/// at the place of that loan's partner, which is elsewhere.
 pub fn own_objects_are_accounted_for(ledger: &Ledger)
     ensures { (o : ℕ) → is_own ledger.now.museum o ≡ true
         → IsHome ledger.now o ⊎ IsLent ledger.now o }
@@ -42,8 +43,9 @@ pub fn own_objects_are_accounted_for(ledger: &Ledger)
     ledger.is_lawful();
 }
 
-/// A borrowed object is with its lender, or it is a guest: it is inside exactly where it is here under exactly one
-/// loan in.
+/// A borrowed object is with its lender or a guest. If it is with its lender, it is elsewhere or
+/// has no place yet, and it is here under no loan. If it is a guest, it is here under exactly one
+/// loan, which is a loan in, and it is inside.
 pub fn borrowed_objects_are_accounted_for(ledger: &Ledger)
     ensures { (o : ℕ) → is_borrowed ledger.now.museum o ≡ true
         → IsWithLender ledger.now o ⊎ IsGuest ledger.now o }
@@ -51,7 +53,7 @@ pub fn borrowed_objects_are_accounted_for(ledger: &Ledger)
     ledger.is_lawful();
 }
 
-/// Under a closed loan every object is back or given back.
+/// Under a closed loan, every object is back or given back.
 pub fn closed_loans_are_over(ledger: &Ledger)
     ensures { (loan : List ℕ) → state_in ledger.now loan ≡ Some Closed → (o : ℕ)
         → IfSome (line_in ledger.now loan o) IsOver }
@@ -59,8 +61,8 @@ pub fn closed_loans_are_over(ledger: &Ledger)
     ledger.is_lawful();
 }
 
-/// Things cross only under loans that were authorised before, and go out under a loan out, or come in, no later than the
-/// loan's last day.
+/// Things cross only under loans that were authorised before. They leave under a loan out, and
+/// arrive under a loan in, no later than the loan's last day.
 pub fn crossings_are_authorised(ledger: &Ledger)
     ensures authorised { AtEachApplied IsAuthorised ledger.now.posted }
     ensures in_term { AtEachApplied IsInTerm ledger.now.posted }
@@ -68,21 +70,21 @@ pub fn crossings_are_authorised(ledger: &Ledger)
     ledger.is_lawful();
 }
 
-/// A message that the rules refuse changes no answer: a ledger that posts it tells the same of every thing and of every
-/// loan as before: places, containers above, spots, loans, their objects, lines, states and last days.
+/// A refused message changes no answer: places, the containers above, spots, loans, their objects,
+/// lines, states and last days stay the same.
 pub fn refused_changes_no_answer()
     ensures { (B : Book) (e : Entry) → is_applied e.verdict ≡ false
         → AnswerAlike (record B { posted = e ∷ B.posted }) B }
 {}
 
-/// Nor do several such messages, one after the other.
+/// Several refused messages, one after another, change no answer either.
 pub fn all_refused_change_no_answer()
     ensures { (B : Book) (L : List Entry) → are_refused L ≡ true → AnswerAlike (later B L) B }
 {}
 
-/// What posting a message changes is what its plan says, and no more, where the rules let the entry follow: a thing's
-/// spots afterwards are those before with the new ones, a line differs afterwards exactly where a new line names it, and
-/// then it is at the new line's stage.
+/// Posting an entry that the rules allow changes what its plan has, and no more. A thing's spots
+/// afterwards are those before, followed by the new ones. A loan line changes exactly if a new line
+/// names it, and then it has that new line's stage.
 pub fn changes_are_the_difference()
     ensures spots { (B : Book) (e : Entry) → GoesOn B (e ∷ []) → (x : ℕ)
         → x < length B.museum.things →
@@ -95,8 +97,8 @@ pub fn changes_are_the_difference()
         (changes_of B e.message).lines }
 {}
 
-/// Under one loan a line only goes forward, whatever is posted later: from awaited to away and to back, or from awaited to
-/// here and to given back; and an object that a loan lists stays listed.
+/// A loan line's stage never goes back, whatever is posted later. It goes from awaited to away and
+/// back, or from awaited to here and given back. An object that a loan lists stays listed.
 pub fn lines_only_go_forward()
     ensures { (B : Book) (L : List Entry) → GoesOn B L → (loan : List ℕ) (o : ℕ) →
         goes_forward (line_in B loan o) (line_in (later B L) loan o) ≡ true }
@@ -108,20 +110,20 @@ pub fn closed_loans_stay_closed()
         state_in B loan ≡ Some Closed → state_in (later B L) loan ≡ Some Closed }
 {}
 
-/// An agreed loan keeps a last day, and this only moves on.
+/// An agreed loan always has a last day, which never becomes earlier.
 pub fn last_days_only_move_on()
     ensures { (B : Book) (L : List Entry) → GoesOn B L → (loan : List ℕ) →
         MovesOn (last_day_in B loan) (last_day_in (later B L) loan) }
 {}
 
-/// No crate leaves under a loan in: what is given back is taken out of its crate first.
+/// No container leaves under a loan in.
 pub fn no_crate_leaves_under_a_loan_in(ledger: &Ledger)
     ensures { AtEachApplied LeavesUncrated ledger.now.posted }
 {
     ledger.is_lawful();
 }
 
-/// A thing that was put anywhere has a place, however deep it is in containers.
+/// A thing that was ever put somewhere has a place, however deep it is in containers.
 pub fn what_was_put_has_a_place(ledger: &Ledger)
     ensures { (x : ℕ) → is_some (last (puts ledger.now.museum ledger.now.posted) x) ≡ true →
         is_some (place_in ledger.now x) ≡ true }

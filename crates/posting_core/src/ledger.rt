@@ -1,4 +1,4 @@
-//! The ledger: what was posted, and what looking back through it gives.
+//! The ledger: the posted entries, and the answers from looking back through them.
 ghost use Rattle.std.specs.Prelude.{◌≡◌, ◌<◌, ◌≤◌, ◌∷◌, [], length, reverse, All, IfOk, OnOk, OnErr, IfSome, ℕ, Some, slice_get, is_some, true};
 ghost use Rattle.std.specs.Option.{option_map};
 ghost use Rattle.nest_core.specs.Puts.{is_among};
@@ -19,7 +19,7 @@ mod rules;
 use self::judged::{Judged, unput};
 use crate::kept_loan::KeptLoan;
 use crate::kept_loans::KeptLoans;
-use crate::placing::place;
+use crate::placement::place;
 use crate::recording::record;
 use crate::spot_rows::SpotRows;
 use crate::{
@@ -31,8 +31,11 @@ use nest_core::{Nest, PlaceNo, Setup, ThingNo, ThingNos};
 use std::alloc::Global;
 use std::marker::Model;
 
-/// What was posted, over a setup and under a depth limit; seen as its book. Every answer is what looking back
-/// through the posted entries gives.
+/// The entries posted over a setup. A depth limit says how many containers may be above a thing.
+/// Each answer is that of looking back through the entries.
+///
+/// Contracts see a ledger as its `Book`: the setup, the depth limit and the entries, the newest
+/// first.
 pub struct Ledger {
     setup: Setup,
     posted: Vec<PostedEntry>,
@@ -55,7 +58,7 @@ impl Model for Ledger {
         IsKept a.setup (reverse a.posted.items) a.nest a.spots.rows a.loans };
 }
 
-/// Written out, so that whoever drops a ledger calls it: a derived drop would stand whole at each of their ways out.
+/// Manual `Drop`: a derived one is inlined at every return and slows the proof.
 impl Drop for Ledger {
     fn drop(self) {
         let Ledger {
@@ -74,8 +77,8 @@ impl Drop for Ledger {
 }
 
 impl Ledger {
-    /// Nothing posted yet, over this setup and under this limit of containers above a thing. After NoMemory the
-    /// setup is dropped.
+    /// Makes a ledger with nothing posted. No thing may have more than `depth` containers above it.
+    /// Fails with `NoMemory`, and then the setup is dropped.
     pub fn new(alloc: Global, setup: Setup, depth: u32) -> Result<Ledger, NoMemory>
         ensures { IfOk result
             (λ ledger. ledger ≡ record { museum = setup; depth = depth; posted = [] }) }
@@ -98,14 +101,15 @@ impl Ledger {
         &self.setup
     }
 
-    /// The posted entries, oldest first: entry 1 stands at index 0. Refused messages are among them.
+    /// The posted entries, oldest first: entry 1 is at index 0. Refused messages are among them.
     pub fn posted(&self) -> &[PostedEntry]
         ensures { reverse result.now ≡ self.now.posted }
     {
         &self.posted
     }
 
-    /// How many entries are posted: the number of the last, and 0 where there is none.
+    /// The number of posted entries, at most [`MOST_ENTRIES`]. It is also the number of the last
+    /// entry.
     pub fn entry_count(&self) -> EntryNo
         ensures count { result ≡ length self.now.posted }
         ensures few { result ≤ MOST_ENTRIES }
@@ -114,15 +118,16 @@ impl Ledger {
         self.posted().len() as EntryNo
     }
 
-    /// The rules let the posted list stand.
+    /// The law of every posted list, for proofs: each entry may follow those before it. The
+    /// function does nothing.
     pub fn is_lawful(&self)
         ensures { IsLawful self.now.museum self.now.depth self.now.posted }
     {
         let _ = &self.posted;
     }
 
-    /// A thing's current place, through all its containers, or none while it was never placed. The thing's number is
-    /// below the setup's count.
+    /// A thing's current location, through all its containers, or `None` if it was never placed.
+    /// The thing must be in the setup.
     pub fn place_of(&self, thing: ThingNo) -> Option<PlaceNo>
         requires { thing < length self.now.museum.things }
         ensures place { result ≡ place_in self.now thing }
@@ -131,8 +136,8 @@ impl Ledger {
         self.nest.place_of(thing)
     }
 
-    /// The containers above a thing, innermost first, no more than the depth limit; else NoMemory, which comes only
-    /// where something stands above it. The thing's number is below the setup's count.
+    /// The containers above a thing, innermost first, no more than the depth limit. Fails with
+    /// `NoMemory`, but only if there is one. The thing must be in the setup.
     pub fn chain(&self, alloc: Global, thing: ThingNo) -> Result<ThingNos, NoMemory>
         requires { thing < length self.now.museum.things }
         ensures chain { IfOk result (λ chain. chain ≡ chain_in self.now thing) }
@@ -143,8 +148,8 @@ impl Ledger {
         self.nest.chain(alloc, thing)
     }
 
-    /// A thing's spots, oldest first: the last is its current place, the others are its former ones; each is at a
-    /// place of the setup. The thing's number is below the setup's count.
+    /// A thing's spots, oldest first. The last is its current location; the others are its former
+    /// ones. The thing must be in the setup.
     pub fn spots(&self, thing: ThingNo) -> Spots<'_>
         requires { thing < length self.now.museum.things }
         ensures spots { result ≡ spots_in self.now thing }
@@ -155,14 +160,15 @@ impl Ledger {
         self.spots.of(thing)
     }
 
-    /// How many loans are agreed.
+    /// The number of agreed loans.
     pub fn loan_count(&self) -> usize
         ensures { result ≡ length (loans_in self.now) }
     {
         self.loans.len()
     }
 
-    /// A loan's code. Loans are numbered from 0 in the order of their agreements; the number is below `loan_count`.
+    /// The code of loan `i`. Loans are numbered from 0, in the order of their agreements. `i` must
+    /// be below [`loan_count`](Self::loan_count).
     pub fn loan_at(&self, i: usize) -> LoanCode
         requires { i < length (loans_in self.now) }
         ensures loan { slice_get (loans_in self.now) i ≡ Some result }
@@ -171,8 +177,8 @@ impl Ledger {
         self.loans.at(i).loan()
     }
 
-    /// The objects of a loan by number, in the order of its agreement: things of the setup. The loan's number is below
-    /// `loan_count`.
+    /// The objects of loan `i` by number, in the order of its agreement. `i` must be below
+    /// [`loan_count`](Self::loan_count).
     pub fn objects(&self, i: usize) -> &[ThingNo]
         requires { i < length (loans_in self.now) }
         ensures objects { option_map (objects_of_loan self.now) (slice_get (loans_in self.now) i)
@@ -182,7 +188,7 @@ impl Ledger {
         self.loans.at(i).objects()
     }
 
-    /// The stage of an object's line, where the loan is agreed and lists the object.
+    /// The stage of an object's line. `None` if the loan isn't agreed or doesn't list the object.
     pub fn line(&self, loan: &LoanCode, object: ThingNo) -> Option<LineStage>
         ensures line { result ≡ line_in self.now loan.now object }
         ensures listed { is_some result ≡ is_among object (objects_of_loan self.now loan.now) }
@@ -190,7 +196,7 @@ impl Ledger {
         self.loan(loan)?.1.stage_of(object)
     }
 
-    /// How far a loan has come, where it is agreed.
+    /// The state of a loan. `None` if it isn't agreed.
     pub fn loan_state(&self, loan: &LoanCode) -> Option<LoanState>
         ensures state { result ≡ state_in self.now loan.now }
         ensures agreed { is_some result ≡ is_agreed self.now.posted loan.now }
@@ -198,7 +204,7 @@ impl Ledger {
         Some(self.loan(loan)?.1.state())
     }
 
-    /// A loan's last day, where it is agreed.
+    /// The last day of a loan. `None` if it isn't agreed.
     pub fn last_day(&self, loan: &LoanCode) -> Option<Day>
         ensures day { result ≡ last_day_in self.now loan.now }
         ensures agreed { is_some result ≡ is_agreed self.now.posted loan.now }
@@ -206,8 +212,9 @@ impl Ledger {
         Some(self.loan(loan)?.1.last())
     }
 
-    /// The verdict that the message would get if it were posted now; else NoMemory, which comes only where something
-    /// crosses by it that has something in it, and the verdict hangs on the lines of what crosses.
+    /// Returns the verdict that the message would get if it were posted now. Fails with `NoMemory`,
+    /// but only if a thing with something in it crosses under a loan, and the verdict depends on
+    /// the loan lines of what crosses.
     pub fn judge(&self, alloc: Global, message: &Message) -> Result<Verdict, NoMemory>
         ensures ok { IfOk result (λ verdict. verdict ≡ verdict_in self.now message.now) }
         ensures err { OnErr result (asks_lines self.now message.now ≡ true) }
@@ -215,10 +222,9 @@ impl Ledger {
         Ok(self.judged(alloc, message)?.verdict)
     }
 
-    /// What posting the message now would change: the number of its entry, from 1, its verdict and, where it is
-    /// applied, what it puts where, the things that are carried with that, the new spots, the loan that goes on by it, and the
-    /// lines that it makes or changes; else NoMemory, which comes only where `judge` can give up, or where the message is applied and makes or
-    /// changes lines, or puts a thing that has something in it.
+    /// Returns what posting the message now would change. Fails with `NoMemory`, but only if
+    /// [`judge`](Self::judge) can, or if the message is applied and either makes or changes loan
+    /// lines or puts a thing that has something in it.
     pub fn plan(&self, alloc: Global, message: &Message) -> Result<Changes, NoMemory>
         ensures ok { IfOk result (λ changes. changes ≡ changes_of self.now message.now) }
         ensures err { OnErr result (asks_memory self.now message.now ≡ true) }
@@ -244,11 +250,12 @@ impl Ledger {
         })
     }
 
-    /// Posts an entry with what it changes, as `plan` told it for the entry's message on this ledger. The entry's
-    /// station is in the setup and has not signed off, its number is the station's next and at most [`LAST_NUMBER`], and
-    /// its verdict is that of `judge`.
+    /// Posts an entry with its changes, which must be those that [`plan`](Self::plan) returns for
+    /// the entry's message. The entry's station must be in the setup and not have signed off. Its
+    /// number must be the station's next, and at most [`LAST_NUMBER`]. Its verdict must be that of
+    /// [`judge`](Self::judge).
     ///
-    /// All growths come first: after NoMemory the ledger is unchanged.
+    /// Fails with `NoMemory`, and then the ledger is unchanged.
     pub fn apply(&mut self, alloc: Global, entry: &Entry, changes: &Changes) -> Result<(), NoMemory>
         requires follows { Follows self.old.museum self.old.depth self.old.posted entry.now }
         requires planned { changes.now ≡ changes_of self.old entry.now.message }
@@ -279,8 +286,9 @@ impl Ledger {
 }
 
 impl Ledger {
-    /// The verdict of `judge`, with where the message puts its thing under it, what that carries, where it was gathered, and
-    /// the number of the loan that goes on.
+    /// Judges a message as `judge` does, and returns what that has found: where the message puts
+    /// its thing, what the thing carries if it was already gathered, and the number of the loan
+    /// that the message continues.
     fn judged(&self, alloc: Global, message: &Message) -> Result<Judged, NoMemory>
         ensures verdict { IfOk result (λ judged. judged.verdict ≡ verdict_in self.now message.now) }
         ensures put { IfOk result (λ judged. judged.put
@@ -324,7 +332,7 @@ impl Ledger {
         }
     }
 
-    /// A loan's number, and what is kept of it, where it is agreed.
+    /// An agreed loan and its number. `None` if the loan isn't agreed.
     pub(crate) fn loan(&self, loan: &LoanCode) -> Option<(usize, &KeptLoan)>
         ensures number { option_map (λ found. found.0) result ≡ loan_no self.now.posted loan.now }
         ensures agreed { is_some result ≡ is_agreed self.now.posted loan.now }

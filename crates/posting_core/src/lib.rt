@@ -1,4 +1,23 @@
-//! The rules of posting, and the ledger that keeps what was posted.
+//! The ledger: judges messages by the museum's rules, posts them, and returns where things are and
+//! how far loans have come.
+//!
+//! A [`Message`] of a station is of one of nine kinds, such as a move or an exit. Its [`Verdict`]
+//! is `Applied`, or the first rule that it breaks. [`Ledger`] keeps the posted messages, each as an
+//! [`Entry`] with its verdict; a refused message is posted, too, and changes nothing else. A
+//! [`Spot`] is one location of a thing, current or former. A *loan line* is an object on a loan,
+//! with the [`LineStage`] that it has reached.
+//!
+//! Each answer of a ledger is that of looking back through its entries. [`Changes`] has exactly
+//! what posting a message changes. [`laws`] has what is true of every ledger: for example, each own
+//! object is home, or away under exactly one loan out.
+//!
+//! ```text
+//! let changes = ledger.plan(alloc, &message)?;
+//! let verdict = changes.verdict;
+//! let entry = Entry { station, n, message, verdict };
+//! ledger.apply(alloc, &entry, &changes)?;     // after NoMemory the ledger is unchanged
+//! ledger.place_of(thing)
+//! ```
 #![tactic(auto)]
 
 mod entry;
@@ -10,7 +29,7 @@ mod ledger;
 mod message;
 mod numbers;
 mod objects;
-mod placing;
+mod placement;
 mod posted_entry;
 mod recording;
 mod spot_rows;
@@ -28,11 +47,11 @@ pub use spots::Spots;
 pub use stage::{LineStage, LoanState};
 pub use verdict::Verdict;
 
-/// The most objects of a loan.
+/// The most objects that a loan can list.
 pub const MOST_OBJECTS: usize = 256;
 
-/// The greatest number of an entry among its station's.
+/// The greatest number that a station can give a message.
 pub const LAST_NUMBER: u32 = 999_999;
 
-/// The most entries that can be posted: those of 64 stations, each up to its last number.
+/// The most entries that can be posted: 64 stations, each up to [`LAST_NUMBER`].
 pub const MOST_ENTRIES: u32 = 63_999_936;

@@ -1,26 +1,27 @@
-//! What a station tells.
+//! The messages that stations send.
 ghost use Rattle.std.specs.Prelude.{◌≡◌, IfOk};
 
 use crate::Objects;
 use codes_core::{Day, LoanCode, Name, NoMemory, PlaceCode, ThingCode};
 use std::alloc::Global;
 
-/// A message of a station. In each kind the days, or else the name, stand first, so that the codes behind them are copied in
-/// whole words.
+/// A message of a station. In each kind the days or the name come first, so that the codes after
+/// them are copied in whole words.
 pub enum Message {
-    /// The thing is put straight at the place, on this day.
+    /// The thing was put directly at the place, on this day.
     Move {
         day: Day,
         thing: ThingCode,
         place: PlaceCode,
     },
-    /// The thing is put straight into the container, on this day.
+    /// The thing was put directly into the container, on this day.
     Pack {
         day: Day,
         thing: ThingCode,
         container: ThingCode,
     },
-    /// The loan is agreed with the partner at this place: its objects, its first day and its last.
+    /// The loan was agreed with the partner at this place, for these objects, from the first day to
+    /// the last.
     Agree {
         first: Day,
         last: Day,
@@ -28,43 +29,43 @@ pub enum Message {
         partner: PlaceCode,
         objects: Objects,
     },
-    /// The loan is authorised, and who authorises it.
+    /// The loan was authorised by the person with this name.
     Authorise {
         name: Name,
         loan: LoanCode,
     },
-    /// The thing leaves under the loan, to the partner's place, on this day.
+    /// Object exit: the thing left under the loan, to the partner's place, on this day.
     Exit {
         day: Day,
         thing: ThingCode,
         loan: LoanCode,
     },
-    /// The thing comes back under the loan out, to the place, on this day.
+    /// The thing came back under the loan out, to the place, on this day.
     Return {
         day: Day,
         thing: ThingCode,
         loan: LoanCode,
         place: PlaceCode,
     },
-    /// The thing comes under the loan in, to the place, on this day.
+    /// The thing arrived under the loan in, at the place, on this day.
     Receive {
         day: Day,
         thing: ThingCode,
         loan: LoanCode,
         place: PlaceCode,
     },
-    /// The station's last message, and who signs it.
+    /// The station's last message, signed by the person with this name.
     SignOff {
         name: Name,
     },
-    /// The loan gets a later last day.
+    /// The loan was extended to this last day.
     Extend {
         last: Day,
         loan: LoanCode,
     },
 }
 
-/// Written out, so that whoever drops a message calls it: a derived drop would stand whole at each of their ways out.
+/// Manual `Drop`: a derived one is inlined at every return and slows the proof.
 impl Drop for Message {
     fn drop(self) {
         match self {
@@ -110,7 +111,7 @@ impl Drop for Message {
 }
 
 impl Message {
-    /// Another message that says the same; else NoMemory.
+    /// Returns a copy of the message. Fails with `NoMemory`.
     pub fn copy(&self, alloc: Global) -> Result<Message, NoMemory>
         ensures { IfOk result (λ copy. copy ≡ self.now) }
     {

@@ -1,4 +1,4 @@
-//! The objects that a loan lists.
+//! The list of objects of a loan.
 ghost use Rattle.std.specs.Prelude.{◌≡◌, ◌<◌, ◌≤◌, length, Vec, MatchResult, IfOk};
 
 use crate::MOST_OBJECTS;
@@ -6,7 +6,8 @@ use codes_core::{NoMemory, ThingCode};
 use std::alloc::Global;
 use std::marker::Model;
 
-/// The codes that a loan lists, in the order given; at most [`MOST_OBJECTS`]. Seen as their list.
+/// The codes that a loan lists, in the order of the agreement, at most [`MOST_OBJECTS`]. Contracts
+/// see it as the list.
 #[derive(Drop)]
 pub struct Objects {
     codes: Vec<ThingCode>,
@@ -24,7 +25,8 @@ impl Model for Objects {
 }
 
 impl Objects {
-    /// These codes, of any kind; more than [`MOST_OBJECTS`] are handed back.
+    /// Makes a list of these codes, which may be of any kind. If there are more than
+    /// [`MOST_OBJECTS`], returns them as the error.
     pub fn new(codes: Vec<ThingCode>) -> Result<Objects, Vec<ThingCode>>
         ensures { MatchResult result
             (λ objects. (objects ≡ codes.items) × (length codes.items ≤ MOST_OBJECTS))
@@ -36,7 +38,7 @@ impl Objects {
         Ok(Objects { codes })
     }
 
-    /// The codes, in the order given.
+    /// The codes, in the order of the agreement.
     pub fn as_slice(&self) -> &[ThingCode]
         ensures codes { result.now ≡ self.now }
         ensures few { length self.now ≤ MOST_OBJECTS }
@@ -44,7 +46,7 @@ impl Objects {
         &self.codes
     }
 
-    /// Another list of the same codes; else NoMemory.
+    /// Returns a copy of the list. Fails with `NoMemory`.
     pub(crate) fn copy(&self, alloc: Global) -> Result<Objects, NoMemory>
         ensures { IfOk result (λ copy. copy ≡ self.now) }
     {

@@ -1,4 +1,4 @@
-//! Posted entries as they are kept.
+//! Posted entries, as a ledger keeps them.
 ghost use Rattle.std.specs.Prelude.{◌≡◌, IfOk};
 
 use crate::{Entry, KeptMessage, Verdict};
@@ -7,7 +7,8 @@ use nest_core::StationNo;
 use std::alloc::Global;
 use std::marker::Model;
 
-/// A posted entry as it is kept, seen as the entry. It takes 56 bytes, where an entry takes 104.
+/// A posted entry as it is kept: in 56 bytes, where an entry takes 104. Contracts see it as the
+/// entry.
 #[derive(Drop)]
 pub struct PostedEntry {
     station: StationNo,
@@ -26,7 +27,7 @@ impl Model for PostedEntry {
 }
 
 impl PostedEntry {
-    /// What keeps the entry. The fault: NoMemory.
+    /// Keeps a copy of the entry. Fails with `NoMemory`.
     pub(crate) fn new(alloc: Global, entry: &Entry) -> Result<PostedEntry, NoMemory>
         ensures { IfOk result (λ posted. posted ≡ entry.now) }
     {
@@ -39,28 +40,28 @@ impl PostedEntry {
         })
     }
 
-    /// Its station's number.
+    /// The number of the station.
     pub fn station(&self) -> StationNo
         ensures { result ≡ self.now.station }
     {
         self.station
     }
 
-    /// The number that the station gave its message.
+    /// The number that the station gave the message.
     pub fn n(&self) -> u32
         ensures { result ≡ self.now.n }
     {
         self.n
     }
 
-    /// Its verdict.
+    /// The verdict.
     pub fn verdict(&self) -> Verdict
         ensures { result ≡ self.now.verdict }
     {
         self.verdict
     }
 
-    /// Its message.
+    /// The message.
     pub fn message(&self) -> &KeptMessage
         ensures { result.now ≡ self.now.message }
     {

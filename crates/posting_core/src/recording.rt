@@ -1,4 +1,4 @@
-//! What an entry writes of the loans.
+//! What an entry changes in the loans.
 ghost use Rattle.std.specs.Prelude.{◌≡◌, true, is_some, if◌then◌else◌, IfSome, OnOk, OnErr};
 ghost use Rattle.posting_core.specs.declared.verdict.Verdict.TheVariants.{Applied};
 ghost use Rattle.posting_core.specs.VerdictNames.{is_applied};
@@ -12,8 +12,9 @@ use codes_core::NoMemory;
 use nest_core::Setup;
 use std::alloc::Global;
 
-/// Writes a message and its lines under this verdict; the loan that goes on by it, if one does, has this number. Only an
-/// agreement takes memory; after NoMemory the loans are unchanged.
+/// Records a message and its loan lines; under any other verdict than `Applied`, nothing changes.
+/// `loan` is the number of the loan that the message continues, if it continues one. Fails with
+/// `NoMemory`, but only for an agreement, and then the loans are unchanged.
 pub(crate) fn record(
     alloc: Global,
     loans: &mut KeptLoans,
@@ -37,7 +38,7 @@ pub(crate) fn record(
     }
 }
 
-/// Writes an applied message and its lines.
+/// Records an applied message and its loan lines. Fails as `record` does.
 fn write(
     alloc: Global,
     loans: &mut KeptLoans,

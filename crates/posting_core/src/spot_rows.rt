@@ -1,4 +1,4 @@
-//! The spots of all things in one list.
+//! The spots of all things, in one list.
 ghost use Rattle.std.specs.Prelude.{◌≡◌, ◌<◌, ◌≤◌, ◌+◌, ◌∷◌, [], length, replicate, All, IfOk, OnOk};
 ghost use Rattle.posting_core.specs.Rows.{row_of, rows_after};
 
@@ -8,23 +8,26 @@ use nest_core::ThingNo;
 use std::alloc::{AllocError, Global};
 use std::marker::Model;
 
-/// How many spots a thing has and, where it has any, at which index of the list the last of them stands.
+/// The number of spots that a thing has, and the index of the last one in the list. Without any
+/// spots the index has no meaning.
 #[derive(Clone, Copy)]
 pub(crate) struct LastSpot {
     pub(crate) at: usize,
     pub(crate) count: usize,
 }
 
-/// A spot in the list, and at which index the one stands that its thing had before, if there is one.
+/// A spot in the list, and the index of the thing's previous spot, if it has one.
 #[derive(Clone, Copy)]
 pub(crate) struct KeptSpot {
     pub(crate) spot: Spot,
     pub(crate) before: usize,
 }
 
-/// The spots of all things in one list, each with where the one stands that its thing had before; seen as each thing's
-/// spots, oldest first, and for how many more there is room. Only that list grows, so a message that moves many things
-/// makes room for all of them at once.
+/// The spots of all things in one list, each linking to the thing's previous spot. Contracts see
+/// each thing's spots, oldest first, and for how many more there is room.
+///
+/// Only that one list grows, so a message that moves many things makes room for all of them at
+/// once.
 #[derive(Drop)]
 pub(crate) struct SpotRows {
     last: Vec<LastSpot>,
@@ -46,7 +49,7 @@ impl Model for SpotRows {
 }
 
 impl SpotRows {
-    /// So many things, each without a spot.
+    /// The rows of this many things without any spots. Fails with `NoMemory`.
     pub(crate) fn new(alloc: Global, things: u32) -> Result<SpotRows, NoMemory>
         ensures { IfOk result (λ spots. spots.rows ≡ replicate things []) }
     {
@@ -56,7 +59,8 @@ impl SpotRows {
         Ok(SpotRows { last, spots })
     }
 
-    /// Makes room for so many more spots, of whatever things.
+    /// Makes room for this many more spots, of any things. Fails with `AllocError`. The spots stay
+    /// as they are.
     pub(crate) fn reserve(&mut self, more: usize) -> Result<(), AllocError>
         ensures rows { self.new.rows ≡ self.old.rows }
         ensures room { OnOk result (more ≤ self.new.room) }
@@ -64,7 +68,8 @@ impl SpotRows {
         self.spots.reserve(more)
     }
 
-    /// Each spot becomes the last of its thing, in turn.
+    /// Adds these spots, one after another, each as the last of its thing. There must be room for
+    /// all.
     pub(crate) fn push_all(&mut self, news: &[NewSpot])
         requires room { length news.now ≤ self.old.room }
         requires within { All (λ s. s.thing < length self.old.rows) news.now }
@@ -75,7 +80,7 @@ impl SpotRows {
         }
     }
 
-    /// The spot becomes the last of its thing.
+    /// Adds a spot as the last of its thing. There must be room for it.
     fn push(&mut self, new: NewSpot)
         requires room { 0 < self.old.room }
         requires within { new.thing < length self.old.rows }
@@ -92,7 +97,7 @@ impl SpotRows {
         self.last[new.thing as usize] = LastSpot { at, count };
     }
 
-    /// How many spots a thing has.
+    /// The number of spots that a thing has.
     pub(crate) fn count_of(&self, thing: ThingNo) -> usize
         requires { thing < length self.now.rows }
         ensures { result ≡ length (row_of self.now.rows thing) }

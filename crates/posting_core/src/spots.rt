@@ -1,4 +1,4 @@
-//! The spots of a thing, from the last one back.
+//! The spots of one thing, read from the last one back.
 ghost use Rattle.std.specs.Prelude.{◌≡◌, ◌<◌, ◌++◌, ◌∷◌, [], length, IfOk, OnErr, IfSome, IfNone};
 ghost use Rattle.posting_core.specs.SpotRows.{spots_at, LeadBack};
 
@@ -8,10 +8,12 @@ use codes_core::NoMemory;
 use std::alloc::Global;
 use std::marker::Model;
 
-/// The spots of a thing, told from the last one back; seen as those that are left, oldest first.
+/// Reads the spots of one thing from the last one back. Contracts see the spots that are left,
+/// oldest first.
 #[derive(Drop)]
 pub struct Spots<'a> {
-    // the spots of all things, where the thing's last one stands that is left, and how many are left
+    // the spots of all things, the index of the thing's last spot that is left, and how many are
+    // left
     kept: &'a [KeptSpot],
     at: usize,
     left: usize,
@@ -30,7 +32,7 @@ impl<'a> Model for Spots<'a> {
 }
 
 impl<'a> Spots<'a> {
-    /// The spots of the thing whose last one is this, among those of all things.
+    /// The spots of the thing whose last spot this is, in the list of those of all things.
     pub(crate) fn new(kept: &'a [KeptSpot], last: LastSpot) -> Spots<'a>
         requires { LeadBack kept.now last.at last.count }
         ensures { result ≡ spots_at kept.now last.at last.count }
@@ -42,10 +44,10 @@ impl<'a> Spots<'a> {
         }
     }
 
-    /// The last that is left.
+    /// Returns the last spot that is left. At the end it returns `None`, and stays there.
     pub fn next_back(&mut self) -> Option<Spot>
         ensures last { IfSome result (λ spot. self.old ≡ self.new ++ spot ∷ []) }
-        ensures none { IfNone result (self.old ≡ []) }
+        ensures none { IfNone result ((self.old ≡ []) × (self.new ≡ [])) }
     {
         if self.left == 0 {
             return None;
@@ -56,7 +58,8 @@ impl<'a> Spots<'a> {
         Some(kept.spot)
     }
 
-    /// Those that are left, oldest first; else NoMemory, which comes only where there is one.
+    /// Returns the spots that are left, oldest first. Fails with `NoMemory`, but only if there is
+    /// one.
     pub fn to_vec(self, alloc: Global) -> Result<Vec<Spot>, NoMemory>
         ensures spots { IfOk result (λ spots. spots.items ≡ self.entry) }
         ensures err { OnErr result (0 < length self.entry) }

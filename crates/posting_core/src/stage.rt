@@ -1,13 +1,13 @@
-//! How far an object has come under a loan, and how far the loan has.
+//! The stages of a loan line, and the states of a loan.
 ghost use Rattle.std.specs.Prelude.{◌≡◌, ◌≢◌, IfSome, IfNone};
 ghost use Rattle.posting_core.specs.StageNumbers.{stage_number};
 
-/// How far an object has come under a loan that lists it.
+/// How far an object has come under a loan that lists it: the stage of its loan line.
 #[derive(Clone, Copy, Debug, PartialEq, Eq, PartialOrd, Ord)]
 pub enum LineStage {
-    /// It has not crossed yet.
+    /// It is still expected: it has not crossed yet.
     Awaiting,
-    /// It is out, under a loan out.
+    /// It is away, under a loan out.
     Away,
     /// It came back, under a loan out.
     Back,
@@ -20,7 +20,7 @@ pub enum LineStage {
 impl LineStage {
     ghost use Rattle.posting_core.specs.declared.stage.LineStage.{LineStage};
 
-    /// The number by which a store keeps it, from 0, which is Awaiting.
+    /// The number by which a store keeps the stage. `Awaiting` is 0.
     pub fn number(self) -> u32
         ensures { result ≡ stage_number self }
     {
@@ -33,7 +33,7 @@ impl LineStage {
         }
     }
 
-    /// The stage that a store keeps by this number; none above 4.
+    /// The stage with this number, or `None` above 4.
     pub fn numbered(number: u32) -> Option<LineStage>
         ensures some { IfSome result (λ stage. stage_number stage ≡ number) }
         ensures none { IfNone result ((stage : LineStage) → stage_number stage ≢ number) }
@@ -58,6 +58,6 @@ pub enum LoanState {
     Authorised,
     /// Some object has crossed, and not all are back or given back.
     Running,
-    /// Every object is back or given back.
+    /// It is authorised, and every object is back or given back.
     Closed,
 }

@@ -1,43 +1,45 @@
-//! The verdicts.
+//! The verdicts of messages.
 ghost use Rattle.std.specs.Prelude.{◌≡◌, ◌≢◌, IfSome, IfNone};
 ghost use Rattle.posting_core.specs.VerdictNames.{verdict_number, verdict_name};
 
-/// What the rules say to a message, in the order in which they are asked: the first refusal that holds, else Applied.
+/// The result of judging a message: `Applied`, or the reason why it is refused. If several reasons
+/// apply, the verdict is the first in this order. Not every kind of message has every reason.
 #[derive(Clone, Copy, Debug, PartialEq, Eq)]
 pub enum Verdict {
-    /// No refusal holds: the message stands.
+    /// No rule is broken: the message takes effect.
     Applied,
-    /// The setup doesn't have the thing, or one of the objects.
+    /// The setup doesn't have the thing, or one of the loan's objects.
     UnknownThing,
-    /// The setup doesn't have the place, or the partner's.
+    /// The setup doesn't have the place, or the partner's place.
     UnknownPlace,
-    /// The place is a partner's.
+    /// The place is a partner's, not the museum's.
     ElsewherePlace,
-    /// The setup doesn't have the container, or that is an object.
+    /// The setup doesn't have the container, or the code isn't a container's.
     UnknownContainer,
     /// The loan isn't agreed.
     UnknownLoan,
-    /// The loan is agreed already.
+    /// The loan is already agreed.
     LoanKnown,
-    /// The partner's place is the museum's own.
+    /// The partner's place belongs to the museum.
     InsidePartner,
-    /// No objects are listed.
+    /// The agreement lists no objects.
     NoObjects,
-    /// A container is listed, is received, or exits under a loan in.
+    /// A container is listed or received, or exits under a loan in.
     NotObject,
     /// An object is listed twice.
     Repeated,
     /// A loan out lists a borrowed object, or a loan in an own one.
     WrongOwner,
-    /// The last day is before the first.
+    /// The last day is before the first day.
     BadTerm,
-    /// The loan is authorised already.
+    /// The loan is already authorised.
     AlreadyAuthorised,
     /// The loan isn't authorised.
     NotAuthorised,
-    /// A return under a loan in, or a receipt under a loan out.
+    /// It is a return under a loan in, or a receipt under a loan out.
     WrongDirection,
-    /// The thing is elsewhere, or is borrowed and has no place yet; of an exit: it isn't inside.
+    /// The thing is elsewhere, or it is borrowed and has no place yet. For an exit: the thing isn't
+    /// inside.
     NotHere,
     /// The container isn't inside.
     ContainerNotHere,
@@ -45,24 +47,24 @@ pub enum Verdict {
     Cycle,
     /// Some thing would have more containers above it than the depth limit.
     TooDeep,
-    /// The thing's place isn't that of the loan's partner.
+    /// The thing isn't at the place of the loan's partner.
     NotWithPartner,
     /// The thing is inside.
     AlreadyHere,
-    /// An object that crosses isn't on the loan's list.
+    /// The loan doesn't list an object that crosses.
     NotListed,
-    /// The line of an object that crosses isn't at the stage before.
+    /// The loan line of an object that crosses isn't at the stage that the crossing needs.
     WrongStage,
-    /// The day is after the loan's last day; never of an exit under a loan in.
+    /// The day is after the loan's last day. A return, and an exit under a loan in, may be late.
     TermOver,
-    /// The new last day isn't after the loan's last day.
+    /// The new last day isn't after the present one.
     NotLater,
 }
 
 impl Verdict {
     ghost use Rattle.posting_core.specs.declared.verdict.Verdict.{Verdict};
 
-    /// Its number in the table of verdicts, from 0, which is Applied.
+    /// The number by which a store keeps the verdict. `Applied` is 0.
     pub fn number(self) -> u32
         ensures { result ≡ verdict_number self }
     {
@@ -96,7 +98,7 @@ impl Verdict {
         }
     }
 
-    /// The verdict of a number of the table; none above 25.
+    /// The verdict with this number, or `None` above 25.
     pub fn numbered(number: u32) -> Option<Verdict>
         ensures some { IfSome result (λ verdict. verdict_number verdict ≡ number) }
         ensures none { IfNone result ((verdict : Verdict) → verdict_number verdict ≢ number) }
@@ -132,7 +134,7 @@ impl Verdict {
         }
     }
 
-    /// Its name.
+    /// The name of the verdict.
     pub fn name(self) -> &'static str
         ensures { result.now ≡ verdict_name self }
     {

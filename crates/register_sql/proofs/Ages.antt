@@ -9,7 +9,8 @@ use Rattle.register_store.specs.StoredRows.{MetaRow}
 use Rattle.register_sql.specs.Ages.{version_row, LacksRow, IsFirst}
 use Rattle.register_sql.specs.Rows.{meta_cells}
 
-default_free : (rows : List Row) (i : ℕ) (d e : Row) → i < length rows → slice_index_or rows i d ≡ slice_index_or rows i e
+default_free : (rows : List Row) (i : ℕ) (d e : Row) → i < length rows
+    → slice_index_or rows i d ≡ slice_index_or rows i e
 default_free [] i d e low = absurd (omega (arith, low))
 default_free (x ∷ xs) zero d e low = refl
 default_free (x ∷ xs) (suc i) d e low = default_free xs i d e (omega (arith, low))
@@ -38,49 +39,69 @@ all_either : (rows : List Row) → IsFirst rows → AllByRecursion IsEither rows
 all_either rows h = all-permutation IsEither _ _ h (inl refl, (inr refl, tt))
 
 not_alike : (r : Row) (rows : List Row) → IsFirst rows → AllByRecursion (λ x. x ≡ r) rows → ⊥
-not_alike r rows h all = let both = all-permutation (λ x. x ≡ r) _ _ (IsPermutation-sym _ _ h) all in differ (both.0 ∙ sym both.1.0)
+not_alike r rows h all = let both =
+    all-permutation (λ x. x ≡ r) _ _ (IsPermutation-sym _ _ h) all in differ (both.0 ∙ sym both.1.0)
 
-either_order : (a b : Row) → IsFirst (a ∷ b ∷ []) → ((a ≡ first_version) × (b ≡ first_depth)) ⊎ ((b ≡ first_version) × (a ≡ first_depth))
+either_order : (a b : Row) → IsFirst (a ∷ b ∷ []) → ((a ≡ first_version) × (b ≡ first_depth))
+    ⊎ ((b ≡ first_version) × (a ≡ first_depth))
 either_order a b h = go (all_either (a ∷ b ∷ []) h).0 (all_either (a ∷ b ∷ []) h).1.0
   where
-    go : IsEither a → IsEither b → ((a ≡ first_version) × (b ≡ first_depth)) ⊎ ((b ≡ first_version) × (a ≡ first_depth))
+    go : IsEither a → IsEither b → ((a ≡ first_version) × (b ≡ first_depth))
+        ⊎ ((b ≡ first_version) × (a ≡ first_depth))
     go (inl p) (inr q) = inl (p, q)
     go (inr p) (inl q) = inr (q, p)
     go (inl p) (inl q) = absurd (not_alike first_version (a ∷ b ∷ []) h (p, (q, tt)))
     go (inr p) (inr q) = absurd (not_alike first_depth (a ∷ b ∷ []) h (p, (q, tt)))
 
-pub are_pair : (rows : List Row) (a b : Row) (first : Bool) → rows ≡ a ∷ b ∷ [] → first ≡ true → Decides first ((a ≡ first_version) × (b ≡ first_depth)) → Decides true (IsFirst rows)
-are_pair rows a b first is fit d = ((λ _. let p = d.0 fit in subst IsFirst (sym is) (one_order a b p.0 p.1)), λ _. refl)
+pub are_pair : (rows : List Row) (a b : Row) (first : Bool) → rows ≡ a ∷ b ∷ [] → first ≡ true
+    → Decides first ((a ≡ first_version) × (b ≡ first_depth)) → Decides true (IsFirst rows)
+are_pair rows a b first is fit d =
+    ((λ _. let p = d.0 fit in subst IsFirst (sym is) (one_order a b p.0 p.1)), λ _. refl)
 
-pub else_pair : (rows : List Row) (a b : Row) (first second : Bool) → rows ≡ a ∷ b ∷ [] → first ≡ false → Decides first ((a ≡ first_version) × (b ≡ first_depth)) → Decides second ((b ≡ first_version) × (a ≡ first_depth))
+pub else_pair : (rows : List Row) (a b : Row) (first second : Bool) → rows ≡ a ∷ b ∷ []
+    → first ≡ false → Decides first ((a ≡ first_version) × (b ≡ first_depth))
+    → Decides second ((b ≡ first_version) × (a ≡ first_depth))
     → Decides second (IsFirst rows)
 else_pair rows a b first second is unfit d e = (
   λ yes. let p = e.0 yes in subst IsFirst (sym is) (other_order a b p.0 p.1),
   λ h. go (either_order a b (subst IsFirst is h)),
 )
   where
-    go : ((a ≡ first_version) × (b ≡ first_depth)) ⊎ ((b ≡ first_version) × (a ≡ first_depth)) → second ≡ true
+    go : ((a ≡ first_version) × (b ≡ first_depth)) ⊎ ((b ≡ first_version) × (a ≡ first_depth))
+        → second ≡ true
     go (inl p) = absurd (let f : true ≡ false = sym (d.1 p) ∙ unfit in cc)
     go (inr p) = e.1 p
 
 pub no_pair : (rows : List Row) → length rows ≢ 2 → Decides false (IsFirst rows)
-no_pair rows other = ((λ f. absurd (let e : false ≡ true = f in cc)), λ h. absurd (other (length_permutation _ _ h)))
+no_pair rows other = ((λ f. absurd (let e : false ≡ true = f in cc)),
+    λ h. absurd (other (length_permutation _ _ h)))
 
 -- ---- none says the version
 
-pub none_next : (version : ℕ) (rows : List Row) (at : ℕ) (row : Row) → at < length rows → row ≡ slice_index_or rows at row → row ≢ meta_cells (version_row version)
-    → ((k : ℕ) (d : Row) → k < at → slice_index_or rows k d ≢ meta_cells (version_row version)) → (k : ℕ) (d : Row) → k < at + 1 → slice_index_or rows k d ≢ meta_cells (version_row version)
+pub none_next : (version : ℕ) (rows : List Row) (at : ℕ) (row : Row) → at < length rows
+    → row ≡ slice_index_or rows at row → row ≢ meta_cells (version_row version)
+    → ((k : ℕ) (d : Row) → k < at → slice_index_or rows k d ≢ meta_cells (version_row version))
+        → (k : ℕ) (d : Row) → k < at + 1
+        → slice_index_or rows k d ≢ meta_cells (version_row version)
 none_next version rows at row inside is unfit before k d low said = go (ltb k at) refl
   where
     go : (t : Bool) → ltb k at ≡ t → ⊥
     go true less = before k d (ltb-true k at less) said
     go false more =
         let here : k ≡ at = omega (arith, low, ltb-false k at more) in
-        let same : slice_index_or rows k d ≡ row = ap (λ i. slice_index_or rows i d) here ∙ default_free rows at d row inside ∙ sym is in
+        let same : slice_index_or rows k d ≡ row =
+            ap (λ i. slice_index_or rows i d) here ∙ default_free rows at d row inside ∙ sym is in
         unfit (sym same ∙ said)
 
-pub none_at_all : (version : ℕ) (rows : List Row) (at : ℕ) → length rows ≤ at → ((k : ℕ) (d : Row) → k < at → slice_index_or rows k d ≢ meta_cells (version_row version)) → Decides true (LacksRow version rows)
-none_at_all version rows at low none = ((λ _ k d inside. none k d (omega (arith, low, inside))), λ _. refl)
+pub none_at_all : (version : ℕ) (rows : List Row) (at : ℕ) → length rows ≤ at
+    → ((k : ℕ) (d : Row) → k < at → slice_index_or rows k d ≢ meta_cells (version_row version))
+    → Decides true (LacksRow version rows)
+none_at_all version rows at low none =
+    ((λ _ k d inside. none k d (omega (arith, low, inside))), λ _. refl)
 
-pub one_says : (version : ℕ) (rows : List Row) (at : ℕ) (row : Row) → at < length rows → row ≡ slice_index_or rows at row → row ≡ meta_cells (version_row version) → Decides false (LacksRow version rows)
-one_says version rows at row inside is fit = ((λ f. absurd (let e : false ≡ true = f in cc)), λ lacks. absurd (lacks at row inside (sym is ∙ fit)))
+pub one_says : (version : ℕ) (rows : List Row) (at : ℕ) (row : Row) → at < length rows
+    → row ≡ slice_index_or rows at row → row ≡ meta_cells (version_row version)
+    → Decides false (LacksRow version rows)
+one_says version rows at row inside is fit =
+    ((λ f. absurd (let e : false ≡ true = f in cc)),
+    λ lacks. absurd (lacks at row inside (sym is ∙ fit)))

@@ -42,28 +42,40 @@ names_of LineIds = codes "rowid" ∷ []
 names_of TermIds = codes "rowid" ∷ []
 
 abbrev IsListed : Query → ℕ → Type 0
-IsListed query made = IsListing (prefix made) (text_of query) (tree_of query) (columns_of query) (names_of query)
+IsListed query made = IsListing (prefix made) (text_of query) (tree_of query) (columns_of query)
+    (names_of query)
 
 asks_metas : (made : ℕ) → 1 ≤ made → made ≤ 6 → IsListed Metas made
 unfolding understood everything
 asks_metas zero some few = absurd (omega (arith, some))
-asks_metas (suc zero) some few = record { command = refl; unlisted = refl; plain = (refl, refl); bare = λ db. refl }
-asks_metas (suc (suc zero)) some few = record { command = refl; unlisted = refl; plain = (refl, refl); bare = λ db. refl }
-asks_metas (suc (suc (suc zero))) some few = record { command = refl; unlisted = refl; plain = (refl, refl); bare = λ db. refl }
-asks_metas (suc (suc (suc (suc zero)))) some few = record { command = refl; unlisted = refl; plain = (refl, refl); bare = λ db. refl }
-asks_metas (suc (suc (suc (suc (suc zero))))) some few = record { command = refl; unlisted = refl; plain = (refl, refl); bare = λ db. refl }
-asks_metas (suc (suc (suc (suc (suc (suc zero)))))) some few = record { command = refl; unlisted = refl; plain = (refl, refl); bare = λ db. refl }
+asks_metas (suc zero) some few =
+    record { command = refl; unlisted = refl; plain = (refl, refl); bare = λ db. refl }
+asks_metas (suc (suc zero)) some few =
+    record { command = refl; unlisted = refl; plain = (refl, refl); bare = λ db. refl }
+asks_metas (suc (suc (suc zero))) some few =
+    record { command = refl; unlisted = refl; plain = (refl, refl); bare = λ db. refl }
+asks_metas (suc (suc (suc (suc zero)))) some few =
+    record { command = refl; unlisted = refl; plain = (refl, refl); bare = λ db. refl }
+asks_metas (suc (suc (suc (suc (suc zero))))) some few =
+    record { command = refl; unlisted = refl; plain = (refl, refl); bare = λ db. refl }
+asks_metas (suc (suc (suc (suc (suc (suc zero)))))) some few =
+    record { command = refl; unlisted = refl; plain = (refl, refl); bare = λ db. refl }
 asks_metas (suc (suc (suc (suc (suc (suc (suc made))))))) some few = absurd (omega (arith, few))
 
 asks_setups : (made : ℕ) → 2 ≤ made → made ≤ 6 → IsListed Setups made
 unfolding understood everything
 asks_setups zero some few = absurd (omega (arith, some))
 asks_setups (suc zero) some few = absurd (omega (arith, some))
-asks_setups (suc (suc zero)) some few = record { command = refl; unlisted = refl; plain = (refl, refl); bare = λ db. refl }
-asks_setups (suc (suc (suc zero))) some few = record { command = refl; unlisted = refl; plain = (refl, refl); bare = λ db. refl }
-asks_setups (suc (suc (suc (suc zero)))) some few = record { command = refl; unlisted = refl; plain = (refl, refl); bare = λ db. refl }
-asks_setups (suc (suc (suc (suc (suc zero))))) some few = record { command = refl; unlisted = refl; plain = (refl, refl); bare = λ db. refl }
-asks_setups (suc (suc (suc (suc (suc (suc zero)))))) some few = record { command = refl; unlisted = refl; plain = (refl, refl); bare = λ db. refl }
+asks_setups (suc (suc zero)) some few =
+    record { command = refl; unlisted = refl; plain = (refl, refl); bare = λ db. refl }
+asks_setups (suc (suc (suc zero))) some few =
+    record { command = refl; unlisted = refl; plain = (refl, refl); bare = λ db. refl }
+asks_setups (suc (suc (suc (suc zero)))) some few =
+    record { command = refl; unlisted = refl; plain = (refl, refl); bare = λ db. refl }
+asks_setups (suc (suc (suc (suc (suc zero))))) some few =
+    record { command = refl; unlisted = refl; plain = (refl, refl); bare = λ db. refl }
+asks_setups (suc (suc (suc (suc (suc (suc zero)))))) some few =
+    record { command = refl; unlisted = refl; plain = (refl, refl); bare = λ db. refl }
 asks_setups (suc (suc (suc (suc (suc (suc (suc made))))))) some few = absurd (omega (arith, few))
 
 asks_postings : (made : ℕ) → 5 ≤ made → made ≤ 6 → IsListed Postings made
@@ -73,8 +85,10 @@ asks_postings (suc zero) some few = absurd (omega (arith, some))
 asks_postings (suc (suc zero)) some few = absurd (omega (arith, some))
 asks_postings (suc (suc (suc zero))) some few = absurd (omega (arith, some))
 asks_postings (suc (suc (suc (suc zero)))) some few = absurd (omega (arith, some))
-asks_postings (suc (suc (suc (suc (suc zero))))) some few = record { command = refl; unlisted = refl; plain = (refl, refl); bare = λ db. refl }
-asks_postings (suc (suc (suc (suc (suc (suc zero)))))) some few = record { command = refl; unlisted = refl; plain = (refl, refl); bare = λ db. refl }
+asks_postings (suc (suc (suc (suc (suc zero))))) some few =
+    record { command = refl; unlisted = refl; plain = (refl, refl); bare = λ db. refl }
+asks_postings (suc (suc (suc (suc (suc (suc zero)))))) some few =
+    record { command = refl; unlisted = refl; plain = (refl, refl); bare = λ db. refl }
 asks_postings (suc (suc (suc (suc (suc (suc (suc made))))))) some few = absurd (omega (arith, few))
 
 asks_spots : (made : ℕ) → 6 ≤ made → made ≤ 6 → IsListed Spots made
@@ -85,7 +99,8 @@ asks_spots (suc (suc zero)) some few = absurd (omega (arith, some))
 asks_spots (suc (suc (suc zero))) some few = absurd (omega (arith, some))
 asks_spots (suc (suc (suc (suc zero)))) some few = absurd (omega (arith, some))
 asks_spots (suc (suc (suc (suc (suc zero))))) some few = absurd (omega (arith, some))
-asks_spots (suc (suc (suc (suc (suc (suc zero)))))) some few = record { command = refl; unlisted = refl; plain = (refl, refl); bare = λ db. refl }
+asks_spots (suc (suc (suc (suc (suc (suc zero)))))) some few =
+    record { command = refl; unlisted = refl; plain = (refl, refl); bare = λ db. refl }
 asks_spots (suc (suc (suc (suc (suc (suc (suc made))))))) some few = absurd (omega (arith, few))
 
 asks_lines : (made : ℕ) → 6 ≤ made → made ≤ 6 → IsListed Lines made
@@ -96,7 +111,8 @@ asks_lines (suc (suc zero)) some few = absurd (omega (arith, some))
 asks_lines (suc (suc (suc zero))) some few = absurd (omega (arith, some))
 asks_lines (suc (suc (suc (suc zero)))) some few = absurd (omega (arith, some))
 asks_lines (suc (suc (suc (suc (suc zero))))) some few = absurd (omega (arith, some))
-asks_lines (suc (suc (suc (suc (suc (suc zero)))))) some few = record { command = refl; unlisted = refl; plain = (refl, refl); bare = λ db. refl }
+asks_lines (suc (suc (suc (suc (suc (suc zero)))))) some few =
+    record { command = refl; unlisted = refl; plain = (refl, refl); bare = λ db. refl }
 asks_lines (suc (suc (suc (suc (suc (suc (suc made))))))) some few = absurd (omega (arith, few))
 
 asks_terms : (made : ℕ) → 6 ≤ made → made ≤ 6 → IsListed Terms made
@@ -107,29 +123,41 @@ asks_terms (suc (suc zero)) some few = absurd (omega (arith, some))
 asks_terms (suc (suc (suc zero))) some few = absurd (omega (arith, some))
 asks_terms (suc (suc (suc (suc zero)))) some few = absurd (omega (arith, some))
 asks_terms (suc (suc (suc (suc (suc zero))))) some few = absurd (omega (arith, some))
-asks_terms (suc (suc (suc (suc (suc (suc zero)))))) some few = record { command = refl; unlisted = refl; plain = (refl, refl); bare = λ db. refl }
+asks_terms (suc (suc (suc (suc (suc (suc zero)))))) some few =
+    record { command = refl; unlisted = refl; plain = (refl, refl); bare = λ db. refl }
 asks_terms (suc (suc (suc (suc (suc (suc (suc made))))))) some few = absurd (omega (arith, few))
 
 asks_metaids : (made : ℕ) → 1 ≤ made → made ≤ 6 → IsListed MetaIds made
 unfolding understood everything
 asks_metaids zero some few = absurd (omega (arith, some))
-asks_metaids (suc zero) some few = record { command = refl; unlisted = refl; plain = (refl, refl); bare = λ db. refl }
-asks_metaids (suc (suc zero)) some few = record { command = refl; unlisted = refl; plain = (refl, refl); bare = λ db. refl }
-asks_metaids (suc (suc (suc zero))) some few = record { command = refl; unlisted = refl; plain = (refl, refl); bare = λ db. refl }
-asks_metaids (suc (suc (suc (suc zero)))) some few = record { command = refl; unlisted = refl; plain = (refl, refl); bare = λ db. refl }
-asks_metaids (suc (suc (suc (suc (suc zero))))) some few = record { command = refl; unlisted = refl; plain = (refl, refl); bare = λ db. refl }
-asks_metaids (suc (suc (suc (suc (suc (suc zero)))))) some few = record { command = refl; unlisted = refl; plain = (refl, refl); bare = λ db. refl }
+asks_metaids (suc zero) some few =
+    record { command = refl; unlisted = refl; plain = (refl, refl); bare = λ db. refl }
+asks_metaids (suc (suc zero)) some few =
+    record { command = refl; unlisted = refl; plain = (refl, refl); bare = λ db. refl }
+asks_metaids (suc (suc (suc zero))) some few =
+    record { command = refl; unlisted = refl; plain = (refl, refl); bare = λ db. refl }
+asks_metaids (suc (suc (suc (suc zero)))) some few =
+    record { command = refl; unlisted = refl; plain = (refl, refl); bare = λ db. refl }
+asks_metaids (suc (suc (suc (suc (suc zero))))) some few =
+    record { command = refl; unlisted = refl; plain = (refl, refl); bare = λ db. refl }
+asks_metaids (suc (suc (suc (suc (suc (suc zero)))))) some few =
+    record { command = refl; unlisted = refl; plain = (refl, refl); bare = λ db. refl }
 asks_metaids (suc (suc (suc (suc (suc (suc (suc made))))))) some few = absurd (omega (arith, few))
 
 asks_setupids : (made : ℕ) → 2 ≤ made → made ≤ 6 → IsListed SetupIds made
 unfolding understood everything
 asks_setupids zero some few = absurd (omega (arith, some))
 asks_setupids (suc zero) some few = absurd (omega (arith, some))
-asks_setupids (suc (suc zero)) some few = record { command = refl; unlisted = refl; plain = (refl, refl); bare = λ db. refl }
-asks_setupids (suc (suc (suc zero))) some few = record { command = refl; unlisted = refl; plain = (refl, refl); bare = λ db. refl }
-asks_setupids (suc (suc (suc (suc zero)))) some few = record { command = refl; unlisted = refl; plain = (refl, refl); bare = λ db. refl }
-asks_setupids (suc (suc (suc (suc (suc zero))))) some few = record { command = refl; unlisted = refl; plain = (refl, refl); bare = λ db. refl }
-asks_setupids (suc (suc (suc (suc (suc (suc zero)))))) some few = record { command = refl; unlisted = refl; plain = (refl, refl); bare = λ db. refl }
+asks_setupids (suc (suc zero)) some few =
+    record { command = refl; unlisted = refl; plain = (refl, refl); bare = λ db. refl }
+asks_setupids (suc (suc (suc zero))) some few =
+    record { command = refl; unlisted = refl; plain = (refl, refl); bare = λ db. refl }
+asks_setupids (suc (suc (suc (suc zero)))) some few =
+    record { command = refl; unlisted = refl; plain = (refl, refl); bare = λ db. refl }
+asks_setupids (suc (suc (suc (suc (suc zero))))) some few =
+    record { command = refl; unlisted = refl; plain = (refl, refl); bare = λ db. refl }
+asks_setupids (suc (suc (suc (suc (suc (suc zero)))))) some few =
+    record { command = refl; unlisted = refl; plain = (refl, refl); bare = λ db. refl }
 asks_setupids (suc (suc (suc (suc (suc (suc (suc made))))))) some few = absurd (omega (arith, few))
 
 asks_postingids : (made : ℕ) → 3 ≤ made → made ≤ 6 → IsListed PostingIds made
@@ -137,11 +165,16 @@ unfolding understood everything
 asks_postingids zero some few = absurd (omega (arith, some))
 asks_postingids (suc zero) some few = absurd (omega (arith, some))
 asks_postingids (suc (suc zero)) some few = absurd (omega (arith, some))
-asks_postingids (suc (suc (suc zero))) some few = record { command = refl; unlisted = refl; plain = (refl, refl); bare = λ db. refl }
-asks_postingids (suc (suc (suc (suc zero)))) some few = record { command = refl; unlisted = refl; plain = (refl, refl); bare = λ db. refl }
-asks_postingids (suc (suc (suc (suc (suc zero))))) some few = record { command = refl; unlisted = refl; plain = (refl, refl); bare = λ db. refl }
-asks_postingids (suc (suc (suc (suc (suc (suc zero)))))) some few = record { command = refl; unlisted = refl; plain = (refl, refl); bare = λ db. refl }
-asks_postingids (suc (suc (suc (suc (suc (suc (suc made))))))) some few = absurd (omega (arith, few))
+asks_postingids (suc (suc (suc zero))) some few =
+    record { command = refl; unlisted = refl; plain = (refl, refl); bare = λ db. refl }
+asks_postingids (suc (suc (suc (suc zero)))) some few =
+    record { command = refl; unlisted = refl; plain = (refl, refl); bare = λ db. refl }
+asks_postingids (suc (suc (suc (suc (suc zero))))) some few =
+    record { command = refl; unlisted = refl; plain = (refl, refl); bare = λ db. refl }
+asks_postingids (suc (suc (suc (suc (suc (suc zero)))))) some few =
+    record { command = refl; unlisted = refl; plain = (refl, refl); bare = λ db. refl }
+asks_postingids (suc (suc (suc (suc (suc (suc (suc made))))))) some few =
+    absurd (omega (arith, few))
 
 asks_lineids : (made : ℕ) → 5 ≤ made → made ≤ 6 → IsListed LineIds made
 unfolding understood everything
@@ -150,8 +183,10 @@ asks_lineids (suc zero) some few = absurd (omega (arith, some))
 asks_lineids (suc (suc zero)) some few = absurd (omega (arith, some))
 asks_lineids (suc (suc (suc zero))) some few = absurd (omega (arith, some))
 asks_lineids (suc (suc (suc (suc zero)))) some few = absurd (omega (arith, some))
-asks_lineids (suc (suc (suc (suc (suc zero))))) some few = record { command = refl; unlisted = refl; plain = (refl, refl); bare = λ db. refl }
-asks_lineids (suc (suc (suc (suc (suc (suc zero)))))) some few = record { command = refl; unlisted = refl; plain = (refl, refl); bare = λ db. refl }
+asks_lineids (suc (suc (suc (suc (suc zero))))) some few =
+    record { command = refl; unlisted = refl; plain = (refl, refl); bare = λ db. refl }
+asks_lineids (suc (suc (suc (suc (suc (suc zero)))))) some few =
+    record { command = refl; unlisted = refl; plain = (refl, refl); bare = λ db. refl }
 asks_lineids (suc (suc (suc (suc (suc (suc (suc made))))))) some few = absurd (omega (arith, few))
 
 asks_termids : (made : ℕ) → 6 ≤ made → made ≤ 6 → IsListed TermIds made
@@ -162,7 +197,8 @@ asks_termids (suc (suc zero)) some few = absurd (omega (arith, some))
 asks_termids (suc (suc (suc zero))) some few = absurd (omega (arith, some))
 asks_termids (suc (suc (suc (suc zero)))) some few = absurd (omega (arith, some))
 asks_termids (suc (suc (suc (suc (suc zero))))) some few = absurd (omega (arith, some))
-asks_termids (suc (suc (suc (suc (suc (suc zero)))))) some few = record { command = refl; unlisted = refl; plain = (refl, refl); bare = λ db. refl }
+asks_termids (suc (suc (suc (suc (suc (suc zero)))))) some few =
+    record { command = refl; unlisted = refl; plain = (refl, refl); bare = λ db. refl }
 asks_termids (suc (suc (suc (suc (suc (suc (suc made))))))) some few = absurd (omega (arith, few))
 
 pub listed : (query : Query) (made : ℕ) → least_of query ≤ made → made ≤ 6 → IsListed query made
@@ -178,7 +214,8 @@ listed PostingIds = asks_postingids
 listed LineIds = asks_lineids
 listed TermIds = asks_termids
 
-shows_is : (query : Query) → shows_of (ordered_by_rowid (tree_of query) (columns_of query)) ≡ shown_by query
+shows_is : (query : Query) → shows_of (ordered_by_rowid (tree_of query) (columns_of query))
+    ≡ shown_by query
 shows_is Metas = refl
 shows_is Setups = refl
 shows_is Postings = refl
@@ -192,36 +229,59 @@ shows_is LineIds = refl
 shows_is TermIds = refl
 
 -- what is read is what the table shows
-pub rows_read : (query : Query) (made : ℕ) → least_of query ≤ made → made ≤ 6 → (old new : State) (r : Result (Vec Row Global) Error) → old.now.schema ≡ prefix made
-    → IfOk r (λ rows. Shown (text_of query) [] old new rows.items) → IfOk r (λ rows. IsPermutation (shown_in query old.now.trees) rows.items)
+pub rows_read : (query : Query) (made : ℕ) → least_of query ≤ made → made ≤ 6
+    → (old new : State) (r : Result (Vec Row Global) Error) → old.now.schema ≡ prefix made
+    → IfOk r (λ rows. Shown (text_of query) [] old new rows.items)
+        → IfOk r (λ rows. IsPermutation (shown_in query old.now.trees) rows.items)
 rows_read query made some few old new (Err e) has h = tt
 rows_read query made some few old new (Ok rows) has h =
-    subst (λ show. IsPermutation (map show (old.now.trees (tree_of query))) rows.items) (shows_is query)
-    (lists (prefix made) (text_of query) (tree_of query) (columns_of query) (names_of query) (listed query made some few) old new (Ok rows) has h)
+    subst (λ show. IsPermutation (map show (old.now.trees (tree_of query))) rows.items)
+        (shows_is query)
+    (lists (prefix made) (text_of query) (tree_of query) (columns_of query) (names_of query)
+        (listed query made some few) old new (Ok rows) has h)
 
 unsorted : (query : Query) → shows_id query ≡ false → (rows : List Row) → IsInOrder query rows
 unsorted query none rows is = absurd (let e : true ≡ false = sym is ∙ none in cc)
 
-pub rows_ordered : (query : Query) (made : ℕ) → least_of query ≤ made → made ≤ 6 → (old new : State) (r : Result (Vec Row Global) Error) → old.now.schema ≡ prefix made
-    → IfOk r (λ rows. Shown (text_of query) [] old new rows.items) → IfOk r (λ rows. IsInOrder query rows.items)
+pub rows_ordered : (query : Query) (made : ℕ) → least_of query ≤ made → made ≤ 6
+    → (old new : State) (r : Result (Vec Row Global) Error) → old.now.schema ≡ prefix made
+    → IfOk r (λ rows. Shown (text_of query) [] old new rows.items)
+        → IfOk r (λ rows. IsInOrder query rows.items)
 rows_ordered query made some few old new (Err e) has h = tt
 rows_ordered Metas made some few old new (Ok rows) has h = unsorted Metas refl rows.items
-rows_ordered Setups made some few old new (Ok rows) has h = λ _. lists_sorted (prefix made) (text_of Setups) (tree_of Setups) _ (names_of Setups) (listed Setups made some few) old new (Ok rows) has h
-rows_ordered Postings made some few old new (Ok rows) has h = λ _. lists_sorted (prefix made) (text_of Postings) (tree_of Postings) _ (names_of Postings) (listed Postings made some few) old new (Ok rows) has h
+rows_ordered Setups made some few old new (Ok rows) has h =
+    λ _. lists_sorted (prefix made) (text_of Setups) (tree_of Setups) _ (names_of Setups)
+    (listed Setups made some few) old new (Ok rows) has h
+rows_ordered Postings made some few old new (Ok rows) has h =
+    λ _. lists_sorted (prefix made) (text_of Postings) (tree_of Postings) _ (names_of Postings)
+    (listed Postings made some few) old new (Ok rows) has h
 rows_ordered Spots made some few old new (Ok rows) has h = unsorted Spots refl rows.items
 rows_ordered Lines made some few old new (Ok rows) has h = unsorted Lines refl rows.items
 rows_ordered Terms made some few old new (Ok rows) has h = unsorted Terms refl rows.items
-rows_ordered MetaIds made some few old new (Ok rows) has h = λ _. lists_sorted (prefix made) (text_of MetaIds) (tree_of MetaIds) _ (names_of MetaIds) (listed MetaIds made some few) old new (Ok rows) has h
-rows_ordered SetupIds made some few old new (Ok rows) has h = λ _. lists_sorted (prefix made) (text_of SetupIds) (tree_of SetupIds) _ (names_of SetupIds) (listed SetupIds made some few) old new (Ok rows) has h
-rows_ordered PostingIds made some few old new (Ok rows) has h = λ _. lists_sorted (prefix made) (text_of PostingIds) (tree_of PostingIds) _ (names_of PostingIds) (listed PostingIds made some few) old new (Ok rows) has h
-rows_ordered LineIds made some few old new (Ok rows) has h = λ _. lists_sorted (prefix made) (text_of LineIds) (tree_of LineIds) _ (names_of LineIds) (listed LineIds made some few) old new (Ok rows) has h
-rows_ordered TermIds made some few old new (Ok rows) has h = λ _. lists_sorted (prefix made) (text_of TermIds) (tree_of TermIds) _ (names_of TermIds) (listed TermIds made some few) old new (Ok rows) has h
+rows_ordered MetaIds made some few old new (Ok rows) has h =
+    λ _. lists_sorted (prefix made) (text_of MetaIds) (tree_of MetaIds) _ (names_of MetaIds)
+    (listed MetaIds made some few) old new (Ok rows) has h
+rows_ordered SetupIds made some few old new (Ok rows) has h =
+    λ _. lists_sorted (prefix made) (text_of SetupIds) (tree_of SetupIds) _ (names_of SetupIds)
+    (listed SetupIds made some few) old new (Ok rows) has h
+rows_ordered PostingIds made some few old new (Ok rows) has h =
+    λ _. lists_sorted (prefix made) (text_of PostingIds) (tree_of PostingIds) _
+    (names_of PostingIds) (listed PostingIds made some few) old new (Ok rows) has h
+rows_ordered LineIds made some few old new (Ok rows) has h =
+    λ _. lists_sorted (prefix made) (text_of LineIds) (tree_of LineIds) _ (names_of LineIds)
+    (listed LineIds made some few) old new (Ok rows) has h
+rows_ordered TermIds made some few old new (Ok rows) has h =
+    λ _. lists_sorted (prefix made) (text_of TermIds) (tree_of TermIds) _ (names_of TermIds)
+    (listed TermIds made some few) old new (Ok rows) has h
 
 pub same_of : (old new : State) → IsUnchanged old new → IsSame old new
-same_of old new h = record { was_open = h.0.was_open; is_open = h.0.is_open; now = h.0.now_is; committed = h.0.committed_is }
+same_of old new h = record { was_open = h.0.was_open; is_open = h.0.is_open; now = h.0.now_is;
+    committed = h.0.committed_is }
 
-pub rows_same : (query : Query) (made : ℕ) → least_of query ≤ made → made ≤ 6 → (old new : State) (r : Result (Vec Row Global) Error) → old.now.schema ≡ prefix made
+pub rows_same : (query : Query) (made : ℕ) → least_of query ≤ made → made ≤ 6
+    → (old new : State) (r : Result (Vec Row Global) Error) → old.now.schema ≡ prefix made
     → IfOk r (λ rows. Shown (text_of query) [] old new rows.items) → OnOk r (IsSame old new)
 rows_same query made some few old new (Err e) has h = tt
 rows_same query made some few old new (Ok rows) has h =
-    same_of old new (lists_same (prefix made) (text_of query) (tree_of query) (columns_of query) (names_of query) (listed query made some few) old new (Ok rows) has h)
+    same_of old new (lists_same (prefix made) (text_of query) (tree_of query) (columns_of query)
+        (names_of query) (listed query made some few) old new (Ok rows) has h)

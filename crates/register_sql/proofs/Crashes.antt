@@ -1,5 +1,5 @@
 -- What a crash may leave, under a weaker word and over a connection that was asked nothing.
-use Rattle.std.proofs.Common.{◌≡◌, ◌⊎◌, inl, inr, refl, elim, omega, arith, IsTrue}
+use Rattle.std.proofs.Common.{◌≡◌, ◌⊎◌, inl, inr, refl, arith, IsTrue}
 use Rattle.sqlite.specs.State.{State, HasCleanDisk, Survives}
 use Rattle.sqlite.specs.Tree.{Trees}
 
@@ -13,7 +13,8 @@ survives_same s P = record {
   crash = λ clean db left. inl left;
 }
 
-pub survives_by : (old new : State) (P Q : Trees → Type 0) → ((db : Trees) → P db → Q db) → Survives old new P → Survives old new Q
+pub survives_by : (old new : State) (P Q : Trees → Type 0) → ((db : Trees) → P db → Q db)
+    → Survives old new P → Survives old new Q
 survives_by old new P Q weaker it = record {
   clean = it.clean;
   shield = it.shield;

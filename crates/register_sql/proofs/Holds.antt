@@ -34,12 +34,17 @@ abbrev pub Holds : State → Content → Type 0
 Holds s c = (db : Trees) × s.may_leave db × IsStored db c
 
 -- an open store may hold what it shows, and nothing else
-pub shown_held : (s : State) → Laws s → IsSettled s → (c : Content) → IsStored s.now.trees c → Holds s c
-shown_held s laws up c stored = (s.committed.trees, laws.stays up.is_open, subst (λ (d : Database). IsStored d.trees c) up.settled stored)
+pub shown_held : (s : State) → Laws s → IsSettled s → (c : Content)
+    → IsStored s.now.trees c → Holds s c
+shown_held s laws up c stored =
+    (s.committed.trees, laws.stays up.is_open,
+    subst (λ (d : Database). IsStored d.trees c) up.settled stored)
 
-pub held_shown : (s : State) → Laws s → IsSettled s → (c : Content) → Holds s c → IsStored s.now.trees c
+pub held_shown : (s : State) → Laws s → IsSettled s → (c : Content) → Holds s c
+    → IsStored s.now.trees c
 held_shown s laws up c held =
-    subst (λ db. IsStored db c) (laws.settled held.0 up.is_open held.1 ∙ sym (ap (λ (d : Database). d.trees) up.settled)) held.2
+    subst (λ db. IsStored db c) (laws.settled held.0 up.is_open held.1
+        ∙ sym (ap (λ (d : Database). d.trees) up.settled)) held.2
 
 whole_sound : (s : State) → IsReady s → IsSound hub_schema s.now.trees
 whole_sound s ready = subst (λ k. IsSound k s.now.trees) ready.whole.schema ready.whole.sound
@@ -48,15 +53,21 @@ pub open_ready : (s : State) → IsReady s → IsSettled s
 open_ready s ready = record { is_open = ready.is_open; settled = ready.settled }
 
 pub rows_held : (s : State) → Laws s → IsReady s → (c : Content) → AreRows s.now.trees c → Holds s c
-rows_held s laws ready c rows = shown_held s laws (open_ready s ready) c (record { made = 6; few = omega arith; sound = whole_sound s ready; rows = rows })
+rows_held s laws ready c rows =
+    shown_held s laws (open_ready s ready) c
+    (record { made = 6; few = omega arith; sound = whole_sound s ready; rows = rows })
 
 pub held_rows : (s : State) → Laws s → IsReady s → (c : Content) → Holds s c → AreRows s.now.trees c
-held_rows s laws ready c held = part_of 6 (omega arith) s.now.trees (whole_sound s ready) c (held_shown s laws (open_ready s ready) c held)
+held_rows s laws ready c held =
+    part_of 6 (omega arith) s.now.trees (whole_sound s ready) c
+    (held_shown s laws (open_ready s ready) c held)
 
 -- what a later opening of it may find has all six tables
-pub ready_left : (s : State) → Laws s → IsReady s → (db : Trees) → s.may_leave db → IsSound hub_schema db
+pub ready_left : (s : State) → Laws s → IsReady s → (db : Trees) → s.may_leave db
+    → IsSound hub_schema db
 ready_left s laws ready db left =
-    let is : s.now.trees ≡ db = ap (λ (d : Database). d.trees) ready.settled ∙ sym (laws.settled db ready.is_open left) in
+    let is : s.now.trees ≡ db = ap (λ (d : Database). d.trees) ready.settled
+        ∙ sym (laws.settled db ready.is_open left) in
     subst (IsSound hub_schema) is (whole_sound s ready)
 
 pub no_two : (a b : ⊥) → a ≡ b
@@ -64,14 +75,18 @@ no_two a b = absurd a
 
 -- ---- nothing is changed
 
-pub same_comes : (old new : State) → Laws old → Laws new → (HasCleanDisk old → IsSettled old) → Survives old new (λ _. ⊥) → Comes (in_store old) (in_store new) AreSame
+pub same_comes : (old new : State) → Laws old → Laws new → (HasCleanDisk old → IsSettled old)
+    → Survives old new (λ _. ⊥) → Comes (in_store old) (in_store new) AreSame
 same_comes old new before after up survives = record {
   quiet = λ clean. omega (arith, survives.clean, clean);
   some = λ clean none c held.
       let early : HasCleanDisk old = omega (arith, survives.clean, clean) in
       let was = up early in
       ∥∥₁_elim (after.survives clean) no_two (λ left. elim (survives.crash clean left.0 left.1) [
-        | inl had ↦ none c (left.0, left.1, subst (λ db. IsStored db c) (before.settled held.0 was.is_open held.1 ∙ sym (before.settled left.0 was.is_open had)) held.2)
+        | inl had ↦
+            none c (left.0, left.1, subst (λ db. IsStored db c)
+            (before.settled held.0 was.is_open held.1 ∙ sym (before.settled left.0 was.is_open had))
+            held.2)
         | inr not ↦ not
       ]);
   from = λ clean d held. elim (survives.crash clean held.0 held.1) [
@@ -81,53 +96,73 @@ same_comes old new before after up survives = record {
 }
 
 pub still_comes : (s : State) → Comes (in_store s) (in_store s) AreSame
-still_comes s = record { quiet = λ clean. clean; some = λ clean none. none; from = λ clean d held. (d, held, same_all d) }
+still_comes s = record { quiet = λ clean. clean; some = λ clean none. none;
+    from = λ clean d held. (d, held, same_all d) }
 
 -- what is read of the shown rows is true of each content that the store may hold
-pub each_read : (old new : State) (Q : Content → Type 0) → Laws new → (HasCleanDisk new → HasCleanDisk old) → (HasCleanDisk old → IsReady old) → (HasCleanDisk new → IsSame old new)
+pub each_read : (old new : State) (Q : Content → Type 0) → Laws new
+    → (HasCleanDisk new → HasCleanDisk old) → (HasCleanDisk old → IsReady old)
+    → (HasCleanDisk new → IsSame old new)
     → (HasCleanDisk new → (c : Content) → AreRows old.now.trees c → Q c) → Each (in_store new) Q
 each_read old new Q laws early ready same read clean c held =
     let it = same clean in
     let was = ready (early clean) in
-    let up : IsReady new = record { is_open = it.is_open; settled = it.now ∙ was.settled ∙ sym it.committed; whole = subst IsWhole (sym it.now) was.whole } in
+    let up : IsReady new =
+        record { is_open = it.is_open; settled = it.now ∙ was.settled ∙ sym it.committed;
+        whole = subst IsWhole (sym it.now) was.whole } in
     read clean c (subst (λ (d : Database). AreRows d.trees c) it.now (held_rows new laws up c held))
 
 -- ---- bound
 
-pub bound_has : (S : Museum) (depth : ℕ) (old new : State) → Laws new → (HasCleanDisk new → IsBoundAs S depth old new) → Has (in_store new) (IsBoundTo S depth)
+pub bound_has : (S : Museum) (depth : ℕ) (old new : State) → Laws new
+    → (HasCleanDisk new → IsBoundAs S depth old new) → Has (in_store new) (IsBoundTo S depth)
 bound_has S depth old new laws is = record {
-  some = λ clean none. let it = is clean in none it.content.0 (rows_held new laws it.ready it.content.0 it.content.1);
+  some = λ clean none. let it = is clean in
+      none it.content.0 (rows_held new laws it.ready it.content.0 it.content.1);
   each = λ clean c held. let it = is clean in it.bound c (held_rows new laws it.ready c held);
 }
 
-pub bound_comes : (S : Museum) (depth : ℕ) (old new : State) (P : Trees → Type 0) → Laws old → Laws new → (HasCleanDisk old → IsSettled old) → Survives old new P → (HasCleanDisk new → IsBoundAs S depth old new) → Comes (in_store old) (in_store new) (IsBound S)
+pub bound_comes : (S : Museum) (depth : ℕ) (old new : State) (P : Trees → Type 0) → Laws old
+    → Laws new → (HasCleanDisk old → IsSettled old) → Survives old new P
+    → (HasCleanDisk new → IsBoundAs S depth old new)
+    → Comes (in_store old) (in_store new) (IsBound S)
 bound_comes S depth old new P before after up survives is = record {
   quiet = λ clean. omega (arith, survives.clean, clean);
-  some = λ clean none. absurd (let it = is clean in none it.content.0 (rows_held new after it.ready it.content.0 it.content.1));
+  some = λ clean none. absurd (let it = is clean in none it.content.0
+      (rows_held new after it.ready it.content.0 it.content.1));
   from = λ clean d held.
       let it = is clean in
       let came = it.comes d (held_rows new after it.ready d held) in
-      (came.0, shown_held old before (up (omega (arith, survives.clean, clean))) came.0 came.1, came.2);
+      (came.0, shown_held old before (up (omega (arith, survives.clean, clean))) came.0
+          came.1, came.2);
 }
 
-pub refused_comes : (S : Museum) (fault : StoreFault) (old new : State) (P : Trees → Type 0) → Laws old → Laws new → (HasCleanDisk old → IsSettled old) → Survives old new P → (HasCleanDisk new → IsRefused S old new fault) → Comes (in_store old) (in_store new) (IsNotBound S fault)
+pub refused_comes : (S : Museum) (fault : StoreFault) (old new : State) (P : Trees → Type 0)
+    → Laws old → Laws new → (HasCleanDisk old → IsSettled old) → Survives old new P
+    → (HasCleanDisk new → IsRefused S old new fault)
+    → Comes (in_store old) (in_store new) (IsNotBound S fault)
 refused_comes S fault old new P before after up survives is = record {
   quiet = λ clean. omega (arith, survives.clean, clean);
   some = λ clean none c held.
       let it = is clean in
       let was = up (omega (arith, survives.clean, clean)) in
-      none c (shown_held new after (still it.same was) c (subst (λ (d : Database). IsStored d.trees c) (sym it.same.now) (held_shown old before was c held)));
+      none c (shown_held new after (still it.same was) c
+          (subst (λ (d : Database). IsStored d.trees c) (sym it.same.now)
+          (held_shown old before was c held)));
   from = λ clean d held.
       let it = is clean in
       let was = up (omega (arith, survives.clean, clean)) in
-      let stored = subst (λ (k : Database). IsStored k.trees d) it.same.now (held_shown new after (still it.same was) d held) in
+      let stored = subst (λ (k : Database). IsStored k.trees d) it.same.now
+          (held_shown new after (still it.same was) d held) in
       (d, shown_held old before was d stored, (it.cause d stored, inl (same_all d)));
 }
   where
     still : IsSame old new → IsSettled old → IsSettled new
-    still same was = record { is_open = same.is_open; settled = same.now ∙ was.settled ∙ sym same.committed }
+    still same was =
+        record { is_open = same.is_open; settled = same.now ∙ was.settled ∙ sym same.committed }
 
-failure_cause : (S : Museum) (c : Content) (fault : StoreFault) → is_failure fault ≡ true → IsBindFault S c fault
+failure_cause : (S : Museum) (c : Content) (fault : StoreFault) → is_failure fault ≡ true
+    → IsBindFault S c fault
 failure_cause S c NoMemory is = tt
 failure_cause S c Store is = tt
 failure_cause S c OtherSetup is = absurd (let e : false ≡ true = is in cc)
@@ -135,14 +170,21 @@ failure_cause S c (Damaged at) is = absurd (let e : false ≡ true = is in cc)
 failure_cause S c OtherVersion is = absurd (let e : false ≡ true = is in cc)
 
 -- a statement failed
-pub failed_comes : (S : Museum) (fault : StoreFault) (old new : State) → is_failure fault ≡ true → Laws old → Laws new → (HasCleanDisk old → IsSettled old) → Survives old new (LeavesBound S old) → Comes (in_store old) (in_store new) (IsNotBound S fault)
+pub failed_comes : (S : Museum) (fault : StoreFault) (old new : State) → is_failure fault ≡ true
+    → Laws old → Laws new → (HasCleanDisk old → IsSettled old)
+    → Survives old new (LeavesBound S old)
+    → Comes (in_store old) (in_store new) (IsNotBound S fault)
 failed_comes S fault old new fails before after up survives = record {
   quiet = λ clean. omega (arith, survives.clean, clean);
   some = λ clean none c held.
       let was = up (omega (arith, survives.clean, clean)) in
       ∥∥₁_elim (after.survives clean) no_two (λ left. elim (survives.crash clean left.0 left.1) [
-        | inl had ↦ none c (left.0, left.1, subst (λ db. IsStored db c) (before.settled held.0 was.is_open held.1 ∙ sym (before.settled left.0 was.is_open had)) held.2)
-        | inr bound ↦ none bound.content.0 (left.0, left.1, record { made = 6; few = omega arith; sound = bound.sound; rows = bound.content.1 })
+        | inl had ↦
+            none c (left.0, left.1, subst (λ db. IsStored db c)
+            (before.settled held.0 was.is_open held.1 ∙ sym (before.settled left.0 was.is_open had))
+            held.2)
+        | inr bound ↦ none bound.content.0 (left.0, left.1,
+            record { made = 6; few = omega arith; sound = bound.sound; rows = bound.content.1 })
       ]);
   from = λ clean d held.
       let was = up (omega (arith, survives.clean, clean)) in
@@ -150,35 +192,46 @@ failed_comes S fault old new fails before after up survives = record {
         | inl had ↦ (d, (held.0, had, held.2), (failure_cause S d fault fails, inl (same_all d)))
         | inr bound ↦
             let came = bound.comes d (part_of 6 (omega arith) held.0 bound.sound d held.2) in
-            (came.0, shown_held old before was came.0 came.1, (failure_cause S came.0 fault fails, inr (fails, came.2)))
+            (came.0, shown_held old before was came.0 came.1,
+                (failure_cause S came.0 fault fails, inr (fails, came.2)))
       ];
 }
 
 -- ---- posted
 
-pub posted_comes : (e : Entry) (changes : Changes) (row : PostingRow) (old new : State) (P : Trees → Type 0) → IsPostingRow changes.entry e row → Laws old → Laws new
-    → (HasCleanDisk old → IsReady old) → (HasCleanDisk old → (c : Content) × AreRows old.now.trees c) → Survives old new P
-    → (HasCleanDisk new → IsDone old new (with_posted row e changes)) → Comes (in_store old) (in_store new) (IsPosted e changes)
+pub posted_comes : (e : Entry) (changes : Changes) (row : PostingRow) (old new : State) (P : Trees
+    → Type 0) → IsPostingRow changes.entry e row → Laws old → Laws new
+    → (HasCleanDisk old → IsReady old)
+        → (HasCleanDisk old → (c : Content) × AreRows old.now.trees c) → Survives old new P
+    → (HasCleanDisk new → IsDone old new (with_posted row e changes))
+        → Comes (in_store old) (in_store new) (IsPosted e changes)
 posted_comes e changes row old new P keeps before after ready content survives done = record {
   quiet = λ clean. omega (arith, survives.clean, clean);
   some = λ clean none. absurd (
       let early : HasCleanDisk old = omega (arith, survives.clean, clean) in
       let it = done clean in
       let had = content early in
-      none (with_posted row e changes had.0) (rows_held new after (now_ready it) (with_posted row e changes had.0) (it.rows had.0 had.1)));
+      none (with_posted row e changes had.0)
+          (rows_held new after (now_ready it) (with_posted row e changes had.0)
+          (it.rows had.0 had.1)));
   from = λ clean d held.
       let early : HasCleanDisk old = omega (arith, survives.clean, clean) in
       let it = done clean in
       let had = content early in
       let rows = held_rows new after (now_ready it) d held in
-      (had.0, rows_held old before (ready early) had.0 had.1, (row, keeps, same_part 6 new.now.trees (with_posted row e changes had.0) d (it.rows had.0 had.1) rows));
+      (had.0, rows_held old before (ready early) had.0 had.1,
+          (row, keeps, same_part 6 new.now.trees (with_posted row e changes had.0) d
+          (it.rows had.0 had.1) rows));
 }
   where
     now_ready : IsDone old new (with_posted row e changes) → IsReady new
     now_ready it = record { is_open = it.is_open; settled = sym it.committed; whole = it.whole }
 
-pub unposted_comes : (e : Entry) (changes : Changes) (row : PostingRow) (old new : State) → IsPostingRow changes.entry e row → Laws old → Laws new
-    → (HasCleanDisk old → IsReady old) → (HasCleanDisk old → (c : Content) × AreRows old.now.trees c) → Survives old new (LeavesWhole old (with_posted row e changes))
+pub unposted_comes : (e : Entry) (changes : Changes) (row : PostingRow) (old new : State)
+    → IsPostingRow changes.entry e row → Laws old → Laws new
+    → (HasCleanDisk old → IsReady old)
+        → (HasCleanDisk old → (c : Content) × AreRows old.now.trees c)
+        → Survives old new (LeavesWhole old (with_posted row e changes))
     → Comes (in_store old) (in_store new) (λ c d. AreSame c d ⊎ IsPosted e changes c d)
 unposted_comes e changes row old new keeps before after ready content survives = record {
   quiet = λ clean. omega (arith, survives.clean, clean);
@@ -187,8 +240,13 @@ unposted_comes e changes row old new keeps before after ready content survives =
       let was = ready early in
       let had = content early in
       ∥∥₁_elim (after.survives clean) no_two (λ left. elim (survives.crash clean left.0 left.1) [
-        | inl same ↦ none c (left.0, left.1, subst (λ db. IsStored db c) (before.settled held.0 was.is_open held.1 ∙ sym (before.settled left.0 was.is_open same)) held.2)
-        | inr whole ↦ none (with_posted row e changes had.0) (left.0, left.1, record { made = 6; few = omega arith; sound = whole.sound; rows = whole.rows had.0 had.1 })
+        | inl same ↦
+            none c (left.0, left.1, subst (λ db. IsStored db c)
+            (before.settled held.0 was.is_open held.1
+            ∙ sym (before.settled left.0 was.is_open same)) held.2)
+        | inr whole ↦ none (with_posted row e changes had.0) (left.0, left.1,
+            record { made = 6; few = omega arith; sound = whole.sound;
+            rows = whole.rows had.0 had.1 })
       ]);
   from = λ clean d held.
       let early : HasCleanDisk old = omega (arith, survives.clean, clean) in
@@ -201,21 +259,28 @@ unposted_comes e changes row old new keeps before after ready content survives =
           inr (
             row,
             keeps,
-            same_part 6 held.0 (with_posted row e changes had.0) d (whole.rows had.0 had.1) (part_of 6 (omega arith) held.0 whole.sound d held.2),
+            same_part 6 held.0 (with_posted row e changes had.0) d (whole.rows had.0 had.1)
+                (part_of 6 (omega arith) held.0 whole.sound d held.2),
           ),
         )
       ];
 }
 
-pub still_unposted : (e : Entry) (changes : Changes) (s : State) → Comes (in_store s) (in_store s) (λ c d. AreSame c d ⊎ IsPosted e changes c d)
-still_unposted e changes s = record { quiet = λ clean. clean; some = λ clean none. none; from = λ clean d held. (d, held, inl (same_all d)) }
+pub still_unposted : (e : Entry) (changes : Changes) (s : State)
+    → Comes (in_store s) (in_store s) (λ c d. AreSame c d ⊎ IsPosted e changes c d)
+still_unposted e changes s = record { quiet = λ clean. clean; some = λ clean none. none;
+    from = λ clean d held. (d, held, inl (same_all d)) }
 
-pub still_unbound : (S : Museum) (fault : StoreFault) (s : State) → is_failure fault ≡ true → Comes (in_store s) (in_store s) (IsNotBound S fault)
-still_unbound S fault s fails = record { quiet = λ clean. clean; some = λ clean none. none; from = λ clean d held. (d, held, (failure_cause S d fault fails, inl (same_all d))) }
+pub still_unbound : (S : Museum) (fault : StoreFault) (s : State) → is_failure fault ≡ true
+    → Comes (in_store s) (in_store s) (IsNotBound S fault)
+still_unbound S fault s fails =
+    record { quiet = λ clean. clean; some = λ clean none. none;
+    from = λ clean d held. (d, held, (failure_cause S d fault fails, inl (same_all d))) }
 
 -- ---- the count of refusals
 
-pub counts : (T : Type 0) (refusals : ℕ) (fault : StoreFault) → CountsRefusal {T = T} refusals (counted refusals fault) (Err fault)
+pub counts : (T : Type 0) (refusals : ℕ) (fault : StoreFault)
+    → CountsRefusal {T = T} refusals (counted refusals fault) (Err fault)
 counts T refusals NoMemory = refl
 counts T refusals Store = refl
 counts T refusals OtherSetup = refl
@@ -228,22 +293,34 @@ pub no_row : {A B : Type 0} (f : A → B) (rows : List A) → IsPermutation (map
 no_row f [] h = refl
 no_row f (r ∷ rows) h = absurd (omega (arith, length_permutation _ _ h))
 
-pub without_rows : (c : Content) → c.setup ≡ [] → c.meta ≡ [] → c.postings ≡ [] → c.spots ≡ [] → c.lines ≡ [] → c.terms ≡ [] → c ≡ no_rows
+pub without_rows : (c : Content) → c.setup ≡ [] → c.meta ≡ [] → c.postings ≡ [] → c.spots ≡ []
+    → c.lines ≡ [] → c.terms ≡ [] → c ≡ no_rows
 without_rows c p q r s t u =
-    let all : Content = record { setup = c.setup; meta = c.meta; postings = c.postings; spots = c.spots; lines = c.lines; terms = c.terms } in
+    let all : Content = record { setup = c.setup; meta = c.meta; postings = c.postings;
+        spots = c.spots; lines = c.lines; terms = c.terms } in
     let e : all ≡ no_rows = rw (p, q, r, s, t, u) refl in e
 
 pub none_held : (db : Trees) → HasPart 0 db no_rows
-none_held db = record { meta = IsPermutation-refl []; setup = IsPermutation-refl []; postings = IsPermutation-refl []; spots = IsPermutation-refl []; lines = IsPermutation-refl []; terms = IsPermutation-refl [] }
+none_held db = record { meta = IsPermutation-refl []; setup = IsPermutation-refl [];
+    postings = IsPermutation-refl []; spots = IsPermutation-refl []; lines = IsPermutation-refl [];
+    terms = IsPermutation-refl [] }
 
-pub empty_has : (s : State) → ((db : Trees) → s.may_leave db → db ≡ s.committed.trees) → s.may_leave s.committed.trees → s.now ≡ s.committed → IsDatabase s.now → s.now.schema ≡ prefix 0
+pub empty_has : (s : State) → ((db : Trees) → s.may_leave db → db ≡ s.committed.trees)
+    → s.may_leave s.committed.trees → s.now ≡ s.committed → IsDatabase s.now
+    → s.now.schema ≡ prefix 0
     → Has (in_store s) (λ c. c ≡ no_rows)
 empty_has s left stays settled sound schema =
-    let there : IsSound (prefix 0) s.committed.trees = subst (λ (d : Database). IsSound (prefix 0) d.trees) settled (subst (λ k. IsSound k s.now.trees) schema sound) in
+    let there : IsSound (prefix 0) s.committed.trees =
+        subst (λ (d : Database). IsSound (prefix 0) d.trees) settled
+        (subst (λ k. IsSound k s.now.trees) schema sound) in
     record {
-      some = λ clean none. none no_rows (s.committed.trees, stays, record { made = 0; few = omega arith; sound = there; rows = none_held s.committed.trees });
+      some = λ clean none. none no_rows (s.committed.trees, stays,
+          record { made = 0; few = omega arith; sound = there;
+          rows = none_held s.committed.trees });
       each = λ clean c held.
-          let stored : IsStored s.committed.trees c = subst (λ db. IsStored db c) (left held.0 held.1) held.2 in
+          let stored : IsStored s.committed.trees c =
+              subst (λ db. IsStored db c) (left held.0 held.1) held.2 in
           let part = part_of 0 (omega arith) s.committed.trees there c stored in
-          without_rows c (no_row _ _ part.setup) (no_row _ _ part.meta) (no_row _ _ part.postings) (no_row _ _ part.spots) (no_row _ _ part.lines) (no_row _ _ part.terms);
+          without_rows c (no_row _ _ part.setup) (no_row _ _ part.meta) (no_row _ _ part.postings)
+              (no_row _ _ part.spots) (no_row _ _ part.lines) (no_row _ _ part.terms);
     }

@@ -36,3 +36,4 @@ mod WorkedFirst
 pub mod Runs
 pub mod Blank
 pub mod Newness
+pub mod Crashes

@@ -9,10 +9,10 @@ use Rattle.register_store.specs.Registers.{is_new}
 use Rattle.register_store.specs.StoredRows.{Content}
 use Rattle.register_sql.specs.Queries.{shown_in, IsPart}
 use Rattle.register_sql.specs.Rows.{HasPart, IsStored, meta_cells}
-use Rattle.register_sql.specs.Says.{IsTold}
+use Rattle.register_sql.specs.Says.{IsIdentity}
 use Rattle.register_sql.specs.declared.queries.Query.TheVariants.{Metas}
-use Rattle.register_sql.specs.declared.told.Told.{Told}
-use Rattle.register_sql.specs.declared.told.Told.TheVariants as told
+use Rattle.register_sql.specs.declared.identity.Identity.{Identity}
+use Rattle.register_sql.specs.declared.identity.Identity.TheVariants as told
 use Rattle.register_sql.proofs.Binds.{metas_read, none_new, some_old, part_of, sound_in}
 
 -- a store without a table
@@ -48,7 +48,7 @@ old_by made some few old rows part read other c stored =
     (λ is. absurd (let e = is in cc), λ is. sym no ∙ is)
 
 -- what says something has a row
-pub says_some : (rows : List Row) (t : Told) → IsTold rows t → t ≢ told.New → rows ≢ []
+pub says_some : (rows : List Row) (t : Identity) → IsIdentity rows t → t ≢ told.New → rows ≢ []
 says_some rows told.New is other none = other refl
 says_some rows told.OtherVersion is other none =
     let low : is.0 < length rows = is.2 in

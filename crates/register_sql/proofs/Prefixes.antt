@@ -34,7 +34,8 @@ counted (suc (suc (suc (suc (suc (suc zero)))))) few = refl
 counted (suc (suc (suc (suc (suc (suc (suc k))))))) few = absurd (omega (arith, few))
 
 pub same_count : (j k : ℕ) → j ≤ 6 → k ≤ 6 → prefix j ≡ prefix k → j ≡ k
-same_count j k few_j few_k same = sym (counted j few_j) ∙ ap (λ (s : Schema). length s.tables) same ∙ counted k few_k
+same_count j k few_j few_k same = sym (counted j few_j) ∙ ap (λ (s : Schema). length s.tables) same
+    ∙ counted k few_k
 
 pub by_count : (s : Schema) (k : ℕ) → s ≡ prefix k → s ≡ prefix (length s.tables)
 by_count s k is = is ∙ sym (same_prefix k) ∙ ap (λ (t : Schema). prefix (length t.tables)) (sym is)

@@ -36,59 +36,87 @@ shown_its s laws up = record {
 }
 
 -- a copied database has the store's rows
-pub rows_alone : (image : Image) (db : Trees) (store : Holding) → HasIts store db → kit.HoldsAlone image db → HoldsAlone image store
+pub rows_alone : (image : Image) (db : Trees) (store : Holding) → HasIts store db
+    → kit.HoldsAlone image db → HoldsAlone image store
 rows_alone image db store its held = record {
   both = ∥∥₁_map held.both (λ in_both. (db, in_both, its));
   alone = ∥∥₁_map held.alone (λ alone. (db, alone, its));
 }
 
 -- files that read as a database aren't those in which none was made
-reads_something : (size : ℕ) (image : Image) (pages : PageMap) (wanted : List Wanted) → Adopts size image pages → IsOurs size true wanted pages → IsNothing image → ⊥
+reads_something : (size : ℕ) (image : Image) (pages : PageMap) (wanted : List Wanted)
+    → Adopts size image pages → IsOurs size true wanted pages → IsNothing image → ⊥
 reads_something size image pages wanted found ours nothing =
     let (page, is) = some_value (found.stored 1) found.whole.first in
-    let used : pages 1 ≡ Some (take size page) = ap (λ (p : PageMap). p 1) (sym found.shows) ∙ trimmed_some size _ 1 page is in
-    let head : header_in pages ≡ take 100 (take size page) = ap (λ (o : Option (List ℕ)). take 100 (unwrap_or o [])) used in
+    let used : pages 1 ≡ Some (take size page) =
+        ap (λ (p : PageMap). p 1) (sym found.shows) ∙ trimmed_some size _ 1 page is in
+    let head : header_in pages ≡ take 100 (take size page) =
+        ap (λ (o : Option (List ℕ)). take 100 (unwrap_or o [])) used in
     let magic = ours.file.sound.header.0.magic in
-    let long : length (take 16 (take 100 (take size page))) ≡ 16 = sym (ap (λ (b : List ℕ). length (take 16 b)) head) ∙ ap length magic in
-    let large : 16 ≤ size = omega (arith, long, length-take 16 (take 100 (take size page)), length-take 100 (take size page), length-take size page) in
+    let long : length (take 16 (take 100 (take size page))) ≡ 16 =
+        sym (ap (λ (b : List ℕ). length (take 16 b)) head) ∙ ap length magic in
+    let large : 16 ≤ size = omega (arith, long, length-take 16 (take 100 (take size page)),
+        length-take 100 (take size page), length-take size page) in
     let whole : 1 < stored_size size = omega (arith, large) in
-    let byte : slice_index (header_in pages) 0 ≡ slice_index page 0 = ap (λ (b : List ℕ). slice_index b 0) head ∙ get_or-take 100 (take size page) 0 0 (omega arith) ∙ get_or-take size page 0 0 (omega (arith, large)) in
-    let gate : slice_index (header_in pages) 0 ≡ 83 = sym (get_or-take 16 (header_in pages) 0 0 (omega arith)) ∙ ap (λ (b : List ℕ). slice_index b 0) magic in
+    let byte : slice_index (header_in pages) 0 ≡ slice_index page 0 =
+        ap (λ (b : List ℕ). slice_index b 0) head ∙ get_or-take 100 (take size page) 0 0
+        (omega arith) ∙ get_or-take size page 0 0 (omega (arith, large)) in
+    let gate : slice_index (header_in pages) 0 ≡ 83 =
+        sym (get_or-take 16 (header_in pages) 0 0 (omega arith))
+        ∙ ap (λ (b : List ℕ). slice_index b 0) magic in
     let first : slice_index page 0 ≡ 83 = sym byte ∙ gate in
-    let never = λ (other : ℕ) (some : 0 < other). begun_is_not_blank (sealed (first_page other)) page (stored_size size) image found.stored found.found is (found.whole.sized 1 page is) whole (first ∙ sym (first_byte other some)) (λ none. let never = sym (first_byte other some) ∙ none in omega arith) in
-    elim nothing [ inl plain ↦ never (used_size 4096 false) (omega arith) plain | inr summed ↦ never (used_size 4096 true) (omega arith) summed ]
+    let never = λ (other : ℕ) (some : 0 < other). begun_is_not_blank (sealed (first_page other))
+        page (stored_size size) image found.stored found.found is (found.whole.sized 1 page is)
+        whole (first ∙ sym (first_byte other some))
+        (λ none. let never = sym (first_byte other some) ∙ none in omega arith) in
+    elim nothing [ inl plain ↦ never (used_size 4096 false) (omega arith) plain | inr summed ↦ never
+        (used_size 4096 true) (omega arith) summed ]
 
 found_empty : (image : Image) (db : Trees) → AreFoundIn image db → IsNothing image → IsEmpty db
-found_empty image db (inl read) nothing = absurd (∥∥₁_elim read.4 no_two (λ ours. reads_something read.0 image read.1 read.2 read.3 ours nothing))
+found_empty image db (inl read) nothing =
+    absurd (∥∥₁_elim read.4 no_two
+    (λ ours. reads_something read.0 image read.1 read.2 read.3 ours nothing))
 found_empty image db (inr new) nothing = new.1
 
 -- a database with no object has no row of a store
-pub empty_rows : (db : Trees) (store : Holding) → IsEmpty db → HasIts store db → Has store (λ c. c ≡ no_rows)
+pub empty_rows : (db : Trees) (store : Holding) → IsEmpty db → HasIts store db
+    → Has store (λ c. c ≡ no_rows)
 empty_rows db store empty its =
     let sound : IsSound (prefix 0) db = empty_is_sound db empty.1 in
     record {
-      some = λ clean none. none no_rows (its.all no_rows (record { made = 0; few = omega arith; sound = sound; rows = none_held db }));
+      some = λ clean none. none no_rows
+          (its.all no_rows (record { made = 0; few = omega arith; sound = sound;
+          rows = none_held db }));
       each = λ clean c held.
           let part = part_of 0 (omega arith) db sound c (its.only c held) in
-          without_rows c (no_row _ _ part.setup) (no_row _ _ part.meta) (no_row _ _ part.postings) (no_row _ _ part.spots) (no_row _ _ part.lines) (no_row _ _ part.terms);
+          without_rows c (no_row _ _ part.setup) (no_row _ _ part.meta) (no_row _ _ part.postings)
+              (no_row _ _ part.spots) (no_row _ _ part.lines) (no_row _ _ part.terms);
     }
 
 -- what an opening on the files finds, where the open store has the rows of what is committed
-pub found_in : (image : Image) (s : State) → FindsIn image s → HasIts (in_store s) s.committed.trees → IsFoundIn image (in_store s)
+pub found_in : (image : Image) (s : State) → FindsIn image s → HasIts (in_store s) s.committed.trees
+    → IsFoundIn image (in_store s)
 found_in image s found its = record {
   held = λ db holds. subst (HasIts (in_store s)) (found.holds db holds) its;
   read = (s.committed.trees, found.reads, its);
-  new = λ nothing. empty_rows s.committed.trees (in_store s) (found_empty image s.committed.trees found.reads nothing) its;
+  new = λ nothing. empty_rows s.committed.trees (in_store s)
+      (found_empty image s.committed.trees found.reads nothing) its;
 }
 
 -- two stores of one database may hold the same rows
 pub alike : (db : Trees) (old new : Holding) → HasIts old db → HasIts new db → AreAlike old new
-alike db old new was is = record { none_lost = λ c held. is.all c (was.only c held); none_added = λ c held. was.all c (is.only c held) }
+alike db old new was is = record { none_lost = λ c held. is.all c (was.only c held);
+    none_added = λ c held. was.all c (is.only c held) }
 
 -- what was copied, opened again
-pub alike_again : (image : Image) (old new : Holding) → HoldsRowsOf image old → IsFoundIn image new → ∥ AreAlike old new ∥₁
-alike_again image old new held found = ∥∥₁_map held (λ it. alike it.0 old new it.2 (found.held it.0 it.1))
+pub alike_again : (image : Image) (old new : Holding) → HoldsRowsOf image old → IsFoundIn image new
+    → ∥ AreAlike old new ∥₁
+alike_again image old new held found =
+    ∥∥₁_map held (λ it. alike it.0 old new it.2 (found.held it.0 it.1))
 
 -- what was left, opened again
-pub lasts_again : (image : Image) (old new : Holding) → ∥ ((db : Trees) × HoldsDatabase image db × ((c : Content) → IsStored db c → old.holds c)) ∥₁ → IsFoundIn image new → Lasts old new
-lasts_again image old new left found c holds = ∥∥₁_map left (λ it. it.2 c ((found.held it.0 it.1).only c holds))
+pub lasts_again : (image : Image) (old new : Holding)
+    → ∥ ((db : Trees) × HoldsDatabase image db × ((c : Content) → IsStored db c → old.holds c)) ∥₁
+    → IsFoundIn image new → Lasts old new
+lasts_again image old new left found c holds =
+    ∥∥₁_map left (λ it. it.2 c ((found.held it.0 it.1).only c holds))

@@ -1,4 +1,5 @@
--- What the statements mean that write a whole store, and what a query of a table in the order of its rowids is.
+-- What the statements mean that write a whole store, and what a query of a table in the order of
+-- its rowids is.
 use Rattle.std.proofs.Common.{◌≡◌, ℕ, pos, negsuc, List, [], ◌∷◌, codes, false, None, refl}
 use Rattle.sqlite.specs.declared.types.Value.TheVariants.{Null, Int}
 use Rattle.sqlite.specs.Term.{Term, lit, col, op2}
@@ -34,7 +35,8 @@ insert_setup = codes "INSERT INTO setup (id, txt) VALUES (?1, ?2)"
 abbrev pub setup_terms : List Term
 setup_terms = col 0 0 ∷ lit Null ∷ col 0 1 ∷ []
 
-pub insert_setup_is : command_of (understood hub_schema insert_setup) ≡ Insert 1 (Values setup_terms 3)
+pub insert_setup_is : command_of (understood hub_schema insert_setup)
+    ≡ Insert 1 (Values setup_terms 3)
 unfolding understood everything
 insert_setup_is = refl
 
@@ -43,12 +45,14 @@ unfolding understood everything
 insert_setup_plain = (refl, refl)
 
 abbrev pub insert_posting : List ℕ
-insert_posting = codes "INSERT INTO posting (id, station, n, body, verdict) VALUES (?1, ?2, ?3, ?4, ?5)"
+insert_posting =
+    codes "INSERT INTO posting (id, station, n, body, verdict) VALUES (?1, ?2, ?3, ?4, ?5)"
 
 abbrev pub posting_terms : List Term
 posting_terms = col 0 0 ∷ lit Null ∷ col 0 1 ∷ col 0 2 ∷ col 0 3 ∷ col 0 4 ∷ []
 
-pub insert_posting_is : command_of (understood hub_schema insert_posting) ≡ Insert 2 (Values posting_terms 6)
+pub insert_posting_is : command_of (understood hub_schema insert_posting)
+    ≡ Insert 2 (Values posting_terms 6)
 unfolding understood everything
 insert_posting_is = refl
 
@@ -114,7 +118,8 @@ query_of tree filter project = record {
 
 -- in the order of rowids
 abbrev pub ordered_by_rowid : ℕ → List Term → Query
-ordered_by_rowid tree project = record (query_of tree [] project) { order = (col 1 0, ascending Binary) ∷ [] }
+ordered_by_rowid tree project =
+    record (query_of tree [] project) { order = (col 1 0, ascending Binary) ∷ [] }
 
 -- a column of the row is a parameter
 abbrev pub is_given : ℕ → ℕ → Term
@@ -129,7 +134,8 @@ delete_setup = codes "DELETE FROM setup"
 abbrev pub setup_key : List Term
 setup_key = []
 
-pub delete_setup_is : command_of (understood hub_schema delete_setup) ≡ Delete 1 (record { lets = []; body = deletes 2 setup_key })
+pub delete_setup_is : command_of (understood hub_schema delete_setup)
+    ≡ Delete 1 (record { lets = []; body = deletes 2 setup_key })
 unfolding understood everything
 delete_setup_is = refl
 
@@ -143,7 +149,8 @@ delete_line = codes "DELETE FROM line WHERE loan = ?1 AND object = ?2"
 abbrev pub line_key : List Term
 line_key = is_given 1 0 ∷ is_given 2 1 ∷ []
 
-pub delete_line_is : command_of (understood hub_schema delete_line) ≡ Delete 4 (record { lets = []; body = deletes 7 line_key })
+pub delete_line_is : command_of (understood hub_schema delete_line)
+    ≡ Delete 4 (record { lets = []; body = deletes 7 line_key })
 unfolding understood everything
 delete_line_is = refl
 
@@ -157,7 +164,8 @@ delete_term = codes "DELETE FROM term WHERE loan = ?1"
 abbrev pub term_key : List Term
 term_key = is_given 1 0 ∷ []
 
-pub delete_term_is : command_of (understood hub_schema delete_term) ≡ Delete 5 (record { lets = []; body = deletes 9 term_key })
+pub delete_term_is : command_of (understood hub_schema delete_term)
+    ≡ Delete 5 (record { lets = []; body = deletes 9 term_key })
 unfolding understood everything
 delete_term_is = refl
 

@@ -1,4 +1,5 @@
--- A store of version 1 computed on a worked list, what a migration makes of it, and why an extension is no entry of it.
+-- A store of version 1 computed on a worked list, what a migration makes of it, and why an
+-- extension is no entry of it.
 use lib.Ieee.{is_nan, lt}
 use Rattle.std.specs.Prelude.{◌≡◌, ℕ, pos, true, false, List, [], ◌∷◌, Some, slice_index_or, codes, refl}
 use Rattle.std.specs.List.{IsDistinct}
@@ -47,7 +48,9 @@ abbrev entry : ℕ → Message → Verdict → Entry
 entry n m v = record { station = 0; n = n; message = m; verdict = v }
 
 abbrev agreed : Entry
-agreed = entry 1 (Agree may end_of_may (codes "LO2024.1") (codes "MUSEUM-X") (codes "2001.4.1" ∷ [])) Applied
+agreed =
+    entry 1 (Agree may end_of_may (codes "LO2024.1") (codes "MUSEUM-X")
+    (codes "2001.4.1" ∷ [])) Applied
 
 abbrev moved : Entry
 moved = entry 2 (Move may (codes "2001.4.1") (codes "S1")) Applied
@@ -58,10 +61,12 @@ entries = moved ∷ agreed ∷ []
 -- ---- its store
 
 abbrev agreed_text : List ℕ
-agreed_text = codes "{\"first\":\"2024-05-01\",\"kind\":\"agree\",\"last\":\"2024-05-31\",\"loan\":\"LO2024.1\",\"objects\":[\"2001.4.1\"],\"partner\":\"MUSEUM-X\"}"
+agreed_text =
+    codes "{\"first\":\"2024-05-01\",\"kind\":\"agree\",\"last\":\"2024-05-31\",\"loan\":\"LO2024.1\",\"objects\":[\"2001.4.1\"],\"partner\":\"MUSEUM-X\"}"
 
 abbrev moved_text : List ℕ
-moved_text = codes "{\"day\":\"2024-05-01\",\"kind\":\"move\",\"place\":\"S1\",\"thing\":\"2001.4.1\"}"
+moved_text =
+    codes "{\"day\":\"2024-05-01\",\"kind\":\"move\",\"place\":\"S1\",\"thing\":\"2001.4.1\"}"
 
 abbrev posting : ℕ → List ℕ → PostingRow
 posting n body = record { id = pos n; station = pos 0; n = pos n; body = body; verdict = pos 0 }
@@ -71,7 +76,8 @@ setup_row id text = record { id = pos id; text = text }
 
 abbrev first : Content
 first = record {
-  setup = setup_row 1 (codes "station,PACK") ∷ setup_row 2 (codes "place,S1,inside") ∷ setup_row 3 (codes "place,MUSEUM-X,elsewhere") ∷ setup_row 4 (codes "own,2001.4.1,S1") ∷ [];
+  setup = setup_row 1 (codes "station,PACK") ∷ setup_row 2 (codes "place,S1,inside") ∷ setup_row 3
+      (codes "place,MUSEUM-X,elsewhere") ∷ setup_row 4 (codes "own,2001.4.1,S1") ∷ [];
   meta = first_meta;
   postings = posting 1 agreed_text ∷ posting 2 moved_text ∷ [];
   spots = record { thing = pos 0; k = pos 1; entry = pos 2; place = pos 0; day = may } ∷ [];
@@ -80,7 +86,8 @@ first = record {
 }
 
 agreed_kept : IsPostingRow 1 agreed (posting 1 agreed_text)
-unfolding is_utf8 chars encode value punctuate lex content escape_byte days_from_civil day_count days_of_years days_of_months
+unfolding is_utf8 chars encode value punctuate lex content escape_byte days_from_civil day_count
+    days_of_years days_of_months
 agreed_kept = record {
   id = refl;
   station = refl;
@@ -91,17 +98,25 @@ agreed_kept = record {
 }
 
 moved_kept : IsPostingRow 2 moved (posting 2 moved_text)
-unfolding is_utf8 chars encode value punctuate lex content escape_byte days_from_civil day_count days_of_years days_of_months
-moved_kept = record { id = refl; station = refl; n = refl; body = rw may-text refl; reads_back = refl; verdict = refl }
+unfolding is_utf8 chars encode value punctuate lex content escape_byte days_from_civil day_count
+    days_of_years days_of_months
+moved_kept = record { id = refl; station = refl; n = refl; body = rw may-text refl;
+    reads_back = refl; verdict = refl }
 
 listed : HasList entries first
-listed = record { rows = posting 2 moved_text ∷ posting 1 agreed_text ∷ []; each = (moved_kept, (agreed_kept, tt)); all = IsPermutation-reverse (posting 2 moved_text ∷ posting 1 agreed_text ∷ []) }
+listed = record { rows = posting 2 moved_text ∷ posting 1 agreed_text ∷ [];
+    each = (moved_kept, (agreed_kept, tt)); all =
+    IsPermutation-reverse (posting 2 moved_text ∷ posting 1 agreed_text ∷ []) }
 
 agreed_known : IsEarlyOf 1 agreed
-agreed_known = record { stationed = record { known = omega arith; first = omega arith; few = omega arith }; early = refl }
+agreed_known =
+    record { stationed = record { known = omega arith; first = omega arith; few = omega arith };
+    early = refl }
 
 moved_known : IsEarlyOf 1 moved
-moved_known = record { stationed = record { known = omega arith; first = omega arith; few = omega arith }; early = refl }
+moved_known =
+    record { stationed = record { known = omega arith; first = omega arith; few = omega arith };
+    early = refl }
 
 is_first : IsOfFirst museum entries first
 is_first = record {
@@ -123,7 +138,8 @@ abbrev setup_at : ℕ → List ℕ → Row
 setup_at id text = Int (pos id) ∷ Null ∷ Text text ∷ []
 
 abbrev setup_table : List Row
-setup_table = setup_at 1 (codes "station,PACK") ∷ setup_at 2 (codes "place,S1,inside") ∷ setup_at 3 (codes "place,MUSEUM-X,elsewhere") ∷ setup_at 4 (codes "own,2001.4.1,S1") ∷ []
+setup_table = setup_at 1 (codes "station,PACK") ∷ setup_at 2 (codes "place,S1,inside")
+    ∷ setup_at 3 (codes "place,MUSEUM-X,elsewhere") ∷ setup_at 4 (codes "own,2001.4.1,S1") ∷ []
 
 abbrev posting_at : ℕ → List ℕ → Row
 posting_at n body = Int (pos n) ∷ Null ∷ Int (pos 0) ∷ Int (pos n) ∷ Text body ∷ Int (pos 0) ∷ []
@@ -132,13 +148,15 @@ abbrev posting_table : List Row
 posting_table = posting_at 1 agreed_text ∷ posting_at 2 moved_text ∷ []
 
 abbrev spot_table : List Row
-spot_table = (Int (pos 1) ∷ Int (pos 0) ∷ Int (pos 1) ∷ Int (pos 2) ∷ Int (pos 0) ∷ Int may ∷ []) ∷ []
+spot_table =
+    (Int (pos 1) ∷ Int (pos 0) ∷ Int (pos 1) ∷ Int (pos 2) ∷ Int (pos 0) ∷ Int may ∷ []) ∷ []
 
 abbrev line_table : List Row
 line_table = (Int (pos 1) ∷ Text (codes "LO2024.1") ∷ Int (pos 0) ∷ Int (pos 0) ∷ []) ∷ []
 
 abbrev tables : Trees
-tables t = slice_index_or (meta_table ∷ [] ∷ setup_table ∷ posting_table ∷ [] ∷ spot_table ∷ [] ∷ line_table ∷ []) t []
+tables t = slice_index_or (meta_table ∷ [] ∷ setup_table ∷ posting_table ∷ [] ∷ spot_table ∷ []
+    ∷ line_table ∷ []) t []
 
 held : HasPart 5 tables first
 held = record {
@@ -163,7 +181,8 @@ unfolding IsDistinct value_cmp is_nan lt
 apart = (
   record { ints = (refl, (refl, tt)); differ = ((refl, tt), (tt, tt)) },
   record {
-    setup = record { ints = (refl, (refl, (refl, (refl, tt)))); differ = ((refl, (refl, (refl, tt))), ((refl, (refl, tt)), ((refl, tt), (tt, tt)))) };
+    setup = record { ints = (refl, (refl, (refl, (refl, tt))));
+        differ = ((refl, (refl, (refl, tt))), ((refl, (refl, tt)), ((refl, tt), (tt, tt)))) };
     postings = record { ints = (refl, (refl, tt)); differ = ((refl, tt), (tt, tt)) };
     lines = record { ints = (refl, tt); differ = (tt, tt) };
     terms = record { ints = tt; differ = tt };
@@ -191,9 +210,12 @@ no_store zero e = absurd (omega (arith, ap (λ (s : Schema). length s.tables) e)
 no_store (suc zero) e = absurd (omega (arith, ap (λ (s : Schema). length s.indexes) e))
 no_store (suc (suc zero)) e = absurd (omega (arith, ap (λ (s : Schema). length s.indexes) e))
 no_store (suc (suc (suc zero))) e = absurd (omega (arith, ap (λ (s : Schema). length s.indexes) e))
-no_store (suc (suc (suc (suc zero)))) e = absurd (omega (arith, ap (λ (s : Schema). length s.indexes) e))
-no_store (suc (suc (suc (suc (suc zero))))) e = absurd (omega (arith, ap (λ (s : Schema). length s.indexes) e))
-no_store (suc (suc (suc (suc (suc (suc made)))))) e = absurd (omega (arith, ap (λ (s : Schema). length s.indexes) e))
+no_store (suc (suc (suc (suc zero)))) e =
+    absurd (omega (arith, ap (λ (s : Schema). length s.indexes) e))
+no_store (suc (suc (suc (suc (suc zero))))) e =
+    absurd (omega (arith, ap (λ (s : Schema). length s.indexes) e))
+no_store (suc (suc (suc (suc (suc (suc made)))))) e =
+    absurd (omega (arith, ap (λ (s : Schema). length s.indexes) e))
 
 -- nor can it be bound
 unbound : (S : Museum) → IsUnfitFor S (record { schema = of_tables (term ∷ []) []; trees = tables })

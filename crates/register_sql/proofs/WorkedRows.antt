@@ -24,11 +24,11 @@ use Rattle.register_sql.specs.Making.{MakesWhole, setup_from}
 use Rattle.register_sql.specs.Posting.{with_posting, with_spot, with_line, without_line, with_each, with_some_term}
 use Rattle.register_sql.specs.Queries.{shown_in, AreApart}
 use Rattle.register_sql.specs.Rows.{HasPart, AreRows, had, spot_cells, line_cells, same_id}
-use Rattle.register_sql.specs.Says.{IsOther, IsTold, setup_in, setup_rows_shown}
+use Rattle.register_sql.specs.Says.{IsOther, IsIdentity, setup_in, setup_rows_shown}
 use Rattle.register_sql.specs.Stores.{in_store, no_rows, counted}
 use Rattle.register_sql.specs.Tables.{hub_schema, table_at, index_at, all_tables, all_indexes, index_count}
 use Rattle.register_sql.specs.declared.queries.Query.TheVariants.{Metas, Setups, Postings, Spots, Lines, Terms, LineIds}
-use Rattle.register_sql.specs.declared.told.Told.TheVariants as told
+use Rattle.register_sql.specs.declared.identity.Identity.TheVariants as told
 
 -- ---- a store with an entry, its spot, two lines of a loan and its last day
 
@@ -39,7 +39,8 @@ abbrev texts : List (List ℕ)
 texts = codes "station,PACK" ∷ codes "place,S1,inside" ∷ codes "own,2001.4.1,S1" ∷ []
 
 abbrev setup : List SetupRow
-setup = setup_row 1 (codes "station,PACK") ∷ setup_row 2 (codes "place,S1,inside") ∷ setup_row 3 (codes "own,2001.4.1,S1") ∷ []
+setup = setup_row 1 (codes "station,PACK") ∷ setup_row 2 (codes "place,S1,inside") ∷ setup_row 3
+    (codes "own,2001.4.1,S1") ∷ []
 
 abbrev body : List ℕ
 body = codes "the text of a message"
@@ -74,27 +75,33 @@ worked = record {
 
 -- its tables' rows, at their trees: a rowid of their own first, where no column is it
 abbrev meta_table : List Row
-meta_table = (Int (pos 1) ∷ Text (codes "depth") ∷ Int (pos 12) ∷ []) ∷ (Int (pos 2) ∷ Text (codes "version") ∷ Int (pos 2) ∷ []) ∷ []
+meta_table = (Int (pos 1) ∷ Text (codes "depth") ∷ Int (pos 12) ∷ [])
+    ∷ (Int (pos 2) ∷ Text (codes "version") ∷ Int (pos 2) ∷ []) ∷ []
 
 abbrev setup_table : List Row
 setup_table =
-    (Int (pos 1) ∷ Null ∷ Text (codes "station,PACK") ∷ []) ∷ (Int (pos 2) ∷ Null ∷ Text (codes "place,S1,inside") ∷ [])
+    (Int (pos 1) ∷ Null ∷ Text (codes "station,PACK") ∷ [])
+        ∷ (Int (pos 2) ∷ Null ∷ Text (codes "place,S1,inside") ∷ [])
     ∷ (Int (pos 3) ∷ Null ∷ Text (codes "own,2001.4.1,S1") ∷ []) ∷ []
 
 abbrev posting_table : List Row
 posting_table = (Int (pos 1) ∷ Null ∷ Int (pos 0) ∷ Int (pos 1) ∷ Text body ∷ Int (pos 0) ∷ []) ∷ []
 
 abbrev spot_table : List Row
-spot_table = (Int (pos 1) ∷ Int (pos 0) ∷ Int (pos 1) ∷ Int (pos 1) ∷ Int (pos 0) ∷ Int (pos 19844) ∷ []) ∷ []
+spot_table =
+    (Int (pos 1) ∷ Int (pos 0) ∷ Int (pos 1) ∷ Int (pos 1) ∷ Int (pos 0)
+    ∷ Int (pos 19844) ∷ []) ∷ []
 
 abbrev line_table : List Row
-line_table = (Int (pos 4) ∷ Text loan ∷ Int (pos 0) ∷ Int (pos 1) ∷ []) ∷ (Int (pos 7) ∷ Text loan ∷ Int (pos 1) ∷ Int (pos 0) ∷ []) ∷ []
+line_table = (Int (pos 4) ∷ Text loan ∷ Int (pos 0) ∷ Int (pos 1) ∷ [])
+    ∷ (Int (pos 7) ∷ Text loan ∷ Int (pos 1) ∷ Int (pos 0) ∷ []) ∷ []
 
 abbrev term_table : List Row
 term_table = (Int (pos 2) ∷ Text loan ∷ Int (pos 19874) ∷ []) ∷ []
 
 abbrev tables : Trees
-tables t = slice_index_or (meta_table ∷ [] ∷ setup_table ∷ posting_table ∷ [] ∷ spot_table ∷ [] ∷ line_table ∷ [] ∷ term_table ∷ []) t []
+tables t = slice_index_or (meta_table ∷ [] ∷ setup_table ∷ posting_table ∷ [] ∷ spot_table ∷ []
+    ∷ line_table ∷ [] ∷ term_table ∷ []) t []
 
 abbrev says : List ℕ → ℕ → Row
 says name val = Text name ∷ Int (pos val) ∷ []
@@ -125,7 +132,8 @@ first_two = record {
   terms = IsPermutation-refl [];
 }
 
-had-three : map (λ made. had 3 made posting_table) (0 ∷ 2 ∷ 3 ∷ 6 ∷ []) ≡ [] ∷ [] ∷ posting_table ∷ posting_table ∷ []
+had-three : map (λ made. had 3 made posting_table) (0 ∷ 2 ∷ 3 ∷ 6 ∷ []) ≡ [] ∷ [] ∷ posting_table
+    ∷ posting_table ∷ []
 had-three = refl
 
 -- ---- an open connection to it, between two transactions
@@ -170,19 +178,22 @@ counts-most = refl
 
 -- ---- what is shown of it
 
-shown-metas : shown_in Metas tables ≡ (Text (codes "depth") ∷ Int (pos 12) ∷ []) ∷ (Text (codes "version") ∷ Int (pos 2) ∷ []) ∷ []
+shown-metas : shown_in Metas tables ≡ (Text (codes "depth") ∷ Int (pos 12) ∷ [])
+    ∷ (Text (codes "version") ∷ Int (pos 2) ∷ []) ∷ []
 shown-metas = refl
 
 shown-setups : shown_in Setups tables ≡ setup_rows_shown texts
 shown-setups = refl
 
-shown-postings : shown_in Postings tables ≡ (Int (pos 1) ∷ Int (pos 0) ∷ Int (pos 1) ∷ Text body ∷ Int (pos 0) ∷ []) ∷ []
+shown-postings : shown_in Postings tables
+    ≡ (Int (pos 1) ∷ Int (pos 0) ∷ Int (pos 1) ∷ Text body ∷ Int (pos 0) ∷ []) ∷ []
 shown-postings = refl
 
 shown-spots : shown_in Spots tables ≡ spot_cells (spot_row spot) ∷ []
 shown-spots = refl
 
-shown-lines : shown_in Lines tables ≡ line_cells (line_row away) ∷ line_cells (line_row awaited) ∷ []
+shown-lines : shown_in Lines tables ≡ line_cells (line_row away)
+    ∷ line_cells (line_row awaited) ∷ []
 shown-lines = refl
 
 shown-terms : shown_in Terms tables ≡ (Text loan ∷ Int (pos 19874) ∷ []) ∷ []
@@ -199,7 +210,8 @@ setup-unmade = refl
 apart : AreApart 6 tables
 unfolding IsDistinct value_cmp is_nan lt
 apart = record {
-  setup = record { ints = (refl, (refl, (refl, tt))); differ = ((refl, (refl, tt)), ((refl, tt), (tt, tt))) };
+  setup = record { ints = (refl, (refl, (refl, tt)));
+      differ = ((refl, (refl, tt)), ((refl, tt), (tt, tt))) };
   postings = record { ints = (refl, tt); differ = (tt, tt) };
   lines = record { ints = (refl, (refl, tt)); differ = ((refl, tt), (tt, tt)) };
   terms = record { ints = (refl, tt); differ = (tt, tt) };
@@ -208,7 +220,8 @@ apart = record {
 -- it is unfit for no setup, if its database obeys the tables
 says_something : IsSound hub_schema tables → IsUnfitNew at_rest.now → ⊥
 says_something sound h =
-    absurd (let e : false ≡ true = h.new worked (record { made = 6; few = omega arith; sound = sound; rows = held }) in cc)
+    absurd (let e : false ≡ true = h.new worked
+        (record { made = 6; few = omega arith; sound = sound; rows = held }) in cc)
 
 fit : (S : Museum) → IsSound hub_schema tables → IsUnfitFor S at_rest.now → ⊥
 fit S sound (inl h) = h 6 refl
@@ -219,16 +232,17 @@ twice : same_id (Int (pos 4) ∷ Text loan ∷ []) (Int (pos 4) ∷ []) ≡ true
 unfolding value_cmp is_nan lt
 twice = refl
 
-taken : map (λ id. is_taken line_table (Int (pos id) ∷ [])) (4 ∷ 5 ∷ 7 ∷ []) ≡ true ∷ false ∷ true ∷ []
+taken : map (λ id. is_taken line_table (Int (pos id) ∷ [])) (4 ∷ 5 ∷ 7 ∷ []) ≡ true
+    ∷ false ∷ true ∷ []
 unfolding value_cmp is_nan lt
 taken = refl
 
 -- ---- what it says of itself
 
-says_whole : IsTold (shown_in Metas tables) (told.Bound 12)
+says_whole : IsIdentity (shown_in Metas tables) (told.Bound 12)
 says_whole = (refl, held.meta)
 
-says_nothing : IsTold [] told.New
+says_nothing : IsIdentity [] told.New
 says_nothing = refl
 
 version_one : IsOther (Text (codes "version") ∷ Int (pos 1) ∷ [])
@@ -246,24 +260,29 @@ abbrev made_tables : Trees
 made_tables t = slice_index_or (meta_table ∷ [] ∷ setup_table ∷ []) t []
 
 made_whole : MakesWhole 0 setup (rows_of_meta 12) tables made_tables
-made_whole = record { meta = held.meta; setup_is = held.setup; postings = refl; spots = refl; lines = refl; terms = refl }
+made_whole = record { meta = held.meta; setup_is = held.setup; postings = refl; spots = refl;
+    lines = refl; terms = refl }
 
 -- ---- posted
 
-posted : with_posting entry (with_spot (spot_row spot) no_rows) ≡ record no_rows { postings = entry ∷ []; spots = spot_row spot ∷ [] }
+posted : with_posting entry (with_spot (spot_row spot) no_rows) ≡ record no_rows
+    { postings = entry ∷ []; spots = spot_row spot ∷ [] }
 posted = refl
 
 -- a line takes the place of that of its object, and of no other
-back : (with_line (line_row (record away { stage = Back })) worked).lines ≡ line_row (record away { stage = Back }) ∷ line_row awaited ∷ []
+back : (with_line (line_row (record away { stage = Back })) worked).lines
+    ≡ line_row (record away { stage = Back }) ∷ line_row awaited ∷ []
 back = refl
 
 without : (without_line (line_row away) worked).lines ≡ line_row awaited ∷ []
 without = refl
 
-both : (with_each (λ l. with_line (line_row l)) (away ∷ awaited ∷ []) no_rows).lines ≡ line_row awaited ∷ line_row away ∷ []
+both : (with_each (λ l. with_line (line_row l)) (away ∷ awaited ∷ []) no_rows).lines
+    ≡ line_row awaited ∷ line_row away ∷ []
 both = refl
 
-later : (with_some_term (Some (record last { day = pos 19904 })) worked).terms ≡ record last { day = pos 19904 } ∷ []
+later : (with_some_term (Some (record last { day = pos 19904 })) worked).terms ≡ record last
+    { day = pos 19904 } ∷ []
 later = refl
 
 no_later : (with_some_term None worked).terms ≡ last ∷ []
@@ -272,7 +291,8 @@ no_later = refl
 -- ---- what can be a spot
 
 fits : FitsSpot spot
-fits = record { thing = lit< tt; k = lit< tt; entry = lit< tt; place = lit< tt; day = record { from = record { le = tt }; to = record { le = tt } } }
+fits = record { thing = lit< tt; k = lit< tt; entry = lit< tt; place = lit< tt;
+    day = record { from = record { le = tt }; to = record { le = tt } } }
 
 -- a text in place of a number, a row of four cells, and a number that is none
 no_spot-text : IsNoSpot (Text loan ∷ Int (pos 1) ∷ Int (pos 1) ∷ Int (pos 0) ∷ Int (pos 19844) ∷ [])
@@ -281,7 +301,8 @@ no_spot-text s fit is = cc
 no_spot-short : IsNoSpot (Int (pos 0) ∷ Int (pos 1) ∷ Int (pos 1) ∷ Int (pos 0) ∷ [])
 no_spot-short s fit is = cc
 
-no_spot-below : IsNoSpot (Int (negsuc 0) ∷ Int (pos 1) ∷ Int (pos 1) ∷ Int (pos 0) ∷ Int (pos 19844) ∷ [])
+no_spot-below : IsNoSpot (Int (negsuc 0) ∷ Int (pos 1) ∷ Int (pos 1) ∷ Int (pos 0)
+    ∷ Int (pos 19844) ∷ [])
 no_spot-below s fit is = cc
 
 no_line-null : IsNoLine (Null ∷ Int (pos 0) ∷ Int (pos 1) ∷ [])

@@ -5,8 +5,8 @@ use Rattle.sqlite.specs.Order.{Row}
 use Rattle.register_store.specs.StoredRows.{MetaRow}
 use Rattle.register_sql.specs.Rows.{meta_cells}
 use Rattle.register_sql.specs.Says.{HasOther}
-use Rattle.register_sql.specs.declared.age.Age.{Age}
-use Rattle.register_sql.specs.declared.age.Age.TheVariants.{New, Second, First, Other, Damaged}
+use Rattle.register_sql.specs.declared.version.Age.{Age}
+use Rattle.register_sql.specs.declared.version.Age.TheVariants.{New, Second, First, Other, Damaged}
 
 -- The row with this version.
 abbrev pub version_row : ℕ → MetaRow

@@ -44,7 +44,8 @@ pub record IsCopied {D : Type 0} (g : Ghosts D) (store : Holding) (files : Files
 pub record IsLeft {D : Type 0} (g : Ghosts D) (store : Holding) (files : Files D) : Type 0 where
   pub was_quiet : store.is_quiet
   pub left : (image : Image) → outcomes g files.log files.db image
-      → ∥ ((db : Trees) × HoldsDatabase image db × ((c : Content) → IsStored db c → store.holds c)) ∥₁
+      → ∥ ((db : Trees) × HoldsDatabase image db
+          × ((c : Content) → IsStored db c → store.holds c)) ∥₁
 
 -- Whatever the new store may hold, the old one may have held.
 abbrev pub Lasts : Holding → Holding → Type 0

@@ -9,8 +9,8 @@ use Rattle.register_store.specs.StoredRows.{rows_of_meta, is_depth}
 use Rattle.register_sql.specs.Making.{setup_from}
 use Rattle.register_sql.specs.Rows.{had, meta_cells}
 use Rattle.register_sql.specs.Shown.{shown_setup, setup_shown}
-use Rattle.register_sql.specs.declared.told.Told.{Told}
-use Rattle.register_sql.specs.declared.told.Told.TheVariants.{New, OtherVersion, Damaged, Bound}
+use Rattle.register_sql.specs.declared.identity.Identity.{Identity}
+use Rattle.register_sql.specs.declared.identity.Identity.TheVariants.{New, OtherVersion, Damaged, Bound}
 
 -- A version other than 2.
 abbrev pub IsOther : Row → Type 0
@@ -26,12 +26,12 @@ abbrev pub IsWhole : ℕ → List Row → Type 0
 IsWhole depth rows = IsPermutation (map meta_cells (rows_of_meta depth)) rows
 
 -- The result of checking `meta`: New, OtherVersion, Damaged, or Bound with this depth limit.
-abbrev pub IsTold : List Row → Told → Type 0
-IsTold rows New = rows ≡ []
-IsTold rows OtherVersion = HasOther rows
-IsTold rows Damaged =
+abbrev pub IsIdentity : List Row → Identity → Type 0
+IsIdentity rows New = rows ≡ []
+IsIdentity rows OtherVersion = HasOther rows
+IsIdentity rows Damaged =
     (rows ≢ []) × ¬ HasOther rows × ((depth : ℕ) → is_depth depth ≡ true → ¬ IsWhole depth rows)
-IsTold rows (Bound depth) = (is_depth depth ≡ true) × IsWhole depth rows
+IsIdentity rows (Bound depth) = (is_depth depth ≡ true) × IsWhole depth rows
 
 -- The setup with these texts, as the query returns it.
 abbrev pub setup_rows_shown : List (List ℕ) → List Row

@@ -1,4 +1,5 @@
-//! From one run of the program to the next: laws, which no program calls.
+//! Laws about one run of the program and the next. Each is stated on a function that no program
+//! calls.
 ghost use Rattle.std.specs.Prelude.{IfOk};
 ghost use Rattle.sqlite.specs.Files.{file_state};
 ghost use Rattle.sqlite.specs.State.{HasCleanDisk};
@@ -12,8 +13,12 @@ use sqlite::{Error, FileFrom, FileStore, Files, Start};
 use sqlite_disk::Disk;
 use std::alloc::Global;
 
-/// Closes a register, and opens the file of the next run: where that run's files hold what a crash after the close may
-/// leave of these, or what they hold, both stores have the same rows.
+/// Closes a register and opens the next run's files. The two stores may hold the same rows if the
+/// next run's files hold what the closed ones hold, or what a crash after the close may leave of
+/// them.
+///
+/// Returns the closed files and the next register, or the first error: that of closing, then that
+/// of opening.
 pub fn closed_and_opened<D: Disk + Drop, T: Start>(
     rt: &HostRuntime,
     alloc: Global,
@@ -41,7 +46,8 @@ pub fn closed_and_opened<D: Disk + Drop, T: Start>(
     }
 }
 
-/// The same where the first run only ends: whatever the second store may hold, the first may have held.
+/// Ends a register without closing its files, and opens the next run's files. Whatever rows the new
+/// store may hold, the old one may have held. Otherwise like [`closed_and_opened`].
 pub fn left_and_opened<D: Disk + Drop, T: Start>(
     rt: &HostRuntime,
     alloc: Global,

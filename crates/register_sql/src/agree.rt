@@ -1,4 +1,4 @@
-//! Whether a whole store's spots, lines and last days are those of a ledger.
+//! Compares the spots, loan lines and last days of a whole store with those of a ledger.
 ghost use Rattle.std.specs.Prelude.{◌≡◌, ◌&&◌, ◌∷◌, ◌++◌, [], true, false, map, IfOk, IfErr, OnOk};
 ghost use Rattle.std.specs.Bool.{Decides};
 ghost use Rattle.std.specs.List.Sorted.{IsPermutation};
@@ -14,9 +14,9 @@ ghost use Rattle.register_sql.specs.Posting.{Survived};
 ghost use Rattle.register_sql.specs.Queries.{shown_in, IsPart, IsSame};
 ghost use Rattle.register_sql.specs.Rows.{AreRows};
 
+use crate::mismatch::are_strange;
 use crate::queries::{Query, read};
-use crate::strange::are_strange;
-use crate::typed::{line_of, spot_of, term_of};
+use crate::row_values::{line_of, spot_of, term_of};
 use codes_core::{Day, LoanCode};
 use indexmap::IndexMap;
 use posting_core::{Ledger, LineStage, NewSpot};
@@ -24,7 +24,7 @@ use register_store::{LineKey, StoreFault, has_all, has_rows, lines_of, spot_rows
 use sqlite::{Alter, Connection, Error, Row};
 use std::alloc::Global;
 
-/// Adds the spot of the row. Store, where it is none.
+/// Adds the spot of a row. Faults: Store if the row can't be a spot; NoMemory.
 #[tactic(auto, using(crate::proofs::Agrees::more_spots))]
 fn keep_spot(spots: &mut Vec<NewSpot>, row: &Row) -> Result<(), StoreFault>
     ensures kept { OnOk result
@@ -39,7 +39,8 @@ fn keep_spot(spots: &mut Vec<NewSpot>, row: &Row) -> Result<(), StoreFault>
     Ok(())
 }
 
-/// Adds the line of the row. Store, where it is none, or its object is there under its loan.
+/// Adds the loan line of a row. Faults: Store if the row can't be a loan line, or if its loan and
+/// object have one already; NoMemory.
 fn keep_line(kept: &mut IndexMap<LineKey, LineStage>, row: &Row) -> Result<(), StoreFault>
     ensures kept { OnOk result
         (lines_shown kept.new.entries ≡ lines_shown kept.old.entries ++ row.now ∷ []) }
@@ -55,7 +56,8 @@ fn keep_line(kept: &mut IndexMap<LineKey, LineStage>, row: &Row) -> Result<(), S
     }
 }
 
-/// Adds the last day of the row. Store, where it is none, or its loan is there.
+/// Adds the last day of a row. Faults: Store if the row can't be a last day, or if its loan has one
+/// already; NoMemory.
 fn keep_term(kept: &mut IndexMap<LoanCode, Day>, row: &Row) -> Result<(), StoreFault>
     ensures kept { OnOk result
         (terms_shown kept.new.entries ≡ terms_shown kept.old.entries ++ row.now ∷ []) }
@@ -71,7 +73,7 @@ fn keep_term(kept: &mut IndexMap<LoanCode, Day>, row: &Row) -> Result<(), StoreF
     }
 }
 
-/// The spots of the rows.
+/// Reads all rows as spots.
 fn spots_in(alloc: Global, rows: &[Row]) -> Result<Vec<NewSpot>, StoreFault>
     ensures read { IfOk result (λ spots. spots_shown spots.items ≡ rows.now) }
     ensures faults { IfErr result (λ fault. is_failure fault ≡ true) }
@@ -83,7 +85,7 @@ fn spots_in(alloc: Global, rows: &[Row]) -> Result<Vec<NewSpot>, StoreFault>
     Ok(spots)
 }
 
-/// The lines of the rows, by loan and object.
+/// Reads all rows as loan lines, by loan and object.
 fn lines_in(alloc: Global, rows: &[Row]) -> Result<IndexMap<LineKey, LineStage>, StoreFault>
     ensures read { IfOk result (λ kept. lines_shown kept.entries ≡ rows.now) }
     ensures faults { IfErr result (λ fault. is_failure fault ≡ true) }
@@ -95,7 +97,7 @@ fn lines_in(alloc: Global, rows: &[Row]) -> Result<IndexMap<LineKey, LineStage>,
     Ok(kept)
 }
 
-/// The last days of the rows, by loan.
+/// Reads all rows as last days, by loan.
 fn terms_in(alloc: Global, rows: &[Row]) -> Result<IndexMap<LoanCode, Day>, StoreFault>
     ensures read { IfOk result (λ kept. terms_shown kept.entries ≡ rows.now) }
     ensures faults { IfErr result (λ fault. is_failure fault ≡ true) }
@@ -107,14 +109,14 @@ fn terms_in(alloc: Global, rows: &[Row]) -> Result<IndexMap<LoanCode, Day>, Stor
     Ok(kept)
 }
 
-/// Whether all three are the same.
+/// Whether all three are true.
 fn are_all(spots: bool, lines: bool, terms: bool) -> bool
     ensures { result ≡ (spots && (lines && terms)) }
 {
     spots && lines && terms
 }
 
-/// Whether these are the rows of the ledger; the spots are put in order.
+/// Returns whether these are the rows of the ledger. Sorts the spots.
 fn are_rows(
     alloc: Global,
     spots: &mut Vec<NewSpot>,
@@ -139,7 +141,8 @@ fn are_rows(
     Ok(are_all(same_spots, same_lines, same_terms))
 }
 
-/// The same, where each row can be read and no key repeats; else Store.
+/// Returns whether these are the rows of the ledger. Store if a row can't be read, or if two loan
+/// lines or two last days have the same key.
 fn compare_read(
     alloc: Global,
     spots: &[Row],
@@ -159,7 +162,8 @@ fn compare_read(
     answer
 }
 
-/// The same, of rows that can't all be read: one that is no row of the ledger makes them differ.
+/// The same for rows that `compare_read` rejected with Store: if one of them can't be a row of the
+/// ledger, the answer is false. Otherwise the fault stays Store.
 fn compare_unread(
     alloc: Global,
     spots: &[Row],
@@ -179,7 +183,8 @@ fn compare_unread(
     Err(StoreFault::Store)
 }
 
-/// Whether the rows that were read are those of the ledger. Store, where a key repeats.
+/// Returns whether these are the rows of the ledger. Store means that two rows have the same key,
+/// though no clause says so.
 fn compare(
     alloc: Global,
     spots: &[Row],
@@ -198,7 +203,7 @@ fn compare(
     }
 }
 
-/// The rows of the lines, and of the last days.
+/// Reads the rows of the loan lines and of the last days.
 fn loan_rows<S: Alter>(conn: &mut Connection<S>) -> Result<(Vec<Row>, Vec<Row>), Error>
     requires part { HasCleanDisk (state S.Store conn.old) → IsPart 6 (state S.Store conn.old) }
     ensures between { conn.old.in_transaction ≡ false → conn.new.in_transaction ≡ false }
@@ -214,7 +219,8 @@ fn loan_rows<S: Alter>(conn: &mut Connection<S>) -> Result<(Vec<Row>, Vec<Row>),
     Ok((lines, terms))
 }
 
-/// Whether the store's rows of spots, lines and last days are exactly those of the ledger.
+/// Returns whether the store's rows of spots, loan lines and last days are exactly those of the
+/// ledger. The outer error is that of a failed statement. The store stays as it was.
 pub(crate) fn agrees<S: Alter>(
     alloc: Global,
     conn: &mut Connection<S>,

@@ -1,4 +1,4 @@
-//! A store is bound to a setup: a new one is made whole, an old one is compared and never written.
+//! Binds a store to a setup: fills a new store, or compares an old one.
 ghost use Rattle.std.specs.Prelude.{◌≡◌, ◌≢◌, ◌≤◌, [], true, false, IfOk, IfErr, OnOk};
 ghost use Rattle.std.specs.List.Sorted.{IsPermutation};
 ghost use Rattle.sqlite.specs.Held.{state};
@@ -7,24 +7,25 @@ ghost use Rattle.register_sql.specs.Binding.{IsSettled, IsRefused, IsBoundAs, Is
 ghost use Rattle.register_sql.specs.Posting.{Survived};
 ghost use Rattle.register_sql.specs.Queries.{shown_in, IsPart, IsSame};
 ghost use Rattle.register_sql.specs.Rows.{had};
-ghost use Rattle.register_sql.specs.Says.{IsTold};
-ghost use Rattle.register_sql.specs.declared.told.Told.TheVariants as told;
+ghost use Rattle.register_sql.specs.Says.{IsIdentity};
+ghost use Rattle.register_sql.specs.declared.identity.Identity.TheVariants as told;
 
+use crate::identity::{Identity, has_setup, identity_of};
 use crate::make::make_whole;
 use crate::queries::Query;
 use crate::rowids::are_all_apart;
 use crate::schema::tables_made;
-use crate::told::{Told, has_setup, told_of};
 use codes_core::NoMemory;
 use nest_core::Setup;
 use register_store::{NEW_DEPTH, StoreFault, row_texts};
 use sqlite::{Alter, Connection, Error};
 use std::alloc::Global;
 
-/// The depth limit of a store that is bound, or why it isn't.
+/// The depth limit of the bound store, or why it isn't bound.
 type Answer = Result<u32, StoreFault>;
 
-/// Makes a store of the first so many tables whole, which says nothing of itself.
+/// Completes a new store that has the first `made` tables and no row about itself. Faults: Store if
+/// its rowids aren't distinct numbers; NoMemory.
 fn make_new<S: Alter>(
     alloc: Global,
     conn: &mut Connection<S>,
@@ -57,7 +58,9 @@ fn make_new<S: Alter>(
     Ok(Ok(NEW_DEPTH))
 }
 
-/// Compares a store of the first so many tables that says that it has this depth limit.
+/// Compares a store of the first `made` tables, whose rows about itself are right and have this
+/// depth limit. Faults: NoMemory; OtherSetup; Store if a table is missing or rowids aren't distinct
+/// numbers.
 fn compare<S: Alter>(
     alloc: Global,
     conn: &mut Connection<S>,
@@ -70,7 +73,7 @@ fn compare<S: Alter>(
     requires part { HasCleanDisk (state S.Store conn.old) → IsPart made (state S.Store conn.old) }
     requires told { HasCleanDisk (state S.Store conn.old) → (rows : _)
         × IsPermutation (shown_in Query.Metas (state S.Store conn.old).now.trees) rows
-        × IsTold rows (told.Bound depth) }
+        × IsIdentity rows (told.Bound depth) }
     requires between { conn.old.in_transaction ≡ false }
     ensures between { conn.new.in_transaction ≡ false }
     ensures bound { HasCleanDisk (state S.Store conn.new)
@@ -99,7 +102,7 @@ fn compare<S: Alter>(
     Ok(Ok(depth))
 }
 
-/// Binds a store of the first so many tables, of which the one that says what the store is is among them.
+/// Binds a store of the first `made` tables, one of which is `meta`.
 fn bind_told<S: Alter>(
     alloc: Global,
     conn: &mut Connection<S>,
@@ -119,22 +122,24 @@ fn bind_told<S: Alter>(
     ensures crash { Survives (state S.Store conn.old) (state S.Store conn.new)
         (LeavesBound setup.now (state S.Store conn.old)) }
 {
-    let told = told_of(conn, made)?;
-    match told {
-        Told::New => {
+    let identity = identity_of(conn, made)?;
+    match identity {
+        Identity::New => {
             let answer = make_new(alloc, conn, setup, made);
             answer
         }
-        Told::OtherVersion => Ok(Err(StoreFault::OtherVersion)),
-        Told::Damaged => Ok(Err(StoreFault::Damaged(0))),
-        Told::Bound(depth) => {
+        Identity::OtherVersion => Ok(Err(StoreFault::OtherVersion)),
+        Identity::Damaged => Ok(Err(StoreFault::Damaged(0))),
+        Identity::Bound(depth) => {
             let answer = compare(alloc, conn, setup, made, depth);
             answer
         }
     }
 }
 
-/// Binds the store to the setup. The outer fault is that of a statement, after which the connection may be shut.
+/// Binds the store to the setup, and returns its depth limit or the cause of the rejection. A
+/// rejected store stays as it was. The outer error is that of a failed statement, after which the
+/// connection may be closed.
 pub(crate) fn bind<S: Alter>(
     alloc: Global,
     conn: &mut Connection<S>,
@@ -168,8 +173,9 @@ pub(crate) fn bind<S: Alter>(
     }
 }
 
-/// Whether a store says nothing of itself yet, so that binding it to a setup begins a record. A database with other tables
-/// than a store's is none. The outer fault is that of a statement, after which the connection may be shut.
+/// Returns whether the store has no rows about itself, so that binding it begins a record. False if
+/// the database has other tables than a store's. The outer error is that of a failed statement,
+/// after which the connection may be closed.
 pub(crate) fn is_new<S: Alter>(
     alloc: Global,
     conn: &mut Connection<S>,
@@ -191,9 +197,9 @@ pub(crate) fn is_new<S: Alter>(
         None => Ok(Ok(false)),
         Some(0) => Ok(Ok(true)),
         Some(made) => {
-            let told = told_of(conn, made)?;
-            match told {
-                Told::New => Ok(Ok(true)),
+            let identity = identity_of(conn, made)?;
+            match identity {
+                Identity::New => Ok(Ok(true)),
                 _ => Ok(Ok(false)),
             }
         }

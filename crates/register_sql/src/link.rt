@@ -1,4 +1,4 @@
-//! A connection that is asked nothing more once a statement has failed.
+//! A connection to a store that sends no further statement once one has failed.
 ghost use Rattle.std.specs.Prelude.{◌≡◌, ◌≢◌, ◌⊎◌, true, Some, Err, reverse, All, IsNone, is_some, IfOk, IfErr, OnOk, OnErr};
 ghost use Rattle.std.specs.Bool.{Decides};
 ghost use Rattle.sqlite.specs.Held.{state};
@@ -22,8 +22,9 @@ use register_store::{StoreFault, row_of};
 use sqlite::{Alter, Connection, Error, ErrorCode};
 use std::alloc::Global;
 
-/// A connection, whether a setup is bound to its store, and the error of the statement that failed. A failure may close
-/// the connection, which then shows nothing: it gets no further statement, and each call returns Store.
+/// A connection, whether a setup is bound to its store, and the error of the statement that failed,
+/// if one has. A failed statement may close the connection. So each function below returns Store at
+/// once if an earlier call has stopped the link.
 pub(crate) struct Link<S: Alter> {
     pub(crate) conn: Connection<S>,
     pub(crate) bound: bool,
@@ -43,7 +44,7 @@ pub fn fault_of(error: Error) -> StoreFault
     }
 }
 
-/// Stops the connection after an error, and answers its fault.
+/// Stops the link for good with this error, and returns the error's fault.
 pub(crate) fn stop<S: Alter>(link: &mut Link<S>, error: Error) -> StoreFault
     ensures conn { link.new.conn ≡ link.old.conn }
     ensures bound { link.new.bound ≡ link.old.bound }
@@ -57,7 +58,7 @@ pub(crate) fn stop<S: Alter>(link: &mut Link<S>, error: Error) -> StoreFault
     fault_of(error)
 }
 
-/// Binds the store to the setup, and answers its depth limit.
+/// Binds the store to the setup, and returns its depth limit. Store if the link has stopped.
 pub(crate) fn bind_store<S: Alter>(
     alloc: Global,
     link: &mut Link<S>,
@@ -94,7 +95,8 @@ pub(crate) fn bind_store<S: Alter>(
     }
 }
 
-/// Whether the store says nothing of itself yet, so that binding it begins a record.
+/// Returns whether the store has no rows about itself, so that binding it begins a record. Store if
+/// the link has stopped.
 pub(crate) fn store_is_new<S: Alter>(alloc: Global, link: &mut Link<S>) -> Result<bool, StoreFault>
     requires { IsKept (state S.Store link.old.conn) link.old.bound link.old.stopped }
     ensures invariant { IsKept (state S.Store link.new.conn) link.new.bound link.new.stopped }
@@ -117,7 +119,8 @@ pub(crate) fn store_is_new<S: Alter>(alloc: Global, link: &mut Link<S>) -> Resul
     }
 }
 
-/// Makes a store of version 1 with this setup one of version 2, with the last days that its entries gave loans.
+/// Makes a store of version 1 with this setup one of version 2, with the last days that its entries
+/// set. Store if the link has stopped.
 pub(crate) fn migrate_store<S: Alter>(
     alloc: Global,
     link: &mut Link<S>,
@@ -147,7 +150,8 @@ pub(crate) fn migrate_store<S: Alter>(
     }
 }
 
-/// The entries of a bound store, oldest first.
+/// Returns the entries of a bound store, oldest first. Store comes only if the link has stopped, in
+/// this call or before.
 pub(crate) fn list_store<S: Alter>(
     alloc: Global,
     link: &mut Link<S>,
@@ -178,7 +182,8 @@ pub(crate) fn list_store<S: Alter>(
     }
 }
 
-/// Puts an entry with its changes into a bound store.
+/// Adds an entry with its changes to a bound store. Store comes only if the link has stopped, in
+/// this call or before.
 pub(crate) fn post_to_store<S: Alter>(
     alloc: Global,
     link: &mut Link<S>,
@@ -213,7 +218,8 @@ pub(crate) fn post_to_store<S: Alter>(
     }
 }
 
-/// Whether a bound store's rows of spots, of lines and of last days are exactly those of the ledger.
+/// Returns whether the rows of spots, loan lines and last days of a bound store are exactly those
+/// of the ledger. Store if the link has stopped.
 pub(crate) fn store_agrees<S: Alter>(
     alloc: Global,
     link: &mut Link<S>,

@@ -1,4 +1,4 @@
-//! The entries of a whole store, in the order of their numbers.
+//! Reads the entries of a whole store, in the order of their numbers.
 ghost use Rattle.std.specs.Prelude.{◌≡◌, ◌≢◌, true, false, map, reverse, All, ℕ, List, IfOk, IfErr, OnOk};
 ghost use Rattle.sqlite.specs.Held.{state};
 ghost use Rattle.sqlite.specs.State.{HasCleanDisk};
@@ -17,7 +17,8 @@ use register_store::{KeptPosting, StoreFault, entry_of};
 use sqlite::{Alter, Connection, Error, ErrorCode, Row};
 use std::alloc::Global;
 
-/// The row, where its numbers can be an entry's and its body is text.
+/// Reads a row of `posting`. Fails if a number doesn't fit an entry, if the body isn't text, or for
+/// lack of memory.
 fn typed(row: &Row) -> Result<KeptPosting, Error>
     ensures read { IfOk result (λ kept. posting_shown (posting_row kept) ≡ row.now) }
     ensures unreadable { IfErr result (λ e. e ≢ Error.SqliteFailure ErrorCode.OutOfMemory
@@ -35,7 +36,7 @@ fn typed(row: &Row) -> Result<KeptPosting, Error>
     })
 }
 
-/// The fault of a row that wasn't read.
+/// The fault of row `number`, which could not be read: NoMemory or Damaged.
 fn unread(error: Error, number: u64) -> StoreFault
     ensures memory { error ≡ Error.SqliteFailure ErrorCode.OutOfMemory
         → result ≡ StoreFault.NoMemory }
@@ -48,7 +49,8 @@ fn unread(error: Error, number: u64) -> StoreFault
     }
 }
 
-/// The entry that the row keeps under this number.
+/// Returns the entry in row `number`, counted from 1. Faults: Damaged(number) if the row is that of
+/// no entry of these stations; NoMemory.
 pub(crate) fn entry_in(
     alloc: Global,
     row: &Row,
@@ -71,7 +73,8 @@ pub(crate) fn entry_in(
     entry_of(alloc, &kept, number, stations)
 }
 
-/// The entries that the rows keep, oldest first; Damaged at the first row that keeps none of these stations under its number.
+/// Returns the entries in the rows, oldest first. Faults: Damaged with the number of the first row
+/// that is no entry of these stations; NoMemory.
 fn entries_of(alloc: Global, rows: &[Row], stations: u32) -> Result<Vec<Entry>, StoreFault>
     ensures kept { IfOk result
         (λ entries. (ps : List stored.PostingRow) → map posting_shown ps ≡ rows.now
@@ -92,7 +95,9 @@ fn entries_of(alloc: Global, rows: &[Row], stations: u32) -> Result<Vec<Entry>, 
     Ok(entries)
 }
 
-/// The entries of a whole store, oldest first, or why it can't list them.
+/// Returns the entries of a whole store, oldest first. The inner fault is Damaged with the number
+/// of the first wrong row, or NoMemory. The outer error is that of a failed statement. The store
+/// stays as it was.
 pub(crate) fn list<S: Alter>(
     alloc: Global,
     conn: &mut Connection<S>,

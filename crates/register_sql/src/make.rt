@@ -1,4 +1,4 @@
-//! A new store is made whole in one transaction.
+//! Creates and fills the tables of a new store, in one transaction.
 ghost use Rattle.std.specs.Prelude.{◌≡◌, ◌<◌, ◌≤◌, ◌+◌, ◌∷◌, [], OnOk, OnErr, IsTrue, false, pos, map, string_bytes};
 ghost use Rattle.sqlite.specs.Held.{state};
 ghost use Rattle.sqlite.specs.State.{HasCleanDisk, Survives};
@@ -11,7 +11,7 @@ ghost use Rattle.register_sql.specs.Rows.{had, Apart};
 use crate::put::{run, wide};
 use sqlite::{Alter, Connection, Error, Transaction, params};
 
-/// The text that makes the table after the first so many.
+/// The statement that creates table `at`, counted from 0.
 fn create_text(at: usize) -> &'static str
     ensures { result.now ≡ create_of at }
 {
@@ -31,7 +31,7 @@ fn create_text(at: usize) -> &'static str
     }
 }
 
-/// Makes the table after the first so many.
+/// Creates table `at`, counted from 0, after the tables before it.
 pub(crate) fn make_at<S: Alter>(tx: &mut Transaction<'_, S>, at: usize) -> Result<(), Error>
     requires few { at < 6 }
     requires made { IsMaking at (state S.Store tx.old.conn.now) }
@@ -45,7 +45,7 @@ pub(crate) fn make_at<S: Alter>(tx: &mut Transaction<'_, S>, at: usize) -> Resul
     run(tx, text, &[])
 }
 
-/// Makes the tables that come after the first so many.
+/// Creates the tables that are missing after the first `made`.
 fn make_rest<S: Alter>(tx: &mut Transaction<'_, S>, made: usize) -> Result<(), Error>
     requires few { made ≤ 6 }
     requires made { IsMaking made (state S.Store tx.old.conn.now) }
@@ -61,7 +61,7 @@ fn make_rest<S: Alter>(tx: &mut Transaction<'_, S>, made: usize) -> Result<(), E
     Ok(())
 }
 
-/// Empties the setup.
+/// Removes all rows of the setup.
 fn clear_setup<S: Alter>(tx: &mut Transaction<'_, S>) -> Result<(), Error>
     requires made { IsMaking 6 (state S.Store tx.old.conn.now) }
     requires apart { HasCleanDisk (state S.Store tx.old.conn.now)
@@ -108,7 +108,7 @@ fn add_setups<S: Alter>(tx: &mut Transaction<'_, S>, texts: &[String]) -> Result
     Ok(())
 }
 
-/// Adds a row of what the store says of itself.
+/// Adds a row about the store.
 fn add_meta<S: Alter>(tx: &mut Transaction<'_, S>, name: &str, val: u32) -> Result<(), Error>
     requires { IsMaking 6 (state S.Store tx.old.conn.now) }
     ensures same_reference { tx.new.conn.ghost_name ≡ tx.old.conn.ghost_name }
@@ -124,7 +124,7 @@ fn add_meta<S: Alter>(tx: &mut Transaction<'_, S>, name: &str, val: u32) -> Resu
     )
 }
 
-/// Adds the version of the store, and the depth limit that it is made with.
+/// Adds the rows about the store: version 2, and this depth limit.
 pub(crate) fn add_metas<S: Alter>(tx: &mut Transaction<'_, S>, depth: u32) -> Result<(), Error>
     requires { IsMaking 6 (state S.Store tx.old.conn.now) }
     ensures same_reference { tx.new.conn.ghost_name ≡ tx.old.conn.ghost_name }
@@ -138,7 +138,7 @@ pub(crate) fn add_metas<S: Alter>(tx: &mut Transaction<'_, S>, depth: u32) -> Re
     version
 }
 
-/// Puts these rows in the place of the setup.
+/// Replaces the rows of the setup.
 fn replace_setup<S: Alter>(tx: &mut Transaction<'_, S>, texts: &[String]) -> Result<(), Error>
     requires made { IsMaking 6 (state S.Store tx.old.conn.now) }
     requires apart { HasCleanDisk (state S.Store tx.old.conn.now)
@@ -154,7 +154,7 @@ fn replace_setup<S: Alter>(tx: &mut Transaction<'_, S>, texts: &[String]) -> Res
     add_setups(tx, texts)
 }
 
-/// Says the setup, and what the store says of itself.
+/// Replaces the rows of the setup, and adds the rows about the store.
 fn fill<S: Alter>(tx: &mut Transaction<'_, S>, texts: &[String], depth: u32) -> Result<(), Error>
     requires made { IsMaking 6 (state S.Store tx.old.conn.now) }
     requires apart { HasCleanDisk (state S.Store tx.old.conn.now)
@@ -170,7 +170,7 @@ fn fill<S: Alter>(tx: &mut Transaction<'_, S>, texts: &[String], depth: u32) -> 
     add_metas(tx, depth)
 }
 
-/// Makes the tables that come after the first so many, and fills them.
+/// Creates the tables that are missing after the first `made`, and fills them.
 fn make_all<S: Alter>(
     tx: &mut Transaction<'_, S>,
     made: usize,
@@ -192,8 +192,10 @@ fn make_all<S: Alter>(
     fill(tx, texts, depth)
 }
 
-/// Makes a store whole, of one that has the first so many tables, with these rows of the setup and this depth limit, in one
-/// transaction.
+/// Completes a store that has the first `made` tables, with these rows of the setup and this depth
+/// limit, in one transaction. After an error the database is as it was, if the connection is still
+/// open. Once the call has returned, a crash leaves the database from before it, or the complete
+/// one.
 pub(crate) fn make_whole<S: Alter>(
     conn: &mut Connection<S>,
     made: usize,

@@ -1,4 +1,4 @@
-//! A store of version 1 is migrated to version 2; one of version 2 is never written.
+//! Migrates a store from version 1 to version 2.
 ghost use Rattle.std.specs.Prelude.{◌≡◌, ◌≤◌, ℕ, List, false, IfOk, IfErr, OnOk};
 ghost use Rattle.std.specs.Bool.{Decides};
 ghost use Rattle.std.specs.List.Sorted.{IsPermutation};
@@ -13,31 +13,32 @@ ghost use Rattle.register_sql.specs.Binding.{IsSettled};
 ghost use Rattle.register_sql.specs.Migrating.{days_given, AreFirstApart, IsFirstOf, IsRaisable, IsRaised, IsLeft, LeavesMoved};
 ghost use Rattle.register_sql.specs.Posting.{Survived};
 ghost use Rattle.register_sql.specs.Queries.{shown_in, IsPart, IsSame};
-ghost use Rattle.register_sql.specs.declared.age.Age.TheVariants as age;
+ghost use Rattle.register_sql.specs.declared.version.Age.TheVariants as age;
 
-use crate::age::{Age, age_in};
-use crate::early::early_list;
+use crate::identity::has_setup;
 use crate::queries::Query;
-use crate::raise::lift_whole;
 use crate::rowids::{are_all_apart, is_apart};
 use crate::schema::tables_made;
-use crate::told::has_setup;
+use crate::upgrade::lift_whole;
+use crate::version::{Age, age_in};
+use crate::version_one::early_list;
 use nest_core::Setup;
 use register_store::StoreFault;
 use sqlite::{Alter, Connection, Error};
 use std::alloc::Global;
 
-/// Nothing, of a store that is of version 2 now, or why it isn't.
+/// Ok if the store is of version 2 now, otherwise why it isn't.
 type Answer = Result<(), StoreFault>;
 
-/// The last days that a lawful list of entries gives, each in the place of the one before, are those of looking back.
+/// A law: the last days that the entries of a lawful list set, each replacing the loan's previous
+/// one, are those of looking back.
 pub fn given_days_are_of_looking_back()
     ensures { (S : Museum) (depth : ℕ) (P : List Entry) → IsLawful S depth P
         → IsPermutation (rows_of_terms P) (days_given P) }
 {}
 
-/// Whether the rowids of the tables of a store of version 1 are numbers that differ, where rows are taken out again or
-/// listed.
+/// Returns whether rowids are distinct numbers in the tables of version 1 whose rows are removed or
+/// listed: `meta`, the setup, the entries and the loan lines.
 fn are_first_apart<S: Alter>(conn: &mut Connection<S>) -> Result<bool, Error>
     requires part { HasCleanDisk (state S.Store conn.old) → IsPart 5 (state S.Store conn.old) }
     ensures between { conn.old.in_transaction ≡ false → conn.new.in_transaction ≡ false }
@@ -55,7 +56,8 @@ fn are_first_apart<S: Alter>(conn: &mut Connection<S>) -> Result<bool, Error>
     others
 }
 
-/// Migrates a store of version 1 with this setup.
+/// Migrates a store of version 1 that has this setup and distinct rowids. Faults: Damaged with the
+/// number of the first row that is no entry of version 1; NoMemory.
 fn move_entries<S: Alter>(
     alloc: Global,
     conn: &mut Connection<S>,
@@ -81,7 +83,8 @@ fn move_entries<S: Alter>(
     Ok(Ok(()))
 }
 
-/// Migrates a store of the tables of version 1, which says this version and has this setup.
+/// Migrates a store of the five tables of version 1 whose rows about itself, and whose setup, are
+/// right. Faults: Store if rowids aren't distinct numbers; then those of `move_entries`.
 fn move_first<S: Alter>(
     alloc: Global,
     conn: &mut Connection<S>,
@@ -107,7 +110,9 @@ fn move_first<S: Alter>(
     answer
 }
 
-/// Migrates a store of the first so many tables that says version 1, where it has this setup.
+/// Migrates a store of the first `made` tables whose rows about itself are those of version 1.
+/// Faults: NoMemory; OtherSetup; Store if the tables aren't the five of version 1; then those of
+/// `move_first`.
 fn compare_first<S: Alter>(
     alloc: Global,
     conn: &mut Connection<S>,
@@ -144,7 +149,7 @@ fn compare_first<S: Alter>(
     answer
 }
 
-/// Migrates a store of the first so many tables, of which the one that says what the store is is among them.
+/// Migrates a store of the first `made` tables, one of which is `meta`. Version 2 is left as it is.
 fn migrate_told<S: Alter>(
     alloc: Global,
     conn: &mut Connection<S>,
@@ -176,7 +181,8 @@ fn migrate_told<S: Alter>(
     }
 }
 
-/// Migrates the store. The outer fault is that of a statement, after which the connection may be shut.
+/// Migrates the store, or returns why it can't be migrated. A rejected store stays as it was. The
+/// outer error is that of a failed statement, after which the connection may be closed.
 pub(crate) fn migrate<S: Alter>(
     alloc: Global,
     conn: &mut Connection<S>,

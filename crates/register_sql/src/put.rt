@@ -1,4 +1,4 @@
-//! A posting with its spots, its lines and its last day, put into a whole store in one transaction.
+//! Adds an entry with its spots, loan lines and last day to a whole store, in one transaction.
 ghost use Rattle.std.specs.Prelude.{◌≡◌, ◌≤◌, ◌^◌, Ok, OnOk, OnErr, IfOk, IfErr, IsTrue, false, pos, ℕ};
 ghost use Rattle.sqlite.specs.Held.{state};
 ghost use Rattle.sqlite.specs.State.{ExecutesInside, HasCleanDisk, Survives};
@@ -14,7 +14,7 @@ use register_store::{KeptPosting, term_of};
 use sqlite::{Alter, Connection, Error, Transaction, params};
 use sqlite_value::value::ValueRef;
 
-/// A number as the store takes it.
+/// The number as a cell takes it. Fails from 2^63 on.
 pub(crate) fn wide(number: u64) -> Result<i64, Error>
     ensures number { IfOk result (λ n. n ≡ pos number) }
     ensures none { IfErr result (λ fault. 2 ^ 63 ≤ number) }
@@ -25,7 +25,7 @@ pub(crate) fn wide(number: u64) -> Result<i64, Error>
     }
 }
 
-/// Runs a statement of the transaction.
+/// Runs a statement inside the transaction.
 pub(crate) fn run<S: Alter>(
     tx: &mut Transaction<'_, S>,
     text: &str,
@@ -103,7 +103,7 @@ fn put_spots<S: Alter>(tx: &mut Transaction<'_, S>, spots: &[NewSpot]) -> Result
     Ok(())
 }
 
-/// Takes out the row of the line's loan and object, if there is one.
+/// Removes the row with the line's loan and object, if there is one.
 fn clear_line<S: Alter>(tx: &mut Transaction<'_, S>, line: &NewLine) -> Result<(), Error>
     requires { IsWithin (state S.Store tx.old.conn.now) }
     ensures same_reference { tx.new.conn.ghost_name ≡ tx.old.conn.ghost_name }
@@ -119,7 +119,7 @@ fn clear_line<S: Alter>(tx: &mut Transaction<'_, S>, line: &NewLine) -> Result<(
     )
 }
 
-/// Adds the row of a line.
+/// Adds the row of a loan line.
 fn add_line<S: Alter>(tx: &mut Transaction<'_, S>, line: &NewLine) -> Result<(), Error>
     requires { IsWithin (state S.Store tx.old.conn.now) }
     ensures same_reference { tx.new.conn.ghost_name ≡ tx.old.conn.ghost_name }
@@ -139,7 +139,7 @@ fn add_line<S: Alter>(tx: &mut Transaction<'_, S>, line: &NewLine) -> Result<(),
     )
 }
 
-/// Puts the row of a line in the place of the one before.
+/// Replaces a loan line's row.
 fn put_line<S: Alter>(tx: &mut Transaction<'_, S>, line: &NewLine) -> Result<(), Error>
     requires { IsWithin (state S.Store tx.old.conn.now) }
     ensures same_reference { tx.new.conn.ghost_name ≡ tx.old.conn.ghost_name }
@@ -152,7 +152,7 @@ fn put_line<S: Alter>(tx: &mut Transaction<'_, S>, line: &NewLine) -> Result<(),
     add_line(tx, line)
 }
 
-/// Puts the rows of the lines, each in the place of the one before.
+/// Replaces the rows of the loan lines.
 fn put_lines<S: Alter>(tx: &mut Transaction<'_, S>, lines: &[NewLine]) -> Result<(), Error>
     requires { IsWithin (state S.Store tx.old.conn.now) }
     ensures same_reference { tx.new.conn.ghost_name ≡ tx.old.conn.ghost_name }
@@ -167,7 +167,7 @@ fn put_lines<S: Alter>(tx: &mut Transaction<'_, S>, lines: &[NewLine]) -> Result
     Ok(())
 }
 
-/// Takes out the last day of the loan, if there is one.
+/// Removes the loan's last day, if it has one.
 fn clear_term<S: Alter>(tx: &mut Transaction<'_, S>, term: &(LoanCode, Day)) -> Result<(), Error>
     requires { IsWithin (state S.Store tx.old.conn.now) }
     ensures same_reference { tx.new.conn.ghost_name ≡ tx.old.conn.ghost_name }
@@ -183,7 +183,7 @@ fn clear_term<S: Alter>(tx: &mut Transaction<'_, S>, term: &(LoanCode, Day)) -> 
     )
 }
 
-/// Adds the last day of a loan.
+/// Adds a loan's last day.
 fn add_term<S: Alter>(tx: &mut Transaction<'_, S>, term: &(LoanCode, Day)) -> Result<(), Error>
     requires { IsWithin (state S.Store tx.old.conn.now) }
     ensures same_reference { tx.new.conn.ghost_name ≡ tx.old.conn.ghost_name }
@@ -199,7 +199,7 @@ fn add_term<S: Alter>(tx: &mut Transaction<'_, S>, term: &(LoanCode, Day)) -> Re
     )
 }
 
-/// Puts the last day of a loan in the place of the one before.
+/// Replaces a loan's last day.
 fn put_term<S: Alter>(tx: &mut Transaction<'_, S>, term: &(LoanCode, Day)) -> Result<(), Error>
     requires { IsWithin (state S.Store tx.old.conn.now) }
     ensures same_reference { tx.new.conn.ghost_name ≡ tx.old.conn.ghost_name }
@@ -212,7 +212,7 @@ fn put_term<S: Alter>(tx: &mut Transaction<'_, S>, term: &(LoanCode, Day)) -> Re
     add_term(tx, term)
 }
 
-/// Puts the last day that an entry gives a loan, if it gives one.
+/// Replaces the last day of the loan whose last day the entry sets, if it sets one.
 pub(crate) fn put_some_term<S: Alter>(
     tx: &mut Transaction<'_, S>,
     entry: &Entry,
@@ -248,7 +248,7 @@ fn put_first<S: Alter>(
     put_spots(tx, changes.spots.as_slice())
 }
 
-/// Puts the lines and the last day of an entry.
+/// Replaces the loan lines and the last day that the entry changes.
 fn put_last<S: Alter>(
     tx: &mut Transaction<'_, S>,
     entry: &Entry,
@@ -266,7 +266,7 @@ fn put_last<S: Alter>(
     put_some_term(tx, entry)
 }
 
-/// Puts all that a posting writes.
+/// Writes the entry and all its changes.
 fn put_rows<S: Alter>(
     tx: &mut Transaction<'_, S>,
     row: &KeptPosting,
@@ -284,8 +284,9 @@ fn put_rows<S: Alter>(
     put_last(tx, entry, changes)
 }
 
-/// Puts a posting with all that it changes into the store, in one transaction: a crash leaves the rows from before the call
-/// or those with the whole posting, and after an Ok the latter.
+/// Adds an entry and all its changes to the store, in one transaction. After an error the database
+/// is as it was, if the connection is still open. Once the call has returned, a crash leaves the
+/// rows from before it, or those with the whole posting; after an Ok, the latter.
 pub(crate) fn put_whole<S: Alter>(
     conn: &mut Connection<S>,
     row: &KeptPosting,

@@ -1,4 +1,4 @@
-//! What the store asks of its tables.
+//! The queries that read a store's tables.
 ghost use Rattle.std.specs.Prelude.{◌≡◌, ◌≤◌, false, IfOk, OnOk};
 ghost use Rattle.std.specs.List.Sorted.{IsPermutation};
 ghost use Rattle.sqlite.specs.Held.{state};
@@ -8,7 +8,7 @@ ghost use Rattle.register_sql.specs.Queries.{text_of, least_of, shown_in, IsInOr
 
 use sqlite::{Alter, Connection, Error, Row};
 
-/// What is asked: a table's rows, or its rowids alone, in the order of its rowids.
+/// A query: all rows of a table, or their rowids alone (`..Ids`), ordered by rowid.
 #[derive(Clone, Copy)]
 pub(crate) enum Query {
     Metas,
@@ -24,7 +24,7 @@ pub(crate) enum Query {
     TermIds,
 }
 
-/// Its text.
+/// The SQL of the query.
 fn text_of(query: Query) -> &'static str
     ensures { result.now ≡ text_of query }
 {
@@ -43,7 +43,7 @@ fn text_of(query: Query) -> &'static str
     }
 }
 
-/// How many of the tables a store has at least of which it is asked.
+/// How many of its tables, in the order of creation, a store must have for this query.
 pub(crate) fn least_of(query: Query) -> usize
     ensures { result ≡ least_of query }
 {
@@ -56,7 +56,8 @@ pub(crate) fn least_of(query: Query) -> usize
     }
 }
 
-/// The answer in a store of the first so many tables.
+/// Runs the query on a store of the first `made` tables, and returns all rows. The store stays as
+/// it was.
 pub(crate) fn read<S: Alter>(
     conn: &mut Connection<S>,
     query: Query,

@@ -1,5 +1,5 @@
-//! Whether rowids are numbers that differ. A database from outside could have others, and taking out a row by its key would
-//! then take out more.
+//! Checks that rowids are distinct numbers. A database made elsewhere could have others, and
+//! deleting a row by its key would then delete more than one.
 ghost use Rattle.std.specs.Prelude.{◌≡◌, ◌≤◌, true, false, IfOk, IfSome, IfNone, OnOk, IsTrue};
 ghost use Rattle.std.specs.Bool.{Decides};
 ghost use Rattle.std.specs.List.Sorted.{IsSorted};
@@ -17,7 +17,7 @@ use crate::queries::{Query, least_of, read};
 use sqlite::{Alter, Connection, Error, Row};
 use sqlite_value::value::ValueRef;
 
-/// The row's first number.
+/// The number in the first column; None if it isn't an integer.
 fn id_of(row: &Row) -> Option<i64>
     ensures some { IfSome result (λ n. rowid row.now ≡ Int n) }
     ensures none { IfNone result (¬ HasId row.now) }
@@ -35,7 +35,7 @@ fn has_id(row: &Row) -> bool
     id_of(row).is_some()
 }
 
-/// Whether both rows begin with a number, and the first one's is below the other's.
+/// Whether both rows begin with a number, and the first number is smaller.
 fn is_below(a: &Row, b: &Row) -> bool
     ensures { Decides result (IsBelow a.now b.now) }
 {
@@ -48,7 +48,7 @@ fn is_below(a: &Row, b: &Row) -> bool
     m < n
 }
 
-/// Whether each row's first number is above that of the row before.
+/// Whether each row's first number is greater than that of the row before it.
 fn are_rising(rows: &[Row]) -> bool
     ensures { Decides result (IsRising rows.now) }
 {
@@ -60,7 +60,8 @@ fn are_rising(rows: &[Row]) -> bool
     true
 }
 
-/// Whether the rows' first numbers rise: so they differ, and where the rows are sorted no others do.
+/// Whether the rows' first numbers rise. Then they are distinct; and if the rows are sorted,
+/// distinct numbers always rise.
 #[tactic(auto, using(crate::proofs::Rising::rises))]
 fn are_apart(rows: &[Row]) -> bool
     ensures apart { IsTrue result → Apart rows.now }
@@ -72,7 +73,8 @@ fn are_apart(rows: &[Row]) -> bool
     }
 }
 
-/// Whether the rowids that the query asks for, if its table is among the first so many, are numbers that differ.
+/// Returns whether the rowids that the query returns are distinct numbers. True if the query's
+/// table isn't among the first `made`. The store stays as it was.
 pub(crate) fn is_apart<S: Alter>(
     conn: &mut Connection<S>,
     query: Query,
@@ -95,7 +97,7 @@ pub(crate) fn is_apart<S: Alter>(
     Ok(are_apart(&rows))
 }
 
-/// The same of two queries.
+/// The same for the tables of two queries.
 fn are_both_apart<S: Alter>(
     conn: &mut Connection<S>,
     one: Query,
@@ -122,8 +124,8 @@ fn are_both_apart<S: Alter>(
     second
 }
 
-/// Whether the rowids of the setup, the entries, the lines and the last days are numbers that differ, so far as their
-/// tables are among the first so many.
+/// Returns whether the rowids of the setup, the entries, the loan lines and the last days are
+/// distinct numbers, in those of the first `made` tables that the store has.
 pub(crate) fn are_all_apart<S: Alter>(conn: &mut Connection<S>, made: usize) -> Result<bool, Error>
     requires few { made ≤ 6 }
     requires part { HasCleanDisk (state S.Store conn.old) → IsPart made (state S.Store conn.old) }

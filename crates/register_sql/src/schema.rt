@@ -1,4 +1,4 @@
-//! Which of the store's tables a schema has.
+//! Counts how many of the store's tables a database has.
 ghost use Rattle.std.specs.Prelude.{◌≡◌, ◌<◌, ◌≤◌, IfOk, IfSome, IfNone, length, take, true, false, ℕ};
 ghost use Rattle.std.specs.Bool.{Decides};
 ghost use Rattle.register_sql.specs.Tables as tables;
@@ -7,7 +7,7 @@ use crate::table::{are_places, is_line, is_meta, is_posting, is_setup, is_spot, 
 use sqlite_schema::schema::{Index, Schema, Table};
 use std::alloc::{AllocError, Global};
 
-/// Whether it is the index that a UNIQUE has by itself.
+/// Whether it is the index that SQLite makes for a UNIQUE or a PRIMARY KEY, over these columns.
 fn is_index(index: &Index, name: &str, tree: u32, table: u32, places: &[usize]) -> bool
     ensures { Decides result (index.now ≡ tables.automatic name.now tree table places.now) }
 {
@@ -19,42 +19,42 @@ fn is_index(index: &Index, name: &str, tree: u32, table: u32, places: &[usize]) 
         && index.is_unique
 }
 
-/// Whether it is the index of the table of what the store says of itself.
+/// Whether it is the index of `meta`.
 fn is_meta_index(index: &Index) -> bool
     ensures { Decides result (index.now ≡ tables.meta_index) }
 {
     is_index(index, "sqlite_autoindex_meta_1", 1, 0, &[1])
 }
 
-/// Whether it is the index of the table of the entries.
+/// Whether it is the index of `posting`.
 fn is_posting_index(index: &Index) -> bool
     ensures { Decides result (index.now ≡ tables.posting_index) }
 {
     is_index(index, "sqlite_autoindex_posting_1", 4, 3, &[2, 3])
 }
 
-/// Whether it is the index of the table of the spots.
+/// Whether it is the index of `spot`.
 fn is_spot_index(index: &Index) -> bool
     ensures { Decides result (index.now ≡ tables.spot_index) }
 {
     is_index(index, "sqlite_autoindex_spot_1", 6, 5, &[1, 2])
 }
 
-/// Whether it is the index of the table of the lines.
+/// Whether it is the index of `line`.
 fn is_line_index(index: &Index) -> bool
     ensures { Decides result (index.now ≡ tables.line_index) }
 {
     is_index(index, "sqlite_autoindex_line_1", 8, 7, &[1, 2])
 }
 
-/// Whether it is the index of the table of the last days.
+/// Whether it is the index of `term`.
 fn is_term_index(index: &Index) -> bool
     ensures { Decides result (index.now ≡ tables.term_index) }
 {
     is_index(index, "sqlite_autoindex_term_1", 10, 9, &[1])
 }
 
-/// Whether it is the store's table of this number, from 0 in the order in which they are made.
+/// Whether it is the store's table of this number, from 0 in the order of creation.
 fn is_table(alloc: Global, table: &Table, number: usize) -> Result<bool, AllocError>
     requires { number < 6 }
     ensures { IfOk result (λ same. Decides same (table.now ≡ tables.table_at number)) }
@@ -69,7 +69,7 @@ fn is_table(alloc: Global, table: &Table, number: usize) -> Result<bool, AllocEr
     }
 }
 
-/// Whether these are the first of the store's tables.
+/// Whether these are the first of the store's tables, in the order of creation.
 fn are_tables(alloc: Global, all: &[Table]) -> Result<bool, AllocError>
     requires { length all.now ≤ 6 }
     ensures { IfOk result
@@ -83,7 +83,7 @@ fn are_tables(alloc: Global, all: &[Table]) -> Result<bool, AllocError>
     Ok(true)
 }
 
-/// Whether it is the store's index of this number, from 0 in the order in which they are made.
+/// Whether it is the store's index of this number, from 0 in the order of creation.
 fn is_index_at(index: &Index, number: usize) -> bool
     requires { number < 5 }
     ensures { Decides result (index.now ≡ tables.index_at number) }
@@ -97,7 +97,7 @@ fn is_index_at(index: &Index, number: usize) -> bool
     }
 }
 
-/// Whether these are the first of the store's indexes.
+/// Whether these are the first of the store's indexes, in the order of creation.
 fn are_indexes(all: &[Index]) -> bool
     requires { length all.now ≤ 5 }
     ensures { Decides result (all.now ≡ take (length all.now) tables.all_indexes) }
@@ -110,14 +110,14 @@ fn are_indexes(all: &[Index]) -> bool
     true
 }
 
-/// How many indexes the first so many tables have: that of the setup has none.
+/// The number of indexes that the first `made` tables have: `setup` has none.
 fn index_count(made: usize) -> usize
     ensures { result ≡ tables.index_count made }
 {
     if made < 2 { made } else { made - 1 }
 }
 
-/// Whether the schema has the first so many tables alone.
+/// Whether the schema is exactly that of the first `made` tables.
 fn is_prefix(alloc: Global, schema: &Schema, made: usize) -> Result<bool, AllocError>
     requires { made ≤ 6 }
     ensures { IfOk result (λ same. Decides same (schema.now ≡ tables.prefix made)) }
@@ -131,7 +131,8 @@ fn is_prefix(alloc: Global, schema: &Schema, made: usize) -> Result<bool, AllocE
     )
 }
 
-/// How many of the store's tables the schema has, made in turn; none where it is anything else.
+/// Returns how many of the store's tables the schema has, counted in the order of creation. None if
+/// it isn't exactly the first of them.
 #[tactic(auto, using(crate::proofs::Prefixes::by_count, crate::proofs::Prefixes::few_tables))]
 pub(crate) fn tables_made(alloc: Global, schema: &Schema) -> Result<Option<usize>, AllocError>
     ensures made { IfOk result (λ o. IfSome o (λ k. (k ≤ 6) × (schema.now ≡ tables.prefix k))) }

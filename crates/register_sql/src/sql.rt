@@ -32,8 +32,9 @@ use sqlite_disk::Disk;
 use std::alloc::Global;
 use std::marker::Model;
 
-/// A register whose rows are in a database, behind a connection. Once a statement has failed, the register has stopped: it
-/// sends the connection nothing more, and each call returns Store.
+/// A register whose rows are in a database. When a statement fails, the register stops: it sends no
+/// further statement, and from then on each call returns Store. [`SqlRegister::failure`] returns
+/// the statement's error.
 pub struct SqlRegister<S: Alter> {
     link: Link<S>,
     stations: u32,
@@ -61,7 +62,8 @@ impl<S: Alter> Model for SqlRegister<S> {
 }
 
 impl SqlRegister<MemStore> {
-    /// A register over a new database in memory, which has no row. The fault: NoMemory.
+    /// Opens a register on a new database in memory, which has no rows and needs no file. Fault:
+    /// NoMemory.
     pub fn in_memory(alloc: Global) -> Result<SqlRegister<MemStore>, StoreFault>
         ensures new { IfOk result (λ r. (r.bound ≡ false) × (r.stations ≡ 0) × (r.refusals ≡ 0)) }
         ensures going { IfOk result (λ r. r.stopped ≡ false) }
@@ -78,7 +80,8 @@ impl SqlRegister<MemStore> {
 }
 
 impl SqlRegister<FileStore<File>> {
-    /// The same, assuming nothing about the file's content: no clause says which rows it has.
+    /// Opens a register on the database in a file, whatever the file holds: no clause says which
+    /// rows the store has. Faults: NoMemory or Store, as by [`fault_of`].
     pub fn on_file(
         rt: &HostRuntime,
         alloc: Global,
@@ -98,8 +101,9 @@ impl SqlRegister<FileStore<File>> {
 }
 
 impl<S: Start> SqlRegister<FileStore<FileFrom<S>>> {
-    /// A register over the database in a file, which is created if there is none. `S` stands for what the file and its
-    /// log hold when they are opened. The error is the one of the opening; [`fault_of`] gives its fault.
+    /// Opens a register on the database in a file. `S` describes what the file and its log hold
+    /// when they are opened; the store then has those rows, or none if they hold no database yet.
+    /// Returns the error of the opening; [`fault_of`] turns it into a fault.
     pub fn on_file_from(
         rt: &HostRuntime,
         _alloc: Global,
@@ -122,7 +126,9 @@ impl<S: Start> SqlRegister<FileStore<FileFrom<S>>> {
 }
 
 impl<D: Disk + Drop> SqlRegister<FileStore<D>> {
-    /// Ends the register without a write, and returns its two files: what a program that is killed leaves behind.
+    /// Ends the register without copying the log, and returns its two files as a killed program
+    /// leaves them. Whatever the end of the program, or a crash, leaves of them holds a database
+    /// whose rows the store may have had.
     pub fn let_go(self) -> Files<D>
         ensures { AreClean D.Disk result.log result.db
             → IsLeft D.Disk (in_store (file_state self.conn)) result }
@@ -130,8 +136,9 @@ impl<D: Disk + Drop> SqlRegister<FileStore<D>> {
         self.into_connection().into_store().close()
     }
 
-    /// Ends the register, and returns its two files. Every row is copied from the log into the database file, which alone
-    /// holds all rows from then on. After an error the rows are still in the two files, as before.
+    /// Copies every row from the log into the database file, and returns the two files. From then
+    /// on the database file alone has all rows, and the log is empty. Returns the error of the
+    /// copying with the two files, about which no clause says more.
     pub fn close(self) -> Result<Files<D>, (Error, Files<D>)>
         ensures copied { IfOk result (λ files. AreClean D.Disk files.log files.db
             → IsCopied D.Disk (in_store (file_state self.conn)) files) }
@@ -152,8 +159,9 @@ impl<D: Disk + Drop> SqlRegister<FileStore<D>> {
 impl<S: Alter> SqlRegister<S> {
     ghost use Rattle.register_sql.specs.Stores.{Kept};
 
-    /// A register over an open connection between two transactions, of which it asks nothing: so its store is quiet where
-    /// that of the connection is, and may hold what it may hold.
+    /// Takes over an open connection that has no transaction, and sends it nothing. The store may
+    /// hold the rows of the connection's committed database, and no others. No setup is bound to it
+    /// yet.
     pub fn adopt(conn: Connection<S>) -> SqlRegister<S>
         requires between { conn.in_transaction ≡ false }
         requires open { HasCleanDisk (state S.Store conn) → IsTrue (state S.Store conn).is_open }
@@ -175,13 +183,22 @@ impl<S: Alter> SqlRegister<S> {
         }
     }
 
-    /// Makes a store of version 1 with this setup one of version 2: its entries, spots, lines and setup stay as they are, and
-    /// so does its depth limit, 8; it gets the table of last days, with those that its entries gave loans, and says version 2.
-    /// A store of version 2 stays as it is, whatever else is in it. The faults, first that holds: Store, where the tables are
-    /// none of a store; OtherVersion, of a new store too; Damaged(0), where what the store says of itself isn't whole;
-    /// OtherSetup; Store, where the tables aren't the five of version 1, or their rowids aren't numbers that differ; Damaged(i)
-    /// as `all` tells it, where an extension, and the verdict that refuses one, are no entry's of version 1. NoMemory, and
-    /// Store where a statement has failed, can stand in place of any answer.
+    /// Makes a store of version 1 with this setup one of version 2. Entries, spots, loan lines,
+    /// setup and the depth limit (8) stay. The store gets the table of last days, with those that
+    /// its entries set, and version 2. A store of version 2 stays as it is, whatever else is in it.
+    ///
+    /// Faults, in this order:
+    /// - Store: the tables aren't those of a store, whole or partly created.
+    /// - OtherVersion: the store is new, or of a version other than 1 and 2.
+    /// - Damaged(0): the rows about the store aren't whole.
+    /// - OtherSetup.
+    /// - Store: the tables aren't the five of version 1, or rowids aren't distinct numbers.
+    /// - Damaged(i): row i is the first that is no entry of version 1. That version has no
+    ///   extension, and no verdict NotLater.
+    ///
+    /// NoMemory, and Store after a failed statement, can come instead of any other result; the
+    /// store may then have been migrated all the same. After any other fault it is as it was. If
+    /// the register had stopped before, the fault is always Store.
     pub fn migrate(&mut self, alloc: Global, setup: &Setup) -> Result<(), StoreFault>
         ensures migrated { OnOk result
             (Comes (in_store (state S.Store self.old.conn))
@@ -204,8 +221,9 @@ impl<S: Alter> SqlRegister<S> {
         answer
     }
 
-    /// Whether the store has no record yet, so that [`bind`](Register::bind) begins one. A database that has other tables than
-    /// a store's is not new: `bind` refuses it. Nothing is changed. The faults: NoMemory, and Store if a statement failed.
+    /// Returns whether the store has no record yet, so that [`bind`](Register::bind) begins one. A
+    /// database with other tables than a store's isn't new; `bind` rejects it. The store stays as
+    /// it was. Faults: Store if a statement fails, or failed before; NoMemory.
     pub fn is_new(&mut self, alloc: Global) -> Result<bool, StoreFault>
         ensures told { HasCleanDisk (state S.Store self.new.conn)
             → IfOk result (IsNewness (state S.Store self.old.conn).now) }
@@ -223,15 +241,15 @@ impl<S: Alter> SqlRegister<S> {
         answer
     }
 
-    /// The error of the statement that failed, if the register has stopped. It stays stopped, and asks nothing more of
-    /// the connection.
+    /// Returns the error of the statement that stopped the register, or None while it runs. A
+    /// stopped register never runs again.
     pub fn failure(&self) -> Option<Error>
         ensures { is_some result ≡ self.now.stopped }
     {
         self.link.stopped
     }
 
-    /// The connection.
+    /// Ends the register, and returns its connection as it is.
     pub fn into_connection(self) -> Connection<S>
         ensures same { result ≡ self.conn }
         ensures shown { IsTrue (state S.Store self.conn).is_open
@@ -268,8 +286,12 @@ impl<S: Alter> Register for SqlRegister<S> {
 
     ghost can_refuse = { true };
 
-    /// As for each register. If no statement has failed, Store means that the store is unfit for the setup. A crash during
-    /// the call leaves a database from before it, or one that is bound to the setup.
+    /// Like `bind` of any register. In addition:
+    /// - On a clean disk, if the register hasn't stopped, Store means that the store is unfit: it
+    ///   has other tables, lacks some, or has rowids that aren't distinct numbers.
+    /// - Once the call has returned, whatever it returned, a crash leaves a database that could be
+    ///   left before, or one that is bound to the setup.
+    /// - If the register had stopped before, the fault is Store, whatever the store holds.
     fn bind(&mut self, alloc: Global, setup: &Setup) -> Result<u32, StoreFault>
         ensures bound { IfOk result
             (λ depth. Has (in_store (state S.Store self.new.conn)) (IsBoundTo setup.now depth)) }
@@ -298,13 +320,16 @@ impl<S: Alter> Register for SqlRegister<S> {
         answer
     }
 
+    /// Like `all` of any register. If the register had stopped before, the fault is Store.
     fn all(&mut self, alloc: Global) -> Result<Vec<Entry>, StoreFault> {
         let answer = list_store(alloc, &mut self.link, self.stations);
         self.refusals = recount(self.refusals, &answer);
         answer
     }
 
-    /// As for each register; and a crash during the call leaves a database from before it, or one with the whole posting.
+    /// Like `post` of any register. In addition, once the call has returned, whatever it returned,
+    /// a crash leaves a database that could be left before, or one with the entry and all its
+    /// changes. If the register had stopped before, the fault is Store.
     fn post(&mut self, alloc: Global, entry: &Entry, changes: &Changes) -> Result<(), StoreFault>
         ensures posted { OnOk result
             (Comes (in_store (state S.Store self.old.conn))
@@ -326,6 +351,9 @@ impl<S: Alter> Register for SqlRegister<S> {
         answer
     }
 
+    /// Like `agrees` of any register. If the register had stopped before, the fault is Store.
+    /// Otherwise Store can also mean that two loan lines or two last days have the same key, or
+    /// that a statement failed.
     fn agrees(&mut self, alloc: Global, ledger: &Ledger) -> Result<bool, StoreFault> {
         let answer = store_agrees(alloc, &mut self.link, ledger);
         self.refusals = recount(self.refusals, &answer);
@@ -333,7 +361,7 @@ impl<S: Alter> Register for SqlRegister<S> {
     }
 }
 
-/// How often a register has answered Store, once it gives this answer.
+/// The count of Store faults after this result, up to 2^64 - 1.
 fn recount<T>(refusals: u64, answer: &Result<T, StoreFault>) -> u64
     ensures { CountsRefusal refusals result answer.now }
 {

@@ -1,4 +1,4 @@
-//! Whether a table is one of the store's.
+//! Recognises the six tables of a store.
 ghost use Rattle.std.specs.Prelude.{◌≡◌, ◌∷◌, [], IfOk, true, false};
 ghost use Rattle.std.specs.Bool.{Decides};
 ghost use Rattle.sqlite_value.specs.Keys.{plain};
@@ -11,7 +11,8 @@ use sqlite_value::keys::{Collation, Order};
 use sqlite_value::value::Value;
 use std::alloc::{AllocError, Global};
 
-/// Whether it is the column of a STRICT table with this name and type, and no default.
+/// Whether it is the column of a STRICT table with this name and type, no default, compared by its
+/// bytes.
 fn is_column(column: &Column, name: &str, kind: Kind, not_null: bool) -> bool
     ensures { Decides result (column.now ≡ tables.typed name.now kind not_null) }
 {
@@ -23,14 +24,14 @@ fn is_column(column: &Column, name: &str, kind: Kind, not_null: bool) -> bool
         && column.collation == Collation::Binary
 }
 
-/// Whether these places, and no others, are listed.
+/// Whether the list has exactly these column numbers, in this order.
 pub(crate) fn are_places(places: &Items<usize>, wanted: &[usize]) -> bool
     ensures { Decides result (places.now ≡ wanted.now) }
 {
     places.as_slice() == wanted
 }
 
-/// Whether there is no term.
+/// Whether the list is empty.
 fn is_no_term(alloc: Global, terms: &Terms) -> Result<bool, AllocError>
     ensures { IfOk result (λ none. Decides none (terms.now ≡ [])) }
 {
@@ -38,7 +39,7 @@ fn is_no_term(alloc: Global, terms: &Terms) -> Result<bool, AllocError>
     Ok(lent.roots.is_empty())
 }
 
-/// Whether no default reads the time.
+/// Whether no default reads the clock.
 fn is_unstamped(alloc: Global, stamps: &Stamps) -> Result<bool, AllocError>
     ensures { IfOk result
         (λ none. Decides none (stamps.now ≡ record { places = []; terms = []; formats = [] })) }
@@ -46,7 +47,7 @@ fn is_unstamped(alloc: Global, stamps: &Stamps) -> Result<bool, AllocError>
     Ok(stamps.places.is_empty() && stamps.formats.is_empty() && is_no_term(alloc, &stamps.terms)?)
 }
 
-/// Whether the table has no rule beside its columns and keys.
+/// Whether the table has no rules besides its columns and keys.
 fn has_no_rule(alloc: Global, table: &Table) -> Result<bool, AllocError>
     ensures { IfOk result
         (λ none. Decides none
@@ -70,7 +71,7 @@ fn has_no_unique(table: &Table) -> bool
     table.uniques.is_empty() && table.orders.is_empty()
 }
 
-/// Whether there is one order, in which each column ascends by its bytes.
+/// Whether there is one order, in which all columns ascend.
 fn are_plain(orders: &Items<Order>) -> bool
     ensures { Decides result (orders.now ≡ plain ∷ []) }
 {
@@ -80,7 +81,7 @@ fn are_plain(orders: &Items<Order>) -> bool
     }
 }
 
-/// Whether there is one key, of these places.
+/// Whether there is one key, over these columns.
 fn are_one(keys: &Items<Items<usize>>, places: &[usize]) -> bool
     ensures { Decides result (keys.now ≡ places.now ∷ []) }
 {
@@ -90,7 +91,7 @@ fn are_one(keys: &Items<Items<usize>>, places: &[usize]) -> bool
     }
 }
 
-/// Whether these places, and no others, are UNIQUE.
+/// Whether the table has one UNIQUE, over these columns.
 fn has_unique(table: &Table, places: &[usize]) -> bool
     ensures { Decides result
         ((table.now.uniques ≡ places.now ∷ []) × (table.now.orders ≡ plain ∷ [])) }
@@ -110,7 +111,7 @@ fn is_headed(table: &Table, name: &str, tree: u32, key: Option<usize>, primary: 
         && are_places(&table.primary, primary)
 }
 
-/// Whether it has the columns of the table of what the store says of itself.
+/// Whether the table has the columns of `meta`.
 fn has_meta_columns(table: &Table) -> bool
     ensures { Decides result (table.now.columns ≡ tables.meta.columns) }
 {
@@ -122,7 +123,7 @@ fn has_meta_columns(table: &Table) -> bool
     }
 }
 
-/// Whether it is the table of what the store says of itself.
+/// Whether the table is `meta`, the rows about the store.
 pub(crate) fn is_meta(alloc: Global, table: &Table) -> Result<bool, AllocError>
     ensures { IfOk result (λ same. Decides same (table.now ≡ tables.meta)) }
 {
@@ -134,7 +135,7 @@ pub(crate) fn is_meta(alloc: Global, table: &Table) -> Result<bool, AllocError>
     )
 }
 
-/// Whether it has the columns of the table of the setup.
+/// Whether the table has the columns of `setup`.
 fn has_setup_columns(table: &Table) -> bool
     ensures { Decides result (table.now.columns ≡ tables.setup.columns) }
 {
@@ -146,7 +147,7 @@ fn has_setup_columns(table: &Table) -> bool
     }
 }
 
-/// Whether it is the table of the setup.
+/// Whether the table is `setup`.
 pub(crate) fn is_setup(alloc: Global, table: &Table) -> Result<bool, AllocError>
     ensures { IfOk result (λ same. Decides same (table.now ≡ tables.setup)) }
 {
@@ -158,7 +159,7 @@ pub(crate) fn is_setup(alloc: Global, table: &Table) -> Result<bool, AllocError>
     )
 }
 
-/// Whether it has the columns of the table of the entries.
+/// Whether the table has the columns of `posting`.
 fn has_posting_columns(table: &Table) -> bool
     ensures { Decides result (table.now.columns ≡ tables.posting.columns) }
 {
@@ -174,7 +175,7 @@ fn has_posting_columns(table: &Table) -> bool
     }
 }
 
-/// Whether it is the table of the entries.
+/// Whether the table is `posting`, the entries.
 pub(crate) fn is_posting(alloc: Global, table: &Table) -> Result<bool, AllocError>
     ensures { IfOk result (λ same. Decides same (table.now ≡ tables.posting)) }
 {
@@ -186,7 +187,7 @@ pub(crate) fn is_posting(alloc: Global, table: &Table) -> Result<bool, AllocErro
     )
 }
 
-/// Whether it has the columns of the table of the spots.
+/// Whether the table has the columns of `spot`.
 fn has_spot_columns(table: &Table) -> bool
     ensures { Decides result (table.now.columns ≡ tables.spot.columns) }
 {
@@ -202,7 +203,7 @@ fn has_spot_columns(table: &Table) -> bool
     }
 }
 
-/// Whether it is the table of the spots.
+/// Whether the table is `spot`.
 pub(crate) fn is_spot(alloc: Global, table: &Table) -> Result<bool, AllocError>
     ensures { IfOk result (λ same. Decides same (table.now ≡ tables.spot)) }
 {
@@ -214,7 +215,7 @@ pub(crate) fn is_spot(alloc: Global, table: &Table) -> Result<bool, AllocError>
     )
 }
 
-/// Whether it has the columns of the table of the lines.
+/// Whether the table has the columns of `line`.
 fn has_line_columns(table: &Table) -> bool
     ensures { Decides result (table.now.columns ≡ tables.line.columns) }
 {
@@ -228,7 +229,7 @@ fn has_line_columns(table: &Table) -> bool
     }
 }
 
-/// Whether it is the table of the lines.
+/// Whether the table is `line`, the loan lines.
 pub(crate) fn is_line(alloc: Global, table: &Table) -> Result<bool, AllocError>
     ensures { IfOk result (λ same. Decides same (table.now ≡ tables.line)) }
 {
@@ -240,7 +241,7 @@ pub(crate) fn is_line(alloc: Global, table: &Table) -> Result<bool, AllocError>
     )
 }
 
-/// Whether it has the columns of the table of the last days.
+/// Whether the table has the columns of `term`.
 fn has_term_columns(table: &Table) -> bool
     ensures { Decides result (table.now.columns ≡ tables.term.columns) }
 {
@@ -252,7 +253,7 @@ fn has_term_columns(table: &Table) -> bool
     }
 }
 
-/// Whether it is the table of the last days.
+/// Whether the table is `term`, the last days of loans.
 pub(crate) fn is_term(alloc: Global, table: &Table) -> Result<bool, AllocError>
     ensures { IfOk result (λ same. Decides same (table.now ≡ tables.term)) }
 {

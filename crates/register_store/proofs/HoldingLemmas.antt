@@ -8,14 +8,17 @@ use Rattle.register_store.specs.Registers.{IsFirstWrong}
 use Rattle.register_store.specs.Holdings.{Holding, Each, Has, Comes}
 
 -- what the change carries on
-pub comes_has : (old new : Holding) (Change : Content → Content → Type 0) (P Q : Content → Type 0) → ((c d : Content) → P c → Change c d → Q d) → Comes old new Change → Has old P → Has new Q
+pub comes_has : (old new : Holding) (Change : Content → Content → Type 0) (P Q : Content → Type 0)
+    → ((c d : Content) → P c → Change c d → Q d) → Comes old new Change → Has old P → Has new Q
 comes_has old new Change P Q carries comes has = record {
   some = λ quiet none. has.some (comes.quiet quiet) (comes.some quiet none);
-  each = λ quiet d held. let was = comes.from quiet d held in carries was.0 d (has.each (comes.quiet quiet) was.0 was.1) was.2;
+  each = λ quiet d held. let was = comes.from quiet d held in
+      carries was.0 d (has.each (comes.quiet quiet) was.0 was.1) was.2;
 }
 
 -- two changes
-pub comes_on : (a b c : Holding) (F G H : Content → Content → Type 0) → ((x y z : Content) → F x y → G y z → H x z) → Comes a b F → Comes b c G → Comes a c H
+pub comes_on : (a b c : Holding) (F G H : Content → Content → Type 0)
+    → ((x y z : Content) → F x y → G y z → H x z) → Comes a b F → Comes b c G → Comes a c H
 comes_on a b c F G H both first next = record {
   quiet = λ quiet. first.quiet (next.quiet quiet);
   some = λ quiet none. first.some (next.quiet quiet) (next.some quiet none);
@@ -26,22 +29,28 @@ comes_on a b c F G H both first next = record {
 }
 
 -- a change to which more is known of what is held now
-pub comes_so : (old new : Holding) (F G : Content → Content → Type 0) (Q : Content → Type 0) → ((c d : Content) → F c d → Q d → G c d) → Comes old new F → Each new Q → Comes old new G
+pub comes_so : (old new : Holding) (F G : Content → Content → Type 0) (Q : Content → Type 0)
+    → ((c d : Content) → F c d → Q d → G c d) → Comes old new F → Each new Q → Comes old new G
 comes_so old new F G Q more comes each = record {
   quiet = comes.quiet;
   some = comes.some;
-  from = λ quiet d held. let (c, was, step) = comes.from quiet d held in (c, was, more c d step (each quiet d held));
+  from = λ quiet d held. let (c, was, step) = comes.from quiet d held in
+      (c, was, more c d step (each quiet d held));
 }
 
-pub has_more : (store : Holding) (P Q : Content → Type 0) → ((c : Content) → P c → Q c) → Has store P → Has store Q
-has_more store P Q more has = record { some = has.some; each = λ quiet c held. more c (has.each quiet c held) }
+pub has_more : (store : Holding) (P Q : Content → Type 0) → ((c : Content) → P c → Q c)
+    → Has store P → Has store Q
+has_more store P Q more has =
+    record { some = has.some; each = λ quiet c held. more c (has.each quiet c held) }
 
 module _ (c d : Content) (same : AreSame c d) where
   pub same_bound : (S : Museum) (depth : ℕ) → IsBoundTo S depth c → IsBoundTo S depth d
-  same_bound S depth h = record { setup = IsPermutation-trans _ _ _ h.setup same.setup; meta = IsPermutation-trans _ _ _ h.meta same.meta; limit = h.limit }
+  same_bound S depth h = record { setup = IsPermutation-trans _ _ _ h.setup same.setup;
+      meta = IsPermutation-trans _ _ _ h.meta same.meta; limit = h.limit }
 
   pub same_list : (P : List Entry) → HasList P c → HasList P d
-  same_list P h = record { rows = h.rows; each = h.each; all = IsPermutation-trans _ _ _ h.all same.postings }
+  same_list P h = record { rows = h.rows; each = h.each;
+      all = IsPermutation-trans _ _ _ h.all same.postings }
 
   pub same_rows_held : (S : Museum) (P : List Entry) → HasRows S P c → HasRows S P d
   same_rows_held S P h = record {
@@ -50,8 +59,12 @@ module _ (c d : Content) (same : AreSame c d) where
     terms = IsPermutation-trans _ _ _ h.terms same.terms;
   }
 
-  pub same_store : (S : Museum) (depth : ℕ) (P : List Entry) → IsStoreOf S depth P c → IsStoreOf S depth P d
-  same_store S depth P h = record { bound = same_bound S depth h.bound; list = same_list P h.list; rows = same_rows_held S P h.rows }
+  pub same_store : (S : Museum) (depth : ℕ) (P : List Entry) → IsStoreOf S depth P c
+      → IsStoreOf S depth P d
+  same_store S depth P h = record { bound = same_bound S depth h.bound; list = same_list P h.list;
+      rows = same_rows_held S P h.rows }
 
   pub same_wrong : (stations at : ℕ) → IsFirstWrong stations at c → IsFirstWrong stations at d
-  same_wrong stations at h = record { rows = h.rows; all = IsPermutation-trans _ _ _ h.all same.postings; order = h.order; first = h.first }
+  same_wrong stations at h =
+      record { rows = h.rows; all = IsPermutation-trans _ _ _ h.all same.postings; order = h.order;
+      first = h.first }

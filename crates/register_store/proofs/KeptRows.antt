@@ -13,7 +13,8 @@ abbrev pub entry_in : KeptEntry → Entry
 entry_in k = record { station = k.station; n = k.n; message = k.message; verdict = k.verdict }
 
 -- it keeps the entry, under its number
-pub keeps : (number : ℕ) (e : Entry) (k : KeptEntry) → k.id ≡ number → entry_in k ≡ e → IsSpelled k.message → IsPostingRow number e (kept_row k)
+pub keeps : (number : ℕ) (e : Entry) (k : KeptEntry) → k.id ≡ number → entry_in k ≡ e
+    → IsSpelled k.message → IsPostingRow number e (kept_row k)
 keeps number e k numbered same spelled = record {
   id = ap pos numbered;
   station = ap (λ (x : Entry). pos x.station) same;

@@ -14,7 +14,8 @@ key_is k m = by (bytes_eq k.loan m.loan) (k.object == m.object) refl refl
     key : List ℕ → ℕ → LineKey
     key l o = record { loan = l; object = o }
 
-    by : (a b : Bool) → bytes_eq k.loan m.loan ≡ a → (k.object == m.object) ≡ b → (a && b) ≡ true → k ≡ m
+    by : (a b : Bool) → bytes_eq k.loan m.loan ≡ a → (k.object == m.object) ≡ b
+        → (a && b) ≡ true → k ≡ m
     by true true h i both =
         let loans : k.loan ≡ m.loan = (bytes_eq-Decides k.loan m.loan).0 h in
         let objects : k.object ≡ m.object = grind (arith, nat_tests) in

@@ -8,7 +8,8 @@ use Rattle.register_store.specs.declared.key.Key.TheVariants.{Kind}
 use Rattle.register_store.specs.Spelling.{key_name}
 use Rattle.register_store.specs.Kinds.{of_json, of_kind, of_named, kind_named, loan_kinds, kinds_that_grow, takes_memory}
 
-pub of_object : (d : Data) → is_some (as_object d) ≡ true → of_json d ≡ of_kind d (get (key_name Kind) d)
+pub of_object : (d : Data) → is_some (as_object d) ≡ true
+    → of_json d ≡ of_kind d (get (key_name Kind) d)
 of_object null is = cc
 of_object (boolean b) is = cc
 of_object (number n) is = cc
@@ -29,14 +30,21 @@ told_false true never = absurd (never refl)
 told_false false never = refl
 
 no_such_name : (name kind : List ℕ) → (name ≡ kind → ⊥) → bytes_eq name kind ≡ false
-no_such_name name kind apart = told_false (bytes_eq name kind) (λ same. apart ((bytes_eq-Decides name kind).0 same))
+no_such_name name kind apart =
+    told_false (bytes_eq name kind) (λ same. apart ((bytes_eq-Decides name kind).0 same))
 
 -- an object of another kind than these three is of a loan's, or of none
-pub other_kind : (d kind : Data) (name : List ℕ) → is_some (as_object d) ≡ true → get (key_name Kind) d ≡ Some kind → as_str kind ≡ Some name
-    → (name ≡ codes "move" → ⊥) → (name ≡ codes "pack" → ⊥) → (name ≡ codes "signoff" → ⊥) → of_json d ≡ of_named d (kind_named loan_kinds name)
+pub other_kind : (d kind : Data) (name : List ℕ) → is_some (as_object d) ≡ true
+    → get (key_name Kind) d ≡ Some kind → as_str kind ≡ Some name
+    → (name ≡ codes "move" → ⊥) → (name ≡ codes "pack" → ⊥) → (name ≡ codes "signoff" → ⊥)
+        → of_json d ≡ of_named d (kind_named loan_kinds name)
 other_kind d kind name is there text not_move not_pack not_sign_off =
-    of_object d is ∙ rw (there, text, no_such_name name (codes "move") not_move, no_such_name name (codes "pack") not_pack, no_such_name name (codes "signoff") not_sign_off) refl
+    of_object d is ∙ rw (there, text, no_such_name name (codes "move") not_move,
+        no_such_name name (codes "pack") not_pack,
+        no_such_name name (codes "signoff") not_sign_off) refl
 
 -- a value that names a kind which takes memory
-pub grows : (d kind : Data) (name : List ℕ) → get (key_name Kind) d ≡ Some kind → as_str kind ≡ Some name → is_some (kind_named kinds_that_grow name) ≡ true → takes_memory d ≡ true
+pub grows : (d kind : Data) (name : List ℕ) → get (key_name Kind) d ≡ Some kind
+    → as_str kind ≡ Some name → is_some (kind_named kinds_that_grow name) ≡ true
+    → takes_memory d ≡ true
 grows d kind name there text grown = rw (there, text) grown

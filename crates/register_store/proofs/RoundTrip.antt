@@ -27,5 +27,6 @@ pub one_text : (m : message.Message) (a b : List ℕ) → IsTextOf m a → IsTex
 one_text m a b h k = h ∙ sym k
 
 -- bytes spell one message
-pub one_message : (m n : message.Message) (bytes : List ℕ) → of_bytes bytes ≡ Ok m → of_bytes bytes ≡ Ok n → m ≡ n
+pub one_message : (m n : message.Message) (bytes : List ℕ) → of_bytes bytes ≡ Ok m
+    → of_bytes bytes ≡ Ok n → m ≡ n
 one_message m n bytes h k = cc

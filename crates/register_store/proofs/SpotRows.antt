@@ -30,15 +30,19 @@ module _ {X : Type 0} where
       (subst (IsPermutation ((a ++ fb) ++ fa)) (append_assoc fb a fa)
       (IsPermutation-append_left fa _ _ (IsPermutation-append_comm a fb))))))
 
-  parted : (A B : ℕ → List X) (xs : List ℕ) → IsPermutation (flat_map (λ x. A x ++ B x) xs) (flat_map B xs ++ flat_map A xs)
+  parted : (A B : ℕ → List X) (xs : List ℕ)
+      → IsPermutation (flat_map (λ x. A x ++ B x) xs) (flat_map B xs ++ flat_map A xs)
   parted A B [] = IsPermutation-refl []
   parted A B (x ∷ xs) =
-      IsPermutation-trans _ _ _ (IsPermutation-append (A x ++ B x) (B x ++ A x) _ _ (IsPermutation-append_comm (A x) (B x)) (parted A B xs))
+      IsPermutation-trans _ _ _ (IsPermutation-append (A x ++ B x) (B x ++ A x) _ _
+          (IsPermutation-append_comm (A x) (B x)) (parted A B xs))
       (middle (B x) (A x) (flat_map B xs) (flat_map A xs))
 
-  filtered : (f : ℕ → Option X) (xs : List ℕ) → filter_map f xs ≡ flat_map (λ x. option_to_list (f x)) xs
+  filtered : (f : ℕ → Option X) (xs : List ℕ)
+      → filter_map f xs ≡ flat_map (λ x. option_to_list (f x)) xs
   filtered f [] = refl
-  filtered f (x ∷ xs) = step (f x) (filter_map f xs) ∙ ap (λ l. option_to_list (f x) ++ l) (filtered f xs)
+  filtered f (x ∷ xs) = step (f x) (filter_map f xs) ∙ ap (λ l. option_to_list (f x) ++ l)
+      (filtered f xs)
     where
       step : (o : Option X) (l : List X) → cons_option o l ≡ option_to_list o ++ l
       step None l = refl
@@ -48,14 +52,20 @@ module _ {X : Type 0} where
   nothing [] = refl
   nothing (x ∷ xs) = nothing xs
 
-rows_append : (x k : ℕ) (a b : List Spot) → spots_of_thing x k (a ++ b) ≡ spots_of_thing x k a ++ spots_of_thing x (k + length a) b
+rows_append : (x k : ℕ) (a b : List Spot)
+    → spots_of_thing x k (a ++ b) ≡ spots_of_thing x k a ++ spots_of_thing x (k + length a) b
 rows_append x k [] b = ap (λ j. spots_of_thing x j b) (omega arith)
 rows_append x k (s ∷ a) b =
-    ap (λ l. record { thing = x; k = k; spot = s } ∷ l) (rows_append x (k + 1) a b ∙ ap (λ j. spots_of_thing x (k + 1) a ++ spots_of_thing x j b) (omega arith))
+    ap (λ l. record { thing = x; k = k; spot = s } ∷ l)
+        (rows_append x (k + 1) a b ∙ ap (λ j. spots_of_thing x (k + 1) a ++ spots_of_thing x j b)
+        (omega arith))
 
-one_row : (x count : ℕ) (o : Option Spot) → spots_of_thing x (1 + count) (option_to_list o) ≡ option_to_list (option_map (λ spot. let s : NewSpot = record { thing = x; k = count + 1; spot = spot } in s) o)
+one_row : (x count : ℕ) (o : Option Spot)
+    → spots_of_thing x (1 + count) (option_to_list o) ≡ option_to_list
+    (option_map (λ spot. let s : NewSpot = record { thing = x; k = count + 1; spot = spot } in s) o)
 one_row x count None = refl
-one_row x count (Some spot) = ap (λ j. let s : NewSpot = record { thing = x; k = j; spot = spot } in s ∷ []) (omega arith)
+one_row x count (Some spot) =
+    ap (λ j. let s : NewSpot = record { thing = x; k = j; spot = spot } in s ∷ []) (omega arith)
 
 abbrev before : Museum → List Entry → ℕ → List NewSpot
 before S P x = spots_of_thing x 1 (spots S P x)
@@ -64,33 +74,52 @@ before S P x = spots_of_thing x 1 (spots S P x)
 abbrev added : Museum → List Entry → Bool → Message → ℕ → List NewSpot
 added S P applied m x =
     spots_of_thing x (1 + length (spots S P x))
-    (option_to_list (spot_from (length P + 1) (place_at S P x) (place (length S.things) (with_put (if applied then put_in S P m else None) (puts S P)) x) (day_of m)))
+    (option_to_list (spot_from (length P + 1) (place_at S P x)
+        (place (length S.things) (with_put (if applied then put_in S P m else None) (puts S P)) x)
+        (day_of m)))
 
-all_added : (S : Museum) (P : List Entry) (applied : Bool) (m : Message) → flat_map (added S P applied m) (range_with_len 0 (length S.things)) ≡ (if applied then new_spots S P m else [])
+all_added : (S : Museum) (P : List Entry) (applied : Bool) (m : Message)
+    → flat_map (added S P applied m) (range_with_len 0 (length S.things))
+    ≡ (if applied then new_spots S P m else [])
 all_added S P true m =
     ap (λ (f : ℕ → List NewSpot). flat_map f (range_with_len 0 (length S.things)))
-    (fun_ext (λ x. one_row x (length (spots S P x)) (spot_from (length P + 1) (place_at S P x) (place_after S P m x) (day_of m))))
-    ∙ sym (filtered (λ x. new_spot (length P + 1) (length (spots S P x)) (place_at S P x) (place_after S P m x) (day_of m) x) (range_with_len 0 (length S.things)))
+    (fun_ext (λ x. one_row x (length (spots S P x))
+        (spot_from (length P + 1) (place_at S P x) (place_after S P m x) (day_of m))))
+    ∙ sym (filtered (λ x. new_spot (length P + 1) (length (spots S P x)) (place_at S P x)
+        (place_after S P m x) (day_of m) x) (range_with_len 0 (length S.things)))
 all_added S P false m =
     ap (λ (f : ℕ → List NewSpot). flat_map f (range_with_len 0 (length S.things)))
-    (fun_ext (λ x. ap (λ (o : Option Spot). spots_of_thing x (1 + length (spots S P x)) (option_to_list o)) (same_place (length P + 1) (place_at S P x) (day_of m))))
+    (fun_ext
+        (λ x. ap (λ (o : Option Spot). spots_of_thing x (1 + length (spots S P x))
+        (option_to_list o)) (same_place (length P + 1) (place_at S P x) (day_of m))))
     ∙ nothing (range_with_len 0 (length S.things))
 
-pub looking_back : (S : Museum) (P : List Entry) → IsPermutation (spots_by_thing S P) (all_written S P)
-looking_back S [] = subst (λ l. IsPermutation l []) (sym (nothing (range_with_len 0 (length S.things)))) (IsPermutation-refl [])
+pub looking_back : (S : Museum) (P : List Entry)
+    → IsPermutation (spots_by_thing S P) (all_written S P)
+looking_back S [] = subst (λ l. IsPermutation l [])
+    (sym (nothing (range_with_len 0 (length S.things)))) (IsPermutation-refl [])
 looking_back S (e ∷ P) =
     let things = range_with_len 0 (length S.things) in
     let applied = is_applied e.verdict in
-    let each : spots_by_thing S (e ∷ P) ≡ flat_map (λ x. before S P x ++ added S P applied e.message x) things =
+    let each : spots_by_thing S (e ∷ P)
+        ≡ flat_map (λ x. before S P x ++ added S P applied e.message x) things =
     ap (λ (f : ℕ → List NewSpot). flat_map f things)
-    (fun_ext (λ x. rows_append x 1 (spots S P x) (option_to_list (spot_from (length P + 1) (place_at S P x) (place_at S (e ∷ P) x) (day_of e.message))))) in
+    (fun_ext (λ x. rows_append x 1 (spots S P x)
+        (option_to_list (spot_from (length P + 1) (place_at S P x) (place_at S (e ∷ P) x)
+        (day_of e.message))))) in
     let whole : IsPermutation (spots_by_thing S (e ∷ P)) (written S P e ++ spots_by_thing S P) =
-    subst (λ l. IsPermutation (spots_by_thing S (e ∷ P)) (l ++ spots_by_thing S P)) (all_added S P applied e.message)
-    (subst (λ l. IsPermutation l (flat_map (added S P applied e.message) things ++ spots_by_thing S P)) (sym each) (parted (before S P) (added S P applied e.message) things)) in
-    IsPermutation-trans _ _ _ whole (IsPermutation-append _ _ _ _ (IsPermutation-reverse (written S P e)) (looking_back S P))
+    subst (λ l. IsPermutation (spots_by_thing S (e ∷ P)) (l ++ spots_by_thing S P))
+        (all_added S P applied e.message)
+    (subst (λ l. IsPermutation l (flat_map (added S P applied e.message) things ++ spots_by_thing S
+        P)) (sym each) (parted (before S P) (added S P applied e.message) things)) in
+    IsPermutation-trans _ _ _ whole
+        (IsPermutation-append _ _ _ _ (IsPermutation-reverse (written S P e)) (looking_back S P))
 
 -- the rows after an entry
-pub next_spot_rows : (S : Museum) (P : List Entry) (e : Entry) (rows : List SpotRow) → IsPermutation (rows_of_spots S P) rows → IsPermutation (rows_of_spots S (e ∷ P)) (map spot_row (reverse (written S P e)) ++ rows)
+pub next_spot_rows : (S : Museum) (P : List Entry) (e : Entry) (rows : List SpotRow)
+    → IsPermutation (rows_of_spots S P) rows
+    → IsPermutation (rows_of_spots S (e ∷ P)) (map spot_row (reverse (written S P e)) ++ rows)
 next_spot_rows S P e rows same =
-    subst (λ l. IsPermutation l (map spot_row (reverse (written S P e)) ++ rows)) (sym (map-append spot_row (reverse (written S P e)) (all_written S P)))
+    subst (λ l. IsPermutation l (map spot_row (reverse (written S P e)) ++ rows))
+        (sym (map-append spot_row (reverse (written S P e)) (all_written S P)))
     (IsPermutation-append_right (map spot_row (reverse (written S P e))) _ _ same)

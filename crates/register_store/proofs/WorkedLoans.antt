@@ -35,19 +35,23 @@ term loan day = record { loan = loan; day = day }
 
 abbrev agreed : List Entry
 agreed =
-    entry pack 4 (Agree may may_31 loan_1 (codes "MUSEUM-X") (codes "2001.4.1" ∷ codes "2001.4.2" ∷ [])) Applied
+    entry pack 4 (Agree may may_31 loan_1 (codes "MUSEUM-X")
+        (codes "2001.4.1" ∷ codes "2001.4.2" ∷ [])) Applied
     ∷ entry pack 3 (Pack may (codes "2001.4.2") (codes "C1")) Applied
     ∷ entry pack 2 (Pack may (codes "2001.4.1") (codes "C1")) Applied
     ∷ entry pack 1 (Move may (codes "C1") (codes "S1")) Applied
     ∷ []
 
 abbrev loan_out : List Entry
-loan_out = entry pack 6 (Exit may_31 (codes "C1") loan_1) Applied ∷ entry pack 5 (Authorise (codes "Ada") loan_1) Applied ∷ agreed
+loan_out = entry pack 6 (Exit may_31 (codes "C1") loan_1) Applied ∷ entry pack 5
+    (Authorise (codes "Ada") loan_1) Applied ∷ agreed
 
-agreed-lines : lines_by_loan museum agreed ≡ line loan_1 object_1 Awaiting ∷ line loan_1 object_2 Awaiting ∷ []
+agreed-lines : lines_by_loan museum agreed ≡ line loan_1 object_1 Awaiting ∷ line loan_1 object_2
+    Awaiting ∷ []
 agreed-lines = refl
 
-loan_out-lines : lines_by_loan museum loan_out ≡ line loan_1 object_1 Away ∷ line loan_1 object_2 Away ∷ []
+loan_out-lines : lines_by_loan museum loan_out ≡ line loan_1 object_1 Away ∷ line loan_1
+    object_2 Away ∷ []
 loan_out-lines = refl
 
 loan_out-terms : rows_of_terms loan_out ≡ term loan_1 may_31 ∷ []
@@ -61,7 +65,8 @@ extended = entry pack 7 (Extend june_30 loan_1) Applied ∷ loan_out
 abbrev not_later : Entry
 not_later = entry pack 8 (Extend june_2 loan_1) NotLater
 
-extended-lines : lines_by_loan museum (not_later ∷ extended) ≡ line loan_1 object_1 Away ∷ line loan_1 object_2 Away ∷ []
+extended-lines : lines_by_loan museum (not_later ∷ extended) ≡ line loan_1 object_1 Away
+    ∷ line loan_1 object_2 Away ∷ []
 extended-lines = refl
 
 extended-terms : rows_of_terms (not_later ∷ extended) ≡ term loan_1 june_30 ∷ []
@@ -75,7 +80,8 @@ again =
     ∷ entry pack 8 (Return june_2 (codes "2001.4.1") loan_1 (codes "S1")) Applied
     ∷ extended
 
-again-lines : lines_by_loan museum again ≡ line loan_1 object_1 Back ∷ line loan_1 object_2 Away ∷ line loan_2 object_1 Awaiting ∷ []
+again-lines : lines_by_loan museum again ≡ line loan_1 object_1 Back ∷ line loan_1 object_2 Away
+    ∷ line loan_2 object_1 Awaiting ∷ []
 again-lines = refl
 
 again-terms : rows_of_terms again ≡ term loan_1 june_30 ∷ term loan_2 june_2 ∷ []
@@ -85,31 +91,39 @@ abbrev row : List ℕ → ℕ → LineStage → LineRow
 row loan o stage = line_row (line loan o stage)
 
 -- as the table has it: an object that is away
-row-away : row loan_1 object_2 Away ≡ record { loan = codes "LO2024.1"; object = pos 3; stage = pos 1 }
+row-away : row loan_1 object_2 Away ≡ record { loan = codes "LO2024.1"; object = pos 3;
+    stage = pos 1 }
 row-away = refl
 
 -- a line takes the place of that of its loan and object, and of no other
-put-one : put is_same_line (row loan_1 object_1 Back) (rows_of_lines museum extended) ≡ row loan_1 object_1 Back ∷ row loan_1 object_2 Away ∷ []
+put-one : put is_same_line (row loan_1 object_1 Back) (rows_of_lines museum extended)
+    ≡ row loan_1 object_1 Back ∷ row loan_1 object_2 Away ∷ []
 put-one = refl
 
-put-new : put_each is_same_line (row loan_2 object_1 Awaiting ∷ row loan_2 object_2 Awaiting ∷ []) (rows_of_lines museum agreed) ≡
-    row loan_2 object_2 Awaiting ∷ row loan_2 object_1 Awaiting ∷ row loan_1 object_1 Awaiting ∷ row loan_1 object_2 Awaiting ∷ []
+put-new : put_each is_same_line (row loan_2 object_1 Awaiting ∷ row loan_2 object_2 Awaiting ∷ [])
+    (rows_of_lines museum agreed) ≡
+    row loan_2 object_2 Awaiting ∷ row loan_2 object_1 Awaiting ∷ row loan_1 object_1 Awaiting
+        ∷ row loan_1 object_2 Awaiting ∷ []
 put-new = refl
 
-put-both : put_each is_same_line (row loan_1 object_1 Away ∷ row loan_1 object_2 Away ∷ []) (rows_of_lines museum agreed) ≡ row loan_1 object_2 Away ∷ row loan_1 object_1 Away ∷ []
+put-both : put_each is_same_line (row loan_1 object_1 Away ∷ row loan_1 object_2 Away ∷ [])
+    (rows_of_lines museum agreed) ≡ row loan_1 object_2 Away ∷ row loan_1 object_1 Away ∷ []
 put-both = refl
 
 put-day : put is_same_loan (term loan_1 june_30) (rows_of_terms loan_out) ≡ term loan_1 june_30 ∷ []
 put-day = refl
 
-put-other_day : put is_same_loan (term loan_2 june_2) (rows_of_terms loan_out) ≡ term loan_2 june_2 ∷ term loan_1 may_31 ∷ []
+put-other_day : put is_same_loan (term loan_2 june_2) (rows_of_terms loan_out) ≡ term loan_2 june_2
+    ∷ term loan_1 may_31 ∷ []
 put-other_day = refl
 
 -- a refused message gives no last day, nor does one that neither agrees nor extends
 no_day-not_later : term_of not_later ≡ None
 no_day-not_later = refl
 
-no_day-known : term_of (entry pack 5 (Agree may june_30 loan_1 (codes "MUSEUM-X") (codes "2001.4.1" ∷ [])) LoanKnown) ≡ None
+no_day-known : term_of
+    (entry pack 5 (Agree may june_30 loan_1 (codes "MUSEUM-X") (codes "2001.4.1" ∷ []))
+    LoanKnown) ≡ None
 no_day-known = refl
 
 no_day-leaving : term_of (entry pack 6 (Exit may_31 (codes "C1") loan_1) Applied) ≡ None

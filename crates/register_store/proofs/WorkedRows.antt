@@ -29,12 +29,15 @@ use Rattle.posting_core.specs.VerdictNames.{verdict_number}
 use Rattle.register_store.proofs.OneList.{all_verdicts, of_number}
 use Rattle.register_store.proofs.WorkedTexts.{may, may-text, first_move, first_text, first_run-text, ann, spaced_text, begins}
 
--- two stations, three places of the museum's own and two partners', two crates, three own objects and a borrowed one
+-- two stations, three places of the museum's own and two partners', two crates, three own objects
+-- and a borrowed one
 abbrev pub museum : Museum
 museum = record {
   stations = codes "PACK" ∷ codes "GAL" ∷ [];
-  places = (codes "S1", true) ∷ (codes "S1-A", true) ∷ (codes "S2", true) ∷ (codes "MUSEUM-X", false) ∷ (codes "LENDER-Y", false) ∷ [];
-  things = (codes "C1", None) ∷ (codes "C2", None) ∷ (codes "2001.4.1", Some 1) ∷ (codes "2001.4.2", Some 1) ∷ (codes "2001.4.3", Some 1) ∷ (codes "L1999.7", None) ∷ [];
+  places = (codes "S1", true) ∷ (codes "S1-A", true) ∷ (codes "S2", true)
+      ∷ (codes "MUSEUM-X", false) ∷ (codes "LENDER-Y", false) ∷ [];
+  things = (codes "C1", None) ∷ (codes "C2", None) ∷ (codes "2001.4.1", Some 1)
+      ∷ (codes "2001.4.2", Some 1) ∷ (codes "2001.4.3", Some 1) ∷ (codes "L1999.7", None) ∷ [];
 }
 
 -- numbers in it
@@ -85,7 +88,8 @@ setup_row_text : rows_of_setup museum ≡ setup_down
 setup_row_text = refl
 
 abbrev meta : ℕ → ℕ → List MetaRow
-meta version depth = record { name = codes "version"; val = pos version } ∷ record { name = codes "depth"; val = pos depth } ∷ []
+meta version depth = record { name = codes "version"; val = pos version }
+    ∷ record { name = codes "depth"; val = pos depth } ∷ []
 
 depth_twelve : rows_of_meta 12 ≡ meta 2 12
 depth_twelve = refl
@@ -99,7 +103,8 @@ abbrev pub entry : ℕ → ℕ → Message → Verdict → Entry
 entry station n m v = record { station = station; n = n; message = m; verdict = v }
 
 abbrev spot : ℕ → ℕ → ℕ → ℕ → NewSpot
-spot thing k number place = record { thing = thing; k = k; spot = record { entry = number; place = place; day = may } }
+spot thing k number place =
+    record { thing = thing; k = k; spot = record { entry = number; place = place; day = may } }
 
 abbrev entry_1 : Entry
 entry_1 = entry gal 1 first_move Applied
@@ -126,32 +131,40 @@ held_then_posted-by_thing : spots_by_thing museum held_then_posted ≡ things_in
 held_then_posted-by_thing = refl
 
 -- a refused entry writes no spot, nor does a Move to the place where the thing is, nor a sign-off
-more-spots : all_written museum (entry gal 5 ann Applied ∷ entry gal 4 (Move may (codes "2001.4.1") (codes "S1-A")) Applied ∷ entry pack 1 (Move may (codes "2001.4.1") (codes "MUSEUM-X")) ElsewherePlace ∷ held_then_posted) ≡ spots_down
+more-spots : all_written museum
+    (entry gal 5 ann Applied ∷ entry gal 4 (Move may (codes "2001.4.1") (codes "S1-A")) Applied
+    ∷ entry pack 1 (Move may (codes "2001.4.1") (codes "MUSEUM-X")) ElsewherePlace
+    ∷ held_then_posted) ≡ spots_down
 more-spots = refl
 
 -- what one more entry writes: a spot with the next number of its thing's list
-next-written : written museum held_then_posted (entry pack 1 (Move may (codes "2001.4.2") (codes "S1")) Applied) ≡ spot object_2 2 4 s1 ∷ []
+next-written : written museum held_then_posted
+    (entry pack 1 (Move may (codes "2001.4.2") (codes "S1")) Applied) ≡ spot object_2 2 4 s1 ∷ []
 next-written = refl
 
 -- posted to a new store, one after another
 
 abbrev posting : ℕ → ℕ → ℕ → List ℕ → ℕ → PostingRow
-posting id station n body verdict = record { id = pos id; station = pos station; n = pos n; body = body; verdict = pos verdict }
+posting id station n body verdict =
+    record { id = pos id; station = pos station; n = pos n; body = body; verdict = pos verdict }
 
 abbrev row_1 : PostingRow
 row_1 = posting 1 gal 1 first_text 0
 
 abbrev row_2 : PostingRow
-row_2 = posting 2 gal 2 (codes "{\"day\":\"2024-05-01\",\"kind\":\"move\",\"place\":\"S2\",\"thing\":\"2001.4.2\"}") 0
+row_2 = posting 2 gal 2
+    (codes "{\"day\":\"2024-05-01\",\"kind\":\"move\",\"place\":\"S2\",\"thing\":\"2001.4.2\"}") 0
 
 abbrev row_3 : PostingRow
-row_3 = posting 3 gal 3 (codes "{\"day\":\"2024-05-01\",\"kind\":\"move\",\"place\":\"S1-A\",\"thing\":\"2001.4.1\"}") 0
+row_3 = posting 3 gal 3
+    (codes "{\"day\":\"2024-05-01\",\"kind\":\"move\",\"place\":\"S1-A\",\"thing\":\"2001.4.1\"}") 0
 
 abbrev new : Content
 new = record { setup = []; meta = []; postings = []; spots = []; lines = []; terms = [] }
 
 abbrev bound : Content
-bound = record { setup = setup_down; meta = meta 2 12; postings = []; spots = []; lines = []; terms = [] }
+bound = record { setup = setup_down; meta = meta 2 12; postings = []; spots = []; lines = [];
+    terms = [] }
 
 new-bound : bound_to museum new ≡ bound
 new-bound = refl
@@ -162,11 +175,14 @@ posted = record bound { postings = row_3 ∷ row_2 ∷ row_1 ∷ []; spots = map
 
 -- what an applied entry changes that is of no loan
 abbrev pub moving : ℕ → List NewSpot → Changes
-moving number spots = record { entry = number; verdict = Applied; put = None; carried = []; spots = spots; loan = None; lines = [] }
+moving number spots = record { entry = number; verdict = Applied; put = None; carried = [];
+    spots = spots; loan = None; lines = [] }
 
 three-posted :
     with_posted row_3 entry_3 (moving 3 (spot object_1 2 3 s1_a ∷ []))
-    (with_posted row_2 entry_2 (moving 2 (spot object_2 1 2 s2 ∷ [])) (with_posted row_1 entry_1 (moving 1 (spot object_1 1 1 s1 ∷ [])) (bound_to museum new))) ≡ posted
+    (with_posted row_2 entry_2 (moving 2 (spot object_2 1 2 s2 ∷ []))
+        (with_posted row_1 entry_1 (moving 1 (spot object_1 1 1 s1 ∷ [])) (bound_to museum new)))
+        ≡ posted
 three-posted = refl
 
 -- an old store stays, whatever it is bound to
@@ -186,26 +202,37 @@ in_tables = record {
 }
 
 first_kept : IsPostingRow 1 entry_1 row_1
-unfolding is_utf8 chars encode value punctuate lex content escape_byte days_from_civil day_count days_of_years days_of_months
-first_kept = record { id = refl; station = refl; n = refl; body = first_run-text; reads_back = refl; verdict = refl }
+unfolding is_utf8 chars encode value punctuate lex content escape_byte days_from_civil day_count
+    days_of_years days_of_months
+first_kept = record { id = refl; station = refl; n = refl; body = first_run-text; reads_back = refl;
+    verdict = refl }
 
 second_kept : IsPostingRow 2 entry_2 row_2
-unfolding is_utf8 chars encode value punctuate lex content escape_byte days_from_civil day_count days_of_years days_of_months
-second_kept = record { id = refl; station = refl; n = refl; body = rw may-text refl; reads_back = refl; verdict = refl }
+unfolding is_utf8 chars encode value punctuate lex content escape_byte days_from_civil day_count
+    days_of_years days_of_months
+second_kept = record { id = refl; station = refl; n = refl; body = rw may-text refl;
+    reads_back = refl; verdict = refl }
 
 third_kept : IsPostingRow 3 entry_3 row_3
-unfolding is_utf8 chars encode value punctuate lex content escape_byte days_from_civil day_count days_of_years days_of_months
-third_kept = record { id = refl; station = refl; n = refl; body = rw may-text refl; reads_back = refl; verdict = refl }
+unfolding is_utf8 chars encode value punctuate lex content escape_byte days_from_civil day_count
+    days_of_years days_of_months
+third_kept = record { id = refl; station = refl; n = refl; body = rw may-text refl;
+    reads_back = refl; verdict = refl }
 
 held_then_posted-listed : HasList held_then_posted in_tables
-held_then_posted-listed = record { rows = row_3 ∷ row_2 ∷ row_1 ∷ []; each = (third_kept, (second_kept, (first_kept, tt))); all = IsPermutation-reverse (row_3 ∷ row_2 ∷ row_1 ∷ []) }
+held_then_posted-listed = record { rows = row_3 ∷ row_2 ∷ row_1 ∷ [];
+    each = (third_kept, (second_kept, (first_kept, tt))); all =
+    IsPermutation-reverse (row_3 ∷ row_2 ∷ row_1 ∷ []) }
 
 held_then_posted-stored : IsStoreOf museum 12 held_then_posted in_tables
 held_then_posted-stored = record {
-  bound = record { setup = IsPermutation-reverse setup_down; meta = IsPermutation-reverse (meta 2 12); limit = refl };
+  bound = record { setup = IsPermutation-reverse setup_down;
+      meta = IsPermutation-reverse (meta 2 12); limit = refl };
   list = held_then_posted-listed;
   rows = record {
-    spots = IsPermutation-map spot_row _ _ (IsPermutation-append_comm (spot object_1 2 3 s1_a ∷ spot object_2 1 2 s2 ∷ []) (spot object_1 1 1 s1 ∷ []));
+    spots = IsPermutation-map spot_row _ _
+        (IsPermutation-append_comm (spot object_1 2 3 s1_a ∷ spot object_2 1 2 s2 ∷ [])
+        (spot object_1 1 1 s1 ∷ []));
     lines = IsPermutation-refl [];
     terms = IsPermutation-refl [];
   };
@@ -240,15 +267,22 @@ has_depth row = not (bytes_eq row.name (codes "depth")) || is_depth (nat_abs row
 odd_depth : IsBindFault museum (saying (meta 2 9)) (Damaged 0)
 odd_depth = (refl, refl, refl, λ whole. no_nine whole.0 whole.1 whole.2)
   where
-    no_nine : (depth : ℕ) → is_depth depth ≡ true → IsPermutation (rows_of_meta depth) (meta 2 9) → ⊥
-    no_nine depth allowed same = let all = all-permutation (λ row. has_depth row ≡ true) (rows_of_meta depth) (meta 2 9) same (refl, (allowed, tt)) in let nine : false ≡ true = all.1.0 in cc
+    no_nine : (depth : ℕ) → is_depth depth ≡ true
+        → IsPermutation (rows_of_meta depth) (meta 2 9) → ⊥
+    no_nine depth allowed same = let all =
+        all-permutation (λ row. has_depth row ≡ true) (rows_of_meta depth) (meta 2 9) same
+        (refl, (allowed, tt)) in let nine : false ≡ true = all.1.0 in cc
 
-no_depth : IsBindFault museum (saying (record { name = codes "version"; val = pos 2 } ∷ [])) (Damaged 0)
-no_depth = (refl, refl, refl, λ whole. let one = length_permutation _ _ whole.2 in absurd (omega arith))
+no_depth : IsBindFault museum (saying (record { name = codes "version"; val = pos 2 } ∷ []))
+    (Damaged 0)
+no_depth =
+    (refl, refl, refl, λ whole. let one = length_permutation _ _ whole.2 in absurd (omega arith))
 
 -- a word more than the two
-one_word_more : IsBindFault museum (saying (record { name = codes "term"; val = pos 1 } ∷ meta 2 12)) (Damaged 0)
-one_word_more = (refl, refl, refl, λ whole. let one = length_permutation _ _ whole.2 in absurd (omega arith))
+one_word_more : IsBindFault museum
+    (saying (record { name = codes "term"; val = pos 1 } ∷ meta 2 12)) (Damaged 0)
+one_word_more =
+    (refl, refl, refl, λ whole. let one = length_permutation _ _ whole.2 in absurd (omega arith))
 
 -- a setup of as many rows, of which the third differs
 
@@ -275,7 +309,9 @@ other_setup =
 other_place : IsBindFault museum (record in_tables { setup = other_setup }) OtherSetup
 other_place = (
   (12, refl, IsPermutation-reverse (meta 2 12)),
-  λ same. let one = length_permutation _ _ (IsPermutation-filter is_other_place (rows_of_setup museum) other_setup same) in absurd (omega arith),
+  λ same. let one = length_permutation _ _
+      (IsPermutation-filter is_other_place (rows_of_setup museum) other_setup same) in
+      absurd (omega arith),
 )
 
 -- why its entries can't be listed
@@ -284,7 +320,8 @@ abbrev holding : List PostingRow → Content
 holding rows = record in_tables { postings = rows }
 
 -- two rows in the order of their numbers
-rising : (a b : PostingRow) → is_lt (int_cmp b.id a.id) ≡ false → IsSortedByKey (λ (r : PostingRow). r.id) int_cmp (a ∷ b ∷ [])
+rising : (a b : PostingRow) → is_lt (int_cmp b.id a.id) ≡ false
+    → IsSortedByKey (λ (r : PostingRow). r.id) int_cmp (a ∷ b ∷ [])
 rising a b most zero d low high = most
 rising a b most (suc k) d low high = absurd (omega arith)
 
@@ -304,7 +341,8 @@ second_deleted = record {
     number = refl;
     entries = entry_1 ∷ [];
     right = (first_kept, tt);
-    stationed = All-from_recursion (IsOfStation 2) (entry_1 ∷ []) (of_gal 1 first_move Applied (omega arith) (omega arith), tt);
+    stationed = All-from_recursion (IsOfStation 2) (entry_1 ∷ [])
+        (of_gal 1 first_move Applied (omega arith) (omega arith), tt);
     wrong = λ e kept known. let id : 3 ≡ 2 = ap nat_abs kept.id in absurd (omega arith);
   };
 }
@@ -315,18 +353,22 @@ differ : (a b : ℕ) → a < b → a ≡ b → ⊥
 differ a b less same = omega arith
 
 no_such_station : IsWrongRow 2 1 (posting 1 5 1 first_text 0)
-no_such_station e kept known = let station : 5 ≡ e.station = ap nat_abs kept.station in let below = known.known in absurd (omega arith)
+no_such_station e kept known = let station : 5 ≡ e.station = ap nat_abs kept.station in let below =
+    known.known in absurd (omega arith)
 
 number_zero : IsWrongRow 2 1 (posting 1 gal 0 first_text 0)
-number_zero e kept known = let n : 0 ≡ e.n = ap nat_abs kept.n in let some = known.first in absurd (omega arith)
+number_zero e kept known = let n : 0 ≡ e.n = ap nat_abs kept.n in let some = known.first in
+    absurd (omega arith)
 
 number_too_high : IsWrongRow 2 1 (posting 1 gal 1000000 first_text 0)
-number_too_high e kept known = let n : 1000000 ≡ e.n = ap nat_abs kept.n in let few = known.few in absurd (omega arith)
+number_too_high e kept known = let n : 1000000 ≡ e.n = ap nat_abs kept.n in let few = known.few in
+    absurd (omega arith)
 
 no_such_verdict : IsWrongRow 2 1 (posting 1 gal 1 first_text 26)
 no_such_verdict e kept known =
     let number : 26 ≡ verdict_number e.verdict = ap nat_abs kept.verdict in
-    let applied : Applied ≡ e.verdict = subst (λ n. get_or all_verdicts n Applied ≡ e.verdict) (sym number) (of_number e.verdict) in
+    let applied : Applied ≡ e.verdict =
+        subst (λ n. get_or all_verdicts n Applied ≡ e.verdict) (sym number) (of_number e.verdict) in
     differ 0 26 (omega arith) (ap verdict_number applied ∙ sym number)
 
 -- a cell below 0 is no entry's, whatever stands in the others
@@ -335,7 +377,8 @@ negative_number e kept known = let n : negsuc 0 ≡ pos e.n = kept.n in absurd (
 
 -- a body that is read as the message, and isn't its one text
 another_text : IsWrongRow 2 1 (posting 1 gal 1 spaced_text 0)
-another_text e kept known = differ 32 34 (omega arith) (ap (λ l. slice_index l 1) (begins e.message spaced_text kept.body))
+another_text e kept known = differ 32 34 (omega arith)
+    (ap (λ l. slice_index l 1) (begins e.message spaced_text kept.body))
 
 -- how often a store refused, up to the last number
 

@@ -37,11 +37,13 @@ may-spelled =
     }) may refl (omega (arith, signed_arith))
 
 -- whatever spells a day of the calendar is its text
-same_text : (text : List ℕ) (day : ℤ) → IsOnlySpelling text day → first_number ≤ℤ day → day ≤ℤ last_number → day_text day ≡ text
+same_text : (text : List ℕ) (day : ℤ) → IsOnlySpelling text day → first_number ≤ℤ day
+    → day ≤ℤ last_number → day_text day ≡ text
 same_text text day is low high = is.only (day_text day) (text_spells_day day low high).spells
 
 pub may-text : day_text may ≡ codes "2024-05-01"
-may-text = same_text (codes "2024-05-01") may may-spelled (omega (arith, signed_arith)) (omega (arith, signed_arith))
+may-text = same_text (codes "2024-05-01") may may-spelled (omega (arith, signed_arith))
+    (omega (arith, signed_arith))
 
 -- 2024-05-31
 abbrev pub end_of_may : ℤ
@@ -60,7 +62,8 @@ end_of_may-spelled =
     }) end_of_may refl (omega (arith, signed_arith))
 
 pub end_of_may-text : day_text end_of_may ≡ codes "2024-05-31"
-end_of_may-text = same_text (codes "2024-05-31") end_of_may end_of_may-spelled (omega (arith, signed_arith)) (omega (arith, signed_arith))
+end_of_may-text = same_text (codes "2024-05-31") end_of_may end_of_may-spelled
+    (omega (arith, signed_arith)) (omega (arith, signed_arith))
 
 -- 2024-06-30
 abbrev pub end_of_june : ℤ
@@ -79,7 +82,8 @@ end_of_june-spelled =
     }) end_of_june refl (omega (arith, signed_arith))
 
 end_of_june-text : day_text end_of_june ≡ codes "2024-06-30"
-end_of_june-text = same_text (codes "2024-06-30") end_of_june end_of_june-spelled (omega (arith, signed_arith)) (omega (arith, signed_arith))
+end_of_june-text = same_text (codes "2024-06-30") end_of_june end_of_june-spelled
+    (omega (arith, signed_arith)) (omega (arith, signed_arith))
 
 abbrev pub first_move : Message
 first_move = Move may (codes "2001.4.1") (codes "S1")
@@ -90,10 +94,14 @@ ann = SignOff (codes "Ann")
 -- first_run: the message as it was sent, and its one text, with its keys in ascending order
 
 abbrev pub first_text : List ℕ
-first_text = codes "{\"day\":\"2024-05-01\",\"kind\":\"move\",\"place\":\"S1\",\"thing\":\"2001.4.1\"}"
+first_text =
+    codes "{\"day\":\"2024-05-01\",\"kind\":\"move\",\"place\":\"S1\",\"thing\":\"2001.4.1\"}"
 
-first_run-sent : of_bytes (codes "{\"kind\":\"move\",\"thing\":\"2001.4.1\",\"place\":\"S1\",\"day\":\"2024-05-01\"}") ≡ Ok first_move
-unfolding is_utf8 chars encode value punctuate lex content days_from_civil day_count days_of_years days_of_months
+first_run-sent : of_bytes
+    (codes "{\"kind\":\"move\",\"thing\":\"2001.4.1\",\"place\":\"S1\",\"day\":\"2024-05-01\"}")
+    ≡ Ok first_move
+unfolding is_utf8 chars encode value punctuate lex content days_from_civil day_count days_of_years
+    days_of_months
 first_run-sent = refl
 
 pub first_run-text : IsTextOf first_move first_text
@@ -101,7 +109,8 @@ unfolding escape_byte
 first_run-text = rw may-text refl
 
 pub first_run-reads_back : of_bytes first_text ≡ Ok first_move
-unfolding is_utf8 chars encode value punctuate lex content days_from_civil day_count days_of_years days_of_months
+unfolding is_utf8 chars encode value punctuate lex content days_from_civil day_count days_of_years
+    days_of_months
 first_run-reads_back = refl
 
 pub sign_off-text : IsTextOf ann (codes "{\"by\":\"Ann\",\"kind\":\"signoff\"}")
@@ -115,17 +124,20 @@ sign_off-reads_back = refl
 -- an agreement, whose objects stand in the order given
 
 abbrev pub agreed : Message
-agreed = Agree may end_of_may (codes "LO2024.1") (codes "MUSEUM-X") (codes "2001.4.1" ∷ codes "2001.4.2" ∷ [])
+agreed = Agree may end_of_may (codes "LO2024.1") (codes "MUSEUM-X")
+    (codes "2001.4.1" ∷ codes "2001.4.2" ∷ [])
 
 abbrev pub agreed_text : List ℕ
-agreed_text = codes "{\"first\":\"2024-05-01\",\"kind\":\"agree\",\"last\":\"2024-05-31\",\"loan\":\"LO2024.1\",\"objects\":[\"2001.4.1\",\"2001.4.2\"],\"partner\":\"MUSEUM-X\"}"
+agreed_text =
+    codes "{\"first\":\"2024-05-01\",\"kind\":\"agree\",\"last\":\"2024-05-31\",\"loan\":\"LO2024.1\",\"objects\":[\"2001.4.1\",\"2001.4.2\"],\"partner\":\"MUSEUM-X\"}"
 
 pub agree-text : IsTextOf agreed agreed_text
 unfolding escape_byte
 agree-text = rw (may-text, end_of_may-text) refl
 
 pub agree-reads_back : of_bytes agreed_text ≡ Ok agreed
-unfolding is_utf8 chars encode value punctuate lex content days_from_civil day_count days_of_years days_of_months
+unfolding is_utf8 chars encode value punctuate lex content days_from_civil day_count days_of_years
+    days_of_months
 agree-reads_back = refl
 
 abbrev pub extended : Message
@@ -139,7 +151,8 @@ unfolding escape_byte
 extend-text = rw end_of_june-text refl
 
 pub extend-reads_back : of_bytes extended_text ≡ Ok extended
-unfolding is_utf8 chars encode value punctuate lex content days_from_civil day_count days_of_years days_of_months
+unfolding is_utf8 chars encode value punctuate lex content days_from_civil day_count days_of_years
+    days_of_months
 extend-reads_back = refl
 
 -- whatever a message says, its text begins with a brace and a quote
@@ -157,10 +170,12 @@ begins (SignOff name) text h = ap (take 2) h
 -- other bytes of the same message: read, and not its text
 
 abbrev pub spaced_text : List ℕ
-spaced_text = codes "{ \"day\":\"2024-05-01\",\"kind\":\"move\",\"place\":\"S1\",\"thing\":\"2001.4.1\"}"
+spaced_text =
+    codes "{ \"day\":\"2024-05-01\",\"kind\":\"move\",\"place\":\"S1\",\"thing\":\"2001.4.1\"}"
 
 spaced-read : of_bytes spaced_text ≡ Ok first_move
-unfolding is_utf8 chars encode value punctuate lex content days_from_civil day_count days_of_years days_of_months
+unfolding is_utf8 chars encode value punctuate lex content days_from_civil day_count days_of_years
+    days_of_months
 spaced-read = refl
 
 -- bad_lines
@@ -196,23 +211,35 @@ no_thing : of_json (of (codes "move") no_members) ≡ Err (Missing Thing)
 no_thing = refl
 
 -- a wrong thing comes before a place that is missing
-wrong_thing : of_json (of (codes "move") (with (codes "thing") (codes "2001.04") no_members)) ≡ Err (BadField Thing)
+wrong_thing : of_json (of (codes "move") (with (codes "thing") (codes "2001.04") no_members))
+    ≡ Err (BadField Thing)
 wrong_thing = refl
 
-no_place : of_json (of (codes "move") (with (codes "thing") (codes "2001.4.1") no_members)) ≡ Err (Missing Place)
+no_place : of_json (of (codes "move") (with (codes "thing") (codes "2001.4.1") no_members))
+    ≡ Err (Missing Place)
 no_place = refl
 
-place_of_no_string : of_json (of (codes "move") (with (codes "thing") (codes "2001.4.1") (put (codes "place") (number (unsigned 1)) no_members))) ≡ Err (BadField Place)
+place_of_no_string : of_json (of (codes "move")
+    (with (codes "thing") (codes "2001.4.1")
+    (put (codes "place") (number (unsigned 1)) no_members))) ≡ Err (BadField Place)
 place_of_no_string = refl
 
-no_day : of_json (of (codes "move") (with (codes "thing") (codes "2001.4.1") (with (codes "place") (codes "S1") no_members))) ≡ Err (Missing Day)
+no_day : of_json (of (codes "move")
+    (with (codes "thing") (codes "2001.4.1") (with (codes "place") (codes "S1") no_members)))
+    ≡ Err (Missing Day)
 no_day = refl
 
-no_such_day : of_json (of (codes "move") (with (codes "thing") (codes "2001.4.1") (with (codes "place") (codes "S1") (with (codes "day") (codes "2023-02-29") no_members)))) ≡ Err (BadField Day)
+no_such_day : of_json (of (codes "move")
+    (with (codes "thing") (codes "2001.4.1")
+    (with (codes "place") (codes "S1") (with (codes "day") (codes "2023-02-29") no_members))))
+    ≡ Err (BadField Day)
 no_such_day = refl
 
 -- a receive with no place
-no_place_received : of_json (of (codes "receive") (with (codes "thing") (codes "L1999.7") (with (codes "loan") (codes "LI2024.1") (with (codes "day") (codes "2024-05-01") no_members)))) ≡ Err (Missing Place)
+no_place_received : of_json (of (codes "receive")
+    (with (codes "thing") (codes "L1999.7")
+    (with (codes "loan") (codes "LI2024.1") (with (codes "day") (codes "2024-05-01") no_members))))
+    ≡ Err (Missing Place)
 no_place_received = refl
 
 -- the objects of an agreement: 2001.4.1 so many times
@@ -221,7 +248,9 @@ many zero = no_items
 many (suc n) = item (string (codes "2001.4.1")) (many n)
 
 abbrev agree_on : Items → Data
-agree_on objects = of (codes "agree") (with (codes "loan") (codes "LO2024.1") (with (codes "partner") (codes "MUSEUM-X") (put (codes "objects") (array objects) no_members)))
+agree_on objects = of (codes "agree")
+    (with (codes "loan") (codes "LO2024.1")
+    (with (codes "partner") (codes "MUSEUM-X") (put (codes "objects") (array objects) no_members)))
 
 too_many : of_json (agree_on (many 257)) ≡ Err (BadField Objects)
 too_many = refl
@@ -237,6 +266,7 @@ unfolding is_utf8 chars
 nobody = refl
 
 -- keys that the kind doesn't name are ignored
-more_keys : of_json (of (codes "signoff") (with (codes "by") (codes "Ann") (with (codes "thing") (codes "x") no_members))) ≡ Ok ann
+more_keys : of_json (of (codes "signoff")
+    (with (codes "by") (codes "Ann") (with (codes "thing") (codes "x") no_members))) ≡ Ok ann
 unfolding is_utf8 chars encode
 more_keys = refl

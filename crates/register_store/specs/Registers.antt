@@ -30,7 +30,8 @@ is_failure OtherSetup = false
 is_failure (Damaged at) = false
 is_failure OtherVersion = false
 
--- A stopped register stays stopped and returns Store. After an Ok it runs. Only NoMemory or Store can
+-- A stopped register stays stopped and returns Store. After an Ok it runs. Only NoMemory or Store
+-- can
 -- stop it.
 pub record Stops {T : Type 0} (old new : Bool) (r : Result T StoreFault) : Type 0 where
   pub going : OnOk r (new ≡ false)

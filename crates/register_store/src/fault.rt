@@ -1,20 +1,22 @@
-//! Why a text is no message.
+//! Why a text is rejected as a message.
 
 use crate::Key;
 use codes_core::NoMemory;
 use std::alloc::AllocError;
 use thiserror::Error;
 
-/// Why a text is no message, or a growth was refused.
+/// Why a text is rejected as a message. `NotJson` comes first, then the faults of its kind
+/// (`Missing`, `BadKind`), then those of its other keys (`Missing`, `BadField`) in the order of
+/// `specs/Kinds.antt`. `NoMemory` may come instead.
 #[derive(Clone, Copy, Debug, PartialEq, Eq, Error)]
 pub enum ReadFault {
     #[error("no JSON object")]
     NotJson,
     #[error("no key {0}")]
     Missing(Key),
-    #[error("no such kind of message")]
+    #[error("unknown kind of message")]
     BadKind,
-    #[error("a wrong value at the key {0}")]
+    #[error("a wrong value for the key {0}")]
     BadField(Key),
     #[error("out of memory")]
     NoMemory,

@@ -1,4 +1,4 @@
-//! The values at the keys of an object.
+//! Reads the values at the keys of a JSON object.
 ghost use Rattle.std.specs.Prelude.{◌≡◌, ◌≢◌, None, Some, IfErr, MatchResult, option_and_then, List, ℕ, Bool};
 ghost use Rattle.serde_json.specs.Find.{get, as_str};
 ghost use Rattle.register_store.specs.Spelling.{key_name, is_thing, is_place, is_loan, is_day, is_name};
@@ -9,7 +9,7 @@ use borrowed_json::Fields;
 use codes_core::{Day, LoanCode, Name, NameFault, PlaceCode, ThingCode};
 use std::alloc::Global;
 
-/// The value at a key, else Missing.
+/// The value at a key. Fails with `Missing`.
 pub fn value_at<'a, V: Fields>(object: &'a V, key: Key) -> Result<&'a V, ReadFault>
     ensures exact { MatchResult result
         (λ value. get (key_name key) (V.seen object.now) ≡ Some (V.seen value.now))
@@ -19,9 +19,9 @@ pub fn value_at<'a, V: Fields>(object: &'a V, key: Key) -> Result<&'a V, ReadFau
     object.at(key.name()).ok_or(ReadFault::Missing(key))
 }
 
-/// The string at a key, else Missing or BadField.
+/// The string at a key. Fails with `Missing`, or with `BadField` for any other value.
 pub fn string_at<'a, V: Fields>(object: &'a V, key: Key) -> Result<&'a str, ReadFault>
-    // The fault is the same whatever texts are right there.
+    // The fault is the same, whatever strings are valid at the key.
     ensures exact { MatchResult result
         (λ text. option_and_then as_str (get (key_name key) (V.seen object.now)) ≡ Some text.now)
         (λ fault. (test : List ℕ → Bool)
@@ -33,7 +33,7 @@ pub fn string_at<'a, V: Fields>(object: &'a V, key: Key) -> Result<&'a str, Read
         .ok_or(ReadFault::BadField(key))
 }
 
-/// The thing's code at a key, else Missing or BadField.
+/// The thing's code at a key. Fails with `Missing` or `BadField`.
 pub fn thing_at<V: Fields>(object: &V, key: Key) -> Result<ThingCode, ReadFault>
     ensures exact { MatchResult result
         (λ code. (fault_at (V.seen object.now) (key spells is_thing) ≡ None)
@@ -47,7 +47,7 @@ pub fn thing_at<V: Fields>(object: &V, key: Key) -> Result<ThingCode, ReadFault>
         .ok_or(ReadFault::BadField(key))
 }
 
-/// The place's code at a key, else Missing or BadField.
+/// The place's code at a key. Fails with `Missing` or `BadField`.
 pub(crate) fn place_at<V: Fields>(object: &V, key: Key) -> Result<PlaceCode, ReadFault>
     ensures exact { MatchResult result
         (λ code. (fault_at (V.seen object.now) (key spells is_place) ≡ None)
@@ -61,7 +61,7 @@ pub(crate) fn place_at<V: Fields>(object: &V, key: Key) -> Result<PlaceCode, Rea
         .ok_or(ReadFault::BadField(key))
 }
 
-/// The loan's code at a key, else Missing or BadField.
+/// The loan's code at a key. Fails with `Missing` or `BadField`.
 pub(crate) fn loan_at<V: Fields>(object: &V, key: Key) -> Result<LoanCode, ReadFault>
     ensures exact { MatchResult result
         (λ code. (fault_at (V.seen object.now) (key spells is_loan) ≡ None)
@@ -75,7 +75,7 @@ pub(crate) fn loan_at<V: Fields>(object: &V, key: Key) -> Result<LoanCode, ReadF
         .ok_or(ReadFault::BadField(key))
 }
 
-/// The day at a key, else Missing or BadField.
+/// The day at a key. Fails with `Missing` or `BadField`.
 pub(crate) fn day_at<V: Fields>(object: &V, key: Key) -> Result<Day, ReadFault>
     ensures exact { MatchResult result
         (λ day. (fault_at (V.seen object.now) (key spells is_day) ≡ None)
@@ -89,7 +89,7 @@ pub(crate) fn day_at<V: Fields>(object: &V, key: Key) -> Result<Day, ReadFault>
         .ok_or(ReadFault::BadField(key))
 }
 
-/// The name at a key, else Missing, BadField or, where a name stands there, NoMemory.
+/// The name at a key. Fails with `Missing` or `BadField`, or, if the value is a name, `NoMemory`.
 pub(crate) fn name_at<V: Fields>(alloc: Global, object: &V, key: Key) -> Result<Name, ReadFault>
     ensures exact { MatchResult result
         (λ name. (fault_at (V.seen object.now) (key spells is_name) ≡ None)

@@ -1,4 +1,4 @@
-//! Entries as a register in memory keeps them.
+//! Entries, as a register in memory keeps them.
 ghost use Rattle.std.specs.Prelude.{◌≡◌, ◌≢◌, IfOk, IfErr};
 ghost use Rattle.register_store.specs.StoredRows.{IsPostingRow};
 ghost use Rattle.register_store.specs.Registers.{IsOfStation, IsWrongRow};
@@ -11,23 +11,25 @@ use nest_core::StationNo;
 use posting_core::{Entry, EntryNo, KeptMessage, LAST_NUMBER, Verdict};
 use std::alloc::Global;
 
-/// A posted entry under its number. Its row has the one text of its message, which is not made to keep the entry.
+/// A posted entry with its number. Its row has the message's one text, which isn't made to keep the
+/// entry.
 #[derive(Drop)]
 pub struct KeptEntry {
     /// The entry's number, from 1.
     pub id: EntryNo,
-    /// Its station's number.
+    /// The number of the station.
     pub station: StationNo,
     /// The number that the station gave its message.
     pub n: u32,
-    /// Its verdict, which stands here since fields are laid out in their order: so an entry takes 56 bytes, and not 64.
+    /// The verdict. Fields are laid out in their order: here, before the message, it makes the
+    /// entry take 56 bytes instead of 64.
     pub verdict: Verdict,
     /// The message.
     pub message: KeptMessage,
 }
 
 impl KeptEntry {
-    /// A copy of the entry, under this number, from 1. The fault: NoMemory.
+    /// Keeps a copy of the entry under this number, from 1. Fails with `NoMemory`.
     pub(crate) fn new(alloc: Global, number: EntryNo, entry: &Entry) -> Result<KeptEntry, NoMemory>
         ensures { IfOk result (λ kept. IsPostingRow number entry.now (kept_row kept)) }
     {
@@ -42,8 +44,9 @@ impl KeptEntry {
         })
     }
 
-    /// A copy of the entry, which is to have this number, from 1, where so many stations are known. The faults: Damaged
-    /// under that number, where the row is none of an entry of theirs; NoMemory.
+    /// Returns a copy of the entry, which should have this number, from 1, and a station below
+    /// `stations`. Fails with `Damaged(number)` if it isn't a valid entry with that number, or with
+    /// `NoMemory`.
     pub(crate) fn listed(
         &self,
         alloc: Global,

@@ -1,10 +1,10 @@
-//! The keys of messages and of lines.
+//! The keys of messages and of the lines around them.
 ghost use Rattle.std.specs.Prelude.{◌≡◌};
 ghost use Rattle.register_store.specs.Spelling.{key_name};
 
 use std::fmt;
 
-/// A key of a message's object, or of the line that bears it.
+/// A key of a message, or of the line that has the message in it.
 #[derive(Clone, Copy, Debug, PartialEq, Eq)]
 pub enum Key {
     Kind,
@@ -25,7 +25,7 @@ pub enum Key {
 }
 
 impl Key {
-    /// The key as it stands in the text.
+    /// The key as it is spelled in JSON.
     pub fn name(self) -> &'static str
         ensures { result.now ≡ key_name self }
     {

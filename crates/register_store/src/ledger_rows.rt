@@ -1,4 +1,4 @@
-//! What a setup and a ledger give a store as rows, for any register.
+//! The rows that a store has for a setup and a ledger.
 ghost use Rattle.std.specs.Prelude.{◌≡◌, ◌≤◌, ◌++◌, length, map, IfOk, OnOk, string_bytes};
 ghost use Rattle.nest_core.specs.SetupTexts.{setup_rows};
 ghost use Rattle.register_store.specs.StoredRows.{spots_of_thing, spots_by_thing, lines_by_loan, rows_of_terms};
@@ -10,7 +10,7 @@ use nest_core::{Setup, ThingNo};
 use posting_core::{Ledger, LineStage, MOST_ENTRIES, NewSpot, Spot};
 use std::alloc::Global;
 
-/// The texts of a setup's rows, in their order: row 1 first. The fault: NoMemory.
+/// The texts of a setup's rows, row 1 first. Fails with `NoMemory`.
 pub fn row_texts(alloc: Global, setup: &Setup) -> Result<Vec<String>, NoMemory>
     ensures { IfOk result (λ texts. map string_bytes texts.items ≡ setup_rows setup.now) }
 {
@@ -21,8 +21,8 @@ pub fn row_texts(alloc: Global, setup: &Setup) -> Result<Vec<String>, NoMemory>
     Ok(texts)
 }
 
-/// The spots of all things, by looking back: thing by thing, and each thing's from 1 on, so that they ascend. The fault:
-/// NoMemory.
+/// The spots of all things, by looking back, in ascending order: thing by thing, and each thing's
+/// from spot 1 on. Fails with `NoMemory`.
 pub fn spot_rows(alloc: Global, ledger: &Ledger) -> Result<Vec<NewSpot>, NoMemory>
     ensures { IfOk result
         (λ rows. rows.items ≡ spots_by_thing ledger.now.museum ledger.now.posted) }
@@ -35,7 +35,7 @@ pub fn spot_rows(alloc: Global, ledger: &Ledger) -> Result<Vec<NewSpot>, NoMemor
     Ok(rows)
 }
 
-/// Adds the spots of a thing as rows.
+/// Adds the spots of a thing, numbered from 1. Fails with `NoMemory`.
 fn push_spots(rows: &mut Vec<NewSpot>, thing: ThingNo, spots: &[Spot]) -> Result<(), NoMemory>
     requires few { length spots.now ≤ MOST_ENTRIES }
     ensures { OnOk result (rows.new.items ≡ rows.old.items ++ spots_of_thing thing 1 spots.now) }
@@ -50,7 +50,8 @@ fn push_spots(rows: &mut Vec<NewSpot>, thing: ThingNo, spots: &[Spot]) -> Result
     Ok(())
 }
 
-/// The lines of all loans, each at its stage by looking back, in the order of the agreements. The fault: NoMemory.
+/// The lines of all loans at their present stages, in the order of the agreements. Fails with
+/// `NoMemory`.
 pub fn lines_of(alloc: Global, ledger: &Ledger) -> Result<Vec<(LineKey, LineStage)>, NoMemory>
     ensures { IfOk result
         (λ rows. held_lines rows.items ≡ lines_by_loan ledger.now.museum ledger.now.posted) }
@@ -63,7 +64,7 @@ pub fn lines_of(alloc: Global, ledger: &Ledger) -> Result<Vec<(LineKey, LineStag
     Ok(rows)
 }
 
-/// Adds the lines of a loan with these objects.
+/// Adds the lines of a loan for these objects. Fails with `NoMemory`.
 fn push_lines(
     rows: &mut Vec<(LineKey, LineStage)>,
     ledger: &Ledger,
@@ -83,7 +84,7 @@ fn push_lines(
     Ok(())
 }
 
-/// The last days of all loans by looking back, in the order of the agreements. The fault: NoMemory.
+/// The last days of all loans, in the order of the agreements. Fails with `NoMemory`.
 pub fn terms_of(alloc: Global, ledger: &Ledger) -> Result<Vec<(LoanCode, Day)>, NoMemory>
     ensures { IfOk result (λ rows. term_rows rows.items ≡ rows_of_terms ledger.now.posted) }
 {
@@ -95,7 +96,7 @@ pub fn terms_of(alloc: Global, ledger: &Ledger) -> Result<Vec<(LoanCode, Day)>, 
     Ok(rows)
 }
 
-/// Adds the last day of a loan.
+/// Adds the last day of a loan. Fails with `NoMemory`.
 fn push_day(
     rows: &mut Vec<(LoanCode, Day)>,
     ledger: &Ledger,

@@ -1,4 +1,22 @@
-//! The text of messages, and what keeps a posted list.
+//! Messages as JSON text, and registers, which keep a posted list in a store.
+//!
+//! [`read_message`] reads a message from JSON, or returns its first [`ReadFault`]. [`message_text`]
+//! writes it: each message has one text, and reading that text returns the message. [`Register`] is
+//! the trait of what keeps a posted list: it binds a setup, posts entries and lists them, or fails
+//! with a [`StoreFault`]. [`PlainRegister`] keeps its rows in memory; `register_sql` keeps them in
+//! an SQLite database.
+//!
+//! Contracts speak of every content that a store may have after a call, if the store is quiet:
+//! nobody else writes to it, and it returns what was written. An entry is stored with all its rows
+//! or, after a fault, perhaps not at all. Listing returns all entries, or names the first damaged
+//! row. [`laws`] has what follows for every register.
+//!
+//! ```text
+//! let mut register = PlainRegister::new(alloc);
+//! let depth = register.bind(alloc, &setup)?;
+//! register.post(alloc, &entry, &changes)?;
+//! let entries = register.all(alloc)?;
+//! ```
 #![tactic(auto)]
 
 mod fault;

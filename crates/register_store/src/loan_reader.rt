@@ -1,4 +1,4 @@
-//! Messages of loans read from JSON.
+//! Reads messages about loans from JSON.
 ghost use Rattle.std.specs.Prelude.{◌≡◌, ◌≢◌, true, is_some, Ok, Err, IsOk, IfErr, MatchResult};
 ghost use Rattle.register_store.specs.Kinds.{kind_named, loan_kinds, kinds_that_grow, of_named, of_row, agree_row, authorise_row, exit_row, return_row, receive_row, extend_row};
 
@@ -9,8 +9,9 @@ use borrowed_json::Fields;
 use posting_core::Message;
 use std::alloc::Global;
 
-/// The message of a loan that an object of this kind spells, else its first fault; BadKind where no loan has messages of
-/// this kind. NoMemory only where it keeps a name or a list of objects.
+/// Returns the message about a loan that an object of this kind spells. Fails with `BadKind` if no
+/// message about a loan has this kind, otherwise with the first fault of its keys. Fails with
+/// `NoMemory`, but only for a kind that keeps a name or a list of objects.
 pub(crate) fn loan_message_of<V: Fields>(
     alloc: Global,
     kind: &str,

@@ -1,4 +1,4 @@
-//! The rows of loans in memory: lines by loan and object, and last days by loan.
+//! The loan lines and the last days of loans in memory.
 ghost use Rattle.std.specs.Prelude.{◌≡◌, ◌≤◌, length};
 ghost use Rattle.std.specs.List.Sorted.{IsPermutation};
 ghost use Rattle.std.specs.Option.{option_map, option_map_or};
@@ -11,16 +11,16 @@ use indexmap::IndexMap;
 use nest_core::ThingNo;
 use posting_core::{Entry, LineStage, Message, NewLine, Verdict};
 
-/// An object of a loan, by which a line is kept.
+/// The key of a loan line: a loan and one of its objects.
 #[derive(Clone, Copy, PartialEq, Eq, Hash)]
 pub struct LineKey {
-    /// The loan.
+    /// The loan's code.
     pub loan: LoanCode,
     /// The object's number, from 0.
     pub object: ThingNo,
 }
 
-/// Puts lines in the place of those of the same loan and object; there is room for all.
+/// Sets these lines, in place of those of the same loan and object. There must be room for all.
 pub(crate) fn put_lines(kept: &mut IndexMap<LineKey, LineStage>, lines: &[NewLine])
     requires { length lines.now ≤ spare kept.old }
     ensures { IsPermutation (held_lines kept.new.entries)
@@ -36,7 +36,8 @@ pub(crate) fn put_lines(kept: &mut IndexMap<LineKey, LineStage>, lines: &[NewLin
     }
 }
 
-/// Puts the last day that an entry gives a loan in the place of the one before; there is room for one more.
+/// Records the last day that an entry sets for its loan, if it sets one, in place of the one
+/// before. There must be room for one more.
 pub(crate) fn put_term(kept: &mut IndexMap<LoanCode, Day>, entry: &Entry)
     requires { 1 ≤ spare kept.old }
     ensures { IsPermutation (term_rows kept.new.entries)
@@ -48,7 +49,8 @@ pub(crate) fn put_term(kept: &mut IndexMap<LoanCode, Day>, entry: &Entry)
     }
 }
 
-/// The loan that an applied entry agrees or extends, with the last day that it gives it.
+/// The loan that an entry agrees or extends, and its new last day. `None` for other entries and for
+/// refused ones.
 pub fn term_of(entry: &Entry) -> Option<(LoanCode, Day)>
     ensures { option_map (λ t. record { loan = t.0; day = t.1 }) result ≡ term_of entry.now }
 {

@@ -1,4 +1,4 @@
-//! Messages of loans written as JSON.
+//! Writes messages about loans as JSON.
 ghost use Rattle.std.specs.Prelude.{◌≡◌, IfOk};
 ghost use Rattle.serde_json.specs.View.{view};
 ghost use Rattle.register_store.specs.MessageText.{json};

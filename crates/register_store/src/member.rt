@@ -1,4 +1,4 @@
-//! The members of an object, and their values.
+//! Writes the members of a JSON object.
 ghost use Rattle.std.specs.Prelude.{◌≡◌, IfOk, OnOk, map};
 ghost use Rattle.serde_json.specs.Data.{string, array, put, no_members};
 ghost use Rattle.serde_json.specs.View.{items_of, items_view, members_view};
@@ -12,7 +12,7 @@ use posting_core::Objects;
 use serde_json::{Map, Value};
 use std::alloc::Global;
 
-/// An object that has its kind.
+/// A new object with its kind. Fails with `NoMemory`.
 pub(crate) fn object_of_kind(alloc: Global, kind: &str) -> Result<Map<String, Value>, NoMemory>
     ensures { IfOk result (λ object. members_view object.entries
         ≡ put (key_name Key.Kind) (string kind.now) no_members) }
@@ -22,7 +22,7 @@ pub(crate) fn object_of_kind(alloc: Global, kind: &str) -> Result<Map<String, Va
     Ok(object)
 }
 
-/// Puts a string into an object.
+/// Puts a string at a key. Fails with `NoMemory`.
 pub(crate) fn put_text(
     alloc: Global,
     object: &mut Map<String, Value>,
@@ -37,7 +37,7 @@ pub(crate) fn put_text(
     Ok(())
 }
 
-/// Puts an array of things into an object.
+/// Puts an array of things' codes at a key. Fails with `NoMemory`.
 pub(crate) fn put_things(
     alloc: Global,
     object: &mut Map<String, Value>,
@@ -53,7 +53,7 @@ pub(crate) fn put_things(
     Ok(())
 }
 
-/// The strings of things.
+/// The codes of things as JSON strings. Fails with `NoMemory`.
 fn things_array(alloc: Global, things: &[ThingCode]) -> Result<Vec<Value>, NoMemory>
     ensures { IfOk result (λ items. items_view items.items ≡ items_of (map string things.now)) }
 {
@@ -64,7 +64,7 @@ fn things_array(alloc: Global, things: &[ThingCode]) -> Result<Vec<Value>, NoMem
     Ok(items)
 }
 
-/// Puts a day into an object, as the one text that spells it.
+/// Puts a day at a key, as the only text that spells it. Fails with `NoMemory`.
 pub(crate) fn put_day(
     alloc: Global,
     object: &mut Map<String, Value>,

@@ -1,4 +1,4 @@
-//! Messages read from JSON.
+//! Reads messages from JSON.
 ghost use Rattle.std.specs.Prelude.{◌≡◌, ◌≢◌, true, Ok, Err, IsOk, IfErr, MatchResult};
 ghost use Rattle.serde_json.specs.View.{view};
 ghost use Rattle.register_store.specs.Kinds.{of_row, move_row, pack_row, sign_off_row, takes_memory, of_json, of_bytes};
@@ -11,7 +11,8 @@ use posting_core::Message;
 use serde_json::Value;
 use std::alloc::Global;
 
-/// The message that bytes of JSON spell, else their first fault; NoMemory may stand in place of any answer.
+/// Returns the message that JSON text spells. Fails with its first fault; any call may fail with
+/// `NoMemory` instead.
 pub fn read_message(alloc: Global, bytes: &[u8]) -> Result<Message, ReadFault>
     ensures exact { MatchResult result (λ message. of_bytes bytes.now ≡ Ok message)
         (λ fault. fault ≢ ReadFault.NoMemory → of_bytes bytes.now ≡ Err fault) }
@@ -24,8 +25,8 @@ pub fn read_message(alloc: Global, bytes: &[u8]) -> Result<Message, ReadFault>
     }
 }
 
-/// The message that a value spells, else its first fault; NoMemory only where the value is of a kind that keeps a name or a
-/// list of objects.
+/// Returns the message that a JSON value spells. Fails with its first fault, or with `NoMemory`,
+/// but only if the value is of a kind that keeps a name or a list of objects.
 pub fn message_of(alloc: Global, value: &Value) -> Result<Message, ReadFault>
     ensures exact { MatchResult result (λ message. of_json (view value.now) ≡ Ok message)
         (λ fault. fault ≢ ReadFault.NoMemory → of_json (view value.now) ≡ Err fault) }
@@ -34,7 +35,7 @@ pub fn message_of(alloc: Global, value: &Value) -> Result<Message, ReadFault>
     message_in(alloc, value)
 }
 
-/// The same of any JSON value.
+/// The same for any JSON value, whether it owns its text or borrows it.
 #[tactic(auto, using(crate::proofs::Objects::of_object, crate::proofs::Objects::no_object))]
 pub fn message_in<V: Fields>(alloc: Global, value: &V) -> Result<Message, ReadFault>
     ensures exact { MatchResult result (λ message. of_json (V.seen value.now) ≡ Ok message)

@@ -1,4 +1,4 @@
-//! Messages written as JSON.
+//! Writes messages as JSON.
 ghost use Rattle.std.specs.Prelude.{◌≡◌, IfOk, Ok, string_bytes};
 ghost use Rattle.serde_json.specs.View.{view};
 ghost use Rattle.register_store.specs.Kinds.{of_bytes};
@@ -15,7 +15,8 @@ use posting_core::Message;
 use serde_json::Value;
 use std::alloc::Global;
 
-/// The text of a message: compact JSON, its keys in ascending order.
+/// Returns the one text of a message: compact JSON, with its keys in ascending order. Reading the
+/// text returns the message. Fails with `NoMemory`.
 pub fn message_text(alloc: Global, message: &Message) -> Result<String, NoMemory>
     ensures text { IfOk result (λ text. IsTextOf message.now (string_bytes text)) }
     ensures reads_back { IfOk result (λ text. of_bytes (string_bytes text) ≡ Ok message.now) }
@@ -25,7 +26,7 @@ pub fn message_text(alloc: Global, message: &Message) -> Result<String, NoMemory
     Ok(object.to_string(alloc)?)
 }
 
-/// The object of a message.
+/// The JSON object of a message.
 fn object_of(alloc: Global, message: &Message) -> Result<Value, NoMemory>
     ensures { IfOk result (λ value. view value ≡ json message.now) }
 {

@@ -19,12 +19,13 @@ use posting_core::{Changes, Entry, Ledger, LineStage, NewSpot};
 use std::alloc::Global;
 use std::marker::Model;
 
-/// The depth limit of a new store: how many containers may stand above a thing.
+/// The depth limit of a new store: how many containers may be above a thing.
 pub const NEW_DEPTH: u32 = 12;
 
-/// A register that keeps its rows in memory, and loses them when it is dropped. It never answers Store or OtherVersion.
+/// A register that keeps its rows in memory, and loses them when it is dropped. It never returns
+/// `Store` or `OtherVersion`.
 pub struct PlainRegister {
-    /// The setup's rows, once it is bound.
+    /// The texts of the setup's rows, once a setup is bound.
     setup: Option<Vec<String>>,
     postings: Vec<KeptEntry>,
     spots: Vec<NewSpot>,
@@ -55,7 +56,7 @@ impl Model for PlainRegister {
     } };
 }
 
-/// Written out, so that whoever drops a register calls it: a derived drop would stand whole at each of their ways out.
+/// Manual `Drop`: a derived one is inlined at every return and slows the proof.
 impl Drop for PlainRegister {
     fn drop(self) {
         let PlainRegister {
@@ -78,7 +79,7 @@ impl Drop for PlainRegister {
 impl PlainRegister {
     ghost use Rattle.register_store.specs.Plain.{Kept};
 
-    /// A new store, with nothing kept and no setup bound. Takes no memory.
+    /// Makes a new register with nothing in it and no setup bound. Takes no memory.
     pub fn new(alloc: Global) -> PlainRegister
         ensures { result
             ≡ record {
@@ -157,7 +158,7 @@ impl Register for PlainRegister {
     }
 }
 
-/// Adds an entry and its spots, or, where memory is refused, neither.
+/// Adds an entry and its spots. Fails with `NoMemory`, and then nothing is added.
 fn add_posting(
     postings: &mut Vec<KeptEntry>,
     spots: &mut Vec<NewSpot>,
@@ -182,7 +183,7 @@ fn are_all(spots: bool, lines: bool, terms: bool) -> bool
     spots && lines && terms
 }
 
-/// Whether the kept texts, if there are some, are these.
+/// Whether the kept texts are these. True if none are kept yet.
 fn fits(kept: &Option<Vec<String>>, texts: &[String]) -> bool
     ensures { MatchOption kept.now (result ≡ true)
         (λ old. Decides result (map string_bytes old.items ≡ map string_bytes texts.now)) }
@@ -193,7 +194,7 @@ fn fits(kept: &Option<Vec<String>>, texts: &[String]) -> bool
     }
 }
 
-/// Whether these are the same texts.
+/// Whether the texts are the same, in the same order.
 fn are_same(a: &[String], b: &[String]) -> bool
     ensures { Decides result (map string_bytes a.now ≡ map string_bytes b.now) }
 {
@@ -208,7 +209,7 @@ fn are_same(a: &[String], b: &[String]) -> bool
     true
 }
 
-/// The rows in the order of their numbers.
+/// Sorts the rows by their numbers.
 fn sort_rows(rows: &mut Vec<KeptEntry>)
     ensures same { IsPermutation rows.old.items rows.new.items }
     ensures order { IsNonDecreasingBy (λ row. row.id) rows.new.items }
@@ -216,7 +217,8 @@ fn sort_rows(rows: &mut Vec<KeptEntry>)
     rows.sort_unstable_by_key(|row| row.id);
 }
 
-/// The entries of rows, oldest first; Damaged at the first that is no row of an entry of these stations.
+/// Returns the entries of these rows, oldest first. Fails with `Damaged` at the first row that
+/// isn't the next entry of these stations, or with `NoMemory`.
 fn entries_of(alloc: Global, rows: &[KeptEntry], stations: u32) -> Result<Vec<Entry>, StoreFault>
     ensures kept { IfOk result
         (λ entries. ArePostings (reverse entries.items) (map kept_row (reverse rows.now))) }

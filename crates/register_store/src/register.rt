@@ -1,4 +1,4 @@
-//! What keeps a posted list.
+//! The trait of what keeps a posted list.
 ghost use Rattle.std.specs.Prelude.{◌≡◌, ◌⊎◌, ℕ, Bool, true, Err, length, reverse, All, IfOk, IfErr, OnOk, OnErr};
 ghost use Rattle.std.specs.Bool.{Decides};
 ghost use Rattle.register_store.specs.StoredRows.{AreSame, IsBoundTo, HasList, HasRows};
@@ -10,34 +10,40 @@ use nest_core::Setup;
 use posting_core::{Changes, Entry, Ledger};
 use std::alloc::Global;
 
-/// What keeps a posted list: the setup and the depth limit that it was made with, a row for each entry, one for each
-/// spot that it wrote, one for each object of each loan with the stage that it has come to, and one for each loan with
-/// its last day.
+/// Keeps a posted list in a store: the setup and the depth limit with which the store was made, and
+/// a row for each entry, each spot, each loan line with its stage, and each loan with its last day.
 ///
-/// Contracts speak of every content that the store may hold after a call, where the store is quiet: each comes from one
-/// that it may have held before. A store that was bound may hold something.
+/// Contracts speak of every content that the store may have after a call, if the store is quiet:
+/// each comes from a content that the store may have had before. A store that was bound has some
+/// content.
 pub trait Register {
-    /// What its store may hold.
+    /// What the store may have in it.
     ghost holding: { Self → Holding };
 
-    /// A setup was bound to it.
+    /// Whether a setup is bound to the register.
     ghost is_bound: { Self → Bool };
 
-    /// How many stations that setup has; 0 before.
+    /// How many stations the bound setup has.
     ghost stations: { Self → ℕ };
 
-    /// How often it has answered Store, up to the last number of 64 bits.
+    /// How often the register has returned `Store`, counted up to 2^64 - 1.
     ghost refusals: { Self → ℕ };
 
-    /// It has stopped: its store failed a call, and it returns Store from then on.
+    /// Whether the register has stopped: its store failed a call, and every later call returns
+    /// `Store`.
     ghost is_stopped: { Self → Bool };
 
-    /// Such a register can answer Store and OtherVersion.
+    /// Whether this kind of register can return `Store` or `OtherVersion`.
     ghost can_refuse: { Bool };
 
-    /// Makes a new store for the setup, with the depth limit 12, or compares an old one, which stays as it is; answers
-    /// the store's depth limit. The faults, first that holds: OtherVersion; Damaged(0), where what the store says of
-    /// itself isn't whole; OtherSetup. NoMemory and Store can stand in place of any answer.
+    /// Binds the register to a setup, and returns the depth limit of the store. A new store gets
+    /// the setup and the depth limit 12. An old store is compared with the setup and stays as it
+    /// is.
+    ///
+    /// Fails with the first of these that applies: `OtherVersion`; `Damaged(0)`, if the rows about
+    /// the store itself aren't whole; `OtherSetup`. Any call may fail with `NoMemory` or `Store`
+    /// instead; a new store may then have been written all the same. After any fault, the register
+    /// is bound only if it was bound before.
     fn bind(&mut self, alloc: Global, setup: &Setup) -> Result<u32, StoreFault>
         ensures bound { IfOk result (λ depth. Has (holding self.new) (IsBoundTo setup.now depth)) }
         ensures kept { OnOk result
@@ -52,8 +58,12 @@ pub trait Register {
         ensures stops { Stops (is_stopped self.old) (is_stopped self.new) result }
         ensures able { IfErr result (λ fault. is_of_store fault ≡ true → can_refuse ≡ true) };
 
-    /// All entries, oldest first. Damaged(i) for the least i, in the order of the rows' numbers, whose row hasn't
-    /// number i, a station of the setup, a number 1 to 999,999, a verdict's number, and a message's one text.
+    /// Returns all entries, oldest first. A setup must be bound. The store stays as it is.
+    ///
+    /// Fails with `Damaged(i)` if row `i`, in the order of the rows' numbers, is the first wrong
+    /// one. Row `i` is right if its own number is `i`, its station is one of the setup, the number
+    /// of its message is from 1 to 999,999, its verdict's number is that of a verdict, and its text
+    /// is the one text of a message. Any call may fail with `NoMemory` or `Store` instead.
     fn all(&mut self, alloc: Global) -> Result<Vec<Entry>, StoreFault>
         requires { is_bound self.old ≡ true }
         ensures listed { IfOk result
@@ -70,8 +80,10 @@ pub trait Register {
         ensures store { result ≡ Err StoreFault.Store → is_stopped self.new ≡ true }
         ensures able { IfErr result (λ fault. is_of_store fault ≡ true → can_refuse ≡ true) };
 
-    /// Adds an entry and the spots of its changes, and puts their lines and the last day that it gives a loan in the
-    /// place of those before, whole or, where it answers NoMemory or Store, perhaps not at all.
+    /// Posts an entry: adds it and the new spots of its changes, and sets the loan lines and the
+    /// last day that it changes. A setup must be bound.
+    ///
+    /// Fails with `NoMemory` or `Store`. Then the store has the whole entry, or is as it was.
     fn post(&mut self, alloc: Global, entry: &Entry, changes: &Changes) -> Result<(), StoreFault>
         requires { is_bound self.old ≡ true }
         ensures posted { OnOk result
@@ -86,8 +98,11 @@ pub trait Register {
         ensures store { result ≡ Err StoreFault.Store → is_stopped self.new ≡ true }
         ensures able { IfErr result (λ fault. is_of_store fault ≡ true → can_refuse ≡ true) };
 
-    /// Whether the rows of spots, of lines and of last days are exactly those of the ledger. Store may also mean that
-    /// two of these rows have one key.
+    /// Returns whether the rows of spots, of loan lines and of last days are exactly those of the
+    /// ledger. A setup must be bound. The store stays as it is.
+    ///
+    /// Fails with `NoMemory` or `Store`. `Store` may also mean that two of these rows have the same
+    /// key.
     fn agrees(&mut self, alloc: Global, ledger: &Ledger) -> Result<bool, StoreFault>
         requires { is_bound self.old ≡ true }
         ensures told { IfOk result

@@ -1,4 +1,4 @@
-//! Rows of posted entries.
+//! The rows of posted entries.
 ghost use Rattle.std.specs.Prelude.{◌≡◌, ◌≢◌, IfOk, IfErr, IfSome, IfNone, MatchOption, OnErr, Ok, Err};
 ghost use Rattle.std.specs.Result.{IsErrAnd};
 ghost use Rattle.std.specs.Bool.{Decides};
@@ -14,23 +14,23 @@ use codes_core::NoMemory;
 use posting_core::{Entry, EntryNo, LAST_NUMBER, Message, Verdict};
 use std::alloc::Global;
 
-/// A row of the table of postings whose numbers can be an entry's: its number, from 1, and the entry with its message as
-/// text and its verdict by number.
+/// A row of the table of postings whose numbers are in the range of an entry's: the message is
+/// text, and the verdict is a number.
 #[derive(Drop)]
 pub struct KeptPosting {
     /// The entry's number, from 1.
     pub id: u64,
-    /// Its station's number, from 0.
+    /// The number of the station, from 0.
     pub station: u32,
     /// The number that the station gave its message.
     pub n: u32,
-    /// The message as text.
+    /// The text of the message.
     pub body: String,
-    /// The number of its verdict.
+    /// The number of the verdict.
     pub verdict: u32,
 }
 
-/// The row of an entry under this number, from 1. The fault: NoMemory.
+/// The row of an entry under this number, from 1. Fails with `NoMemory`.
 pub fn row_of(alloc: Global, number: EntryNo, entry: &Entry) -> Result<KeptPosting, NoMemory>
     ensures { IfOk result (λ row. IsPostingRow number entry.now (posting_row row)) }
 {
@@ -43,8 +43,9 @@ pub fn row_of(alloc: Global, number: EntryNo, entry: &Entry) -> Result<KeptPosti
     })
 }
 
-/// The entry of a row that is to have this number, from 1, where so many stations are known. The faults: Damaged under that
-/// number, where it is no row of an entry of theirs; NoMemory.
+/// Returns the entry of a row, which should have this number, from 1, and a station below
+/// `stations`. Fails with `Damaged(number)` if the row isn't that of a valid entry with that
+/// number, or with `NoMemory`.
 pub fn entry_of(
     alloc: Global,
     row: &KeptPosting,
@@ -75,7 +76,7 @@ pub fn entry_of(
     })
 }
 
-/// The message of which this is the one text, if it is one's.
+/// The message whose one text this is, or `None` if there is none. Fails with `NoMemory`.
 fn message_in(alloc: Global, body: &str) -> Result<Option<Message>, NoMemory>
     ensures reads { IfOk result
         (λ found. IfSome found (λ message. of_bytes body.now ≡ Ok message)) }
@@ -95,7 +96,8 @@ fn message_in(alloc: Global, body: &str) -> Result<Option<Message>, NoMemory>
     }
 }
 
-/// The message that was read, or none where the text is none; NoMemory only where the reading gave up.
+/// The message that was read, or `None` if the text was rejected. Fails with `NoMemory`, but only
+/// if reading did.
 fn if_read(read: Result<Message, ReadFault>) -> Result<Option<Message>, NoMemory>
     ensures found { IfOk result (λ found. MatchOption found
         (IsErrAnd read (λ fault. fault ≢ ReadFault.NoMemory)) (λ message. read ≡ Ok message)) }

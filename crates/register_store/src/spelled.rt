@@ -1,4 +1,4 @@
-//! That what a message says is spelled.
+//! The proof that the texts in a message are valid.
 ghost use Rattle.std.specs.Prelude.{◌≡◌, true};
 ghost use Rattle.std.specs.List.{list_all};
 ghost use Rattle.register_store.specs.Spelling.{is_thing};
@@ -7,7 +7,8 @@ ghost use Rattle.register_store.specs.MessageText.{AreThings, IsSpelled};
 use codes_core::ThingCode;
 use posting_core::{Message, Objects};
 
-/// Whatever a message says is spelled as codes, names and days are. So it has a text, and nobody needs to make it to know.
+/// For proofs: the codes, names and days in a message are valid, so that the message has a text
+/// even if nobody makes it. The function calls the accessors only for their contracts.
 pub(crate) fn message_is_spelled(message: &Message)
     ensures { IsSpelled message.now }
 {

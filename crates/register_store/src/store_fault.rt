@@ -1,25 +1,25 @@
-//! Why a register gives no answer.
+//! Why a call of a register fails.
 
 use codes_core::NoMemory;
 use std::alloc::{AllocError, AllocFailed};
 use thiserror::Error;
 
-/// Why a register gives no answer.
+/// Why a call of a register fails.
 #[derive(Clone, Copy, Debug, PartialEq, Eq, Error)]
 pub enum StoreFault {
-    /// A growth was refused.
+    /// Memory could not be allocated.
     #[error("out of memory")]
     NoMemory,
-    /// The store refused, for another cause than memory.
-    #[error("the store refused")]
+    /// The store failed, but not for lack of memory.
+    #[error("the store failed")]
     Store,
-    /// The store is of another setup.
+    /// The store was made for another setup.
     #[error("the store is of another setup")]
     OtherSetup,
-    /// The store is damaged at the posting of this number, from 1; 0 where it is damaged elsewhere.
+    /// The store is damaged at the row of this entry, from 1, or elsewhere if the number is 0.
     #[error("the store is damaged at {0}")]
     Damaged(u64),
-    /// The store is of another version.
+    /// The store has another version.
     #[error("the store is of another version")]
     OtherVersion,
 }

@@ -4,15 +4,19 @@ use Rattle.std.proofs.Common.{ap, arith, get_or, sym, take, ◌∙◌}
 use Rattle.std.proofs.lemmas.List.{length-map, length-take-le, map-append, take_more}
 use Rattle.report_rows.specs.Fields.{Told, member, members}
 
-members-append : (names : List (List ℕ)) (values : List Told) (name : List ℕ) (value : Told) → length names ≡ length values
-    → members (names ++ name ∷ []) (values ++ value ∷ []) ≡ members names values ++ member name value ∷ []
+members-append : (names : List (List ℕ)) (values : List Told) (name : List ℕ) (value : Told)
+    → length names ≡ length values
+    → members (names ++ name ∷ []) (values ++ value ∷ []) ≡ members names values
+        ++ member name value ∷ []
 members-append [] [] name value same = refl
 members-append [] (v ∷ values) name value same = absurd (omega (arith, same))
 members-append (x ∷ names) [] name value same = absurd (omega (arith, same))
-members-append (x ∷ names) (v ∷ values) name value same = ap (λ rest. member x v ∷ rest) (members-append names values name value (omega (arith, same)))
+members-append (x ∷ names) (v ∷ values) name value same =
+    ap (λ rest. member x v ∷ rest) (members-append names values name value (omega (arith, same)))
 
 -- as many of each in front
-alike : {X Y : Type 0} (f : X → List ℕ) (g : Y → Told) (xs : List X) (ys : List Y) (i : ℕ) → i < length xs → i < length ys
+alike : {X Y : Type 0} (f : X → List ℕ) (g : Y → Told) (xs : List X) (ys : List Y) (i : ℕ)
+    → i < length xs → i < length ys
     → length (map f (take i xs)) ≡ length (map g (take i ys))
 alike f g xs ys i h k =
     let a : length (take i xs) ≡ i = length-take-le i xs (omega (arith, h)) in
@@ -20,10 +24,14 @@ alike f g xs ys i h k =
     omega (arith, length-map (take i xs) f, length-map (take i ys) g, a, b)
 
 -- one more member
-pub members_more : {X Y : Type 0} (f : X → List ℕ) (g : Y → Told) (xs : List X) (ys : List Y) (i : ℕ) (x : X) (y : Y) → i < length xs → i < length ys → y ≡ get_or ys i y
+pub members_more : {X Y : Type 0} (f : X → List ℕ) (g : Y → Told) (xs : List X) (ys : List Y)
+    (i : ℕ) (x : X) (y : Y) → i < length xs → i < length ys → y ≡ get_or ys i y
     → members (map f (take (i + 1) xs)) (map g (take (i + 1) ys))
     ≡ members (map f (take i xs)) (map g (take i ys)) ++ member (f (get_or xs i x)) (g y) ∷ []
 members_more f g xs ys i x y h k at =
-    let one : take (i + 1) ys ≡ take i ys ++ y ∷ [] = take_more ys i y k ∙ ap (λ z. take i ys ++ z ∷ []) (sym at) in
-    rw (take_more xs i x h, one, map-append f (take i xs) (get_or xs i x ∷ []), map-append g (take i ys) (y ∷ []))
-    (members-append (map f (take i xs)) (map g (take i ys)) (f (get_or xs i x)) (g y) (alike f g xs ys i h k))
+    let one : take (i + 1) ys ≡ take i ys ++ y ∷ [] =
+        take_more ys i y k ∙ ap (λ z. take i ys ++ z ∷ []) (sym at) in
+    rw (take_more xs i x h, one, map-append f (take i xs) (get_or xs i x ∷ []),
+        map-append g (take i ys) (y ∷ []))
+    (members-append (map f (take i xs)) (map g (take i ys)) (f (get_or xs i x)) (g y)
+        (alike f g xs ys i h k))

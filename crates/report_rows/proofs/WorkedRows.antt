@@ -106,7 +106,8 @@ away-csv : row_text default_writer (map plain_text away_values) ≡ codes "2001.
 unfolding fields_text is_blank
 away-csv = refl
 
-away-json : object_line away_names away_values ≡ codes "{\"object\":\"2001.4.2\",\"place\":null,\"normal\":\"S1-A\"}\n"
+away-json : object_line away_names away_values
+    ≡ codes "{\"object\":\"2001.4.2\",\"place\":null,\"normal\":\"S1-A\"}\n"
 unfolding serde_json_on_literals
 away-json = refl
 
@@ -120,7 +121,8 @@ station-csv : row_text default_writer (map plain_text station_values) ≡ codes 
 unfolding digits fields_text is_blank
 station-csv = refl
 
-station-json : object_line station_names station_values ≡ codes "{\"station\":\"PACK\",\"next\":6,\"signed_off\":false}\n"
+station-json : object_line station_names station_values
+    ≡ codes "{\"station\":\"PACK\",\"next\":6,\"signed_off\":false}\n"
 unfolding digits serde_json_on_literals
 station-json = refl
 
@@ -146,11 +148,13 @@ posted_names = codes "entry" ∷ codes "message" ∷ []
 abbrev posted_values : List Told
 posted_values = number 6 ∷ json (codes "{\"by\":\"Ann\",\"kind\":\"signoff\"}") ∷ []
 
-posted-csv : row_text default_writer (map plain_text posted_values) ≡ codes "6,\"{\"\"by\"\":\"\"Ann\"\",\"\"kind\"\":\"\"signoff\"\"}\"\n"
+posted-csv : row_text default_writer (map plain_text posted_values)
+    ≡ codes "6,\"{\"\"by\"\":\"\"Ann\"\",\"\"kind\"\":\"\"signoff\"\"}\"\n"
 unfolding digits escaped fields_text is_blank
 posted-csv = refl
 
-posted-json : object_line posted_names posted_values ≡ codes "{\"entry\":6,\"message\":{\"by\":\"Ann\",\"kind\":\"signoff\"}}\n"
+posted-json : object_line posted_names posted_values
+    ≡ codes "{\"entry\":6,\"message\":{\"by\":\"Ann\",\"kind\":\"signoff\"}}\n"
 unfolding digits serde_json_on_literals
 posted-json = refl
 
@@ -182,64 +186,89 @@ full-line = refl
 
 module _ (thing place normal day : String Global)
     (thing-is : string_bytes thing ≡ codes "2001.4.1") (place-is : string_bytes place ≡ codes "S2")
-    (normal-is : string_bytes normal ≡ codes "S1-A") (day-is : string_bytes day ≡ codes "2024-05-01") where
-  away-line : words_line (away_words (record { object = thing; place = Some place; normal = Some normal })) ≡ codes "2001.4.1 S2 normal S1-A\n"
+    (normal-is : string_bytes normal ≡ codes "S1-A")
+        (day-is : string_bytes day ≡ codes "2024-05-01") where
+  away-line : words_line
+      (away_words (record { object = thing; place = Some place; normal = Some normal }))
+      ≡ codes "2001.4.1 S2 normal S1-A\n"
   away-line = rw (thing-is, place-is, normal-is) refl
 
-  away_unplaced-line : words_line (away_words (record { object = thing; place = None; normal = Some normal })) ≡ codes "2001.4.1 - normal S1-A\n"
+  away_unplaced-line : words_line
+      (away_words (record { object = thing; place = None; normal = Some normal }))
+      ≡ codes "2001.4.1 - normal S1-A\n"
   away_unplaced-line = rw (thing-is, normal-is) refl
 
-  spot-line : words_line (spot_words (record { entry = 5; day = day; place = place })) ≡ codes "5 2024-05-01 S2\n"
+  spot-line : words_line (spot_words (record { entry = 5; day = day; place = place }))
+      ≡ codes "5 2024-05-01 S2\n"
   unfolding digits
   spot-line = rw (day-is, place-is) refl
 
-  at-line : words_line (at_words (record { thing = thing; place = Some place })) ≡ codes "2001.4.1 S2\n"
+  at-line : words_line (at_words (record { thing = thing; place = Some place }))
+      ≡ codes "2001.4.1 S2\n"
   at-line = rw (thing-is, place-is) refl
 
   -- count_list
-  elsewhere-line : words_line (counted_words (record { row = Some 2; place = normal; thing = Some thing; answer = word (codes "Elsewhere"); on_record = Some place }))
+  elsewhere-line : words_line
+      (counted_words (record { row = Some 2; place = normal; thing = Some thing;
+      answer = word (codes "Elsewhere"); on_record = Some place }))
       ≡ codes "row 2 Elsewhere S2\n"
   unfolding digits
   elsewhere-line = rw place-is refl
 
-  counted-line : words_line (counted_words (record { row = Some 7; place = place; thing = None; answer = word (codes "Counted"); on_record = None }))
+  counted-line : words_line
+      (counted_words (record { row = Some 7; place = place; thing = None;
+      answer = word (codes "Counted"); on_record = None }))
       ≡ codes "row 7 Counted\n"
   unfolding digits
   counted-line = refl
 
-  missing-line : words_line (counted_words (record { row = None; place = place; thing = Some thing; answer = word (codes "Missing"); on_record = None }))
+  missing-line : words_line
+      (counted_words (record { row = None; place = place; thing = Some thing;
+      answer = word (codes "Missing"); on_record = None }))
       ≡ codes "missing S2 2001.4.1\n"
   missing-line = rw (place-is, thing-is) refl
 
   module _ (containers none : Vec (String Global) Global)
       (containers-are : map string_bytes containers.items ≡ codes "C2" ∷ codes "C1" ∷ [])
       (none-are : map string_bytes none.items ≡ []) where
-    where-line : words_line (where_words (record { thing = thing; state = word (codes "at"); place = Some place; containers = containers }))
+    where-line : words_line
+        (where_words (record { thing = thing; state = word (codes "at"); place = Some place;
+        containers = containers }))
         ≡ codes "2001.4.1 at S2 in C2 C1\n"
     where-line = rw (thing-is, place-is, containers-are) refl
 
-    straight-line : words_line (where_words (record { thing = thing; state = word (codes "at"); place = Some place; containers = none }))
+    straight-line : words_line
+        (where_words (record { thing = thing; state = word (codes "at"); place = Some place;
+        containers = none }))
         ≡ codes "2001.4.1 at S2\n"
     straight-line = rw (thing-is, place-is, none-are) refl
 
-    unplaced-line : words_line (where_words (record { thing = thing; state = word (codes "unplaced"); place = None; containers = none }))
+    unplaced-line : words_line
+        (where_words (record { thing = thing; state = word (codes "unplaced"); place = None;
+        containers = none }))
         ≡ codes "2001.4.1 unplaced\n"
     unplaced-line = rw (thing-is, none-are) refl
 
-    content-line : words_line (content_words (record { thing = thing; state = word (codes "in"); containers = containers }))
+    content-line : words_line
+        (content_words (record { thing = thing; state = word (codes "in");
+        containers = containers }))
         ≡ codes "2001.4.1 in C2 C1\n"
     content-line = rw (thing-is, containers-are) refl
 
-    unknown-line : words_line (content_words (record { thing = thing; state = word (codes "unknown"); containers = none }))
+    unknown-line : words_line
+        (content_words (record { thing = thing; state = word (codes "unknown");
+        containers = none }))
         ≡ codes "2001.4.1 unknown\n"
     unknown-line = rw (thing-is, none-are) refl
 
 -- lines of a loan, of reports_of_loans
 
 module _ (loan partner first last object : String Global)
-    (loan-is : string_bytes loan ≡ codes "LO2024.1") (last-is : string_bytes last ≡ codes "2024-05-31")
+    (loan-is : string_bytes loan ≡ codes "LO2024.1")
+        (last-is : string_bytes last ≡ codes "2024-05-31")
     (object-is : string_bytes object ≡ codes "2001.4.1") where
-  overdue-line : words_line (overdue_words (record { loan = loan; last = last })) ≡ codes "LO2024.1 2024-05-31\n"
+  overdue-line : words_line (overdue_words (record { loan = loan; last = last }))
+      ≡ codes "LO2024.1 2024-05-31\n"
   overdue-line = rw (loan-is, last-is) refl
 
   loan-line : words_line (loan_words (record {
@@ -267,12 +296,18 @@ module _ (loan partner first last object : String Global)
 -- lines of stations and entries, of questions_of_a_record
 
 module _ (station message : String Global)
-    (station-is : string_bytes station ≡ codes "PACK") (message-is : string_bytes message ≡ codes "{\"by\":\"A. Keeper\",\"kind\":\"signoff\"}") where
-  station-line : words_line (station_words (record { station = station; next = Some 6; signed_off = false })) ≡ codes "PACK next 6\n"
+    (station-is : string_bytes station ≡ codes "PACK")
+        (message-is : string_bytes message ≡ codes "{\"by\":\"A. Keeper\",\"kind\":\"signoff\"}")
+        where
+  station-line : words_line
+      (station_words (record { station = station; next = Some 6; signed_off = false }))
+      ≡ codes "PACK next 6\n"
   unfolding digits
   station-line = rw station-is refl
 
-  station_off-line : words_line (station_words (record { station = station; next = None; signed_off = true })) ≡ codes "PACK signed off\n"
+  station_off-line : words_line
+      (station_words (record { station = station; next = None; signed_off = true }))
+      ≡ codes "PACK signed off\n"
   station_off-line = rw station-is refl
 
   station_full-line : words_line
@@ -280,7 +315,9 @@ module _ (station message : String Global)
       ≡ codes "PACK full\n"
   station_full-line = rw station-is refl
 
-  posted-line : words_line (posted_words (record { entry = 6; station = station; n = 6; verdict = word (codes "Applied"); message = message }))
+  posted-line : words_line
+      (posted_words (record { entry = 6; station = station; n = 6; verdict = word (codes "Applied");
+      message = message }))
       ≡ codes "6 PACK 6 Applied {\"by\":\"A. Keeper\",\"kind\":\"signoff\"}\n"
   unfolding digits
   posted-line = rw (station-is, message-is) refl

@@ -1,4 +1,5 @@
-//! The rows of what is in containers: those that a thing is in, and what is in one.
+//! The rows of `where` and `contents`: the containers that a thing is in, and the things in a
+//! container.
 ghost use Rattle.std.specs.Prelude.{◌∷◌, [], codes, map, option_map, refl, string_bytes};
 ghost use Rattle.report_rows.specs.Fields.{text, text_if, texts};
 ghost use Rattle.report_rows.specs.Lines.{content_words, where_words};
@@ -8,7 +9,8 @@ use crate::field::{Field, in_if, kept_if};
 use codes_core::NoMemory;
 use std::alloc::Global;
 
-/// Where a thing is: `at` a place, `unplaced` or `unknown`, and the containers that it is in, innermost first.
+/// Where a thing is. The state is `at`, `unplaced` or `unknown`. The containers that the thing is
+/// in come innermost first.
 #[derive(Drop)]
 pub struct WhereRow {
     pub thing: String,
@@ -54,7 +56,7 @@ impl Row for WhereRow {
     ghost as_many = { λ row. refl };
 }
 
-/// A thing that is `in` containers, innermost first, or a container that is `unknown`.
+/// A thing that is `in` containers, innermost first; or a container that is `unknown`.
 #[derive(Drop)]
 pub struct ContentRow {
     pub thing: String,

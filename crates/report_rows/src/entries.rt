@@ -1,4 +1,4 @@
-//! The rows of what tells of entries and stations.
+//! The rows of `stations` and `posted`.
 ghost use Rattle.std.specs.Prelude.{◌∷◌, [], codes, refl, string_bytes};
 ghost use Rattle.report_rows.specs.Fields.{flag, json, number, number_if, text};
 ghost use Rattle.report_rows.specs.Lines.{posted_words, station_words};
@@ -8,8 +8,8 @@ use crate::field::{Field, number_if};
 use codes_core::NoMemory;
 use std::alloc::Global;
 
-/// A station and the number that it sends next. There is no next number after its sign-off, nor
-/// after its last number, 999999: then the station is full.
+/// A station and the number that it has to send next. A station that has signed off, or that has
+/// used its last number, 999,999, has no next number. In the second case it is full.
 #[derive(Drop)]
 pub struct StationRow {
     pub station: String,
@@ -52,14 +52,15 @@ impl Row for StationRow {
     ghost as_many = { λ row. refl };
 }
 
-/// An entry on record: its number, the station and its number, the verdict, and the message.
+/// A posted entry: its number, its station, the station's number for the message, the verdict, and
+/// the message.
 #[derive(Drop)]
 pub struct PostedRow {
     pub entry: u64,
     pub station: String,
     pub n: u32,
     pub verdict: &'static str,
-    /// The text of its JSON.
+    /// The message's JSON text.
     pub message: String,
 }
 

@@ -1,4 +1,4 @@
-//! What a row tells under one name, or as a word of its plain line: as plain text and as JSON.
+//! The value of a row under one name, or one word of its plain line, as plain text and as JSON.
 ghost use Rattle.std.specs.Prelude.{◌≡◌, IfOk, map, option_map, string_bytes};
 ghost use Rattle.report_rows.specs.Fields.{Told, flag_text, is_told, json_text, number_if, plain_text};
 ghost use Rattle.report_rows.specs.Fields.{quoted, text_if, told};
@@ -11,18 +11,18 @@ use std::alloc::Global;
 /// A field of a row.
 #[derive(Clone, Copy)]
 pub enum Field<'a> {
-    /// There is nothing to tell.
+    /// No value: empty as plain text, `null` as JSON.
     Nothing,
     Number(u64),
     Flag(bool),
     Text(&'a str),
-    /// Several codes.
+    /// Several codes: separated by spaces as plain text, an array as JSON.
     Codes(&'a [String]),
-    /// The text of a JSON value.
+    /// The text of a JSON value, printed as it is.
     Json(&'a str),
 }
 
-/// A number, where there is one.
+/// The number, if there is one.
 pub(crate) fn number_if<'a>(number: Option<u64>) -> Field<'a>
     ensures { told result ≡ number_if number }
 {
@@ -32,7 +32,7 @@ pub(crate) fn number_if<'a>(number: Option<u64>) -> Field<'a>
     }
 }
 
-/// A fixed word, where there is one.
+/// The fixed word, if there is one.
 pub(crate) fn word_if<'a>(word: Option<&'static str>) -> Field<'a>
     ensures { told result ≡ text_if (option_map (λ t. t.now) word.entry) }
 {
@@ -42,7 +42,7 @@ pub(crate) fn word_if<'a>(word: Option<&'static str>) -> Field<'a>
     }
 }
 
-/// A text, where there is one.
+/// The text, if there is one.
 pub(crate) fn kept_if<'a>(text: &'a Option<String>) -> Field<'a>
     ensures { told result ≡ text_if (option_map string_bytes text.now) }
 {
@@ -52,7 +52,7 @@ pub(crate) fn kept_if<'a>(text: &'a Option<String>) -> Field<'a>
     }
 }
 
-/// A text, or a dash for none.
+/// The text, or a dash if there is none.
 pub(crate) fn or_dash<'a>(text: &'a Option<String>) -> Field<'a>
     ensures { told result ≡ or_dash (option_map string_bytes text.now) }
 {
@@ -62,7 +62,7 @@ pub(crate) fn or_dash<'a>(text: &'a Option<String>) -> Field<'a>
     }
 }
 
-/// The word `in` before codes, where there are some.
+/// The word `in`, if codes follow.
 pub(crate) fn in_if<'a>(codes: &[String]) -> Field<'a>
     ensures { told result ≡ in_if (map string_bytes codes.now) }
 {
@@ -73,7 +73,8 @@ pub(crate) fn in_if<'a>(codes: &[String]) -> Field<'a>
     }
 }
 
-/// Whether there is something to tell.
+/// Whether the field has a value. An empty list of codes has none. A word without a value is left
+/// out of the plain line.
 pub(crate) fn is_told(field: Field<'_>) -> bool
     ensures { result ≡ is_told (told field.entry) }
 {
@@ -118,7 +119,7 @@ fn flag_word(flag: bool) -> &'static str
     if flag { "true" } else { "false" }
 }
 
-/// A string as JSON.
+/// The text as a JSON string.
 pub(crate) fn quoted(alloc: Global, text: &str) -> Result<String, NoMemory>
     ensures { IfOk result (λ written. string_bytes written ≡ quoted text.now) }
 {
@@ -126,7 +127,7 @@ pub(crate) fn quoted(alloc: Global, text: &str) -> Result<String, NoMemory>
     Ok(value.to_string(alloc)?)
 }
 
-/// An array of strings as JSON.
+/// The texts as a JSON array of strings.
 fn array_text(alloc: Global, texts: &[String]) -> Result<String, NoMemory>
     ensures { IfOk result (λ all. string_bytes all
         ≡ json_text (Told.texts (map string_bytes texts.now))) }

@@ -1,4 +1,4 @@
-//! The rows of what tells of loans.
+//! The rows of `overdue` and `loan`.
 ghost use Rattle.std.specs.Prelude.{◌∷◌, [], codes, option_map, refl, string_bytes};
 ghost use Rattle.report_rows.specs.Fields.{text, text_if};
 ghost use Rattle.report_rows.specs.Lines.{loan_words, overdue_words};
@@ -8,7 +8,7 @@ use crate::field::{Field, kept_if, word_if};
 use codes_core::NoMemory;
 use std::alloc::Global;
 
-/// A loan that is overdue, with its last day.
+/// An overdue loan, with its last day.
 #[derive(Drop)]
 pub struct OverdueRow {
     pub loan: String,
@@ -41,7 +41,8 @@ impl Row for OverdueRow {
     ghost as_many = { λ row. refl };
 }
 
-/// An object of a loan with its stage, and how the loan stands; of a loan that isn't agreed its code alone.
+/// An object of a loan with its stage, and the loan's terms and state. A loan that isn't agreed has
+/// a row with its code and state alone.
 #[derive(Drop)]
 pub struct LoanRow {
     pub loan: String,

@@ -1,4 +1,4 @@
-//! The rows of what is in a place: as a count list has it, and on record.
+//! The rows of `count` and `at`: what is in a place, by a count list and on record.
 ghost use Rattle.std.specs.Prelude.{◌∷◌, [], codes, option_map, refl, string_bytes};
 ghost use Rattle.report_rows.specs.Fields.{number_if, text, text_if};
 ghost use Rattle.report_rows.specs.Lines.{at_words, counted_words};
@@ -8,14 +8,15 @@ use crate::field::{Field, kept_if, number_if};
 use codes_core::NoMemory;
 use std::alloc::Global;
 
-/// A row of a count list with its answer, or, where it has no number, an object that the list misses.
+/// A row of a count list with its answer. Without a row number it is an object that the list
+/// misses.
 #[derive(Drop)]
 pub struct CountedRow {
     pub row: Option<u64>,
     pub place: String,
     pub thing: Option<String>,
     pub answer: &'static str,
-    /// The place on record of what is elsewhere.
+    /// The place on record, if the answer is Elsewhere.
     pub on_record: Option<String>,
 }
 
@@ -59,7 +60,7 @@ impl Row for CountedRow {
     ghost as_many = { λ row. refl };
 }
 
-/// A thing at a place.
+/// A thing and its place.
 #[derive(Drop)]
 pub struct AtRow {
     pub thing: String,

@@ -1,4 +1,4 @@
-//! A row as text, each of the three forms with its line feed.
+//! Prints a row in each of the three forms.
 ghost use Rattle.std.specs.List.{filter};
 ghost use Rattle.std.specs.Prelude.{◌≡◌, ℕ, List, IfOk, length, map, string_bytes};
 ghost use Rattle.csv.specs.Writing.{default_writer, row_text};
@@ -10,33 +10,36 @@ use codes_core::NoMemory;
 use csv::WriterBuilder;
 use std::alloc::Global;
 
-/// A row of a report: its plain line has its words, and the other forms tell its fields, each under its name.
+/// A row of a report: the words of its plain line, and its fields, each under a name, for the other
+/// two forms.
 pub trait Row {
-    // The names of the fields, in their order.
+    // The names of the fields, in order.
     ghost names: { List (List ℕ) };
 
-    // What a row tells under each.
+    // The value under each name.
     ghost values: { Self → List Told };
 
-    // What it tells as the words of its plain line, in their order.
+    // The words of the plain line, in order.
     ghost line: { Self → List Told };
 
-    /// The names of the fields, in their order.
+    /// Returns the names of the fields, in order.
     fn columns() -> &'static [&'static str]
         ensures { map (λ name. name.now) result.now ≡ names };
 
-    /// The fields, in the order of their names.
+    /// Returns the fields, in the order of their names. Fault: NoMemory.
     fn fields(&self, alloc: Global) -> Result<Vec<Field<'_>>, NoMemory>
         ensures { IfOk result (λ fields. map told fields.items ≡ values self.now) };
 
-    /// The words of the plain line, in their order; what isn't there is none.
+    /// Returns the words of the plain line, in order. A word without a value isn't printed. Fault:
+    /// NoMemory.
     fn words(&self, alloc: Global) -> Result<Vec<Field<'_>>, NoMemory>
         ensures { IfOk result (λ words. map told words.items ≡ line self.now) };
 
+    // Each row has as many values as there are names.
     ghost as_many: { (row : Self) → length (values row) ≡ length names };
 }
 
-/// The row's plain line.
+/// Returns the row's plain line, with its line feed. Fault: NoMemory.
 pub fn plain_line<R: Row>(alloc: Global, row: &R) -> Result<String, NoMemory>
     ensures { IfOk result (λ line. string_bytes line ≡ words_line (R.line row.now)) }
 {
@@ -44,14 +47,15 @@ pub fn plain_line<R: Row>(alloc: Global, row: &R) -> Result<String, NoMemory>
     words_line(alloc, words.as_slice())
 }
 
-/// The names of the fields as comma-separated values.
+/// Returns the names of the fields as comma-separated values, with a line feed. Fault: NoMemory.
 pub fn csv_heading<R: Row>(alloc: Global) -> Result<String, NoMemory>
     ensures { IfOk result (λ text. string_bytes text ≡ row_text default_writer R.names) }
 {
     separated(alloc, R::columns())
 }
 
-/// The row as comma-separated values, each quoted where it has to be.
+/// Returns the row as comma-separated values, quoted where necessary, with a line feed. Fault:
+/// NoMemory.
 pub fn csv_line<R: Row>(alloc: Global, row: &R) -> Result<String, NoMemory>
     ensures { IfOk result (λ line. string_bytes line
         ≡ row_text default_writer (map plain_text (R.values row.now))) }
@@ -60,7 +64,8 @@ pub fn csv_line<R: Row>(alloc: Global, row: &R) -> Result<String, NoMemory>
     separated_fields(alloc, fields.as_slice())
 }
 
-/// The row as a JSON object, its members in the order of their names.
+/// Returns the row as a JSON object with its members in the order of their names, and a line feed.
+/// Fault: NoMemory.
 pub fn json_line<R: Row>(alloc: Global, row: &R) -> Result<String, NoMemory>
     ensures { IfOk result (λ line. string_bytes line ≡ object_line R.names (R.values row.now)) }
 {
@@ -68,7 +73,7 @@ pub fn json_line<R: Row>(alloc: Global, row: &R) -> Result<String, NoMemory>
     object(alloc, R::columns(), fields.as_slice())
 }
 
-/// The words that are there, parted by spaces.
+/// The words that have a value, separated by spaces, and a line feed.
 fn words_line(alloc: Global, words: &[Field<'_>]) -> Result<String, NoMemory>
     ensures { IfOk result (λ line. string_bytes line ≡ words_line (map told words.now)) }
 {
@@ -77,7 +82,7 @@ fn words_line(alloc: Global, words: &[Field<'_>]) -> Result<String, NoMemory>
     Ok([line.as_str(), "\n"].concat(alloc)?)
 }
 
-/// The text of each word that is there.
+/// The text of each word that has a value.
 fn words_told(alloc: Global, words: &[Field<'_>]) -> Result<Vec<String>, NoMemory>
     ensures { IfOk result (λ texts. map string_bytes texts.items
         ≡ map plain_text (filter is_told (map told words.now))) }
@@ -104,7 +109,7 @@ fn object(alloc: Global, names: &[&str], fields: &[Field<'_>]) -> Result<String,
     Ok(["{", members.as_str(), "}\n"].concat(alloc)?)
 }
 
-/// A name with its field.
+/// A name and its field, as a member of a JSON object.
 fn member(alloc: Global, name: &str, field: Field<'_>) -> Result<String, NoMemory>
     ensures { IfOk result (λ text. string_bytes text ≡ member name.now (told field.entry)) }
 {
@@ -136,7 +141,7 @@ fn plain_texts(alloc: Global, fields: &[Field<'_>]) -> Result<Vec<String>, NoMem
     Ok(texts)
 }
 
-/// A row of comma-separated values with these texts.
+/// The texts as a row of comma-separated values.
 fn separated(alloc: Global, texts: &[&str]) -> Result<String, NoMemory>
     ensures { IfOk result (λ text. string_bytes text
         ≡ row_text default_writer (map (λ t. t.now) texts.now)) }
@@ -148,7 +153,7 @@ fn separated(alloc: Global, texts: &[&str]) -> Result<String, NoMemory>
     row_line(alloc, fields.as_slice())
 }
 
-/// A row of comma-separated values with these bytes.
+/// The fields as a row of comma-separated values.
 fn row_line(alloc: Global, fields: &[&[u8]]) -> Result<String, NoMemory>
     ensures { IfOk result (λ text. string_bytes text
         ≡ row_text default_writer (map (λ f. f.now) fields.now)) }
@@ -158,11 +163,12 @@ fn row_line(alloc: Global, fields: &[&[u8]]) -> Result<String, NoMemory>
     };
     match String::from_utf8(bytes) {
         Ok(text) => Ok(text),
+        // The fields were texts, so the row is UTF-8 and this never comes.
         Err(_) => Err(NoMemory),
     }
 }
 
-/// The bytes of such a row.
+/// The bytes of that row.
 fn row_bytes(alloc: Global, fields: &[&[u8]]) -> Result<Vec<u8>, csv::Error>
     ensures { IfOk result (λ bytes. bytes.items
         ≡ row_text default_writer (map (λ f. f.now) fields.now)) }

@@ -1,4 +1,4 @@
-//! The rows of where things are: what is away, and where a thing was.
+//! The rows of `away` and `history`: where things are, and where a thing was.
 ghost use Rattle.std.specs.Prelude.{◌∷◌, [], codes, option_map, refl, string_bytes};
 ghost use Rattle.report_rows.specs.Fields.{number, text, text_if};
 ghost use Rattle.report_rows.specs.Lines.{away_words, spot_words};
@@ -49,7 +49,7 @@ impl Row for AwayRow {
     ghost as_many = { λ row. refl };
 }
 
-/// A place where a thing was, from an entry on.
+/// A place where a thing was, from this entry on.
 #[derive(Drop)]
 pub struct SpotRow {
     pub entry: u64,

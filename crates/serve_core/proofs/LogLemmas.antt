@@ -17,16 +17,21 @@ pub err_any : {T E P : Type 0} (r : Result T E) → P → OnErr r P
 err_any (Ok x) p = tt
 err_any (Err y) p = p
 
-pub log_arrivals-append : (G H : List LogLine) → log_arrivals (G ++ H) ≡ log_arrivals G ++ log_arrivals H
+pub log_arrivals-append : (G H : List LogLine)
+    → log_arrivals (G ++ H) ≡ log_arrivals G ++ log_arrivals H
 log_arrivals-append G H = flat_map-append (λ (l : LogLine). sent_item l.station l.item) G H
 
-pub answered-append : (S : Museum) (depth : ℕ) (O : List Entry) (A : List Arrival) (G H : List LogLine)
-    → IsAnswered S depth O A G → IsAnswered S depth O (A ++ log_arrivals G) H → IsAnswered S depth O A (G ++ H)
-answered-append S depth O A [] H g h = subst (λ (B : List Arrival). IsAnswered S depth O B H) (append-nil A) h
+pub answered-append : (S : Museum) (depth : ℕ) (O : List Entry) (A : List Arrival)
+    (G H : List LogLine)
+    → IsAnswered S depth O A G → IsAnswered S depth O (A ++ log_arrivals G) H
+        → IsAnswered S depth O A (G ++ H)
+answered-append S depth O A [] H g h =
+    subst (λ (B : List Arrival). IsAnswered S depth O B H) (append-nil A) h
 answered-append S depth O A (l ∷ G) H g h = (
   g.0,
   answered-append S depth O (A ++ sent_item l.station l.item) G H g.1
-      (subst (λ (B : List Arrival). IsAnswered S depth O B H) (sym (append_assoc A (sent_item l.station l.item) (log_arrivals G))) h),
+      (subst (λ (B : List Arrival). IsAnswered S depth O B H)
+          (sym (append_assoc A (sent_item l.station l.item) (log_arrivals G))) h),
 )
 
 -- nothing was taken

@@ -26,11 +26,13 @@ lane_trans : (x y z : Lane) → SameLane x y → SameLane y z → SameLane x z
 lane_trans x y z p q = ((q.0.0 ∙ p.0.0, q.0.1 ∙ p.0.1, q.0.2 ∙ p.0.2, q.0.3 ∙ p.0.3), q.1 ∙ p.1)
 
 pub still_trans : (x y z : Sent) → IsStill x y → IsStill y z → IsStill x z
-still_trans x y z p q = record { same = lane_trans x.lane y.lane z.lane p.same q.same; items = q.items ∙ p.items; whole = q.whole ∙ p.whole }
+still_trans x y z p q = record { same = lane_trans x.lane y.lane z.lane p.same q.same;
+    items = q.items ∙ p.items; whole = q.whole ∙ p.whole }
 
 pub all_still : (xs : List Sent) → AllZip IsStill xs xs
 all_still [] = tt
-all_still (x ∷ xs) = (record { same = ((refl, refl, refl, refl), refl); items = refl; whole = refl }, all_still xs)
+all_still (x ∷ xs) =
+    (record { same = ((refl, refl, refl, refl), refl); items = refl; whole = refl }, all_still xs)
 
 pub still_at : (xs ys : List Sent) (s : ℕ) → AllZip IsStill xs ys → sent_at ys s ≡ sent_at xs s
 still_at [] [] s all = refl
@@ -39,20 +41,25 @@ still_at (x ∷ xs) [] s all = absurd all
 still_at (x ∷ xs) (y ∷ ys) zero all = all.0.items
 still_at (x ∷ xs) (y ∷ ys) (suc s) all = still_at xs ys s all.1
 
-sent_here : (xs : List Sent) (i : ℕ) (x : Sent) → i < length xs → x ≡ get_or xs i x → sent_at xs i ≡ sent_items x.lane
+sent_here : (xs : List Sent) (i : ℕ) (x : Sent) → i < length xs → x ≡ get_or xs i x
+    → sent_at xs i ≡ sent_items x.lane
 sent_here = read_here (λ (x : Sent). sent_items x.lane) sent_of (λ x. refl)
 
-pub settled_at : (cs0 cs : List Ring) (xs0 xs : List Sent) (i : ℕ) (c : Ring) (x : Sent) → received_at cs i ≡ received_at cs0 i → sent_at xs i ≡ sent_at xs0 i
-    → i < length cs → i < length xs → c ≡ get_or cs i c → x ≡ get_or xs i x → Begins (received_is c) (sent_items x.lane) → Begins (received_at cs0 i) (sent_at xs0 i)
+pub settled_at : (cs0 cs : List Ring) (xs0 xs : List Sent) (i : ℕ) (c : Ring) (x : Sent)
+    → received_at cs i ≡ received_at cs0 i → sent_at xs i ≡ sent_at xs0 i
+    → i < length cs → i < length xs → c ≡ get_or cs i c → x ≡ get_or xs i x
+        → Begins (received_is c) (sent_items x.lane) → Begins (received_at cs0 i) (sent_at xs0 i)
 settled_at cs0 cs xs0 xs i c x p q lc lx ac ax b = (
   b.0,
-  sym q ∙ (sent_here xs i x lx ax ∙ (b.1 ∙ ap (λ (ys : List Item). ys ++ b.0) (sym (received_here cs i c lc ac) ∙ p))),
+  sym q ∙ (sent_here xs i x lx ax
+      ∙ (b.1 ∙ ap (λ (ys : List Item). ys ++ b.0) (sym (received_here cs i c lc ac) ∙ p))),
 )
 
 -- the lanes that come back are those of the rings, and have the feeds' items
 module _ {H X : Type 0} (lane : H → Lane) (feed : H → X) (its : X → List Item) where
   pub back_to : (hs : List H) (xs : List Sent) (cs0 cs : List Ring)
-      → AllZip (λ h x. Sends (lane h) (its (feed h)) x) hs xs → AllZip IsFresh (map lane hs) cs0 → AllZip SameConsumer cs0 cs → AllZip IsSentTo xs cs
+      → AllZip (λ h x. Sends (lane h) (its (feed h)) x) hs xs → AllZip IsFresh (map lane hs) cs0
+          → AllZip SameConsumer cs0 cs → AllZip IsSentTo xs cs
   back_to [] [] [] [] a b c = tt
   back_to [] [] [] (y ∷ cs) a b c = absurd c
   back_to [] [] (x ∷ cs0) cs a b c = absurd b
@@ -71,16 +78,19 @@ module _ {H X : Type 0} (lane : H → Lane) (feed : H → X) (its : X → List I
   )
 
   pub back_of : (hs : List H) (xs : List Sent) (cs0 : List Ring)
-      → AllZip (λ h x. Sends (lane h) (its (feed h)) x) hs xs → AllZip IsFresh (map lane hs) cs0 → AllZip IsSent xs (map its (map feed hs))
+      → AllZip (λ h x. Sends (lane h) (its (feed h)) x) hs xs → AllZip IsFresh (map lane hs) cs0
+          → AllZip IsSent xs (map its (map feed hs))
   back_of [] [] cs0 a b = tt
   back_of [] (e ∷ xs) cs0 a b = absurd a
   back_of (h ∷ hs) [] cs0 a b = absurd a
   back_of (h ∷ hs) (e ∷ xs) [] a b = absurd b
   back_of (h ∷ hs) (e ∷ xs) (x ∷ cs0) a b =
-      (subst (λ (ys : List Item). IsSent e (ys ++ its (feed h))) b.0.1 a.0.back_is, back_of hs xs cs0 a.1 b.1)
+      (subst (λ (ys : List Item). IsSent e (ys ++ its (feed h))) b.0.1 a.0.back_is,
+          back_of hs xs cs0 a.1 b.1)
 
 -- the ends of the lanes that came back
-pub ends_on : (xs : List Sent) (es : List LaneEnd) (cs : List Ring) → AllZip IsEndOfSent xs es → AllZip IsSentTo xs cs → AllZip IsEndOn es cs
+pub ends_on : (xs : List Sent) (es : List LaneEnd) (cs : List Ring) → AllZip IsEndOfSent xs es
+    → AllZip IsSentTo xs cs → AllZip IsEndOn es cs
 ends_on [] [] [] a b = tt
 ends_on [] [] (c ∷ cs) a b = absurd b
 ends_on [] (e ∷ es) cs a b = absurd a
@@ -91,7 +101,8 @@ ends_on (x ∷ xs) (e ∷ es) (c ∷ cs) a b = (
   ends_on xs es cs a.1 b.1,
 )
 
-pub ended_sent : (xs : List Sent) (es : List LaneEnd) (s : ℕ) → AllZip IsEndOfSent xs es → ended_at es s ≡ sent_at xs s
+pub ended_sent : (xs : List Sent) (es : List LaneEnd) (s : ℕ) → AllZip IsEndOfSent xs es
+    → ended_at es s ≡ sent_at xs s
 ended_sent [] [] s a = refl
 ended_sent [] (e ∷ es) s a = absurd a
 ended_sent (x ∷ xs) [] s a = absurd a
@@ -99,80 +110,105 @@ ended_sent (x ∷ xs) (e ∷ es) zero a = a.0.1
 ended_sent (x ∷ xs) (e ∷ es) (suc s) a = ended_sent xs es s a.1
 
 -- a front of each feed was sent, and each whole where all are
-front_sent : (xs : List Sent) (fs : List (List Item)) (s : ℕ) → AllZip IsSent xs fs → Begins (sent_at xs s) (items_at fs s)
+front_sent : (xs : List Sent) (fs : List (List Item)) (s : ℕ) → AllZip IsSent xs fs
+    → Begins (sent_at xs s) (items_at fs s)
 front_sent [] [] s a = ([], refl)
 front_sent [] (f ∷ fs) s a = absurd a
 front_sent (x ∷ xs) [] s a = absurd a
 front_sent (x ∷ xs) (f ∷ fs) zero a = a.0.front
 front_sent (x ∷ xs) (f ∷ fs) (suc s) a = front_sent xs fs s a.1
 
-whole_sent : (xs : List Sent) (fs : List (List Item)) (s : ℕ) → All (λ (x : Sent). x.whole ≡ true) xs → AllZip IsSent xs fs → sent_at xs s ≡ items_at fs s
+whole_sent : (xs : List Sent) (fs : List (List Item)) (s : ℕ)
+    → All (λ (x : Sent). x.whole ≡ true) xs → AllZip IsSent xs fs → sent_at xs s ≡ items_at fs s
 whole_sent [] [] s w a = refl
 whole_sent [] (f ∷ fs) s w a = absurd a
 whole_sent (x ∷ xs) [] s w a = absurd a
 whole_sent (x ∷ xs) (f ∷ fs) zero w a = a.0.whole (All-head (λ (x : Sent). x.whole ≡ true) x xs w)
-whole_sent (x ∷ xs) (f ∷ fs) (suc s) w a = whole_sent xs fs s (All-tail (λ (x : Sent). x.whole ≡ true) x xs w) a.1
+whole_sent (x ∷ xs) (f ∷ fs) (suc s) w a =
+    whole_sent xs fs s (All-tail (λ (x : Sent). x.whole ≡ true) x xs w) a.1
 
-fresh_none : (ls : List Lane) (cs : List Ring) (s : ℕ) → AllZip IsFresh ls cs → received_at cs s ≡ []
+fresh_none : (ls : List Lane) (cs : List Ring) (s : ℕ) → AllZip IsFresh ls cs
+    → received_at cs s ≡ []
 fresh_none ls [] s a = refl
 fresh_none [] (c ∷ cs) s a = absurd a
 fresh_none (l ∷ ls) (c ∷ cs) zero a = a.0.2
 fresh_none (l ∷ ls) (c ∷ cs) (suc s) a = fresh_none ls cs s a.1
 
 begins_trans : (xs ys zs : List Item) → Begins xs ys → Begins ys zs → Begins xs zs
-begins_trans xs ys zs p q = (p.0 ++ q.0, q.1 ∙ (ap (λ (us : List Item). us ++ q.0) p.1 ∙ append_assoc xs p.0 q.0))
+begins_trans xs ys zs p q =
+    (p.0 ++ q.0, q.1 ∙ (ap (λ (us : List Item). us ++ q.0) p.1 ∙ append_assoc xs p.0 q.0))
 
 -- what is left, behind what was taken first
-left_after : (ls : List Lane) (cs0 cs : List Ring) (G H : List LogLine) (s : ℕ) → AllZip IsFresh ls cs0 → Takes cs0 cs G → received_at cs s ++ items_of s H ≡ items_of s (G ++ H)
+left_after : (ls : List Lane) (cs0 cs : List Ring) (G H : List LogLine) (s : ℕ)
+    → AllZip IsFresh ls cs0 → Takes cs0 cs G
+    → received_at cs s ++ items_of s H ≡ items_of s (G ++ H)
 left_after ls cs0 cs G H s fresh t =
-    ap (λ (ys : List Item). ys ++ items_of s H) (t.taken s ∙ ap (λ (ys : List Item). ys ++ items_of s G) (fresh_none ls cs0 s fresh)) ∙ sym (items_of-append s G H)
+    ap (λ (ys : List Item). ys ++ items_of s H)
+        (t.taken s ∙ ap (λ (ys : List Item). ys ++ items_of s G) (fresh_none ls cs0 s fresh))
+        ∙ sym (items_of-append s G H)
 
-stations_both : (n m k : ℕ) (G H : List LogLine) → n ≡ m → k ≡ m → AreOfStations n G → AreOfStations k H → AreOfStations m (G ++ H)
+stations_both : (n m k : ℕ) (G H : List LogLine) → n ≡ m → k ≡ m → AreOfStations n G
+    → AreOfStations k H → AreOfStations m (G ++ H)
 stations_both n m k G H p q a b =
-    All-append (λ l. l.station < m) G H (subst (λ (i : ℕ). AreOfStations i G) p a) (subst (λ (i : ℕ). AreOfStations i H) q b)
+    All-append (λ l. l.station < m) G H (subst (λ (i : ℕ). AreOfStations i G) p a)
+        (subst (λ (i : ℕ). AreOfStations i H) q b)
 
 -- how many feeds, lanes and rings there are
 module _ (ls : List Lane) (cs0 cs : List Ring) (xs : List Sent) (fs : List (List Item)) where
-  feeds_count : AllZip SameConsumer cs0 cs → AllZip IsSentTo xs cs → AllZip IsSent xs fs → length cs0 ≡ length fs
-  feeds_count rings to of = zip_length SameConsumer cs0 cs rings ∙ (sym (zip_length IsSentTo xs cs to) ∙ zip_length IsSent xs fs of)
+  feeds_count : AllZip SameConsumer cs0 cs → AllZip IsSentTo xs cs → AllZip IsSent xs fs
+      → length cs0 ≡ length fs
+  feeds_count rings to of = zip_length SameConsumer cs0 cs rings
+      ∙ (sym (zip_length IsSentTo xs cs to) ∙ zip_length IsSent xs fs of)
 
   rings_count : AllZip IsSentTo xs cs → AllZip IsSent xs fs → length cs ≡ length fs
   rings_count to of = sym (zip_length IsSentTo xs cs to) ∙ zip_length IsSent xs fs of
 
   -- a fault while turning
-  pub fronts_stopped : (G : List LogLine) (fault : ServeFault) → AllZip IsFresh ls cs0 → TakesSome cs0 cs G → AllZip IsSentTo xs cs → AllZip IsSent xs fs
-      → ((s : ℕ) → s < length cs → Begins (received_at cs s) (sent_at xs s)) → IsOneOf (length fs) fault → AreFronts fs G fault
+  pub fronts_stopped : (G : List LogLine) (fault : ServeFault) → AllZip IsFresh ls cs0
+      → TakesSome cs0 cs G → AllZip IsSentTo xs cs → AllZip IsSent xs fs
+      → ((s : ℕ) → s < length cs → Begins (received_at cs s) (sent_at xs s))
+          → IsOneOf (length fs) fault → AreFronts fs G fault
   fronts_stopped G fault fresh t to of settled named = record {
     stations = subst (λ (i : ℕ). AreOfStations i G) (feeds_count t.rings to of) t.stations;
     front = λ s lt. begins_trans (items_of s G) (sent_at xs s) (items_at fs s)
         (begins_trans (items_of s G) (received_at cs s) (sent_at xs s)
-        (subst (λ (ys : List Item). Begins (ys ++ items_of s G) (received_at cs s)) (fresh_none ls cs0 s fresh) (t.taken s))
+        (subst (λ (ys : List Item). Begins (ys ++ items_of s G) (received_at cs s))
+            (fresh_none ls cs0 s fresh) (t.taken s))
         (settled s (let e = rings_count to of in omega (arith, e))))
         (front_sent xs fs s of);
     named = named;
   }
 
   -- all have ended, and what was left was taken, or a front of it
-  pub fronts_left : (G H : List LogLine) (fault : ServeFault) → AllZip IsFresh ls cs0 → Takes cs0 cs G → AllZip IsSentTo xs cs → AllZip IsSent xs fs
-      → AreOfStations (length cs) H → SentFront cs xs H → IsOneOf (length fs) fault → AreFronts fs (G ++ H) fault
+  pub fronts_left : (G H : List LogLine) (fault : ServeFault) → AllZip IsFresh ls cs0
+      → Takes cs0 cs G → AllZip IsSentTo xs cs → AllZip IsSent xs fs
+      → AreOfStations (length cs) H → SentFront cs xs H → IsOneOf (length fs) fault
+          → AreFronts fs (G ++ H) fault
   fronts_left G H fault fresh t to of stations front named = record {
-    stations = stations_both (length cs0) (length fs) (length cs) G H (feeds_count t.rings to of) (rings_count to of) t.stations stations;
+    stations = stations_both (length cs0) (length fs) (length cs) G H (feeds_count t.rings to of)
+        (rings_count to of) t.stations stations;
     front = λ s lt. begins_trans (items_of s (G ++ H)) (sent_at xs s) (items_at fs s)
-        (subst (λ (ys : List Item). Begins ys (sent_at xs s)) (left_after ls cs0 cs G H s fresh t) (front s (let e = rings_count to of in omega (arith, e))))
+        (subst (λ (ys : List Item). Begins ys (sent_at xs s)) (left_after ls cs0 cs G H s fresh t)
+            (front s (let e = rings_count to of in omega (arith, e))))
         (front_sent xs fs s of);
     named = named;
   }
 
-  pub merged : (G H : List LogLine) → AllZip IsFresh ls cs0 → Takes cs0 cs G → AllZip IsSentTo xs cs → AllZip IsSent xs fs
-      → AreOfStations (length cs) H → SentWhole cs xs H → All (λ (x : Sent). x.whole ≡ true) xs → IsMerge fs (G ++ H)
+  pub merged : (G H : List LogLine) → AllZip IsFresh ls cs0 → Takes cs0 cs G → AllZip IsSentTo xs cs
+      → AllZip IsSent xs fs
+      → AreOfStations (length cs) H → SentWhole cs xs H → All (λ (x : Sent). x.whole ≡ true) xs
+          → IsMerge fs (G ++ H)
   merged G H fresh t to of stations left whole = record {
-    stations = stations_both (length cs0) (length fs) (length cs) G H (feeds_count t.rings to of) (rings_count to of) t.stations stations;
-    whole = λ s lt. sym (left_after ls cs0 cs G H s fresh t) ∙ (left s (let e = rings_count to of in omega (arith, e)) ∙ whole_sent xs fs s whole of);
+    stations = stations_both (length cs0) (length fs) (length cs) G H (feeds_count t.rings to of)
+        (rings_count to of) t.stations stations;
+    whole = λ s lt. sym (left_after ls cs0 cs G H s fresh t)
+        ∙ (left s (let e = rings_count to of in omega (arith, e)) ∙ whole_sent xs fs s whole of);
   }
 
 -- a log that was empty
 pub log_whole : (xs ys zs G H : List LogLine) → xs ≡ [] → ys ≡ xs ++ G → zs ≡ ys ++ H → zs ≡ G ++ H
-log_whole xs ys zs G H e p q = q ∙ ap (λ (ls : List LogLine). ls ++ H) (p ∙ ap (λ (ls : List LogLine). ls ++ G) e)
+log_whole xs ys zs G H e p q =
+    q ∙ ap (λ (ls : List LogLine). ls ++ H) (p ∙ ap (λ (ls : List LogLine). ls ++ G) e)
 
 pub hub_named : (n : ℕ) (fault : HubFault) → IsOneOf n (serve_fault fault)
 hub_named n hub.NoMemory = tt
@@ -180,29 +216,43 @@ hub_named n hub.Store = tt
 hub_named n hub.Down = tt
 
 -- what a view shows
-pub settled_view : (cs arg : List Ring) (xs : List Sent) (n : ℕ) → cs ≡ arg → n ≡ length cs → ((s : ℕ) → s < n → Begins (received_at cs s) (sent_at xs s))
+pub settled_view : (cs arg : List Ring) (xs : List Sent) (n : ℕ) → cs ≡ arg → n ≡ length cs
+    → ((s : ℕ) → s < n → Begins (received_at cs s) (sent_at xs s))
     → (s : ℕ) → s < length arg → Begins (received_at arg s) (sent_at xs s)
 settled_view cs arg xs n same len f s lt =
-    subst (λ (bs : List Ring). Begins (received_at bs s) (sent_at xs s)) same (f s (let e = ap length same in omega (arith, e, len, lt)))
+    subst (λ (bs : List Ring). Begins (received_at bs s) (sent_at xs s)) same
+        (f s (let e = ap length same in omega (arith, e, len, lt)))
 
-pub fronts_none : (fs : List (List Item)) (fault : ServeFault) → IsOneOf (length fs) fault → AreFronts fs [] fault
-fronts_none fs fault named = record { stations = All-nil (λ l. l.station < length fs); front = λ s lt. (items_at fs s, refl); named = named }
+pub fronts_none : (fs : List (List Item)) (fault : ServeFault) → IsOneOf (length fs) fault
+    → AreFronts fs [] fault
+fronts_none fs fault named = record { stations = All-nil (λ l. l.station < length fs);
+    front = λ s lt. (items_at fs s, refl); named = named }
 
 -- what the ends tell is what was sent
-pub left_front : (cs : List Ring) (xs0 xs : List Sent) (cs1 : List Ring) (es : List LaneEnd) (G : List LogLine) → AllZip IsStill xs0 xs → AllZip IsEndOfSent xs es
-    → length cs1 ≡ length cs → ((s : ℕ) → received_at cs1 s ≡ received_at cs s) → TakesFront cs1 es G → SentFront cs xs0 G
+pub left_front : (cs : List Ring) (xs0 xs : List Sent) (cs1 : List Ring) (es : List LaneEnd)
+    (G : List LogLine) → AllZip IsStill xs0 xs → AllZip IsEndOfSent xs es
+    → length cs1 ≡ length cs → ((s : ℕ) → received_at cs1 s ≡ received_at cs s)
+        → TakesFront cs1 es G → SentFront cs xs0 G
 left_front cs xs0 xs cs1 es G still ends len same front s lt =
     let f = front s (omega (arith, len)) in
-    (f.0, sym (still_at xs0 xs s still) ∙ (sym (ended_sent xs es s ends) ∙ (f.1 ∙ ap (λ (ys : List Item). (ys ++ items_of s G) ++ f.0) (same s))))
+    (f.0, sym (still_at xs0 xs s still)
+        ∙ (sym (ended_sent xs es s ends)
+        ∙ (f.1 ∙ ap (λ (ys : List Item). (ys ++ items_of s G) ++ f.0) (same s))))
 
-pub left_whole : (cs : List Ring) (xs0 xs : List Sent) (cs1 : List Ring) (es : List LaneEnd) (G : List LogLine) → AllZip IsStill xs0 xs → AllZip IsEndOfSent xs es
-    → length cs1 ≡ length cs → ((s : ℕ) → received_at cs1 s ≡ received_at cs s) → TakesLeft cs1 es G → SentWhole cs xs0 G
+pub left_whole : (cs : List Ring) (xs0 xs : List Sent) (cs1 : List Ring) (es : List LaneEnd)
+    (G : List LogLine) → AllZip IsStill xs0 xs → AllZip IsEndOfSent xs es
+    → length cs1 ≡ length cs → ((s : ℕ) → received_at cs1 s ≡ received_at cs s) → TakesLeft cs1 es G
+        → SentWhole cs xs0 G
 left_whole cs xs0 xs cs1 es G still ends len same left s lt =
-    ap (λ (ys : List Item). ys ++ items_of s G) (sym (same s)) ∙ (left s (omega (arith, len)) ∙ (ended_sent xs es s ends ∙ still_at xs0 xs s still))
+    ap (λ (ys : List Item). ys ++ items_of s G) (sym (same s))
+        ∙ (left s (omega (arith, len)) ∙ (ended_sent xs es s ends ∙ still_at xs0 xs s still))
 
 -- no line more
-pub none_left : (cs : List Ring) (xs : List Sent) → ((s : ℕ) → s < length cs → Begins (received_at cs s) (sent_at xs s)) → SentFront cs xs []
-none_left cs xs settled s lt = ((settled s lt).0, (settled s lt).1 ∙ ap (λ (ys : List Item). ys ++ (settled s lt).0) (sym (append-nil (received_at cs s))))
+pub none_left : (cs : List Ring) (xs : List Sent)
+    → ((s : ℕ) → s < length cs → Begins (received_at cs s) (sent_at xs s)) → SentFront cs xs []
+none_left cs xs settled s lt =
+    ((settled s lt).0, (settled s lt).1 ∙ ap (λ (ys : List Item). ys ++ (settled s lt).0)
+    (sym (append-nil (received_at cs s))))
 
 -- a front of each feed, and the one item more that met a fault
 stations_left : (n : ℕ) (G H : List LogLine) → AreOfStations n (G ++ H) → AreOfStations n G

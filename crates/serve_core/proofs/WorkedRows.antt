@@ -38,15 +38,19 @@ empty_lines = refl
 question_asked : asked_item 2 (Ok (asks.Ask (codes "2001.4.1"))) ≡ Ask (codes "2001.4.1")
 question_asked = refl
 
-message_asked : asked_item 2 (Ok (asks.Scan 7 (moved (codes "2001.4.1") (codes "S1")))) ≡ Scan 7 (moved (codes "2001.4.1") (codes "S1"))
+message_asked : asked_item 2 (Ok (asks.Scan 7 (moved (codes "2001.4.1") (codes "S1"))))
+    ≡ Scan 7 (moved (codes "2001.4.1") (codes "S1"))
 message_asked = refl
 
 faulty_line : asked_item 2 (Err NotJson) ≡ Bad 2 (Read NotJson)
 faulty_line = refl
 
 -- a line of 16,385 bytes isn't read, whatever they are
-line_too_long : (b : ℕ) (rest : List ℕ) → length rest ≡ 16384 → line_items 3 (b ∷ rest) ≡ Bad 3 TooLong ∷ []
-line_too_long b rest long = ap (λ (n : ℕ). (if nat_lt LONGEST_LINE (suc n) then Bad 3 TooLong else asked_item 3 (request_in (b ∷ rest))) ∷ []) long
+line_too_long : (b : ℕ) (rest : List ℕ) → length rest ≡ 16384
+    → line_items 3 (b ∷ rest) ≡ Bad 3 TooLong ∷ []
+line_too_long b rest long =
+    ap (λ (n : ℕ). (if nat_lt LONGEST_LINE (suc n) then Bad 3 TooLong else asked_item 3
+    (request_in (b ∷ rest))) ∷ []) long
 
 -- ---- two_feeds: PACK and GAL each send a move, and then ask where their object is
 
@@ -97,7 +101,8 @@ abbrev arrived_of : ℕ → List ℕ → List ℕ → Arrival
 arrived_of s x p = record { station = s; n = 1; message = moved x p }
 
 -- questions are no arrivals
-two_feeds-arrivals : log_arrivals both ≡ arrived_of pack (codes "2001.4.1") (codes "S1") ∷ arrived_of gal (codes "2001.4.2") (codes "S2") ∷ []
+two_feeds-arrivals : log_arrivals both ≡ arrived_of pack (codes "2001.4.1") (codes "S1")
+    ∷ arrived_of gal (codes "2001.4.2") (codes "S2") ∷ []
 two_feeds-arrivals = refl
 
 two_feeds-answered : IsAnswered museum 12 [] [] both
@@ -112,7 +117,8 @@ faulty-unread : item_reply museum 12 [] [] gal (Bad 3 TooLong) ≡ Unread
 faulty-unread = refl
 
 -- a question after the move isn't answered as before it
-answered_at_the_opening : IsAnswered museum 12 [] [] (pack_moved ∷ line pack ask_1 (Found Unplaced) ∷ []) → ⊥
+answered_at_the_opening : IsAnswered museum 12 [] []
+    (pack_moved ∷ line pack ask_1 (Found Unplaced) ∷ []) → ⊥
 unfolding window
 answered_at_the_opening h = let e : Found Unplaced ≡ Found (At s1 []) = h.1.0 in cc
 
@@ -129,10 +135,12 @@ gal_of_two = omega arith
 
 of_two : AreOfStations 2 both
 of_two =
-    All-cons (λ (l : LogLine). l.station < 2) pack_moved (gal_moved ∷ gal_asked ∷ pack_asked ∷ []) pack_of_two
+    All-cons (λ (l : LogLine). l.station < 2) pack_moved
+        (gal_moved ∷ gal_asked ∷ pack_asked ∷ []) pack_of_two
     (All-cons (λ (l : LogLine). l.station < 2) gal_moved (gal_asked ∷ pack_asked ∷ []) gal_of_two
     (All-cons (λ (l : LogLine). l.station < 2) gal_asked (pack_asked ∷ []) gal_of_two
-    (All-cons (λ (l : LogLine). l.station < 2) pack_asked [] pack_of_two (All-nil (λ (l : LogLine). l.station < 2)))))
+    (All-cons (λ (l : LogLine). l.station < 2) pack_asked [] pack_of_two
+        (All-nil (λ (l : LogLine). l.station < 2)))))
 
 whole_of_two : (s : ℕ) → s < 2 → items_of s both ≡ items_at feeds s
 whole_of_two zero lt = refl
@@ -156,7 +164,9 @@ turned_round h = let e : ask_1 ∷ move_1 ∷ [] ≡ move_1 ∷ ask_1 ∷ [] = h
 
 -- nor has a line of a station without a feed
 of_another : IsMerge feeds (line 2 ask_1 (Found Unplaced) ∷ both) → ⊥
-of_another h = let known : 2 < 2 = All-head (λ (l : LogLine). l.station < 2) (line 2 ask_1 (Found Unplaced)) both h.stations in omega arith
+of_another h = let known : 2 < 2 =
+    All-head (λ (l : LogLine). l.station < 2) (line 2 ask_1 (Found Unplaced)) both h.stations
+    in omega arith
 
 -- ---- what is printed of it
 
@@ -179,7 +189,9 @@ printed-gal = refl
 printed-asked : printed_of gal_asked ≡ codes "GAL ask 2001.4.2 at S2\n"
 printed-asked = refl
 
-printed-faulty : map (λ fault. printed_of (line gal (Bad 3 fault) Unread)) (TooLong ∷ Read NotJson ∷ []) ≡ codes "GAL line 3 bad TooLong\n" ∷ codes "GAL line 3 bad NotJson\n" ∷ []
+printed-faulty : map (λ fault. printed_of (line gal (Bad 3 fault) Unread))
+    (TooLong ∷ Read NotJson ∷ []) ≡ codes "GAL line 3 bad TooLong\n"
+    ∷ codes "GAL line 3 bad NotJson\n" ∷ []
 unfolding digits
 printed-faulty = refl
 
@@ -193,7 +205,8 @@ front_of_each (suc (suc s)) lt = absurd (omega (arith, lt))
 
 stopped-fronts : AreFronts feeds (gal_moved ∷ []) Store
 stopped-fronts = record {
-  stations = All-cons (λ (l : LogLine). l.station < 2) gal_moved [] gal_of_two (All-nil (λ (l : LogLine). l.station < 2));
+  stations = All-cons (λ (l : LogLine). l.station < 2) gal_moved [] gal_of_two
+      (All-nil (λ (l : LogLine). l.station < 2));
   front = front_of_each;
   named = tt;
 }
@@ -222,7 +235,8 @@ met_too_late h = let behind =
 
 -- what comes behind a lost item is none
 passed_over : AreFronts feeds (gal_asked ∷ []) Store → ⊥
-passed_over h = let behind = h.front 1 gal_of_two in let e : move_2 ∷ ask_2 ∷ [] ≡ ask_2 ∷ behind.0 = behind.1 in cc
+passed_over h = let behind = h.front 1 gal_of_two in
+    let e : move_2 ∷ ask_2 ∷ [] ≡ ask_2 ∷ behind.0 = behind.1 in cc
 
 -- a fault names one of so many stations, or none
 last_of_two : IsOneOf 2 (Unfinished 1)
@@ -234,14 +248,16 @@ none_named = (tt, tt)
 third_of_two : IsOneOf 2 (Unfinished 2) → ⊥
 third_of_two h = let known : 2 < 2 = h in omega arith
 
-faults_told : map serve_fault (hub.NoMemory ∷ hub.Store ∷ hub.Down ∷ []) ≡ NoMemory ∷ Store ∷ NoMemory ∷ []
+faults_told : map serve_fault (hub.NoMemory ∷ hub.Store ∷ hub.Down ∷ []) ≡ NoMemory ∷ Store
+    ∷ NoMemory ∷ []
 faults_told = refl
 
 differ : (a b : ℕ) → a < b → a ≡ b → ⊥
 differ a b less same = omega arith
 
 -- Store is counted up to the last number of 64 bits, and nothing else is counted
-counted : CountsServe 3 4 Store × CountsServe (2 ^ 64 - 1) (2 ^ 64 - 1) Store × CountsServe 3 3 NoMemory × CountsServe 3 3 (Unfinished 0)
+counted : CountsServe 3 4 Store × CountsServe (2 ^ 64 - 1) (2 ^ 64 - 1) Store
+    × CountsServe 3 3 NoMemory × CountsServe 3 3 (Unfinished 0)
 counted = (refl, refl, refl, refl)
 
 store_uncounted : CountsServe 3 3 Store → ⊥

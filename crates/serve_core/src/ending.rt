@@ -1,4 +1,4 @@
-//! What the threads handed back, and the ends of their lanes.
+//! Takes back the lanes from the threads, and ends them.
 ghost use Rattle.std.specs.Prelude.{◌≡◌, ◌^◌, ◌<◌, ◌≤◌, ℕ, [], true, All, IsTrue, length, take, vec_len, IfNone, IfOk, IfSome};
 ghost use Rattle.std.specs.List.{AllZip};
 ghost use Rattle.rtrb.specs.Ring.{SameConsumer};
@@ -11,7 +11,8 @@ use codes_core::NoMemory;
 use rtrb::Consumer;
 use std::alloc::Global;
 
-/// What the threads hand back, and the ends of their lanes, with room made before the first thread.
+/// Room for what the threads hand back, and for the ends of their lanes. It is made before the
+/// first thread starts, so that joining the threads and ending the lanes need no memory.
 #[derive(Drop)]
 pub(crate) struct Room {
     pub(crate) found: Vec<Sent>,
@@ -19,7 +20,7 @@ pub(crate) struct Room {
 }
 
 impl Room {
-    /// Room for so many lanes.
+    /// Makes room for this many lanes.
     pub(crate) fn new(alloc: Global, count: u32) -> Result<Room, NoMemory>
         ensures { IfOk result (HasRoom count) }
     {
@@ -30,7 +31,8 @@ impl Room {
 }
 
 impl Intake {
-    /// Looks at the lanes that the threads handed back: what was taken is a front of what was sent.
+    /// Looks at each lane that was handed back together with its ring. Nothing is taken or sent;
+    /// the look lets the contract say that what was taken is the first part of what was sent.
     pub(crate) fn settle_lanes(&mut self, found: &mut Vec<Sent>)
         requires { AllZip IsSentTo found.old.items self.old }
         ensures rings { AllZip SameConsumer self.old self.new }
@@ -44,7 +46,7 @@ impl Intake {
     }
 }
 
-/// Looks at each lane beside its ring.
+/// Looks at each lane together with its ring.
 fn settle_lanes(rings: &mut Vec<Consumer<Item>>, found: &mut Vec<Sent>)
     requires { AllZip IsSentTo found.old.items rings.old.items }
     ensures rings { AllZip SameConsumer rings.old.items rings.new.items }
@@ -60,7 +62,7 @@ fn settle_lanes(rings: &mut Vec<Consumer<Item>>, found: &mut Vec<Sent>)
     }
 }
 
-/// Looks at a lane beside its ring.
+/// Looks at a lane together with its ring.
 fn settle_lane(ring: &mut Consumer<Item>, sent: &mut Sent)
     requires { IsSentTo sent.old ring.old }
     ensures ring { SameConsumer ring.old ring.new × (received_is ring.new ≡ received_is ring.old) }
@@ -78,7 +80,8 @@ pub(crate) fn are_whole(found: &[Sent]) -> bool
     found.iter().all(|sent| sent.whole)
 }
 
-/// Ends the lanes, in order, up to the first that gives no end, which it answers. There is room for the ends.
+/// Ends the lanes, in order, and adds their ends to `ends`, which has room for them. Returns the
+/// number of the first lane that has no end, and stops there; otherwise None.
 pub(crate) fn end_all(found: Vec<Sent>, ends: &mut Vec<LaneEnd>) -> Option<u32>
     requires few { vec_len found < 2 ^ 32 }
     requires room { (ends.old.items ≡ []) × (vec_len found ≤ ends.old.cap) }

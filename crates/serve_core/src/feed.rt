@@ -1,4 +1,4 @@
-//! What a station's thread sends.
+//! The feeds that the stations' threads send.
 ghost use Rattle.std.specs.Prelude.{◌≡◌, List, [], ◌∷◌, IfOk, IfNone, IfSome, OnErr};
 ghost use Rattle.serve_core.specs.declared.item.Item.{Item};
 
@@ -7,12 +7,13 @@ use codes_core::NoMemory;
 use std::alloc::Global;
 use std::marker::Model;
 
-/// Items, one after another: finitely many, and `next` gives the first of those that are left.
+/// A finite sequence of items. Contracts see a feed as the items that are left.
 pub trait Feed {
     /// The items that are left.
     ghost items: { Self → List Item };
 
-    /// The next item, or None where none is left. After NoMemory the same are left.
+    /// Returns the next item, or None if none is left. Fault: NoMemory, after which the same items
+    /// are left.
     fn next(&mut self, alloc: Global) -> Result<Option<Item>, NoMemory>
         ensures none { IfOk result
             (λ next. IfNone next ((items self.old ≡ []) × (items self.new ≡ []))) }
@@ -21,10 +22,10 @@ pub trait Feed {
         ensures kept { OnErr result (items self.new ≡ items self.old) };
 }
 
-/// A feed of a list; seen as the items that are left.
+/// A feed of the items in a list.
 #[derive(Drop)]
 pub struct ListFeed {
-    // the next one stands last
+    // The next item is the last element.
     left: Vec<Item>,
 }
 
@@ -38,7 +39,7 @@ impl Model for ListFeed {
 }
 
 impl ListFeed {
-    /// A feed of these items.
+    /// A feed of these items, from the first to the last.
     pub fn new(items: Vec<Item>) -> ListFeed
         ensures { result ≡ items.items }
     {

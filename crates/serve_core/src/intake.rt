@@ -1,4 +1,4 @@
-//! The end that takes from all lanes.
+//! Takes items from all lanes.
 ghost use Rattle.std.specs.Prelude.{◌≡◌, ◌^◌, ◌<◌, ◌≤◌, ◌++◌, ◌∷◌, ℕ, [], List, true, IfOk, IsErrOf, OnOk, OnErr, vec_len, length};
 ghost use Rattle.std.specs.List.{AllZip};
 ghost use Rattle.rtrb.specs.Ring.{SameConsumer};
@@ -8,7 +8,7 @@ ghost use Rattle.serve_core.specs.declared.item.LogLine.{LogLine};
 ghost use Rattle.serve_core.specs.Logs.{AreOfStations, Serves, ServesTo, dropped, Ascends};
 ghost use Rattle.serve_core.specs.Lanes.{IsFresh, IsEndOn, Takes, TakesSome, TakesOf, TakesFront, TakesLeft, Begins, SameEnds, end_items, ended_at, received_is, received_at};
 
-use crate::asking::log_item;
+use crate::item_replies::log_item;
 use crate::lane::ROOM;
 use crate::{Item, Lane, LaneEnd, Log, LogLine};
 use codes_core::NoMemory;
@@ -18,7 +18,8 @@ use rtrb::{Consumer, RingBuffer};
 use std::alloc::Global;
 use std::marker::Model;
 
-/// The other end of all lanes, in the thread that owns the hub; seen as the rings, each with what was taken from it.
+/// The receiving end of all lanes, in the thread that owns the hub. Contracts see it as the rings,
+/// each with what was taken from it.
 #[derive(Drop)]
 pub struct Intake {
     pub(crate) rings: Vec<Consumer<Item>>,
@@ -35,8 +36,8 @@ impl Model for Intake {
     ghost invariant = { λ i. vec_len i.rings < 2 ^ 32 };
 }
 
-/// So many lanes with nothing sent, and the intake that takes from them. Lane i is that of station i. NoMemory where a
-/// ring, or the list of them, finds no memory.
+/// Makes this many lanes, through which nothing was sent, and the intake that takes from them. Lane
+/// i is that of station i, counted from 0. Fault: NoMemory.
 pub fn lanes(alloc: Global, n: u32) -> Result<(Vec<Lane>, Intake), NoMemory>
     ensures count { IfOk result (λ r. vec_len r.0 ≡ n) }
     ensures fresh { IfOk result (λ r. AllZip IsFresh r.0.items r.1) }
@@ -52,10 +53,11 @@ pub fn lanes(alloc: Global, n: u32) -> Result<(Vec<Lane>, Intake), NoMemory>
 }
 
 impl Intake {
-    /// Takes at most one item of each lane, that of lane 0 first, asks the hub, and adds a line to the log for each; answers
-    /// how many. The faults: NoMemory, also of the item's copy and of the log's room, which come before the hub is asked;
-    /// Store; Down, only where the hub is down. A fault stops the turn: the item that met it is dropped, and the lines
-    /// before it stay.
+    /// One turn: takes at most one item from each lane, lane 0 first, passes it to the hub, and
+    /// adds a line with the reply to the log. Returns the number of lines. Faults: NoMemory, also
+    /// of the item's copy and of the log's room, which come before the hub is called; Store; Down,
+    /// only if the hub is down. A fault ends the turn: the item that met it is dropped, and the
+    /// lines before it stay.
     pub fn turn<R: Register>(
         &mut self,
         alloc: Global,
@@ -80,16 +82,17 @@ impl Intake {
         turn_all(alloc, hub, &mut self.rings, &mut log.lines)
     }
 
-    /// Takes items of all lanes and drops them; answers how many.
+    /// Takes at most one item from each lane and drops it. Returns how many were taken.
     pub(crate) fn drop_items(&mut self) -> u32
         ensures { TakesSome self.old self.new [] }
     {
         drop_all(&mut self.rings)
     }
 
-    /// Takes all that is left in the lanes, that of lane 0 first, asks the hub, and adds a line to the log for each. The ends
-    /// are those of the lanes, in order. The faults are those of a turn; one stops it: the item that met it and those after
-    /// it are dropped, and the lines before it stay.
+    /// Takes all that is left in the lanes, passes each item to the hub, and adds a line with the
+    /// reply to the log. `ends` has the ends of the lanes, in their order. Faults: those of a turn.
+    /// A fault ends the call: the item that met it and those after it are dropped, and the lines
+    /// before it stay.
     pub fn finish<R: Register>(
         self,
         alloc: Global,
@@ -102,8 +105,8 @@ impl Intake {
             ((G : List LogLine) × (log.new ≡ log.old ++ G)
             × Serves R.holding hub.old hub.new G × AreOfStations (length self) G
             × TakesLeft self ends.items G) }
-        // The lines and then the item that met the fault are the beginning of what was left in each
-        // lane.
+        // The lines, and then the item that met the fault, are the first items of what was left in
+        // each lane.
         ensures fault { OnErr result
             ((G : List LogLine) × (s : ℕ) × (item : Item) × (log.new ≡ log.old ++ G)
             × ServesTo R.holding hub.old hub.new G s item
@@ -127,7 +130,7 @@ impl Intake {
     }
 }
 
-/// Takes at most one item of each ring and drops it.
+/// Takes at most one item from each ring and drops it.
 fn drop_all(rings: &mut Vec<Consumer<Item>>) -> u32
     requires { vec_len rings.old < 2 ^ 32 }
     ensures some { TakesSome rings.old.items rings.new.items [] }
@@ -140,7 +143,7 @@ fn drop_all(rings: &mut Vec<Consumer<Item>>) -> u32
     taken
 }
 
-/// Takes at most one item of a ring and drops it.
+/// Takes at most one item from a ring and drops it.
 fn drop_one(ring: &mut Consumer<Item>) -> u32
     ensures ring { SameConsumer ring.old ring.new }
     ensures some { Begins (received_is ring.old) (received_is ring.new) }
@@ -181,7 +184,7 @@ fn turn_all<R: Register>(
     Ok(taken)
 }
 
-/// Takes at most one item of a ring.
+/// Takes at most one item from a ring.
 fn take_one<R: Register>(
     alloc: Global,
     hub: &mut Hub<R>,
@@ -211,7 +214,7 @@ fn take_one<R: Register>(
     }
 }
 
-/// Takes all that is left in the rings of lanes that ended, up to a fault.
+/// Takes all that is left in the rings of lanes that have ended, up to a fault.
 fn take_left<R: Register>(
     alloc: Global,
     hub: &mut Hub<R>,
@@ -242,7 +245,7 @@ fn take_left<R: Register>(
     Ok(())
 }
 
-/// Takes all that is left in the ring of a lane that ended, up to a fault.
+/// Takes all that is left in the ring of a lane that has ended, up to a fault.
 fn drain<R: Register>(
     alloc: Global,
     hub: &mut Hub<R>,
@@ -274,7 +277,7 @@ fn drain<R: Register>(
     Ok(())
 }
 
-/// Looks at the end of each lane: what was taken is a front of what was sent.
+/// Looks at the end of each lane together with its ring, as in `settle_lanes`.
 fn settle_all(rings: &mut Vec<Consumer<Item>>, ends: &mut Vec<LaneEnd>)
     requires { AllZip IsEndOn ends.old.items rings.old.items }
     ensures { (s : ℕ) → s < vec_len rings.old
@@ -285,7 +288,7 @@ fn settle_all(rings: &mut Vec<Consumer<Item>>, ends: &mut Vec<LaneEnd>)
     }
 }
 
-/// Looks at the end of a lane.
+/// Looks at the end of a lane together with its ring.
 fn settle(ring: &mut Consumer<Item>, end: &mut LaneEnd)
     requires { IsEndOn end.old ring.old }
     ensures front { Begins (received_is ring.old) (end_items end.old) }

@@ -1,4 +1,4 @@
-//! What a station sends through its lane, and what the log keeps of it.
+//! The items that a station sends, and the lines that a log has of them.
 ghost use Rattle.std.specs.Prelude.{◌≡◌, IfOk};
 
 use codes_core::{NoMemory, ThingCode};
@@ -7,23 +7,28 @@ use posting_core::Message;
 use register_store::ReadFault;
 use std::alloc::Global;
 
-/// Why a feed's line is no item: it is too long, or what reading it met, which is never NoMemory.
+/// Why a line of a feed has no request.
 #[derive(Clone, Copy, Debug, PartialEq, Eq)]
 pub enum LineFault {
+    /// It has more bytes than a line may have.
     TooLong,
+    /// It has this fault, which is never NoMemory in a [`TextFeed`](crate::TextFeed).
     Read(ReadFault),
 }
 
-/// What a feed has: a message under its number, a question where a thing is, or a faulty line with its number, from 1.
+/// An item of a feed.
 #[derive(Drop)]
 pub enum Item {
+    /// A message with its number at the station.
     Scan { n: u64, message: Message },
+    /// A question where the thing with this code is.
     Ask(ThingCode),
+    /// A faulty line with its number, counted from 1.
     Bad { line: u64, fault: LineFault },
 }
 
 impl Item {
-    /// Another item, equal to this one. Only a message takes memory, and so can answer NoMemory.
+    /// Returns an item equal to this one. Fault: NoMemory.
     pub fn copy(&self, alloc: Global) -> Result<Item, NoMemory>
         ensures same { IfOk result (λ copy. copy ≡ self.now) }
     {
@@ -41,16 +46,18 @@ impl Item {
     }
 }
 
-/// What is said to an item: the hub's answer to a message or to a question; Unread to a faulty line, for which the hub
-/// isn't asked.
+/// The reply to an item.
 #[derive(Debug, Drop)]
 pub enum Reply {
+    /// The hub's answer to a message.
     Answered(Answer),
+    /// Where the thing of a question is.
     Found(Where),
+    /// A faulty line isn't passed to the hub.
     Unread,
 }
 
-/// An item of a station, by number, and what was said to it.
+/// A line of a log: a station, one of its items, and the reply.
 #[derive(Drop)]
 pub struct LogLine {
     pub station: u32,

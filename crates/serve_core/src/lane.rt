@@ -8,25 +8,26 @@ use rtrb::{Finished, Producer, PushError};
 /// How many items a lane has room for.
 pub(crate) const ROOM: usize = 256;
 
-/// The end of a lane that a station sends through, in its own thread.
+/// The end of a lane through which a station sends, from its own thread.
 #[derive(Drop)]
 pub struct Lane {
     pub(crate) producer: Producer<Item>,
 }
 
-/// What is left of a lane that ended. It tells what was sent through it.
+/// What is left of a lane that has ended: it knows all that was sent through the lane.
 #[derive(Drop)]
 pub struct LaneEnd {
     pub(crate) finished: Finished<Item>,
 }
 
-/// The lane is full. The item comes back.
+/// The lane is full. The item is handed back.
 #[derive(Drop)]
 pub struct Full(pub Item);
 
 impl Lane {
-    /// Sends an item behind those that were sent. Full hands it back, and nothing was sent; it comes only where the lane
-    /// had no room. Takes no memory and never waits.
+    /// Sends an item after those that were sent before. Full hands the item back, and nothing was
+    /// sent. The call needs no memory and doesn't wait; no clause says that Full comes only from a
+    /// full lane.
     pub fn send(&mut self, item: Item) -> Result<(), Full>
         ensures lane { SameLane self.old self.new }
         ensures sent { OnOk result (sent_items self.new ≡ sent_items self.old ++ item ∷ []) }
@@ -39,8 +40,8 @@ impl Lane {
         }
     }
 
-    /// Ends the lane. The end tells all that was sent through it; it stays out only where the intake was dropped before.
-    /// Takes no memory and never waits.
+    /// Ends the lane. Its end knows all that was sent through it. None can come only if the intake
+    /// was dropped before, though no clause says so. The call needs no memory and doesn't wait.
     pub fn finish(self) -> Option<LaneEnd>
         ensures { IfSome result (λ e. IsEndOf self e) }
     {

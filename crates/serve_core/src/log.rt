@@ -5,8 +5,8 @@ use crate::LogLine;
 use std::alloc::Global;
 use std::marker::Model;
 
-/// The items that were taken from lanes, each with its reply, in the order in which they were taken; seen as the list of
-/// its lines.
+/// The items that were taken from lanes, each with its reply, in the order in which they were
+/// taken. Contracts see it as the list of its lines.
 #[derive(Drop)]
 pub struct Log {
     pub(crate) lines: Vec<LogLine>,
@@ -31,7 +31,7 @@ impl Log {
         }
     }
 
-    /// The lines, in order.
+    /// Returns the lines, in order.
     pub fn lines(&self) -> &[LogLine]
         ensures { result.now ≡ self.now }
     {

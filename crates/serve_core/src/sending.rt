@@ -4,7 +4,7 @@ ghost use Rattle.std.specs.List.{AllZip};
 ghost use Rattle.serve_core.specs.Lanes.{sent_items, SameLane};
 ghost use Rattle.serve_core.specs.Sending.{Sends};
 
-use crate::resting::rest;
+use crate::pause::rest;
 use crate::{Feed, Full, Item, Lane};
 use codes_core::NoMemory;
 use std::alloc::{AllocError, Global};
@@ -21,7 +21,7 @@ pub struct Sent {
     pub(crate) whole: bool,
 }
 
-/// Waits until the item is sent through a lane, one of so many.
+/// Sends an item through a lane, one of `lanes`. Waits as long as the lane is full.
 fn send_waiting(rt: &impl Wait, lanes: usize, lane: &mut Lane, item: Item)
     ensures lane { SameLane lane.old lane.new }
     ensures sent { sent_items lane.new ≡ sent_items lane.old ++ item ∷ [] }
@@ -37,7 +37,7 @@ fn send_waiting(rt: &impl Wait, lanes: usize, lane: &mut Lane, item: Item)
     unreachable!()
 }
 
-/// Sends a feed up to its end, or up to where it finds no memory, through a lane, one of so many.
+/// Sends a feed through a lane, one of `lanes`, until the feed ends or finds no memory.
 fn send_all<F: Feed + Drop>(
     rt: &impl Wait,
     alloc: Global,
@@ -59,7 +59,7 @@ fn send_all<F: Feed + Drop>(
     unreachable!()
 }
 
-/// That a thread sends this feed through this lane.
+/// The promise that a thread sends this feed through this lane.
 #[derive(Drop)]
 pub struct SendsAll<F: Feed> {
     lane: Snapshot<Lane>,
@@ -72,7 +72,7 @@ impl<F: Feed> Promise<Sent> for SendsAll<F> {
     ghost kept_by = { λ p r. Sends p.lane.value (F.items p.feed.value) r };
 }
 
-/// Starts the thread of a feed; it sets the mark when it has sent all.
+/// Starts the thread of a feed. Its last act is to set the mark.
 fn start<F: Feed + Drop + Send + 'static, R: Threads + Wait + Copy + Send + 'static>(
     rt: &R,
     alloc: Global,
@@ -102,7 +102,7 @@ fn start<F: Feed + Drop + Send + 'static, R: Threads + Wait + Copy + Send + 'sta
     Ok(child)
 }
 
-/// The threads that were started, with their marks, and whether all were.
+/// The threads that were started, their marks, and whether all were started.
 #[derive(Drop)]
 pub struct Started<F: Feed> {
     pub(crate) children: Vec<PromisedHandle<Sent, SendsAll<F>>>,
@@ -110,7 +110,8 @@ pub struct Started<F: Feed> {
     pub(crate) all: bool,
 }
 
-/// Starts a thread for each feed, until one can't be made. All growths come first: at Err no thread was started.
+/// Starts a thread for each feed, until one can't be started. The lists get their room first, so
+/// after an Err no thread was started.
 pub(crate) fn start_all<F: Feed + Drop + Send + 'static, R: Threads + Wait + Copy + Send + 'static>(
     rt: &R,
     alloc: Global,
@@ -148,7 +149,7 @@ pub(crate) fn start_all<F: Feed + Drop + Send + 'static, R: Threads + Wait + Cop
     })
 }
 
-/// Starts the thread of a feed, with a mark.
+/// Starts the thread of a feed, with a new mark.
 fn start_marked<F: Feed + Drop + Send + 'static, R: Threads + Wait + Copy + Send + 'static>(
     rt: &R,
     alloc: Global,
@@ -164,7 +165,8 @@ fn start_marked<F: Feed + Drop + Send + 'static, R: Threads + Wait + Copy + Send
     Ok((child, mark))
 }
 
-/// Waits for the threads to end, and gives what each handed back, in order. There is room for it.
+/// Waits until the threads have ended, and adds what each hands back to `found`, in order. There is
+/// room for it.
 pub(crate) fn join_all<F: Feed, R: Threads>(
     rt: &R,
     children: Vec<PromisedHandle<Sent, SendsAll<F>>>,

@@ -1,4 +1,4 @@
-//! Why a serving stopped.
+//! The faults that stop a serving.
 
 use hub_core::HubFault;
 use nest_core::StationNo;
@@ -7,14 +7,14 @@ use thiserror::Error;
 /// Why a serving stopped.
 #[derive(Clone, Copy, Debug, PartialEq, Eq, Error)]
 pub enum ServeFault {
-    /// A growth was refused, or a thread could not be made.
+    /// A request for memory was refused, or a thread could not be started.
     #[error("out of memory")]
     NoMemory,
-    /// The register's store refused, for another cause than memory.
-    #[error("the store refused")]
+    /// The register's store failed, for another reason than memory.
+    #[error("the store failed")]
     Store,
-    /// The station's lane gave no end.
-    #[error("a lane gave no end")]
+    /// The lane of this station had no end.
+    #[error("a lane has no end")]
     Unfinished(StationNo),
 }
 
@@ -28,7 +28,7 @@ impl From<HubFault> for ServeFault {
         match fault {
             HubFault::NoMemory => ServeFault::NoMemory,
             HubFault::Store => ServeFault::Store,
-            // the hub of a serving isn't down before its first fault
+            // The hub of a serving isn't down before its first fault.
             HubFault::Down => ServeFault::NoMemory,
         }
     }

@@ -1,4 +1,4 @@
-//! A serving: one thread a feed, and the hub in the calling thread.
+//! A serving: one thread for each feed, and the hub in the calling thread.
 ghost use Rattle.std.specs.Prelude.{◌≡◌, ◌<◌, ◌≤◌, ◌++◌, ◌^◌, ℕ, List, [], true, false, All, map, length, vec_len, IfOk, IfErr, OnOk};
 ghost use Rattle.std.specs.List.{AllZip};
 ghost use Rattle.serve_core.specs.declared.item.LogLine.{LogLine};
@@ -10,7 +10,7 @@ ghost use Rattle.serve_core.specs.Sending.{CountsServe, IsMerge, AreFronts, Afte
 use crate::ending::{Room, are_whole, end_all};
 use crate::intake::lanes;
 use crate::sending::{SendsAll, Sent, join_all, start_all};
-use crate::turning::{drop_until, give_up, turn_until};
+use crate::turns::{drop_until, give_up, turn_until};
 use crate::{Feed, Intake, Log, ServeFault};
 use codes_core::NoMemory;
 use hub_core::Hub;
@@ -20,7 +20,7 @@ use std::sync::atomic::AtomicBool;
 use std::sync::{Arc, Wait};
 use std::thread::{PromisedHandle, Threads};
 
-/// What a serving leaves: the hub, and the log of all that was taken.
+/// The result of a serving: the hub, and the log of all that was taken.
 #[derive(Drop)]
 pub struct Served<R: Register> {
     pub hub: Hub<R>,
@@ -35,11 +35,16 @@ pub struct ServeFailed<R: Register> {
     pub log: Log,
 }
 
-/// Serves all stations at once: a thread for each feed sends its items through the station's lane, feed i for station i,
-/// while the calling thread owns the hub, asks it each item that comes, and keeps item and reply in the log. Where it
-/// returns, every thread has ended and every feed was dropped. The faults, first that was met: NoMemory, where a lane, its
-/// thread or an item found no memory, or Store, of an item; NoMemory, where a feed found none, which ends that lane alone;
-/// Unfinished(s), where the lane of station s gave no end. After a fault in an item nothing more is logged.
+/// Serves all stations at once. A thread for each feed sends its items through the station's lane;
+/// feed i is that of station i. Meanwhile the calling thread passes each item that comes to the
+/// hub, and logs it with its reply. The hub must not be down, and there must be a feed for each
+/// station. When the call returns, every thread has ended (no clause says so).
+///
+/// Faults, the first that is met:
+/// - NoMemory, if a lane, its thread or an item finds no memory; Store, from an item. Nothing more
+///   is logged then.
+/// - NoMemory, if a feed finds no memory. That ends its lane; the other lanes go on to their ends.
+/// - Unfinished(s), if the lane of station s has no end.
 pub fn serve<
     R: Register,
     F: Feed + Drop + Send + 'static,
@@ -47,14 +52,15 @@ pub fn serve<
 >(rt: &T, alloc: Global, hub: Hub<R>, feeds: Vec<F>) -> Result<Served<R>, ServeFailed<R>>
     requires feeds { vec_len feeds ≡ length hub.book.museum.stations }
     requires up { hub.down ≡ false }
-    // Every item of every feed is in the log, those of each feed in their order, and each has the reply of looking back.
+    // Every item of every feed is in the log, those of each feed in their order, and each has the
+    // reply of looking back.
     ensures merge { IfOk result (λ s. IsMerge (map F.items feeds.items) s.log) }
     ensures served { IfOk result (λ s. Serves R.holding hub s.hub s.log) }
     ensures up { IfOk result (λ s. s.hub.down ≡ false) }
     ensures fronts { IfErr result (λ f. AreFronts (map F.items feeds.items) f.log f.fault) }
     ensures answered { IfErr result (λ f. Answers R.holding hub f.hub f.log) }
     // The log has what the hub took, except the item that met the fault, if one did. The hub has
-    // nothing of that item, or was stopped in it, as always after Store.
+    // nothing of that item, or was stopped at it, as always after Store.
     ensures left { IfErr result
         (λ f. AfterFault R.holding hub f.hub (map F.items feeds.items) f.log f.fault) }
     ensures uncounted { IfOk result (λ s. R.refusals s.hub.register ≡ R.refusals hub.register) }
@@ -93,7 +99,8 @@ fn serve_all<
     }
 }
 
-/// The threads that were started, with their marks, the intake of their lanes, and room for what they hand back.
+/// The threads that were started, their marks, the intake of their lanes, and room for what they
+/// hand back.
 #[derive(Drop)]
 struct Prepared<F: Feed> {
     intake: Intake,
@@ -102,7 +109,8 @@ struct Prepared<F: Feed> {
     marks: Vec<Arc<AtomicBool>>,
 }
 
-/// Makes the lanes and the room, and starts a thread for each feed. Where one can't be made, those before it have ended.
+/// Makes the lanes and the room, and starts a thread for each feed. If one can't be started, those
+/// before it have ended when this returns.
 fn prepare<F: Feed + Drop + Send + 'static, T: Threads + Wait + Copy + Send + 'static>(
     rt: &T,
     alloc: Global,
@@ -174,7 +182,7 @@ fn take_all<R: Register, F: Feed, T: Threads + Wait>(
     }
 }
 
-/// Ends the lanes, whose threads have ended, and takes what is left in them.
+/// Ends the lanes after their threads have ended, and takes what is left in them.
 fn finish_all<R: Register>(
     alloc: Global,
     hub: &mut Hub<R>,
@@ -212,7 +220,7 @@ fn finish_all<R: Register>(
     }
 }
 
-/// The fault where a station's lane gave no end: a feed's want of memory comes before it.
+/// The fault if a lane has no end. A feed that found no memory comes first.
 fn missing_end(whole: bool, station: u32) -> ServeFault
     ensures missing { whole ≡ true → result ≡ faults.Unfinished station }
     ensures memory { whole ≡ false → result ≡ faults.NoMemory }
@@ -224,7 +232,7 @@ fn missing_end(whole: bool, station: u32) -> ServeFault
     }
 }
 
-/// Whether all feeds came to their ends, else NoMemory.
+/// NoMemory unless all feeds came to their ends.
 fn all_or_no_memory(whole: bool) -> Result<(), ServeFault>
     ensures whole { OnOk result (whole ≡ true) }
     ensures fault { IfErr result (λ fault. fault ≡ faults.NoMemory) }

@@ -1,4 +1,4 @@
-//! A feed of a text.
+//! A feed of the lines of a text.
 ghost use Rattle.std.specs.Prelude.{◌≡◌, ◌≤◌, ◌<◌, ◌+◌, ◌∷◌, [], length, drop, min, IfOk, IfNone, IfSome, OnErr};
 ghost use Rattle.hub_core.specs.Lines.{without_return, lines};
 ghost use Rattle.serve_core.specs.declared.item.Item.{Item};
@@ -12,19 +12,20 @@ use register_store::ReadFault;
 use std::alloc::Global;
 use std::marker::Model;
 
-/// Where a line of a text begins, and which it is, from 1.
+/// The position of a line in a text, in bytes, and the line's number, counted from 1.
 #[derive(Clone, Copy, Debug)]
 struct Place {
     at: usize,
     number: u64,
 }
 
-/// A feed of a text: an item for each line that isn't empty. Seen as the items that are left.
+/// A feed of a text, with an item for each line that isn't empty. Contracts see it as the items
+/// that are left.
 #[derive(Drop)]
 pub struct TextFeed {
     bytes: Vec<u8>,
     place: Place,
-    // serves one line after the other
+    // Used for one line after another.
     scratch: TokenScratch,
 }
 
@@ -41,9 +42,9 @@ impl Model for TextFeed {
 }
 
 impl TextFeed {
-    /// A feed of these bytes. A line ends at a line feed or at the end, and one carriage return before its end isn't of
-    /// it; lines are numbered from 1. A line is read as those of a replay are, but its station isn't looked at; a faulty
-    /// one is a Bad item.
+    /// A feed of these bytes. A line ends at a line feed or at the end of the bytes, and one
+    /// carriage return at its end is dropped. Lines are numbered from 1. They are read as in a
+    /// replay, except that their station is ignored. A faulty line is a Bad item.
     pub fn new(bytes: Vec<u8>) -> TextFeed
         ensures { result ≡ text_items bytes.items }
     {
@@ -69,8 +70,8 @@ impl Feed for TextFeed {
     }
 }
 
-/// The item of the next line that isn't empty; none where all that are left are. The place is moved behind that line.
-/// After NoMemory the same items are left.
+/// Returns the item of the next line that isn't empty, or None if only empty lines are left. Moves
+/// the place past that line. Fault: NoMemory, after which the same items are left.
 fn next_item(
     alloc: Global,
     scratch: &mut TokenScratch,
@@ -99,11 +100,11 @@ fn next_item(
     Ok(None)
 }
 
-/// The bytes from a place on, up to a line feed or the end.
+/// The bytes from a position on, up to a line feed or the end.
 fn line_at(bytes: &[u8], at: usize) -> &[u8]
     requires { at < length bytes.now }
     ensures there { at + length result.now ≤ length bytes.now }
-    // Of the lines that begin there it is the first, but for its carriage return.
+    // It is the first of the lines that begin there, apart from its carriage return.
     ensures first { lines (drop at bytes.now)
         ≡ without_return result.now
         ∷ lines (drop (min (length bytes.now) (at + length result.now + 1)) bytes.now) }
@@ -112,7 +113,7 @@ fn line_at(bytes: &[u8], at: usize) -> &[u8]
     &rest[..feed_at(rest)]
 }
 
-/// The item of the `number`-th line; an empty line has none.
+/// The item of line `number`. An empty line has none.
 fn item_of(
     alloc: Global,
     scratch: &mut TokenScratch,
@@ -135,7 +136,7 @@ fn item_of(
     }
 }
 
-/// The item of what a line asks.
+/// The item of a request.
 fn request_item(request: Request) -> Item
     ensures { result ≡ request_item request }
 {
@@ -145,7 +146,7 @@ fn request_item(request: Request) -> Item
     }
 }
 
-/// A faulty line.
+/// The item of a faulty line.
 fn bad(line: u64, fault: LineFault) -> Item
     ensures { result ≡ Item.Bad line fault }
 {

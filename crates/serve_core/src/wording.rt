@@ -10,8 +10,9 @@ use hub_core::{Answer, add_answer, add_asked, add_bad, add_too_long};
 use posting_core::{Ledger, PostedEntry};
 use std::alloc::AllocError;
 
-/// Appends what is printed of a line of a log, where the ledger is that after the log: the reply to its item, as a replay
-/// prints it, or `STATION line K bad FAULT` for a faulty line. After NoMemory the text may end with a part of it.
+/// Appends a line of a log: the reply to its item, as a replay prints it, or `STATION line K bad
+/// FAULT` for a faulty line. The ledger is the one after the whole log. After NoMemory the text may
+/// end with a part of the line.
 pub fn add_logged(text: &mut String, ledger: &Ledger, line: &LogLine) -> Result<(), AllocError>
     requires station { line.now.station < length ledger.now.museum.stations }
     requires placed { IsPlacedReply ledger.now.museum line.now.reply }
@@ -29,12 +30,12 @@ pub fn add_logged(text: &mut String, ledger: &Ledger, line: &LogLine) -> Result<
         (Item::Bad { line, fault }, Reply::Unread) => {
             add_bad_item(text, setup.station_name(station), *line, *fault)
         }
-        // no log has any other pair
+        // No log has another pair of item and reply.
         _ => Ok(()),
     }
 }
 
-/// The entries that stood with an answer, oldest first.
+/// The entries that were posted when this answer was given, oldest first.
 fn up_to(posted: &[PostedEntry], answer: Answer) -> &[PostedEntry]
     ensures { result.now ≡ up_to answer posted.now }
 {

@@ -13,11 +13,16 @@ use Rattle.station_core.proofs.RunLemmas.{at_other_number, at_other_station, at_
 
 module _ {M : Type 0} where
   -- a station as it starts, from a list of what is posted
-  pub matches_opened : (signs : M → Bool) (taken : List (Arrived M)) (s : ℕ) (start : Start) → unbroken signs taken s start.posted ≡ true → start.signed ≡ ends signs taken s start.posted → ((n : ℕ) → start.posted < n → message_at taken s n ≡ None)
+  pub matches_opened : (signs : M → Bool) (taken : List (Arrived M)) (s : ℕ) (start : Start)
+      → unbroken signs taken s start.posted ≡ true → start.signed ≡ ends signs taken s start.posted
+      → ((n : ℕ) → start.posted < n → message_at taken s n ≡ None)
       → Matches signs taken s (opened start)
   matches_opened signs taken s start whole sign none =
-      let at : message_at taken s (suc start.posted) ≡ None = none (suc start.posted) (omega arith) in
-      let k : ready signs taken s ≡ start.posted = ready_is signs taken s start.posted whole (stops_at_missing signs taken s start.posted at) in
+      let at : message_at taken s (suc start.posted) ≡ None =
+          none (suc start.posted) (omega arith) in
+      let k : ready signs taken s ≡ start.posted =
+          ready_is signs taken s start.posted whole
+          (stops_at_missing signs taken s start.posted at) in
       record {
         count = sym k;
         sign = sign ∙ sym (ap (ends signs taken s) k);
@@ -30,13 +35,17 @@ module _ {M : Type 0} where
       }
 
   -- another station's arrival
-  pub matches_other : (signs : M → Bool) (taken : List (Arrived M)) (r : Arrived M) (t : ℕ) (q : Series M) → t ≢ r.station → Matches signs taken t q → Matches signs (taken ++ r ∷ []) t q
+  pub matches_other : (signs : M → Bool) (taken : List (Arrived M)) (r : Arrived M) (t : ℕ)
+      (q : Series M) → t ≢ r.station → Matches signs taken t q → Matches signs (taken ++ r ∷ []) t q
   matches_other signs taken r t q ne ms =
-      let same : (n : ℕ) → message_at (taken ++ r ∷ []) t n ≡ message_at taken t n = λ n. at_other_station taken r t n (λ e. ne (sym e)) in
-      let k : ready signs (taken ++ r ∷ []) t ≡ ready signs taken t = ready_same signs taken (taken ++ r ∷ []) t (λ n h. same n) in
+      let same : (n : ℕ) → message_at (taken ++ r ∷ []) t n ≡ message_at taken t n =
+          λ n. at_other_station taken r t n (λ e. ne (sym e)) in
+      let k : ready signs (taken ++ r ∷ []) t ≡ ready signs taken t =
+          ready_same signs taken (taken ++ r ∷ []) t (λ n h. same n) in
       record {
         count = ms.count ∙ sym k;
-        sign = ms.sign ∙ sym (ap (ends signs (taken ++ r ∷ []) t) k ∙ ends_same signs taken (taken ++ r ∷ []) t (ready signs taken t) (λ n h. same n));
+        sign = ms.sign ∙ sym (ap (ends signs (taken ++ r ∷ []) t) k ∙ ends_same signs taken
+            (taken ++ r ∷ []) t (ready signs taken t) (λ n h. same n));
         width = ms.width;
         held = λ off. record {
           inside = λ i h. (ms.held off).inside i h ∙ sym (same (q.posted + (i + 1)));
@@ -46,61 +55,85 @@ module _ {M : Type 0} where
       }
 
   -- an arrival that is taken, and held
-  pub pending_taken : (signs : M → Bool) (taken : List (Arrived M)) (r : Arrived M) (q : Series M) → Matches signs taken r.station q → q.signed ≡ false → q.posted < r.n → r.n ≤ q.posted + window → message_at taken r.station r.n ≡ None
+  pub pending_taken : (signs : M → Bool) (taken : List (Arrived M)) (r : Arrived M) (q : Series M)
+      → Matches signs taken r.station q → q.signed ≡ false → q.posted < r.n
+      → r.n ≤ q.posted + window → message_at taken r.station r.n ≡ None
       → Pending signs (taken ++ r ∷ []) r.station (with_held q r.n r.message)
   pending_taken signs taken r q ms off low high none =
       let s : ℕ = r.station in
       let qs : List (Arrived M) = taken ++ r ∷ [] in
-      let same : (n : ℕ) → n ≤ q.posted → message_at qs s n ≡ message_at taken s n = λ n h. at_other_number taken r s n (λ e. absurd (omega arith)) in
+      let same : (n : ℕ) → n ≤ q.posted → message_at qs s n ≡ message_at taken s n =
+          λ n h. at_other_number taken r s n (λ e. absurd (omega arith)) in
       record {
-        whole = unbroken_same signs taken qs s q.posted same ∙ rw ms.count (ready_holds signs taken s);
+        whole = unbroken_same signs taken qs s q.posted same ∙ rw ms.count
+            (ready_holds signs taken s);
         goes_on = ends_same signs taken qs s q.posted same ∙ rw ms.count (sym ms.sign ∙ off);
         sign = off;
         width = length-set q.slots (r.n - q.posted - 1) (Some r.message) ∙ ms.width;
         held = record {
           inside = λ i h. ⊎_elim
               (λ lt. held_other i h (λ e. absurd (omega arith)))
-              (λ ge. ⊎_elim (λ lt. held_other i h (λ e. absurd (omega arith))) (λ ge'. held_here i h (omega arith)) (cases_lt (r.n - q.posted - 1) i))
+              (λ ge. ⊎_elim (λ lt. held_other i h (λ e. absurd (omega arith)))
+                  (λ ge'. held_here i h (omega arith)) (cases_lt (r.n - q.posted - 1) i))
               (cases_lt i (r.n - q.posted - 1));
-          above = λ n h. at_other_number taken r s n (λ e. absurd (omega arith)) ∙ (ms.held off).above n h;
+          above = λ n h. at_other_number taken r s n (λ e. absurd (omega arith))
+              ∙ (ms.held off).above n h;
         };
       }
     where
-      held_other : (i : ℕ) → i < window → i ≢ r.n - q.posted - 1 → slot_at (slice_set q.slots (r.n - q.posted - 1) (Some r.message)) i ≡ message_at (taken ++ r ∷ []) r.station (q.posted + (i + 1))
+      held_other : (i : ℕ) → i < window → i ≢ r.n - q.posted - 1
+          → slot_at (slice_set q.slots (r.n - q.posted - 1) (Some r.message)) i
+          ≡ message_at (taken ++ r ∷ []) r.station (q.posted + (i + 1))
       held_other i h ne =
           slot_set_other q.slots (r.n - q.posted - 1) i r.message ne
-          ∙ ((ms.held off).inside i h ∙ sym (at_other_number taken r r.station (q.posted + (i + 1)) (λ e. ne (omega arith))))
+          ∙ ((ms.held off).inside i h ∙ sym
+              (at_other_number taken r r.station (q.posted + (i + 1)) (λ e. ne (omega arith))))
 
-      held_here : (i : ℕ) → i < window → i ≡ r.n - q.posted - 1 → slot_at (slice_set q.slots (r.n - q.posted - 1) (Some r.message)) i ≡ message_at (taken ++ r ∷ []) r.station (q.posted + (i + 1))
+      held_here : (i : ℕ) → i < window → i ≡ r.n - q.posted - 1
+          → slot_at (slice_set q.slots (r.n - q.posted - 1) (Some r.message)) i
+          ≡ message_at (taken ++ r ∷ []) r.station (q.posted + (i + 1))
       held_here i h e =
           let n : q.posted + (i + 1) ≡ r.n = omega arith in
-          rw (n, at_its_number taken r none, e) (slot_set_same q.slots (r.n - q.posted - 1) r.message (omega (arith, ms.width)))
+          rw (n, at_its_number taken r none, e)
+              (slot_set_same q.slots (r.n - q.posted - 1) r.message (omega (arith, ms.width)))
 
   -- the first place is that of the next number
-  pub next_of : (signs : M → Bool) (taken : List (Arrived M)) (s : ℕ) (q : Series M) → Pending signs taken s q → slot_at q.slots 0 ≡ message_at taken s (suc q.posted)
-  next_of signs taken s q p = let e : q.posted + (0 + 1) ≡ suc q.posted = omega arith in rw e at (p.held.inside 0 (omega (arith, window_is)))
+  pub next_of : (signs : M → Bool) (taken : List (Arrived M)) (s : ℕ) (q : Series M)
+      → Pending signs taken s q → slot_at q.slots 0 ≡ message_at taken s (suc q.posted)
+  next_of signs taken s q p = let e : q.posted + (0 + 1) ≡ suc q.posted = omega arith in
+      rw e at (p.held.inside 0 (omega (arith, window_is)))
 
-  shifted : (taken : List (Arrived M)) (s : ℕ) (q : Series M) → length q.slots ≡ window → HoldsAbove taken s q → HoldsAbove taken s (counted q)
+  shifted : (taken : List (Arrived M)) (s : ℕ) (q : Series M) → length q.slots ≡ window
+      → HoldsAbove taken s q → HoldsAbove taken s (counted q)
   shifted taken s q width held = record {
     inside = λ i h.
         slot_shift q.slots i
         ∙ ⊎_elim
-        (λ lt. let e : q.posted + (suc i + 1) ≡ q.posted + 1 + (i + 1) = omega arith in rw e at (held.inside (suc i) lt))
-        (λ ge. slot_past q.slots (suc i) (omega arith) ∙ sym (held.above (q.posted + 1 + (i + 1)) (omega arith)))
+        (λ lt. let e : q.posted + (suc i + 1) ≡ q.posted + 1 + (i + 1) = omega arith in rw e at
+            (held.inside (suc i) lt))
+        (λ ge. slot_past q.slots (suc i) (omega arith)
+            ∙ sym (held.above (q.posted + 1 + (i + 1)) (omega arith)))
         (cases_lt (suc i) window);
     above = λ n h. held.above n (omega arith);
   }
 
   counted_width : (q : Series M) → length q.slots ≡ window → length (counted q).slots ≡ window
-  counted_width q width = omega (arith, window_is, width, length-append (drop 1 q.slots) (None ∷ []), length-drop 1 q.slots)
+  counted_width q width =
+      omega (arith, window_is, width, length-append (drop 1 q.slots) (None ∷ []),
+      length-drop 1 q.slots)
 
   -- one message is counted as posted
-  counted_whole : (signs : M → Bool) (taken : List (Arrived M)) (s : ℕ) (q : Series M) (m : M) → Pending signs taken s q → message_at taken s (suc q.posted) ≡ Some m → unbroken signs taken s (q.posted + 1) ≡ true
+  counted_whole : (signs : M → Bool) (taken : List (Arrived M)) (s : ℕ) (q : Series M) (m : M)
+      → Pending signs taken s q → message_at taken s (suc q.posted) ≡ Some m
+      → unbroken signs taken s (q.posted + 1) ≡ true
   counted_whole signs taken s q m p at = rw add-one (rw (p.whole, at, p.goes_on) refl)
 
-  pub pending_counted : (signs : M → Bool) (taken : List (Arrived M)) (s : ℕ) (q : Series M) (m : M) → Pending signs taken s q → slot_at q.slots 0 ≡ Some m → signs m ≡ false → Pending signs taken s (counted q)
+  pub pending_counted : (signs : M → Bool) (taken : List (Arrived M)) (s : ℕ) (q : Series M) (m : M)
+      → Pending signs taken s q → slot_at q.slots 0 ≡ Some m → signs m ≡ false
+      → Pending signs taken s (counted q)
   pending_counted signs taken s q m p here off =
-      let at : message_at taken s (suc q.posted) ≡ Some m = sym (next_of signs taken s q p) ∙ here in
+      let at : message_at taken s (suc q.posted) ≡ Some m =
+          sym (next_of signs taken s q p) ∙ here in
       record {
         whole = counted_whole signs taken s q m p at;
         goes_on = rw (add-one, at) off;
@@ -109,9 +142,12 @@ module _ {M : Type 0} where
         held = shifted taken s q p.width p.held;
       }
 
-  pub ending_counted : (signs : M → Bool) (taken : List (Arrived M)) (s : ℕ) (q : Series M) (m : M) → Pending signs taken s q → slot_at q.slots 0 ≡ Some m → signs m ≡ true → Ending signs taken s (counted q)
+  pub ending_counted : (signs : M → Bool) (taken : List (Arrived M)) (s : ℕ) (q : Series M) (m : M)
+      → Pending signs taken s q → slot_at q.slots 0 ≡ Some m → signs m ≡ true
+      → Ending signs taken s (counted q)
   ending_counted signs taken s q m p here on =
-      let at : message_at taken s (suc q.posted) ≡ Some m = sym (next_of signs taken s q p) ∙ here in
+      let at : message_at taken s (suc q.posted) ≡ Some m =
+          sym (next_of signs taken s q p) ∙ here in
       record {
         whole = counted_whole signs taken s q m p at;
         ended = rw (add-one, at) on;
@@ -119,10 +155,12 @@ module _ {M : Type 0} where
       }
 
   -- nothing more comes due
-  pub matches_pending : (signs : M → Bool) (taken : List (Arrived M)) (s : ℕ) (q : Series M) → Pending signs taken s q → slot_at q.slots 0 ≡ None → Matches signs taken s q
+  pub matches_pending : (signs : M → Bool) (taken : List (Arrived M)) (s : ℕ) (q : Series M)
+      → Pending signs taken s q → slot_at q.slots 0 ≡ None → Matches signs taken s q
   matches_pending signs taken s q p here =
       let at : message_at taken s (suc q.posted) ≡ None = sym (next_of signs taken s q p) ∙ here in
-      let k : ready signs taken s ≡ q.posted = ready_is signs taken s q.posted p.whole (stops_at_missing signs taken s q.posted at) in
+      let k : ready signs taken s ≡ q.posted =
+          ready_is signs taken s q.posted p.whole (stops_at_missing signs taken s q.posted at) in
       record {
         count = sym k;
         sign = p.sign ∙ sym (ap (ends signs taken s) k ∙ p.goes_on);
@@ -132,9 +170,12 @@ module _ {M : Type 0} where
       }
 
   -- the station is signed off
-  pub matches_closed : (signs : M → Bool) (taken : List (Arrived M)) (s : ℕ) (q : Series M) → Ending signs taken s q → Matches signs taken s (closed q)
+  pub matches_closed : (signs : M → Bool) (taken : List (Arrived M)) (s : ℕ) (q : Series M)
+      → Ending signs taken s q → Matches signs taken s (closed q)
   matches_closed signs taken s q p =
-      let k : ready signs taken s ≡ q.posted = ready_is signs taken s q.posted p.whole (stops_at_sign_off signs taken s q.posted p.ended) in
+      let k : ready signs taken s ≡ q.posted =
+          ready_is signs taken s q.posted p.whole
+          (stops_at_sign_off signs taken s q.posted p.ended) in
       record {
         count = sym k;
         sign = sym (ap (ends signs taken s) k ∙ p.ended);
@@ -144,7 +185,9 @@ module _ {M : Type 0} where
       }
 
   -- the test at a station says what looking back says
-  pub held_is_taken : (signs : M → Bool) (taken : List (Arrived M)) (s n : ℕ) (q : Series M) → Matches signs taken s q → q.posted < n → is_some (held_at q n) ≡ (not q.signed && is_some (message_at taken s n))
+  pub held_is_taken : (signs : M → Bool) (taken : List (Arrived M)) (s n : ℕ) (q : Series M)
+      → Matches signs taken s q → q.posted < n
+      → is_some (held_at q n) ≡ (not q.signed && is_some (message_at taken s n))
   held_is_taken signs taken s n q ms low =
       let lt : nat_lt q.posted n ≡ true = grind (arith, nat_tests) in
       let place : q.posted + (n - q.posted - 1 + 1) ≡ n = omega arith in
@@ -152,6 +195,7 @@ module _ {M : Type 0} where
         | inl e ↦ rw (lt, e, ms.empty e (n - q.posted - 1)) refl
         | inr e ↦ ⊎_elim
             (λ h. rw (lt, e, (ms.held e).inside (n - q.posted - 1) h, place) refl)
-            (λ h. rw (lt, e, slot_past q.slots (n - q.posted - 1) (omega (arith, ms.width)), (ms.held e).above n (omega arith)) refl)
+            (λ h. rw (lt, e, slot_past q.slots (n - q.posted - 1) (omega (arith, ms.width)),
+                (ms.held e).above n (omega arith)) refl)
             (cases_lt (n - q.posted - 1) window)
       ]

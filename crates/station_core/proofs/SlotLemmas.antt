@@ -14,10 +14,12 @@ unfolding window
 window_is = refl
 
 module _ {M : Type 0} where
-  pub slot_set_same : (xs : List (Option M)) (i : ℕ) (m : M) → i < length xs → slot_at (slice_set xs i (Some m)) i ≡ Some m
+  pub slot_set_same : (xs : List (Option M)) (i : ℕ) (m : M) → i < length xs
+      → slot_at (slice_set xs i (Some m)) i ≡ Some m
   slot_set_same xs i m h = ap (option_and_then (λ x. x)) (slice_get-set_same xs i (Some m) h)
 
-  pub slot_set_other : (xs : List (Option M)) (i j : ℕ) (m : M) → j ≢ i → slot_at (slice_set xs i (Some m)) j ≡ slot_at xs j
+  pub slot_set_other : (xs : List (Option M)) (i j : ℕ) (m : M) → j ≢ i
+      → slot_at (slice_set xs i (Some m)) j ≡ slot_at xs j
   slot_set_other xs i j m h = ap (option_and_then (λ x. x)) (slice_get-set_other xs i j (Some m) h)
 
   slot_end : (xs : List (Option M)) (i : ℕ) → slot_at (xs ++ None ∷ []) i ≡ slot_at xs i
@@ -26,7 +28,8 @@ module _ {M : Type 0} where
   slot_end (x ∷ xs) zero = refl
   slot_end (x ∷ xs) (suc i) = slot_end xs i
 
-  pub slot_shift : (xs : List (Option M)) (i : ℕ) → slot_at (drop 1 xs ++ None ∷ []) i ≡ slot_at xs (suc i)
+  pub slot_shift : (xs : List (Option M)) (i : ℕ)
+      → slot_at (drop 1 xs ++ None ∷ []) i ≡ slot_at xs (suc i)
   slot_shift [] zero = refl
   slot_shift [] (suc i) = refl
   slot_shift (x ∷ xs) i = slot_end xs i
@@ -36,7 +39,8 @@ module _ {M : Type 0} where
   slot_empty (suc n) zero = refl
   slot_empty (suc n) (suc i) = slot_empty n i
 
-  nothing_moves : (xs : List (Option M)) → ((i : ℕ) → slot_at xs i ≡ None) → None ∷ xs ≡ xs ++ None ∷ []
+  nothing_moves : (xs : List (Option M)) → ((i : ℕ) → slot_at xs i ≡ None)
+      → None ∷ xs ≡ xs ++ None ∷ []
   nothing_moves [] none = refl
   nothing_moves (x ∷ xs) none =
       ap (λ (o : Option M). None ∷ o ∷ xs) (none 0)
@@ -44,23 +48,31 @@ module _ {M : Type 0} where
       ∙ ap (λ (o : Option M). o ∷ (xs ++ None ∷ [])) (sym (none 0))
 
   -- where nothing is held behind the first place, all move up where that one is emptied
-  pub moves_alone : (xs : List (Option M)) (first : Option M) → 0 < length xs → first ≡ None → ((i : ℕ) → 0 < i → slot_at xs i ≡ None) → slice_set xs 0 first ≡ drop 1 xs ++ None ∷ []
+  pub moves_alone : (xs : List (Option M)) (first : Option M) → 0 < length xs → first ≡ None
+      → ((i : ℕ) → 0 < i → slot_at xs i ≡ None) → slice_set xs 0 first ≡ drop 1 xs ++ None ∷ []
   moves_alone [] first some none behind = absurd (omega (arith, some))
-  moves_alone (x ∷ xs) first some none behind = ap (λ (o : Option M). o ∷ xs) none ∙ nothing_moves xs (λ i. behind (suc i) (omega arith))
+  moves_alone (x ∷ xs) first some none behind =
+      ap (λ (o : Option M). o ∷ xs) none ∙ nothing_moves xs (λ i. behind (suc i) (omega arith))
 
   -- the series of a station that is there
-  pub series_at_there : (all : List (Series M)) (s : ℕ) (q : Series M) → slice_get all s ≡ Some q → series_at all s ≡ q
+  pub series_at_there : (all : List (Series M)) (s : ℕ) (q : Series M) → slice_get all s ≡ Some q
+      → series_at all s ≡ q
   series_at_there all s q h = ap (λ (o : Option (Series M)). unwrap_or o (series 0 false [])) h
 
-  pub series_at_read : (all items : List (Series M)) (s : ℕ) (q : Series M) → items ≡ all → q ≡ get_or items s q → s < length all → series_at all s ≡ q
+  pub series_at_read : (all items : List (Series M)) (s : ℕ) (q : Series M) → items ≡ all
+      → q ≡ get_or items s q → s < length all → series_at all s ≡ q
   series_at_read all items s q same read within =
       let here : s < length items = rw same within in
-      rw (← same) (series_at_there items s q (slice_get_read items (length items) s q refl here read))
+      rw (← same) (series_at_there items s q
+          (slice_get_read items (length items) s q refl here read))
 
   -- a place past the window's end
   pub slot_past : (xs : List (Option M)) (i : ℕ) → length xs ≤ i → slot_at xs i ≡ None
   slot_past xs i h = ap (option_and_then (λ x. x)) (slice_get_past xs i h)
 
   -- a ring with nothing held
-  pub fits_empty : (k h w : ℕ) (ring : Buffer (Option M)) → k ≤ LAST → h ≤ LAST → w ≡ window → ring ≡ buffer (replicate w None) w → FitsWindow k h ring
-  fits_empty k h w ring few last e same = rw same (record { count = few; last = last; width = length-replicate w None ∙ e; room = e; none_above = λ i _. slot_empty w i })
+  pub fits_empty : (k h w : ℕ) (ring : Buffer (Option M)) → k ≤ LAST → h ≤ LAST → w ≡ window
+      → ring ≡ buffer (replicate w None) w → FitsWindow k h ring
+  fits_empty k h w ring few last e same =
+      rw same (record { count = few; last = last; width = length-replicate w None ∙ e; room = e;
+      none_above = λ i _. slot_empty w i })

@@ -39,7 +39,8 @@ in_order : run signs (sends (3 ∷ 2 ∷ 1 ∷ [])) 0 ≡ sent 0 1 1 ∷ sent 0 
 in_order = refl
 
 -- 2 and 3 come due behind 1, and another station's 2 doesn't
-due_behind_1 : due (sent 0 3 3 ∷ sent 0 2 2 ∷ sent 1 2 7 ∷ sent 0 1 1 ∷ []) 0 0 3 ≡ sent 0 1 1 ∷ sent 0 2 2 ∷ sent 0 3 3 ∷ []
+due_behind_1 : due (sent 0 3 3 ∷ sent 0 2 2 ∷ sent 1 2 7 ∷ sent 0 1 1 ∷ []) 0 0 3 ≡ sent 0 1 1
+    ∷ sent 0 2 2 ∷ sent 0 3 3 ∷ []
 due_behind_1 = refl
 
 other_station : ready signs (sends (3 ∷ 2 ∷ 1 ∷ [])) 1 ≡ 0
@@ -110,7 +111,8 @@ two_held = refl
 abbrev nothing : Start
 nothing = record { posted = 0; signed = false }
 
-may_start : (s : ℕ) (start : Start) → slice_get (nothing ∷ []) s ≡ Some start → StartsFrom signs [] s start
+may_start : (s : ℕ) (start : Start) → slice_get (nothing ∷ []) s ≡ Some start
+    → StartsFrom signs [] s start
 may_start zero start h =
     let e : nothing ≡ start = cc in
     subst (λ (x : Start). StartsFrom signs [] 0 x) e (starts_empty signs 0)

@@ -1,4 +1,4 @@
-//! The series of all stations.
+//! The series of messages of all stations.
 ghost use Rattle.std.specs.Prelude.{◌≡◌, ◌+◌, ◌<◌, ◌≤◌, ◌↔◌, Bool, ℕ, List, [], ◌∷◌, ◌++◌, IfOk, IfNone, IfSome, OnSome, All, map, length, slice_set, None, Some};
 ghost use Rattle.station_core.specs.declared.TheConstants.{LAST};
 ghost use Rattle.station_core.specs.Series.{opened, refusal_of, series_at, held_at, held_count, next_held, with_held, counted, closed};
@@ -10,7 +10,8 @@ use crate::{Refusal, Start, Taken};
 use std::alloc::{AllocError, Global};
 use std::marker::Model;
 
-/// The stations of a hub, numbered from 0, each with its own series.
+/// The stations of a hub, numbered from 0, each with its own series of messages. Contracts see it
+/// as the list of these series.
 #[derive(Drop)]
 pub struct Sequences<M> {
     stations: Vec<Station<M>>,
@@ -29,14 +30,14 @@ impl<M> Model for Sequences<M> {
 }
 
 impl<M: Drop> Sequences<M> {
-    /// The stations, one for each start, with nothing held. A start has at most
-    /// [`LAST`](crate::LAST) messages posted. It takes all the memory that they need, and no later
-    /// call takes any; its only fault is that there isn't enough.
+    /// Makes one station for each start, with nothing held. No start may have more than
+    /// [`LAST`](crate::LAST) messages posted. Takes all the memory that the stations need; no later
+    /// call takes any. Fails with `AllocError` if there isn't enough.
     pub fn new(alloc: Global, starts: &[Start]) -> Result<Self, AllocError>
         requires { All (λ s. s.posted ≤ LAST) starts.now }
         ensures opened { IfOk result (λ all. all ≡ map opened starts.now) }
 
-        // Where the starts are those of a list of what was taken, the stations hold that list.
+        // If the starts fit a list of taken messages, the stations agree with that list.
         ensures taken { IfOk result (λ all.
             (signs : M → Bool) (taken : List (Arrived M)) →
             AllStart signs taken starts.now → AllMatch signs taken all) }
@@ -48,19 +49,19 @@ impl<M: Drop> Sequences<M> {
         Ok(Sequences { stations })
     }
 
-    /// How many stations there are.
+    /// The number of stations.
     pub fn len(&self) -> usize
         ensures { result ≡ length self.now }
     {
         self.stations.len()
     }
 
-    /// Why message `n` of station `s` isn't taken: the first refusal that holds, or `None`. Any `s`
-    /// and `n` may be asked.
+    /// Returns the first reason to refuse message `n` of station `s`, or `None` if it can be taken.
+    /// Accepts any `s` and `n`.
     pub fn test(&self, s: u32, n: u64) -> Option<Refusal>
         ensures table { result ≡ refusal_of self.now s n }
 
-        // It is what looking back through the list of what was taken says.
+        // The answer is that of looking back through the list of all messages taken.
         ensures taken { (signs : M → Bool) (taken : List (Arrived M)) →
             AllMatch signs taken self.now → result ≡ refusal signs (length self.now) taken s n }
     {
@@ -70,15 +71,15 @@ impl<M: Drop> Sequences<M> {
         }
     }
 
-    /// Holds message `n` of station `s`, which [`test`](Self::test) doesn't refuse. It is `Ready`
-    /// where it is the station's next.
+    /// Takes message `n` of station `s` and holds it. [`test`](Self::test) must not refuse it.
+    /// Returns `Ready` if it is the station's next message, otherwise `Held`.
     pub fn take(&mut self, s: u32, n: u64, message: M) -> Taken
         requires { refusal_of self.old s n ≡ None }
         ensures held { self.new
             ≡ slice_set self.old s (with_held (series_at self.old s) n message) }
         ensures ready { result ≡ Taken.Ready ↔ (n ≡ (series_at self.old s).posted + 1) }
 
-        // The list has it at its end, and what comes due of station `s` isn't posted yet.
+        // The message is at the end of the list, and messages of station `s` may be due.
         ensures taken { (signs : M → Bool) (taken : List (Arrived M)) →
             AllMatch signs taken self.old →
             IsPosting signs (taken ++ arrived s n message ∷ []) s self.new }
@@ -86,9 +87,9 @@ impl<M: Drop> Sequences<M> {
         self.stations[s as usize].take(n, message)
     }
 
-    /// The next message of station `s` with its number, where it is held; it counts as posted from
-    /// then on, and what is held under later numbers stays. `None` changes nothing. There is a
-    /// station `s`.
+    /// Returns the next message of station `s` and its number, if that message is held, and counts
+    /// it as posted. Messages held under later numbers stay. After `None`, nothing has changed.
+    /// Station `s` must exist.
     pub fn next_due(&mut self, s: u32) -> Option<(u32, M)>
         requires { s < length self.old }
         ensures none { IfNone result (
@@ -101,8 +102,8 @@ impl<M: Drop> Sequences<M> {
         ensures stays { OnSome result ((n : ℕ) → (series_at self.old s).posted + 1 < n →
             held_at (series_at self.new s) n ≡ held_at (series_at self.old s) n) }
 
-        // It is the message that was taken under that number; after the last, all is posted that
-        // is ready.
+        // It is the message taken under that number. After the last one, all that are ready are
+        // posted.
         ensures due { IfSome result (λ d.
             (signs : M → Bool) (taken : List (Arrived M)) →
             IsPosting signs taken s self.old → ComesDue signs taken s d.0 d.1 self.new) }
@@ -113,20 +114,21 @@ impl<M: Drop> Sequences<M> {
         self.stations[s as usize].next_due()
     }
 
-    /// Signs station `s` off, and gives up what it held. There is a station `s`.
+    /// Signs station `s` off, and drops the messages that it holds. Its posted count stays. Station
+    /// `s` must exist.
     pub fn sign_off(&mut self, s: u32)
         requires { s < length self.old }
         ensures closed { self.new ≡ slice_set self.old s (closed (series_at self.old s)) }
 
-        // After its sign-off came due, the stations hold what was taken.
+        // If its sign-off came due last, the stations agree with the list again.
         ensures taken { (signs : M → Bool) (taken : List (Arrived M)) →
             IsEnding signs taken s self.old → AllMatch signs taken self.new }
     {
         self.stations[s as usize].sign_off()
     }
 
-    /// How many messages of station `s` are posted, which is the last posted number. There is a
-    /// station `s`.
+    /// The number of posted messages of station `s`, which is its last posted number. Station `s`
+    /// must exist.
     pub fn posted_count(&self, s: u32) -> u32
         requires { s < length self.now }
         ensures count { result ≡ (series_at self.now s).posted }
@@ -135,8 +137,8 @@ impl<M: Drop> Sequences<M> {
         self.stations[s as usize].posted_count()
     }
 
-    /// How many messages of station `s` are held: taken, and waiting for a number below them. There
-    /// is a station `s`.
+    /// The number of messages that station `s` holds: taken, and waiting for a lower number.
+    /// Station `s` must exist.
     pub fn held_count(&self, s: u32) -> usize
         requires { s < length self.now }
         ensures { result ≡ held_count (series_at self.now s) }
@@ -144,7 +146,7 @@ impl<M: Drop> Sequences<M> {
         self.stations[s as usize].held_count()
     }
 
-    /// Whether station `s` is signed off. There is a station `s`.
+    /// Whether station `s` has signed off. Station `s` must exist.
     pub fn is_signed(&self, s: u32) -> bool
         requires { s < length self.now }
         ensures { result ≡ (series_at self.now s).signed }

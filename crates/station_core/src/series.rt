@@ -8,8 +8,8 @@ use circular_buffer::HeapCircularBuffer;
 use std::alloc::{AllocError, Global};
 use std::marker::Model;
 
-/// One station. Its ring is always full: place `i` is that of number `posted + 1 + i`. Nothing is held
-/// above `highest`.
+/// One station. Its ring is always full: slot `i` is for number `posted + 1 + i`. Nothing is held
+/// above `highest`, so the ring has to move only if something is held after the next message.
 #[derive(Drop)]
 pub struct Station<M> {
     posted: u32,
@@ -31,7 +31,7 @@ impl<M> Model for Station<M> {
 }
 
 impl<M: Drop> Station<M> {
-    /// A station as it starts, with nothing held. It takes all its memory here.
+    /// A station at its start, with nothing held. Takes all its memory. Fails with `AllocError`.
     #[tactic(auto, using(crate::proofs::SlotLemmas::window_is))]
     pub fn new(alloc: Global, start: Start) -> Result<Self, AllocError>
         requires { start.posted ≤ LAST }
@@ -47,7 +47,7 @@ impl<M: Drop> Station<M> {
         })
     }
 
-    /// How many messages are posted.
+    /// The number of posted messages.
     pub fn posted_count(&self) -> u32
         ensures count { result ≡ self.now.posted }
         ensures within { result ≤ LAST }
@@ -62,14 +62,15 @@ impl<M: Drop> Station<M> {
         self.signed
     }
 
-    /// How many messages are held.
+    /// The number of held messages.
     pub fn held_count(&self) -> usize
         ensures { result ≡ held_count self.now }
     {
         self.slots.iter().filter(|slot| slot.is_some()).count()
     }
 
-    /// The first refusal of number `n` that holds.
+    /// Returns the first of `BadNumber`, `Double`, `SignedOff` and `TooEarly` that applies to
+    /// number `n`, or `None`.
     #[tactic(auto, using(crate::proofs::SlotLemmas::window_is))]
     pub fn test(&self, n: u64) -> Option<Refusal>
         ensures { result ≡ refusal_at self.now n }
@@ -90,7 +91,8 @@ impl<M: Drop> Station<M> {
         None
     }
 
-    /// Holds a message.
+    /// Holds message `n`, which [`test`](Self::test) must not refuse. Returns `Ready` if it is the
+    /// next message, otherwise `Held`.
     pub fn take(&mut self, n: u64, message: M) -> Taken
         requires { refusal_at self.old n ≡ None }
         ensures held { self.new ≡ with_held self.old n message }
@@ -102,7 +104,8 @@ impl<M: Drop> Station<M> {
         if i == 0 { Taken::Ready } else { Taken::Held }
     }
 
-    /// The next message, where it is held; it counts as posted from then on.
+    /// Returns the next message and its number, if it is held, and counts it as posted. After
+    /// `None`, nothing has changed.
     pub fn next_due(&mut self) -> Option<(u32, M)>
         ensures none { IfNone result ((next_held self.old ≡ None) × (self.new ≡ self.old)) }
         ensures message { IfSome result (λ d. next_held self.old ≡ Some d.1) }
@@ -120,7 +123,7 @@ impl<M: Drop> Station<M> {
         Some((self.posted, message))
     }
 
-    /// Signs the station off, and gives up what it held.
+    /// Signs the station off, and drops the messages that it holds.
     pub fn sign_off(&mut self)
         ensures { self.new ≡ closed self.old }
     {
@@ -130,7 +133,7 @@ impl<M: Drop> Station<M> {
     }
 }
 
-/// Fills an empty ring with places where nothing is held.
+/// Fills an empty ring with empty slots.
 fn fill_empty<M: Drop>(slots: &mut HeapCircularBuffer<Option<M>>)
     requires { slots.old.items ≡ [] }
     ensures { slots.new ≡ buffer (replicate slots.old.capacity None) slots.old.capacity }
@@ -140,8 +143,8 @@ fn fill_empty<M: Drop>(slots: &mut HeapCircularBuffer<Option<M>>)
     }
 }
 
-/// Takes what is in the first place of a full ring, and moves all others up. Where it is the last one that is held,
-/// nothing has to move.
+/// Takes the message out of the first slot of a full ring, and moves the other slots up. If
+/// `is_last`, the others are all empty and nothing has to move.
 fn take_first<M: Drop>(slots: &mut HeapCircularBuffer<Option<M>>, is_last: bool) -> Option<M>
     requires some { 0 < length slots.old.items }
     requires full { length slots.old.items ≡ slots.old.capacity }
@@ -152,11 +155,11 @@ fn take_first<M: Drop>(slots: &mut HeapCircularBuffer<Option<M>>, is_last: bool)
     if is_last {
         return slots.get_mut(0)?.take();
     }
-    // A place at its end pushes the first one out.
+    // The ring is full, so an empty slot at its end pushes the first one out.
     slots.push_back(None)?
 }
 
-/// Holds a message in a place of a ring.
+/// Puts a message into slot `i` of a ring.
 fn put<M: Drop>(slots: &mut HeapCircularBuffer<Option<M>>, i: usize, message: M)
     requires { i < length slots.old.items }
     ensures { slots.new ≡ buffer (slice_set slots.old.items i (Some message)) slots.old.capacity }

@@ -1,5 +1,12 @@
-//! Closes connections to databases in memory: the drop of one is proved here once, for every test that
-//! opens one.
+//! Closes connections to databases in memory, for tests.
+//!
+//! The crate is separate so that the drop of a connection is proved once, here, and not again in
+//! every test that opens one. It has one function, [`shut_in_memory`], and promises only that it is
+//! safe.
+//!
+//! ```text
+//! shut_in_memory(register.into_connection());
+//! ```
 #![tactic(auto)]
 
 use sqlite::{Connection, MemStore};

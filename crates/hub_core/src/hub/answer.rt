@@ -1,4 +1,4 @@
-//! What a station sends, and what it gets back.
+//! The messages that stations send to the hub, and its answers.
 
 use nest_core::{PlaceNo, StationNo, ThingNos};
 use posting_core::Message;
@@ -14,33 +14,38 @@ pub struct Arrival {
     pub message: Message,
 }
 
-/// What the hub says to an arrival: why it isn't taken, that it waits for a number below it, or the numbers, from 1,
-/// of the first and the last entry that were posted.
+/// The hub's answer to an arrival.
 #[derive(Clone, Copy, Debug, PartialEq, Eq)]
 pub enum Answer {
+    /// The message isn't taken, for this reason.
     Refused(Refusal),
+    /// The message is taken, and waits for one with a lower number.
     Held,
+    /// Entries were posted: the numbers of the first and the last, from 1.
     Posted { first: u64, last: u64 },
 }
 
-/// Where a thing is: no thing of the setup, never placed, or at a place in the containers above it, innermost first.
+/// Where a thing is.
 #[derive(Debug, Drop)]
 pub enum Where {
+    /// The setup doesn't have the thing.
     UnknownThing,
+    /// The thing was never placed.
     Unplaced,
+    /// The thing is at this place, in these containers, innermost first.
     At { place: PlaceNo, chain: ThingNos },
 }
 
-/// Why the hub gives no answer. A hub that is down answers Down, whatever else holds.
+/// Why the hub returns no answer. A hub that is down always returns Down.
 #[derive(Clone, Copy, Debug, PartialEq, Eq, Error)]
 pub enum HubFault {
-    /// A growth was refused.
+    /// A request for memory was refused.
     #[error("out of memory")]
     NoMemory,
-    /// The register's store refused, for another cause than memory.
-    #[error("the store refused")]
+    /// The register's store failed, for another reason than memory.
+    #[error("the store failed")]
     Store,
-    /// The hub has met a fault before, and answers nothing since.
+    /// The hub met a fault earlier.
     #[error("the hub is down")]
     Down,
 }

@@ -1,4 +1,4 @@
-//! The opening of a hub over what a register has.
+//! Opens a hub over what a register has.
 ghost use Rattle.std.specs.Prelude.{◌≡◌, [], true, length, OnOk, IfOk, IfErr};
 ghost use Rattle.register_store.specs.StoredRows.{AreSame, HasRows, IsBoundTo};
 ghost use Rattle.register_store.specs.Registers.{CountsRefusal};
@@ -12,7 +12,8 @@ use register_store::{Register, StoreFault};
 use station_core::Sequences;
 use std::alloc::Global;
 
-/// The stations and the ledger of a hub over what the register has.
+/// Returns the stations and the ledger of a hub over what the register has. Faults: those of
+/// `Hub::open`.
 pub(crate) fn prepare<R: Register>(
     alloc: Global,
     setup: Setup,
@@ -36,7 +37,8 @@ pub(crate) fn prepare<R: Register>(
     }
 }
 
-/// Binds the register to the setup, and makes a ledger of it with the register's depth limit and nothing posted.
+/// Binds the register to the setup, and makes an empty ledger with the setup and the register's
+/// depth limit.
 fn bound<R: Register>(alloc: Global, setup: Setup, register: &mut R) -> Result<Ledger, StoreFault>
     ensures new { IfOk result (λ ledger. (ledger.museum ≡ setup) × (ledger.posted ≡ [])) }
     ensures bound { IfOk result
@@ -59,8 +61,8 @@ fn bound<R: Register>(alloc: Global, setup: Setup, register: &mut R) -> Result<L
     }
 }
 
-/// Posts again in a new ledger what the register has, compares its rows with the ledger's, and answers the stations as
-/// they go on.
+/// Posts the register's entries again in a new ledger, compares its rows with the ledger's, and
+/// returns the stations as they go on.
 fn restore<R: Register>(
     alloc: Global,
     ledger: &mut Ledger,
@@ -84,7 +86,8 @@ fn restore<R: Register>(
     Ok(Sequences::new(alloc, &starts)?)
 }
 
-/// Compares the register's rows with those of the ledger.
+/// Compares the register's rows of spots, loan lines and last days with those of the ledger.
+/// Damaged(0) if they differ.
 fn compare<R: Register>(alloc: Global, ledger: &Ledger, register: &mut R) -> Result<(), StoreFault>
     requires { R.is_bound register.old ≡ true }
     ensures rows { OnOk result

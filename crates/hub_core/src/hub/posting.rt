@@ -1,4 +1,4 @@
-//! The posting of what is due.
+//! Posts the messages that are due.
 ghost use Rattle.std.specs.Prelude.{◌≡◌, ◌<◌, ◌⊎◌, false, true, length, OnOk, OnErr, IfErr};
 ghost use Rattle.posting_core.specs.Messages.{is_sign_off};
 ghost use Rattle.posting_core.specs.Book.{changes_of};
@@ -18,7 +18,7 @@ use register_store::{Register, StoreFault};
 use station_core::Sequences;
 use std::alloc::Global;
 
-/// Posts what is due at a station, one message after the other; a sign-off is the last.
+/// Posts what is due at a station, one message after another, up to a sign-off.
 pub(crate) fn post_due<R: Register>(
     alloc: Global,
     sequences: &mut Sequences<Message>,
@@ -89,7 +89,8 @@ fn post_next<R: Register>(
     post_entry(alloc, ledger, register, &entry, &changes)
 }
 
-/// Posts an entry with what it changes, first in the register and then in the ledger.
+/// Posts an entry with its changes, first in the register and then in the ledger. If the register
+/// fails, the ledger stays as it was.
 fn post_entry<R: Register>(
     alloc: Global,
     ledger: &mut Ledger,
@@ -118,7 +119,7 @@ fn post_entry<R: Register>(
     Ok(())
 }
 
-/// A register's fault, as the hub tells it.
+/// Converts a register's fault. Only NoMemory and Store come from posting.
 fn hub_fault(fault: StoreFault) -> HubFault
     requires { is_failure fault ≡ true }
     ensures { result ≡ hub_fault fault }
@@ -129,7 +130,7 @@ fn hub_fault(fault: StoreFault) -> HubFault
     }
 }
 
-/// Whether a message signs off.
+/// Whether the message is a sign-off.
 pub(crate) fn is_sign_off(message: &Message) -> bool
     ensures { result ≡ is_sign_off message.now }
 {

@@ -1,4 +1,4 @@
-//! The posting again of what a register has, each entry judged anew.
+//! Posts the entries of a register again, judging each one.
 ghost use Rattle.std.specs.Prelude.{◌≡◌, ◌+◌, ◌∷◌, [], false, length, reverse, replicate, map, OnOk, IfOk, IfErr};
 ghost use Rattle.std.specs.Bool.{Decides};
 ghost use Rattle.std.specs.List.{slice_get};
@@ -16,8 +16,9 @@ use register_store::StoreFault;
 use station_core::{LAST, Start};
 use std::alloc::Global;
 
-/// Posts these entries in a new ledger, each judged again after those before it, and answers how each station goes on
-/// from them. Damaged(i) for the first, from 1, whose station, number or verdict isn't what the rules give; or NoMemory.
+/// Posts these entries in a new ledger, each judged again after those before it, and returns how
+/// each station goes on. Faults: Damaged(i) for the first entry, counted from 1, whose station,
+/// number or verdict isn't the one that the rules give; NoMemory.
 pub(crate) fn judged(
     alloc: Global,
     ledger: &mut Ledger,
@@ -68,7 +69,8 @@ fn judge_next(
     Ok(())
 }
 
-/// Posts an entry in the ledger, where its verdict is what the rules give; its station may send its number.
+/// Posts an entry in the ledger if its verdict is the one that the rules give. The caller has
+/// checked that its station may send its number.
 fn post_again(alloc: Global, ledger: &mut Ledger, entry: &Entry) -> Result<(), StoreFault>
     requires { Follows ledger.old.museum ledger.old.depth ledger.old.posted
         (entry_of ledger.old.museum ledger.old.depth ledger.old.posted (arrival_of entry.now)) }
@@ -84,7 +86,7 @@ fn post_again(alloc: Global, ledger: &mut Ledger, entry: &Entry) -> Result<(), S
     post_same(alloc, ledger, entry, &changes)
 }
 
-/// Posts an entry with what it changes in the ledger, where its verdict is theirs.
+/// Posts an entry with its changes in the ledger if its verdict is that of the changes.
 fn post_same(
     alloc: Global,
     ledger: &mut Ledger,
@@ -116,7 +118,7 @@ fn next_number(ledger: &Ledger) -> u64
     ledger.posted().len() as u64 + 1
 }
 
-/// Whether a station may send this number next.
+/// Whether the station may send this number next.
 fn may_send(starts: &[Start], station: usize, n: u32) -> bool
     ensures { result ≡ may_send (slice_get starts.now station) n }
 {

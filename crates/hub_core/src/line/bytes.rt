@@ -1,4 +1,4 @@
-//! The bytes of a line: where it is cut from its input, and what is kept of it.
+//! Cuts lines from the input, and keeps the bytes of a line up to a limit.
 ghost use Rattle.std.specs.Prelude.{◌≡◌, ◌≢◌, ◌<◌, ◌≤◌, ◌⊎◌, ◌+◌, ◌++◌, ◌∷◌, [], List, ℕ, take, length, IfOk, IfErr, OnOk, OnErr};
 ghost use Rattle.std.specs.Io.KnownBytes.{Keeps};
 ghost use Rattle.hub_core.specs.Lines.{without_return};
@@ -8,10 +8,11 @@ use crate::ReplayFault;
 use memchr::memchr;
 use std::io::{BufRead, ErrorKind, Write};
 
-/// How many bytes of a line are kept: one more than a line may have with a carriage return at its end.
+/// How many bytes of a line are kept: one more than the longest line with a carriage return at its
+/// end. That is enough to see that a line is too long.
 const MOST_KEPT: usize = 16_386;
 
-/// Where a piece of a line ends: at the line's line feed, at the end of the input, or before either.
+/// Where a piece of a line ends: at the line feed, at the end of the input, or before either.
 #[derive(Clone, Copy, Debug, PartialEq, Eq)]
 pub(crate) enum End {
     Feed,
@@ -19,7 +20,8 @@ pub(crate) enum End {
     Open,
 }
 
-/// How many reads are left, and how many bytes the last one showed that are not taken yet: these come without waiting.
+/// The number of reads that are left, and the number of bytes that the last read showed and that
+/// aren't taken yet. Those bytes can be taken without waiting.
 #[derive(Clone, Copy, Debug)]
 pub(crate) struct Reads {
     pub left: u32,
@@ -38,8 +40,9 @@ impl Reads {
     }
 }
 
-/// Reads the next line, and tells whether a line feed ended it; else the input did. Of its bytes the first MOST_KEPT
-/// are kept. Before a read that may wait the output is flushed.
+/// Reads the next line, and returns true if a line feed ended it, false if the input did. Only the
+/// first MOST_KEPT of its bytes are kept. The output is flushed before each read that may wait.
+/// Faults: WriteFailed; ReadFailed, also if no reads are left; NoMemory.
 pub(crate) fn next_line<R: BufRead, W: Write>(
     input: &mut R,
     output: &mut W,
@@ -66,7 +69,7 @@ pub(crate) fn next_line<R: BufRead, W: Write>(
     Err(ReplayFault::ReadFailed)
 }
 
-/// Hands on what was written.
+/// Flushes the output.
 pub(crate) fn flush<W: Write>(output: &mut W) -> Result<(), ReplayFault>
     ensures kept { Keeps (W.contents output.old) (W.contents output.new) }
     ensures cause { IfErr result (λ fault. fault ≡ ReplayFault.WriteFailed) }
@@ -77,7 +80,7 @@ pub(crate) fn flush<W: Write>(output: &mut W) -> Result<(), ReplayFault>
     }
 }
 
-/// Hands on what was written, unless so many bytes come without waiting.
+/// Flushes the output, unless bytes are ahead: then the next read doesn't wait.
 fn flush_before_wait<W: Write>(output: &mut W, ahead: usize) -> Result<(), ReplayFault>
     ensures kept { Keeps (W.contents output.old) (W.contents output.new) }
     ensures cause { IfErr result (λ fault. fault ≡ ReplayFault.WriteFailed) }
@@ -88,7 +91,9 @@ fn flush_before_wait<W: Write>(output: &mut W, ahead: usize) -> Result<(), Repla
     flush(output)
 }
 
-/// Takes what one read shows of a line, through its line feed. Of the line's bytes the first `most` are kept.
+/// Takes what one read shows of a line, up to its line feed. Only the first `most` bytes of the
+/// line are kept. An interrupted read takes nothing and isn't a fault. Faults: ReadFailed;
+/// NoMemory.
 pub(crate) fn take_piece<R: BufRead>(
     input: &mut R,
     reads: &mut Reads,
@@ -131,7 +136,7 @@ pub(crate) fn take_piece<R: BufRead>(
     Ok(end)
 }
 
-/// How many bytes stand before the first line feed, or how many there are.
+/// Returns the number of bytes before the first line feed, or of all bytes if there is none.
 pub fn feed_at(bytes: &[u8]) -> usize
     ensures within { result ≤ length bytes.now }
     ensures before { HasNoFeed (take result bytes.now) }
@@ -141,7 +146,7 @@ pub fn feed_at(bytes: &[u8]) -> usize
     memchr(b'\n', bytes).unwrap_or(bytes.len())
 }
 
-/// Keeps more bytes of a line, as far as there is room.
+/// Keeps more bytes of a line, as long as there is room.
 fn keep(line: &mut Vec<u8>, most: usize, piece: &[u8]) -> Result<(), ReplayFault>
     ensures kept { OnOk result
         ((bytes : List ℕ) → line.old.items ≡ take most bytes
@@ -156,7 +161,7 @@ fn keep(line: &mut Vec<u8>, most: usize, piece: &[u8]) -> Result<(), ReplayFault
     Ok(())
 }
 
-/// The line without the one carriage return at its end, if it has one.
+/// Returns the line without the carriage return at its end, if it has one. Only one is dropped.
 pub fn without_return(line: &[u8]) -> &[u8]
     ensures { result.now ≡ without_return line.now }
 {

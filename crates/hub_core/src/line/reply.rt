@@ -1,4 +1,4 @@
-//! What is said to a line.
+//! Acts on a line, and makes the reply.
 ghost use Rattle.std.specs.Prelude.{◌≡◌, ◌≤◌, ◌<◌, ◌||◌, ◌∷◌, ◌++◌, [], false, true, length, string_bytes, string_capacity, IsOk, IfErr, IfOk, IfSome, OnOk};
 ghost use Rattle.hub_core.specs.Points.{reply, whereabouts};
 ghost use Rattle.hub_core.specs.Requests.{line_in};
@@ -19,26 +19,26 @@ use nest_core::StationNo;
 use register_store::{ReadFault, Register};
 use std::alloc::Global;
 
-/// The most bytes of a line, without its line feed and a carriage return before it.
+/// The most bytes of a line, not counting its line feed and a carriage return before it.
 pub const LONGEST_LINE: usize = 16_384;
 
-/// The reply to a line, by value.
+/// The reply to a line, as a value.
 #[derive(Clone, Copy, Debug, PartialEq, Eq)]
 pub(crate) enum Reply {
-    /// None: the line is empty.
+    /// No reply: the line is empty.
     Empty,
     /// The line is faulty or too long.
     Bad,
     /// The setup doesn't have the line's station.
     UnknownStation,
-    /// What the hub answers to a message.
+    /// The hub's answer to a message.
     Answered(Answer),
     /// Where a thing is.
     Asked,
 }
 
-/// Does what a line asks, and makes the text the reply to it, which is empty for an empty line. The line is the
-/// `number`-th, from 1. After a fault the hub has taken the line's arrival or not, or it is down, stopped in that.
+/// Acts on line `number`, counted from 1, and sets the text to the reply. An empty line has none.
+/// After a fault the hub has taken the line's arrival or not, or it is down and was stopped at it.
 pub(crate) fn reply_to<S: Register>(
     alloc: Global,
     scratch: &mut Scratch,
@@ -54,7 +54,7 @@ pub(crate) fn reply_to<S: Register>(
         (line_arrivals hub.old.book.museum line.now) result }
     ensures outcomes { HasOutcomes S.holding hub.old hub.new.book.posted
         (λ O A. line_outcomes hub.old.book.museum hub.old.book.depth O A line.now) result }
-    // What isn't read meets no fault.
+    // An empty line, or one that is too long, meets no fault.
     ensures unread { (is_empty line.now || is_too_long line.now) ≡ true → IsOk result }
     ensures capacity { string_capacity text.old ≤ string_capacity text.new }
 {
@@ -69,7 +69,7 @@ pub(crate) fn reply_to<S: Register>(
     read_reply(alloc, scratch, number, line, hub, text)
 }
 
-/// The same for a line that is neither empty nor too long, behind what stands in the text.
+/// The same for a line that is neither empty nor too long. The reply is appended to the text.
 fn read_reply<S: Register>(
     alloc: Global,
     scratch: &mut Scratch,
@@ -100,7 +100,7 @@ fn read_reply<S: Register>(
     }
 }
 
-/// The reply to a line without fault.
+/// Appends the reply to a line without a fault.
 fn request_reply<S: Register>(
     alloc: Global,
     number: u64,
@@ -133,7 +133,7 @@ fn request_reply<S: Register>(
     }
 }
 
-/// Does what a station asks, and appends the reply.
+/// Acts on a station's request, and appends the reply.
 fn station_reply<S: Register>(
     alloc: Global,
     station: StationNo,
@@ -168,7 +168,7 @@ fn station_reply<S: Register>(
     }
 }
 
-/// Hands an arrival to the hub, and appends the reply.
+/// Passes an arrival to the hub, and appends the reply.
 fn scan_reply<S: Register>(
     alloc: Global,
     arrival: Arrival,
@@ -184,7 +184,7 @@ fn scan_reply<S: Register>(
         (arrival ∷ []) result }
     ensures outcomes { HasOutcomes S.holding hub.old hub.new.book.posted
         (λ O A. arrival_outcomes hub.old.book.museum hub.old.book.depth O A arrival) result }
-    // What is refused or held meets no fault.
+    // A message that is refused or held meets no fault.
     ensures fails { FailsOnlyWhere S.holding hub.old
         (λ O A. is_posted (reply hub.old.book.museum hub.old.book.depth O A arrival)) result }
     ensures capacity { string_capacity text.old ≤ string_capacity text.new }
@@ -201,7 +201,7 @@ fn scan_reply<S: Register>(
     }
 }
 
-/// Appends the reply to the question where a thing is.
+/// Appends the answer to the question where a thing is.
 fn question_reply<S: Register>(
     alloc: Global,
     station: StationNo,

@@ -1,4 +1,4 @@
-//! Lines read: what a station asks by one.
+//! Reads the request of a line.
 ghost use Rattle.std.specs.Prelude.{◌≡◌, ◌≢◌, ◌<◌, length, true, Ok, Err, IfOk, IfErr, IfSome, MatchResult};
 ghost use Rattle.serde_json.specs.Find.{get};
 ghost use Rattle.register_store.specs.Spelling.{key_name};
@@ -12,23 +12,30 @@ use posting_core::Message;
 use register_store::{Key, ReadFault, message_in, string_at, thing_at, value_at};
 use std::alloc::Global;
 
-/// What a line asks: to take a message under a number, or where a thing is.
+/// The request of a line.
 #[derive(Drop)]
 pub enum Request {
+    /// Take a message, which has this number at its station.
     Scan { n: u64, message: Message },
+    /// Return where the thing with this code is.
     Ask { code: ThingCode },
 }
 
-/// A line without fault: the station that it names, if the setup has it, and what it asks.
+/// A line without a fault: its station, if the setup has it, and its request.
 #[derive(Drop)]
 pub struct Line {
     pub station: Option<StationNo>,
     pub request: Request,
 }
 
-/// What the bytes of a line ask, else their first fault: NotJson; Missing or BadField of the station; of a question
-/// BadField of what it asks; of a scan Missing and BadField of the number, then of the message, then the message's
-/// own. NoMemory may stand in place of any answer.
+/// Reads a line, or returns its first fault, in this order:
+/// - NotJson;
+/// - Missing or BadField of the station;
+/// - of a question, BadField of `ask`;
+/// - of a message, Missing or BadField of `n`, then of `message`, then the message's own fault.
+///
+/// NoMemory can come instead of any result. The station may be any string; `Line` has None if the
+/// setup doesn't have it.
 pub fn read_line(alloc: Global, setup: &Setup, bytes: &[u8]) -> Result<Line, ReadFault>
     ensures exact { MatchResult result (λ line. line_in setup.now bytes.now ≡ Ok line)
         (λ fault. fault ≢ ReadFault.NoMemory → line_in setup.now bytes.now ≡ Err fault) }
@@ -38,7 +45,7 @@ pub fn read_line(alloc: Global, setup: &Setup, bytes: &[u8]) -> Result<Line, Rea
     read_line_with(alloc, &mut Scratch::new(alloc), setup, bytes)
 }
 
-/// The same, with a scratch that serves one line after the other.
+/// Like [`read_line`], with memory that is used for one line after another.
 pub fn read_line_with(
     alloc: Global,
     scratch: &mut Scratch,
@@ -57,8 +64,8 @@ pub fn read_line_with(
     }
 }
 
-/// What the bytes of a line ask, whatever its station, else their first fault: NotJson; then that of what they ask, as
-/// `read_line` tells it. NoMemory may stand in place of any answer.
+/// Reads the request of a line, whatever its station, or returns its first fault: NotJson, then the
+/// request's, in the order of [`read_line`]. NoMemory can come instead of any result.
 pub fn read_request(alloc: Global, bytes: &[u8]) -> Result<Request, ReadFault>
     ensures exact { MatchResult result (λ request. request_in bytes.now ≡ Ok request)
         (λ fault. fault ≢ ReadFault.NoMemory → request_in bytes.now ≡ Err fault) }
@@ -66,7 +73,8 @@ pub fn read_request(alloc: Global, bytes: &[u8]) -> Result<Request, ReadFault>
     read_request_with(alloc, &mut TokenScratch::new(alloc), bytes)
 }
 
-/// The same, with a scratch that serves one line after the other, and can go to another thread.
+/// Like [`read_request`], with memory that is used for one line after another, and that can go to
+/// another thread.
 pub fn read_request_with(
     alloc: Global,
     scratch: &mut TokenScratch,
@@ -82,7 +90,8 @@ pub fn read_request_with(
     }
 }
 
-/// What a value asks, if it is an object; NoMemory only where its message is of a kind that keeps a name or a list.
+/// Reads the request of a value. NotJson if it isn't an object. NoMemory comes only for a message
+/// of a kind that keeps a name or a list.
 fn object_of<V: Fields>(alloc: Global, value: &V) -> Result<Request, ReadFault>
     ensures exact { MatchResult result (λ request. object_of (V.seen value.now) ≡ Ok request)
         (λ fault. fault ≢ ReadFault.NoMemory → object_of (V.seen value.now) ≡ Err fault) }
@@ -95,7 +104,8 @@ fn object_of<V: Fields>(alloc: Global, value: &V) -> Result<Request, ReadFault>
     request_of(alloc, value)
 }
 
-/// What a value asks, and of which station; NoMemory only where its message is of a kind that keeps a name or a list.
+/// Reads the station and the request of a value. Faults: NotJson, then the station's, then those of
+/// the request. NoMemory comes only for a message of a kind that keeps a name or a list.
 fn line_of<V: Fields>(alloc: Global, setup: &Setup, value: &V) -> Result<Line, ReadFault>
     ensures exact { MatchResult result (λ line. line_of setup.now (V.seen value.now) ≡ Ok line)
         (λ fault. fault ≢ ReadFault.NoMemory → line_of setup.now (V.seen value.now) ≡ Err fault) }
@@ -112,7 +122,7 @@ fn line_of<V: Fields>(alloc: Global, setup: &Setup, value: &V) -> Result<Line, R
     Ok(Line { station, request })
 }
 
-/// What an object asks.
+/// Reads the request of an object.
 fn request_of<V: Fields>(alloc: Global, object: &V) -> Result<Request, ReadFault>
     ensures exact { MatchResult result (λ request. request_of (V.seen object.now) ≡ Ok request)
         (λ fault. fault ≢ ReadFault.NoMemory → request_of (V.seen object.now) ≡ Err fault) }
@@ -128,7 +138,7 @@ fn request_of<V: Fields>(alloc: Global, object: &V) -> Result<Request, ReadFault
     Ok(Request::Scan { n, message })
 }
 
-/// The number of a message, else Missing or BadField.
+/// Reads a message's number. Faults: Missing, BadField.
 fn number_of<V: Fields>(object: &V) -> Result<u64, ReadFault>
     ensures exact { MatchResult result
         (λ n. number_from (get (key_name Key.N) (V.seen object.now)) ≡ Ok n)
@@ -140,7 +150,7 @@ fn number_of<V: Fields>(object: &V) -> Result<u64, ReadFault>
         .ok_or(ReadFault::BadField(Key::N))
 }
 
-/// The message of an object, else Missing or BadField of its key, or the message's own fault.
+/// Reads an object's message. Faults: Missing, BadField, then the message's own.
 fn message_at<V: Fields>(alloc: Global, object: &V) -> Result<Message, ReadFault>
     ensures exact { MatchResult result
         (λ message. message_from (get (key_name Key.Message) (V.seen object.now)) ≡ Ok message)

@@ -1,4 +1,5 @@
-//! The words of all replies, each a line with its line feed, appended to a text.
+//! The words of all replies. Each is a line with its line feed, appended to a text. If memory runs
+//! out, the text may end with a part of the line.
 ghost use Rattle.std.specs.Prelude.{◌≡◌, ◌<◌, ◌++◌, true, All, OnErr, codes, flat_map, length, reverse};
 ghost use Rattle.hub_core.specs.Adds.{Adds};
 ghost use Rattle.hub_core.specs.Points.{IsPlaced};
@@ -14,8 +15,8 @@ use posting_core::PostedEntry;
 use register_store::ReadFault;
 use std::alloc::AllocError;
 
-/// The room in bytes that a replay's text of replies has from the start. No reply is longer but that to a question, and that
-/// of several entries.
+/// The room, in bytes, that a replay's text has for replies from the start. Only the answer to a
+/// question, and the reply with several entries, can be longer.
 pub const REPLY_ROOM: usize = 128;
 
 /// The reply to a message that isn't taken: `STATION n refused NAME`.
@@ -80,8 +81,8 @@ pub(crate) fn add_posted(
     )
 }
 
-/// Appends what is printed of a line of more bytes than a line may have: `line K bad TooLong`. After NoMemory the text may end
-/// with a part of it.
+/// Appends the reply to line `number`, which has too many bytes: `line K bad TooLong`. After
+/// NoMemory the text may end with a part of it.
 pub fn add_too_long(text: &mut String, number: u64) -> Result<(), AllocError>
     ensures { Adds text.old text.new (bad_line number (codes "TooLong")) result }
 {
@@ -92,8 +93,8 @@ pub fn add_too_long(text: &mut String, number: u64) -> Result<(), AllocError>
     )
 }
 
-/// Appends what is printed of a faulty line: `line K bad FAULT`, with the fault's key where it has one. After NoMemory the text
-/// may end with a part of it.
+/// Appends the reply to line `number`, which is faulty: `line K bad FAULT`, with the fault's key if
+/// it has one. After NoMemory the text may end with a part of it.
 pub fn add_bad(text: &mut String, number: u64, fault: ReadFault) -> Result<(), AllocError>
     ensures { Adds text.old text.new (bad_line number (fault_text fault)) result }
 {
@@ -105,7 +106,7 @@ pub fn add_bad(text: &mut String, number: u64, fault: ReadFault) -> Result<(), A
     )
 }
 
-/// The name of a line's fault, and its key where it has one.
+/// The name of a line's fault, and its key if it has one.
 fn fault_words(fault: ReadFault) -> (&'static str, &'static str)
     ensures { result.0.now ++ result.1.now ≡ fault_text fault }
 {
@@ -118,8 +119,9 @@ fn fault_words(fault: ReadFault) -> (&'static str, &'static str)
     }
 }
 
-/// Appends what is printed of an answer to number `n` of a station, where these entries are posted, oldest first: a line,
-/// or one for each that was posted and for all behind it. After NoMemory the text may end with a part of it.
+/// Appends the reply to number `n` of a station. `posted` has the posted entries, oldest first. An
+/// answer with posted entries is one line for each entry from its first on, up to the end of
+/// `posted`. After NoMemory the text may end with a part of the reply.
 pub fn add_answer(
     text: &mut String,
     setup: &Setup,
@@ -131,7 +133,7 @@ pub fn add_answer(
     requires { station < length setup.now.stations }
     ensures added { Adds text.old text.new
         (answer_text (station_text setup.now station) n (reverse posted.now) answer) result }
-    // With the room of a reply, what is refused or held meets no fault.
+    // If the text has room for a reply, a message that is refused or held meets no fault.
     ensures fails { HasRoom text.old → OnErr result (is_posted answer ≡ true) }
 {
     setup.is_museum();
@@ -143,7 +145,7 @@ pub fn add_answer(
     }
 }
 
-/// Appends a line for each of the entries, which stand oldest first, from number `first` on.
+/// Appends a line for each entry from number `first` on. The entries are listed oldest first.
 fn add_posted_lines(
     text: &mut String,
     station: &str,
@@ -161,8 +163,8 @@ fn add_posted_lines(
     Ok(())
 }
 
-/// Appends what is printed of the question of a station where a thing is, which is told. After NoMemory the text may end
-/// with a part of it.
+/// Appends the answer to a station's question where a thing is: `STATION ask CODE` and the place.
+/// After NoMemory the text may end with a part of it.
 pub fn add_asked(
     text: &mut String,
     setup: &Setup,
@@ -184,8 +186,8 @@ pub fn add_asked(
     text.push_str("\n")
 }
 
-/// Appends what is said of where a thing is: `unknown`, `unplaced`, `at PLACE`, or `at PLACE in` its containers, innermost
-/// first.
+/// Appends where a thing is: `unknown`, `unplaced`, `at PLACE`, or `at PLACE in` and its
+/// containers, innermost first.
 fn add_place(text: &mut String, setup: &Setup, place: &Where) -> Result<(), AllocError>
     requires { IsPlaced setup.now place.now }
     ensures { Adds text.old text.new (place_text setup.now place.now) result }
@@ -201,7 +203,7 @@ fn add_place(text: &mut String, setup: &Setup, place: &Where) -> Result<(), Allo
     }
 }
 
-/// Appends the containers above a thing.
+/// Appends the containers above a thing: ` in C2 C1`. Nothing if there are none.
 fn add_chain(text: &mut String, setup: &Setup, chain: &[u32]) -> Result<(), AllocError>
     requires { All (λ c. c < length setup.now.things) chain.now }
     ensures { Adds text.old text.new (chain_text setup.now chain.now) result }
@@ -216,7 +218,7 @@ fn add_chain(text: &mut String, setup: &Setup, chain: &[u32]) -> Result<(), Allo
     Ok(())
 }
 
-/// Appends the pieces, one after the other.
+/// Appends the pieces, one after another.
 pub(crate) fn add(text: &mut String, pieces: &[&str]) -> Result<(), AllocError>
     ensures { Adds text.old text.new (flat_map (λ piece. piece.now) pieces.now) result }
 {

@@ -1,4 +1,4 @@
-//! The head of a run: the bytes of its setup, and the empty line after it.
+//! Reads the head of a run: the bytes of its setup, and the empty line after it.
 ghost use Rattle.std.specs.Prelude.{◌≡◌, ◌≤◌, ◌<◌, ◌+◌, ◌++◌, OnOk, IfOk, IfErr};
 ghost use Rattle.hub_core.specs.Reading.{TakesLine, feed_if};
 ghost use Rattle.hub_core.specs.Lines.{is_empty, without_return};
@@ -9,10 +9,11 @@ use crate::line::bytes::{End, Reads, take_piece, without_return};
 use std::alloc::{AllocError, Global};
 use std::io::BufRead;
 
-/// The most bytes of a setup at the head of a run.
+/// The most bytes of the setup at the head of a run.
 pub const LONGEST_HEAD: usize = 8_388_608;
 
-/// Reads the head, and the empty line after it.
+/// Reads the head and the empty line after it, and returns the head. Faults: ReadFailed, also if no
+/// reads are left; HeadTooLong; NoMemory.
 pub(crate) fn read_head<R: BufRead>(
     alloc: Global,
     input: &mut R,
@@ -42,14 +43,14 @@ pub(crate) fn read_head<R: BufRead>(
     Err(RunFault::ReadFailed)
 }
 
-/// Whether the line is empty, but perhaps for a carriage return.
+/// Whether the line is empty, apart from a carriage return.
 fn is_blank(line: &[u8]) -> bool
     ensures { result ≡ is_empty (without_return line.now) }
 {
     without_return(line).is_empty()
 }
 
-/// Adds a line to the head, with its line feed where it has one.
+/// Adds a line to the head, and its line feed if it has one.
 fn add_line(head: &mut Vec<u8>, line: &[u8], fed: bool) -> Result<(), AllocError>
     ensures { OnOk result (head.new.items ≡ head.old.items ++ (line.now ++ feed_if fed)) }
 {
@@ -60,8 +61,8 @@ fn add_line(head: &mut Vec<u8>, line: &[u8], fed: bool) -> Result<(), AllocError
     Ok(())
 }
 
-/// Reads the next line of a head that has room for so many bytes more, and tells whether a line feed ended it.
-/// HeadTooLong is found before the line ends.
+/// Reads the next line of a head that has room for this many more bytes, and returns true if a line
+/// feed ended it. HeadTooLong comes as soon as the limit is passed, before the line ends.
 fn next_head_line<R: BufRead>(
     input: &mut R,
     reads: &mut Reads,

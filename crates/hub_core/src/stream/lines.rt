@@ -1,4 +1,4 @@
-//! Lines answered one after the other: lines in, replies out.
+//! Answers lines, one after another: lines in, replies out.
 ghost use Rattle.std.specs.Prelude.{◌≡◌, ◌<◌, ◌≤◌, ◌++◌, false, true, List, ℕ, string_capacity, take, OnOk, OnErr, IfErr, IfSome};
 ghost use Rattle.std.specs.Io.KnownBytes.{Appends, IsAtEnd};
 ghost use Rattle.posting_core.specs.declared.entry.Entry.{Entry};
@@ -20,13 +20,18 @@ use register_store::Register;
 use std::alloc::Global;
 use std::io::{BufRead, ErrorKind, Write};
 
-/// Answers the lines of the input, one after the other, over the hub, and writes the replies to the output. Lines are
-/// numbered from 1; one of more than LONGEST_LINE bytes is `bad TooLong`. The output is flushed before each read that may
-/// wait, and at the end. A read is one call of `fill_buf`; there are at most 4,294,967,295.
+/// Answers the lines of the input over the hub, one after another, and writes the replies to the
+/// output. Lines are numbered from 1. A line of more than [`LONGEST_LINE`](crate::LONGEST_LINE)
+/// bytes is `bad TooLong`. The output is flushed before each read that may wait, and at the end. At
+/// most 4,294,967,295 reads are made; a read is one call of `fill_buf`.
 ///
-/// After ReadFailed the lines that have ended are answered. After WriteFailed the lines that were read are taken, and a
-/// front of their replies is written. After NoMemory or Store all lines before the one that met it are answered; the hub
-/// has taken that line's arrival or not, or it is down, and its store has what is posted, or that with the next message.
+/// Faults, and what they leave:
+/// - ReadFailed: all lines that have ended are answered.
+/// - WriteFailed: all lines that were read are taken, and the first part of their replies is
+///   written.
+/// - NoMemory, Store: all lines before the one that met the fault are answered. The hub has taken
+///   that line's arrival or not, or it is down, and its store has what is posted, or that and the
+///   next message.
 pub fn replay<R: BufRead, W: Write, S: Register>(
     alloc: Global,
     input: &mut R,
@@ -34,8 +39,8 @@ pub fn replay<R: BufRead, W: Write, S: Register>(
     hub: &mut Hub<S>,
 ) -> Result<(), ReplayFault>
     requires { hub.old.down ≡ false }
-    // For every list of arrivals that the hub stands for: all bytes are read, what is written is their text, and the
-    // hub stands for the list with their arrivals.
+    // For every list of arrivals that the hub stands for: all bytes are read, their replies are
+    // written, and the hub then stands for the list with their arrivals added.
     ensures bytes_to_bytes { OnOk result
         ((O : List Entry) (A : List Arrival) → StandsFor S.holding hub.old O A
         → IfSome (R.remaining input.old) (λ bytes.
@@ -43,7 +48,8 @@ pub fn replay<R: BufRead, W: Write, S: Register>(
         × Appends (W.contents output.old) (W.contents output.new)
         (text hub.old.book.museum hub.old.book.depth O A bytes)
         × StandsFor S.holding hub.new O (A ++ arrivals hub.old.book.museum bytes))) }
-    // Whether or not the reader's bytes are known, those that were read are answered, and the reader is at its end.
+    // Even if the reader's bytes aren't known, those that were read are answered, and the reader is
+    // at its end.
     ensures answered { OnOk result
         ((O : List Entry) (A : List Arrival) → StandsFor S.holding hub.old O A →
         Answered hub.old.book.museum hub.old.book.depth O A (R.remaining input.old)
@@ -55,7 +61,7 @@ pub fn replay<R: BufRead, W: Write, S: Register>(
     replay_watched(alloc, input, output, hub, &mut Unwatched)
 }
 
-/// The same, and the watch sees the outcomes of each line once its reply is written.
+/// Like [`replay`]. The watch sees the outcomes of each line after its reply is written.
 pub fn replay_watched<R: BufRead, W: Write, S: Register, V: Watch>(
     alloc: Global,
     input: &mut R,
@@ -76,13 +82,13 @@ pub fn replay_watched<R: BufRead, W: Write, S: Register, V: Watch>(
         Answered hub.old.book.museum hub.old.book.depth O A (R.remaining input.old)
         (R.remaining input.new) (W.contents output.old)
         (W.contents output.new) S.holding hub.new true) }
-    // The watch has seen the outcomes of the bytes' lines, after those that it had seen before.
+    // The watch has seen the outcomes of all lines, after those that it had seen before.
     ensures seen { OnOk result
         ((O : List Entry) (A : List Arrival) → StandsFor S.holding hub.old O A
         → IfSome (R.remaining input.old) (λ bytes. (before : List Outcome)
         → V.has_seen watch.old before → V.has_seen watch.new
         (before ++ outcomes hub.old.book.museum hub.old.book.depth O A bytes))) }
-    // The same of the bytes that were read, whether or not the reader's bytes are known.
+    // The same for the bytes that were read, even if the reader's bytes aren't known.
     ensures watched { OnOk result
         ((O : List Entry) (A : List Arrival) → StandsFor S.holding hub.old O A →
         Watched hub.old.book.museum hub.old.book.depth O A (R.remaining input.old)
@@ -94,8 +100,8 @@ pub fn replay_watched<R: BufRead, W: Write, S: Register, V: Watch>(
     replay_from(alloc, input, output, hub, &mut Reads::new(), watch)
 }
 
-/// The same, with the reads that are left; it takes one at least. All replies are written over one text, which has
-/// REPLY_ROOM from the start: where that growth is refused, no line is read.
+/// The same with the reads that are left; it needs at least one. All replies are made in one text,
+/// which has REPLY_ROOM from the start. If that memory is refused, no line is read.
 pub(crate) fn replay_from<R: BufRead, W: Write, S: Register, V: Watch>(
     alloc: Global,
     input: &mut R,
@@ -135,7 +141,7 @@ pub(crate) fn replay_from<R: BufRead, W: Write, S: Register, V: Watch>(
     )
 }
 
-/// The same over a text with this room.
+/// The same with a text of this room.
 fn answer_lines<R: BufRead, W: Write, S: Register, V: Watch>(
     alloc: Global,
     input: &mut R,
@@ -182,8 +188,9 @@ fn answer_lines<R: BufRead, W: Write, S: Register, V: Watch>(
     Err(ReplayFault::ReadFailed)
 }
 
-/// Writes these bytes, in at most 4,294,967,295 writes. A write that takes no byte has failed. `Write::write_all` does the
-/// same, but doesn't promise that what it wrote before it failed is a front of them.
+/// Writes these bytes, in at most 4,294,967,295 writes. A write that takes no byte has failed.
+/// `Write::write_all` does the same, but its contract doesn't promise that the bytes it wrote
+/// before a failure are the first ones.
 fn write_text<W: Write>(output: &mut W, text: &[u8]) -> Result<(), ReplayFault>
     ensures ok { OnOk result (Appends (W.contents output.old) (W.contents output.new) text.now) }
     ensures fault { OnErr result

@@ -1,4 +1,4 @@
-//! How a watch sees the reply to a line.
+//! Shows a watch the outcomes of a line.
 ghost use Rattle.std.specs.Prelude.{List, [], ◌∷◌, ◌++◌, reverse};
 ghost use Rattle.hub_core.specs.Outcomes.{posted_outcomes, answer_outcomes, reply_outcomes};
 ghost use Rattle.hub_core.specs.declared.outcome.Outcome.{Outcome};
@@ -7,7 +7,8 @@ use crate::line::reply::Reply;
 use crate::{Answer, Outcome, Watch};
 use posting_core::PostedEntry;
 
-/// Shows a watch the outcomes of a line with this reply. The posted entries are listed oldest first.
+/// Shows a watch the outcomes of a line with this reply. The posted entries are listed oldest
+/// first.
 pub(crate) fn report<V: Watch>(watch: &mut V, reply: Reply, posted: &[PostedEntry])
     ensures { (before : List Outcome) → V.has_seen watch.old before
         → V.has_seen watch.new (before ++ reply_outcomes (reverse posted.now) reply) }

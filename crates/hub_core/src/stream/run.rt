@@ -14,16 +14,19 @@ use register_store::{PlainRegister, StoreFault};
 use std::alloc::Global;
 use std::io::{BufRead, Write};
 
-/// Reads the setup, which is the bytes before the first empty line, or all of them, and replays the rest over a new hub in
-/// memory. The faults of the head: ReadFailed; HeadTooLong, found as soon as it holds; the setup's first. Nothing is
-/// written then. In the lines each fault leaves what it leaves of a replay. NoMemory can stand in place of any answer, and
-/// Store never comes. The reads of the head and of the lines are counted together.
+/// Reads the setup, and replays the lines after it over a new hub with a register in memory. The
+/// setup is all bytes before the first empty line, or all bytes if there is none.
+///
+/// Faults of the head, after which nothing is written: ReadFailed; HeadTooLong, as soon as the
+/// limit is passed; Setup, with its first fault. A fault in the lines leaves what it leaves of a
+/// replay. NoMemory can come instead of any result, and Store never comes. The reads of the head
+/// and of the lines are counted together.
 pub fn run<R: BufRead, W: Write>(
     alloc: Global,
     input: &mut R,
     output: &mut W,
 ) -> Result<(), RunFault>
-    // All bytes are read, their head has no fault, and what is written is their text.
+    // All bytes are read, their head has no fault, and the replies to the lines are written.
     ensures bytes_to_bytes { OnOk result
         (IfSome (R.remaining input.old) (λ bytes. (head_fault (head bytes) ≡ None)
         × IsAtEnd (R.remaining input.new)
@@ -31,13 +34,13 @@ pub fn run<R: BufRead, W: Write>(
     ensures faults { IfErr result
         (AfterRun (R.remaining input.old) (R.remaining input.new) (W.contents output.old)
         (W.contents output.new)) }
-    // Its register is in memory.
+    // The register is in memory.
     ensures never_store { IfErr result (λ fault. fault ≢ RunFault.Store) }
 {
     run_counted(alloc, input, output, &mut Reads::new())
 }
 
-/// The same, with the reads that are left: the head takes one at least, and so do the lines.
+/// The same with the reads that are left; the head and the lines need at least one each.
 fn run_counted<R: BufRead, W: Write>(
     alloc: Global,
     input: &mut R,
@@ -78,7 +81,7 @@ fn opened<R: BufRead>(
     }
 }
 
-/// A hub with this setup and nothing posted. Nothing but memory can lack for it.
+/// Opens a hub with this setup and nothing posted. Fault: NoMemory.
 fn new_hub(alloc: Global, setup: Setup) -> Result<Hub<PlainRegister>, StoreFault>
     ensures fresh { IfOk result (λ hub. IsFresh hub setup) }
     ensures fault { IfErr result (λ fault. fault ≡ StoreFault.NoMemory) }

@@ -1,5 +1,5 @@
-//! A loan's code and a name, written behind a text; what else is written stands in rows of a setup and in `cases/`. Which texts
-//! are right stands in the worked texts of `codes_core`.
+//! A loan's code and a name are appended to a text. Rows of setups and `cases/` show the other
+//! codes, and worked examples in `codes_core` which texts are codes.
 use codes_core::{LoanCode, Name};
 use std::alloc::Global;
 use std::test::Fail;
@@ -10,7 +10,7 @@ fn write_both(alloc: Global, text: &mut String) -> Result<(), Fail> {
     Ok(copy.write(alloc, text)?)
 }
 
-/// Writes append the spelling, behind what the text has.
+/// A write appends the spelling to what the text has.
 #[test]
 fn spellings(rt: HostRuntime) -> Result<(), Fail> {
     let mut text = String::from_str(rt.alloc(), "at ")?;

@@ -1,5 +1,5 @@
-//! A count list of 3,000 rows, checked against a hub's ledger by workers who wait for each other. What lists and reports tell
-//! stands in `cases/`.
+//! Checks a count list of 3,000 rows against a hub's ledger, with workers that wait for each other.
+//! `cases/` shows the answers and reports.
 use super::hub::send;
 use super::{kept, setup_of};
 use count_core::CountAnswer::{Elsewhere, Found};
@@ -17,7 +17,8 @@ const TURNS: u32 = 1_000_000_000;
 
 const ROWS: usize = 3_000;
 
-/// The first row and the last each wait for the other, where two workers can run at once.
+/// The workers at the first row and at the last row wait for each other, if two workers can run at
+/// once.
 #[derive(Drop)]
 struct Meeting {
     waits: bool,
@@ -53,7 +54,7 @@ impl Probe for Meeting {
     }
 }
 
-/// 3,000 objects whose normal place is S1.
+/// A setup with 3,000 objects whose normal place is S1.
 fn three_thousand(alloc: Global) -> Result<String, Fail> {
     let mut text = String::from_str(alloc, "station,PACK\nplace,S1,inside\nplace,S2,inside\n")?;
     for k in 1..3_001u32 {
@@ -62,7 +63,7 @@ fn three_thousand(alloc: Global) -> Result<String, Fail> {
     Ok(text)
 }
 
-/// The odd ones come to S1, the even ones to S2.
+/// Messages that move the odd objects to S1 and the even ones to S2.
 fn moves(alloc: Global) -> Result<String, Fail> {
     let mut text = String::new(alloc);
     for k in 1..3_001u32 {
@@ -76,7 +77,7 @@ fn moves(alloc: Global) -> Result<String, Fail> {
     Ok(text)
 }
 
-/// A row of S1 for each.
+/// A count list that has seen all objects in S1.
 fn whole_list(alloc: Global) -> Result<Vec<CountRow>, Fail> {
     let mut text = String::new(alloc);
     for k in 1..3_001u32 {
@@ -85,7 +86,8 @@ fn whole_list(alloc: Global) -> Result<Vec<CountRow>, Fail> {
     Ok(read_counts(alloc, text.as_bytes())?)
 }
 
-/// Whether the odd rows are found and the even ones elsewhere, at S2, and nothing is missing.
+/// Whether the odd objects are found and the even ones are elsewhere, at S2, and nothing is
+/// missing.
 fn is_half_found(report: &CountReport) -> bool {
     for i in 0..report.answers.len() {
         let want = if i % 2 == 0 { Found } else { Elsewhere(1) };
@@ -117,7 +119,7 @@ fn tell<R: Register>(
     )
 }
 
-/// PACK sends these messages, a line each.
+/// PACK sends these messages, one for each line of the text.
 fn tell_all<R: Register>(
     rt: &impl Abort,
     alloc: Global,

@@ -1,17 +1,18 @@
-//! The two files of a store, in memory, that stop.
+//! The two files of a store, in memory, that fail from a chosen call on.
 
 use sqlite::Files;
 use sqlite_disk::{Crash, Disk, Fuse, Memory};
 use std::alloc::Global;
 use std::io;
 
-/// A file in memory that fails each call after so many.
+/// A file in memory that works for a number of calls and then fails each one.
 pub(crate) type Stopping = Fuse<Memory>;
 
 /// The log of a store, and its database.
 pub(crate) type Pair = Files<Stopping>;
 
-/// After how many calls the log stops, or else the database; the other never does.
+/// The number of calls after which one of the two files stops: the log if `in_log`, otherwise the
+/// database. The other file never stops.
 #[derive(Clone, Copy)]
 pub(crate) struct Stops {
     pub(crate) in_log: bool,
@@ -34,7 +35,7 @@ impl Stops {
     }
 }
 
-/// Two new files that stop so.
+/// Two new files that stop like this.
 pub(crate) fn new_files(alloc: Global, stops: Stops) -> Pair {
     Files {
         log: Fuse::new(Memory::new(alloc), stops.of_log()),
@@ -42,7 +43,7 @@ pub(crate) fn new_files(alloc: Global, stops: Stops) -> Pair {
     }
 }
 
-/// Two files as these stand, that stop so.
+/// Copies of these two files that stop like this.
 pub(crate) fn copied(alloc: Global, files: &Pair, stops: Stops) -> io::Result<Pair> {
     Ok(Files {
         log: copied_file(alloc, &files.log, stops.of_log())?,
@@ -57,8 +58,8 @@ fn copied_file(alloc: Global, file: &Stopping, calls: u64) -> io::Result<Stoppin
     Ok(Fuse::new(memory, calls))
 }
 
-/// The files after an end of the program, as they stand, or after a crash of the machine, which loses what was not
-/// synced. They stop no more.
+/// What is left of the files. If the program ended, they are as they were; if the machine crashed,
+/// what was not synced is lost. They no longer stop.
 pub(crate) fn left_after(alloc: Global, mut files: Pair, crashes: bool) -> Option<Pair> {
     if crashes {
         files.log.crash();

@@ -1,11 +1,12 @@
-//! A reader and a writer that are interrupted. What is written where they fail is shown by `checks/failing.py`.
+//! A reader and a writer that are interrupted. `checks/failing.py` shows what is written if they
+//! fail.
 use super::SMALL;
 use hub_core::run;
 use std::alloc::Global;
 use std::io;
 use std::io::{BufRead, ErrorKind, Read, Write};
 
-/// The small setup, and a line: GAL's first message moves the object.
+/// The small setup and one line: GAL's first message, which moves the object.
 const SESSION: &str = r#"station,GAL
 place,S1,inside
 own,2001.4.1,S1
@@ -13,7 +14,7 @@ own,2001.4.1,S1
 {"station":"GAL","n":1,"message":{"kind":"move","thing":"2001.4.1","place":"S1","day":"2024-05-01"}}
 "#;
 
-/// Gives these bytes, one at a time; each read that isn't one after an interruption is interrupted.
+/// Reads one byte at a time. Every other read is interrupted.
 #[derive(Drop)]
 struct Halting<'a> {
     left: &'a [u8],
@@ -41,7 +42,7 @@ impl BufRead for Halting<'_> {
     }
 }
 
-/// Takes one byte at a time; each write that isn't one after an interruption is interrupted.
+/// Writes one byte at a time. Every other write is interrupted.
 #[derive(Drop)]
 struct Hesitant {
     taken: Vec<u8>,
@@ -66,7 +67,7 @@ impl Write for Hesitant {
     }
 }
 
-/// Whether a run whose reads and writes are interrupted, each once, ends well, and has written this.
+/// Whether a run with these interruptions returns Ok and has written this text.
 fn goes_on(alloc: Global, bytes: &[u8], want: &str) -> bool {
     let mut reader = Halting {
         left: bytes,

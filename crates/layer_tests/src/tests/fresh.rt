@@ -1,4 +1,5 @@
-//! Registers that tests make: in memory, and over a database in memory. What is tried of one is tried of the other.
+//! The two sorts of register that tests make: in memory, and over a database in memory. Each test
+//! runs on both.
 
 use register_sql::SqlRegister;
 use register_store::{PlainRegister, Register, StoreFault};
@@ -9,12 +10,12 @@ use store_file::shut_in_memory;
 /// A register over a database in memory.
 pub(crate) type Stored = SqlRegister<MemStore>;
 
-/// A register that a test makes, and shuts.
+/// A register that a test makes and shuts.
 pub(crate) trait Fresh: Register + Sized {
-    /// A new one, which has no row.
+    /// Makes a new register, without rows.
     fn fresh(alloc: Global) -> Result<Self, StoreFault>;
 
-    /// Lets it go.
+    /// Drops the register.
     fn shut(self);
 }
 

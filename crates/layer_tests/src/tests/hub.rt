@@ -1,4 +1,4 @@
-//! A hub asked by its calls. What runs through the program stands in `cases/`.
+//! A hub, through its calls. `cases/` has what runs through the program.
 ghost use Rattle.std.specs.Prelude.{◌≡◌, true, IfErr};
 ghost use Rattle.register_store.specs.Registers.{is_failure};
 
@@ -14,7 +14,7 @@ use std::test::Fail;
 
 const GAL: StationNo = 1;
 
-/// The number of a message of GAL, its text, and the answer to it.
+/// The number of GAL's message, its text, and the answer.
 type Row = (u64, &'static str, Answer);
 
 const TO_S1_A: &str = r#"{"kind":"move","thing":"2001.4.1","place":"S1-A","day":"2024-05-01"}"#;
@@ -25,13 +25,13 @@ const LAST_HELD: &[Row] = &[
     (4, TO_S1, Answer::Held),
 ];
 
-/// What was held is gone, what was posted is there.
+/// After the hub is opened again, held messages are gone and posted ones are there.
 const OPENED_AGAIN: &[Row] = &[
     (2, TO_S1_A, Answer::Refused(Refusal::Double)),
     (3, TO_S1, Answer::Posted { first: 3, last: 3 }),
 ];
 
-/// A hub over the whole setup and a register of either sort, with nothing posted.
+/// Opens a hub over the whole setup and a new register of either sort.
 pub(crate) fn opened<R: Fresh>(alloc: Global) -> Result<Hub<R>, Fail> {
     let setup = museum(alloc)?;
     match R::fresh(alloc) {
@@ -43,7 +43,7 @@ pub(crate) fn opened<R: Fresh>(alloc: Global) -> Result<Hub<R>, Fail> {
     }
 }
 
-/// The hub, where it was opened.
+/// Returns the hub, or fails if it wasn't opened.
 fn if_opened<R: Fresh>(opened: Result<Hub<R>, OpenFault<R>>) -> Result<Hub<R>, Fail> {
     match opened {
         Ok(hub) => Ok(hub),
@@ -54,7 +54,7 @@ fn if_opened<R: Fresh>(opened: Result<Hub<R>, OpenFault<R>>) -> Result<Hub<R>, F
     }
 }
 
-/// Sends a message, and compares the answer.
+/// Sends a message and compares the answer.
 pub(crate) fn send<R: Register>(
     rt: &impl Abort,
     alloc: Global,
@@ -87,7 +87,7 @@ fn send_all<R: Register>(
     Ok(())
 }
 
-/// The hub, where all went well with it.
+/// Returns the hub, unless the steps after its opening failed.
 fn kept_hub<R: Fresh>(hub: Hub<R>, told: Result<(), Fail>) -> Result<Hub<R>, Fail> {
     match told {
         Ok(()) => Ok(hub),
@@ -98,15 +98,16 @@ fn kept_hub<R: Fresh>(hub: Hub<R>, told: Result<(), Fail>) -> Result<Hub<R>, Fai
     }
 }
 
-/// A hub with two postings.
+/// A hub with two posted messages and a held one.
 fn posted_twice<R: Fresh, A: Abort>(rt: &A, alloc: Global) -> Result<Hub<R>, Fail> {
     let mut hub = opened(alloc)?;
     let sent = send_all(rt, alloc, &mut hub, LAST_HELD);
     kept_hub(hub, sent)
 }
 
-/// Closes a hub, be it down or not, and opens another over its register. What any caller may rest on: with the same
-/// setup and a quiet register only want of memory, or a store that refuses, keeps it from opening.
+/// Closes a hub, down or not, and opens another over its register. The contract is what any caller
+/// may rely on: with the same setup and a quiet register, only NoMemory or Store can prevent the
+/// opening.
 fn opened_anew<R: Register>(
     alloc: Global,
     hub: Hub<R>,
@@ -119,7 +120,7 @@ fn opened_anew<R: Register>(
     Hub::open(alloc, setup, hub.close())
 }
 
-/// A hub over the register of another one that was closed, with the same setup.
+/// Closes a hub and opens another over its register, with the same setup.
 fn opened_after<R: Fresh>(alloc: Global, hub: Hub<R>) -> Result<Hub<R>, Fail> {
     match museum(alloc) {
         Ok(setup) => if_opened(opened_anew(alloc, hub, setup)),
@@ -130,7 +131,7 @@ fn opened_after<R: Fresh>(alloc: Global, hub: Hub<R>) -> Result<Hub<R>, Fail> {
     }
 }
 
-/// Opens a hub with two postings anew, and sends it what comes after.
+/// Opens a hub again after two postings, and sends it the next messages.
 fn opens_again<R: Fresh, A: Abort>(rt: &A, alloc: Global) -> Result<(), Fail> {
     let first: Hub<R> = posted_twice(rt, alloc)?;
     let mut hub = opened_after(alloc, first)?;

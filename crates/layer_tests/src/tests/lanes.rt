@@ -12,7 +12,7 @@ use std::alloc::Global;
 use std::process::Abort;
 use std::test::Fail;
 
-/// Asks so often through a lane where this thing is; tells how many questions came back.
+/// Sends the same question through a lane this many times. Returns how many of them came back.
 fn send(lane: &mut Lane, thing: ThingCode, count: u32) -> u32
     ensures { SameLane lane.old lane.new }
 {
@@ -26,7 +26,7 @@ fn send(lane: &mut Lane, thing: ThingCode, count: u32) -> u32
     back
 }
 
-/// One lane, and its intake.
+/// One lane and its intake.
 fn one_lane(alloc: Global) -> Result<(Lane, Intake), Fail>
     ensures { IfOk result (λ r. AllZip IsFresh (r.0 ∷ []) r.1) }
 {
@@ -37,7 +37,7 @@ fn one_lane(alloc: Global) -> Result<(Lane, Intake), Fail>
     Ok((lane, intake))
 }
 
-/// The end of a lane.
+/// Ends a lane.
 fn end(alloc: Global, lane: Lane) -> Result<Vec<LaneEnd>, Fail>
     ensures { IfOk result (λ ends. AllZip IsEndOf (lane ∷ []) ends.items) }
 {
@@ -49,7 +49,8 @@ fn end(alloc: Global, lane: Lane) -> Result<Vec<LaneEnd>, Fail>
     Ok(ends)
 }
 
-/// The ends of a lane through which so many questions were sent, with its intake; of the questions one comes back.
+/// Sends one question more than a lane has room for, and ends the lane. Returns its end and the
+/// intake.
 fn filled(rt: &impl Abort, alloc: Global) -> Result<(Vec<LaneEnd>, Intake), Fail>
     ensures { IfOk result (λ r. AllZip IsEndOn r.0.items r.1) }
 {
@@ -61,7 +62,7 @@ fn filled(rt: &impl Abort, alloc: Global) -> Result<(Vec<LaneEnd>, Intake), Fail
     Ok((ends, intake))
 }
 
-/// The log of all that is in a lane, and how many lines it has.
+/// Takes all that is in a lane. Returns the number of log lines.
 fn finished(
     alloc: Global,
     hub: &mut Hub<PlainRegister>,
@@ -85,7 +86,8 @@ fn full_lane(rt: HostRuntime) -> Result<(), Fail> {
     Ok(())
 }
 
-/// What a turn over no lanes takes, and the lines of a finish of them.
+/// Takes a turn over no lanes and finishes it. Returns the numbers of lanes, of items taken, and of
+/// log lines.
 fn nothing(alloc: Global, hub: &mut Hub<PlainRegister>) -> Result<(usize, u32, usize), Fail> {
     let (lanes, mut intake) = lanes(alloc, 0)?;
     let mut log = Log::new(alloc);
@@ -103,7 +105,7 @@ fn no_lanes(rt: HostRuntime) -> Result<(), Fail> {
     Ok(())
 }
 
-/// Takes three turns where the second of two lanes was sent two questions, and the first one.
+/// Takes three turns over two lanes, with one question in the first and two in the second.
 fn three_turns(
     alloc: Global,
     hub: &mut Hub<PlainRegister>,
@@ -121,7 +123,7 @@ fn three_turns(
     Ok((first, second, third))
 }
 
-/// Whether the lines of a log are of these stations.
+/// Whether the lines of the log are of these stations.
 fn are_of(log: &Log, stations: &[u32]) -> bool {
     log.lines()
         .iter()

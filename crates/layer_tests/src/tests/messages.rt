@@ -1,4 +1,4 @@
-//! What a fault of a message's text shows, which nothing of the program prints.
+//! The texts of a message's faults, which the program never prints.
 use register_store::ReadFault::{BadField, BadKind, Missing, NotJson};
 use register_store::{Key, ReadFault};
 use std::test::Fail;

@@ -1,5 +1,5 @@
-//! Migrations of a store of version 1 whose disk stops at each of its calls in turn. Which stores are migrated, and why others
-//! aren't, is shown by `checks/migrate.py`.
+//! Migrates a store of version 1 on a disk that stops at each of its calls in turn.
+//! `checks/migrate.py` shows which stores are migrated, and why others aren't.
 
 use super::disks::{Pair, Stops, copied, left_after, new_files};
 use super::sending::{Ended, SETUP, Sent, Task, over_files, run};
@@ -10,7 +10,7 @@ use sqlite_disk::Disk;
 use std::alloc::Global;
 use std::process::Abort;
 
-/// The tables of a store of version 1, with the first two of the three messages posted.
+/// The tables of a store of version 1 in which the first two of the three messages are posted.
 const FIRST: &str = r#"
 CREATE TABLE meta (name TEXT PRIMARY KEY, val INTEGER NOT NULL) STRICT;
 CREATE TABLE setup (id INTEGER PRIMARY KEY, txt TEXT NOT NULL) STRICT;
@@ -25,8 +25,9 @@ INSERT INTO spot VALUES (0, 1, 2, 0, 19844);
 INSERT INTO line VALUES ('LO2024.1', 1, 0);
 "#;
 
-/// Stops the log, or else the database, at its first call, at its second, and so on until a migration isn't stopped;
-/// tells how many stops there were. After each the store is whole, of version 1 or of version 2. None where one is not so.
+/// Stops the log, or the database, at its first call, at its second, and so on, until a migration
+/// isn't stopped. Returns how many stops there were. After each stop the store must be whole, of
+/// version 1 or of version 2; None if it isn't.
 fn count_migrations(alloc: Global, in_log: bool, crashes: bool) -> Option<u64> {
     let first = changed(alloc, new_files(alloc, Stops::NEVER), FIRST)?;
     let setup = Setup::read(alloc, SETUP.as_bytes()).ok()?;
@@ -50,7 +51,7 @@ fn count_over(
     None
 }
 
-/// Whether a migration over the files isn't stopped; none where what it left isn't whole.
+/// Whether a migration over the files isn't stopped. None if it leaves a store that isn't whole.
 fn is_migrated(alloc: Global, files: Pair, setup: &Setup, crashes: bool) -> Option<bool> {
     let ended = migrated(alloc, files, setup)?;
     let done = ended.given;
@@ -71,7 +72,7 @@ fn is_whole_of_first(alloc: Global, files: Pair, setup: &Setup) -> bool {
     }
 }
 
-/// Whether a hub opens over the files, and finds the first two messages and posts the third.
+/// Whether a hub opens over the files, finds the first two messages and posts the third.
 fn goes_on(alloc: Global, files: Pair) -> bool {
     match run(alloc, files) {
         Some(ended) => went_on(ended.given),
@@ -84,13 +85,14 @@ fn went_on(sent: Sent) -> bool {
     !sent.stopped && sent.doubles == 2 && sent.posted == 1
 }
 
-/// The files of a store to which this was done; none where it can't be.
+/// Runs the statements of a text on the store in the files. Returns the files, or None if that
+/// failed.
 fn changed<D: Disk + Drop>(alloc: Global, files: Files<D>, text: &str) -> Option<Files<D>> {
     let ended = over_files(alloc, files, Changing { text })?;
     Some(ended.files)
 }
 
-/// The statements of a text are done.
+/// Runs the statements of a text.
 #[derive(Clone, Copy)]
 struct Changing<'a> {
     text: &'a str,
@@ -110,7 +112,7 @@ impl Task for Changing<'_> {
     }
 }
 
-/// A migration of the store in the files, with this setup: whether it was migrated.
+/// Migrates the store in the files, with this setup, and returns whether that succeeded.
 fn migrated<D: Disk + Drop>(
     alloc: Global,
     files: Files<D>,
@@ -119,7 +121,7 @@ fn migrated<D: Disk + Drop>(
     over_files(alloc, files, Migrating { setup })
 }
 
-/// The store is migrated, where its files are opened.
+/// Migrates the store.
 #[derive(Clone, Copy)]
 struct Migrating<'a> {
     setup: &'a Setup,
@@ -142,7 +144,8 @@ impl Task for Migrating<'_> {
     }
 }
 
-/// Asserts that a store is whole after each stop of the log, or else of the database, while it is migrated.
+/// Asserts that a store is whole after each stop of the log, or of the database, during a
+/// migration.
 fn assert_migrated(rt: &impl Abort, alloc: Global, in_log: bool) {
     let ends = count_migrations(alloc, in_log, false);
     let crashes = count_migrations(alloc, in_log, true);

@@ -1,4 +1,4 @@
-//! The copy of an agreement, with the list of its objects.
+//! Copies an agreement, with the list of its objects.
 use posting_core::Message;
 use register_store::{message_text, read_message};
 use std::alloc::Global;

@@ -1,4 +1,4 @@
-//! Registers, bound, posted to and read back.
+//! Registers that are bound, posted to and read back.
 ghost use Rattle.std.specs.Prelude.{◌≡◌, ◌∷◌, [], true, reverse, IfOk};
 ghost use Rattle.register_store.specs.Holdings.{Comes};
 
@@ -23,7 +23,7 @@ const GAL: StationNo = 1;
 /// A station that the setup doesn't have.
 const NONE: StationNo = 2;
 
-/// A move that is posted: its station, its number and its row's number.
+/// A move that is posted: its station, its number, and the number of its row.
 type Posted = (StationNo, u32, EntryNo);
 
 /// Moves that are posted, and the fault of reading them back.
@@ -34,7 +34,7 @@ const READ: &[(&[Posted], Option<StoreFault>)] = &[
     (&[(NONE, 1, 1)], Some(StoreFault::Damaged(1))),
     (&[(GAL, 0, 1)], Some(StoreFault::Damaged(1))),
     (&[(GAL, 1_000_000, 1)], Some(StoreFault::Damaged(1))),
-    // rows are read in the order of their numbers
+    // Rows are read in the order of their numbers.
     (&[(GAL, 2, 2), (GAL, 1, 1)], None),
     (&[(GAL, 2, 2)], Some(StoreFault::Damaged(1))),
 ];
@@ -44,7 +44,7 @@ const OBJECT: ThingNo = 2;
 
 const S1: PlaceNo = 0;
 
-/// An applied message, as a station's.
+/// An applied message of a station.
 fn applied(alloc: Global, station: StationNo, n: u32, text: &str) -> Result<Entry, Fail> {
     let message = read_message(alloc, text.as_bytes())?;
     Ok(Entry {
@@ -88,7 +88,8 @@ fn brought(alloc: Global, entry: EntryNo) -> Result<Changes, Fail>
     Ok(changes)
 }
 
-/// Binds an empty register, posts two entries and reads all, by what every register promises.
+/// Binds an empty register, posts two entries and reads all. The contract follows from what every
+/// register promises.
 fn keep_two<R: Register>(
     alloc: Global,
     register: &mut R,
@@ -109,7 +110,8 @@ fn keep_two<R: Register>(
     register.all(alloc)
 }
 
-/// The same of a new register: what is read back after a posting with a spot and one without.
+/// Does the same with a new register, the first entry with a spot and the second without. Returns
+/// what is read back.
 fn kept_by<R: Fresh>(
     alloc: Global,
     setup: &Setup,
@@ -131,14 +133,14 @@ fn kept_by<R: Fresh>(
     Ok(kept?)
 }
 
-/// A move and another station's sign-off, read back.
+/// Posts a move and another station's sign-off, and reads them back.
 fn two_read_back<R: Fresh>(alloc: Global, setup: &Setup) -> Result<Vec<Entry>, Fail> {
     let moved = applied(alloc, GAL, 1, TO_S1)?;
     let signed = applied(alloc, PACK, 1, SIGNED)?;
     kept_by::<R>(alloc, setup, &moved, &signed)
 }
 
-/// Whether an entry is this one, with this text of its message.
+/// Whether the entry is applied, and has this station, number and text.
 fn is_applied(
     alloc: Global,
     entry: &Entry,
@@ -154,7 +156,7 @@ fn is_applied(
     )
 }
 
-/// Whether both are read back as they were.
+/// Whether both entries are read back as they were.
 fn are_read_back<R: Fresh>(alloc: Global, setup: &Setup) -> Result<bool, Fail> {
     let entries = two_read_back::<R>(alloc, setup)?;
     Ok(
@@ -164,7 +166,7 @@ fn are_read_back<R: Fresh>(alloc: Global, setup: &Setup) -> Result<bool, Fail> {
     )
 }
 
-/// The same of either sort of register.
+/// The same for both sorts of register.
 fn are_read_back_by_both(alloc: Global, setup: &Setup) -> Result<(bool, bool), Fail> {
     let plain = are_read_back::<PlainRegister>(alloc, setup)?;
     let stored = are_read_back::<Stored>(alloc, setup)?;
@@ -180,7 +182,7 @@ fn two_entries(rt: HostRuntime) -> Result<(), Fail> {
     Ok(())
 }
 
-/// Whether a register with this posting agrees with a ledger.
+/// Posts an entry to a register, and returns whether the register then agrees with the ledger.
 fn agree_after<R: Register>(
     alloc: Global,
     register: &mut R,
@@ -193,7 +195,7 @@ fn agree_after<R: Register>(
     register.agrees(alloc, ledger)
 }
 
-/// Whether a new register agrees with a ledger whose one posting changed this.
+/// Whether a new register agrees with the ledger after one posting with these changes.
 fn agreed_by<R: Fresh>(alloc: Global, ledger: &Ledger, changes: &Changes) -> Result<bool, Fail> {
     let moved = applied(alloc, PACK, 1, TO_S1)?;
     let mut register = R::fresh(alloc)?;
@@ -202,19 +204,19 @@ fn agreed_by<R: Fresh>(alloc: Global, ledger: &Ledger, changes: &Changes) -> Res
     Ok(agreed?)
 }
 
-/// The same of a posting with a spot.
+/// The same for a posting with a spot.
 fn agreed_with_a_spot<R: Fresh>(alloc: Global, ledger: &Ledger) -> Result<bool, Fail> {
     let brought = brought(alloc, 1)?;
     agreed_by::<R>(alloc, ledger, &brought)
 }
 
-/// The same of a posting with a spot, and of one without.
+/// The same for a posting with a spot, and for one without.
 fn agreed_twice<R: Fresh>(alloc: Global, ledger: &Ledger) -> Result<(bool, bool), Fail> {
     let more = agreed_with_a_spot::<R>(alloc, ledger)?;
     Ok((more, agreed_by::<R>(alloc, ledger, &nothing(alloc, 1))?))
 }
 
-/// Both answers, of either sort of register.
+/// Both answers, for both sorts of register.
 fn agreed_by_both(alloc: Global, ledger: &Ledger) -> Result<[(bool, bool); 2], Fail> {
     let plain = agreed_twice::<PlainRegister>(alloc, ledger)?;
     let stored = agreed_twice::<Stored>(alloc, ledger)?;
@@ -230,7 +232,7 @@ fn agrees_with_the_ledger(rt: HostRuntime) -> Result<(), Fail> {
     Ok(())
 }
 
-/// Posts a move under its row's number.
+/// Posts a move under the number of its row.
 fn post_move<R: Register>(alloc: Global, register: &mut R, row: &Posted) -> Result<(), Fail>
     requires { R.is_bound register.old ≡ true }
     ensures { R.is_bound register.new ≡ true }
@@ -240,7 +242,7 @@ fn post_move<R: Register>(alloc: Global, register: &mut R, row: &Posted) -> Resu
     Ok(register.post(alloc, &entry, &nothing(alloc, *number))?)
 }
 
-/// The fault of reading all where these moves are posted, if there is one.
+/// Posts these moves, and returns the fault of reading all, if there is one.
 fn read_after<R: Register>(
     alloc: Global,
     register: &mut R,
@@ -265,7 +267,7 @@ fn read_by<R: Fresh>(
     fault
 }
 
-/// Whether either sort of register, with each of these posted, has the fault that stands beside them.
+/// Whether both sorts of register have the expected fault for each row of `READ`.
 fn are_faults_right(alloc: Global, setup: &Setup) -> Result<bool, Fail> {
     for (rows, want) in READ {
         if read_by::<PlainRegister>(alloc, setup, rows)? != *want

@@ -1,4 +1,4 @@
-//! Three messages, sent to a hub over a store.
+//! Sends three messages to a hub over a store.
 
 use hub_core::{Answer, Arrival, Hub, HubFault};
 use nest_core::Setup;
@@ -22,7 +22,8 @@ const PACKED: &str = r#"{"kind":"pack","thing":"2001.4.1","container":"C1","day"
 /// The three messages, each with its number.
 const MESSAGES: &[(u64, &str)] = &[(1, AGREED), (2, MOVED), (3, PACKED)];
 
-/// How many of the three messages a run posted, how many were posted before, and whether it was stopped.
+/// The result of a run: how many of the messages it posted, how many had been posted before, and
+/// whether it was stopped.
 #[derive(Clone, Copy)]
 pub(crate) struct Sent {
     pub(crate) posted: u64,
@@ -30,38 +31,38 @@ pub(crate) struct Sent {
     pub(crate) stopped: bool,
 }
 
-/// What a run did whose hub was not opened.
+/// The result of a run whose hub could not be opened.
 const UNOPENED: Sent = Sent {
     posted: 0,
     doubles: 0,
     stopped: true,
 };
 
-/// What was done over a store, and the store's files.
+/// The result of a task, and the store's files.
 #[derive(Drop)]
 pub(crate) struct Ended<T: Drop, D: Disk> {
     pub(crate) files: Files<D>,
     pub(crate) given: T,
 }
 
-/// What is done with a store.
+/// A task that is done with a store.
 pub(crate) trait Task: Copy {
-    /// What comes of it.
+    /// The task's result.
     type Given: Drop;
 
-    /// Does it by the store's register; gives the store back, and what came of it, where that could be judged.
+    /// Does the task with the store's register. Returns the store, and the result if there is one.
     fn done<S: Alter + Drop>(
         self,
         alloc: Global,
         register: SqlRegister<S>,
     ) -> (S, Option<Self::Given>);
 
-    /// What comes of it where the files aren't opened.
+    /// The result if the files can't be opened.
     fn unopened() -> Option<Self::Given>;
 }
 
-/// Opens the files, does the task with their store, and closes them; none where they may not be used, or where what was
-/// done couldn't be judged.
+/// Opens the files, does the task with their store, and closes them. None if the files may not be
+/// used, or if the task has no result.
 pub(crate) fn over_files<T: Task, D: Disk + Drop>(
     alloc: Global,
     files: Files<D>,
@@ -80,7 +81,7 @@ pub(crate) fn over_files<T: Task, D: Disk + Drop>(
     }
 }
 
-/// The files with what was done over them, where it could be judged.
+/// The files and the result, if there is one.
 fn judged<T: Drop, D: Disk + Drop>(files: Files<D>, given: Option<T>) -> Option<Ended<T, D>> {
     match given {
         Some(given) => Some(Ended { files, given }),
@@ -97,7 +98,7 @@ pub(crate) fn run<D: Disk + Drop>(alloc: Global, files: Files<D>) -> Option<Ende
 }
 
 /// Opens a hub over the files, sends it the three messages, and closes the store. A run whose store
-/// is not closed is stopped.
+/// can't be closed counts as stopped.
 pub(crate) fn run_and_close<D: Disk + Drop>(
     alloc: Global,
     files: Files<D>,
@@ -126,7 +127,7 @@ fn unclosed(sent: Sent) -> Sent {
     }
 }
 
-/// The three messages are sent to a hub over the store.
+/// Sends the three messages to a hub over the store.
 #[derive(Clone, Copy)]
 struct Sending;
 
@@ -143,7 +144,7 @@ impl Task for Sending {
     }
 }
 
-/// Opens a hub over the register, sends it the three messages, and gives the register back.
+/// Opens a hub over the register, sends it the three messages, and returns the register.
 fn over<R: Register>(alloc: Global, register: R) -> (R, Option<Sent>) {
     let Ok(setup) = Setup::read(alloc, SETUP.as_bytes()) else {
         return (register, None);
@@ -157,7 +158,8 @@ fn over<R: Register>(alloc: Global, register: R) -> (R, Option<Sent>) {
     }
 }
 
-/// Sends the three messages. After a fault the hub is down, and says so.
+/// Sends the three messages. After a fault the hub must be down and return Down. None if anything
+/// else happens.
 fn send_all<S: Register>(alloc: Global, hub: &mut Hub<S>) -> Option<Sent> {
     let mut sent = Sent {
         posted: 0,

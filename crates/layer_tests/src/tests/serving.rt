@@ -1,4 +1,4 @@
-//! Feeds served all at once. What the command prints of files stands in `cases/`.
+//! Serves feeds at the same time. `cases/` shows what the command prints for files.
 ghost use Rattle.std.specs.Prelude.{◌≡◌, false, All, length, vec_len};
 ghost use Rattle.serve_core.specs.Logs.{IsPlacedReply};
 
@@ -20,7 +20,7 @@ use std::thread::Threads;
 
 const TURNS: u32 = 1_000_000_000;
 
-/// A feed that, when it is asked the second time, sets one flag and waits for another.
+/// A feed whose second call sets one flag and waits for another.
 #[derive(Drop)]
 struct Waiting {
     feed: ListFeed,
@@ -54,7 +54,7 @@ impl Feed for Waiting {
     }
 }
 
-/// A message under number 1, and then a question.
+/// A feed of one message, with the number 1, and one question.
 pub fn told_and_asked(alloc: Global, message: &str, code: &str) -> Result<ListFeed, Fail> {
     let mut items = Vec::new(alloc);
     items.push(Item::Scan {
@@ -69,7 +69,7 @@ fn flag(alloc: Global) -> Result<Arc<AtomicBool>, Fail> {
     Ok(Arc::new(alloc, AtomicBool::new(false))?)
 }
 
-/// That a hub can serve these feeds.
+/// Asserts that a hub can serve these feeds.
 pub fn can_serve<R: Register, F: Feed>(rt: &impl Abort, hub: &Hub<R>, feeds: &Vec<F>)
     ensures up { hub.now.down ≡ false }
     ensures feeds { vec_len feeds.now ≡ length hub.now.book.museum.stations }
@@ -78,7 +78,7 @@ pub fn can_serve<R: Register, F: Feed>(rt: &impl Abort, hub: &Hub<R>, feeds: &Ve
     assert!(rt; feeds.len() == hub.ledger().setup().stations() as usize);
 }
 
-/// What is printed of a log, after which the ledger is this one.
+/// The printed text of a log. The ledger is the one after the log.
 fn logged(
     rt: &impl Abort,
     alloc: Global,
@@ -95,7 +95,7 @@ fn logged(
     Ok(text)
 }
 
-/// What is printed of a serving, and why it stopped.
+/// Serves the feeds, and returns the printed log and the fault, if there is one.
 pub fn stopped<
     T: Threads + Wait + Abort + Copy + Send + 'static,
     R: Register + Drop,
@@ -116,7 +116,7 @@ pub fn stopped<
     }
 }
 
-/// The same of a register, opened with this setup.
+/// The same with a hub that is opened over this register with this setup.
 pub fn stopped_over<
     T: Threads + Wait + Abort + Copy + Send + 'static,
     R: Register + Drop,
@@ -134,7 +134,7 @@ pub fn stopped_over<
     }
 }
 
-/// What is printed of a serving, where it met no fault.
+/// The printed log of a serving that must meet no fault.
 fn printed<
     T: Threads + Wait + Abort + Copy + Send + 'static,
     R: Register + Drop,
@@ -146,7 +146,7 @@ fn printed<
     }
 }
 
-/// The lines of a text that begin so.
+/// The lines of a text that begin with this word.
 fn cut(alloc: Global, text: &str, station: &str) -> Result<String, Fail> {
     let mut kept = String::new(alloc);
     for line in text.lines() {
@@ -158,7 +158,7 @@ fn cut(alloc: Global, text: &str, station: &str) -> Result<String, Fail> {
     Ok(kept)
 }
 
-/// Whether a text, cut to PACK and to GAL, is this.
+/// Whether the lines of PACK and of GAL are these, and there are no others.
 fn is_cut(alloc: Global, text: &str, pack: &str, gal: &str) -> Result<bool, Fail> {
     Ok(
         cut(alloc, text, "PACK ")?.as_str() == pack
@@ -177,7 +177,7 @@ const GAL_FIRST: &str = "GAL 1 posted 1 Applied\nGAL ask 2001.4.2 at S2\n";
 
 const GAL_SECOND: &str = "GAL 1 posted 2 Applied\nGAL ask 2001.4.2 at S2\n";
 
-/// Two feeds, each of which goes on when the other one has been asked twice.
+/// Two feeds. Each goes on when the other one's second call has begun.
 fn meeting(alloc: Global, missed: &Arc<AtomicBool>) -> Result<Vec<Waiting>, Fail> {
     let pack = flag(alloc)?;
     let gal = flag(alloc)?;
@@ -199,7 +199,7 @@ fn meeting(alloc: Global, missed: &Arc<AtomicBool>) -> Result<Vec<Waiting>, Fail
     Ok(feeds)
 }
 
-/// What is printed while both feeds run.
+/// The printed log of a serving in which both feeds run.
 fn printed_of_both<T: Threads + Wait + Abort + Copy + Send + 'static>(
     rt: &T,
     alloc: Global,
@@ -210,7 +210,7 @@ fn printed_of_both<T: Threads + Wait + Abort + Copy + Send + 'static>(
     printed(rt, alloc, setup, PlainRegister::new(alloc), feeds)
 }
 
-/// Whether the lines of both feeds came whole, whichever was first.
+/// Whether the lines of both feeds are complete, whichever feed was first.
 fn is_of_both(alloc: Global, text: &str) -> Result<bool, Fail> {
     Ok(is_cut(alloc, text, PACK_FIRST, GAL_SECOND)? || is_cut(alloc, text, PACK_SECOND, GAL_FIRST)?)
 }
@@ -226,7 +226,7 @@ fn two_feeds_at_once(rt: HostRuntime) -> Result<(), Fail> {
     Ok(())
 }
 
-/// A register in memory that sets a flag when it has posted.
+/// A register in memory that sets a flag after a posting.
 #[derive(Drop)]
 struct Telling {
     kept: PlainRegister,
@@ -268,7 +268,7 @@ impl Register for Telling {
     }
 }
 
-/// A feed that goes on when a register has posted.
+/// A feed that goes on after a register's posting.
 fn patient(
     alloc: Global,
     posted: &Arc<AtomicBool>,
@@ -285,7 +285,7 @@ fn patient(
     Ok(feeds)
 }
 
-/// The hub is asked while a feed still has items.
+/// The hub is called while a feed still has items.
 #[test]
 fn asked_while_feeds_run(rt: HostRuntime) -> Result<(), Fail> {
     let alloc = rt.alloc();

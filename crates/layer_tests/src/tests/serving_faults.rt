@@ -1,4 +1,4 @@
-//! A serving that stops, since a feed finds no memory.
+//! A serving that stops because a feed finds no memory.
 use super::serving::{stopped_over, told_and_asked};
 use super::{SMALL, TO_S1, setup_of};
 use codes_core::NoMemory;
@@ -7,7 +7,7 @@ use serve_core::{Feed, Item, ListFeed, ServeFault};
 use std::alloc::Global;
 use std::test::Fail;
 
-/// A feed that finds no memory when so many items were taken.
+/// A feed that finds no memory after this many items.
 #[derive(Drop)]
 struct Poor {
     feed: ListFeed,
@@ -26,7 +26,7 @@ impl Feed for Poor {
     }
 }
 
-/// A feed of a message and a question, which finds no memory for the question.
+/// A feed of a message and a question that finds no memory for the question.
 fn poor_feeds(alloc: Global) -> Result<Vec<Poor>, Fail> {
     let feed = told_and_asked(alloc, TO_S1, "2001.4.1")?;
     let mut feeds = Vec::new(alloc);

@@ -1,5 +1,6 @@
-//! A session over a database in memory: the one that comes on standard input, whose replies go to standard output. So the
-//! sessions of the examples and cases are compared with their replies; where nothing comes, nothing is answered.
+//! Answers the session on standard input over a database in memory, and writes the replies to
+//! standard output. The gate uses this to compare the sessions of the examples and the cases with
+//! their replies. Without input, nothing is answered.
 ghost use Rattle.std.specs.Prelude.{◌≤◌, length};
 
 use hub_core::{Hub, replay};
@@ -12,8 +13,8 @@ use std::io::{BufWriter, Read, Write};
 use std::test::Fail;
 use store_file::shut_in_memory;
 
-/// Answers a session as the program does, over a database in memory; tells whether it ended without a fault. Its setup
-/// ends at its first empty line.
+/// Answers a session as the program does, but over a database in memory. Returns whether it ended
+/// without a fault. The setup ends at the first empty line.
 fn answered<W: Write>(alloc: Global, given: &[u8], output: &mut W) -> bool {
     let (head, mut lines) = given.split_at(end_of_head(given));
     let Ok(setup) = Setup::read(alloc, head) else {
@@ -32,7 +33,7 @@ fn answered<W: Write>(alloc: Global, given: &[u8], output: &mut W) -> bool {
     }
 }
 
-/// Where the lines begin: after the first empty line.
+/// The position where the lines begin, after the first empty line.
 fn end_of_head(given: &[u8]) -> usize
     ensures { result ≤ length given.now }
 {
@@ -44,7 +45,8 @@ fn end_of_head(given: &[u8]) -> usize
     given.len()
 }
 
-/// Answers the lines over a hub of this register; gives the register back, and whether all ended without a fault.
+/// Answers the lines over a hub with this register. Returns the register, and whether all ended
+/// without a fault.
 fn replayed<R: Register, W: Write>(
     alloc: Global,
     setup: Setup,
@@ -61,7 +63,8 @@ fn replayed<R: Register, W: Write>(
     }
 }
 
-/// Answers what comes on standard input, if anything does; tells whether it ended without a fault and was written whole.
+/// Answers the session on standard input, if there is one. Returns whether it ended without a fault
+/// and its replies were written completely.
 fn answer(rt: &HostRuntime) -> Result<bool, Fail> {
     let mut given = Vec::new(rt.alloc());
     if rt.reader().read_to_end(&mut given).is_err() {

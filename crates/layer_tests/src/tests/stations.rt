@@ -7,7 +7,7 @@ const NOTHING_POSTED: Start = Start {
     signed: false,
 };
 
-/// Takes message `n` of station `s`, where it isn't refused.
+/// Takes message `n` of station `s`, unless it is refused.
 fn arrive(all: &mut Sequences<u32>, s: u32, n: u64, message: u32) -> Result<Taken, Refusal> {
     match all.test(s, n) {
         Some(refusal) => Err(refusal),
@@ -15,7 +15,7 @@ fn arrive(all: &mut Sequences<u32>, s: u32, n: u64, message: u32) -> Result<Take
     }
 }
 
-/// The next message of station `s`, where there is such a station.
+/// The next due message of station `s`; None if there is no such station.
 fn next(all: &mut Sequences<u32>, s: u32) -> Option<(u32, u32)> {
     if (s as usize) < all.len() {
         all.next_due(s)
@@ -24,7 +24,7 @@ fn next(all: &mut Sequences<u32>, s: u32) -> Option<(u32, u32)> {
     }
 }
 
-/// Whether a station that has posted 999,998 takes one more, and then none.
+/// Whether a station that has posted 999,998 messages takes one more, and then none.
 fn ends(all: &mut Sequences<u32>) -> bool {
     all.test(1, 999_998) == Some(Refusal::Double)
         && all.test(1, 1_000_000) == Some(Refusal::BadNumber)

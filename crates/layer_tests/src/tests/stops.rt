@@ -1,15 +1,15 @@
-//! Postings over a store whose disk stops at each of its calls in turn, the calls of closing it among
-//! them: as the program leaves the store, and as a crash of the machine does.
+//! Posts to a store on a disk that stops at each of its calls in turn, including those of closing.
+//! The store is then opened again, as the program left it and as a crash of the machine leaves it.
 
 use super::disks::{Pair, Stops, left_after, new_files};
 use super::sending::{Sent, run, run_and_close};
 use std::alloc::Global;
 use std::process::Abort;
 
-/// Stops the log, or else the database, at its first call, at its second, and so on until a run that
-/// closes its store is not stopped; returns how many stops there were. After each the store is opened
-/// again, as it was left, or as a crash leaves it: each answered posting is there, perhaps the next,
-/// and the rest is taken. None if one is not so.
+/// Stops the log, or the database, at its first call, at its second, and so on, until a run that
+/// also closes its store isn't stopped. Returns how many stops there were. After each stop the
+/// store is opened again, as it was left or as a crash leaves it. It must have each answered
+/// posting, and perhaps the next one, and take the rest; None if it doesn't.
 fn count_stops(alloc: Global, in_log: bool, crashes: bool) -> Option<u64> {
     for calls in 0..10_000 {
         let files = new_files(alloc, Stops { in_log, calls });
@@ -20,8 +20,8 @@ fn count_stops(alloc: Global, in_log: bool, crashes: bool) -> Option<u64> {
     None
 }
 
-/// Whether a run over the files is stopped, at its end by closing them; none if a second run, over
-/// what it left, doesn't go on from there.
+/// Whether a run over the files is stopped, in closing them at the latest. None if a second run,
+/// over what the first left, doesn't go on from there.
 fn is_stopped(alloc: Global, files: Pair, crashes: bool) -> Option<bool> {
     let first = run_and_close(alloc, files)?;
     let left = left_after(alloc, first.files, crashes)?;
@@ -33,7 +33,8 @@ fn is_stopped(alloc: Global, files: Pair, crashes: bool) -> Option<bool> {
     }
 }
 
-/// Whether a second run found what the first answered, perhaps one more, and posted the rest.
+/// Whether the second run found all that the first one answered, perhaps one more, and posted the
+/// rest.
 fn goes_on(first: Sent, second: Sent) -> bool {
     let more = second.doubles.saturating_sub(first.posted);
     !second.stopped
@@ -42,7 +43,8 @@ fn goes_on(first: Sent, second: Sent) -> bool {
         && second.posted.saturating_add(second.doubles) == 3
 }
 
-/// Asserts that what was posted stands whole after each stop of the log, or else of the database.
+/// Asserts that each posting is there whole, or not at all, after each stop of the log, or of the
+/// database.
 fn assert_posted(rt: &impl Abort, alloc: Global, in_log: bool) {
     let ends = count_stops(alloc, in_log, false);
     let crashes = count_stops(alloc, in_log, true);

@@ -27,6 +27,8 @@ use nest_core::{PlaceNo, Target, ThingNo};
 use std::alloc::Global;
 
 impl Ledger {
+    /// Judges an exit. Fails with `NoMemory`, but only if the thing has something in it and the
+    /// verdict depends on the loan lines.
     pub(crate) fn judge_exit(
         &self,
         alloc: Global,
@@ -59,8 +61,9 @@ impl Ledger {
         }
     }
 
-    /// The rows of an exit before those of its lines: the refusal of the first that holds; where none does, the thing's number,
-    /// the loan's, and what is kept of the loan.
+    /// Checks the rows of an exit that come before its loan lines. Returns the first refusal as the
+    /// error. If there is none, returns the number of the thing, the number of the loan, and the
+    /// loan.
     fn exit_asked(
         &self,
         thing: &ThingCode,
@@ -92,6 +95,7 @@ impl Ledger {
         Ok((x, number, kept))
     }
 
+    /// Judges a return. Fails as `judge_exit` does.
     pub(crate) fn judge_return(
         &self,
         alloc: Global,
@@ -130,8 +134,8 @@ impl Ledger {
         }
     }
 
-    /// The rows of a return before those of its lines: the refusal of the first that holds; where none does, what
-    /// `incoming_asked` found.
+    /// Checks the rows of a return that come before its loan lines. Returns the first refusal as
+    /// the error. If there is none, returns what `incoming_asked` found.
     fn return_asked(
         &self,
         thing: &ThingCode,
@@ -159,6 +163,7 @@ impl Ledger {
         Ok((x, p, number, kept))
     }
 
+    /// Judges a receipt. Fails as `judge_exit` does.
     pub(crate) fn judge_receive(
         &self,
         alloc: Global,
@@ -199,8 +204,8 @@ impl Ledger {
         }
     }
 
-    /// The rows of a receipt before those of its lines: the refusal of the first that holds; where none does, what
-    /// `incoming_asked` found.
+    /// Checks the rows of a receipt that come before its loan lines. Returns the first refusal as
+    /// the error. If there is none, returns what `incoming_asked` found.
     fn receive_asked(
         &self,
         thing: &ThingCode,
@@ -232,8 +237,9 @@ impl Ledger {
         Ok((x, p, number, kept))
     }
 
-    /// The rows that a return and a receipt begin with: the refusal of the first that holds; where none does, the numbers of the
-    /// thing, the place and the loan, and what is kept of the loan.
+    /// Checks the rows with which a return and a receipt begin. Returns the first refusal as the
+    /// error. If there is none, returns the numbers of the thing, the place and the loan, and the
+    /// loan.
     fn incoming_asked(
         &self,
         thing: &ThingCode,
@@ -261,8 +267,8 @@ impl Ledger {
         Ok((x, p, number, kept))
     }
 
-    /// The last rows of an exit: those of the lines of what is carried and, under a loan out, of the loan's last day;
-    /// else NoMemory, which comes only where there are several things.
+    /// Checks the last rows of an exit: the loan lines of the objects carried and, under a loan
+    /// out, the last day. Fails with `NoMemory`, but only if several things are carried.
     fn judge_lines_out(
         &self,
         alloc: Global,
@@ -285,8 +291,9 @@ impl Ledger {
         self.judge_lines(alloc, carried, kept, wanted_by_exit(loan), is_over)
     }
 
-    /// The last rows of what crosses under a loan, as the loan's row tells them: those of the lines of what is carried and,
-    /// where the loan's last day is asked, of that; else NoMemory, which comes only where there are several things.
+    /// Checks the last rows of a crossing: the loan lines of the objects carried, which must be at
+    /// the wanted stage, and whether the loan is over. `is_over` is false for a crossing that may
+    /// be late. Fails with `NoMemory`, but only if several things are carried.
     fn judge_lines(
         &self,
         alloc: Global,
@@ -306,12 +313,12 @@ impl Ledger {
     }
 }
 
-/// These rows for the objects that cross.
+/// Checks these rows for the objects that cross.
 #[tactic(auto, using(crate::proofs::Asked::all_listed))]
 fn judge_objects(kept: &KeptLoan, wanted: LineStage, objects: &[ThingNo], is_over: bool) -> Verdict
     ensures { result ≡ first_of (line_rows (line_of kept.now) wanted objects.now is_over) }
 {
-    // What isn't listed has no line at any stage, so that one walk is enough where all is right.
+    // An object that isn't listed has no line at any stage. If all is right, one pass is enough.
     if any_not_at(kept, wanted, objects) {
         return if any_unlisted(kept, objects) {
             Verdict::NotListed
@@ -325,21 +332,21 @@ fn judge_objects(kept: &KeptLoan, wanted: LineStage, objects: &[ThingNo], is_ove
     Verdict::Applied
 }
 
-/// Whether an object isn't on the loan's list.
+/// Whether the loan doesn't list one of the objects.
 fn any_unlisted(kept: &KeptLoan, objects: &[ThingNo]) -> bool
     ensures { result ≡ any_unlisted (line_of kept.now) objects.now }
 {
     objects.iter().any(|o| kept.stage_of(*o).is_none())
 }
 
-/// Whether an object has no line at the stage wanted.
+/// Whether one of the objects has no line at the wanted stage.
 fn any_not_at(kept: &KeptLoan, wanted: LineStage, objects: &[ThingNo]) -> bool
     ensures { result ≡ any_not_at (line_of kept.now) wanted objects.now }
 {
     objects.iter().any(|o| !is_at(kept, wanted, *o))
 }
 
-/// Whether an object has a line at the stage.
+/// Whether an object has a line at the wanted stage.
 fn is_at(kept: &KeptLoan, wanted: LineStage, object: ThingNo) -> bool
     ensures { result ≡ option_map_or (stage_eq wanted) (line_of kept.now object) false }
 {
@@ -349,7 +356,7 @@ fn is_at(kept: &KeptLoan, wanted: LineStage, object: ThingNo) -> bool
     }
 }
 
-/// The stage that the lines of what leaves under the loan have before.
+/// The stage that the lines of an exit must have: awaited under a loan out, here under a loan in.
 fn wanted_by_exit(loan: &LoanCode) -> LineStage
     ensures { result ≡ wanted_by_exit loan.now }
 {

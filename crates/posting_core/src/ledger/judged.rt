@@ -1,4 +1,4 @@
-//! What judging a message tells.
+//! The result of judging a message.
 ghost use Rattle.std.specs.Prelude.{◌≡◌, Some, None, if◌then◌else◌};
 ghost use Rattle.posting_core.specs.declared.verdict.Verdict.TheVariants.{Applied};
 ghost use Rattle.posting_core.specs.VerdictNames.{is_applied};
@@ -6,8 +6,9 @@ ghost use Rattle.posting_core.specs.VerdictNames.{is_applied};
 use crate::Verdict;
 use nest_core::{Put, Target, ThingNo, ThingNos};
 
-/// A message's verdict and, where it is applied, where it puts its thing, if it does, and the number of the loan that goes on
-/// by it, if one does; with what the thing carries, where that is found already, since the verdict hangs on it.
+/// A message's verdict. If it is applied, also where it puts its thing and the number of the loan
+/// that it continues, if its kind does that. `carried` is what the thing carries, if judging has
+/// gathered it.
 #[derive(Drop)]
 pub(crate) struct Judged {
     pub(crate) verdict: Verdict,
@@ -16,7 +17,7 @@ pub(crate) struct Judged {
     pub(crate) loan: Option<usize>,
 }
 
-/// The verdict of what puts nothing under it, and by which no loan goes on.
+/// The result for a message that puts nothing and continues no loan.
 pub(crate) fn unput(verdict: Verdict) -> Judged
     ensures { result ≡ record { verdict = verdict; put = None; carried = None; loan = None } }
 {
@@ -28,7 +29,7 @@ pub(crate) fn unput(verdict: Verdict) -> Judged
     }
 }
 
-/// The verdict of an applied message by which this loan goes on and nothing is put.
+/// The result for an applied message that continues this loan and puts nothing.
 pub(crate) fn going_on(loan: usize) -> Judged
     ensures { result
         ≡ record { verdict = Applied; put = None; carried = None; loan = Some loan } }
@@ -41,8 +42,8 @@ pub(crate) fn going_on(loan: usize) -> Judged
     }
 }
 
-/// The verdict of what puts its thing there where it is applied, under this loan, if there is one, with what that carries, if
-/// it is found.
+/// The result for a message that, if it is applied, puts its thing there and continues this loan,
+/// if there is one. `carried` is what the thing carries, if judging has gathered it.
 pub(crate) fn putting(
     verdict: Verdict,
     thing: ThingNo,

@@ -1,4 +1,4 @@
-//! The rules of what is agreed of loans: agreement, authorisation and extension.
+//! The rules of a loan's terms: agreement, authorisation and extension.
 ghost use Rattle.std.specs.Prelude.{◌≡◌, ◌≤◌, ◌∷◌, [], true, false, length, map, take, int_lt, not, None, if◌then◌else◌};
 ghost use Rattle.std.specs.Bool.{Decides};
 ghost use Rattle.std.specs.List.{list_any};
@@ -43,6 +43,7 @@ impl Ledger {
         if self.setup.is_inside(place) {
             return Verdict::InsidePartner;
         }
+        // Different codes have different numbers, so that comparing numbers is enough.
         let repeated = !are_once(&numbers[..objects.len()]);
         judge_terms(loan, objects, repeated, first, last)
     }
@@ -90,7 +91,7 @@ impl Ledger {
     }
 }
 
-/// Whether one of these codes isn't in the setup; else the numbers of all are found.
+/// Whether the setup lacks one of these codes. If not, `numbers` begins with the numbers of all.
 fn any_unknown(setup: &Setup, codes: &[ThingCode], numbers: &mut [ThingNo]) -> bool
     requires { length codes.now ≤ length numbers.old }
     ensures unknown { result ≡ list_any (λ x. not (is_known setup.now x)) codes.now }
@@ -107,8 +108,8 @@ fn any_unknown(setup: &Setup, codes: &[ThingCode], numbers: &mut [ThingNo]) -> b
     false
 }
 
-/// The rows of an agreement that ask nothing of the setup or of what was posted: its objects, of which some may stand twice,
-/// and its days.
+/// Checks the rows of an agreement that need neither the setup nor the entries: those of its
+/// objects and its days. `repeated` is whether an object is listed twice.
 fn judge_terms(
     loan: &LoanCode,
     objects: &[ThingCode],
@@ -156,7 +157,7 @@ fn any_container(objects: &[ThingCode]) -> bool
     objects.iter().any(is_container_code)
 }
 
-/// Whether a loan out would list a borrowed object, or a loan in an own one.
+/// Whether a loan out lists a borrowed object, or a loan in an own one.
 fn is_of_wrong_owner(loan: &LoanCode, object: &ThingCode) -> bool
     ensures { result ≡ is_of_wrong_owner loan.now object.now }
 {
@@ -173,7 +174,7 @@ fn any_of_wrong_owner(loan: &LoanCode, objects: &[ThingCode]) -> bool
     objects.iter().any(|x| is_of_wrong_owner(loan, x))
 }
 
-/// Whether none of the numbers stands twice.
+/// Whether no number occurs twice.
 fn are_once(numbers: &[ThingNo]) -> bool
     ensures { Decides result (AreOnce numbers.now) }
 {

@@ -1,4 +1,4 @@
-//! What an applied message puts where, and the spots and the lines that it writes.
+//! What an applied message puts where, and the spots and loan lines that it adds.
 ghost use Rattle.std.specs.Prelude.{◌≡◌, ◌<◌, ◌≤◌, ◌+◌, ◌&&◌, [], if◌then◌else◌, length, All, IfOk, OnErr, IfSome, Some, true, not, map, filter};
 ghost use Rattle.std.specs.List.{filter_map};
 ghost use Rattle.nest_core.specs.Puts.{container_of};
@@ -23,8 +23,8 @@ use smallvec::SmallVec;
 use std::alloc::Global;
 
 impl Ledger {
-    /// What a thing carries: itself, with all that is in it, ascending; else NoMemory, which comes only where something is
-    /// in it.
+    /// A thing and everything in it, in ascending order. Fails with `NoMemory`, but only if
+    /// something is in it.
     pub(crate) fn carried(&self, alloc: Global, thing: ThingNo) -> Result<ThingNos, NoMemory>
         requires { thing < length self.now.museum.things }
         ensures carried { IfOk result
@@ -36,8 +36,8 @@ impl Ledger {
         self.nest.carried(alloc, thing)
     }
 
-    /// What is carried where there is a put, which may be found already; else NoMemory, which comes only where the put takes
-    /// something along.
+    /// Everything that moves with a put, or nothing without a put. `found` is this list, if it was
+    /// already gathered. Fails with `NoMemory`, but only if something is in the thing that is put.
     pub(crate) fn carried_with(
         &self,
         alloc: Global,
@@ -60,8 +60,9 @@ impl Ledger {
         }
     }
 
-    /// The spots that the message writes, which puts its thing so under its verdict, with what it carries: of all that
-    /// comes to another place.
+    /// The spots that the message adds: one for each carried thing that comes to another place.
+    /// `put` and `carried` are where it puts its thing under its verdict, and what moves with that.
+    /// Fails with `NoMemory`, but only if the message is applied and something is in its thing.
     pub(crate) fn spots_under(
         &self,
         alloc: Global,
@@ -96,8 +97,8 @@ impl Ledger {
         }
     }
 
-    /// The spots of these things, where they aren't at the place yet; else NoMemory, which comes only where there are
-    /// several things.
+    /// The new spots of these things at this place. A thing that is already there gets none. Fails
+    /// with `NoMemory`, but only if there are several things.
     fn spots_of(
         &self,
         alloc: Global,
@@ -123,6 +124,7 @@ impl Ledger {
         Ok(spots)
     }
 
+    /// The new spot of a thing at this place, or `None` if the thing is already there.
     fn spot_at(&self, thing: ThingNo, place: PlaceNo, day: Day, entry: EntryNo) -> Option<NewSpot>
         requires { thing < length self.now.museum.things }
         ensures { result
@@ -139,7 +141,7 @@ impl Ledger {
         })
     }
 
-    /// How many spots a thing has.
+    /// The number of spots that a thing has.
     fn spot_count(&self, thing: ThingNo) -> u32
         requires { thing < length self.now.museum.things }
         ensures count { result ≡ length (spots_in self.now thing) }
@@ -149,7 +151,7 @@ impl Ledger {
         self.spots.count_of(thing) as u32
     }
 
-    /// The place to which a thing comes that is put there.
+    /// The place that a thing gets from this target.
     fn place_to(&self, to: Target) -> Option<PlaceNo>
         requires { IfSome (container_of (Some to)) (λ c. c < length self.now.museum.things) }
         ensures { result ≡ place_to self.now.museum self.now.posted to }
@@ -160,7 +162,9 @@ impl Ledger {
         }
     }
 
-    /// The lines that the message makes or changes under this verdict, where this is carried.
+    /// The loan lines that the message makes or changes under this verdict. `carried` is what moves
+    /// with its thing. Fails with `NoMemory`, but only if the message is applied and of a kind with
+    /// lines.
     pub(crate) fn lines_under(
         &self,
         alloc: Global,
@@ -183,7 +187,8 @@ impl Ledger {
         }
     }
 
-    /// The lines of an applied message: an agreement's are all awaited, those of a crossing get its stage.
+    /// The loan lines of an applied message. Those of an agreement are awaited; those of a crossing
+    /// get the stage that the crossing leads to.
     fn new_lines(
         &self,
         alloc: Global,
@@ -218,7 +223,7 @@ impl Ledger {
         }
     }
 
-    /// The lines under a loan of the objects that are carried across.
+    /// The loan lines, at this stage, of the objects among the things carried.
     fn lines_across(
         &self,
         alloc: Global,
@@ -237,7 +242,7 @@ impl Ledger {
     }
 }
 
-/// The things that are no containers; else NoMemory, which comes only where there are several things.
+/// The things that aren't containers. Fails with `NoMemory`, but only if there are several things.
 pub(crate) fn objects_among(
     alloc: Global,
     setup: &Setup,
@@ -257,7 +262,7 @@ pub(crate) fn objects_among(
     Ok(objects)
 }
 
-/// A line of the loan for each of these objects, which is awaited.
+/// An awaited loan line for each of these objects.
 fn awaited_lines(
     alloc: Global,
     setup: &Setup,
@@ -279,7 +284,7 @@ fn awaited_lines(
     Ok(lines)
 }
 
-/// A line of the loan for each of these objects, at this stage.
+/// A loan line at this stage for each of these objects.
 fn lines_of(
     alloc: Global,
     loan: LoanCode,
@@ -301,7 +306,8 @@ fn lines_of(
     Ok(lines)
 }
 
-/// The stage to which an exit under the loan takes its objects.
+/// The stage to which an exit brings its objects: away under a loan out, given back under a loan
+/// in.
 fn exit_stage(loan: &LoanCode) -> LineStage
     ensures { result ≡ exit_stage loan.now }
 {
@@ -312,7 +318,7 @@ fn exit_stage(loan: &LoanCode) -> LineStage
     }
 }
 
-/// The location date that a message bears.
+/// The location date of a message, or `None` if its kind has none.
 fn day_of(message: &Message) -> Option<Day>
     ensures { result ≡ day_of message.now }
 {

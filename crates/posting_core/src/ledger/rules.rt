@@ -69,7 +69,7 @@ impl Ledger {
         }
     }
 
-    /// The number of a container of the setup.
+    /// The number of a container, or `None` if the setup has no container with this code.
     fn container(&self, code: &ThingCode) -> Option<ThingNo>
         ensures found { result
             ≡ (if is_known_container self.now.museum code.now
@@ -83,7 +83,8 @@ impl Ledger {
         }
     }
 
-    /// Whether a thing is elsewhere, or is borrowed and has no place yet.
+    /// Whether a thing isn't in the museum: it is elsewhere, or it is borrowed and has no place
+    /// yet.
     fn is_away(&self, thing: ThingNo) -> bool
         requires { thing < length self.now.museum.things }
         ensures { result ≡ is_away self.now.museum thing (place_in self.now thing) }
@@ -94,7 +95,7 @@ impl Ledger {
         }
     }
 
-    /// Whether a thing's place is inside; without a place it isn't.
+    /// Whether a thing's place is inside the museum. False for a thing without a place.
     pub(crate) fn is_inside(&self, thing: ThingNo) -> bool
         requires { thing < length self.now.museum.things }
         ensures { result
@@ -106,7 +107,7 @@ impl Ledger {
         }
     }
 
-    /// Why a thing can't be packed into a container, or none where it can.
+    /// Why a thing can't be packed into a container, or `None` if it can.
     fn pack_bar(&self, thing: ThingNo, container: ThingNo) -> Option<PackBar>
         requires thing { thing < length self.now.museum.things }
         requires container { container < length self.now.museum.things }

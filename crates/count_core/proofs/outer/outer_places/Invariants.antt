@@ -4,4 +4,5 @@ use Rattle.count_core.specs.Inside.{outer_place}
 use Rattle.count_core.proofs.outer.outer_places.Given as goal
 
 abbrev pub invariant-loop-end : goal.invariant-loop-end
-invariant-loop-end l = l.places.items ≡ filter_map (outer_place l.setup l.text) (range_with_len 0 l.end)
+invariant-loop-end l = l.places.items ≡ filter_map (outer_place l.setup l.text)
+    (range_with_len 0 l.end)

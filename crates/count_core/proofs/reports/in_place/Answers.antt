@@ -13,13 +13,17 @@ loop-thing-preserved c =
     let below : of_setup x = search arith in
     elim c.if-is_in.branch [
       | then-is_in+in_ok-push w ↦
-          let pushed = ap (λ (v : Vec ℕ Global). v.items) w.things-is ∙ w.in_ok-push.ensures.items in (
-            pushed ∙ (ap (λ xs. xs ++ x ∷ []) c.loop-thing.invariant.0 ∙ sym (filter_with test x (sym c.is_in.ensures ∙ w.if-is_in.true))),
-            subst (All of_setup) (sym pushed) (All-push of_setup c.loop-thing.things.items x c.loop-thing.invariant.1 below),
+          let pushed = ap (λ (v : Vec ℕ Global). v.items) w.things-is
+              ∙ w.in_ok-push.ensures.items in (
+            pushed ∙ (ap (λ xs. xs ++ x ∷ []) c.loop-thing.invariant.0
+                ∙ sym (filter_with test x (sym c.is_in.ensures ∙ w.if-is_in.true))),
+            subst (All of_setup) (sym pushed)
+                (All-push of_setup c.loop-thing.things.items x c.loop-thing.invariant.1 below),
           )
       | else-is_in w ↦
           let same = ap (λ (v : Vec ℕ Global). v.items) w.things-is in (
-            same ∙ (c.loop-thing.invariant.0 ∙ sym (filter_without test x (sym c.is_in.ensures ∙ w.if-is_in.false))),
+            same ∙ (c.loop-thing.invariant.0
+                ∙ sym (filter_without test x (sym c.is_in.ensures ∙ w.if-is_in.false))),
             subst (All of_setup) (sym same) c.loop-thing.invariant.1,
           )
     ]

@@ -7,5 +7,6 @@ use Rattle.nest_core.proofs.setup_reader.add_rows.Given as goal
 -- the rows before this one are listed, each of a byte at least, and the reader stands behind them
 abbrev pub invariant-loop-before : goal.invariant-loop-before
 invariant-loop-before l = TakesRows l.reader
-    × (xs : List ℕ) × (source_of (λ s. Some s.now) l.reader ≡ Some xs) × IsUpTo (strip_bom l.fn.bytes) l.setup (l.before + 1) (reader_state l.reader) xs
+    × (xs : List ℕ) × (source_of (λ s. Some s.now) l.reader ≡ Some xs)
+        × IsUpTo (strip_bom l.fn.bytes) l.setup (l.before + 1) (reader_state l.reader) xs
     × (l.before + length xs ≤ length l.fn.bytes)

@@ -7,5 +7,6 @@ pub loop-i-preserved : goal.loop-i-preserved
 loop-i-preserved c =
     let lines = c.args.lines.now in
     c.in_ok-insert.ensures.keys
-    ∙ ap (λ keys. insert_key nat_eq keys (get_or lines c.loop-i.i c.index-lines-i.result).object) c.loop-i.invariant
+    ∙ ap (λ keys. insert_key nat_eq keys (get_or lines c.loop-i.i c.index-lines-i.result).object)
+        c.loop-i.invariant
     ∙ one_more_object lines c.loop-i.i c.index-lines-i.result c.loop-i-test.true c.requires

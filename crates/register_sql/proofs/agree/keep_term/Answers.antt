@@ -12,4 +12,5 @@ returns-in-Ok-None-clause-kept c =
     let day : ℤ = c.in-Some.day in
     let none : lookup (bytes_eq loan) kept ≡ None = search rules in
     let done : c.insert.new.self.entries ≡ insert_entry bytes_eq kept loan day = search rules in
-    keeps_term bytes_eq kept c.insert.new.self.entries loan day c.args.row.now none done c.in-Some.ensures'.read
+    keeps_term bytes_eq kept c.insert.new.self.entries loan day c.args.row.now none done
+        c.in-Some.ensures'.read

@@ -2,9 +2,9 @@ use Rattle.std.proofs.Common.{◌≤◌, refl, inl, inr, arith, rules, subst}
 use Rattle.sqlite.specs.Held.{state}
 use Rattle.sqlite.specs.State.{HasCleanDisk}
 use Rattle.register_sql.specs.Queries.{IsPart}
-use Rattle.register_sql.specs.Says.{IsTold}
+use Rattle.register_sql.specs.Says.{IsIdentity}
 use Rattle.register_sql.specs.Tables.{IsNoStore}
-use Rattle.register_sql.specs.declared.told.Told.TheVariants as told
+use Rattle.register_sql.specs.declared.identity.Identity.TheVariants as told
 use Rattle.register_sql.proofs.Newness.{new_without_tables, new_by, old_by, says_some}
 use Rattle.register_sql.proofs.bind.is_new.Goals as goal
 
@@ -23,27 +23,27 @@ pub returns-in-New-clause-told : goal.returns-in-New-clause-told
 returns-in-New-clause-told g c clean =
     let old = state g.S.Store c.args.conn.now in
     let made = c.in-Some.made in
-    let early : HasCleanDisk old = omega (arith, clean, c.told_of.ensures.survives.clean) in
+    let early : HasCleanDisk old = omega (arith, clean, c.identity_of.ensures.survives.clean) in
     let some : 1 ≤ made = search rules in
     let few : made ≤ 6 = search rules in
     let part : IsPart made old = search rules in
-    let it = c.in_ok-told-in-Some.ensures.told clean in
-    let none : IsTold it.0 told.New = subst (IsTold it.0) c.in-New.is it.2 in
+    let it = c.in_ok-identity-in-Some.ensures.told clean in
+    let none : IsIdentity it.0 told.New = subst (IsIdentity it.0) c.in-New.is it.2 in
     inr (new_by made some few old it.0 part it.1 none)
 
 pub returns-in_default : goal.returns-in_default
 returns-in_default g c = record {
-  between = c.told_of.ensures.between c.requires.between;
+  between = c.identity_of.ensures.between c.requires.between;
   told = λ clean.
       let old = state g.S.Store c.args.conn.now in
       let made = c.in-Some.made in
-      let early : HasCleanDisk old = omega (arith, clean, c.told_of.ensures.survives.clean) in
+      let early : HasCleanDisk old = omega (arith, clean, c.identity_of.ensures.survives.clean) in
       let some : 1 ≤ made = search rules in
       let few : made ≤ 6 = search rules in
       let part : IsPart made old = search rules in
-      let it = c.in_ok-told-in-Some.ensures.told clean in
+      let it = c.in_ok-identity-in-Some.ensures.told clean in
       inr (old_by made some few old it.0 part it.1
-      (says_some it.0 c.in_ok-told-in-Some.told it.2 c.in_default.not-New));
-  same = c.in_ok-told-in-Some.ensures.same;
-  survives = c.told_of.ensures.survives;
+      (says_some it.0 c.in_ok-identity-in-Some.told it.2 c.in_default.not-New));
+  same = c.in_ok-identity-in-Some.ensures.same;
+  survives = c.identity_of.ensures.survives;
 }

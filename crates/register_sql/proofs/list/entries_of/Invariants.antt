@@ -6,6 +6,7 @@ use Rattle.register_sql.proofs.list.entries_of.Given as goal
 
 abbrev pub invariant-rows : goal.invariant-rows
 invariant-rows l = record {
-  kept : (ps : List PostingRow) → map posting_shown ps ≡ l.rows → ArePostings (reverse l.entries.items) (reverse (take l.i ps));
+  kept : (ps : List PostingRow) → map posting_shown ps ≡ l.rows
+      → ArePostings (reverse l.entries.items) (reverse (take l.i ps));
   stationed : All (IsOfStation l.stations) l.entries.items;
 }

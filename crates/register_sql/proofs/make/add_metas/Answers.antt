@@ -15,7 +15,8 @@ returns-clause-wrote g c clean =
     let early : HasCleanDisk mid = omega (arith, c.add_meta-version.ensures.survives.clean) in
     let d : MetaRow = record { name = codes "depth"; val = pos c.args.depth } in
     let v : MetaRow = record { name = codes "version"; val = pos 2 } in
-    goes_then 6 6 (AddsMeta (d ∷ [])) (AddsMeta (v ∷ [])) (AddsMeta (rows_of_meta c.args.depth)) old mid new c.add_meta-version.result (two_metas v d)
+    goes_then 6 6 (AddsMeta (d ∷ [])) (AddsMeta (v ∷ [])) (AddsMeta (rows_of_meta c.args.depth)) old
+        mid new c.add_meta-version.result (two_metas v d)
     (c.in_ok-add_meta.ensures.wrote early) (c.add_meta-version.ensures.wrote clean)
 
 pub returns-clause-kept : goal.returns-clause-kept
@@ -25,4 +26,5 @@ returns-clause-kept g c clean =
     kept_then _ _ _ (c.add_meta.ensures.kept early) (c.add_meta-version.ensures.kept clean)
 
 pub returns-clause-survives : goal.returns-clause-survives
-returns-clause-survives g c = survives_on _ _ _ c.add_meta.ensures.survives c.add_meta-version.ensures.survives
+returns-clause-survives g c = survives_on _ _ _ c.add_meta.ensures.survives
+    c.add_meta-version.ensures.survives

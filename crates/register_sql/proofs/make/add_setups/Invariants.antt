@@ -10,4 +10,6 @@ invariant-texts g l =
     let now = state g.S.Store l.tx.conn.now in
     (l.tx.conn.ghost_name ≡ l.fn.tx.conn.ghost_name)
     × Survives old now (λ _. ⊥)
-    × (HasCleanDisk now → KeepsCommit old now × SoFarSetup old now (setup_from 1 (map string_bytes l.texts)) (setup_from (l.at + 1) (map string_bytes (drop l.at l.texts))))
+    × (HasCleanDisk now → KeepsCommit old now
+        × SoFarSetup old now (setup_from 1 (map string_bytes l.texts))
+        (setup_from (l.at + 1) (map string_bytes (drop l.at l.texts))))

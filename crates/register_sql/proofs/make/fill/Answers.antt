@@ -16,7 +16,8 @@ returns-clause-wrote g c clean =
     let early : HasCleanDisk mid = omega (arith, c.add_metas.ensures.survives.clean) in
     let s = setup_from 1 (map string_bytes c.args.texts.now) in
     let m = rows_of_meta c.args.depth in
-    goes_then 6 6 (ReplacesSetup s) (AddsMeta m) (Fills s m) old mid new c.add_metas.result (fills s m)
+    goes_then 6 6 (ReplacesSetup s) (AddsMeta m) (Fills s m) old mid new
+        c.add_metas.result (fills s m)
     (c.in_ok-replace_setup.ensures.wrote early) (c.add_metas.ensures.wrote clean)
 
 pub returns-clause-kept : goal.returns-clause-kept
@@ -26,4 +27,5 @@ returns-clause-kept g c clean =
     kept_then _ _ _ (c.replace_setup.ensures.kept early) (c.add_metas.ensures.kept clean)
 
 pub returns-clause-survives : goal.returns-clause-survives
-returns-clause-survives g c = survives_on _ _ _ c.replace_setup.ensures.survives c.add_metas.ensures.survives
+returns-clause-survives g c = survives_on _ _ _ c.replace_setup.ensures.survives
+    c.add_metas.ensures.survives

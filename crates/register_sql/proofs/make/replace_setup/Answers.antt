@@ -14,7 +14,8 @@ returns-clause-wrote g c clean =
     let new = state g.S.Store c.add_setups.new.tx.conn.now in
     let early : HasCleanDisk mid = omega (arith, c.add_setups.ensures.survives.clean) in
     let s = setup_from 1 (map string_bytes c.args.texts.now) in
-    goes_then 6 6 (ClearsSetup) (AddsSetup s) (ReplacesSetup s) old mid new c.add_setups.result (replaces s)
+    goes_then 6 6 (ClearsSetup) (AddsSetup s) (ReplacesSetup s) old mid new c.add_setups.result
+        (replaces s)
     (c.in_ok-clear_setup.ensures.wrote early) (c.add_setups.ensures.wrote clean)
 
 pub returns-clause-kept : goal.returns-clause-kept
@@ -24,4 +25,5 @@ returns-clause-kept g c clean =
     kept_then _ _ _ (c.clear_setup.ensures.kept early) (c.add_setups.ensures.kept clean)
 
 pub returns-clause-survives : goal.returns-clause-survives
-returns-clause-survives g c = survives_on _ _ _ c.clear_setup.ensures.survives c.add_setups.ensures.survives
+returns-clause-survives g c = survives_on _ _ _ c.clear_setup.ensures.survives
+    c.add_setups.ensures.survives

@@ -14,8 +14,13 @@ returns-clause-wrote g c clean =
     let early : HasCleanDisk mid = omega (arith, c.put_spots.ensures.survives.clean) in
     let spots = c.args.changes.now.spots in
     let is : c.as_slice.result.now ≡ spots = search rules in
-    makes_then (state g.S.Store c.args.tx.now.conn.now) mid new (with_posting (posting_row c.args.row.now)) (with_each (λ s. with_spot (spot_row s)) spots) c.put_spots.result
-    (c.in_ok-put_posting.ensures.wrote early) (subst (λ l. OnOk c.put_spots.result (Makes mid new (with_each (λ s. with_spot (spot_row s)) l))) is (c.put_spots.ensures.wrote clean))
+    makes_then (state g.S.Store c.args.tx.now.conn.now) mid new
+        (with_posting (posting_row c.args.row.now)) (with_each (λ s. with_spot (spot_row s)) spots)
+        c.put_spots.result
+    (c.in_ok-put_posting.ensures.wrote early)
+        (subst (λ l. OnOk c.put_spots.result
+        (Makes mid new (with_each (λ s. with_spot (spot_row s)) l))) is
+        (c.put_spots.ensures.wrote clean))
 
 pub returns-clause-kept : goal.returns-clause-kept
 returns-clause-kept g c clean =
@@ -24,4 +29,5 @@ returns-clause-kept g c clean =
     kept_then _ _ _ (c.put_posting.ensures.kept early) (c.put_spots.ensures.kept clean)
 
 pub returns-clause-survives : goal.returns-clause-survives
-returns-clause-survives g c = survives_on _ _ _ c.put_posting.ensures.survives c.put_spots.ensures.survives
+returns-clause-survives g c = survives_on _ _ _ c.put_posting.ensures.survives
+    c.put_spots.ensures.survives

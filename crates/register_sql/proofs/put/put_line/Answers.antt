@@ -12,7 +12,9 @@ returns-clause-wrote g c clean =
     let mid = state g.S.Store c.clear_line.new.tx.conn.now in
     let new = state g.S.Store c.add_line.new.tx.conn.now in
     let early : HasCleanDisk mid = omega (arith, c.add_line.ensures.survives.clean) in
-    makes_then old mid new (without_line (line_row c.args.line.now)) (more_line (line_row c.args.line.now)) c.add_line.result (c.in_ok-clear_line.ensures.wrote early) (c.add_line.ensures.wrote clean)
+    makes_then old mid new (without_line (line_row c.args.line.now))
+        (more_line (line_row c.args.line.now)) c.add_line.result
+        (c.in_ok-clear_line.ensures.wrote early) (c.add_line.ensures.wrote clean)
 
 pub returns-clause-kept : goal.returns-clause-kept
 returns-clause-kept g c clean =
@@ -21,4 +23,5 @@ returns-clause-kept g c clean =
     kept_then _ _ _ (c.clear_line.ensures.kept early) (c.add_line.ensures.kept clean)
 
 pub returns-clause-survives : goal.returns-clause-survives
-returns-clause-survives g c = survives_on _ _ _ c.clear_line.ensures.survives c.add_line.ensures.survives
+returns-clause-survives g c = survives_on _ _ _ c.clear_line.ensures.survives
+    c.add_line.ensures.survives

@@ -11,4 +11,5 @@ invariant-spots g l =
     let now = state g.S.Store l.tx.conn.now in
     (l.tx.conn.ghost_name ≡ l.fn.tx.conn.ghost_name)
     × Survives old now (λ _. ⊥)
-    × (HasCleanDisk now → SoFar old now (with_each (λ s. with_spot (spot_row s)) l.spots) (with_each (λ s. with_spot (spot_row s)) (drop l.spot-index l.spots)))
+    × (HasCleanDisk now → SoFar old now (with_each (λ s. with_spot (spot_row s)) l.spots)
+        (with_each (λ s. with_spot (spot_row s)) (drop l.spot-index l.spots)))

@@ -11,7 +11,10 @@ returns-clause-wrote g c clean =
     let mid = state g.S.Store c.clear_term.new.tx.conn.now in
     let new = state g.S.Store c.add_term.new.tx.conn.now in
     let early : HasCleanDisk mid = omega (arith, c.add_term.ensures.survives.clean) in
-    makes_then old mid new (without_term (record { loan = c.args.term.now.0; day = c.args.term.now.1 })) (more_term (record { loan = c.args.term.now.0; day = c.args.term.now.1 })) c.add_term.result (c.in_ok-clear_term.ensures.wrote early) (c.add_term.ensures.wrote clean)
+    makes_then old mid new
+        (without_term (record { loan = c.args.term.now.0; day = c.args.term.now.1 }))
+        (more_term (record { loan = c.args.term.now.0; day = c.args.term.now.1 })) c.add_term.result
+        (c.in_ok-clear_term.ensures.wrote early) (c.add_term.ensures.wrote clean)
 
 pub returns-clause-kept : goal.returns-clause-kept
 returns-clause-kept g c clean =
@@ -20,4 +23,5 @@ returns-clause-kept g c clean =
     kept_then _ _ _ (c.clear_term.ensures.kept early) (c.add_term.ensures.kept clean)
 
 pub returns-clause-survives : goal.returns-clause-survives
-returns-clause-survives g c = survives_on _ _ _ c.clear_term.ensures.survives c.add_term.ensures.survives
+returns-clause-survives g c = survives_on _ _ _ c.clear_term.ensures.survives
+    c.add_term.ensures.survives

@@ -10,5 +10,6 @@ returns-clause-exact g c =
     let day = day_there _ _ text in
     let bytes = c.as_bytes.ensures.value in
     let read = rw (bytes, ← day) at c.parse.ensures.exact in
-    let answer = c.ok_or.ensures.value ∙ ap (λ (o : Option ℤ). ok_or o (BadField c.args.key)) c.ok.ensures.value in
+    let answer = c.ok_or.ensures.value ∙ ap (λ (o : Option ℤ). ok_or o (BadField c.args.key))
+        c.ok.ensures.value in
     rw answer (read_there c.args.key day_fault _ c.parse.result _ c.in_ok-text.text.now text read)

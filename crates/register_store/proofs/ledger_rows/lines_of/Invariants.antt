@@ -6,4 +6,6 @@ use Rattle.register_store.specs.StoredRows.{lines_by_loan}
 use Rattle.register_store.proofs.ledger_rows.lines_of.Given as goal
 
 abbrev pub invariant-loop-i : goal.invariant-loop-i
-invariant-loop-i l = held_lines l.rows.items ++ flat_map (λ loan. lines_of_loan l.ledger loan (objects_of_loan l.ledger loan)) (drop l.i (loans_in l.ledger)) ≡ lines_by_loan l.ledger.museum l.ledger.posted
+invariant-loop-i l = held_lines l.rows.items
+    ++ flat_map (λ loan. lines_of_loan l.ledger loan (objects_of_loan l.ledger loan))
+    (drop l.i (loans_in l.ledger)) ≡ lines_by_loan l.ledger.museum l.ledger.posted

@@ -5,4 +5,5 @@ use Rattle.register_store.specs.StoredRows.{spots_of_thing}
 use Rattle.register_store.proofs.ledger_rows.spot_rows.Given as goal
 
 abbrev pub invariant-loop-thing : goal.invariant-loop-thing
-invariant-loop-thing l = l.rows.items ≡ flat_map (λ x. spots_of_thing x 1 (spots_in l.ledger x)) (range_with_len 0 l.thing)
+invariant-loop-thing l = l.rows.items ≡ flat_map (λ x. spots_of_thing x 1 (spots_in l.ledger x))
+    (range_with_len 0 l.thing)

@@ -6,4 +6,5 @@ use Rattle.register_store.specs.StoredRows.{rows_of_terms}
 use Rattle.register_store.proofs.ledger_rows.terms_of.Given as goal
 
 abbrev pub invariant-loop-i : goal.invariant-loop-i
-invariant-loop-i l = term_rows l.rows.items ++ flat_map (day_of_loan l.ledger) (drop l.i (loans_in l.ledger)) ≡ rows_of_terms l.ledger.posted
+invariant-loop-i l = term_rows l.rows.items ++ flat_map (day_of_loan l.ledger)
+    (drop l.i (loans_in l.ledger)) ≡ rows_of_terms l.ledger.posted

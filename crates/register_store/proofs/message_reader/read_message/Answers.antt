@@ -7,7 +7,8 @@ use Rattle.register_store.specs.Kinds.{of_bytes, of_read}
 use Rattle.register_store.proofs.Fields.{of_value}
 use Rattle.register_store.proofs.message_reader.read_message.Goals as goal
 
-refused : (b : Bool) (bytes : List ℕ) → (b ≡ true → read bytes ≡ None) → (if b then of_read (read bytes) else Err NotJson) ≡ Err NotJson
+refused : (b : Bool) (bytes : List ℕ) → (b ≡ true → read bytes ≡ None)
+    → (if b then of_read (read bytes) else Err NotJson) ≡ Err NotJson
 refused true bytes none = ap of_read (none refl)
 refused false bytes none = refl
 

@@ -14,8 +14,11 @@ loop-i-preserved c =
     let rows = c.args.rows.now in
     let entry = c.in-Ok.entry in
     record {
-      kept = next_row c.loop-i.entries.items c.push.new.self.items rows c.loop-i.i entry c.index-rows-i.result c.loop-i-test.true c.index-rows-i.is (search rules) (search rules) c.loop-i.invariant.kept;
-      stationed = all_next (IsOfStation c.args.stations) c.loop-i.entries.items c.push.new.self.items entry (search rules) (search rules) c.loop-i.invariant.stationed;
+      kept = next_row c.loop-i.entries.items c.push.new.self.items rows c.loop-i.i entry
+          c.index-rows-i.result c.loop-i-test.true c.index-rows-i.is (search rules) (search rules)
+          c.loop-i.invariant.kept;
+      stationed = all_next (IsOfStation c.args.stations) c.loop-i.entries.items
+          c.push.new.self.items entry (search rules) (search rules) c.loop-i.invariant.stationed;
     }
 
 pub returns-in-Err-clause-faults : goal.returns-in-Err-clause-faults
@@ -28,11 +31,17 @@ returns-in-Err-clause-faults c other =
         before = map kept_row (take i rows);
         row = kept_row c.index-rows-i.result;
         after = map kept_row (drop (i + 1) rows);
-        split = ap (map kept_row) (split_at rows i c.index-rows-i.result c.loop-i-test.true c.index-rows-i.is) ∙ map-append kept_row (take i rows) (c.index-rows-i.result ∷ drop (i + 1) rows);
-        number = ap (λ n. n + 1) (length-map (take i rows) kept_row ∙ taken_length rows i c.loop-i-test.true);
+        split = ap (map kept_row) (split_at rows i c.index-rows-i.result c.loop-i-test.true
+            c.index-rows-i.is) ∙ map-append kept_row (take i rows)
+            (c.index-rows-i.result ∷ drop (i + 1) rows);
+        number =
+            ap (λ n. n + 1) (length-map (take i rows) kept_row ∙ taken_length rows i
+            c.loop-i-test.true);
         entries = reverse c.loop-i.entries.items;
-        right = subst (ArePostings (reverse c.loop-i.entries.items)) (map-reverse kept_row (take i rows)) c.loop-i.invariant.kept;
-        stationed = All-permutation (IsOfStation c.args.stations) c.loop-i.entries.items _ (IsPermutation-reverse c.loop-i.entries.items) c.loop-i.invariant.stationed;
+        right = subst (ArePostings (reverse c.loop-i.entries.items))
+            (map-reverse kept_row (take i rows)) c.loop-i.invariant.kept;
+        stationed = All-permutation (IsOfStation c.args.stations) c.loop-i.entries.items _
+            (IsPermutation-reverse c.loop-i.entries.items) c.loop-i.invariant.stationed;
         wrong = search rules;
       },
     )

@@ -15,8 +15,10 @@ returns-then-len-wanted g c =
     let wanted = c.args.wanted.now in
     let kept = c.args.kept.now.entries in
     let test = c.has_each.ensures in (
-      λ yes. wanted_kept g.K.PartialEq.eq g.V.PartialEq.eq c.requires.keys c.requires.values wanted kept c.requires.distinct (sym c.len.ensures.len ∙ c.if-len-wanted.true) (by test yes),
-      λ same. trans test (kept_wanted g.K.PartialEq.eq g.V.PartialEq.eq c.requires.keys c.requires.values wanted kept c.len.ensures.unique same),
+      λ yes. wanted_kept g.K.PartialEq.eq g.V.PartialEq.eq c.requires.keys c.requires.values wanted
+          kept c.requires.distinct (sym c.len.ensures.len ∙ c.if-len-wanted.true) (by test yes),
+      λ same. trans test (kept_wanted g.K.PartialEq.eq g.V.PartialEq.eq c.requires.keys
+          c.requires.values wanted kept c.len.ensures.unique same),
     )
 
 pub returns-else-len-wanted : goal.returns-else-len-wanted

@@ -11,5 +11,6 @@ returns-clause-told g c =
     let sorted = c.sort_unstable.new.self.items in
     let decided = slice_eq-Decides c.requires.exact sorted wanted c.eq.result (search rules) in (
       λ same. subst (IsPermutation wanted) (sym (decided.0 same)) (IsPermutation-refl wanted),
-      λ alike. decided.1 (sorted_unique _ g.met.T.Ord.total wanted sorted c.requires.ascending alike c.sort_unstable.ensures.sorted),
+      λ alike. decided.1 (sorted_unique _ g.met.T.Ord.total wanted sorted c.requires.ascending alike
+          c.sort_unstable.ensures.sorted),
     )

@@ -4,4 +4,5 @@ use Rattle.report_rows.specs.Fields.{quoted}
 use Rattle.report_rows.proofs.field.array_text.Given as goal
 
 abbrev pub invariant-loop-i : goal.invariant-loop-i
-invariant-loop-i l = map string_bytes l.items.items ≡ map quoted (map string_bytes (take l.i l.texts))
+invariant-loop-i l = map string_bytes l.items.items
+    ≡ map quoted (map string_bytes (take l.i l.texts))

@@ -8,5 +8,6 @@ use Rattle.report_rows.proofs.printing.words_line.Goals as goal
 pub returns : goal.returns
 returns c =
     let told_words = filter is_told (map told c.args.words.now) in
-    let joined = joined_alike string_bytes plain_text (codes " ") _ told_words c.in_ok-texts.ensures in
+    let joined = joined_alike string_bytes plain_text (codes " ") _ told_words
+        c.in_ok-texts.ensures in
     search rules

@@ -7,4 +7,5 @@ use Rattle.report_rows.proofs.printing.words_told.Goals as goal
 pub returns : goal.returns
 returns c =
     c.loop-i.invariant
-    ∙ ap (λ ts. map plain_text (filter is_told (map told ts))) (take_all c.loop-i.i c.args.words.now (omega arith))
+    ∙ ap (λ ts. map plain_text (filter is_told (map told ts)))
+        (take_all c.loop-i.i c.args.words.now (omega arith))

@@ -5,4 +5,5 @@ use Rattle.report_rows.specs.Fields.{is_told, plain_text, told}
 use Rattle.report_rows.proofs.printing.words_told.Given as goal
 
 abbrev pub invariant-loop-i : goal.invariant-loop-i
-invariant-loop-i l = map string_bytes l.texts.items ≡ map plain_text (filter is_told (map told (take l.i l.words)))
+invariant-loop-i l = map string_bytes l.texts.items ≡ map plain_text
+    (filter is_told (map told (take l.i l.words)))

@@ -13,10 +13,12 @@ loop-preserved g c =
       inv.0 ++ line.0 ∷ [],
       lines_then _ _ _ inv.0 (line.0 ∷ []) inv.1 line.1,
       serves_then g.R.Register.holding _ _ _ inv.0 (line.0 ∷ []) inv.2 line.3,
-      takes_push c.args.station c.args.ring.now c.loop.ring c.pop_known-item.new.self inv.0 line.0 c.pop_known-item.result inv.3 p.ring p.received.0 line.2,
+      takes_push c.args.station c.args.ring.now c.loop.ring c.pop_known-item.new.self inv.0 line.0
+          c.pop_known-item.result inv.3 p.ring p.received.0 line.2,
       moved _ _ _ _ _ c.pop_known-item.result inv.4 p.received.0 p.received.1,
       omega (arith, inv.5, ap length p.received.1),
-      still_end (record { finished = c.slots_after-left.new.finished }) c.loop.ring c.pop_known-item.new.self inv.6 p.ring,
+      still_end (record { finished = c.slots_after-left.new.finished }) c.loop.ring
+          c.pop_known-item.new.self inv.6 p.ring,
       inv.7,
       c.in_ok-log_item.ensures.level ∙ inv.8,
       c.in_ok-log_item.ensures.count ∙ inv.9,
@@ -28,7 +30,8 @@ loop-init g c =
       [],
       sym (append-nil _),
       serves_none g.R.Register.holding c.args.hub.now,
-      record { ring = s.looked.0; of = tt; taken = s.looked.1 ∙ sym (append-nil (received_is c.args.ring.now)) },
+      record { ring = s.looked.0; of = tt;
+          taken = s.looked.1 ∙ sym (append-nil (received_is c.args.ring.now)) },
       s.fifo,
       omega (arith, s.value),
       s.finished.0,
@@ -55,7 +58,8 @@ returns-in_err-log_item-clause-fault g c =
 pub returns-in_err-log_item-clause-end : goal.returns-in_err-log_item-clause-end
 returns-in_err-log_item-clause-end g c =
     let inv = c.loop.invariant in
-    (still_end (record { finished = c.slots_after-left.new.finished }) c.loop.ring c.pop_known-item.new.self inv.6 c.pop_known-item.ensures.ring, inv.7)
+    (still_end (record { finished = c.slots_after-left.new.finished }) c.loop.ring
+        c.pop_known-item.new.self inv.6 c.pop_known-item.ensures.ring, inv.7)
 
 pub returns-clause-level : goal.returns-clause-level
 returns-clause-level g c = c.loop.invariant.8

@@ -10,4 +10,5 @@ returns-clause-runs g c O A stands s =
     let S = c.args.self.now.book.museum in
     let d = c.args.self.now.book.depth in
     let law : IsLawful S d c.args.self.now.book.posted = search rules in
-    ap (cut s) stands.list ∙ each_run S d O A s (subst (λ (P : List Entry). IsLawful S d P) stands.list law)
+    ap (cut s) stands.list ∙ each_run S d O A s
+        (subst (λ (P : List Entry). IsLawful S d P) stands.list law)

@@ -14,7 +14,8 @@ restore-requires-clause-ready g c =
 pub restore-requires-clause-bound : goal.restore-requires-clause-bound
 restore-requires-clause-bound g c =
     let L = c.in_ok-ledger.ledger in
-    subst (λ (S : Museum). Has (g.R.Register.holding c.bound.new.register) (IsBoundTo S L.depth)) (sym c.in_ok-ledger.ensures.new.0) c.in_ok-ledger.ensures.bound
+    subst (λ (S : Museum). Has (g.R.Register.holding c.bound.new.register) (IsBoundTo S L.depth))
+        (sym c.in_ok-ledger.ensures.new.0) c.in_ok-ledger.ensures.bound
 
 pub returns-in-Err-clause-refused : goal.returns-in-Err-clause-refused
 returns-in-Err-clause-refused g c =
@@ -22,8 +23,11 @@ returns-in-Err-clause-refused g c =
     let mid = g.R.Register.holding c.bound.new.register in
     let new = g.R.Register.holding c.restore.new.register in
     let fault = c.in-Err.fault in
-    let wrong : Each new (λ k. IsRestoreFault c.args.setup k fault) = subst (λ (S : Museum). Each new (λ k. IsRestoreFault S k fault)) c.in_ok-ledger.ensures.new.0 c.in-Err.ensures.fault in
-    not_restored old mid new c.args.setup fault c.in_ok-ledger.ensures.kept c.in-Err.ensures.unchanged wrong
+    let wrong : Each new (λ k. IsRestoreFault c.args.setup k fault) =
+        subst (λ (S : Museum). Each new (λ k. IsRestoreFault S k fault))
+        c.in_ok-ledger.ensures.new.0 c.in-Err.ensures.fault in
+    not_restored old mid new c.args.setup fault c.in_ok-ledger.ensures.kept
+        c.in-Err.ensures.unchanged wrong
 
 pub returns-in-Ok-clause-prepared : goal.returns-in-Ok-clause-prepared
 returns-in-Ok-clause-prepared g c =
@@ -35,5 +39,6 @@ returns-in-Ok-clause-prepared g c =
       museum = restored.museum ∙ c.in_ok-ledger.ensures.new.0;
       goes_on = restored.goes_on;
       stored = restored.stored;
-      comes = restored_from old mid new c.args.setup c.restore.new.ledger c.in_ok-ledger.ensures.kept c.in-Ok.ensures.unchanged restored.stored;
+      comes = restored_from old mid new c.args.setup c.restore.new.ledger
+          c.in_ok-ledger.ensures.kept c.in-Ok.ensures.unchanged restored.stored;
     }

@@ -17,9 +17,12 @@ invariant-loop-n g l = record {
   in_step : InStep l.sequences l.ledger.museum l.ledger.posted;
   bound : g.R.Register.is_bound l.register ≡ true;
   count : g.R.Register.refusals l.register ≡ g.R.Register.refusals l.fn.register;
-  stored : HasStore (g.R.Register.holding l.fn.register) l.fn.ledger → HasStore (g.R.Register.holding l.register) l.ledger;
+  stored : HasStore (g.R.Register.holding l.fn.register) l.fn.ledger
+      → HasStore (g.R.Register.holding l.register) l.ledger;
   caught : (taken : List (Arrived Message)) → IsPosting is_sign_off taken l.station l.fn.sequences →
-      Caught l.fn.ledger.museum l.fn.ledger.depth taken l.station (series_at l.fn.sequences l.station).posted l.fn.ledger.posted l.sequences l.ledger.posted;
+      Caught l.fn.ledger.museum l.fn.ledger.depth taken l.station
+          (series_at l.fn.sequences l.station).posted l.fn.ledger.posted l.sequences
+          l.ledger.posted;
 }
 
 abbrev pub decreases-loop-n : goal.decreases-loop-n

@@ -8,4 +8,5 @@ counted [] = refl
 counted (b ∷ line) = eqb-suc-zero (length line)
 
 pub returns : goal.returns
-returns c = c.is_empty.ensures ∙ counted c.without_return.result.now ∙ ap is_empty c.without_return.ensures
+returns c = c.is_empty.ensures ∙ counted c.without_return.result.now ∙ ap is_empty
+    c.without_return.ensures

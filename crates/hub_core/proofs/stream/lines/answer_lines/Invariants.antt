@@ -15,5 +15,8 @@ invariant-loop-number g l = record {
   room : REPLY_ROOM ≤ string_capacity l.text;
   reads : l.reads.left ≤ l.fn.reads.left;
   watched : (O : List Entry) (A : List Arrival) → StandsFor g.S.Register.holding l.fn.hub O A →
-      UnderWatch l.fn.hub.book.museum l.fn.hub.book.depth O A (g.R.Read.remaining l.fn.input) (g.R.Read.remaining l.input) (g.W.Write.contents l.fn.output) (g.W.Write.contents l.output) g.S.Register.holding l.hub l.number (g.V.Watch.has_seen l.fn.watch) (g.V.Watch.has_seen l.watch);
+      UnderWatch l.fn.hub.book.museum l.fn.hub.book.depth O A (g.R.Read.remaining l.fn.input)
+          (g.R.Read.remaining l.input) (g.W.Write.contents l.fn.output)
+          (g.W.Write.contents l.output) g.S.Register.holding l.hub l.number
+          (g.V.Watch.has_seen l.fn.watch) (g.V.Watch.has_seen l.watch);
 }

@@ -3,4 +3,5 @@ use Rattle.std.specs.Io.KnownBytes.{Appends}
 use Rattle.hub_core.proofs.stream.lines.write_text.Given as goal
 
 abbrev pub invariant-loop : goal.invariant-loop
-invariant-loop g l = (l.done ≤ length l.text) × Appends (g.W.Write.contents l.fn.output) (g.W.Write.contents l.output) (take l.done l.text)
+invariant-loop g l = (l.done ≤ length l.text)
+    × Appends (g.W.Write.contents l.fn.output) (g.W.Write.contents l.output) (take l.done l.text)

@@ -15,7 +15,8 @@ returns-then-are_zero-clause-counts c =
     rw (bad, unknown, refused) c.are_zero-then-are_zero.ensures
 
 pub returns-then-are_zero-clause-seen : goal.returns-then-are_zero-clause-seen
-returns-then-are_zero-clause-seen c = λ outcomes seen. returns-then-are_zero-clause-counts c ∙ clean_of _ outcomes seen
+returns-then-are_zero-clause-seen c = λ outcomes seen. returns-then-are_zero-clause-counts c
+    ∙ clean_of _ outcomes seen
 
 pub returns-else-are_zero-clause-seen : goal.returns-else-are_zero-clause-seen
 returns-else-are_zero-clause-seen c = λ outcomes seen.

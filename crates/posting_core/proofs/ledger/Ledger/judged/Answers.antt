@@ -7,12 +7,14 @@ returns-in-Move-clause-put c = rw c.in-Move.is (c.judge_move.ensures.put c.in-Mo
 pub returns-in-Pack-clause-put : goal.returns-in-Pack-clause-put
 returns-in-Pack-clause-put c = rw c.in-Pack.is (c.judge_pack.ensures.put c.in-Pack.day)
 
-on_day : {X Y : Type 0} (P : ℤ → X → Type 0) (day : ℤ) (r : Result X Y) → IfOk r (λ x. (d : ℤ) → P d x) → IfOk r (P day)
+on_day : {X Y : Type 0} (P : ℤ → X → Type 0) (day : ℤ) (r : Result X Y)
+    → IfOk r (λ x. (d : ℤ) → P d x) → IfOk r (P day)
 on_day P day (Ok x) each = each day
 on_day P day (Err y) each = tt
 
 pub returns-in-Return-clause-put : goal.returns-in-Return-clause-put
-returns-in-Return-clause-put c = rw c.in-Return.is (on_day _ c.in-Return.day c.judge_return.result c.judge_return.ensures.put)
+returns-in-Return-clause-put c =
+    rw c.in-Return.is (on_day _ c.in-Return.day c.judge_return.result c.judge_return.ensures.put)
 
 pub returns-in-Return-clause-verdict : goal.returns-in-Return-clause-verdict
 returns-in-Return-clause-verdict c = rw c.in-Return.is c.judge_return.ensures.verdict

@@ -7,4 +7,5 @@ pub returns-clause-opened : goal.returns-clause-opened
 returns-clause-opened g c = grind (arith, common_steps)
 
 pub returns-clause-taken : goal.returns-clause-taken
-returns-clause-taken g c = λ signs taken every. rw (returns-clause-opened g c) (all_opened signs taken _ every)
+returns-clause-taken g c = λ signs taken every. rw (returns-clause-opened g c)
+    (all_opened signs taken _ every)

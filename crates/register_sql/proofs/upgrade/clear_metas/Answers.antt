@@ -1,0 +1,16 @@
+use Rattle.std.proofs.Common.{Ok, arith, rules}
+use Rattle.sqlite.specs.Held.{state}
+use Rattle.sqlite.specs.State.{HasCleanDisk}
+use Rattle.register_sql.proofs.Ends.{on_ok}
+use Rattle.register_sql.proofs.Raised.{cleared_meta}
+use Rattle.register_sql.proofs.upgrade.clear_metas.Goals as goal
+
+pub returns-clause-wrote : goal.returns-clause-wrote
+returns-clause-wrote g c clean =
+    let old = state g.S.Store c.args.tx.now.conn.now in
+    let new = state g.S.Store c.run.new.tx.conn.now in
+    let early : HasCleanDisk old = omega (arith, c.run.ensures.survives.clean) in
+    let made = c.requires.made early in
+    on_ok c.run.result (c.run.ensures.ran clean made.inside)
+        (λ ran. cleared_meta old new _ (Ok ran.0) made (c.requires.apart early) ran.1
+        (search rules))
