@@ -1,6 +1,7 @@
 //! The explained word that is nearest to a text.
 ghost use Rattle.std.specs.Prelude.{◌≡◌, ◌≤◌, ◌⊎◌, All, IfOk, IfSome, Some};
-ghost use Rattle.help_texts.specs.Distances.{IsAsNear, IsFoundBy, IsNoNearer, edits_between, lowered};
+ghost use Rattle.help_texts.specs.Distances.{IsAsNear, IsFoundBy, IsNoNearer, edits_between};
+ghost use Rattle.help_texts.specs.Distances.{lowered};
 
 use crate::Meaning;
 use std::alloc::{AllocError, Global};

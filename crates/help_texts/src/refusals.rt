@@ -35,14 +35,14 @@ pub(crate) const REFUSALS: &[Meaning] = &[
         means: "the number is more than 256 above the last one on record",
         cause: "earlier numbers are missing, or the number is mistyped.",
         action: "send the number that 'pairsalder stations' prints, then this line again. If\n\
-            that one is lost, fill it as 'pairsalder help lines' shows.",
+            it is lost, send in its place a move of a thing that the setup does not list.",
     },
     Meaning {
         word: "held",
         means: "the message waits for an earlier number of its station",
         cause: "an earlier line is missing, or could not be read.",
-        action: "send the number that 'pairsalder stations' prints, in the same run or with\n\
-            this line again. If it is lost, fill it as 'pairsalder help lines' shows.",
+        action: "send the number that 'pairsalder stations' prints, then this line again. If\n\
+            it is lost, send in its place a move of a thing that the setup does not list.",
     },
     Meaning {
         word: "refused",
