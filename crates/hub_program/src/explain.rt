@@ -7,9 +7,17 @@ use std::alloc::Global;
 use std::io;
 use std::io::Write;
 
+/// How many bytes a text may have to be compared with the words. No word is as long.
+const LONGEST: usize = 100;
+
 /// Writes what a word means, its usual cause, and what to do. The case of letters doesn't count.
 pub fn explain<W: Write>(alloc: Global, word: &str, output: &mut W) -> Result<(), CommandFault> {
-    match nearest(alloc, word, TABLES)? {
+    let found = if word.len() <= LONGEST {
+        nearest(alloc, word, TABLES)?
+    } else {
+        None
+    };
+    match found {
         Some(found) if found.edits == 0 => {
             write_meaning(found.meaning, output).map_err(|_| CommandFault::WriteFailed)
         }
