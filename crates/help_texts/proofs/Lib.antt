@@ -1,2 +1,1 @@
-pub mod Nearer
 mod WorkedRows

@@ -14,7 +14,7 @@ mod topic;
 mod verdicts;
 
 pub use meaning::Meaning;
-pub use nearest::{Nearest, nearest};
+pub use nearest::{Nearest, nearest_word};
 pub use pages::page_of;
 pub use tables::TABLES;
 pub use topic::Topic;

@@ -16,7 +16,7 @@ pub struct Nearest {
 }
 
 /// The word that is nearest to the text, of those in the tables. None if the tables have no word.
-pub fn nearest(
+pub fn nearest_word(
     alloc: Global,
     text: &str,
     tables: &[&'static [Meaning]],

@@ -2,7 +2,7 @@
 
 use crate::advice::Advice;
 use crate::fault::CommandFault;
-use help_texts::{Meaning, Nearest, TABLES, nearest};
+use help_texts::{Meaning, Nearest, TABLES, nearest_word};
 use std::alloc::Global;
 use std::io;
 use std::io::Write;
@@ -13,7 +13,7 @@ const LONGEST: usize = 100;
 /// Writes what a word means, its usual cause, and what to do. The case of letters doesn't count.
 pub fn explain<W: Write>(alloc: Global, word: &str, output: &mut W) -> Result<(), CommandFault> {
     let found = if word.len() <= LONGEST {
-        nearest(alloc, word, TABLES)?
+        nearest_word(alloc, word, TABLES)?
     } else {
         None
     };

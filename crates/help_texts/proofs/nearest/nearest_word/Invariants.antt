@@ -1,7 +1,7 @@
 use Rattle.std.proofs.Common.{All}
 use Rattle.std.specs.List.{AllWithin}
 use Rattle.help_texts.specs.Distances.{IsFoundBy, IsNoNearer}
-use Rattle.help_texts.proofs.nearest.nearest.Given as goal
+use Rattle.help_texts.proofs.nearest.nearest_word.Given as goal
 
 -- no word of the tables so far is nearer than the best
 abbrev pub invariant-loop-table : goal.invariant-loop-table
