@@ -20,8 +20,12 @@ def told(program, *words):
 def main():
     program, failed = os.path.abspath(sys.argv[1]), 0
     overview = told(program, "--help")
-    commands = re.findall(r"^  (\w+)  +\w", overview.partition("Commands:")[2].partition("Options:")[0], re.M)
-    helps = [overview] + [told(program, "help", name) for name in commands if name != "help"]
+    commands, topics = re.findall(r"^  (\w+)  +\w", overview.partition("Commands:")[2].partition("Options:")[0], re.M), ["setup", "counts"]
+    helps = [overview] + [told(program, "help", name) for name in commands + topics]
+    for name in commands:
+        if f"\n  pairsalder {name} " not in told(program, "help", name):
+            failed += 1
+            print(f"help {name}: no example")
     examples = [line.strip() for text in helps for line in re.findall(r"^  pairsalder .*$", text, re.M)]
     with tempfile.TemporaryDirectory() as folder:
         for name, text in FILES.items():

@@ -62,8 +62,9 @@ def argument(term, told, names):
     value = re.search(r"[<\[](\w+)[>\]]", term)
     choices = re.search(r" *\[possible values: (.*)\]", told)
     listed = choices[1].split(", ") if choices else []
-    if value and value[1] == "COMMAND":
-        listed = names
+    if value and value[1] == "TOPIC":
+        # 'setup, lines, or a command'
+        listed = [*told.split(", ")[:-1], *names]
     told = told.replace(choices[0], "") if choices else told
     named = re.findall(r"--?\w[\w-]*", term)
     return Argument(named, value[1] if value else "", "..." in term, told, listed)
@@ -125,7 +126,7 @@ def roff_term(it):
 
 def described(arguments):
     for it in arguments:
-        is_listed = it.choices and it.value != "COMMAND"
+        is_listed = it.choices and it.value != "TOPIC"
         choices = f" One of: {', '.join(it.choices)}." if is_listed else ""
         yield f".TP\n{roff_term(it)}\n{roff(it.help)}.{roff(choices)}"
 

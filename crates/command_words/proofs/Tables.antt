@@ -26,6 +26,7 @@ is_simple name.Contents = refl
 is_simple name.Loan = refl
 is_simple name.At = refl
 is_simple name.Posted = refl
+is_simple name.Help = refl
 
 is_plain : (n : Name) → (app_by n).top.is_plain ≡ true
 unfolding app_by register_app report_app
@@ -44,6 +45,7 @@ is_plain name.Contents = refl
 is_plain name.Loan = refl
 is_plain name.At = refl
 is_plain name.Posted = refl
+is_plain name.Help = refl
 
 pub simple_by : (n : Name) (app : App) → app ≡ app_by n → is_simple_and_free app ≡ true
 simple_by n app e = ap is_simple_and_free e ∙ is_simple n
@@ -58,7 +60,7 @@ overview_is_simple = refl
 pub simple_overview : (app : App) → app ≡ overview → is_simple_and_free app ≡ true
 simple_overview app e = ap is_simple_and_free e ∙ overview_is_simple
 
--- all commands, in the order of the help
+-- the commands of the overview, in its order
 abbrev pub all : List Name
 all = name.Replay ∷ name.Serve ∷ name.Count ∷ name.Overdue ∷ name.Away ∷ name.History
     ∷ name.Migrate ∷ name.Copy ∷ name.Explain ∷ name.Stations ∷ name.Where ∷ name.Contents

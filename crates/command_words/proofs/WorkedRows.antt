@@ -5,7 +5,7 @@ use Rattle.clap.specs.Words.{Text, matches_of, new_app}
 use Rattle.clap.proofs.OnLiterals.{clap_on_literals}
 use Rattle.clap.specs.declared.error.kind.ErrorKind.TheVariants.{ArgumentConflict, InvalidValue}
 use Rattle.clap.specs.declared.error.kind.ErrorKind.TheVariants.{UnknownArgument}
-use Rattle.command_words.specs.Commands.{away, copy, explain, posted, register_app, replay}
+use Rattle.command_words.specs.Commands.{away, copy, explain, help, posted, register_app, replay}
 use Rattle.command_words.specs.Commands.{report_app, serve}
 use Rattle.command_words.specs.Tables.{with_arguments}
 use Rattle.command_words.specs.Words.{form_named, format_in, is_given, lacks, refusals, report_kinds}
@@ -176,6 +176,23 @@ no_words_lack = refl
 pub misspelt : map status_of_kind (refusals (codes "replya" ∷ [])) ≡ 2 ∷ 2 ∷ []
 unfolding clap_on_literals register_app report_app
 misspelt = refl
+
+-- help lines, and help alone
+pub help_named : form_named (codes "help" ∷ codes "lines" ∷ []) ≡ Some help
+unfolding register_app report_app
+help_named = refl
+
+pub help_topic : value help.app (codes "help" ∷ codes "lines" ∷ []) (codes "topic") ≡ Some (codes "lines")
+unfolding clap_on_literals
+help_topic = refl
+
+pub help_alone : value help.app (codes "help" ∷ []) (codes "topic") ≡ None
+unfolding clap_on_literals
+help_alone = refl
+
+pub help_lacks_nothing : lacks (form_named (codes "help" ∷ [])) (codes "help" ∷ []) ≡ false
+unfolding register_app report_app
+help_lacks_nothing = refl
 
 -- what clap's matches have for a report, and that they lack the store
 abbrev word : List ℕ → Bor (List ℕ)

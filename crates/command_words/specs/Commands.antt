@@ -1,4 +1,4 @@
--- Defines the fifteen commands: the arguments that `clap` knows of each, and the values that each
+-- Defines the sixteen commands: the arguments that `clap` knows of each, and the values that each
 -- needs.
 use Rattle.std.specs.Prelude.{◌∷◌, [], Bool, List, Some, codes, map, true, false}
 use Rattle.clap.specs.Words.{App, Rule, Text, new_app, new_rule, with_rule}
@@ -96,6 +96,14 @@ abbrev pub explain : Form
 explain = one_needed (with_rule (new_app (codes "explain")) (word_rule (codes "name")))
     (codes "name")
 
+-- A command that needs no value.
+abbrev pub help : Form
+help = record {
+  app = with_rule (new_app (codes "help")) (word_rule (codes "topic"));
+  needed = [];
+  is_report = false;
+}
+
 abbrev pub stations : Form
 stations = report (both_needed (report_app (register_app (codes "stations"))))
 
@@ -126,9 +134,13 @@ posted = report
     (both_needed
     (report_app (with_rule (register_app (codes "posted")) (option_rule (codes "from")))))
 
-abbrev pub commands : List Form
-commands = replay ∷ serve ∷ count ∷ overdue ∷ away ∷ history ∷ migrate
+-- The commands other than `help`.
+abbrev pub listed : List Form
+listed = replay ∷ serve ∷ count ∷ overdue ∷ away ∷ history ∷ migrate
     ∷ copy ∷ explain ∷ stations ∷ where_is ∷ contents ∷ loan ∷ at ∷ posted ∷ []
+
+abbrev pub commands : List Form
+commands = help ∷ listed
 
 -- The program without any command.
 abbrev pub program_alone : App
@@ -136,9 +148,9 @@ program_alone =
     record (new_app (codes "pairsalder"))
     { top = record (new_app (codes "pairsalder")).top { has_version = true } }
 
--- The program with all its commands, for words that name none of them.
+-- The program with all its commands, for words that name none of them. `clap` adds its own `help`.
 abbrev pub overview : App
 overview = record program_alone {
   top = record program_alone.top { is_leaf = false };
-  subs = map (λ form. form.app.top) commands;
+  subs = map (λ form. form.app.top) listed;
 }

@@ -2,7 +2,7 @@
 use Rattle.std.specs.Prelude.{◌∷◌, [], List}
 use Rattle.clap.specs.Words.{App, Rule, Text, with_rule, with_subcommand}
 use Rattle.command_words.specs.Commands.{at, away, contents, copy, count, explain, flag_rule}
-use Rattle.command_words.specs.Commands.{history, loan, migrate, option_rule, overdue, posted}
+use Rattle.command_words.specs.Commands.{help, history, loan, migrate, option_rule, overdue, posted}
 use Rattle.command_words.specs.Commands.{replay, serve, stations, where_is, word_rule, words_rule}
 use Rattle.command_words.specs.declared.options.Argument.{Argument}
 use Rattle.command_words.specs.declared.options.Kind.{Kind}
@@ -44,6 +44,7 @@ app_by name.Contents = contents.app
 app_by name.Loan = loan.app
 app_by name.At = at.app
 app_by name.Posted = posted.app
+app_by name.Help = help.app
 
 -- The program with these commands added.
 abbrev pub with_commands : App → List Name → App

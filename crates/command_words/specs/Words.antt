@@ -15,7 +15,7 @@ use Rattle.clap.specs.declared.error.Error.{Error}
 use Rattle.clap.specs.declared.error.kind.ErrorKind.{ErrorKind}
 use Rattle.clap.specs.declared.error.kind.ErrorKind.TheVariants.{ArgumentConflict, DisplayHelp, DisplayVersion, OutOfMemory}
 use Rattle.command_words.specs.Commands.{Form, at, away, commands, contents, copy, count, explain}
-use Rattle.command_words.specs.Commands.{history, loan, migrate, overdue, overview, posted, replay, serve}
+use Rattle.command_words.specs.Commands.{help, history, loan, migrate, overdue, overview, posted, replay, serve}
 use Rattle.command_words.specs.Commands.{stations, where_is}
 use Rattle.command_words.specs.declared.reading.Files.{Files}
 use Rattle.command_words.specs.declared.reading.Record.{Record}
@@ -119,6 +119,8 @@ IsChosen words (command.Copy setup store to) = IsNamed words (codes "copy")
     × (value copy.app words (codes "to") ≡ Some to.now)
 IsChosen words (command.Explain name) = IsNamed words (codes "explain")
     × (value explain.app words (codes "name") ≡ Some name.now)
+IsChosen words (command.Help topic) = IsNamed words (codes "help")
+    × (value help.app words (codes "topic") ≡ text_of topic)
 IsChosen words (command.Stations setup store format) = IsNamed words (codes "stations")
     × (value stations.app words (codes "setup") ≡ Some setup.now)
     × (value stations.app words (codes "store") ≡ Some store.now)

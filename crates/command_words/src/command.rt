@@ -77,6 +77,10 @@ pub enum Chosen<'a> {
     Explain {
         name: &'a str,
     },
+    /// Prints the page of a topic or the help of a command or, if neither is named, an overview.
+    Help {
+        topic: Option<&'a str>,
+    },
     /// Tells which number each station has to send next.
     Stations {
         setup: &'a str,

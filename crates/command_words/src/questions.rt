@@ -5,7 +5,9 @@ ghost use Rattle.std.specs.Prelude.{Some, codes};
 ghost use Rattle.command_words.specs.Commands as commands;
 ghost use Rattle.command_words.specs.Words.{Chooses, IsNamed, texts_of};
 
-use crate::reading::{read_report, read_report_and, read_report_and_perhaps, read_word};
+use crate::reading::{
+    read_report, read_report_and, read_report_and_perhaps, read_word, read_word_if,
+};
 use crate::shapes::Name;
 use crate::{Chosen, WordsFault};
 use std::alloc::Global;
@@ -16,6 +18,14 @@ pub(crate) fn explain<'a>(alloc: Global, words: &'a [&'a str]) -> Result<Chosen<
 {
     let name = read_word(alloc, Name::Explain, words, "name")?;
     Ok(Chosen::Explain { name })
+}
+
+pub(crate) fn help<'a>(alloc: Global, words: &'a [&'a str]) -> Result<Chosen<'a>, WordsFault>
+    requires { IsNamed (texts_of words.now) (codes "help") }
+    ensures { Chooses (Some commands.help) (texts_of words.now) result }
+{
+    let topic = read_word_if(alloc, Name::Help, words, "topic")?;
+    Ok(Chosen::Help { topic })
 }
 
 pub(crate) fn stations<'a>(alloc: Global, words: &'a [&'a str]) -> Result<Chosen<'a>, WordsFault>

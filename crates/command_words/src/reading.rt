@@ -318,3 +318,21 @@ pub(crate) fn read_word<'a>(
     drop(matches);
     needed(own)
 }
+
+/// The value of the one argument of a command that needs nothing, if it is there.
+pub(crate) fn read_word_if<'a>(
+    alloc: Global,
+    name: Name,
+    words: &'a [&'a str],
+    id: &'static str,
+) -> Result<Option<&'a str>, WordsFault>
+    ensures { MatchResult result
+        (λ r. (fault_of (app_by name) (texts_of words.now) ≡ [])
+        × (value (app_by name) (texts_of words.now) id.now ≡ text_of r))
+        (IsRefused (app_by name) (texts_of words.now)) }
+{
+    let matches = read(alloc, name, words)?;
+    let own = one(&matches, id);
+    drop(matches);
+    Ok(own)
+}

@@ -30,9 +30,10 @@ pub(crate) enum Name {
     Loan,
     At,
     Posted,
+    Help,
 }
 
-/// All commands, in the order in which the help lists them.
+/// All commands but `help`, which `clap` adds, in the order in which the help lists them.
 const NAMES: [Name; 15] = [
     Name::Replay,
     Name::Serve,
@@ -100,6 +101,13 @@ const WORD: Argument = Argument {
     help: "A verdict, a refusal or a fault, as NotListed",
 };
 
+const TOPIC: Argument = Argument {
+    kind: Kind::Word,
+    id: "topic",
+    value: "TOPIC",
+    help: "setup, lines, counts, verdicts, files, or a command",
+};
+
 const THING: Argument = Argument {
     kind: Kind::Word,
     id: "code",
@@ -156,6 +164,7 @@ fn word_of(name: Name) -> &'static str
         Name::Loan => "loan",
         Name::At => "at",
         Name::Posted => "posted",
+        Name::Help => "help",
     }
 }
 
@@ -177,6 +186,7 @@ fn help_of(name: Name) -> &'static Help {
         Name::Loan => &texts::LOAN,
         Name::At => &texts::AT,
         Name::Posted => &texts::POSTED,
+        Name::Help => &texts::HELP,
     }
 }
 
@@ -201,6 +211,7 @@ fn arguments_of(name: Name) -> &'static [Argument]
         Name::Loan => &[SETUP, STORE, LOAN, CSV, JSON],
         Name::At => &[SETUP, STORE, PLACE, CSV, JSON],
         Name::Posted => &[SETUP, STORE, FROM, CSV, JSON],
+        Name::Help => &[TOPIC],
     }
 }
 

@@ -19,13 +19,16 @@ pub(crate) const PROGRAM: Help = Help {
     usage: "pairsalder COMMAND [OPTIONS]\n       pairsalder < SESSION",
     more: "\
 'pairsalder help COMMAND' tells what a command is for, what it reads and prints,
-and shows it at work. With no words the program reads a session from standard
-input: a setup, an empty line, and then lines. It answers them, and keeps nothing.
+and shows it at work. 'pairsalder help TOPIC' has a page on each of these topics:
+setup, lines, counts, verdicts, files. With no words the program reads a session
+from standard input: a setup, an empty line, and then lines. It answers them, and
+keeps nothing.
 
 Examples:
   pairsalder replay --setup museum.csv --store museum.db < monday.jsonl
   pairsalder away --setup museum.csv --store museum.db
   pairsalder help count
+  pairsalder help setup
 
 Exit status: 0 done; 1 a fault, told by one line on standard error; 2 the words
 aren't right.",
@@ -185,19 +188,35 @@ name; 2 usage error.",
 };
 
 pub(crate) const EXPLAIN: Help = Help {
-    about: "Tells what a verdict, a refusal or a fault means, and what to do about it",
+    about: "Explains a word of a reply, a report or a fault, and what to do about it",
     usage: "pairsalder explain NAME",
     more: "\
-For whoever reads a reply: NAME is a word in it such as Applied, Double or
-BadCode or, of a fault without such a word, the one behind 'fault'.
+For anyone who reads a reply: NAME is a word that the program prints, for example
+Double, held, Away or memory. Capital and small letters are the same.
 
-Prints what the word means, when it comes, and what to do about it.
+Prints three or four lines: what the word means, its usual cause, and what to do.
+For a word that it doesn't know, a line 'help:' names one that is like it.
 
 Example:
   pairsalder explain NotListed
 
-Exit status: 0 it is told; 1 a fault; 2 the words aren't right, or no reply has
-this NAME.",
+Exit status: 0 the word is explained; 1 a fault; 2 usage error, or an unknown word.",
+};
+
+pub(crate) const HELP: Help = Help {
+    about: "Prints the page of a topic, or the help of a command",
+    usage: "pairsalder help [TOPIC | COMMAND]",
+    more: "\
+The topics are setup (the setup's rows, and codes), lines (the messages and
+questions of stations), counts (count lists), verdicts (all of them) and files
+(back up, move and restore a record). 'help COMMAND' is 'COMMAND --help'. With
+neither it prints an overview.
+
+Examples:
+  pairsalder help lines
+  pairsalder help count
+
+Exit status: 0 the page is printed; 2 usage error.",
 };
 
 pub(crate) const STATIONS: Help = Help {

@@ -5,7 +5,7 @@ ghost use Rattle.std.specs.Prelude.{◌≡◌, ◌∷◌, [], IfErr, IfOk, None,
 ghost use Rattle.command_words.specs.Commands as commands;
 ghost use Rattle.command_words.specs.Words.{Chooses, IsChosen, IsFault, IsNamed, form_named, refusals, texts_of};
 
-use crate::questions::{at, contents, explain, loan, posted, stations, where_is};
+use crate::questions::{at, contents, explain, help, loan, posted, stations, where_is};
 use crate::reading::{
     needed, read_by, read_files_and_all, read_files_and_flags, read_record, read_record_and,
     read_report, read_report_and,
@@ -51,6 +51,7 @@ fn named<'a>(alloc: Global, name: &str, words: &'a [&'a str]) -> Result<Chosen<'
         "loan" => loan(alloc, words),
         "at" => at(alloc, words),
         "posted" => posted(alloc, words),
+        "help" => help(alloc, words),
         _ => no_command(alloc, words),
     }
 }

@@ -4,6 +4,7 @@ use crate::copying::copied;
 use crate::explain::explain;
 use crate::fault::CommandFault;
 use crate::files::{read_feeds, read_list, read_setup};
+use crate::help::help;
 use crate::lines::write_line;
 use crate::progress::Progress;
 use crate::report::Report;
@@ -43,6 +44,7 @@ pub fn command<
         return status(ended.map_err(CommandFault::from), output, errors);
     }
     match chosen(rt.alloc(), words) {
+        Ok(Chosen::Help { topic }) => help(rt.alloc(), topic, output, errors),
         Ok(chosen) => {
             let mut notes = String::new(rt.alloc());
             let ended = perform(
@@ -86,7 +88,7 @@ fn noted_status<W: Write, E: Write>(
 }
 
 /// Flushes the output, writes the fault's line, and returns the status.
-fn status<W: Write, E: Write>(
+pub(crate) fn status<W: Write, E: Write>(
     ended: Result<(), CommandFault>,
     output: &mut W,
     errors: &mut E,
@@ -102,7 +104,7 @@ fn status<W: Write, E: Write>(
 }
 
 /// Tells why the words choose no command: help goes to the output, all else to the errors.
-fn refuse<W: Write, E: Write>(fault: &WordsFault, output: &mut W, errors: &mut E) -> u8 {
+pub(crate) fn refuse<W: Write, E: Write>(fault: &WordsFault, output: &mut W, errors: &mut E) -> u8 {
     match fault {
         WordsFault::Refused(error) if fault.status() == 0 => {
             let told = write!(output, "{error}");
@@ -161,7 +163,7 @@ fn perform<
         } => counted(
             rt, threads, setup, store, list, *format, start, input, output, notes,
         ),
-        Chosen::Explain { name } => explain(name, output),
+        Chosen::Explain { name } => explain(rt.alloc(), name, output),
         Chosen::Serve {
             setup,
             store,

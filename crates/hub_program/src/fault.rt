@@ -36,8 +36,8 @@ pub enum CommandFault {
     Code(CodeFault),
     /// The text after `--from` is no number.
     Number,
-    /// Nothing has this name.
-    Name,
+    /// The program prints no word like this.
+    Name(Advice),
     /// The lane of the station of this name gave no end.
     Unfinished(String),
     /// There are more or fewer feeds than stations.
@@ -113,7 +113,7 @@ impl CommandFault {
             CommandFault::Day(_)
             | CommandFault::Code(_)
             | CommandFault::Number
-            | CommandFault::Name
+            | CommandFault::Name(_)
             | CommandFault::Feeds
             | CommandFault::Words => 2,
             _ => 1,
@@ -137,6 +137,7 @@ impl CommandFault {
     fn advice(&self) -> Option<&str> {
         match self {
             CommandFault::File(advice)
+            | CommandFault::Name(advice)
             | CommandFault::Setup(_, advice)
             | CommandFault::Counts(_, advice)
             | CommandFault::Store(_, advice) => advice.as_deref(),
@@ -163,7 +164,7 @@ impl CommandFault {
             CommandFault::Day(fault) => write_code(errors, "day", *fault),
             CommandFault::Code(fault) => write_code(errors, "code", *fault),
             CommandFault::Number => writeln!(errors, "fault number"),
-            CommandFault::Name => writeln!(errors, "fault name"),
+            CommandFault::Name(_) => writeln!(errors, "fault name"),
             CommandFault::Unfinished(station) => writeln!(errors, "fault unfinished {station}"),
             CommandFault::Feeds => writeln!(errors, "fault feeds"),
             CommandFault::Words => writeln!(errors, "fault words"),

@@ -8,6 +8,7 @@ mod copying;
 mod explain;
 mod fault;
 mod files;
+mod help;
 mod lines;
 mod notes;
 mod progress;

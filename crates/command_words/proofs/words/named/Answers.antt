@@ -4,7 +4,7 @@ use Rattle.std.specs.Str.{bytes_eq}
 use Rattle.std.specs.Option.{option_and_then}
 use Rattle.clap.specs.Words.{Text}
 use Rattle.command_words.specs.Commands.{Form, at, away, commands, contents, copy, count, explain}
-use Rattle.command_words.specs.Commands.{history, loan, migrate}
+use Rattle.command_words.specs.Commands.{help, history, loan, migrate}
 use Rattle.command_words.specs.Commands.{overdue, posted, register_app, replay, report_app, serve, stations, where_is}
 use Rattle.command_words.specs.Words.{Chooses, IsNamed, form_named, texts_of}
 use Rattle.command_words.specs.declared.command.Chosen.{Chosen}
@@ -111,3 +111,9 @@ unfolding register_app report_app
 returns-in-posted c =
     in_arm (texts_of c.args.words.now) c.args.name.now (codes "posted") (Some posted) c.posted.result
     c.requires c.in-posted.is refl c.posted.ensures
+
+pub returns-in-help : goal.returns-in-help
+unfolding register_app report_app
+returns-in-help c =
+    in_arm (texts_of c.args.words.now) c.args.name.now (codes "help") (Some help) c.help.result
+    c.requires c.in-help.is refl c.help.ensures

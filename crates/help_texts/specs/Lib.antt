@@ -1,0 +1,2 @@
+pub mod Distances
+pub mod Topics

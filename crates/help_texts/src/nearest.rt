@@ -1,0 +1,84 @@
+//! The explained word that is nearest to a text.
+ghost use Rattle.std.specs.Prelude.{◌≡◌, ◌≤◌, ◌⊎◌, All, IfOk, IfSome, Some};
+ghost use Rattle.help_texts.specs.Distances.{IsAsNear, IsFoundBy, IsNoNearer, edits_between};
+ghost use Rattle.help_texts.specs.Distances.{lowered};
+
+use crate::Meaning;
+use std::alloc::{AllocError, Global};
+use strsim::generic_levenshtein;
+
+/// An explained word, and its distance from a text: how many letters have to be added, dropped or
+/// changed to make one of the other. The case of letters doesn't count.
+#[derive(Clone, Copy)]
+pub struct Nearest {
+    pub meaning: &'static Meaning,
+    pub edits: usize,
+}
+
+/// The word that is nearest to the text, of those in the tables. None if the tables have no word.
+pub fn nearest_word(
+    alloc: Global,
+    text: &str,
+    tables: &[&'static [Meaning]],
+) -> Result<Option<Nearest>, AllocError>
+    ensures found { IfOk result (IsFoundBy text.now) }
+    ensures least { IfOk result (λ found. All (λ table. All (IsNoNearer text.now found) table.now)
+        tables.now) }
+{
+    let mut best = None;
+    for table in tables {
+        best = nearest_in(alloc, text, table, best)?;
+    }
+    Ok(best)
+}
+
+/// The nearest of the best so far and the words of a table.
+fn nearest_in(
+    alloc: Global,
+    text: &str,
+    table: &'static [Meaning],
+    best: Option<Nearest>,
+) -> Result<Option<Nearest>, AllocError>
+    requires { IsFoundBy text.now best }
+    ensures found { IfOk result (IsFoundBy text.now) }
+    ensures least { IfOk result (λ found. All (IsNoNearer text.now found) table.now) }
+    ensures best { IfOk result (IsAsNear best) }
+{
+    let mut best = best;
+    for meaning in table {
+        let edits = edits_between(alloc, text, meaning.word)?;
+        best = Some(nearer(best, Nearest { meaning, edits }));
+    }
+    Ok(best)
+}
+
+/// The nearer of two.
+fn nearer(best: Option<Nearest>, next: Nearest) -> Nearest
+    ensures one { (result ≡ next) ⊎ (Some result ≡ best) }
+    ensures next { result.edits ≤ next.edits }
+    ensures best { IfSome best (λ best. result.edits ≤ best.edits) }
+{
+    match best {
+        Some(best) if best.edits <= next.edits => best,
+        _ => next,
+    }
+}
+
+/// The distance of a word from a text.
+fn edits_between(alloc: Global, text: &str, word: &str) -> Result<usize, AllocError>
+    ensures { IfOk result (λ edits. edits ≡ edits_between text.now word.now) }
+{
+    let text = lowered(alloc, text)?;
+    let word = lowered(alloc, word)?;
+    generic_levenshtein(alloc, text.as_slice(), word.as_slice())
+}
+
+/// The bytes of a text, with small letters in place of the capitals A to Z.
+fn lowered(alloc: Global, text: &str) -> Result<Vec<u8>, AllocError>
+    ensures { IfOk result (λ bytes. bytes.items ≡ lowered text.now) }
+{
+    text.as_bytes()
+        .iter()
+        .map(|byte| byte.to_ascii_lowercase())
+        .collect(alloc)
+}

@@ -1,0 +1,141 @@
+//! The pages of `help TOPIC`.
+
+use crate::Topic;
+
+/// The page of a topic; that of the verdicts without the verdicts, which follow it.
+pub fn page_of(topic: Topic) -> &'static str {
+    match topic {
+        Topic::Setup => SETUP,
+        Topic::Lines => LINES,
+        Topic::Counts => COUNTS,
+        Topic::Verdicts => VERDICTS,
+        Topic::Files => FILES,
+    }
+}
+
+const SETUP: &str = "\
+The setup is a CSV file in UTF-8, without a header. It has one row for each
+station, place and thing of the museum:
+
+  station,GAL                a desk, a scanner or a person that sends messages
+  place,S1,inside            a place of the museum's own
+  place,S1-A,inside          a place that lies in S1
+  place,MUSEUM-X,elsewhere   a partner's place
+  box,C1                     a container: a box or a crate
+  own,2001.4.1,S1-A          an own object, and its normal location
+  lent,L1999.7               a borrowed object
+
+Put a place before the objects that have it as their normal location. At most 64
+stations, 10000 places and 100000 things fit. A record keeps the setup that it
+began with: list everything, and keep the file.
+
+Each code has one spelling. A number is 1 to 999999, without a 0 before it.
+
+  station     GAL, STORE-A          1 to 16 of A-Z, a-z, 0-9 and -
+  place       S1, S1-A, MUSEUM-X    1 to 4 parts of 1 to 8 of A-Z and 0-9
+  container   C1, C17               C and a number
+  own object  2001.4.1, 2001.4.2a   year, 1 to 3 numbers, at most one letter
+  borrowed    L1999.7               L before it
+  loan        LO2024.1, LI2024.1    LO out, LI in; year and number
+  day         2024-05-31            year, month and day
+
+Example: begin a record, and see whether a row of the setup is wrong
+  pairsalder replay --setup museum.csv --store museum.db < /dev/null
+";
+
+const LINES: &str = "\
+Each line is one JSON object: a message or a question. A station numbers its
+messages n from 1, day after day, without a gap. A question has no number.
+
+  {\"station\":\"GAL\",\"n\":1,\"message\":{..}}
+  {\"station\":\"GAL\",\"ask\":\"2001.4.1\"}
+
+The messages, each with all its keys:
+
+  {\"kind\":\"move\",\"thing\":\"C1\",\"place\":\"S1\",\"day\":\"2024-05-01\"}
+      puts a thing at a place of the museum's own
+  {\"kind\":\"pack\",\"thing\":\"2001.4.1\",\"container\":\"C1\",\"day\":\"2024-05-01\"}
+      puts a thing into a container
+  {\"kind\":\"agree\",\"loan\":\"LO2024.1\",\"partner\":\"MUSEUM-X\",
+   \"objects\":[\"2001.4.1\"],\"first\":\"2024-05-01\",\"last\":\"2024-05-31\"}
+      agrees a loan out (LO) or a loan in (LI) of all these objects
+  {\"kind\":\"authorise\",\"loan\":\"LO2024.1\",\"by\":\"Ann\"}
+      authorises the loan
+  {\"kind\":\"exit\",\"thing\":\"C1\",\"loan\":\"LO2024.1\",\"day\":\"2024-05-02\"}
+      sends an object or a crate out; under a loan in, an object home
+  {\"kind\":\"extend\",\"loan\":\"LO2024.1\",\"last\":\"2024-06-30\"}
+      sets a later last day
+  {\"kind\":\"return\",\"thing\":\"C1\",\"loan\":\"LO2024.1\",\"place\":\"S1\",
+   \"day\":\"2024-06-30\"}
+      brings it back under a loan out
+  {\"kind\":\"receive\",\"thing\":\"L1999.7\",\"loan\":\"LI2024.1\",\"place\":\"S1\",
+   \"day\":\"2024-05-01\"}
+      takes a borrowed object in, under a loan in
+  {\"kind\":\"signoff\",\"by\":\"Ann\"}
+      ends the station for ever; a shift ends without a message
+
+A number is lost? Send under it a message about a thing that the setup does not
+list: a move, pack, exit, return or receive. It is recorded as UnknownThing,
+changes nothing, and what was held behind it can be sent again:
+
+  {\"kind\":\"move\",\"thing\":\"C999999\",\"place\":\"S1\",\"day\":\"2024-05-01\"}
+";
+
+const COUNTS: &str = "\
+A count list is a CSV file in UTF-8, without a header. Someone goes to the
+shelves, and writes a row for each thing and each place:
+
+  S1-A,2001.4.1     the object was seen at S1-A
+  S1-A,C1           a container was seen there
+  S2                the place was looked at, and is empty or has only what
+                    other rows name
+
+'pairsalder count' answers each row with the first of these that applies:
+
+  UnknownPlace      the setup does not list the place
+  Counted           the row names a place alone
+  UnknownObject     the setup does not list the thing
+  Again             an earlier row names the same thing
+  Unplaced          the thing was never put anywhere
+  Found             the record has it at this place, or at one that lies in it
+  Elsewhere S2      the record has it at S2
+
+Then it prints 'missing S1-A 2001.4.3' for each object that the record has at a
+place of the list, and that no row names. At most 100000 rows fit.
+
+Example:
+  pairsalder count --setup museum.csv --store museum.db shelves.csv
+";
+
+const VERDICTS: &str = "\
+Each message on record has a verdict. Applied took effect. Any other names the
+first rule that the message broke, and the message changed nothing. Its number
+is used up: send the corrected message under the station's next number.
+'pairsalder explain NotHere' adds the usual cause, and what to do about it.
+
+";
+
+const FILES: &str = "\
+Between runs the store is one file, here museum.db, and it is the whole record.
+Keep the setup with it, here museum.csv: every command needs both.
+
+Back up. This checks the whole record, and writes it to one new file:
+
+  pairsalder copy --setup museum.csv --store museum.db --to backup.db
+
+Copy a record to another folder or computer, or move it there, between runs:
+
+  cp museum.db museum.csv elsewhere/
+
+Restore. Move both old files out of the way, then put a copy in their place:
+
+  mkdir old; mv museum.db* old; cp backup.db museum.db
+
+While a command runs, the newest entries are in museum.db-wal. If a run was
+killed, this file stays. Leave the two files together and run the next command,
+which takes the entries from it. If museum.db-wal is there without museum.db,
+every command fails and touches neither: put museum.db back beside it.
+
+Only replay and serve begin a record. Any other command fails with 'fault store
+Store' if there is none. One command at a time can use a store.
+";

@@ -1,0 +1,59 @@
+//! The refusals, and what waits: why a message is not on record.
+
+use crate::Meaning;
+
+/// The refusals in the order in which they are checked, and the words of replies beside them.
+pub(crate) const REFUSALS: &[Meaning] = &[
+    Meaning {
+        word: "UnknownStation",
+        means: "the setup does not list the station",
+        cause: "a mistyped name. Capitals and dashes count.",
+        action: "correct the name, and send the line again.",
+    },
+    Meaning {
+        word: "BadNumber",
+        means: "a number is 0, too large, or has a 0 before it",
+        cause: "a station's n of 0 or above 999999, or a code such as C01 or 2001.04.",
+        action: "write 1 to 999999, without a 0 before it.",
+    },
+    Meaning {
+        word: "Double",
+        means: "the station has used this number before",
+        cause: "the line was sent twice, or a scanner began again at 1.",
+        action: "if the line was sent twice, nothing. A new message is NOT on record: send it\n\
+            under the number that 'pairsalder stations' prints.",
+    },
+    Meaning {
+        word: "SignedOff",
+        means: "the station has signed off, for ever",
+        cause: "a signoff, perhaps at the end of a shift. It is a station's last message.",
+        action: "send the message from another station of the setup, under that station's\n\
+            next number. A shift ends without a message.",
+    },
+    Meaning {
+        word: "TooEarly",
+        means: "the number is more than 256 above the last one on record",
+        cause: "earlier numbers are missing, or the number is mistyped.",
+        action: "send the number that 'pairsalder stations' prints, then this line again. If\n\
+            it is lost, send in its place a move of a thing that the setup does not list.",
+    },
+    Meaning {
+        word: "held",
+        means: "the message waits for an earlier number of its station",
+        cause: "an earlier line is missing, or could not be read.",
+        action: "send the number that 'pairsalder stations' prints, then this line again. If\n\
+            it is lost, send in its place a move of a thing that the setup does not list.",
+    },
+    Meaning {
+        word: "refused",
+        means: "the message is not on record, for the reason that follows",
+        cause: "its station or its number.",
+        action: "explain the word that follows.",
+    },
+    Meaning {
+        word: "posted",
+        means: "the message is on record, as the entry of this number",
+        cause: "it was its station's next message. The word that follows is its verdict.",
+        action: "if the verdict is not Applied, explain that word.",
+    },
+];

@@ -1,0 +1,52 @@
+//! The faults of a store, and the lines about one.
+
+use crate::Meaning;
+
+/// Why a store is not opened, and what is printed of one that is.
+pub(crate) const STORE_FAULTS: &[Meaning] = &[
+    Meaning {
+        word: "Store",
+        means: "the store cannot be used",
+        cause: "a mistyped path, no record there yet, no right to write, another program\n\
+            that has the file open, a full disk, a foreign table, a missing museum.db.",
+        action: "do what the help: line says. It names the cause.",
+    },
+    Meaning {
+        word: "OtherSetup",
+        means: "the record began with another setup",
+        cause: "the setup file was changed, or is that of another record.",
+        action: "use the setup file that the record began with. To list more things, begin\n\
+            a new record.",
+    },
+    Meaning {
+        word: "OtherVersion",
+        means: "the store is not one of this version of the program",
+        cause: "an older or a newer program began it, or it has no record yet.",
+        action: "'pairsalder migrate' takes a store of version 1 to version 2. For a newer\n\
+            store, install the newer program.",
+    },
+    Meaning {
+        word: "Damaged",
+        means: "the store is not as the program left it, at this entry",
+        cause: "a failing disk, or another program that wrote to it. 0 is no one entry.",
+        action: "keep the file, and go on from the last copy: see 'pairsalder help files'.",
+    },
+    Meaning {
+        word: "copied",
+        means: "the copy is complete, with so many entries",
+        cause: "the copy was read back, and every entry compared.",
+        action: "nothing.",
+    },
+    Meaning {
+        word: "migrated",
+        means: "the store is of version 2",
+        cause: "it was migrated now, or was of version 2 already.",
+        action: "nothing.",
+    },
+    Meaning {
+        word: "note",
+        means: "the command is done, and there is something to know",
+        cause: "a new store, or messages that are still held at the end.",
+        action: "if the store should not be new, check its path. Send held messages again.",
+    },
+];

@@ -1,0 +1,37 @@
+//! The topics of the help.
+
+/// A subject with a page of its own.
+#[derive(Clone, Copy, Debug, PartialEq, Eq)]
+pub enum Topic {
+    /// The rows of a setup, and the codes.
+    Setup,
+    /// The messages and questions of stations.
+    Lines,
+    /// Count lists, and the answers to them.
+    Counts,
+    /// The verdicts of messages.
+    Verdicts,
+    /// How to keep the files of a record.
+    Files,
+}
+
+impl Topic {
+    ghost use Rattle.std.specs.Prelude.{◌≡◌, ◌≢◌, IfNone, IfSome};
+    ghost use Rattle.help_texts.specs.declared.topic.Topic.{Topic};
+    ghost use Rattle.help_texts.specs.Topics.{topic_name};
+
+    /// The topic of this name; none if no topic has it.
+    pub fn named(name: &str) -> Option<Topic>
+        ensures some { IfSome result (λ topic. topic_name topic ≡ name.now) }
+        ensures none { IfNone result ((topic : Topic) → topic_name topic ≢ name.now) }
+    {
+        match name {
+            "setup" => Some(Topic::Setup),
+            "lines" => Some(Topic::Lines),
+            "counts" => Some(Topic::Counts),
+            "verdicts" => Some(Topic::Verdicts),
+            "files" => Some(Topic::Files),
+            _ => None,
+        }
+    }
+}

@@ -1,0 +1,57 @@
+//! The page of a topic, and the help of a command.
+
+use crate::command::{refuse, status};
+use crate::fault::CommandFault;
+use crate::lines::write_line;
+use command_words::words::chosen;
+use help_texts::{Topic, VERDICTS, page_of};
+use std::alloc::Global;
+use std::io::Write;
+
+/// Prints the page of a topic. For the name of a command it does what that command does with
+/// `--help`, and without any name what the program does with `--help`. Returns the exit status.
+pub fn help<W: Write, E: Write>(
+    alloc: Global,
+    name: Option<&str>,
+    output: &mut W,
+    errors: &mut E,
+) -> u8 {
+    match name {
+        Some(name) => match Topic::named(name) {
+            Some(topic) => status(print_page(topic, output), output, errors),
+            None => help_by(alloc, &[name, "--help"], output, errors),
+        },
+        None => help_by(alloc, &["--help"], output, errors),
+    }
+}
+
+/// Prints the help that the words ask for.
+fn help_by<W: Write, E: Write>(
+    alloc: Global,
+    words: &[&str],
+    output: &mut W,
+    errors: &mut E,
+) -> u8 {
+    match chosen(alloc, words) {
+        Ok(_) => status(Err(CommandFault::Words), output, errors),
+        Err(fault) => refuse(&fault, output, errors),
+    }
+}
+
+/// Prints the page of a topic.
+fn print_page<W: Write>(topic: Topic, output: &mut W) -> Result<(), CommandFault> {
+    write_line(output, page_of(topic))?;
+    match topic {
+        Topic::Verdicts => print_verdicts(output),
+        _ => Ok(()),
+    }
+}
+
+/// Prints a line for each verdict.
+fn print_verdicts<W: Write>(output: &mut W) -> Result<(), CommandFault> {
+    for verdict in VERDICTS {
+        let (word, means) = (verdict.word, verdict.means);
+        writeln!(output, "  {word:<17}  {means}").map_err(|_| CommandFault::WriteFailed)?;
+    }
+    Ok(())
+}
