@@ -1,5 +1,5 @@
 #!/usr/bin/env python3
-"""What the program does where its input, its output or its store fails on the way.
+"""What the program does where its input, its output, its store or a lane fails on the way.
 
 Usage: failing.py PROGRAM. Each check prints its name and ok or FAILED; the last line is 'N passed, M failed'."""
 import os
@@ -10,11 +10,12 @@ import subprocess
 import sys
 import tty
 
-from store_room import report, said
+from store_room import move, report, said, scan
 
 SMALL = "station,GAL\nplace,S1,inside\nown,2001.4.1,S1\n"
 MOVE = '{"station":"GAL","n":1,"message":{"kind":"move","thing":"2001.4.1","place":"S1","day":"2024-05-01"}}\n'
 FEED = MOVE.replace('"station":"GAL",', "") + '{"ask":"2001.4.1"}\n'
+STATIONS = ["PACK", "GAL"]  # those of the room's setup
 MOST = 1 << 20  # more bytes than a file of a store of one entry has
 
 
@@ -87,5 +88,31 @@ def store_refuses(room):
     return good and told(served(room, MOST), (0, log, ""))
 
 
+def unfinished(room, library, lost):
+    """What a serving of two stations says where the lane of this one, from 1, gives no end."""
+    room.clear()
+    feeds = [room.write(f"{lane}.jsonl", scan(1, move(f"C{lane}", "S1"))) for lane in (1, 2)]
+    env = {**os.environ, "LD_PRELOAD": library, "STATIONS": "2", "LOST": str(lost)}
+    return said(subprocess.run([*room.words("serve"), *feeds], capture_output=True, env=env))
+
+
+def lane_gives_no_end(room):
+    """The fault names the lane's station, and what was printed is what was posted. No run comes to
+    this by itself: both ends of a lane are kept until its thread has ended (see lose_end.c)."""
+    source = os.path.join(os.path.dirname(os.path.abspath(__file__)), "lose_end.c")
+    library = room.path("lose_end.so")
+    words = ["gcc", "-O2", "-Wall", "-shared", "-fPIC", "-o", library, source, "-ldl"]
+    subprocess.run(words, check=True)
+    good = told(unfinished(room, library, 0)[::2], (0, ""))
+    for lost, station in enumerate(STATIONS, 1):
+        status, log, errors = unfinished(room, library, lost)
+        good = told((status, errors), (1, f"fault unfinished {station}\n")) and good
+        posted = room.command("posted", "setup.csv")[1].splitlines()
+        entries = [line.split(" ") for line in posted]
+        wanted = [f"{name} {n} posted {entry} {verdict}" for entry, name, n, verdict, _ in entries]
+        good = told(log.splitlines(), wanted) and good
+    return good
+
+
 if __name__ == "__main__":
-    sys.exit(report(sys.argv[1], [read_fails, write_fails, store_refuses]))
+    sys.exit(report(sys.argv[1], [read_fails, write_fails, store_refuses, lane_gives_no_end]))

@@ -9,12 +9,13 @@ isn't said, as the gate does; by hand 600). With --replay it is one replay of so
 by turns.
 
 Each station packs an object of its own into a crate of its own and moves the crate to and fro; of each eight messages one comes
-late, so that two are held, and one is sent twice; where it is served, a line after them is no message; last it asks where its
-object is. Of the log has to hold: cut to a station it is what that station must be told; its entries are numbered from 1, in
-order. Of the record: it has the messages of each station, in order, and each object where its crate is. Of memory: in the second
-half of the time it grows by no more than MOST_BYTES for each message, where there are FEWEST messages or more: of fewer, what is
-taken once for all of them outweighs the rest. It prints how long all took, the most memory, and what each message took of it
-then."""
+late, so that two are held, and one is sent twice; where it is served, a line after them is no message. Each station asks ten
+questions, one after each line of its first block and one at its end: by turns where its own object is, and where that of the
+next station is. Of the log has to hold: cut to a station it is what that station must be told; its entries are numbered from 1,
+in order; each answer follows from the lines above it. Of the record: it has the messages of each station, in order, and each
+object where its crate is. Of memory: in the second half of the time it grows by no more than MOST_BYTES for each message, where
+there are FEWEST messages or more: of fewer, what is taken once for all of them outweighs the rest. It prints how long all took,
+the most memory, and what each message took of it then."""
 import argparse
 import itertools
 import os
@@ -25,13 +26,16 @@ import tempfile
 import time
 
 STATIONS = 64
+FIRST_YEAR = 2001
 BLOCK = 8
 DAY = '"day":"2024-05-01"'
 POSTED = re.compile(r" posted (\d+) ")
+ANSWER = re.compile(r"(ST\d+ ask (\d+)\.1\.1) (.*)")
+ORDER = (0, 2, 3, 1, 4, 5, 5, 6, 7)  # of the messages of a block
 MOST_BYTES = 1000
 FEWEST = 20_000
 FIRST = 2  # blocks of each station in the serving that tells how fast the disk is
-FULL = 33  # blocks of each station in the serving without a store: 331 lines, of which a lane holds 256
+FULL = 33  # blocks of each station without a store: 340 lines, of which a lane holds 256
 
 
 def crate_of(station):
@@ -39,7 +43,7 @@ def crate_of(station):
 
 
 def object_of(station):
-    return f"{2001 + station}.1.1"
+    return f"{FIRST_YEAR + station}.1.1"
 
 
 def setup_of():
@@ -58,34 +62,52 @@ def line(station, n):
     return f'{{"station":"ST{station}","n":{n},"message":{{{message}}}}}\n'
 
 
-def ask(station):
-    return f'{{"station":"ST{station}","ask":"{object_of(station)}"}}\n'
+def ask(station, other):
+    """A station's question where the object of one is."""
+    return f'{{"station":"ST{station}","ask":"{object_of(other)}"}}\n'
 
 
-def answer(station):
-    return f"ST{station} ask {object_of(station)} at S1 in {crate_of(station)}"
+def place_of(station, posted):
+    """Where a station's object is once so many of its messages are posted."""
+    if posted < 2:
+        return "unplaced"
+    return f"at {'S1' if posted == 2 or posted % 2 == 0 else 'S2'} in {crate_of(station)}"
+
+
+def asked_of(station, question):
+    """Whose object a question of the station is about."""
+    return (station + question % 2) % STATIONS
 
 
 def feed(station, blocks, is_served):
-    """What a station sends: of each block the second message comes after the fourth, and the sixth comes twice."""
+    """What a station sends: of each block the second message comes after the fourth, and the sixth
+    comes twice; in the first block a question follows each."""
     for first in range(1, blocks * BLOCK + 1, BLOCK):
-        for n in (0, 2, 3, 1, 4, 5, 5, 6, 7):
+        for at, n in enumerate(ORDER):
             yield line(station, first + n)
+            if first == 1:
+                yield ask(station, asked_of(station, at))
         if is_served:
             yield "{}\n"
-    yield ask(station)
+    yield ask(station, asked_of(station, len(ORDER)))
 
 
 def told(station, blocks, is_served):
-    """What it must be told, with # for the number of an entry."""
+    """What it must be told, with # for the number of an entry and for an answer."""
+    asks = [f"ST{station} ask {object_of(asked_of(station, at))} #" for at in range(len(ORDER) + 1)]
     for block in range(blocks):
         first = block * BLOCK + 1
         posted = [f"ST{station} {first + n} posted # Applied" for n in range(BLOCK)]
-        held = [f"ST{station} {first + n} held" for n in (2, 3)]
-        yield from [posted[0], *held, *posted[1:6], f"ST{station} {first + 5} refused Double", *posted[6:]]
+        held = [[f"ST{station} {first + n} held"] for n in (2, 3)]
+        double = [f"ST{station} {first + 5} refused Double"]
+        replies = [posted[:1], *held, posted[1:4], posted[4:5], posted[5:6], double]
+        replies += [posted[6:7], posted[7:]]
+        for at, lines in enumerate(replies):
+            yield from lines
+            yield from asks[at : at + 1] if block == 0 else ()
         if is_served:
-            yield f"ST{station} line {(block + 1) * (BLOCK + 2)} bad Missing n"
-    yield answer(station)
+            yield f"ST{station} line {(block + 1) * (BLOCK + 2) + len(ORDER)} bad Missing n"
+    yield asks[-1]
 
 
 def resident(process):
@@ -144,15 +166,33 @@ class Run:
             yield f"status {self.status}"
         cuts = {f"ST{s}": [] for s in range(STATIONS)}
         for one in self.log:
-            cuts[one.split(" ", 1)[0]].append(POSTED.sub(" posted # ", one))
+            text = ANSWER.sub(r"\1 #", POSTED.sub(" posted # ", one))
+            cuts[one.split(" ", 1)[0]].append(text)
         for station in range(STATIONS):
             if cuts[f"ST{station}"] != list(told(station, self.blocks, self.is_served)):
                 yield f"ST{station} isn't told what it must be"
         numbers = [int(number) for one in self.log for number in POSTED.findall(one)]
         if numbers != list(range(1, self.messages + 1)):
             yield "entries aren't numbered from 1, in order"
+        yield from self.of_answers()
         if self.is_stored:
             yield from self.of_record()
+
+    def of_answers(self):
+        """Each answer that doesn't follow from what is posted in the lines above it."""
+        posted, answers = [0] * STATIONS, 0
+        for one in self.log:
+            station, what = one.split(" ", 1)
+            if POSTED.search(one):
+                posted[int(station[2:])] = int(what.split(" ", 1)[0])
+            asked = ANSWER.fullmatch(one)
+            if asked:
+                answers += 1
+                other = int(asked[2]) - FIRST_YEAR
+                if asked[3] != place_of(other, posted[other]):
+                    yield f"{one}, after {posted[other]} messages of ST{other}"
+        if answers != STATIONS * (len(ORDER) + 1):
+            yield f"{answers} answers"
 
     def of_record(self):
         counts = {f"ST{s}": 0 for s in range(STATIONS)}
@@ -163,7 +203,9 @@ class Run:
                 yield f"the record has {one}"
         if set(counts.values()) != {self.blocks * BLOCK}:
             yield "another number of entries on record"
-        if self.asked("replay", "".join(map(ask, range(STATIONS)))) != list(map(answer, range(STATIONS))):
+        asks, last = "".join(ask(s, s) for s in range(STATIONS)), self.blocks * BLOCK
+        answers = [f"ST{s} ask {object_of(s)} {place_of(s, last)}" for s in range(STATIONS)]
+        if self.asked("replay", asks) != answers:
             yield "an object isn't where its crate is"
 
     def growth(self):
