@@ -3,7 +3,8 @@
 
 Usage: steps.py PROGRAM CASE.. A case is a folder whose files are copied to where the program runs. Run K has its words in
 K.args, one a line, of which a last one `< FILE` names what it is given, and may have K.stdin, K.stdout, K.stderr and K.status:
-nothing, nothing, nothing and 0 where they aren't there. Each case prints its name and ok or FAILED; the last line is 'N passed, M failed'."""
+nothing, nothing, nothing and 0 where they aren't there. It may have environment variables in K.env, as lines NAME=VALUE; no
+other variable PAIRSALDER_.. is set. Each case prints its name and ok or FAILED; the last line is 'N passed, M failed'."""
 import os
 import shutil
 import subprocess
@@ -19,12 +20,20 @@ def text(folder, name):
         return file.read()
 
 
+def environment(folder, step):
+    """The environment of a run: ours without our own variables, and those of the case."""
+    own = dict(line.split(b"=", 1) for line in text(folder, f"{step}.env").splitlines())
+    return {name: value for name, value in os.environb.items() if not name.startswith(b"PAIRSALDER_")} | own
+
+
 def is_right(program, folder, step):
     """Whether a run writes and answers what it has to."""
     words, given = text(folder, f"{step}.args").decode().splitlines(), f"{step}.stdin"
     if words and words[-1].startswith("< "):
         given = words.pop()[2:]
-    ran = subprocess.run([program, *words], cwd=folder, input=text(folder, given), capture_output=True)
+    ran = subprocess.run(
+        [program, *words], cwd=folder, env=environment(folder, step), input=text(folder, given), capture_output=True
+    )
     wanted = (int(text(folder, f"{step}.status") or b"0"), text(folder, f"{step}.stdout"), text(folder, f"{step}.stderr"))
     said = (ran.returncode, ran.stdout, ran.stderr)
     if said != wanted:

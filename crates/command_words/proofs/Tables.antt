@@ -4,7 +4,7 @@ use Rattle.std.proofs.lemmas.List.{at_drop_more}
 use Rattle.clap.specs.Words.{App, app_of, is_simple_and_free, shape_of, with_rule, with_subcommand}
 use Rattle.clap.specs.declared.builder.command.Command.{Command}
 use Rattle.command_words.specs.Commands.{overview, program_alone, register_app, report_app}
-use Rattle.command_words.specs.Tables.{app_by, rule_by, with_arguments, with_commands}
+use Rattle.command_words.specs.Tables.{app_by, form_by, rule_by, with_arguments, with_commands}
 use Rattle.command_words.specs.declared.options.Argument.{Argument}
 use Rattle.command_words.specs.declared.shapes.Name.{Name}
 use Rattle.command_words.specs.declared.shapes.Name.TheVariants as name
@@ -90,3 +90,22 @@ pub one_argument_more : (app next whole_app : App) (arguments : List Argument) (
 one_argument_more app next whole_app arguments i d below so_far next_is =
     ap (λ a. with_arguments a (drop (i + 1) arguments)) next_is
     ∙ (sym (at_drop_more (with_arguments app) arguments i d below) ∙ so_far)
+
+-- a command is the one that its needs belong to
+pub app_is : (n : Name) → app_by n ≡ (form_by n).app
+unfolding app_by form_by
+app_is name.Replay = refl
+app_is name.Serve = refl
+app_is name.Count = refl
+app_is name.Overdue = refl
+app_is name.Away = refl
+app_is name.History = refl
+app_is name.Migrate = refl
+app_is name.Copy = refl
+app_is name.Explain = refl
+app_is name.Stations = refl
+app_is name.Where = refl
+app_is name.Contents = refl
+app_is name.Loan = refl
+app_is name.At = refl
+app_is name.Posted = refl

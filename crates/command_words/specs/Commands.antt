@@ -1,12 +1,16 @@
 -- Defines the sixteen commands: the arguments that `clap` knows of each, and the values that each
 -- needs.
-use Rattle.std.specs.Prelude.{◌∷◌, [], Bool, List, Some, codes, map, true, false}
+use Rattle.std.specs.Prelude.{◌∷◌, [], ℕ, Bool, List, Some, codes, map, true, false}
 use Rattle.clap.specs.Words.{App, Rule, Text, new_app, new_rule, with_rule}
 use Rattle.clap.specs.declared.builder.action.ArgAction.TheVariants.{Set, SetTrue, Append}
 
--- An option with a value: --setup PATH.
+-- An option with a value: --on DAY.
 abbrev pub option_rule : Text → Rule
 option_rule id = record (new_rule id) { long = Some id; value_names = 1; action = Some Set }
+
+-- An option with a letter and a value: --setup PATH, -s PATH.
+abbrev pub file_rule : Text → ℕ → Rule
+file_rule id letter = record (option_rule id) { short = Some letter }
 
 -- An option without a value: --csv.
 abbrev pub flag_rule : Text → Rule
@@ -20,10 +24,10 @@ word_rule id = record (new_rule id) { value_names = 1; action = Some Set }
 abbrev pub words_rule : Text → Rule
 words_rule id = record (new_rule id) { value_names = 1; action = Some Append }
 
--- A command with --setup and --store.
+-- A command with --setup and --store, whose letters are s (115) and d (100).
 unfoldable pub register_app : Text → App
-register_app name =
-    with_rule (with_rule (new_app name) (option_rule (codes "setup"))) (option_rule (codes "store"))
+register_app name = with_rule (with_rule (new_app name) (file_rule (codes "setup") 115))
+    (file_rule (codes "store") 100)
 
 -- A command with --csv and --json as well.
 unfoldable pub report_app : App → App

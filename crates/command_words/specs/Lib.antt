@@ -1,3 +1,5 @@
 pub mod Commands
+pub mod Completion
+pub mod Needs
 pub mod Words
 pub mod Tables

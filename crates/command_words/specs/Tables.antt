@@ -1,17 +1,19 @@
 -- Defines the arguments and commands that `clap` gets from the program's two tables.
 use Rattle.std.specs.Prelude.{◌∷◌, [], List}
 use Rattle.clap.specs.Words.{App, Rule, Text, with_rule, with_subcommand}
-use Rattle.command_words.specs.Commands.{at, away, contents, copy, count, explain, flag_rule}
+use Rattle.command_words.specs.Commands.{Form, at, away, contents, copy, count, explain, file_rule}
+use Rattle.command_words.specs.Commands.{flag_rule}
 use Rattle.command_words.specs.Commands.{help, history, loan, migrate, option_rule, overdue, posted}
 use Rattle.command_words.specs.Commands.{replay, serve, stations, where_is, word_rule, words_rule}
 use Rattle.command_words.specs.declared.options.Argument.{Argument}
 use Rattle.command_words.specs.declared.options.Kind.{Kind}
-use Rattle.command_words.specs.declared.options.Kind.TheVariants.{Flag, Valued, Word, Words}
+use Rattle.command_words.specs.declared.options.Kind.TheVariants.{File, Flag, Valued, Word, Words}
 use Rattle.command_words.specs.declared.shapes.Name.{Name}
 use Rattle.command_words.specs.declared.shapes.Name.TheVariants as name
 
 -- An argument of this kind.
 abbrev pub rule_as : Kind → Text → Rule
+rule_as (File letter) id = file_rule id letter
 rule_as Valued id = option_rule id
 rule_as Flag id = flag_rule id
 rule_as Word id = word_rule id
@@ -45,6 +47,25 @@ app_by name.Loan = loan.app
 app_by name.At = at.app
 app_by name.Posted = posted.app
 app_by name.Help = help.app
+
+-- The command of this name, with what it needs.
+unfoldable pub form_by : Name → Form
+form_by name.Replay = replay
+form_by name.Serve = serve
+form_by name.Count = count
+form_by name.Overdue = overdue
+form_by name.Away = away
+form_by name.History = history
+form_by name.Migrate = migrate
+form_by name.Copy = copy
+form_by name.Explain = explain
+form_by name.Stations = stations
+form_by name.Where = where_is
+form_by name.Contents = contents
+form_by name.Loan = loan
+form_by name.At = at
+form_by name.Posted = posted
+form_by name.Help = help
 
 -- The program with these commands added.
 abbrev pub with_commands : App → List Name → App

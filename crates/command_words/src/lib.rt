@@ -5,6 +5,8 @@
 #![tactic(auto)]
 
 mod command;
+pub mod completion;
+pub mod needs;
 mod options;
 mod questions;
 mod reading;

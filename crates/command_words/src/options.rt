@@ -1,7 +1,8 @@
 //! The arguments of a command.
 ghost use Rattle.std.specs.Prelude.{◌≡◌, false};
 ghost use Rattle.clap.specs.Words.{app_of, rule_of};
-ghost use Rattle.command_words.specs.Commands.{flag_rule, option_rule, word_rule, words_rule};
+ghost use Rattle.command_words.specs.Commands.{file_rule, flag_rule, option_rule};
+ghost use Rattle.command_words.specs.Commands.{word_rule, words_rule};
 ghost use Rattle.command_words.specs.Tables.{rule_by};
 
 use crate::texts::Help;
@@ -11,7 +12,9 @@ use std::alloc::Global;
 /// How an argument takes its values.
 #[derive(Clone, Copy)]
 pub(crate) enum Kind {
-    /// One, behind its name, as `--setup PATH`.
+    /// One, behind its name or its letter: `--setup PATH`, `-s PATH`.
+    File(char),
+    /// One, behind its name: `--on DAY`.
     Valued,
     /// None: its name is all, as `--csv`.
     Flag,
@@ -31,17 +34,17 @@ pub(crate) struct Argument {
 }
 
 pub(crate) const SETUP: Argument = Argument {
-    kind: Kind::Valued,
+    kind: Kind::File('s'),
     id: "setup",
     value: "PATH",
-    help: "The museum's setup file",
+    help: "The museum's setup file [default: $PAIRSALDER_SETUP]",
 };
 
 pub(crate) const STORE: Argument = Argument {
-    kind: Kind::Valued,
+    kind: Kind::File('d'),
     id: "store",
     value: "PATH",
-    help: "The file that keeps the record",
+    help: "The file that keeps the record [default: $PAIRSALDER_STORE]",
 };
 
 pub(crate) const CSV: Argument = Argument {
@@ -66,6 +69,11 @@ pub(crate) fn made<'a>(alloc: Global, argument: &Argument) -> Arg<'a>
     let id = argument.id;
     let made = Arg::new(alloc, id).help(argument.help);
     match argument.kind {
+        Kind::File(letter) => made
+            .long(id)
+            .short(letter)
+            .value_name(argument.value)
+            .action(ArgAction::Set),
         Kind::Valued => made
             .long(id)
             .value_name(argument.value)

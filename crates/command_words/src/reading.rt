@@ -51,7 +51,11 @@ pub(crate) fn read_by<'a>(
 }
 
 /// What `clap` makes of the words of a command, or why it refuses them.
-fn read<'a>(alloc: Global, name: Name, words: &'a [&'a str]) -> Result<ArgMatches<'a>, WordsFault>
+pub(crate) fn read<'a>(
+    alloc: Global,
+    name: Name,
+    words: &'a [&'a str],
+) -> Result<ArgMatches<'a>, WordsFault>
     ensures { MatchResult result
         (λ m. IsRead (app_by name) (texts_of words.now) (rows_of (found_of m)))
         (IsRefused (app_by name) (texts_of words.now)) }
@@ -60,7 +64,7 @@ fn read<'a>(alloc: Global, name: Name, words: &'a [&'a str]) -> Result<ArgMatche
 }
 
 /// The value of an argument, if it is there.
-fn one<'a, 'b>(matches: &'b ArgMatches<'a>, id: &'static str) -> Option<&'a str>
+pub(crate) fn one<'a, 'b>(matches: &'b ArgMatches<'a>, id: &'static str) -> Option<&'a str>
     ensures { text_of result ≡ first_of id.now (rows_of (found_of matches.now)) }
 {
     matches.get_str(id)

@@ -1,8 +1,10 @@
 //! The commands with their arguments, as `clap` reads them.
-ghost use Rattle.std.specs.Prelude.{◌≡◌, IfOk};
+ghost use Rattle.std.specs.Prelude.{◌≡◌, IfOk, option_map};
 ghost use Rattle.clap.specs.Words.{app_of, new_app};
 ghost use Rattle.command_words.specs.Commands.{overview, program_alone};
-ghost use Rattle.command_words.specs.Tables.{app_by, with_arguments};
+ghost use Rattle.command_words.specs.Completion.{form_called};
+ghost use Rattle.command_words.specs.Tables.{app_by, form_by, with_arguments};
+ghost use Rattle.command_words.specs.Words.{form_named, texts_of};
 
 use crate::options::{Argument, CSV, JSON, Kind, SETUP, STORE, made, with_help};
 use crate::texts::{self, Help};
@@ -165,6 +167,60 @@ fn word_of(name: Name) -> &'static str
         Name::At => "at",
         Name::Posted => "posted",
         Name::Help => "help",
+    }
+}
+
+/// The command that a word names.
+#[tactic(auto, unfolding(crate::specs::Tables::form_by, crate::specs::Commands::register_app, crate::specs::Commands::report_app))]
+pub(crate) fn name_of(word: &str) -> Option<Name>
+    ensures { option_map form_by result ≡ form_called word.now }
+{
+    match word {
+        "replay" => Some(Name::Replay),
+        "serve" => Some(Name::Serve),
+        "count" => Some(Name::Count),
+        "overdue" => Some(Name::Overdue),
+        "away" => Some(Name::Away),
+        "history" => Some(Name::History),
+        "migrate" => Some(Name::Migrate),
+        "copy" => Some(Name::Copy),
+        "explain" => Some(Name::Explain),
+        "stations" => Some(Name::Stations),
+        "where" => Some(Name::Where),
+        "contents" => Some(Name::Contents),
+        "loan" => Some(Name::Loan),
+        "at" => Some(Name::At),
+        "posted" => Some(Name::Posted),
+        "help" => Some(Name::Help),
+        _ => None,
+    }
+}
+
+/// The command that the first of the words names.
+pub(crate) fn find_command(words: &[&str]) -> Option<Name>
+    ensures { option_map form_by result ≡ form_named (texts_of words.now) }
+{
+    match words.first().copied() {
+        Some(word) => name_of(word),
+        None => None,
+    }
+}
+
+/// The arguments that a command can't do without.
+#[tactic(auto, unfolding(crate::specs::Tables::form_by))]
+pub(crate) fn needs_of(name: Name) -> &'static [&'static str]
+    ensures { texts_of result.now ≡ (form_by name).needed }
+{
+    match name {
+        Name::Replay | Name::Serve => &["setup"],
+        Name::Count => &["setup", "store", "list"],
+        Name::Overdue => &["setup", "store", "on"],
+        Name::Away | Name::Migrate | Name::Stations | Name::Posted => &["setup", "store"],
+        Name::History | Name::Where | Name::Contents | Name::Loan => &["setup", "store", "code"],
+        Name::Copy => &["setup", "store", "to"],
+        Name::Explain => &["name"],
+        Name::At => &["setup", "store", "place"],
+        Name::Help => &[],
     }
 }
 

@@ -24,6 +24,9 @@ setup, lines, counts, verdicts, files. With no words the program reads a session
 from standard input: a setup, an empty line, and then lines. It answers them, and
 keeps nothing.
 
+If a command's --setup or --store is not given, the environment variable
+PAIRSALDER_SETUP or PAIRSALDER_STORE is used. An empty one counts as not set.
+
 Examples:
   pairsalder replay --setup museum.csv --store museum.db < monday.jsonl
   pairsalder away --setup museum.csv --store museum.db
@@ -44,12 +47,13 @@ messages in its own order, and each once.
 Reads one JSON object a line, a message or a question. Prints the reply to each
 line before it reads on: posted with a verdict, held, refused, or where the thing
 is. A line that can't be read is told as bad, and the next one is taken. With
---store the record is kept in that file, which is made where there is none;
-without it nothing is kept. With --progress standard error is told, once a second
-and at the end, how many lines are answered, how many messages are posted, how many
-of these were refused and by which verdicts, and how many lines go by in a second.
-With --strict the replies are the same, but the exit status is 1 if any line was bad
-or refused, or was posted with a verdict other than Applied.
+--store or PAIRSALDER_STORE the record is kept in that file, which is made where
+there is none; without a store nothing is kept. With --progress standard error is
+told, once a second and at the end, how many lines are answered, how many messages
+are posted, how many of these were refused and by which verdicts, and how many
+lines go by in a second. With --strict the replies are the same, but the exit
+status is 1 if any line was bad or refused, or was posted with a verdict other than
+Applied.
 
 Examples:
   pairsalder replay --setup museum.csv --store museum.db < monday.jsonl
@@ -68,8 +72,8 @@ one record.
 
 FEEDS are as many files as the setup has stations, in the setup's order; each has
 the lines of its station. Prints the replies in the order in which the messages
-were taken. With --store the record is kept in that file; without it nothing is
-kept.
+were taken. With --store or PAIRSALDER_STORE the record is kept in that file;
+without a store nothing is kept.
 
 Example:
   pairsalder serve --setup museum.csv --store museum.db packing.jsonl gallery.jsonl

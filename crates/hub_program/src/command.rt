@@ -9,11 +9,13 @@ use crate::lines::write_line;
 use crate::progress::Progress;
 use crate::report::Report;
 use crate::request::{asked_of, report};
+use crate::usage::on_missing;
 use crate::work::{Work, over_store};
 use command_words::words::chosen;
 use command_words::{Chosen, Format, WordsFault};
 use hub_core::{Tally, run};
 use sqlite::Start;
+use std::alloc::Global;
 use std::io::{BufRead, Write};
 use std::sync::Wait;
 use std::thread::Threads;
@@ -52,7 +54,7 @@ pub fn command<
             );
             noted_status(ended, &notes, output, errors)
         }
-        Err(fault) => refuse(&fault, output, errors),
+        Err(fault) => refuse(rt.alloc(), words, &fault, output, errors),
     }
 }
 
@@ -104,7 +106,13 @@ pub(crate) fn status<W: Write, E: Write>(
 }
 
 /// Tells why the words choose no command: help goes to the output, all else to the errors.
-pub(crate) fn refuse<W: Write, E: Write>(fault: &WordsFault, output: &mut W, errors: &mut E) -> u8 {
+pub(crate) fn refuse<W: Write, E: Write>(
+    alloc: Global,
+    words: &[&str],
+    fault: &WordsFault,
+    output: &mut W,
+    errors: &mut E,
+) -> u8 {
     match fault {
         WordsFault::Refused(error) if fault.status() == 0 => {
             let told = write!(output, "{error}");
@@ -115,7 +123,10 @@ pub(crate) fn refuse<W: Write, E: Write>(fault: &WordsFault, output: &mut W, err
             let _ = write!(errors, "{error}");
             fault.status()
         }
-        WordsFault::Missing => status(Err(CommandFault::Words), output, errors),
+        WordsFault::Missing => {
+            let advice = on_missing(alloc, words);
+            status(Err(CommandFault::Words(advice)), output, errors)
+        }
         WordsFault::NoMemory => status(Err(CommandFault::NoMemory), output, errors),
     }
 }

@@ -42,8 +42,8 @@ pub enum CommandFault {
     Unfinished(String),
     /// There are more or fewer feeds than stations.
     Feeds,
-    /// There is no command, or not all that it needs.
-    Words,
+    /// There is no command, or not all that it needs, or a text is not UTF-8.
+    Words(Advice),
 }
 
 impl From<NoMemory> for CommandFault {
@@ -115,7 +115,7 @@ impl CommandFault {
             | CommandFault::Number
             | CommandFault::Name(_)
             | CommandFault::Feeds
-            | CommandFault::Words => 2,
+            | CommandFault::Words(_) => 2,
             _ => 1,
         }
     }
@@ -140,7 +140,8 @@ impl CommandFault {
             | CommandFault::Name(advice)
             | CommandFault::Setup(_, advice)
             | CommandFault::Counts(_, advice)
-            | CommandFault::Store(_, advice) => advice.as_deref(),
+            | CommandFault::Store(_, advice)
+            | CommandFault::Words(advice) => advice.as_deref(),
             _ => None,
         }
     }
@@ -167,7 +168,7 @@ impl CommandFault {
             CommandFault::Name(_) => writeln!(errors, "fault name"),
             CommandFault::Unfinished(station) => writeln!(errors, "fault unfinished {station}"),
             CommandFault::Feeds => writeln!(errors, "fault feeds"),
-            CommandFault::Words => writeln!(errors, "fault words"),
+            CommandFault::Words(_) => writeln!(errors, "fault words"),
         }
     }
 }

@@ -33,8 +33,8 @@ fn help_by<W: Write, E: Write>(
     errors: &mut E,
 ) -> u8 {
     match chosen(alloc, words) {
-        Ok(_) => status(Err(CommandFault::Words), output, errors),
-        Err(fault) => refuse(&fault, output, errors),
+        Ok(_) => status(Err(CommandFault::Words(None)), output, errors),
+        Err(fault) => refuse(alloc, words, &fault, output, errors),
     }
 }
 

@@ -19,11 +19,16 @@ mod request;
 mod serving;
 mod sheet;
 mod store;
+mod usage;
+mod variables;
 mod visible;
 mod work;
 
 use crate::command::command;
 use crate::fault::CommandFault;
+use crate::usage::on_encoding;
+use crate::variables::value_of;
+use command_words::completion::{FileOption, complete};
 use sqlite::{Start, Unknown};
 use std::alloc::Global;
 use std::io::{BufRead, BufReader, BufWriter, ErrorKind, Write};
@@ -46,10 +51,10 @@ fn main(rt: HostRuntime) -> ExitCode {
 }
 
 /// Why the words can't be had: there is no memory for them, or one isn't UTF-8.
-fn fault_of_words(error: io::Error) -> CommandFault {
+fn fault_of_words(alloc: Global, error: io::Error) -> CommandFault {
     match error.kind() {
         ErrorKind::OutOfMemory => CommandFault::NoMemory,
-        _ => CommandFault::Words,
+        _ => CommandFault::Words(on_encoding(alloc, "an argument")),
     }
 }
 
@@ -85,7 +90,15 @@ fn between<
     output: &mut W,
 ) -> Result<u8, CommandFault> {
     let texts = texts_given(rt)?;
-    let words = words_of(rt.alloc(), texts.as_slice())?;
+    let given = words_of(rt.alloc(), texts.as_slice())?;
+    let setup = value_of(rt, given.as_slice(), FileOption::Setup)?;
+    let store = value_of(rt, given.as_slice(), FileOption::Store)?;
+    let words = complete(
+        rt.alloc(),
+        given.as_slice(),
+        setup.as_deref(),
+        store.as_deref(),
+    )?;
     Ok(command(
         rt,
         threads,
@@ -100,7 +113,7 @@ fn between<
 
 /// The texts after the program's name.
 fn texts_given(rt: &HostRuntime) -> Result<Vec<String>, CommandFault> {
-    let given = env::args(rt).map_err(fault_of_words)?;
+    let given = env::args(rt).map_err(|error| fault_of_words(rt.alloc(), error))?;
     let mut texts = Vec::new(rt.alloc());
     for text in given.skip(1) {
         texts.push(text)?;

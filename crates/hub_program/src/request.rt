@@ -72,7 +72,7 @@ pub fn asked_of<'a>(chosen: &Chosen<'a>) -> Result<Asked<'a>, CommandFault> {
             store,
             format: *format,
         }),
-        _ => Err(CommandFault::Words),
+        _ => Err(CommandFault::Words(None)),
     }
 }
 
@@ -89,7 +89,7 @@ pub fn report(chosen: &Chosen<'_>) -> Result<Report, CommandFault> {
         Chosen::Loan { code, .. } => Report::Loan(loan(code)?),
         Chosen::At { place: code, .. } => Report::At(place(code)?),
         Chosen::Posted { from, .. } => Report::Posted(number(*from)?),
-        _ => return Err(CommandFault::Words),
+        _ => return Err(CommandFault::Words(None)),
     })
 }
 

@@ -1,0 +1,128 @@
+//! The museum's own setup and store, filled in for words that name none.
+#![tactic(auto)]
+
+ghost use Rattle.std.specs.Prelude.{◌≡◌, ◌++◌, IfOk, OnOk};
+ghost use Rattle.command_words.specs.Completion as completion;
+ghost use Rattle.command_words.specs.Completion.{completed, filled_in, has_option, is_settled};
+ghost use Rattle.command_words.specs.Completion.{lacks_option, settles};
+ghost use Rattle.command_words.specs.Tables.{form_by};
+ghost use Rattle.command_words.specs.Words.{text_of, texts_of};
+
+use crate::shapes::{Name, find_command};
+use std::alloc::{AllocError, Global};
+
+/// An option that names a file of the record.
+#[derive(Clone, Copy, PartialEq, Eq)]
+pub enum FileOption {
+    /// `--setup PATH` or `-s PATH`.
+    Setup,
+    /// `--store PATH` or `-d PATH`.
+    Store,
+}
+
+impl FileOption {
+    /// The option as it is written.
+    fn name(self) -> &'static str
+        ensures { result.now ≡ completion.name_of self }
+    {
+        match self {
+            FileOption::Setup => "--setup",
+            FileOption::Store => "--store",
+        }
+    }
+}
+
+/// Whether a word gives the option, or asks for help.
+fn settles_option(word: &str, option: FileOption) -> bool
+    ensures { result ≡ settles option word.now }
+{
+    let is_given = match option {
+        FileOption::Setup => {
+            word == "--setup" || word.starts_with("--setup=") || word.starts_with("-s")
+        }
+        FileOption::Store => {
+            word == "--store" || word.starts_with("--store=") || word.starts_with("-d")
+        }
+    };
+    is_given || word == "--help" || word.starts_with("-h")
+}
+
+/// Whether one of the words gives the option, or asks for help.
+fn has_settled(words: &[&str], option: FileOption) -> bool
+    ensures { result ≡ is_settled option (texts_of words.now) }
+{
+    for word in words {
+        if *word == "--" {
+            return false;
+        }
+        if settles_option(word, option) {
+            return true;
+        }
+    }
+    false
+}
+
+/// Whether a command has an option.
+fn takes_option(name: Name, option: FileOption) -> bool
+    ensures { result ≡ has_option option (form_by name) }
+{
+    match name {
+        Name::Explain | Name::Help => false,
+        _ => true,
+    }
+}
+
+/// Whether the first word names a command that has the option, and the words neither give it nor
+/// ask for help.
+pub fn lacks(words: &[&str], option: FileOption) -> bool
+    ensures { result ≡ lacks_option option (texts_of words.now) }
+{
+    match find_command(words) {
+        Some(name) => takes_option(name, option) && !has_settled(words, option),
+        None => false,
+    }
+}
+
+/// Appends the option and its value if the words lack it. A value that is not there, or is empty,
+/// appends nothing.
+fn fill_in<'a>(
+    line: &mut Vec<&'a str>,
+    words: &[&'a str],
+    option: FileOption,
+    value: Option<&'a str>,
+) -> Result<(), AllocError>
+    ensures { OnOk result (texts_of line.new.items
+        ≡ texts_of line.old.items ++ filled_in option (text_of value.entry) (texts_of words.now)) }
+{
+    match value {
+        Some(value) if !value.is_empty() && lacks(words, option) => {
+            line.push(option.name())?;
+            line.push(value)?;
+            Ok(())
+        }
+        _ => Ok(()),
+    }
+}
+
+/// The words, with `--setup` and `--store` and these values right after the command's name if the
+/// command has the option and the words don't give it. A value that is not there, or is empty, adds
+/// nothing, and words that ask for help stay as they are. Fails only if memory runs out.
+pub fn complete<'a>(
+    alloc: Global,
+    words: &[&'a str],
+    setup: Option<&'a str>,
+    store: Option<&'a str>,
+) -> Result<Vec<&'a str>, AllocError>
+    ensures words { IfOk result (λ line. texts_of line.items
+        ≡ completed (texts_of words.now) (text_of setup.entry) (text_of store.entry)) }
+{
+    let mut line = Vec::new(alloc);
+    let Some((name, rest)) = words.split_first() else {
+        return Ok(line);
+    };
+    line.push(*name)?;
+    fill_in(&mut line, words, FileOption::Setup, setup)?;
+    fill_in(&mut line, words, FileOption::Store, store)?;
+    line.extend_from_slice(rest)?;
+    Ok(line)
+}
