@@ -50,7 +50,8 @@ is_plain name.Help = refl
 pub simple_by : (n : Name) (app : App) → app ≡ app_by n → is_simple_and_free app ≡ true
 simple_by n app e = ap is_simple_and_free e ∙ is_simple n
 
-pub plain_by : (n : Name) (command : Command) → app_of command ≡ app_by n → (shape_of command).is_plain ≡ true
+pub plain_by : (n : Name) (command : Command) → app_of command ≡ app_by n
+    → (shape_of command).is_plain ≡ true
 plain_by n command e = ap (λ (a : App). a.top.is_plain) e ∙ is_plain n
 
 overview_is_simple : is_simple_and_free overview ≡ true
@@ -83,7 +84,8 @@ one_more above next names i d below so_far next_is =
     ∙ (sym (at_drop_more (with_commands above) names i d below) ∙ so_far)
 
 -- with one argument more, less is left
-pub one_argument_more : (app next whole_app : App) (arguments : List Argument) (i : ℕ) (d : Argument) → i < length arguments
+pub one_argument_more : (app next whole_app : App) (arguments : List Argument) (i : ℕ)
+    (d : Argument) → i < length arguments
     → with_arguments app (drop i arguments) ≡ whole_app
     → next ≡ with_rule app (rule_by (get_or arguments i d))
     → with_arguments next (drop (i + 1) arguments) ≡ whole_app

@@ -73,13 +73,15 @@ unfolding clap_on_literals register_app report_app
 no_day_lacks = refl
 
 -- posted --setup a --store b --from 7
-pub posted_from : value posted.app (codes "posted" ∷ codes "--setup" ∷ codes "a" ∷ codes "--store" ∷ codes "b"
+pub posted_from : value posted.app
+    (codes "posted" ∷ codes "--setup" ∷ codes "a" ∷ codes "--store" ∷ codes "b"
     ∷ codes "--from" ∷ codes "7" ∷ []) (codes "from") ≡ Some (codes "7")
 unfolding clap_on_literals register_app report_app
 posted_from = refl
 
 -- replay --setup a --progress, and without the option
-pub progress_asked : is_given replay.app (codes "replay" ∷ codes "--setup=a" ∷ codes "--progress" ∷ []) (codes "progress") ≡ true
+pub progress_asked : is_given replay.app (codes "replay" ∷ codes "--setup=a" ∷ codes "--progress"
+    ∷ []) (codes "progress") ≡ true
 unfolding clap_on_literals register_app report_app
 progress_asked = refl
 
@@ -147,12 +149,14 @@ pub word_refused_first : report_kinds away.app (both_forms ++ codes "x" ∷ []) 
 unfolding clap_on_literals register_app report_app
 word_refused_first = refl
 
--- what is refused comes before what is missing: an option without its value, one given twice, a word too many
+-- what is refused comes before what is missing: an option without its value, one given twice, a
+-- word too many
 pub value_missing : refusals (codes "replay" ∷ codes "--setup" ∷ []) ≡ InvalidValue ∷ []
 unfolding clap_on_literals register_app report_app
 value_missing = refl
 
-pub setup_twice : refusals (codes "replay" ∷ codes "--setup=a" ∷ codes "--setup=b" ∷ []) ≡ ArgumentConflict ∷ []
+pub setup_twice : refusals (codes "replay" ∷ codes "--setup=a" ∷ codes "--setup=b" ∷ [])
+    ≡ ArgumentConflict ∷ []
 unfolding clap_on_literals register_app report_app
 setup_twice = refl
 
@@ -182,7 +186,8 @@ pub help_named : form_named (codes "help" ∷ codes "lines" ∷ []) ≡ Some hel
 unfolding register_app report_app
 help_named = refl
 
-pub help_topic : value help.app (codes "help" ∷ codes "lines" ∷ []) (codes "topic") ≡ Some (codes "lines")
+pub help_topic : value help.app (codes "help" ∷ codes "lines" ∷ []) (codes "topic")
+    ≡ Some (codes "lines")
 unfolding clap_on_literals
 help_topic = refl
 
@@ -209,7 +214,8 @@ no_store_held = (refl, refl)
 
 -- the one argument of explain
 abbrev name_word : Argument
-name_word = record { kind = Word; id = word (codes "name"); value = word (codes "NAME"); help = word (codes "A word") }
+name_word = record { kind = Word; id = word (codes "name"); value = word (codes "NAME");
+    help = word (codes "A word") }
 
 pub explain_arguments : with_arguments (new_app (codes "explain")) (name_word ∷ []) ≡ explain.app
 explain_arguments = refl

@@ -6,13 +6,17 @@ use Rattle.serve_core.specs.declared.serve_fault.ServeFault.{ServeFault}
 use Rattle.serve_core.specs.Logs.{AreOfStations}
 use Rattle.serve_core.specs.Sending.{IsOneOf}
 
--- the museum before, the one after, and that of the ledger are one; of so many stations are so many feeds
-module _ (S T U : Museum) (after : T ≡ S) (told : U ≡ T) (k n : ℕ) (feeds : k ≡ n) (count : n ≡ length S.stations) where
+-- the museum before, the one after, and that of the ledger are one; of so many stations are so many
+-- feeds
+module _ (S T U : Museum) (after : T ≡ S) (told : U ≡ T) (k n : ℕ) (feeds : k ≡ n)
+    (count : n ≡ length S.stations) where
   as_many : k ≡ length U.stations
   as_many = feeds ∙ (count ∙ ap (λ (M : Museum). length M.stations) (sym (told ∙ after)))
 
-  pub of_stations : (G H : List LogLine) → H ≡ G → AreOfStations k G → AreOfStations (length U.stations) H
-  of_stations G H same are = subst (λ (m : ℕ). AreOfStations m H) as_many (subst (λ (L : List LogLine). AreOfStations k L) (sym same) are)
+  pub of_stations : (G H : List LogLine) → H ≡ G → AreOfStations k G
+      → AreOfStations (length U.stations) H
+  of_stations G H same are = subst (λ (m : ℕ). AreOfStations m H) as_many
+      (subst (λ (L : List LogLine). AreOfStations k L) (sym same) are)
 
   pub named_there : (fault : ServeFault) → IsOneOf k fault → IsOneOf (length U.stations) fault
   named_there fault is = subst (λ (m : ℕ). IsOneOf m fault) as_many is

@@ -12,7 +12,8 @@ third_fails true true true d e = grind (arith, e)
 third_fails true false c d e = grind (arith, e)
 third_fails false b c d e = grind (arith, e)
 
-no_globals : (command : Command) → (shape_of command).is_plain ≡ true → (fields_of command).has_globals ≡ false
+no_globals : (command : Command) → (shape_of command).is_plain ≡ true
+    → (fields_of command).has_globals ≡ false
 no_globals command e = third_fails _ _ _ _ e
 
 pub loop-name-init : goal.loop-name-init
@@ -22,7 +23,8 @@ pub loop-name-preserved : goal.loop-name-preserved
 loop-name-preserved c =
     let above = app_of c.loop-name.command in
     let made = c.in_ok-command_of.ensures in
-    one_more above (app_of c.in_ok-command.command) all c.loop-name.name-index _ c.loop-name-test.true
+    one_more above (app_of c.in_ok-command.command) all c.loop-name.name-index _
+        c.loop-name-test.true
     c.loop-name.invariant
     (c.in_ok-command.ensures.shape (no_globals _ (plain_by _ c.in_ok-command_of.field-0 made))
     ∙ ap (λ (a : App). with_subcommand above a.top) made)

@@ -15,17 +15,20 @@ abbrev form_by : Text → Option Form
 form_by name = find (λ form. bytes_eq name form.app.top.name) commands
 
 -- in an arm the name is known, and by it the command
-in_arm : (words : List Text) (name known : Text) (found : Option Form) (result : Result Chosen WordsFault)
+in_arm : (words : List Text) (name known : Text) (found : Option Form)
+    (result : Result Chosen WordsFault)
     → IsNamed words name → name ≡ known → form_by known ≡ found
     → Chooses found words result → Chooses (form_named words) words result
 in_arm words name known found result named is by chosen =
-    let form_is : form_named words ≡ found = ap (λ first. option_and_then form_by first) (named ∙ ap Some is) ∙ by in
+    let form_is : form_named words ≡ found =
+        ap (λ first. option_and_then form_by first) (named ∙ ap Some is) ∙ by in
     subst (λ form. Chooses form words result) (sym form_is) chosen
 
 pub returns-in-replay : goal.returns-in-replay
 unfolding register_app report_app
 returns-in-replay c =
-    in_arm (texts_of c.args.words.now) c.args.name.now (codes "replay") (Some replay) c.replay.result
+    in_arm (texts_of c.args.words.now) c.args.name.now (codes "replay") (Some replay)
+        c.replay.result
     c.requires c.in-replay.is refl c.replay.ensures
 
 pub returns-in-serve : goal.returns-in-serve
@@ -43,7 +46,8 @@ returns-in-count c =
 pub returns-in-overdue : goal.returns-in-overdue
 unfolding register_app report_app
 returns-in-overdue c =
-    in_arm (texts_of c.args.words.now) c.args.name.now (codes "overdue") (Some overdue) c.overdue.result
+    in_arm (texts_of c.args.words.now) c.args.name.now (codes "overdue") (Some overdue)
+        c.overdue.result
     c.requires c.in-overdue.is refl c.overdue.ensures
 
 pub returns-in-away : goal.returns-in-away
@@ -55,13 +59,15 @@ returns-in-away c =
 pub returns-in-history : goal.returns-in-history
 unfolding register_app report_app
 returns-in-history c =
-    in_arm (texts_of c.args.words.now) c.args.name.now (codes "history") (Some history) c.history.result
+    in_arm (texts_of c.args.words.now) c.args.name.now (codes "history") (Some history)
+        c.history.result
     c.requires c.in-history.is refl c.history.ensures
 
 pub returns-in-migrate : goal.returns-in-migrate
 unfolding register_app report_app
 returns-in-migrate c =
-    in_arm (texts_of c.args.words.now) c.args.name.now (codes "migrate") (Some migrate) c.migrate.result
+    in_arm (texts_of c.args.words.now) c.args.name.now (codes "migrate") (Some migrate)
+        c.migrate.result
     c.requires c.in-migrate.is refl c.migrate.ensures
 
 pub returns-in-copy : goal.returns-in-copy
@@ -73,25 +79,29 @@ returns-in-copy c =
 pub returns-in-explain : goal.returns-in-explain
 unfolding register_app report_app
 returns-in-explain c =
-    in_arm (texts_of c.args.words.now) c.args.name.now (codes "explain") (Some explain) c.explain.result
+    in_arm (texts_of c.args.words.now) c.args.name.now (codes "explain") (Some explain)
+        c.explain.result
     c.requires c.in-explain.is refl c.explain.ensures
 
 pub returns-in-stations : goal.returns-in-stations
 unfolding register_app report_app
 returns-in-stations c =
-    in_arm (texts_of c.args.words.now) c.args.name.now (codes "stations") (Some stations) c.stations.result
+    in_arm (texts_of c.args.words.now) c.args.name.now (codes "stations") (Some stations)
+        c.stations.result
     c.requires c.in-stations.is refl c.stations.ensures
 
 pub returns-in-where : goal.returns-in-where
 unfolding register_app report_app
 returns-in-where c =
-    in_arm (texts_of c.args.words.now) c.args.name.now (codes "where") (Some where_is) c.where_is.result
+    in_arm (texts_of c.args.words.now) c.args.name.now (codes "where") (Some where_is)
+        c.where_is.result
     c.requires c.in-where.is refl c.where_is.ensures
 
 pub returns-in-contents : goal.returns-in-contents
 unfolding register_app report_app
 returns-in-contents c =
-    in_arm (texts_of c.args.words.now) c.args.name.now (codes "contents") (Some contents) c.contents.result
+    in_arm (texts_of c.args.words.now) c.args.name.now (codes "contents") (Some contents)
+        c.contents.result
     c.requires c.in-contents.is refl c.contents.ensures
 
 pub returns-in-loan : goal.returns-in-loan
@@ -109,7 +119,8 @@ returns-in-at c =
 pub returns-in-posted : goal.returns-in-posted
 unfolding register_app report_app
 returns-in-posted c =
-    in_arm (texts_of c.args.words.now) c.args.name.now (codes "posted") (Some posted) c.posted.result
+    in_arm (texts_of c.args.words.now) c.args.name.now (codes "posted") (Some posted)
+        c.posted.result
     c.requires c.in-posted.is refl c.posted.ensures
 
 pub returns-in-help : goal.returns-in-help
