@@ -11,8 +11,14 @@ use Rattle.serde_json.specs.Read.{number_of, number_from}
 
 -- the parts of digits alone
 abbrev digits : List ℕ → Parts
-digits s = record { whole = s; point = false; fraction = []; exponent_negative = false;
-    exponent = []; len = length s }
+digits s = record {
+  whole = s;
+  point = false;
+  fraction = [];
+  exponent_negative = false;
+  exponent = [];
+  len = length s;
+}
 
 scan_digits : (s : List ℕ) → IsNumeral 10 s → scan s ≡ digits s
 scan_digits s is =

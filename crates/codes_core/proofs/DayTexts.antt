@@ -12,8 +12,16 @@ digit_ok : (n : ℕ) → is_ascii_digit (48 + n % 10) ≡ true
 digit_ok n = let small : n % 10 < 10 = omega arith in grind (arith, nat_tests)
 
 pub text_shape : (y m d : ℕ) → is_day_shape (date_text y m d) ≡ true
-text_shape y m d = rw (digit_ok (y / 100 / 10), digit_ok (y / 100), digit_ok (y / 10), digit_ok y,
-    digit_ok (m / 10), digit_ok m, digit_ok (d / 10), digit_ok d) refl
+text_shape y m d = rw (
+  digit_ok (y / 100 / 10),
+  digit_ok (y / 100),
+  digit_ok (y / 10),
+  digit_ok y,
+  digit_ok (m / 10),
+  digit_ok m,
+  digit_ok (d / 10),
+  digit_ok d,
+) refl
 
 pub year_back : (y m d : ℕ) → y ≤ 9999 → year_of (date_text y m d) ≡ y
 year_back y m d h = omega arith
@@ -84,11 +92,17 @@ pub record DayParts (t : List ℕ) : Type 0 where
 pub day_parts : (t : List ℕ) → is_day_shape t ≡ true → DayParts t
 day_parts t shape =
     parts (length t == 10) (list_all is_ascii_digit (take 4 t)) (slice_index t 4 == 45)
-        (list_all is_ascii_digit (slice_range t 5 7)) (slice_index t 7 == 45)
-        (list_all is_ascii_digit (drop 8 t)) shape
-    (λ a b c d e f. record { ten = eqb-true (length t) 10 a; year = b;
-        first_dash = eqb-true (slice_index t 4) 45 c; month = d; second_dash =
-        eqb-true (slice_index t 7) 45 e; date = f })
+    (list_all is_ascii_digit (slice_range t 5 7)) (slice_index t 7 == 45)
+    (list_all is_ascii_digit (drop 8 t)) shape
+    (λ a b c d e f. record {
+      ten = eqb-true (length t) 10 a;
+      year = b;
+      first_dash = eqb-true (slice_index t 4) 45 c;
+      month = d;
+      second_dash =
+          eqb-true (slice_index t 7) 45 e;
+      date = f;
+    })
   where
     parts : {X : Type 0} (a b c d e f : Bool) → a && b && c && d && e && f ≡ true
         → (a ≡ true → b ≡ true → c ≡ true → d ≡ true → e ≡ true → f ≡ true → X) → X
@@ -117,19 +131,19 @@ bytes_back a b c d h e f i g j parts =
     ap (λ n. a ∷ b ∷ c ∷ d ∷ n ∷ e ∷ f ∷ i ∷ g ∷ j ∷ []) parts.first_dash
     ∙ ap (λ n. a ∷ b ∷ c ∷ d ∷ 45 ∷ e ∷ f ∷ n ∷ g ∷ j ∷ []) parts.second_dash
     ∙ sym (ap (λ t. joined t (two_digits (10 * (10 * 0 + (e - 48)) + (f - 48)))
-        (two_digits (10 * (10 * 0 + (g - 48)) + (j - 48))))
-        (year_digits a b c d abcd.0 abcd.1 abcd.2 abcd.3)
+    (two_digits (10 * (10 * 0 + (g - 48)) + (j - 48))))
+    (year_digits a b c d abcd.0 abcd.1 abcd.2 abcd.3)
     ∙ ap (λ t. joined (a ∷ b ∷ c ∷ d ∷ []) t (two_digits (10 * (10 * 0 + (g - 48)) + (j - 48))))
-        (pair_back e f ef.0 ef.1)
+    (pair_back e f ef.0 ef.1)
     ∙ ap (λ t. joined (a ∷ b ∷ c ∷ d ∷ []) (e ∷ f ∷ []) t) (pair_back g j gj.0 gj.1))
 
 pub text_back : (t : List ℕ) → DayParts t → t ≡ text_at t
 text_back t parts =
     let e = spread_is t parts.ten in
     subst (λ u. u ≡ text_at u) (sym e)
-        (bytes_back (slice_index t 0) (slice_index t 1) (slice_index t 2) (slice_index t 3)
-        (slice_index t 4) (slice_index t 5) (slice_index t 6) (slice_index t 7) (slice_index t 8)
-        (slice_index t 9)
+    (bytes_back (slice_index t 0) (slice_index t 1) (slice_index t 2) (slice_index t 3)
+    (slice_index t 4) (slice_index t 5) (slice_index t 6) (slice_index t 7) (slice_index t 8)
+    (slice_index t 9)
     (subst DayParts e parts))
 
 few_years : (a b c d h e f i g j : ℕ) → DayParts (day_bytes a b c d h e f i g j)
@@ -140,7 +154,7 @@ pub year_small : (t : List ℕ) → DayParts t → year_of t ≤ 9999
 year_small t parts =
     let e = spread_is t parts.ten in
     subst (λ u. year_of u ≤ 9999) (sym e)
-        (few_years (slice_index t 0) (slice_index t 1) (slice_index t 2) (slice_index t 3)
-        (slice_index t 4) (slice_index t 5) (slice_index t 6) (slice_index t 7) (slice_index t 8)
-        (slice_index t 9)
+    (few_years (slice_index t 0) (slice_index t 1) (slice_index t 2) (slice_index t 3)
+    (slice_index t 4) (slice_index t 5) (slice_index t 6) (slice_index t 7) (slice_index t 8)
+    (slice_index t 9)
     (subst DayParts e parts))

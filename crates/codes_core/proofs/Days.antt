@@ -23,21 +23,35 @@ year_one = day_count-early (pos 1) 10000 1 1 refl (omega arith) (omega arith) (o
 pub year_positive : (d : Date) → first_number ≤ℤ epoch_day d → pos 1 ≤ℤ d.year
 year_positive d h =
     by_lt_z d.year (pos 1)
-    (λ lt. absurd (omega (arith, signed_arith, days_from_civil-day_count d.year d.month d.day,
-        day_count-lt_year d.year d.month d.day (pos 1) 1 1 (civil d) (omega arith) lt, year_one)))
+    (λ lt. absurd (omega (
+      arith,
+      signed_arith,
+      days_from_civil-day_count d.year d.month d.day,
+      day_count-lt_year d.year d.month d.day (pos 1) 1 1 (civil d) (omega arith) lt,
+      year_one,
+    )))
     (λ le. le)
 
 -- and the other way round
 pub number_low : (d : Date) → pos 1 ≤ℤ d.year → first_number ≤ℤ epoch_day d
 number_low d h =
     by_lt_z (pos 1) d.year
-    (λ lt. omega (arith, signed_arith, days_from_civil-day_count d.year d.month d.day,
-        day_count-later_year (pos 1) d.year (search rules) lt,
-        day_count-day_of_year d.year d.month d.day d.day_in.0, year_one))
+    (λ lt. omega (
+      arith,
+      signed_arith,
+      days_from_civil-day_count d.year d.month d.day,
+      day_count-later_year (pos 1) d.year (search rules) lt,
+      day_count-day_of_year d.year d.month d.day d.day_in.0,
+      year_one,
+    ))
     (λ le. let one : d.year ≡ pos 1 = omega (arith, signed_arith) in
     let first : day_count d.year 1 1 ≡ 3652791 = rw one year_one in
-    omega (arith, signed_arith, days_from_civil-day_count d.year d.month d.day,
-        day_count-day_of_year d.year d.month d.day d.day_in.0))
+    omega (
+      arith,
+      signed_arith,
+      days_from_civil-day_count d.year d.month d.day,
+      day_count-day_of_year d.year d.month d.day d.day_in.0,
+    ))
 
 -- a day of the calendar with these parts
 pub record IsMade (d : Date) (y m t : ℕ) : Type 0 where
@@ -81,17 +95,25 @@ record CivilDay (y m t : ℕ) (d : Date) : Type 0 where
 civil_parts : (y m t : ℕ) → is_civil y m t ≡ true → y ≤ 9999 → (d : Date) × CivilDay y m t d
 civil_parts y m t h few =
     let in_range : (0 < y) × ((1 ≤ m) × (m ≤ 12)) × ((1 ≤ t) × (t ≤ days_in_month (pos y) m)) =
-        ranges y m t (days_in_month (pos y) m) h in
-    let d : Date = record { year = pos y; month = m; day = t;
-        year_in = (omega (arith, signed_arith), omega (arith, signed_arith)); month_in =
-        in_range.1; day_in = in_range.2 } in
+    ranges y m t (days_in_month (pos y) m) h in
+    let d : Date = record {
+      year = pos y;
+      month = m;
+      day = t;
+      year_in = (omega (arith, signed_arith), omega (arith, signed_arith));
+      month_in =
+          in_range.1;
+      day_in = in_range.2;
+    } in
     (d, record { year = refl; month = refl; date = refl })
   where
     ranges : (y m t k : ℕ) → nat_lt 0 y && nat_lt 0 m && nat_le m 12 && nat_lt 0 t && nat_le t k
         ≡ true → (0 < y) × ((1 ≤ m) × (m ≤ 12)) × ((1 ≤ t) × (t ≤ k))
-    ranges y m t k h =
-        (grind (arith, nat_tests), (grind (arith, nat_tests), grind (arith, nat_tests)),
-        (grind (arith, nat_tests), grind (arith, nat_tests)))
+    ranges y m t k h = (
+      grind (arith, nat_tests),
+      (grind (arith, nat_tests), grind (arith, nat_tests)),
+      (grind (arith, nat_tests), grind (arith, nat_tests)),
+    )
 
 text_spells : (d : Date) (y : ℕ) → d.year ≡ pos y → 0 < y
     → SpellsDay (date_text y d.month d.day) (epoch_day d)
@@ -102,22 +124,30 @@ text_spells d y year some =
     let date : d.day ≤ 99 = omega (arith, d.day_in, days_in_month_bounds d.year d.month) in
     let month_in : (1 ≤ d.month) × (d.month ≤ 12) = d.month_in in
     let date_in : (1 ≤ d.day) × (d.day ≤ days_in_month (pos y) d.month) =
-        omega (arith, d.day_in) in (
-      rw (text_shape y d.month d.day, year_back y d.month d.day few,
-          month_back y d.month d.day month, date_back y d.month d.day date,
-          civil_true y d.month d.day (days_in_month (pos y) d.month) some month_in date_in) refl,
-      rw (year_back y d.month d.day few, month_back y d.month d.day month,
-          date_back y d.month d.day date, year) refl,
+    omega (arith, d.day_in) in (
+      rw (
+        text_shape y d.month d.day,
+        year_back y d.month d.day few,
+        month_back y d.month d.day month,
+        date_back y d.month d.day date,
+        civil_true y d.month d.day (days_in_month (pos y) d.month) some month_in date_in,
+      ) refl,
+      rw (
+        year_back y d.month d.day few,
+        month_back y d.month d.day month,
+        date_back y d.month d.day date,
+        year,
+      ) refl,
     )
 
 same_text : (d : Date) (y : ℕ) → d.year ≡ pos y → (other : List ℕ) → SpellsDay other (epoch_day d)
     → other ≡ date_text y d.month d.day
 same_text d y year other (fault, number) =
     let is = no_fault NoSuchDay (is_day_shape other)
-        (is_civil (year_of other) (month_of other) (date_of other)) other fault in
+    (is_civil (year_of other) (month_of other) (date_of other)) other fault in
     let parts = day_parts other is.0 in
     let found = civil_parts (year_of other) (month_of other) (date_of other) is.1
-        (year_small other parts) in
+    (year_small other parts) in
     let at = found.1 in
     let numbered : epoch_day found.0 ≡ day_number other = rw (at.year, at.month, at.date) refl in
     let same = epoch_day_injective found.0 d (numbered ∙ number) in
@@ -138,9 +168,11 @@ pub only_spelling : (d : Date) (n : ℤ) → epoch_day d ≡ n → first_number 
     → IsOnlySpelling (date_text (unsigned_abs d.year) d.month d.day) n
 only_spelling d n same low =
     let positive : pos 1 ≤ℤ d.year =
-        year_positive d (subst (λ k. first_number ≤ℤ k) (sym same) low) in
+    year_positive d (subst (λ k. first_number ≤ℤ k) (sym same) low) in
     let year = (pos_abs d.year positive).0 in
     let some = (pos_abs d.year positive).1 in
     subst (λ k. IsOnlySpelling (date_text (unsigned_abs d.year) d.month d.day) k) same
-    (record { spells = text_spells d (unsigned_abs d.year) year some;
-        only = same_text d (unsigned_abs d.year) year })
+    (record {
+      spells = text_spells d (unsigned_abs d.year) year some;
+      only = same_text d (unsigned_abs d.year) year;
+    })

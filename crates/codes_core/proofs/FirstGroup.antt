@@ -17,7 +17,7 @@ pub one_group : (n count : ℕ) (text first behind : List ℕ) → count ≡ len
     → are_groups n (groups text) ≡ false
 one_group n count text first behind at cut rest_is none =
     rw (cut_by 46 count text first behind at cut rest_is, following-nil 46 behind none)
-        (never (is_year first))
+    (never (is_year first))
 
 some_groups : (text : List ℕ) → nat_lt 0 (length (groups text)) ≡ true
 some_groups text = let some : (n : ℕ) → nat_lt 0 (suc n) ≡ true = λ n. grind (arith, nat_tests) in
@@ -29,15 +29,19 @@ pub more_groups : (n count : ℕ) (text first behind : List ℕ) (is_one : Bool)
     → 1 ≤ length behind → is_year first ≡ is_one
     → are_groups n (groups text) ≡ is_one && are_few is_digits n (groups (drop 1 behind))
 more_groups n count text first behind is_one at cut rest_is some told =
-    rw (cut_by 46 count text first behind at cut rest_is, following-cons 46 behind some,
-        some_groups (drop 1 behind), told) refl
+    rw (
+      cut_by 46 count text first behind at cut rest_is,
+      following-cons 46 behind some,
+      some_groups (drop 1 behind),
+      told,
+    ) refl
 
 -- the same of right numbers
 right_first : (count : ℕ) (text first behind : List ℕ) (is_one : Bool)
     → count ≡ length (front 46 text) → first ≡ take count text → behind ≡ drop count text
     → is_right_number first ≡ is_one
     → list_all is_right_number (groups text) ≡ is_one && list_all is_right_number
-        (following 46 behind)
+    (following 46 behind)
 right_first count text first behind is_one at cut rest_is told =
     rw (cut_by 46 count text first behind at cut rest_is, told) refl
 
@@ -68,10 +72,12 @@ pub told_alone : (n count : ℕ) (text first behind : List ℕ) (is_right : Bool
     → is_digits first ≡ true → is_right_number first ≡ is_right → length behind < 1
     → Some is_right ≡ told n text
 told_alone n count text first behind is_right some at cut rest_is digits right none =
-    rw (few_by is_digits 46 n count text first behind true some at cut rest_is digits,
-        goes_on-nil is_digits 46 (n - 1) behind none,
-        right_first count text first behind is_right at cut rest_is right,
-        following-nil 46 behind none) (alone is_right)
+    rw (
+      few_by is_digits 46 n count text first behind true some at cut rest_is digits,
+      goes_on-nil is_digits 46 (n - 1) behind none,
+      right_first count text first behind is_right at cut rest_is right,
+      following-nil 46 behind none,
+    ) (alone is_right)
 
 -- a group with others behind it
 pub told_more : (n count : ℕ) (text first behind : List ℕ) (is_right : Bool) → (n ≡ 0 → ⊥)
@@ -79,18 +85,23 @@ pub told_more : (n count : ℕ) (text first behind : List ℕ) (is_right : Bool)
     → is_digits first ≡ true → is_right_number first ≡ is_right → 1 ≤ length behind
     → told n text ≡ option_map (λ o. is_right && o) (told (n - 1) (drop 1 behind))
 told_more n count text first behind is_right some at cut rest_is digits right more =
-    rw (few_by is_digits 46 n count text first behind true some at cut rest_is digits,
-        goes_on-cons is_digits 46 (n - 1) behind more,
-        right_first count text first behind is_right at cut rest_is right,
-        following-cons 46 behind more)
+    rw (
+      few_by is_digits 46 n count text first behind true some at cut rest_is digits,
+      goes_on-cons is_digits 46 (n - 1) behind more,
+      right_first count text first behind is_right at cut rest_is right,
+      following-cons 46 behind more,
+    )
     (with_one (are_few is_digits (n - 1) (groups (drop 1 behind)))
-        (list_all is_right_number (groups (drop 1 behind))) is_right)
+    (list_all is_right_number (groups (drop 1 behind))) is_right)
 
 -- what is told behind four digits
 pub told_behind : (n count : ℕ) (text first behind : List ℕ) → count ≡ length (front 46 text)
     → first ≡ take count text → behind ≡ drop count text → 1 ≤ length behind → is_year first ≡ true
     → told n (drop 1 behind) ≡ numbers_of (are_groups n (groups text))
-        (has_right_groups (groups text))
+    (has_right_groups (groups text))
 told_behind n count text first behind at cut rest_is some year =
-    rw (more_groups n count text first behind true at cut rest_is some year,
-        right_behind count text behind at rest_is, following-cons 46 behind some) refl
+    rw (
+      more_groups n count text first behind true at cut rest_is some year,
+      right_behind count text behind at rest_is,
+      following-cons 46 behind some,
+    ) refl

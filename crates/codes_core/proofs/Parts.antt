@@ -32,8 +32,8 @@ parts-front mark [] = refl
 parts-front mark (b ∷ bs) =
     rw (take_while-cons (is_plain mark) b bs)
     (elim (b == mark) as (λ t. cond t ([] ∷ parts mark bs) (in_first b (parts mark bs))
-        ≡ cond (not t) (b ∷ front mark bs) [] ∷ following mark
-        (drop (length (cond (not t) (b ∷ front mark bs) [])) (b ∷ bs))) [
+    ≡ cond (not t) (b ∷ front mark bs) [] ∷ following mark
+    (drop (length (cond (not t) (b ∷ front mark bs) [])) (b ∷ bs))) [
       | true ↦ refl
       | false ↦ ap (in_first b) (parts-front mark bs)
     ])
@@ -70,7 +70,7 @@ pub first_then : (p : List ℕ → Bool) (mark n : ℕ) (text : List ℕ)
 first_then p mark n text =
     rw (parts-front mark text, le_step (length (following mark (rest mark text))) n)
     (swapped (nat_le (length (following mark (rest mark text))) n) (p (front mark text))
-        (list_all p (following mark (rest mark text)))
+    (list_all p (following mark (rest mark text)))
     ∙ ap (λ t. p (front mark text) && t) (tail_few p mark n (rest mark text)))
 
 pub front_taken : (mark : ℕ) (text : List ℕ)
@@ -119,8 +119,12 @@ all_taken n bs = rw (← length-drop n bs) (take-length (drop n bs))
 
 pub front_and_rest : (mark : ℕ) (bs : List ℕ)
     → length (front mark bs) + length (rest mark bs) ≡ length bs
-front_and_rest mark bs = omega (arith, length-prefix_len (is_plain mark) bs,
-    length-drop (length (front mark bs)) bs, prefix_len-le-length (is_plain mark) bs)
+front_and_rest mark bs = omega (
+  arith,
+  length-prefix_len (is_plain mark) bs,
+  length-drop (length (front mark bs)) bs,
+  prefix_len-le-length (is_plain mark) bs,
+)
 
 -- parts whose bytes pass a test that only ASCII passes
 pub ascii_parts : (mark : ℕ) (p : ℕ → Bool) → mark < 128 → ((b : ℕ) → p b ≡ true → b < 128)
@@ -130,13 +134,13 @@ ascii_parts mark p low only (b ∷ bs) h =
     elim (b == mark) as (λ t. b == mark ≡ t
     → list_all (list_all p) (cond t ([] ∷ parts mark bs) (in_first b (parts mark bs))) ≡ true
     → IsAscii (b ∷ bs)) [
-  | true ↦ λ e g. let is_mark = eqb-true b mark e in
-      IsAscii-cons b bs (omega arith) (ascii_parts mark p low only bs g)
-  | false ↦ λ e g.
-      let both : ((p b && list_all p (front mark bs)) ≡ true)
+      | true ↦ λ e g. let is_mark = eqb-true b mark e in
+          IsAscii-cons b bs (omega arith) (ascii_parts mark p low only bs g)
+      | false ↦ λ e g.
+          let both : ((p b && list_all p (front mark bs)) ≡ true)
           × (list_all (list_all p) (following mark (rest mark bs)) ≡ true) =
           and_parts _ _ (rw (parts-front mark bs) at g) in
-      let first : (p b ≡ true) × (list_all p (front mark bs) ≡ true) = and_parts _ _ both.0 in
-      IsAscii-cons b bs (only b first.0)
+          let first : (p b ≡ true) × (list_all p (front mark bs) ≡ true) = and_parts _ _ both.0 in
+          IsAscii-cons b bs (only b first.0)
           (ascii_parts mark p low only bs (rw (parts-front mark bs, first.1, both.1) refl))
-] refl h
+    ] refl h

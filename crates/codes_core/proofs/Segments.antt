@@ -18,8 +18,8 @@ use Rattle.codes_core.specs.Place.{is_segment_byte, segments, is_segment, is_pla
 empty-lies_in : (b : ℕ) (bs : List ℕ) → lies_in [] (b ∷ bs) ≡ false
 empty-lies_in b bs =
     elim (b == 45) as (λ t. pointwise bytes_eq
-        (cond t ([] ∷ segments bs) (in_first b (segments bs)))
-        (take (length (cond t ([] ∷ segments bs) (in_first b (segments bs)))) ([] ∷ [])) ≡ false) [
+    (cond t ([] ∷ segments bs) (in_first b (segments bs)))
+    (take (length (cond t ([] ∷ segments bs) (in_first b (segments bs)))) ([] ∷ [])) ≡ false) [
       | true ↦ rw (parts-front 45 bs) refl
       | false ↦ rw (parts-front 45 bs) refl
     ]
@@ -47,7 +47,7 @@ pub lies_in_front : (place other : List ℕ) → lies_in place other ≡ is_fron
 lies_in_front [] [] = refl
 lies_in_front (a ∷ place) [] =
     elim (a == 45) as (λ t. pointwise bytes_eq ([] ∷ [])
-        (take 1 (cond t ([] ∷ segments place) (in_first a (segments place)))) ≡ t) [
+    (take 1 (cond t ([] ∷ segments place) (in_first a (segments place)))) ≡ t) [
       | true ↦ refl
       | false ↦ rw (parts-front 45 place) refl
     ]
@@ -56,28 +56,28 @@ lies_in_front (a ∷ place) (b ∷ other) =
     elim (b == 45) as (λ t. b == 45 ≡ t
     → from (cond t ([] ∷ segments other) (in_first b (segments other))) (segments (a ∷ place))
     ≡ is_front (a ∷ place) (b ∷ other)) [
-  | true ↦ λ f. let dash = eqb-true b 45 f in
-      elim (a == 45) as (λ t. a == 45 ≡ t
-      → from ([] ∷ segments other) (cond t ([] ∷ segments place) (in_first a (segments place)))
-      ≡ is_front (a ∷ place) (b ∷ other)) [
-    | true ↦ λ e. let first = eqb-true a 45 e in
-        rw (eq-eqb a b (first ∙ sym dash)) (lies_in_front place other)
-    | false ↦ λ e. rw (parts-front 45 place, ne_eqb a b (λ h. eqb-false a 45 e (h ∙ dash))) refl
-  ] refl
-  | false ↦ λ f. elim (a == 45) as (λ t. a == 45 ≡ t
-      → from (in_first b (segments other))
-      (cond t ([] ∷ segments place) (in_first a (segments place))) ≡ is_front (a ∷ place)
-      (b ∷ other)) [
-    | true ↦ λ e. let first = eqb-true a 45 e in
-        rw (parts-front 45 other, ne_eqb a b (λ h. eqb-false b 45 f (sym h ∙ first))) refl
-    | false ↦ λ e. rw (parts-front 45 place, parts-front 45 other)
-        (both_in a b (front 45 place) (front 45 other) (following 45 (rest 45 place))
-        (following 45 (rest 45 other)) (is_front place other)
-        (rw (parts-front 45 place, parts-front 45 other) at (lies_in_front place other))
-        ∙ sym (and_assoc (a == b) (pointwise nat_eq (take (length other) place) other)
-            (ends_segment (drop (length other) place))))
-  ] refl
-] refl
+      | true ↦ λ f. let dash = eqb-true b 45 f in
+          elim (a == 45) as (λ t. a == 45 ≡ t
+          → from ([] ∷ segments other) (cond t ([] ∷ segments place) (in_first a (segments place)))
+          ≡ is_front (a ∷ place) (b ∷ other)) [
+            | true ↦ λ e. let first = eqb-true a 45 e in
+                rw (eq-eqb a b (first ∙ sym dash)) (lies_in_front place other)
+            | false ↦ λ e. rw (parts-front 45 place, ne_eqb a b (λ h. eqb-false a 45 e (h ∙ dash))) refl
+          ] refl
+      | false ↦ λ f. elim (a == 45) as (λ t. a == 45 ≡ t
+          → from (in_first b (segments other))
+          (cond t ([] ∷ segments place) (in_first a (segments place))) ≡ is_front (a ∷ place)
+          (b ∷ other)) [
+            | true ↦ λ e. let first = eqb-true a 45 e in
+                rw (parts-front 45 other, ne_eqb a b (λ h. eqb-false b 45 f (sym h ∙ first))) refl
+            | false ↦ λ e. rw (parts-front 45 place, parts-front 45 other)
+                (both_in a b (front 45 place) (front 45 other) (following 45 (rest 45 place))
+                (following 45 (rest 45 other)) (is_front place other)
+                (rw (parts-front 45 place, parts-front 45 other) at (lies_in_front place other))
+                ∙ sym (and_assoc (a == b) (pointwise nat_eq (take (length other) place) other)
+                (ends_segment (drop (length other) place))))
+          ] refl
+    ] refl
 
 -- the same by what follows the other's text
 pub lies_in_behind : (place other behind : List ℕ)
@@ -85,12 +85,12 @@ pub lies_in_behind : (place other behind : List ℕ)
     → lies_in place other ≡ ends_segment behind
 lies_in_behind place other behind starts follows =
     lies_in_front place other ∙ ap (λ t. t && ends_segment (drop (length other) place)) starts
-        ∙ sym (ap ends_segment follows)
+    ∙ sym (ap ends_segment follows)
 
 segment_length : (s : List ℕ) → is_segment s ≡ true → length s ≤ 8
 segment_length s e =
     let sized : (nat_lt 0 (length s) && nat_le (length s) 8) ≡ true =
-        (and_parts _ (list_all is_segment_byte s) e).0 in
+    (and_parts _ (list_all is_segment_byte s) e).0 in
     leb-true (length s) 8 (and_parts (nat_lt 0 (length s)) _ sized).1
 
 segment_more : (n : ℕ) → ((bs : List ℕ) → is_place_shape n bs ≡ true → length bs + 1 ≤ 9 * n)
@@ -103,10 +103,14 @@ place_length : (n : ℕ) (text : List ℕ) → is_place_shape n text ≡ true �
 place_length zero text h = absurd (false≢true (sym (are_few-zero is_segment 45 zero text refl) ∙ h))
 place_length (suc n) text h =
     let both : (is_segment (front 45 text) ≡ true)
-        × (goes_on is_segment 45 n (rest 45 text) ≡ true) =
-        and_parts _ _ (sym (first_then is_segment 45 n text) ∙ h) in
-    omega (arith, segment_length (front 45 text) both.0, front_and_rest 45 text,
-        segment_more n (place_length n) (rest 45 text) both.1)
+    × (goes_on is_segment 45 n (rest 45 text) ≡ true) =
+    and_parts _ _ (sym (first_then is_segment 45 n text) ∙ h) in
+    omega (
+      arith,
+      segment_length (front 45 text) both.0,
+      front_and_rest 45 text,
+      segment_more n (place_length n) (rest 45 text) both.1,
+    )
 
 are_plain : (ss : List (List ℕ)) → list_all is_segment ss ≡ true
     → list_all (list_all is_segment_byte) ss ≡ true
@@ -131,7 +135,10 @@ place_told numbers shape bs n s = n ∙ (elim shape as (λ t. then_some t true �
 pub place_text : (bs : List ℕ) → place_fault bs ≡ None → IsShort 35 bs
 place_text bs none =
     let is : is_place_shape 4 bs ≡ true =
-        (no_fault BadNumber (is_place_shape 4 bs) true bs none).0 in
+    (no_fault BadNumber (is_place_shape 4 bs) true bs none).0 in
     let few : length bs + 1 ≤ 9 * 4 = place_length 4 bs is in
-    record { ascii = ascii_parts 45 is_segment_byte (omega arith) segment_ascii bs
-        (are_plain (segments bs) (and_parts _ _ is).1); short = omega arith }
+    record {
+      ascii = ascii_parts 45 is_segment_byte (omega arith) segment_ascii bs
+          (are_plain (segments bs) (and_parts _ _ is).1);
+      short = omega arith;
+    }

@@ -40,17 +40,23 @@ module _ (n : ℕ) (day : CivilDay) (d : Date) (few : n + 1 ≤ 3652058)
   in_month test =
       let less : day.date < days_in_month (pos day.year) day.month = grind (arith, nat_tests) in
       let next = days_from_civil-day (pos day.year) day.month day.date (day.date + 1) date_in.0
-          (omega arith) in
+      (omega arith) in
       let number = is.number in (
-        record { year = pos day.year; month = day.month; day = day.date + 1; year_in = year_in;
-            month_in = month_in; day_in = (omega arith, omega arith) },
+        record {
+          year = pos day.year;
+          month = day.month;
+          day = day.date + 1;
+          year_in = year_in;
+          month_in = month_in;
+          day_in = (omega arith, omega arith);
+        },
         record { year = refl; month = refl; date = refl; number = omega (arith, signed_arith) },
       )
 
   next_month : nat_lt day.date (days_in_month (pos day.year) day.month) ≡ false
       → nat_lt day.month 12 ≡ true
       → (e : Date) × IsFromFirst (suc n)
-          (record { year = day.year; month = day.month + 1; date = 1 }) e
+      (record { year = day.year; month = day.month + 1; date = 1 }) e
   next_month full test =
       let within = date_in in
       let most : days_in_month (pos day.year) day.month ≤ day.date = grind (arith, nat_tests) in
@@ -59,8 +65,14 @@ module _ (n : ℕ) (day : CivilDay) (d : Date) (few : n + 1 ≤ 3652058)
       let long = days_in_month_bounds (pos day.year) (day.month + 1) in
       let next = days_from_civil-next_month (pos day.year) day.month day.date month_in.0 last in
       let number = is.number in (
-        record { year = pos day.year; month = day.month + 1; day = 1; year_in = year_in;
-            month_in = (omega arith, omega arith); day_in = (omega arith, omega arith) },
+        record {
+          year = pos day.year;
+          month = day.month + 1;
+          day = 1;
+          year_in = year_in;
+          month_in = (omega arith, omega arith);
+          day_in = (omega arith, omega arith);
+        },
         record { year = refl; month = refl; date = refl; number = omega (arith, signed_arith) },
       )
 
@@ -77,31 +89,43 @@ module _ (n : ℕ) (day : CivilDay) (d : Date) (few : n + 1 ≤ 3652058)
       let days : days_in_month (pos day.year) day.month ≡ 31 = rw twelve refl in
       let last : day.date ≡ 31 = omega arith in
       let number : days_from_civil (pos day.year) 12 31 ≡ first_number +ℤ pos n =
-          rw (sym twelve, sym last) is.number in
+      rw (sym twelve, sym last) is.number in
       let no_end : day.year ≡ 9999 → ⊥ = λ e. let max = days_from_civil-max in
-          let end : days_from_civil (pos 9999) 12 31 ≡ first_number +ℤ pos n = rw (sym e) number in
-          omega (arith, signed_arith) in
+      let end : days_from_civil (pos 9999) 12 31 ≡ first_number +ℤ pos n = rw (sym e) number in
+      omega (arith, signed_arith) in
       let next = days_from_civil-next_year (pos day.year) (pos (day.year + 1))
-          (omega (arith, signed_arith)) (omega (arith, signed_arith)) in
+      (omega (arith, signed_arith)) (omega (arith, signed_arith)) in
       let long = days_in_month_bounds (pos (day.year + 1)) 1 in (
-        record { year = pos (day.year + 1); month = 1; day = 1;
-            year_in = (omega (arith, signed_arith), omega (arith, signed_arith)); month_in =
-            (omega arith, omega arith); day_in = (omega arith, omega arith) },
+        record {
+          year = pos (day.year + 1);
+          month = 1;
+          day = 1;
+          year_in = (omega (arith, signed_arith), omega (arith, signed_arith));
+          month_in =
+              (omega arith, omega arith);
+          day_in = (omega arith, omega arith);
+        },
         record { year = refl; month = refl; date = refl; number = omega (arith, signed_arith) },
       )
 
   next_day : (e : Date) × IsFromFirst (suc n) (day_after day) e
   next_day =
       elim (nat_lt day.date (days_in_month (pos day.year) day.month)) as
-          (λ t. nat_lt day.date (days_in_month (pos day.year) day.month) ≡ t → (e : Date)
-      × IsFromFirst (suc n) (if t then record { year = day.year; month = day.month;
-          date = day.date + 1 }
+      (λ t. nat_lt day.date (days_in_month (pos day.year) day.month) ≡ t → (e : Date)
+      × IsFromFirst (suc n) (if t then record {
+        year = day.year;
+        month = day.month;
+        date = day.date + 1;
+      }
       else (if nat_lt day.month 12 then record { year = day.year; month = day.month + 1; date = 1 }
-          else record { year = day.year + 1; month = 1; date = 1 })) e) [
+      else record { year = day.year + 1; month = 1; date = 1 })) e) [
         | true ↦ in_month
         | false ↦ λ full. elim (nat_lt day.month 12) as (λ t. nat_lt day.month 12 ≡ t → (e : Date)
-            × IsFromFirst (suc n) (if t then record { year = day.year; month = day.month + 1;
-                date = 1 } else record { year = day.year + 1; month = 1; date = 1 }) e) [
+            × IsFromFirst (suc n) (if t then record {
+              year = day.year;
+              month = day.month + 1;
+              date = 1;
+            } else record { year = day.year + 1; month = 1; date = 1 }) e) [
               | true ↦ next_month full
               | false ↦ next_year full
             ] refl
@@ -117,8 +141,12 @@ from_first zero few = (
     month_in = (omega arith, omega arith);
     day_in = (omega arith, omega arith);
   },
-  record { year = refl; month = refl; date = refl;
-      number = omega (arith, signed_arith, days_from_civil-day_count (pos 1) 1 1, year_one) },
+  record {
+    year = refl;
+    month = refl;
+    date = refl;
+    number = omega (arith, signed_arith, days_from_civil-day_count (pos 1) 1 1, year_one);
+  },
 )
 from_first (suc n) few =
     let before = from_first n (omega arith) in
@@ -142,7 +170,7 @@ text_spells_day n low high =
     let day = day_from_first k in
     let same : epoch_day d ≡ n = rw (is.year, is.month, is.date) (is.number ∙ back) in
     let text : date_text (unsigned_abs d.year) d.month d.day ≡ date_text day.year day.month
-        day.date = rw (is.year, is.month, is.date) refl in
+    day.date = rw (is.year, is.month, is.date) refl in
     subst (λ t. IsOnlySpelling t n) text (only_spelling d n same low)
 
 low_digit : (n : ℕ) → 48 + n % 10 < 128
@@ -152,7 +180,7 @@ pair_ascii : (n : ℕ) (rest : List ℕ) → IsAscii rest
     → IsAscii ((48 + n / 10 % 10) ∷ (48 + n % 10) ∷ rest)
 pair_ascii n rest h =
     IsAscii-cons (48 + n / 10 % 10) ((48 + n % 10) ∷ rest) (low_digit (n / 10))
-        (IsAscii-cons (48 + n % 10) rest (low_digit n) h)
+    (IsAscii-cons (48 + n % 10) rest (low_digit n) h)
 
 date_ascii : (y m d : ℕ) → IsAscii (date_text y m d)
 date_ascii y m d =
@@ -160,8 +188,8 @@ date_ascii y m d =
     let month = 45 ∷ two_digits m ++ date in
     pair_ascii (y / 100) (two_digits y ++ month)
     (pair_ascii y month (IsAscii-cons 45 (two_digits m ++ date) (omega arith)
-        (pair_ascii m date (IsAscii-cons 45 (two_digits d) (omega arith)
-        (pair_ascii d [] IsAscii-nil)))))
+    (pair_ascii m date (IsAscii-cons 45 (two_digits d) (omega arith)
+    (pair_ascii d [] IsAscii-nil)))))
 
 pub day_text_ascii : (n : ℤ) → IsAscii (day_text n)
 unfolding day_text

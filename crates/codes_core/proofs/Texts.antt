@@ -45,8 +45,10 @@ number_short ds h = leb-true (length ds) 6 (and_parts _ _ h).0
 
 pub digits_short : (bs : List ℕ) → is_digits bs ≡ true → is_right_number bs ≡ true → IsShort 6 bs
 digits_short bs digits right =
-    record { ascii = ascii_all is_ascii_digit bs digit_ascii (and_parts _ _ digits).1;
-    short = number_short bs right }
+    record {
+      ascii = ascii_all is_ascii_digit bs digit_ascii (and_parts _ _ digits).1;
+      short = number_short bs right;
+    }
 
 longer : (n k : ℕ) (bs : List ℕ) → IsShort n bs → n ≤ k → IsShort k bs
 longer n k bs h fits = record { ascii = h.ascii; short = omega arith }
@@ -65,17 +67,20 @@ groups_length : (bs : List ℕ) → list_all is_right_number (following 46 (rest
 groups_length [] h = omega arith
 groups_length (b ∷ bs) h =
     rw (take_while-cons (is_plain 46) b bs)
-        (elim (b == 46) as (λ t. list_all is_right_number
-        (following 46 (drop (length (cond (not t) (b ∷ front 46 bs) [])) (b ∷ bs))) ≡ true
-        → suc (length bs) ≤ length (cond (not t) (b ∷ front 46 bs) []) + 7 * length
-        (following 46 (drop (length (cond (not t) (b ∷ front 46 bs) [])) (b ∷ bs)))) [
+    (elim (b == 46) as (λ t. list_all is_right_number
+    (following 46 (drop (length (cond (not t) (b ∷ front 46 bs) [])) (b ∷ bs))) ≡ true
+    → suc (length bs) ≤ length (cond (not t) (b ∷ front 46 bs) []) + 7 * length
+    (following 46 (drop (length (cond (not t) (b ∷ front 46 bs) [])) (b ∷ bs)))) [
       | true ↦ λ r. let split : list_all is_right_number (front 46 bs ∷ following 46 (rest 46 bs))
           ≡ true = rw (parts-front 46 bs) at r in
           let both : (is_right_number (front 46 bs) ≡ true)
-              × (list_all is_right_number (following 46 (rest 46 bs)) ≡ true) =
-              and_parts _ _ split in
-          rw (parts-front 46 bs) (omega (arith, groups_length bs both.1,
-              number_short (front 46 bs) both.0))
+          × (list_all is_right_number (following 46 (rest 46 bs)) ≡ true) =
+          and_parts _ _ split in
+          rw (parts-front 46 bs) (omega (
+            arith,
+            groups_length bs both.1,
+            number_short (front 46 bs) both.0,
+          ))
       | false ↦ λ r. omega (arith, groups_length bs r)
     ] (rw (take_while-cons (is_plain 46) b bs) at h))
 
@@ -84,19 +89,19 @@ groups_short : (n : ℕ) (bs : List ℕ) → are_groups n (groups bs) ≡ true
     → has_right_groups (groups bs) ≡ true → IsShort (4 + 7 * n) bs
 groups_short n bs shape right =
     let told : are_groups n (front 46 bs ∷ following 46 (rest 46 bs)) ≡ true =
-        rw (parts-front 46 bs) at shape in
+    rw (parts-front 46 bs) at shape in
     let numbers : list_all is_right_number (following 46 (rest 46 bs)) ≡ true =
-        rw (parts-front 46 bs) at right in
+    rw (parts-front 46 bs) at right in
     let split = and_parts (is_year (front 46 bs)) _ told in
     let four = and_parts (length (front 46 bs) == 4) (is_digits (front 46 bs)) split.0 in
     let behind = and_parts (nat_lt 0 (length (following 46 (rest 46 bs))))
-        (are_few is_digits n (following 46 (rest 46 bs))) split.1 in
+    (are_few is_digits n (following 46 (rest 46 bs))) split.1 in
     let few = and_parts (nat_le (length (following 46 (rest 46 bs))) n)
-        (list_all is_digits (following 46 (rest 46 bs))) behind.1 in
+    (list_all is_digits (following 46 (rest 46 bs))) behind.1 in
     let length_is : length (front 46 bs) ≡ 4 = eqb-true (length (front 46 bs)) 4 four.0 in
     let count : length (following 46 (rest 46 bs)) ≤ n = leb-true _ n few.0 in
     let digits : list_all is_digits (groups bs) ≡ true =
-        rw (parts-front 46 bs, four.1, few.1) refl in
+    rw (parts-front 46 bs, four.1, few.1) refl in
     record {
       ascii = ascii_parts 46 is_ascii_digit (omega arith) digit_ascii bs
           (digit_groups (groups bs) digits);
@@ -113,10 +118,10 @@ letter_last : (n k : ℕ) (bs : List ℕ) → length bs ≡ k + 1
 letter_last n k bs sized e h =
     let last : drop k bs ≡ slice_index bs k ∷ drop (suc k) bs = drop-cons bs k 0 (omega arith) in
     let behind : IsAscii (drop (suc k) bs) =
-        no_bytes (drop (suc k) bs) (omega (arith, length-drop (suc k) bs)) in
+    no_bytes (drop (suc k) bs) (omega (arith, length-drop (suc k) bs)) in
     let letter : IsAscii (drop k bs) =
-        subst IsAscii (sym last) (IsAscii-cons (slice_index bs k) (drop (suc k) bs)
-        (letter_ascii (slice_index bs k) e) behind) in
+    subst IsAscii (sym last) (IsAscii-cons (slice_index bs k) (drop (suc k) bs)
+    (letter_ascii (slice_index bs k) e) behind) in
     let shorter : length (take k bs) ≡ k = length-take-le k bs (omega arith) in
     record {
       ascii = subst IsAscii (take-append-drop k bs)
@@ -135,9 +140,9 @@ letter_short : (n : ℕ) (bs : List ℕ) → IsShort n (without_letter bs) → I
 letter_short n bs = elim (is_ascii_lowercase (slice_index bs (length bs - 1))) as
     (λ t. is_ascii_lowercase (slice_index bs (length bs - 1)) ≡ t
     → IsShort n (cond t (take (length bs - 1) bs) bs) → IsShort (n + 1) bs) [
-  | true ↦ λ e h. letter_of n bs e h
-  | false ↦ λ e h. longer n (n + 1) bs h (omega arith)
-] refl
+      | true ↦ λ e h. letter_of n bs e h
+      | false ↦ λ e h. longer n (n + 1) bs h (omega arith)
+    ] refl
 
 object_short : (bs : List ℕ) → is_object_shape bs ≡ true → has_object_numbers bs ≡ true
     → IsShort 26 bs
@@ -147,20 +152,20 @@ thing_short : (bs : List ℕ) → is_thing_shape bs ≡ true → has_thing_numbe
 thing_short [] shape right = absurd (cc)
 thing_short (b ∷ bs) shape right =
     elim (b == 67) as (λ t. b == 67 ≡ t
-        → cond t (is_digits bs) (cond (b == 76) (is_object_shape bs) (is_object_shape (b ∷ bs)))
-        ≡ true → cond t (is_right_number bs)
-        (cond (b == 76) (has_object_numbers bs) (has_object_numbers (b ∷ bs))) ≡ true
-        → IsShort 27 (b ∷ bs)) [
+    → cond t (is_digits bs) (cond (b == 76) (is_object_shape bs) (is_object_shape (b ∷ bs)))
+    ≡ true → cond t (is_right_number bs)
+    (cond (b == 76) (has_object_numbers bs) (has_object_numbers (b ∷ bs))) ≡ true
+    → IsShort 27 (b ∷ bs)) [
       | true ↦ λ e s r. let c = eqb-true b 67 e in
           one_more 6 27 b bs (omega arith) (digits_short bs s r) (omega arith)
       | false ↦ λ e s r. elim (b == 76) as (λ t. b == 76 ≡ t
           → cond t (is_object_shape bs) (is_object_shape (b ∷ bs)) ≡ true
           → cond t (has_object_numbers bs) (has_object_numbers (b ∷ bs)) ≡ true
           → IsShort 27 (b ∷ bs)) [
-        | true ↦ λ f s' r'. let l = eqb-true b 76 f in
-            one_more 26 27 b bs (omega arith) (object_short bs s' r') (omega arith)
-        | false ↦ λ f s' r'. longer 26 27 (b ∷ bs) (object_short (b ∷ bs) s' r') (omega arith)
-      ] refl s r
+            | true ↦ λ f s' r'. let l = eqb-true b 76 f in
+                one_more 26 27 b bs (omega arith) (object_short bs s' r') (omega arith)
+            | false ↦ λ f s' r'. longer 26 27 (b ∷ bs) (object_short (b ∷ bs) s' r') (omega arith)
+          ] refl s r
     ] refl shape right
 
 -- a text without a fault has its code's shape and right numbers
@@ -183,12 +188,12 @@ front_two (x ∷ y ∷ bs) b c hb hc h rest =
     let first = eqb-true b x both.0 in
     let second = eqb-true c y (and_parts _ _ both.1).0 in
     one_more 12 13 x (y ∷ bs) (omega arith) (one_more 11 12 y bs (omega arith) rest (omega arith))
-        (omega arith)
+    (omega arith)
 
 loan_short : (bs : List ℕ) → is_loan_shape bs ≡ true → has_loan_number bs ≡ true → IsShort 13 bs
 loan_short bs shape right =
     let front : (is_out bs || starts_with nat_eq bs (codes "LI") ≡ true)
-        × (are_groups 1 (groups (drop 2 bs)) ≡ true) = and_parts _ _ shape in
+    × (are_groups 1 (groups (drop 2 bs)) ≡ true) = and_parts _ _ shape in
     let behind : IsShort 11 (drop 2 bs) = groups_short 1 (drop 2 bs) front.1 right in
     elim (or_cases (is_out bs) (starts_with nat_eq bs (codes "LI")) front.0) [
       | inl out ↦ front_two bs 76 79 (omega arith) (omega arith) out behind

@@ -129,15 +129,19 @@ no_bytes = refl
 -- the kinds of the longest codes
 longest_kinds : map thing_kind
     (codes "2001.999999.999999.999999z" ∷ codes "L2001.999999.999999.999999z"
-        ∷ codes "C999999" ∷ [])
+    ∷ codes "C999999" ∷ [])
     ≡ Own ∷ Borrowed ∷ Container ∷ []
 longest_kinds = refl
 
 -- a name has up to 60 bytes
 longest_name : IsName (replicate 60 97)
 unfolding encode
-longest_name = record { utf8 = (replicate 60 97, (refl, refl)); some = leb-true 1 60 refl;
-    few = leb-true 60 60 refl; plain = refl }
+longest_name = record {
+  utf8 = (replicate 60 97, (refl, refl));
+  some = leb-true 1 60 refl;
+  few = leb-true 60 60 refl;
+  plain = refl;
+}
 
 too_long_a_name : ¬ IsName (replicate 61 97)
 too_long_a_name name = let few : 61 ≤ 60 = name.few in omega arith

@@ -8,43 +8,51 @@ use Rattle.command_words.specs.declared.completion.FileOption.TheVariants.{Setup
 use Rattle.command_words.specs.declared.shapes.Name.{Name}
 use Rattle.command_words.specs.declared.shapes.Name.TheVariants as name
 
--- each command but explain has both
-pub has_both : (option : FileOption) (n : Name) → n ≢ name.Explain
+-- each command but explain and help has both
+pub has_both : (option : FileOption) (n : Name) → n ≢ name.Explain → n ≢ name.Help
     → true ≡ has_option option (form_by n)
 unfolding form_by register_app report_app
-has_both Setup name.Replay other = refl
-has_both Setup name.Serve other = refl
-has_both Setup name.Count other = refl
-has_both Setup name.Overdue other = refl
-has_both Setup name.Away other = refl
-has_both Setup name.History other = refl
-has_both Setup name.Migrate other = refl
-has_both Setup name.Copy other = refl
-has_both Setup name.Explain other = absurd (other refl)
-has_both Setup name.Stations other = refl
-has_both Setup name.Where other = refl
-has_both Setup name.Contents other = refl
-has_both Setup name.Loan other = refl
-has_both Setup name.At other = refl
-has_both Setup name.Posted other = refl
-has_both Store name.Replay other = refl
-has_both Store name.Serve other = refl
-has_both Store name.Count other = refl
-has_both Store name.Overdue other = refl
-has_both Store name.Away other = refl
-has_both Store name.History other = refl
-has_both Store name.Migrate other = refl
-has_both Store name.Copy other = refl
-has_both Store name.Explain other = absurd (other refl)
-has_both Store name.Stations other = refl
-has_both Store name.Where other = refl
-has_both Store name.Contents other = refl
-has_both Store name.Loan other = refl
-has_both Store name.At other = refl
-has_both Store name.Posted other = refl
+has_both Setup name.Replay other more = refl
+has_both Setup name.Serve other more = refl
+has_both Setup name.Count other more = refl
+has_both Setup name.Overdue other more = refl
+has_both Setup name.Away other more = refl
+has_both Setup name.History other more = refl
+has_both Setup name.Migrate other more = refl
+has_both Setup name.Copy other more = refl
+has_both Setup name.Explain other more = absurd (other refl)
+has_both Setup name.Stations other more = refl
+has_both Setup name.Where other more = refl
+has_both Setup name.Contents other more = refl
+has_both Setup name.Loan other more = refl
+has_both Setup name.At other more = refl
+has_both Setup name.Posted other more = refl
+has_both Setup name.Help other more = absurd (more refl)
+has_both Store name.Replay other more = refl
+has_both Store name.Serve other more = refl
+has_both Store name.Count other more = refl
+has_both Store name.Overdue other more = refl
+has_both Store name.Away other more = refl
+has_both Store name.History other more = refl
+has_both Store name.Migrate other more = refl
+has_both Store name.Copy other more = refl
+has_both Store name.Explain other more = absurd (other refl)
+has_both Store name.Stations other more = refl
+has_both Store name.Where other more = refl
+has_both Store name.Contents other more = refl
+has_both Store name.Loan other more = refl
+has_both Store name.At other more = refl
+has_both Store name.Posted other more = refl
+has_both Store name.Help other more = absurd (more refl)
 
 -- explain has neither
 pub has_none : (option : FileOption) → false ≡ has_option option (form_by name.Explain)
 unfolding form_by
 has_none Setup = refl
 has_none Store = refl
+
+-- nor has help
+pub help_has_none : (option : FileOption) → false ≡ has_option option (form_by name.Help)
+unfolding form_by
+help_has_none Setup = refl
+help_has_none Store = refl

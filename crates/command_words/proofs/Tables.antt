@@ -111,3 +111,4 @@ app_is name.Contents = refl
 app_is name.Loan = refl
 app_is name.At = refl
 app_is name.Posted = refl
+app_is name.Help = refl

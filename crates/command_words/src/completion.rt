@@ -67,7 +67,8 @@ fn takes_option(name: Name, option: FileOption) -> bool
     ensures { result ≡ has_option option (form_by name) }
 {
     match name {
-        Name::Explain | Name::Help => false,
+        Name::Explain => false,
+        Name::Help => false,
         _ => true,
     }
 }

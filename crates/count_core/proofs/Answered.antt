@@ -30,7 +30,7 @@ place_known : (S : Museum) (depth : ℕ) (P : List Entry) (x : ℕ) → IsLawful
     → IfSome (place_at S P x) (λ p. p < length S.places)
 place_known S depth P x lawful =
     subst (λ o. IfSome o (λ p. p < length S.places)) (last_is_current S depth P x lawful)
-        (last_known (length S.places) None (spots S P x) tt (spots_within S depth P x lawful))
+    (last_known (length S.places) None (spots S P x) tt (spots_within S depth P x lawful))
 
 from_known : (S : Museum) (sought : List ℕ) (o : Option ℕ) → IfSome o (λ p. p < length S.places)
     → IsAnswerIn S (found_from S sought o)

@@ -57,35 +57,35 @@ found_once B rows i j x lt first second found =
     let s = row_there (named B.museum) (slice_get rows j) x second in
     let named_before : names B.museum (take j rows) x ≡ true =
     before_passes (λ q. option_map_or (λ y. y == x) (named B.museum q) false) rows i j r.0 lt r.1
-        (ap (λ o. option_map_or (λ y. y == x) o false) r.2 ∙ same_number x) in
+    (ap (λ o. option_map_or (λ y. y == x) o false) r.2 ∙ same_number x) in
     let again : is_again B.museum (take j rows) s.0 ≡ true =
-        ap (λ o. option_map_or (names B.museum (take j rows)) o false) s.2 ∙ named_before in
+    ap (λ o. option_map_or (names B.museum (take j rows)) o false) s.2 ∙ named_before in
     let said : answer_at B rows j ≡ answer B (take j rows) s.0 =
-        ap (λ o. option_map_or (answer B (take j rows)) o UnknownPlace) s.1 in
+    ap (λ o. option_map_or (answer B (take j rows)) o UnknownPlace) s.1 in
     let is : answer_at B rows j ≡ Found =
     sym (get_or-map-range_with_len (answer_at B rows) 0 (length rows) j j Found
-        (slice_get_within rows j s.0 s.1) (omega arith)) ∙ get_or_from_slice_get (answers B rows) j
-        Found Found found in
+    (slice_get_within rows j s.0 s.1) (omega arith)) ∙ get_or_from_slice_get (answers B rows) j
+    Found Found found in
     not_found (is_none (find_place B.museum s.0.place)) (look B s.0)
     (sym (ap (λ b. if is_none (find_place B.museum s.0.place) then UnknownPlace else
-        (if b then Again else look B s.0)) again) ∙ (sym said ∙ is))
+    (if b then Again else look B s.0)) again) ∙ (sym said ∙ is))
 
 pub unnamed : (B : Book) (rows : List CountRow) (m : MissingObject) (r : CountRow)
     → Contains (missing B rows) m → Contains rows r → named B.museum r ≢ Some m.object
 unnamed B rows m r h there is =
     let place = from_flat_map (missing_in B rows) (mentioned B.museum rows) m h in
     let object = from_map (missing_at place.0)
-        (filter (is_missing B rows place.0) (range_with_len 0 (length B.museum.things)))
-        m place.2 in
+    (filter (is_missing B rows place.0) (range_with_len 0 (length B.museum.things)))
+    m place.2 in
     let same : object.0 ≡ m.object = ap (λ (q : MissingObject). q.object) object.2 in
     let test = (let_through (is_missing B rows place.0) (range_with_len 0 (length B.museum.things))
-        object.0 object.1).1 in
+    object.0 object.1).1 in
     let missed = and_parts (not (names B.museum rows object.0))
-        (not (is_container B.museum object.0))
-        (and_parts (is_unnamed B.museum rows object.0) (is_within B place.0 object.0) test).0 in
+    (not (is_container B.museum object.0))
+    (and_parts (is_unnamed B.museum rows object.0) (is_within B place.0 object.0) test).0 in
     let by_row : names B.museum rows m.object ≡ true =
     any_of (λ q. option_map_or (λ y. y == m.object) (named B.museum q) false) rows r there
-        (ap (λ o. option_map_or (λ y. y == m.object) o false) is ∙ same_number m.object) in
+    (ap (λ o. option_map_or (λ y. y == m.object) o false) is ∙ same_number m.object) in
     let no : false ≡ true = sym (ap not (ap (names B.museum rows) same ∙ by_row)) ∙ missed.0 in
     absurd (cc)
 
@@ -111,9 +111,9 @@ in_known B q x e = by (place_code_of B.museum q) refl e
 pub whole : (B : Book) (rows : List CountRow) → CountsAll B rows → missing B rows ≡ []
 whole B rows all =
     flat_map_none (missing_in B rows) (mentioned B.museum rows)
-        (λ q mention. ap (map (missing_at q))
-        (filter_none (is_missing B rows q) (range_with_len 0 (length B.museum.things)) (λ x low.
+    (λ q mention. ap (map (missing_at q))
+    (filter_none (is_missing B rows q) (range_with_len 0 (length B.museum.things)) (λ x low.
     not_missing (names B.museum rows x) (is_within B q x) (not (is_container B.museum x)) (λ within.
     let known = in_known B q x within in
     all q x known.0 mention known.1
-        (kept (is_in B known.0) (range_with_len 0 (length B.museum.things)) x low known.2)))))
+    (kept (is_in B known.0) (range_with_len 0 (length B.museum.things)) x low known.2)))))

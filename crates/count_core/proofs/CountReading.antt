@@ -42,10 +42,10 @@ at_start text = record {
 here_is : (kept : List CountRow) (n : ℕ) (before : List Fields) (row : Fields)
     (o : Option CountFault) → kept ≡ counts_of before → n ≡ length before + 1
     → row_fault (length kept) n row ≡ o
-        → row_fault (length (counts_of before)) (length before + 1) row ≡ o
+    → row_fault (length (counts_of before)) (length before + 1) row ≡ o
 here_is kept n before row o counts number e =
     ap (λ (ks : List CountRow). row_fault (length ks) (length before + 1) row) (sym counts)
-        ∙ ap (λ m. row_fault (length kept) m row) (sym number) ∙ e
+    ∙ ap (λ m. row_fault (length kept) m row) (sym number) ∙ e
 
 as_list : (o : Option CountRow) → cons_option o [] ≡ option_to_list o
 as_list None = refl
@@ -55,14 +55,14 @@ as_list (Some r) = refl
 pub one_more : (text : List ℕ) (kept next_kept : List CountRow) (n : ℕ) (s : State) (xs : List ℕ)
     (row : Fields) (t : State) (ys : List ℕ) → IsUpTo text kept n s xs
     → next_record default_config s [] [] xs ≡ Some (row, t, ys)
-        → row_fault (length kept) n row ≡ None → next_kept ≡ kept ++ option_to_list (counted row)
-        → IsUpTo text next_kept (n + 1) t ys
+    → row_fault (length kept) n row ≡ None → next_kept ≡ kept ++ option_to_list (counted row)
+    → IsUpTo text next_kept (n + 1) t ys
 one_more text kept next_kept n s xs row t ys up next none with =
     let left = left_some s xs (row, t, ys) up.rests next in
     let counts : counts_of (up.before ++ row ∷ []) ≡ kept ++ option_to_list (counted row) =
     filter_map-append counted up.before (row ∷ [])
-        ∙ (ap (λ ks. ks ++ cons_option (counted row) []) (sym up.counts) ∙ ap (λ ks. kept ++ ks)
-        (as_list (counted row))) in
+    ∙ (ap (λ ks. ks ++ cons_option (counted row) []) (sym up.counts) ∙ ap (λ ks. kept ++ ks)
+    (as_list (counted row))) in
     record {
       before = up.before ++ row ∷ [];
       rows = up.rows ∙ ap (λ rows. up.before ++ rows) left
@@ -71,7 +71,7 @@ one_more text kept next_kept n s xs row t ys up next none with =
       number = omega (arith, length-append up.before (row ∷ []), up.number);
       fault = up.fault ∙ ap (first_fault up.before) left
           ∙ ap (λ o. option_or o (first_fault (up.before ++ row ∷ []) (rows_left t ys)))
-              (here_is kept n up.before row None up.counts up.number none);
+          (here_is kept n up.before row None up.counts up.number none);
       rests = (next_leaves default_config s [] [] xs (row, t, ys) next).rests;
     }
 
@@ -79,18 +79,18 @@ one_more text kept next_kept n s xs row t ys up next none with =
 pub fault_here : (text : List ℕ) (kept : List CountRow) (n : ℕ) (s : State) (xs : List ℕ)
     (row : Fields) (t : State) (ys : List ℕ) (f : CountFault) → IsUpTo text kept n s xs
     → next_record default_config s [] [] xs ≡ Some (row, t, ys)
-        → row_fault (length kept) n row ≡ Some f
-        → first_fault [] (records default_config text) ≡ Some f
+    → row_fault (length kept) n row ≡ Some f
+    → first_fault [] (records default_config text) ≡ Some f
 fault_here text kept n s xs row t ys f up next some =
     up.fault ∙ ap (first_fault up.before) (left_some s xs (row, t, ys) up.rests next)
     ∙ ap (λ o. option_or o (first_fault (up.before ++ row ∷ []) (rows_left t ys)))
-        (here_is kept n up.before row (Some f) up.counts up.number some)
+    (here_is kept n up.before row (Some f) up.counts up.number some)
 
 -- no more row
 pub at_end : (text : List ℕ) (kept : List CountRow) (n : ℕ) (s : State) (xs : List ℕ)
     → IsUpTo text kept n s xs → next_record default_config s [] [] xs ≡ None
     → (first_fault [] (records default_config text) ≡ None)
-        × (kept ≡ counts_of (records default_config text))
+    × (kept ≡ counts_of (records default_config text))
 at_end text kept n s xs up next =
     let left = left_none s xs next in (
       up.fault ∙ ap (first_fault up.before) left,
@@ -102,16 +102,16 @@ at_end text kept n s xs up next =
 own_is : (n : ℕ) (row : Fields) (none many right : Bool) → (field_count row == 0) ≡ none
     → nat_lt 2 (field_count row) ≡ many → has_codes row ≡ right
     → own_fault n row
-        ≡ (if none then None else (if many then Some (BadFields n) else
-        (if not right then Some (BadCode n) else None)))
+    ≡ (if none then None else (if many then Some (BadFields n) else
+    (if not right then Some (BadCode n) else None)))
 own_is n row none many right e f g =
     ap (λ b. if b then None else (if nat_lt 2 (field_count row) then Some (BadFields n) else
-        (if not (has_codes row) then Some (BadCode n) else None))) e
+    (if not (has_codes row) then Some (BadCode n) else None))) e
     ∙ (ap (λ b. if none then None else
-        (if b then Some (BadFields n) else
-        (if not (has_codes row) then Some (BadCode n) else None))) f
+    (if b then Some (BadFields n) else
+    (if not (has_codes row) then Some (BadCode n) else None))) f
     ∙ ap (λ b. if none then None else
-        (if many then Some (BadFields n) else (if not b then Some (BadCode n) else None))) g)
+    (if many then Some (BadFields n) else (if not b then Some (BadCode n) else None))) g)
 
 not_zero : (count fields : ℕ) → count ≡ fields → (count ≡ 0 → ⊥) → (fields == 0) ≡ false
 not_zero count fields is some = grind (arith, nat_tests)
@@ -133,7 +133,7 @@ not_chosen false x o is none = refl
 pub reads : (n : ℕ) (row : Fields) (count : ℕ) (r : CountRow) → count ≡ field_count row
     → (count ≡ 0 → ⊥) → count ≤ 2
     → Some r ≡ (if has_codes row then Some (count_row row) else None) → (own_fault n row ≡ None)
-        × (Some r ≡ counted row)
+    × (Some r ≡ counted row)
 reads n row count r is some few codes =
     let right = chosen (has_codes row) (count_row row) (Some r) codes r refl in (
       own_is n row false false true (not_zero count (field_count row) is some)
@@ -146,8 +146,8 @@ reads n row count r is some few codes =
 pub refuses : (n : ℕ) (row : Fields) (count : ℕ) → count ≡ field_count row
     → (count ≡ 0 → ⊥) → count ≤ 2
     → None ≡ (if has_codes row then Some (count_row row) else None)
-        → own_fault n row ≡ Some (BadCode n)
+    → own_fault n row ≡ Some (BadCode n)
 refuses n row count is some few codes =
     own_is n row false false false (not_zero count (field_count row) is some)
-        (not_many count (field_count row) is few)
+    (not_many count (field_count row) is few)
     (not_chosen (has_codes row) (count_row row) None codes refl)

@@ -58,13 +58,13 @@ module _ {X : Type 0} (thing : X → Option ℕ) where
   flag_then : (before : List X) (flags : List Bool) (x : ℕ) (o : Option ℕ) → x < length flags
       → is_flagged flags x ≡ names_by thing before x
       → is_flagged (with_flag flags o) x
-          ≡ (names_by thing before x || (option_map_or (λ y. y == x) o false || false))
+      ≡ (names_by thing before x || (option_map_or (λ y. y == x) o false || false))
   flag_then before flags x None lt is = is ∙ sym (or-false (names_by thing before x))
   flag_then before flags x (Some y) lt is = by_bool (y == x)
       (λ e. let same : y ≡ x = grind (arith, nat_tests) in
       let here : is_flagged (slice_set flags y true) x ≡ true =
-          subst (λ (k : ℕ). is_flagged (slice_set flags y true) k ≡ true) same
-          (flag_here flags y (omega (arith, same))) in
+      subst (λ (k : ℕ). is_flagged (slice_set flags y true) k ≡ true) same
+      (flag_here flags y (omega (arith, same))) in
       here ∙ sym (rw e (or-true (names_by thing before x))))
       (λ n. flag_other flags y x n ∙ (is ∙ sym (rw n (or-false (names_by thing before x)))))
 

@@ -50,8 +50,10 @@ module _ {X : Type 0} where
       by true e k rec = more (first_or_rest x y (filter p xs) k)
         where
           more : (x ≡ y) ⊎ Contains (filter p xs) y → Contains (x ∷ xs) y × (p y ≡ true)
-          more (inl same) = (subst (Contains (x ∷ xs)) same (here x xs),
-              subst (λ z. p z ≡ true) same e)
+          more (inl same) = (
+            subst (Contains (x ∷ xs)) same (here x xs),
+            subst (λ z. p z ≡ true) same e,
+          )
           more (inr rest) = let r = rec rest in (there x y xs r.0, r.1)
       by false e k rec = let r = rec k in (there x y xs r.0, r.1)
 
@@ -75,7 +77,7 @@ module _ {X : Type 0} where
   filter_none p [] none = refl
   filter_none p (x ∷ xs) none =
       ap (λ b. cond b (x ∷ filter p xs) (filter p xs)) (none x (here x xs)) ∙ filter_none p xs
-          (λ y h. none y (there x y xs h))
+      (λ y h. none y (there x y xs h))
 
   -- a test of some element
   pub any_of : (p : X → Bool) (xs : List X) (x : X) → Contains xs x → p x ≡ true
@@ -133,11 +135,14 @@ module _ {X Y : Type 0} where
   flat_map_none f [] none = refl
   flat_map_none f (x ∷ xs) none =
       flat_map-cons f x xs ∙ (ap (λ ys. ys ++ flat_map f xs) (none x (here x xs)) ∙ flat_map_none f
-          xs (λ y h. none y (there x y xs h)))
+      xs (λ y h. none y (there x y xs h)))
 
 pub in_range : (n x : ℕ) → x < n → Contains (range_with_len 0 n) x
-in_range n x lt = (x, omega (arith, length-range_with_len 0 n),
-    omega (arith, get_or-range_with_len 0 n x x lt))
+in_range n x lt = (
+  x,
+  omega (arith, length-range_with_len 0 n),
+  omega (arith, get_or-range_with_len 0 n x x lt),
+)
 
 pub range_below : (n x : ℕ) → Contains (range_with_len 0 n) x → x < n
 range_below n x h =

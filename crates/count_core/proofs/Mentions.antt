@@ -31,9 +31,9 @@ first_more [] q = refl
 first_more (x ∷ xs) q =
     ap (λ ys. x ∷ filter (λ k. not (k == x)) ys) (first_more xs q)
     ∙ (ap (λ ys. x ∷ ys) (filter-append (λ k. not (k == x)) (first_mentions xs)
-        (cond (is_among q xs) [] (q ∷ [])))
+    (cond (is_among q xs) [] (q ∷ [])))
     ∙ ap (λ ys. (x ∷ filter (λ k. not (k == x)) (first_mentions xs)) ++ ys)
-        (kept_last q x (is_among q xs) (x == q) refl))
+    (kept_last q x (is_among q xs) (x == q) refl))
 
 among_more : (o : Option ℕ) (q : ℕ) (ys : List ℕ) (b : Bool) → is_among q ys ≡ b
     → is_among q (cons_option o ys) ≡ (option_map_or (λ y. y == q) o false || b)
@@ -55,12 +55,12 @@ module _ {X : Type 0} (number : X → Option ℕ) where
   first_with : (rows : List X) (r : X) (q : ℕ) (b : Bool) → number r ≡ Some q
       → names_by number rows q ≡ b
       → first_mentions (filter_map number (rows ++ r ∷ [])) ≡ first_mentions
-          (filter_map number rows) ++ cond b [] (q ∷ [])
+      (filter_map number rows) ++ cond b [] (q ∷ [])
   first_with rows r q b e old =
       ap first_mentions (last_row rows r (Some q) e)
       ∙ (first_more (filter_map number rows) q
-          ∙ ap (λ t. first_mentions (filter_map number rows) ++ cond t [] (q ∷ []))
-          (names_among rows q ∙ old))
+      ∙ ap (λ t. first_mentions (filter_map number rows) ++ cond t [] (q ∷ []))
+      (names_among rows q ∙ old))
 
   first_without : (rows : List X) (r : X) → number r ≡ None
       → first_mentions (filter_map number (rows ++ r ∷ [])) ≡ first_mentions
@@ -82,7 +82,7 @@ pub record AreMentioned (S : Museum) (rows : List CountRow) (places : List ℕ) 
 pub mention_new : (S : Museum) (rows : List CountRow) (r : CountRow) (places : List ℕ)
     (flags : List Bool) (q : ℕ) → AreMentioned S rows places flags
     → find_place S r.place ≡ Some q → q < length S.places → flagged flags (Some q) ≡ false
-        → AreMentioned S (rows ++ r ∷ []) (places ++ q ∷ []) (with_flag flags (Some q))
+    → AreMentioned S (rows ++ r ∷ []) (places ++ q ∷ []) (with_flag flags (Some q))
 mention_new S rows r places flags q are found lt new = record {
   listed = ap (λ ps. ps ++ q ∷ []) are.listed
       ∙ sym (first_with (place_of_row S) rows r q false found (sym (are.marked.each q lt) ∙ new));
@@ -96,7 +96,7 @@ mention_new S rows r places flags q are found lt new = record {
 pub mention_old : (S : Museum) (rows : List CountRow) (r : CountRow) (places : List ℕ)
     (flags : List Bool) (q : ℕ) → AreMentioned S rows places flags
     → find_place S r.place ≡ Some q → q < length S.places → flagged flags (Some q) ≡ true
-        → AreMentioned S (rows ++ r ∷ []) places (with_flag flags (Some q))
+    → AreMentioned S (rows ++ r ∷ []) places (with_flag flags (Some q))
 mention_old S rows r places flags q are found lt old = record {
   listed =
       are.listed ∙ sym (first_with (place_of_row S) rows r q true found

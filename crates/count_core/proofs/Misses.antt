@@ -13,8 +13,8 @@ use Rattle.count_core.proofs.Ranges.{filter_alike}
 pub missed_in : (B : Book) (rows : List CountRow) (flags : List Bool) (q : ℕ)
     → AreNames (named B.museum) (length B.museum.things) rows flags
     → filter (is_unflagged_in B flags q) (range_with_len 0 (length B.museum.things))
-        ≡ filter (is_missing B rows q) (range_with_len 0 (length B.museum.things))
+    ≡ filter (is_missing B rows q) (range_with_len 0 (length B.museum.things))
 missed_in B rows flags q are =
     filter_alike (is_unflagged_in B flags q) (is_missing B rows q) (length B.museum.things)
     (λ x lt. ap (λ (b : Bool). (not b && not (is_container B.museum x)) && is_within B q x)
-        (are.each x lt))
+    (are.each x lt))

@@ -28,7 +28,7 @@ find_is : (S : Museum) (text code : List ℕ) (q : ℕ) → find_place S text �
 find_is S text code q found at =
     let there = position-Some (bytes_eq text) (place_codes S) q code found in
     (bytes_eq-Decides text code).0
-        (ap (bytes_eq text) (sym (get_or_from_slice_get (place_codes S) q code code at)) ∙ there.1)
+    (ap (bytes_eq text) (sym (get_or_from_slice_get (place_codes S) q code code at)) ∙ there.1)
 
 abbrev hits : Option ℕ → ℕ → Bool
 hits o q = option_map_or (λ k. k == q) o false
@@ -50,7 +50,7 @@ found_by S text code q is at = by_bool (bytes_eq text code)
     (λ e. let same : text ≡ code = (bytes_eq-Decides text code).0 e in
     ap (λ o. hits o q) (ap (find_place S) same ∙ is.each_place q code at) ∙ (itself q ∙ sym e))
     (λ n. false_from_ne_true (hits (find_place S text) q)
-        (λ e. let same : text ≡ code = find_is S text code q (hit_is (find_place S text) q e) at in
+    (λ e. let same : text ≡ code = find_is S text code q (hit_is (find_place S text) q e) at in
     absurd (let no : true ≡ false = sym ((bytes_eq-Decides text code).1 same) ∙ n in cc)) ∙ sym n)
 
 and_false : (b : Bool) → (b && false) ≡ false
@@ -63,12 +63,12 @@ hit_at : (S : Museum) (text code : List ℕ) (q end : ℕ) → IsMuseum S → pl
     ≡ (bytes_eq (take end text) code && ends_segment (drop end text))
 hit_at S text code q end is at = by_bool (ends_segment (drop end text))
     (λ e. ap (λ b. hits (if b then find_place S (take end text) else None) q) e
-        ∙ (found_by S (take end text) code q is at
+    ∙ (found_by S (take end text) code q is at
     ∙ sym (ap (λ b. bytes_eq (take end text) code && b) e
-        ∙ and_true (bytes_eq (take end text) code))))
+    ∙ and_true (bytes_eq (take end text) code))))
     (λ n. ap (λ b. hits (if b then find_place S (take end text) else None) q) n
-        ∙ sym (ap (λ b. bytes_eq (take end text) code && b) n
-        ∙ and_false (bytes_eq (take end text) code)))
+    ∙ sym (ap (λ b. bytes_eq (take end text) code && b) n
+    ∙ and_false (bytes_eq (take end text) code)))
   where
     and_true : (b : Bool) → (b && true) ≡ b
     and_true true = refl
@@ -81,20 +81,20 @@ front_at : (text code : List ℕ) (end : ℕ) → end ≤ length text
 front_at text code end lt = by_bool (end == length code)
     (λ e. let same : end ≡ length code = same_number end (length code) e in
     ap (λ n. bytes_eq (take n text) code && ends_segment (drop n text)) same
-        ∙ (sym (lies_in_front text code) ∙ sym (ap (λ b. b && lies_in text code) e)))
+    ∙ (sym (lies_in_front text code) ∙ sym (ap (λ b. b && lies_in text code) e)))
     (λ n. ap (λ b. b && ends_segment (drop end text))
-        (false_from_ne_true (bytes_eq (take end text) code)
-        (λ e. let same : take end text ≡ code = (bytes_eq-Decides (take end text) code).0 e in
+    (false_from_ne_true (bytes_eq (take end text) code)
+    (λ e. let same : take end text ≡ code = (bytes_eq-Decides (take end text) code).0 e in
     let long : end ≡ length code = sym (length-take-le end text lt) ∙ ap length same in
     absurd (let no : true ≡ false = sym (subst (λ k. (end == k) ≡ true) long (itself end))
-        ∙ n in cc)))
+    ∙ n in cc)))
     ∙ sym (ap (λ b. b && lies_in text code) n))
 
 range_more : (n : ℕ) → range_with_len 0 (n + 1) ≡ range_with_len 0 n ++ n ∷ []
 range_more n =
     sym (map-id (range_with_len 0 (n + 1)))
-        ∙ (map-range_with_len_more (λ k. k) 0 n n (omega arith) ∙ ap (λ xs. xs ++ n ∷ [])
-        (map-id (range_with_len 0 n)))
+    ∙ (map-range_with_len_more (λ k. k) 0 n n (omega arith) ∙ ap (λ xs. xs ++ n ∷ [])
+    (map-id (range_with_len 0 n)))
 
 -- one that is found, or none
 picked : (o : Option ℕ) (q : ℕ)
@@ -127,7 +127,7 @@ apart false b l e = refl
 below_more : (m n : ℕ) → (nat_lt m n || (n == m)) ≡ nat_lt m (n + 1)
 below_more m n = by_bool (nat_lt m n)
     (λ e. ap (λ b. b || (n == m)) e
-        ∙ sym (let more : nat_lt m (n + 1) ≡ true = grind (arith, nat_tests) in more))
+    ∙ sym (let more : nat_lt m (n + 1) ≡ true = grind (arith, nat_tests) in more))
     (λ e. ap (λ b. b || (n == m)) e ∙ by_bool (n == m)
     (λ f. f ∙ sym (let more : nat_lt m (n + 1) ≡ true = grind (arith, nat_tests) in more))
     (λ f. f ∙ sym (let more : nat_lt m (n + 1) ≡ false = grind (arith, nat_tests) in more)))
@@ -135,7 +135,7 @@ below_more m n = by_bool (nat_lt m n)
 not_both : (m n : ℕ) → (nat_lt m n && (n == m)) ≡ false
 not_both m n = by_bool (nat_lt m n)
     (λ e. ap (λ b. b && (n == m)) e
-        ∙ (let other : (n == m) ≡ false = grind (arith, nat_tests) in other))
+    ∙ (let other : (n == m) ≡ false = grind (arith, nat_tests) in other))
     (λ e. ap (λ b. b && (n == m)) e)
 
 -- the fronts, one further
@@ -144,7 +144,7 @@ pub fronts_more : (S : Museum) (text : List ℕ) (n : ℕ)
     (range_with_len 0 n) ++ cons_option (outer_place S text n) []
 fronts_more S text n =
     ap (filter_map (outer_place S text)) (range_more n) ∙ filter_map-append (outer_place S text)
-        (range_with_len 0 n) (n ∷ [])
+    (range_with_len 0 n) (n ∷ [])
 
 -- the last of them is the place itself
 pub itself_last : (S : Museum) (text : List ℕ) (q : ℕ) → IsMuseum S → place_code_of S q ≡ Some text
@@ -153,16 +153,16 @@ itself_last S text q is at =
     let fronts = filter_map (outer_place S text) (range_with_len 0 (length text)) in
     let whole : outer_place S text (length text) ≡ Some q =
     ap (λ (xs : List ℕ). if ends_segment xs then find_place S (take (length text) text) else None)
-        (drop-length text)
+    (drop-length text)
     ∙ (ap (find_place S) (take-length text) ∙ is.each_place q text at) in
     sym (ap (λ o. option_map_or (outer_places S) o []) at
-        ∙ (fronts_more S text (length text) ∙ ap (λ o. fronts ++ cons_option o []) whole))
+    ∙ (fronts_more S text (length text) ∙ ap (λ o. fronts ++ cons_option o []) whole))
 
 -- of the fronts up to n, place q is one at most
 once : (S : Museum) (text code : List ℕ) (q : ℕ) → IsMuseum S → place_code_of S q ≡ Some code
     → (n : ℕ) → n ≤ length text + 1
     → filter (λ k. k == q) (filter_map (outer_place S text) (range_with_len 0 n))
-        ≡ cond (nat_lt (length code) n && lies_in text code) (q ∷ []) []
+    ≡ cond (nat_lt (length code) n && lies_in text code) (q ∷ []) []
 once S text code q is at zero lt =
     sym (ap (λ b. cond (b && lies_in text code) (q ∷ []) [])
     (let none : nat_lt (length code) 0 ≡ false = grind (arith, nat_tests) in none))
@@ -174,23 +174,23 @@ once S text code q is at (suc n) lt =
     let o = outer_place S text n in
     let some : Bool → List ℕ = λ b. cond b (q ∷ []) [] in
     let before : mine (fronts n) ≡ some (nat_lt (length code) n && inner) =
-        once S text code q is at n (omega (arith, lt)) in
+    once S text code q is at n (omega (arith, lt)) in
     let last : mine (cons_option o []) ≡ some ((n == length code) && inner) =
     picked o q ∙ ap some (hit_at S text code q n is at ∙ front_at text code n
-        (omega (arith, lt))) in
+    (omega (arith, lt))) in
     let split : mine (fronts (n + 1)) ≡ mine (fronts n) ++ mine (cons_option o []) =
     ap mine (fronts_more S text n) ∙ filter-append (λ k. k == q) (fronts n) (cons_option o []) in
     let both : mine (fronts (n + 1)) ≡ some (nat_lt (length code) n && inner)
-        ++ some ((n == length code) && inner) =
+    ++ some ((n == length code) && inner) =
     split ∙ (ap (λ xs. xs ++ mine (cons_option o [])) before
-        ∙ ap (λ xs. some (nat_lt (length code) n && inner) ++ xs) last) in
+    ∙ ap (λ xs. some (nat_lt (length code) n && inner) ++ xs) last) in
     let one : mine (fronts (n + 1))
-        ≡ some ((nat_lt (length code) n && inner) || ((n == length code) && inner)) =
+    ≡ some ((nat_lt (length code) n && inner) || ((n == length code) && inner)) =
     both ∙ joined (nat_lt (length code) n && inner) ((n == length code) && inner) q
-        (apart (nat_lt (length code) n) (n == length code) inner (not_both (length code) n)) in
+    (apart (nat_lt (length code) n) (n == length code) inner (not_both (length code) n)) in
     let now : mine (fronts (n + 1)) ≡ some (nat_lt (length code) (n + 1) && inner) =
     one ∙ ap some (shared (nat_lt (length code) n) (n == length code) inner ∙ ap (λ b. b && inner)
-        (below_more (length code) n)) in
+    (below_more (length code) n)) in
     subst (λ k. mine (fronts k) ≡ some (nat_lt (length code) k && inner)) (sym next) now
 
 -- a place is no shorter than one that it lies in
@@ -198,14 +198,14 @@ front_short : (text code : List ℕ) → (nat_lt (length code) (length text + 1)
     ≡ lies_in text code
 front_short text code = by_bool (lies_in text code)
     (λ e. let starts : take (length code) text
-        ≡ code = (bytes_eq-Decides (take (length code) text) code).0
-        (and_parts _ _ (sym (lies_in_front text code) ∙ e)).0 in
+    ≡ code = (bytes_eq-Decides (take (length code) text) code).0
+    (and_parts _ _ (sym (lies_in_front text code) ∙ e)).0 in
     let short : nat_lt (length code) (length text + 1) ≡ true =
-        below (length code) (length text)
-        (omega (arith, length-take (length code) text, ap length starts)) in
+    below (length code) (length text)
+    (omega (arith, length-take (length code) text, ap length starts)) in
     ap (λ b. b && lies_in text code) short)
     (λ n. ap (λ b. nat_lt (length code) (length text + 1) && b) n
-        ∙ (and_false (nat_lt (length code) (length text + 1)) ∙ sym n))
+    ∙ (and_false (nat_lt (length code) (length text + 1)) ∙ sym n))
   where
     below : (m n : ℕ) → m ≤ n → nat_lt m (n + 1) ≡ true
     below m n le = grind (arith, nat_tests)
@@ -227,8 +227,11 @@ outer_within S text = by (length text + 1)
         from : (b : Bool) → (if b then find_place S (take end text) else None) ≡ Some q
             → q < length S.places
         from true h =
-            omega (arith, (position-Some (bytes_eq (take end text)) (place_codes S) q [] h).0,
-            length-map S.places (λ (row : List ℕ × Bool). row.0))
+            omega (
+              arith,
+              (position-Some (bytes_eq (take end text)) (place_codes S) q [] h).0,
+              length-map S.places (λ (row : List ℕ × Bool). row.0),
+            )
         from false h = absurd (cc)
 
     one : (o : Option ℕ) → ((q : ℕ) → o ≡ Some q → q < length S.places)
@@ -243,11 +246,11 @@ outer_within S text = by (length text + 1)
     by (suc n) =
         let next : suc n ≡ n + 1 = omega arith in
         subst (λ k. All (λ q. q < length S.places)
-            (filter_map (outer_place S text) (range_with_len 0 k))) (sym next)
+        (filter_map (outer_place S text) (range_with_len 0 k))) (sym next)
         (subst (All (λ q. q < length S.places)) (sym (fronts_more S text n))
         (All-append (λ q. q < length S.places)
-            (filter_map (outer_place S text) (range_with_len 0 n))
-            (cons_option (outer_place S text n) []) (by n) (one (outer_place S text n) (found n))))
+        (filter_map (outer_place S text) (range_with_len 0 n))
+        (cons_option (outer_place S text n) []) (by n) (one (outer_place S text n) (found n))))
 
 abbrev is_code : List ℕ → Bool
 is_code text = is_none (place_fault text)

@@ -41,7 +41,7 @@ either_front (x ∷ xs) (y ∷ ys) r s e =
 
     by : (starts_with bytes_eq xs ys ≡ true) ⊎ (starts_with bytes_eq ys xs ≡ true)
         → (starts_with bytes_eq (x ∷ xs) (y ∷ ys) ≡ true)
-            ⊎ (starts_with bytes_eq (y ∷ ys) (x ∷ xs) ≡ true)
+        ⊎ (starts_with bytes_eq (y ∷ ys) (x ∷ xs) ≡ true)
     by (inl h) =
         inl (ap (λ b. b && starts_with bytes_eq xs ys)
         (subst (λ z. bytes_eq y z ≡ true) (sym same) (same_bytes y)) ∙ h)
@@ -61,10 +61,10 @@ lies_through a b c inner outer =
     let first = front (segments a) (segments b) inner in
     let second = front (segments b) (segments c) outer in
     let whole : segments a ≡ segments c ++ (second.0 ++ first.0) =
-        first.1 ∙ (ap (λ ys. ys ++ first.0) second.1 ∙ append_assoc (segments c)
-        second.0 first.0) in
+    first.1 ∙ (ap (λ ys. ys ++ first.0) second.1 ∙ append_assoc (segments c)
+    second.0 first.0) in
     ap (λ ys. starts_with bytes_eq ys (segments c)) whole ∙ begins (segments c)
-        (second.0 ++ first.0)
+    (second.0 ++ first.0)
 
 pub one_in_other : (a b c : List ℕ) → lies_in a b ≡ true → lies_in a c ≡ true → (lies_in b c ≡ true)
     ⊎ (lies_in c b ≡ true)

@@ -46,7 +46,7 @@ filter_alike p q (suc n) alike =
 pub filter_below : (p : ℕ → Bool) (n : ℕ) → All (λ x. x < n) (filter p (range_with_len 0 n))
 filter_below p n = All-filter p (λ x. x < n) (range_with_len 0 n)
     (λ k d lt. let less : k < n = omega (arith, length-range_with_len 0 n, lt) in omega
-        (arith, get_or-range_with_len 0 n k d less, less))
+    (arith, get_or-range_with_len 0 n k d less, less))
 
 -- one test after another
 filter_step : (x : ℕ) (q : ℕ → Bool) (a b : Bool) (ys zs : List ℕ) → q x ≡ b → filter q ys ≡ zs
@@ -74,8 +74,8 @@ module _ {X : Type 0} where
       → filter p (take (i + 1) xs) ≡ filter p (take i xs) ++ x ∷ []
   filter_take_with p xs i x lt at e =
       ap (filter p) (take_with xs i x lt at)
-          ∙ (filter-append p (take i xs) (x ∷ [])
-          ∙ ap (λ b. filter p (take i xs) ++ cond b (x ∷ []) []) e)
+      ∙ (filter-append p (take i xs) (x ∷ [])
+      ∙ ap (λ b. filter p (take i xs) ++ cond b (x ∷ []) []) e)
 
   pub filter_take_without : (p : X → Bool) (xs : List X) (i : ℕ) (x : X) → i < length xs
       → slice_get xs i ≡ Some x → p x ≡ false
@@ -83,8 +83,8 @@ module _ {X : Type 0} where
   filter_take_without p xs i x lt at e =
       ap (filter p) (take_with xs i x lt at)
       ∙ (filter-append p (take i xs) (x ∷ [])
-          ∙ (ap (λ b. filter p (take i xs) ++ cond b (x ∷ []) []) e
-          ∙ append-nil (filter p (take i xs))))
+      ∙ (ap (λ b. filter p (take i xs) ++ cond b (x ∷ []) []) e
+      ∙ append-nil (filter p (take i xs))))
 
   pub flat_map_more : {Y : Type 0} (f : X → List Y) (xs : List X) (i : ℕ) (x : X) → i < length xs
       → x ≡ get_or xs i x
@@ -92,4 +92,4 @@ module _ {X : Type 0} where
   flat_map_more f xs i x lt here =
       ap (flat_map f) (take_more xs i x lt ∙ ap (λ y. take i xs ++ y ∷ []) (sym here))
       ∙ (flat_map-append f (take i xs) (x ∷ []) ∙ ap (λ ys. flat_map f (take i xs) ++ ys)
-          (append-nil (f x)))
+      (append-nil (f x)))

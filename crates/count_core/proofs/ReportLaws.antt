@@ -49,7 +49,7 @@ pub overdue_told : (B : Book) (day : ℤ) (loan : List ℕ) → Contains (overdu
 overdue_told B day loan h =
     let found = let_through (is_overdue B day) (loans_in B) loan h in
     let parts = and_parts (is_over B.posted loan day)
-        (list_any (is_owed B loan) (objects_of_loan B loan)) found.1 in
+    (list_any (is_owed B loan) (objects_of_loan B loan)) found.1 in
     let last = some_value (λ last. int_lt last day) (last_day_in B loan) parts.0 in
     let object = some_of (is_owed B loan) (objects_of_loan B loan) parts.1 in
     let stage = some_value is_out_still (line_in B loan object.0) object.2 in
@@ -80,12 +80,12 @@ pub overdue_all : (B : Book) (day : ℤ) (loan : List ℕ) → IsOverdue B day l
 overdue_all B day loan is =
     let owed = stage_owed (line_in B loan is.object) is.owed in
     let among = has_line (is_among is.object (objects_of_loan B loan))
-        (stage B.museum B.posted loan is.object) (line_in B loan is.object) refl owed in
+    (stage B.museum B.posted loan is.object) (line_in B loan is.object) refl owed in
     let over : is_over B.posted loan day ≡ true =
-        ap (λ o. option_map_or (λ last. int_lt last day) o false) is.last_day ∙ is.passed in
+    ap (λ o. option_map_or (λ last. int_lt last day) o false) is.last_day ∙ is.passed in
     kept (is_overdue B day) (loans_in B) loan is.agreed
     (ap (λ b. b && list_any (is_owed B loan) (objects_of_loan B loan)) over ∙ among_passes
-        (is_owed B loan) is.object (objects_of_loan B loan) among owed)
+    (is_owed B loan) is.object (objects_of_loan B loan) among owed)
 
 -- away
 
@@ -108,10 +108,10 @@ differ (Some p) (Some q) ne = by (p == q) refl
 away_object_is : (B : Book) (x : ℕ) → Contains (away B) (away_object B x) → is_away B x ≡ true
 away_object_is B x h =
     let found = from_map (away_object B)
-        (filter (is_away B) (range_with_len 0 (length B.museum.things))) (away_object B x) h in
+    (filter (is_away B) (range_with_len 0 (length B.museum.things))) (away_object B x) h in
     let same : found.0 ≡ x = ap (λ (a : AwayObject). a.object) found.2 in
     subst (λ y. is_away B y ≡ true) same
-        (let_through (is_away B) (range_with_len 0 (length B.museum.things)) found.0 found.1).1
+    (let_through (is_away B) (range_with_len 0 (length B.museum.things)) found.0 found.1).1
 
 pub away_own : (B : Book) (x : ℕ) → Contains (away B) (away_object B x) → is_own B.museum x ≡ true
 away_own B x h =
@@ -133,24 +133,27 @@ own_listed : (S : Museum) (x : ℕ) → is_own S x ≡ true → x < length S.thi
 own_listed S x own =
     let kind = some_value is_own_kind (kind_of S x) own in
     let code = mapped thing_kind (thing_code_of S x) kind.0 kind.1 in
-    omega (arith, slice_get_within (thing_codes S) x code.0 code.1,
-        length-map S.things (λ (row : List ℕ × Option ℕ). row.0))
+    omega (
+      arith,
+      slice_get_within (thing_codes S) x code.0 code.1,
+      length-map S.things (λ (row : List ℕ × Option ℕ). row.0),
+    )
 
 pub away_all : (B : Book) (x : ℕ) → is_own B.museum x ≡ true → place_in B x ≢ normal_of B.museum x
     → Contains (away B) (away_object B x)
 away_all B x own ne =
     let test : is_away B x ≡ true =
-        ap (λ b. b && not (is_same_place (place_in B x) (normal_of B.museum x))) own
-        ∙ differ (place_in B x) (normal_of B.museum x) ne in
+    ap (λ b. b && not (is_same_place (place_in B x) (normal_of B.museum x))) own
+    ∙ differ (place_in B x) (normal_of B.museum x) ne in
     in_map (away_object B) (filter (is_away B) (range_with_len 0 (length B.museum.things))) x
     (kept (is_away B) (range_with_len 0 (length B.museum.things)) x
-        (in_range (length B.museum.things) x (own_listed B.museum x own)) test)
+    (in_range (length B.museum.things) x (own_listed B.museum x own)) test)
 
 -- in a place
 
 pub in_place_parts : (B : Book) (sought : List ℕ) (x : ℕ) → Contains (in_place B sought) x
     → (x < length B.museum.things) × (p : ℕ) × (code : List ℕ) × (place_in B x ≡ Some p)
-        × (place_code_of B.museum p ≡ Some code) × (lies_in code sought ≡ true)
+    × (place_code_of B.museum p ≡ Some code) × (lies_in code sought ≡ true)
 in_place_parts B sought x h =
     let found = let_through (is_in B sought) (range_with_len 0 (length B.museum.things)) x h in
     let place = some_value (λ p. lies_at B.museum p sought) (place_in B x) found.1 in
@@ -162,16 +165,16 @@ pub in_place_when : (B : Book) (sought : List ℕ) (x p : ℕ) (code : List ℕ)
     → lies_in code sought ≡ true → Contains (in_place B sought) x
 in_place_when B sought x p code lt at is lies =
     kept (is_in B sought) (range_with_len 0 (length B.museum.things)) x
-        (in_range (length B.museum.things) x lt)
+    (in_range (length B.museum.things) x lt)
     (ap (λ o. option_map_or (λ q. lies_at B.museum q sought) o false) at
-        ∙ (ap (λ o. option_map_or (λ c. lies_in c sought) o false) is ∙ lies))
+    ∙ (ap (λ o. option_map_or (λ c. lies_in c sought) o false) is ∙ lies))
 
 pub in_outer : (B : Book) (inner outer : List ℕ) (x : ℕ) → lies_in inner outer ≡ true
     → Contains (in_place B inner) x → Contains (in_place B outer) x
 in_outer B inner outer x lies h =
     let parts = in_place_parts B inner x h in
     in_place_when B outer x parts.1 parts.2 parts.0 parts.3 parts.4
-        (lies_through parts.2 inner outer parts.5 lies)
+    (lies_through parts.2 inner outer parts.5 lies)
 
 pub in_own_place : (B : Book) (x p : ℕ) (code : List ℕ) → x < length B.museum.things
     → place_in B x ≡ Some p → place_code_of B.museum p ≡ Some code → Contains (in_place B code) x
@@ -184,6 +187,6 @@ in_one_place B x one other h k =
     let b = in_place_parts B other x k in
     let place : Some a.1 ≡ Some b.1 = sym a.3 ∙ b.3 in
     let code : Some a.2 ≡ Some b.2 =
-        sym a.4 ∙ (ap (λ o. option_map_or (place_code_of B.museum) o None) place ∙ b.4) in
+    sym a.4 ∙ (ap (λ o. option_map_or (place_code_of B.museum) o None) place ∙ b.4) in
     let same : b.2 ≡ a.2 = cc in
     one_in_other a.2 one other a.5 (subst (λ c. lies_in c other ≡ true) same b.5)

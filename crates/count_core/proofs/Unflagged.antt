@@ -32,8 +32,8 @@ at_like : (vs ws : List (Vec ℕ Global)) (q : ℕ) → slice_get vs q ≡ slice
 at_like vs ws q e =
     ap (λ o. unwrap_or o [])
     (slice_get-map (λ (w : Vec ℕ Global). w.items) vs q
-        ∙ (ap (option_map (λ (w : Vec ℕ Global). w.items)) e
-        ∙ sym (slice_get-map (λ (w : Vec ℕ Global). w.items) ws q)))
+    ∙ (ap (option_map (λ (w : Vec ℕ Global). w.items)) e
+    ∙ sym (slice_get-map (λ (w : Vec ℕ Global). w.items) ws q)))
 
 -- one list grows, and no other
 pub list_pushed : (vs : List (Vec ℕ Global)) (p : ℕ) (old new : Vec ℕ Global) (more : List ℕ)
@@ -42,15 +42,15 @@ pub list_pushed : (vs : List (Vec ℕ Global)) (p : ℕ) (old new : Vec ℕ Glob
 list_pushed vs p old new more q lt at grown = by_bool (p == q)
     (λ e. let same : p ≡ q = grind (arith, nat_tests) in
     subst (λ k. list_at (lists (slice_set vs p new)) k ≡ list_at (lists vs) k ++ cond (p == q)
-        more []) same
+    more []) same
     (at_of (slice_set vs p new) p new (get_set_same vs p new lt)
-        ∙ (grown ∙ (ap (λ xs. xs ++ more) (sym (at_of vs p old at))
-        ∙ sym (ap (λ b. list_at (lists vs) p ++ cond b more []) e)))))
+    ∙ (grown ∙ (ap (λ xs. xs ++ more) (sym (at_of vs p old at))
+    ∙ sym (ap (λ b. list_at (lists vs) p ++ cond b more []) e)))))
     (λ n. let other : p ≡ q → ⊥ = λ same. let yes : (p == q) ≡ true = grind (arith, nat_tests) in
-        let no : true ≡ false = sym yes ∙ n in cc in
+    let no : true ≡ false = sym yes ∙ n in cc in
     at_like (slice_set vs p new) vs q (get_set_other vs p q new other)
-        ∙ sym (ap (λ b. list_at (lists vs) q ++ cond b more []) n
-        ∙ append-nil (list_at (lists vs) q)))
+    ∙ sym (ap (λ b. list_at (lists vs) q ++ cond b more []) n
+    ∙ append-nil (list_at (lists vs) q)))
 
 as_often : (x q : ℕ) (b : Bool) → map (λ (k : ℕ). x) (cond b (q ∷ []) []) ≡ cond b (x ∷ []) []
 as_often x q true = refl
@@ -65,8 +65,8 @@ pushed_more x p q ps old now new was is =
     ∙ (ap (λ xs. xs ++ cond (p == q) (x ∷ []) []) was
     ∙ (append_assoc old (map (λ k. x) (filter (λ k. k == q) ps)) (cond (p == q) (x ∷ []) [])
     ∙ ap (λ xs. old ++ xs)
-        (sym (ap (map (λ k. x)) (filter-append (λ k. k == q) ps (p ∷ []))
-        ∙ (map-append (λ k. x) (filter (λ k. k == q) ps) (cond (p == q) (p ∷ []) [])
+    (sym (ap (map (λ k. x)) (filter-append (λ k. k == q) ps (p ∷ []))
+    ∙ (map-append (λ k. x) (filter (λ k. k == q) ps) (cond (p == q) (p ∷ []) [])
     ∙ ap (λ xs. map (λ k. x) (filter (λ k. k == q) ps) ++ xs) (as_often x p (p == q)))))))
 
 -- the thing is in place q where its own place lies there
@@ -76,35 +76,37 @@ within_is : (B : Book) (x p q : ℕ) (text code : List ℕ) → place_in B x ≡
 within_is B x p q text code at own other =
     ap (λ o. option_map_or (λ (c : List ℕ). is_in B c x) o false) other
     ∙ (ap (λ o. option_map_or (λ (k : ℕ). lies_at B.museum k code) o false) at
-        ∙ ap (λ o. option_map_or (λ (c : List ℕ). lies_in c code) o false) own)
+    ∙ ap (λ o. option_map_or (λ (c : List ℕ). lies_in c code) o false) own)
 
 pub code_at : (S : Museum) (q : ℕ) → q < length S.places → (code : List ℕ)
     × (place_code_of S q ≡ Some code)
-code_at S q lt =
-    (get_or _ q [], slice_get-get_or _ q []
-    (omega (arith, lt, length-map S.places (λ (row : List ℕ × Bool). row.0))))
+code_at S q lt = (
+  get_or _ q [],
+  slice_get-get_or _ q []
+      (omega (arith, lt, length-map S.places (λ (row : List ℕ × Bool). row.0))),
+)
 
 -- an object without a flag, at a place
 pub with_unflagged : (B : Book) (flags : List Bool) (x p : ℕ) (text : List ℕ)
     (old new : List (List ℕ)) → IsMuseum B.museum → AreUnflaggedIn B flags x old
     → is_unflagged B.museum flags x ≡ true → place_in B x ≡ Some p
-        → place_code_of B.museum p ≡ Some text → length new ≡ length old
+    → place_code_of B.museum p ≡ Some text → length new ≡ length old
     → ((q : ℕ) → list_at new q ≡ list_at old q ++ map (λ k. x)
-        (filter (λ k. k == q) (outer_places B.museum text))) → AreUnflaggedIn B flags (x + 1) new
+    (filter (λ k. k == q) (outer_places B.museum text))) → AreUnflaggedIn B flags (x + 1) new
 with_unflagged B flags x p text old new is before free at own many each = record {
   many = many ∙ before.many;
   each = λ q lt.
       let code = code_at B.museum q lt in
       let test = is_unflagged_in B flags q in
       let passes : test x ≡ lies_in text code.0 =
-          ap (λ b. b && is_within B q x) free ∙ within_is B x p q text code.0 at own code.1 in
+      ap (λ b. b && is_within B q x) free ∙ within_is B x p q text code.0 at own code.1 in
       each q ∙ (ap (λ xs. xs ++ map (λ k. x) (filter (λ k. k == q) (outer_places B.museum text)))
-          (before.each q lt)
+      (before.each q lt)
       ∙ (ap (λ xs. filter test (range_with_len 0 x) ++ map (λ k. x) xs)
-          (outer_once B.museum text code.0 q is code.1)
+      (outer_once B.museum text code.0 q is code.1)
       ∙ (ap (λ xs. filter test (range_with_len 0 x) ++ xs)
-          (as_often x q (lies_in text code.0) ∙ sym (ap (λ b. cond b (x ∷ []) []) passes))
-          ∙ sym (filter_more test x))));
+      (as_often x q (lies_in text code.0) ∙ sym (ap (λ b. cond b (x ∷ []) []) passes))
+      ∙ sym (filter_more test x))));
 }
 
 -- a thing that is in none of the lists
@@ -143,9 +145,9 @@ asked_more S vs p new before lt is = record {
   each = λ q some. by_bool (p == q)
       (λ e. let same : p ≡ q = grind (arith, nat_tests) in
       subst (λ k. list_at (lists (slice_set vs p new)) k ≡ outer_of S k) same
-          (asked S vs p new lt ∙ is))
+      (asked S vs p new lt ∙ is))
       (λ n. let other : p ≡ q → ⊥ = λ same. let yes : (p == q) ≡ true = grind (arith, nat_tests) in
-          let no : true ≡ false = sym yes ∙ n in cc in
+      let no : true ≡ false = sym yes ∙ n in cc in
       let like = at_like (slice_set vs p new) vs q (get_set_other vs p q new other) in
       like ∙ before.each q (λ none. some (like ∙ none)));
 }
@@ -155,9 +157,9 @@ pub outer_at : (S : Museum) (vs : List (Vec ℕ Global)) (p : ℕ) (v : Vec ℕ 
     → v ≡ get_or vs p v → place_code_of S p ≡ Some text → v.items ≡ outer_places S text
 outer_at S vs p v text table is lt at own =
     let count : length S.places ≡ length vs =
-        sym table.many ∙ length-map vs (λ (w : Vec ℕ Global). w.items) in
+    sym table.many ∙ length-map vs (λ (w : Vec ℕ Global). w.items) in
     sym (at_of vs p v (slice_get_read vs (length S.places) p v count lt at))
-        ∙ (is ∙ ap (λ (o : Option (List ℕ)). option_map_or (outer_places S) o []) own)
+    ∙ (is ∙ ap (λ (o : Option (List ℕ)). option_map_or (outer_places S) o []) own)
 
 -- before any thing
 pub none_yet : (B : Book) (flags : List Bool) (xss : List (List ℕ))

@@ -49,18 +49,18 @@ module _ (S : Museum) (depth : ℕ) where
   cut_due_same taken s k zero P = sym (append-nil (cut s P))
   cut_due_same taken s k (suc d) P =
       ap (cut s) (fold-append (post S depth) P (due taken s k d)
-          (numbered s (k + suc d) (message_at taken s (k + suc d))))
+      (numbered s (k + suc d) (message_at taken s (k + suc d))))
       ∙ (cut_numbered_same s (k + suc d) (message_at taken s (k + suc d)) _
-          ∙ rw (cut_due_same taken s k d P, append_assoc) refl)
+      ∙ rw (cut_due_same taken s k d P, append_assoc) refl)
 
   cut_due_other : (taken : List (Arrived Message)) (s t k d : ℕ) (P : List Entry) → s ≢ t
       → cut t (fold (post S depth) P (due taken s k d)) ≡ cut t P
   cut_due_other taken s t k zero P h = refl
   cut_due_other taken s t k (suc d) P h =
       ap (cut t) (fold-append (post S depth) P (due taken s k d)
-          (numbered s (k + suc d) (message_at taken s (k + suc d))))
+      (numbered s (k + suc d) (message_at taken s (k + suc d))))
       ∙ (cut_numbered_other s t (k + suc d) (message_at taken s (k + suc d)) _ h ∙ cut_due_other
-          taken s t k d P h)
+      taken s t k d P h)
 
   runs_accepted : (p : Point) (r : Arrival) → ready is_sign_off p.taken r.station < r.n → AreRuns p
       → AreRuns (point_with S depth p r.station (p.taken ++ seen r ∷ []))
@@ -86,7 +86,7 @@ module _ (S : Museum) (depth : ℕ) where
       by_refusal None h =
           subst AreRuns (sym (point_accepted S depth p r h))
           (runs_accepted p r (accepted is_sign_off (length S.stations) p.taken r.station r.n
-              h).low runs)
+          h).low runs)
       by_refusal (Some f) h = subst AreRuns (sym (point_refused S depth p r f h)) runs
 
   runs_all : (p : Point) (A : List Arrival) → AreRuns p → AreRuns (fold (point_after S depth) p A)
@@ -114,17 +114,17 @@ module _ (S : Museum) (depth : ℕ) where
       let from = lawful_start S depth P s law in
       let k : ready is_sign_off (sent P) s ≡ count_at s P = ready_start (sent P) s _ from in
       let k' : ready is_sign_off taken s ≡ e.n =
-          ready_start taken s _ (starts_next is_sign_off (sent P) (arrival_of e) _ from
-          f.unsigned f.next) in
+      ready_start taken s _ (starts_next is_sign_off (sent P) (arrival_of e) _ from
+      f.unsigned f.next) in
       let one : ready is_sign_off taken s - ready is_sign_off (sent P) s ≡ 1 =
-          omega (arith, k, k', f.next) in
+      omega (arith, k, k', f.next) in
       let next : e.n ≡ ready is_sign_off (sent P) s + 1 = omega (arith, k, f.next) in
       let at : message_at taken s e.n ≡ Some e.message =
-          at_its_number (sent P) (arrival_of e) (from.none_above e.n (omega (arith, f.next))) in
+      at_its_number (sent P) (arrival_of e) (from.none_above e.n (omega (arith, f.next))) in
       run_grows is_sign_off (sent P) (arrival_of e) (omega (arith, next))
       ∙ ap (λ xs. run is_sign_off (sent P) s ++ xs)
-          (ap (due taken s (ready is_sign_off (sent P) s)) one ∙ due_one taken s
-          (ready is_sign_off (sent P) s) e.n e.message next at)
+      (ap (due taken s (ready is_sign_off (sent P) s)) one ∙ due_one taken s
+      (ready is_sign_off (sent P) s) e.n e.message next at)
 
   -- a lawful list, taken as what arrived, is ready to its end
   pub lawful_run : (P : List Entry) (s : ℕ) → IsLawful S depth P
@@ -134,10 +134,10 @@ module _ (S : Museum) (depth : ℕ) where
       (⊎_elim
       (λ q. subst (λ u. cut u (e ∷ P) ≡ run is_sign_off (sent P ++ arrival_of e ∷ []) u) q
       (cut_post_same e.station P (arrival_of e) refl
-          ∙ (ap (λ xs. xs ++ arrival_of e ∷ []) (lawful_run P e.station law.1)
-          ∙ sym (run_next e P law.0 law.1))))
+      ∙ (ap (λ xs. xs ++ arrival_of e ∷ []) (lawful_run P e.station law.1)
+      ∙ sym (run_next e P law.0 law.1))))
       (λ q. cut_post_other s P (arrival_of e) q
-          ∙ (lawful_run P s law.1 ∙ sym (run_other is_sign_off (sent P) (arrival_of e) s q)))
+      ∙ (lawful_run P s law.1 ∙ sym (run_other is_sign_off (sent P) (arrival_of e) s q)))
       (cases_eq e.station s))
       ∙ ap (λ (taken : List (Arrived Message)). run is_sign_off taken s) (sym (sent_next e P))
 
@@ -152,10 +152,10 @@ module _ (S : Museum) (depth : ℕ) where
   point_lawful p [] law = law
   point_lawful p (r ∷ A) law =
       let taken : List (Arrived Message) =
-          taken_after is_sign_off (length S.stations) p.taken (seen r) in
+      taken_after is_sign_off (length S.stations) p.taken (seen r) in
       let k : ℕ = ready is_sign_off p.taken r.station in
       posts_lawful p.posted (due taken r.station k (ready is_sign_off taken r.station - k))
-          (point_lawful (point_after S depth p r) A law)
+      (point_lawful (point_after S depth p r) A law)
 
   pub each_run : (O : List Entry) (A : List Arrival) (s : ℕ)
       → IsLawful S depth (point S depth O A).posted

@@ -26,10 +26,10 @@ none_fed bytes zero within none = tt
 none_fed bytes (suc n) within none =
     let on : n + 1 ≡ suc n = omega arith in
     let first : HasNoFeed (take n bytes) =
-        none_fed bytes n (omega arith) (λ k low high. none k low (omega arith)) in
+    none_fed bytes n (omega arith) (λ k low high. none k low (omega arith)) in
     subst (λ m. HasNoFeed (take m bytes)) on
-        (no_feed_more bytes n 0 (omega arith) first
-        (λ e. none n (omega arith) (omega arith) (rw e refl)))
+    (no_feed_more bytes n 0 (omega arith) first
+    (λ e. none n (omega arith) (omega arith) (rw e refl)))
 
 -- none before the place that it found, or among all bytes
 pub none_before : (bytes : List ℕ) (found : Option ℕ) (n : ℕ) → IsFirstByte (is_byte 10) bytes found
@@ -70,23 +70,30 @@ open_input e = cc
 pub cut_feed : (shown : List ℕ) (feed taken : ℕ) (end : End) → end ≡ Feed → taken ≡ feed + 1
     → feed < length shown → (feed < length shown
     → take (feed + 1) shown ≡ take feed shown ++ 10 ∷ []) → Cut shown feed taken end
-cut_feed shown feed taken end e t less cut =
-    (omega arith, ap (λ n. take n shown) t ∙ cut less
-        ∙ ap (λ (x : End). take feed shown ++ feed_if (is_feed x)) (sym e),
-        λ i. absurd (feed_input (sym e ∙ i)))
+cut_feed shown feed taken end e t less cut = (
+  omega arith,
+  ap (λ n. take n shown) t ∙ cut less
+      ∙ ap (λ (x : End). take feed shown ++ feed_if (is_feed x)) (sym e),
+  λ i. absurd (feed_input (sym e ∙ i)),
+)
 
 pub cut_open : (shown : List ℕ) (feed taken : ℕ) (end : End) → end ≡ Open → taken ≡ feed
     → feed ≤ length shown → Cut shown feed taken end
-cut_open shown feed taken end e t less =
-    (omega arith, ap (λ n. take n shown) t ∙ sym (append-nil (take feed shown))
-        ∙ ap (λ (x : End). take feed shown ++ feed_if (is_feed x)) (sym e),
-        λ i. absurd (open_input (sym e ∙ i)))
+cut_open shown feed taken end e t less = (
+  omega arith,
+  ap (λ n. take n shown) t ∙ sym (append-nil (take feed shown))
+      ∙ ap (λ (x : End). take feed shown ++ feed_if (is_feed x)) (sym e),
+  λ i. absurd (open_input (sym e ∙ i)),
+)
 
 pub cut_input : (shown : List ℕ) (feed taken : ℕ) (end : End) → end ≡ Input → taken ≡ feed
     → feed ≤ length shown → length shown ≡ 0 → Cut shown feed taken end
-cut_input shown feed taken end e t less none =
-    (omega arith, ap (λ n. take n shown) t ∙ sym (append-nil (take feed shown))
-        ∙ ap (λ (x : End). take feed shown ++ feed_if (is_feed x)) (sym e), λ i. none)
+cut_input shown feed taken end e t less none = (
+  omega arith,
+  ap (λ n. take n shown) t ∙ sym (append-nil (take feed shown))
+      ∙ ap (λ (x : End). take feed shown ++ feed_if (is_feed x)) (sym e),
+  λ i. none,
+)
 
 -- what ends a read later ends it from the start
 pub end_after : (a b c : Option (List ℕ)) (bytes : List ℕ) → Consumes a b bytes

@@ -113,7 +113,7 @@ full_more c p f one e = record {
   whole = whole_more c p f.whole one;
   none =
       ap (list_any is_blank) (f.whole.cut (p ++ 10 ∷ []) ∙ ap (λ (q : List (List ℕ)). pieces c ++ q)
-          (pieces_fed p [] one))
+      (pieces_fed p [] one))
       ∙ list_any-append is_blank (pieces c) ((p ++ 10 ∷ []) ∷ [])
       ∙ ap (λ t. t || (is_blank (p ++ 10 ∷ []) || false)) f.none
       ∙ ap (λ t. t || false) (blank_fed p one ∙ e);
@@ -186,7 +186,7 @@ first_feed (b ∷ bs) = cut (eqb_tells b 10) (first_feed bs)
     cut : ((b == 10) ≡ true) × (b ≡ 10) ⊎ ((b == 10) ≡ false) × (b ≢ 10) → (line : List ℕ)
         × HasNoFeed line × ((bs ≡ line) ⊎ ((more : List ℕ) × (bs ≡ line ++ 10 ∷ more)))
         → (line : List ℕ) × HasNoFeed line
-            × ((b ∷ bs ≡ line) ⊎ ((more : List ℕ) × (b ∷ bs ≡ line ++ 10 ∷ more)))
+        × ((b ∷ bs ≡ line) ⊎ ((more : List ℕ) × (b ∷ bs ≡ line ++ 10 ∷ more)))
     cut (inl is) found = ([], tt, inr (bs, ap (λ c. c ∷ bs) is.1))
     cut (inr is) found = (b ∷ found.0, (is.1, found.1), further found.2)
       where
@@ -210,15 +210,20 @@ head_grows n p x one long = by_test (is_empty (without_return p)) refl
         → (x ≡ q) ⊎ ((more : List ℕ) × (x ≡ q ++ 10 ∷ more)) → length p ≤ length (head (p ++ x))
     whole_line e q h (inl is) =
         let all =
-            ap length (ap (λ (l : List ℕ). head (p ++ l)) is ∙ head_last (p ++ q)
-            (no_feed_join p q one h) (still_full p q e)) in
+        ap length (ap (λ (l : List ℕ). head (p ++ l)) is ∙ head_last (p ++ q)
+        (no_feed_join p q one h) (still_full p q e)) in
         omega (arith, all, length-append p q)
     whole_line e q h (inr (more, is)) =
         let all =
-            ap length (ap head (ap (λ (l : List ℕ). p ++ l) is ∙ sym (append_assoc p q (10 ∷ more)))
-            ∙ head_goes_on (p ++ q) more (no_feed_join p q one h) (still_full p q e)) in
-        omega (arith, all, length-append ((p ++ q) ++ 10 ∷ []) (head more),
-            length-append (p ++ q) (10 ∷ []), length-append p q)
+        ap length (ap head (ap (λ (l : List ℕ). p ++ l) is ∙ sym (append_assoc p q (10 ∷ more)))
+        ∙ head_goes_on (p ++ q) more (no_feed_join p q one h) (still_full p q e)) in
+        omega (
+          arith,
+          all,
+          length-append ((p ++ q) ++ 10 ∷ []) (head more),
+          length-append (p ++ q) (10 ∷ []),
+          length-append p q,
+        )
 
     by_test : (t : Bool) → is_empty (without_return p) ≡ t → n < length (head (p ++ x))
     by_test true e = let none = ap length (head_blank p one e) in absurd (omega arith)
@@ -233,9 +238,9 @@ pub line_too_long : (room : ℕ) (kept p : List ℕ) → HasNoFeed p → kept �
     → room < length kept → is_empty (without_return kept) ≡ false → room < length (head p)
 line_too_long room kept p one is long full =
     let same =
-        ap length
-        (head_last p one (sym (kept_blank room p) ∙ ap (λ l. is_empty (without_return l))
-        (sym is) ∙ full)) in
+    ap length
+    (head_last p one (sym (kept_blank room p) ∙ ap (λ l. is_empty (without_return l))
+    (sym is) ∙ full)) in
     let few = ap length is in
     omega (arith, same, few, length-take (room + 2) p)
 

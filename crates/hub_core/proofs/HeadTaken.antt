@@ -65,7 +65,7 @@ module _ (i i1 i2 : Option (List ℕ)) (c : List ℕ) (read : Consumes i i1 c) (
       (Consumes-trans i i1 i2 c p read taken)
       (λ x is. long_fault (head ((c ++ p) ++ x))
       (let same = ap length (ap head (append_assoc c p x) ∙ head_behind c (p ++ x) full) in
-          let more = long x in omega (arith, same, more, length-append c (head (p ++ x)))))
+      let more = long x in omega (arith, same, more, length-append c (head (p ++ x)))))
 
   -- a fault before the line has ended
   pub stops_in_line : (fault : RunFault) → StopsInLine i1 i2 room fault → BeforeLines i i2 fault
@@ -92,10 +92,10 @@ module _ (i i1 i2 : Option (List ℕ)) (c : List ℕ) (read : Consumes i i1 c) (
     ends_there true t blank =
         let e = blank_as_kept true t true blank in
         of_all i i2 (c ++ (t.bytes ++ 10 ∷ [])) Ended
-            (Consumes-trans i i1 i2 c _ read t.taken) (λ x is.
+        (Consumes-trans i i1 i2 c _ read t.taken) (λ x is.
         let line : (c ++ (t.bytes ++ 10 ∷ [])) ++ x ≡ c ++ (t.bytes ++ 10 ∷ x) =
-            append_assoc c (t.bytes ++ 10 ∷ []) x ∙ ap (λ (l : List ℕ). c ++ l)
-            (append_assoc t.bytes (10 ∷ []) x) in (
+        append_assoc c (t.bytes ++ 10 ∷ []) x ∙ ap (λ (l : List ℕ). c ++ l)
+        (append_assoc t.bytes (10 ∷ []) x) in (
           sym (ap head line ∙ head_behind c (t.bytes ++ 10 ∷ x) full ∙ ap (λ (l : List ℕ). c ++ l)
               (head_ends t.bytes x t.one e) ∙ append-nil c),
           omega arith,
@@ -106,9 +106,9 @@ module _ (i i1 i2 : Option (List ℕ)) (c : List ℕ) (read : Consumes i i1 c) (
     ends_there false t blank =
         let e = blank_as_kept false t true blank in
         let line : c ++ (t.bytes ++ []) ≡ c ++ t.bytes =
-            ap (λ (l : List ℕ). c ++ l) (append-nil t.bytes) in
+        ap (λ (l : List ℕ). c ++ l) (append-nil t.bytes) in
         of_ended i i2 (c ++ (t.bytes ++ [])) Ended (Consumes-trans i i1 i2 c _ read t.taken)
-            (end_after i i1 i2 c read (t.last refl)) (λ is. (
+        (end_after i i1 i2 c read (t.last refl)) (λ is. (
           sym (ap head line ∙ head_behind c t.bytes full ∙ ap (λ (l : List ℕ). c ++ l)
               (head_blank t.bytes t.one e) ∙ append-nil c),
           omega arith,
@@ -125,22 +125,28 @@ module _ (i i1 i2 : Option (List ℕ)) (c : List ℕ) (read : Consumes i i1 c) (
         let few = ap length t.kept in
         too_long (t.bytes ++ 10 ∷ []) t.taken (λ x.
         let same =
-            ap length (ap head (append_assoc t.bytes (10 ∷ []) x) ∙ head_goes_on t.bytes
-            x t.one e) in
-        omega (arith, same, few, length-take (room + 2) t.bytes,
-            length-append (t.bytes ++ 10 ∷ []) (head x), length-append t.bytes (10 ∷ [])))
+        ap length (ap head (append_assoc t.bytes (10 ∷ []) x) ∙ head_goes_on t.bytes
+        x t.one e) in
+        omega (
+          arith,
+          same,
+          few,
+          length-take (room + 2) t.bytes,
+          length-append (t.bytes ++ 10 ∷ []) (head x),
+          length-append t.bytes (10 ∷ []),
+        ))
     too_long_there false t some long =
         let e = blank_as_kept false t false some in
         let few = ap length t.kept in
         let line : c ++ (t.bytes ++ []) ≡ c ++ t.bytes =
-            ap (λ (l : List ℕ). c ++ l) (append-nil t.bytes) in
+        ap (λ (l : List ℕ). c ++ l) (append-nil t.bytes) in
         let same =
-            ap length (ap head line ∙ head_behind c t.bytes full ∙ ap (λ (l : List ℕ). c ++ l)
-            (head_last t.bytes t.one e)) in
+        ap length (ap head line ∙ head_behind c t.bytes full ∙ ap (λ (l : List ℕ). c ++ l)
+        (head_last t.bytes t.one e)) in
         of_ended i i2 (c ++ (t.bytes ++ [])) (λ bytes. head_fault (head bytes) ≡ Some HeadTooLong)
-            (Consumes-trans i i1 i2 c _ read t.taken) (end_after i i1 i2 c read (t.last refl))
+        (Consumes-trans i i1 i2 c _ read t.taken) (end_after i i1 i2 c read (t.last refl))
         (λ is. long_fault (head (c ++ (t.bytes ++ [])))
-            (omega (arith, same, few, length-take (room + 2) t.bytes, length-append c t.bytes)))
+        (omega (arith, same, few, length-take (room + 2) t.bytes, length-append c t.bytes)))
 
     kept_whole : (fed : Bool) (t : TakesLine i1 i2 (room + 2) held fed) → length held ≤ room
         → held ≡ t.bytes
@@ -156,14 +162,14 @@ module _ (i i1 i2 : Option (List ℕ)) (c : List ℕ) (read : Consumes i i1 c) (
     last_there false now ends is t some short =
         let e = blank_as_kept false t false some in
         let line : c ++ (t.bytes ++ []) ≡ c ++ t.bytes =
-            ap (λ (l : List ℕ). c ++ l) (append-nil t.bytes) in
+        ap (λ (l : List ℕ). c ++ l) (append-nil t.bytes) in
         let whole = kept_whole false t (omega arith) in
         let same : now ≡ c ++ t.bytes =
-            is ∙ ap (λ (l : List ℕ). c ++ l) (append-nil held ∙ whole) in
+        is ∙ ap (λ (l : List ℕ). c ++ l) (append-nil held ∙ whole) in
         let size = ap length same in
         let line_size = ap length whole in
         of_ended i i2 (c ++ (t.bytes ++ [])) (λ bytes. (now ≡ head bytes)
-            × (length now ≤ LONGEST_HEAD) × (i2 ≡ Some (after_head bytes)))
+        × (length now ≤ LONGEST_HEAD) × (i2 ≡ Some (after_head bytes)))
         (Consumes-trans i i1 i2 c _ read t.taken) (end_after i i1 i2 c read (t.last refl)) (λ at. (
           same ∙ sym (ap head line ∙ head_behind c t.bytes full ∙ ap (λ (l : List ℕ). c ++ l)
               (head_last t.bytes t.one e)),
@@ -176,12 +182,12 @@ module _ (i i1 i2 : Option (List ℕ)) (c : List ℕ) (read : Consumes i i1 c) (
     pub more_there : (fed : Bool) (now : List ℕ) → fed ≡ true → now ≡ c ++ (held ++ feed_if fed)
         → TakesLine i1 i2 (room + 2) held fed → is_empty (without_return held) ≡ false
         → length held + length (feed_if fed) ≤ room → Consumes i i2 now × IsFull now
-            × (length now ≤ LONGEST_HEAD)
+        × (length now ≤ LONGEST_HEAD)
     more_there false now goes is t some short = absurd (true≢false (sym goes))
     more_there true now goes is t some short =
         let whole : t.bytes ≡ held = sym (kept_whole true t (omega arith)) in
         let same : c ++ (t.bytes ++ 10 ∷ []) ≡ now =
-            ap (λ (l : List ℕ). c ++ (l ++ 10 ∷ [])) whole ∙ sym is in
+        ap (λ (l : List ℕ). c ++ (l ++ 10 ∷ [])) whole ∙ sym is in
         let size = ap length is in (
           subst (Consumes i i2) same (Consumes-trans i i1 i2 c _ read t.taken),
           subst IsFull (sym is) (full_more c held full (subst HasNoFeed whole t.one) some),

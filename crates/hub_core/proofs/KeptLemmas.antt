@@ -37,7 +37,7 @@ module _ (S : Museum) where
   long_reply depth O A number (x ∷ line) h =
       let t : is_too_long (x ∷ line) ≡ true = grind (arith, nat_tests) in
       ap (λ b. if b then bad_line number (codes "TooLong") else read_reply S depth O A number
-          (line_in S (x ∷ line))) t
+      (line_in S (x ∷ line))) t
 
   long_outcomes : (depth : ℕ) (O : List Entry) (A : List Arrival) (line : List ℕ)
       → LONGEST_LINE < length line → line_outcomes S depth O A line ≡ outcome.Answered
@@ -46,7 +46,7 @@ module _ (S : Museum) where
   long_outcomes depth O A (x ∷ line) h =
       let t : is_too_long (x ∷ line) ≡ true = grind (arith, nat_tests) in
       ap (λ b. if b then outcome.Answered ∷ outcome.Bad ∷ [] else read_outcomes S depth O A
-          (line_in S (x ∷ line))) t
+      (line_in S (x ∷ line))) t
 
   module _ (most : ℕ) (enough : LONGEST_LINE + 2 ≤ most) (p : List ℕ) where
     cut_long : most ≤ length p → LONGEST_LINE < length (without_return (take most p))
@@ -69,7 +69,7 @@ module _ (S : Museum) where
         by false e =
             let more : most ≤ length p = grind (arith, nat_tests) in
             long_arrivals (without_return (take most p)) (cut_long more)
-                ∙ sym (long_arrivals (without_return p) (whole_long more))
+            ∙ sym (long_arrivals (without_return p) (whole_long more))
 
     pub kept_reply : (depth : ℕ) (O : List Entry) (A : List Arrival) (number : ℕ)
         → line_reply S depth O A number (without_return (take most p)) ≡ line_reply S depth O A
@@ -85,7 +85,7 @@ module _ (S : Museum) where
         by false e =
             let more : most ≤ length p = grind (arith, nat_tests) in
             long_reply depth O A number (without_return (take most p)) (cut_long more)
-                ∙ sym (long_reply depth O A number (without_return p) (whole_long more))
+            ∙ sym (long_reply depth O A number (without_return p) (whole_long more))
 
     pub kept_outcomes : (depth : ℕ) (O : List Entry) (A : List Arrival)
         → line_outcomes S depth O A (without_return (take most p)) ≡ line_outcomes S depth O A
@@ -100,4 +100,4 @@ module _ (S : Museum) where
         by false e =
             let more : most ≤ length p = grind (arith, nat_tests) in
             long_outcomes depth O A (without_return (take most p)) (cut_long more)
-                ∙ sym (long_outcomes depth O A (without_return p) (whole_long more))
+            ∙ sym (long_outcomes depth O A (without_return p) (whole_long more))

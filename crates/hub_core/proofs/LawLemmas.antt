@@ -44,8 +44,8 @@ cut_length : (s : ℕ) (P : List Entry) → length (cut s P) ≡ count_at s P
 cut_length s [] = refl
 cut_length s (e ∷ P) = by_station e s
     (λ h. ap length (cut_same s e P h)
-        ∙ (length-append (cut s P) (arrival_of e ∷ [])
-        ∙ (ap (λ n. n + 1) (cut_length s P) ∙ sym (count_same s e P h))))
+    ∙ (length-append (cut s P) (arrival_of e ∷ [])
+    ∙ (ap (λ n. n + 1) (cut_length s P) ∙ sym (count_same s e P h))))
     (λ h. ap length (cut_other s e P h) ∙ (cut_length s P ∙ sym (count_other s e P h)))
 
 pub numbered : (S : Museum) (depth : ℕ) (P : List Entry) (s i : ℕ) (r : Arrived Message)
@@ -53,7 +53,7 @@ pub numbered : (S : Museum) (depth : ℕ) (P : List Entry) (s i : ℕ) (r : Arri
 numbered S depth [] s i r law e = absurd (none-some _ e)
 numbered S depth (e ∷ P) s i r law at = by_station e s
     (λ h. elim (get_push (cut s P) (arrival_of e) i r
-        (ap (λ xs. slice_get xs i) (sym (cut_same s e P h)) ∙ at)) [
+    (ap (λ xs. slice_get xs i) (sym (cut_same s e P h)) ∙ at)) [
       | inl there ↦ numbered S depth P s i r law.1 there
       | inr here ↦
           let n : e.n ≡ count_at s P + 1 = law.0.next ∙ ap (λ t. count_at t P + 1) h in
@@ -77,7 +77,7 @@ double S depth O A r known first few low =
     let some : (r.n == 0) ≡ false = grind (arith, nat_tests) in
     let small : nat_lt LAST r.n ≡ false = grind (arith, nat_tests) in
     let posted : nat_le r.n (ready is_sign_off (point S depth O A).taken r.station) ≡ true =
-        grind (arith, nat_tests) in
+    grind (arith, nat_tests) in
     rw (there, some, small, posted) refl
 
 pub resent : (S : Museum) (depth : ℕ) (O : List Entry) (A : List Arrival) (r : Arrival)
@@ -88,14 +88,14 @@ resent S depth O A r h = (rw h refl, unchanged S depth O A r Double h)
 pub same : (S T : Museum) (depth limit : ℕ) (O Q : List Entry) (A B : List Arrival) (s : ℕ)
     → IsLawful S depth (point S depth O A).posted → IsLawful T limit (point T limit Q B).posted
     → ((n : ℕ) → n ≤ ready is_sign_off (point S depth O A).taken s + 1
-        → message_at (point T limit Q B).taken s n ≡ message_at (point S depth O A).taken s n)
+    → message_at (point T limit Q B).taken s n ≡ message_at (point S depth O A).taken s n)
     → cut s (point T limit Q B).posted ≡ cut s (point S depth O A).posted
 same S T depth limit O Q A B s law law' h =
     let one = (point S depth O A).taken in
     let two = (point T limit Q B).taken in
     let k : ℕ = ready is_sign_off one s in
     let ready' : ready is_sign_off two s ≡ k =
-        ready_same is_sign_off one two s (λ n low. h n (omega (arith, low))) in
+    ready_same is_sign_off one two s (λ n low. h n (omega (arith, low))) in
     each_run T limit Q B s law' ∙ (ap (due two s 0) ready'
-        ∙ (due_same one two s 0 k (λ n low. h n (omega (arith, low)))
-        ∙ sym (each_run S depth O A s law)))
+    ∙ (due_same one two s 0 k (λ n low. h n (omega (arith, low)))
+    ∙ sym (each_run S depth O A s law)))

@@ -11,7 +11,7 @@ before_feed [] rest h = take_while-cons (λ b. not (b == 10)) 10 rest
 before_feed (x ∷ p) rest h =
     take_while-cons (λ b. not (b == 10)) x (p ++ 10 ∷ rest)
     ∙ ap (λ t. cond (not t) (x ∷ take_while (λ b. not (b == 10)) (p ++ 10 ∷ rest)) [])
-        (ne_eqb x 10 h.0)
+    (ne_eqb x 10 h.0)
     ∙ ap (λ (xs : List ℕ). x ∷ xs) (before_feed p rest h.1)
 
 before_end : (p : List ℕ) → HasNoFeed p → take_while (λ b. not (b == 10)) p ≡ p
@@ -33,7 +33,7 @@ pub pieces_fed : (p rest : List ℕ) → HasNoFeed p
 pieces_fed [] rest h = refl
 pieces_fed (x ∷ p) rest h =
     ap (λ t. if t then (x ∷ []) ∷ pieces (p ++ 10 ∷ rest) else before x (pieces (p ++ 10 ∷ rest)))
-        (ne_eqb x 10 h.0)
+    (ne_eqb x 10 h.0)
     ∙ ap (before x) (pieces_fed p rest h.1)
 
 pub pieces_last : (x : ℕ) (p : List ℕ) → HasNoFeed (x ∷ p) → pieces (x ∷ p) ≡ (x ∷ p) ∷ []
@@ -46,8 +46,8 @@ ended_fed : (p rest : List ℕ) → HasNoFeed p → ended (p ++ 10 ∷ rest) ≡
 ended_fed [] rest h = refl
 ended_fed (x ∷ p) rest h =
     ap (λ t. if t then x ∷ ended (p ++ 10 ∷ rest) else
-        (if is_empty (ended (p ++ 10 ∷ rest)) then [] else x ∷ ended (p ++ 10 ∷ rest)))
-        (ne_eqb x 10 h.0)
+    (if is_empty (ended (p ++ 10 ∷ rest)) then [] else x ∷ ended (p ++ 10 ∷ rest)))
+    (ne_eqb x 10 h.0)
     ∙ ap (λ (xs : List ℕ). if is_empty xs then [] else x ∷ xs) (ended_fed p rest h.1)
     ∙ kept p
   where
@@ -61,7 +61,7 @@ pub ended_none : (p : List ℕ) → HasNoFeed p → ended p ≡ []
 ended_none [] h = refl
 ended_none (x ∷ p) h =
     ap (λ t. if t then x ∷ ended p else (if is_empty (ended p) then [] else x ∷ ended p))
-        (ne_eqb x 10 h.0)
+    (ne_eqb x 10 h.0)
     ∙ ap (λ (xs : List ℕ). if is_empty xs then [] else x ∷ xs) (ended_none p h.1)
 
 -- whole lines: what comes behind them is cut apart
@@ -77,7 +77,7 @@ whole_more c p w h = record {
   cut = λ x.
       let one : (p ++ 10 ∷ []) ++ x ≡ p ++ 10 ∷ x = append_assoc p (10 ∷ []) x in
       let here : pieces (c ++ (p ++ 10 ∷ [])) ≡ pieces c ++ (p ++ 10 ∷ []) ∷ [] =
-          w.cut (p ++ 10 ∷ []) ∙ ap (λ (q : List (List ℕ)). pieces c ++ q) (pieces_fed p [] h) in
+      w.cut (p ++ 10 ∷ []) ∙ ap (λ (q : List (List ℕ)). pieces c ++ q) (pieces_fed p [] h) in
       ap pieces (append_assoc c (p ++ 10 ∷ []) x ∙ ap (λ (q : List ℕ). c ++ q) one)
       ∙ w.cut (p ++ 10 ∷ x)
       ∙ ap (λ (q : List (List ℕ)). pieces c ++ q) (pieces_fed p x h)
@@ -85,7 +85,7 @@ whole_more c p w h = record {
       ∙ ap (λ (q : List (List ℕ)). q ++ pieces x) (sym here);
   through = λ x.
       ap ended (append_assoc c (p ++ 10 ∷ []) x ∙ ap (λ (q : List ℕ). c ++ q)
-          (append_assoc p (10 ∷ []) x))
+      (append_assoc p (10 ∷ []) x))
       ∙ w.through (p ++ 10 ∷ x)
       ∙ ap (λ (q : List ℕ). c ++ q) (ended_fed p x h ∙ sym (append_assoc p (10 ∷ []) (ended x)))
       ∙ sym (append_assoc c (p ++ 10 ∷ []) (ended x));

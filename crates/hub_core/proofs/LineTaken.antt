@@ -16,7 +16,7 @@ module _ (a b c : Option (List ℕ)) (most : ℕ) (held held_new bytes : List �
   joined p fed e taken =
       subst (Consumes a c) (sym (append_assoc bytes p.bytes (feed_if fed)))
       (subst (λ t. Consumes a c (bytes ++ (p.bytes ++ feed_if t))) e
-          (Consumes-trans a b c bytes _ taken p.taken))
+      (Consumes-trans a b c bytes _ taken p.taken))
 
   pub line_fed : Consumes a b bytes → HasNoFeed bytes → held ≡ take most bytes
       → TakesPiece b c most held held_new end → end ≡ Feed → TakesLine a c most held_new true

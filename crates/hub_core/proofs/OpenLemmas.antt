@@ -41,9 +41,9 @@ pub fresh_step : (S : Museum) (n : ℕ) (starts : List Start) → n ≡ length S
     → starts ≡ replicate n fresh → InStep (map opened starts) S []
 fresh_step S n starts sized h =
     let is : map opened starts ≡ map opened (replicate n fresh) =
-        ap (map (opened {M = Message})) h in
+    ap (map (opened {M = Message})) h in
     let len : length (map opened starts) ≡ n =
-        ap length is ∙ length-map (replicate n fresh) opened ∙ length-replicate n fresh in
+    ap length is ∙ length-map (replicate n fresh) opened ∙ length-replicate n fresh in
     record {
       stations = len ∙ sized;
       count = λ s less. ap (λ (x : List (Series Message)). (series_at x s).posted) is
@@ -77,8 +77,8 @@ pub is_start : (S : Museum) (P : List Entry) (starts : List Start) (s : ℕ) (st
     → InStep (map opened starts) S P → slice_get starts s ≡ Some start → IsStart S P s start
 is_start S P starts s start step e =
     let within : s < length (map (opened {M = Message}) starts) =
-        subst (λ n. s < n) (sym (length-map starts (opened {M = Message})))
-        (slice_get_within starts s start e) in
+    subst (λ n. s < n) (sym (length-map starts (opened {M = Message})))
+    (slice_get_within starts s start e) in
     let here = opened_at starts s start e in
     record {
       known = subst (λ n. s < n) step.stations within;
@@ -111,7 +111,7 @@ follows_some S depth P e starts (Some start) at step h judged =
 pub follows_next : (S : Museum) (depth : ℕ) (P : List Entry) (e : Entry) (starts : List Start)
     → InStep (map opened starts) S P
     → may_send (slice_get starts e.station) e.n ≡ true → verdict S depth P e.message ≡ e.verdict
-        → Follows S depth P e
+    → Follows S depth P e
 follows_next S depth P e starts step h judged =
     follows_some S depth P e starts (slice_get starts e.station) refl step h judged
 
@@ -121,8 +121,8 @@ sends_some : (S : Museum) (depth : ℕ) (P : List Entry) (e : Entry) (starts : L
     → Follows S depth P e → may_send o e.n ≡ true
 sends_some S depth P e starts None at step f =
     let within : e.station < length starts =
-        subst (λ n. e.station < n) (sym step.stations ∙ length-map starts
-        (opened {M = Message})) f.known in
+    subst (λ n. e.station < n) (sym step.stations ∙ length-map starts
+    (opened {M = Message})) f.known in
     absurd (none-some _ (sym at ∙ slice_get-get_or starts e.station fresh within))
 sends_some S depth P e starts (Some start) at step f =
     let is = is_start S P starts e.station start step at in
@@ -130,7 +130,7 @@ sends_some S depth P e starts (Some start) at step f =
     let off : start.signed ≡ false = is.sign ∙ f.unsigned in
     let low : e.n ≤ 999999 = f.few in
     and_from (e.n == start.posted + 1) (nat_le e.n LAST && not start.signed)
-        (grind (arith, nat_tests))
+    (grind (arith, nat_tests))
     (and_from (nat_le e.n LAST) (not start.signed) (grind (arith, nat_tests)) (rw off refl))
 
 pub follows_sends : (S : Museum) (depth : ℕ) (P : List Entry) (e : Entry) (starts : List Start)
@@ -143,17 +143,17 @@ follows_sends S depth P e starts step f =
 pub next_step : (S : Museum) (depth : ℕ) (P : List Entry) (e : Entry) (starts starts' : List Start)
     → InStep (map opened starts) S P → Follows S depth P e
     → starts' ≡ slice_set starts e.station (record { posted = e.n; signed = is_sign_off e.message })
-        → InStep (map opened starts') S (e ∷ P)
+    → InStep (map opened starts') S (e ∷ P)
 next_step S depth P e starts starts' step f set =
     let all : List (Series Message) = map opened starts in
     let q : Series Message = opened (record { posted = e.n; signed = is_sign_off e.message }) in
     let within : e.station < length all = subst (λ n. e.station < n) (sym step.stations) f.known in
     let is : IsWritten all (map opened starts') e.station q =
-        written all (map opened starts') e.station q within
-        (ap (map opened) set ∙ opened_set starts e.station _) in
+    written all (map opened starts') e.station q within
+    (ap (map opened) set ∙ opened_set starts e.station _) in
     step_written S P all (map opened starts') q e step within is
-        (f.next ∙ ap (λ k. k + 1) (sym (step.count e.station within))) refl
-        (step.sign e.station within ∙ f.unsigned)
+    (f.next ∙ ap (λ k. k + 1) (sym (step.count e.station within))) refl
+    (step.sign e.station within ∙ f.unsigned)
 
 -- no station of a lawful list has more entries than there are numbers
 pub count_few : (S : Museum) (depth : ℕ) (P : List Entry) (s : ℕ) → IsLawful S depth P
@@ -170,7 +170,7 @@ pub all_few : (S : Museum) (depth : ℕ) (P : List Entry) (starts : List Start) 
 all_few S depth P starts law step =
     All-from_get_or (λ (x : Start). x.posted ≤ LAST) starts fresh (λ s less.
     let is = is_start S P starts s (get_or starts s fresh) step
-        (slice_get-get_or starts s fresh less) in
+    (slice_get-get_or starts s fresh less) in
     let low : count_at s P ≤ 999999 = count_few S depth P s law in
     omega (arith, is.count, low))
 
@@ -189,19 +189,23 @@ pub lawful_start : (S : Museum) (depth : ℕ) (P : List Entry) (s : ℕ) → IsL
 lawful_start S depth [] s law = starts_empty is_sign_off s
 lawful_start S depth (e ∷ P) s law =
     subst (λ (taken : List (Arrived Message)). StartsFrom is_sign_off taken s
-        (record { posted = count_at s (e ∷ P); signed = is_signed_off s (e ∷ P) }))
-        (sym (sent_next e P))
+    (record { posted = count_at s (e ∷ P); signed = is_signed_off s (e ∷ P) }))
+    (sym (sent_next e P))
     (elim (cases_eq e.station s) [
       | inl same ↦
           subst (λ t. StartsFrom is_sign_off (sent P ++ arrival_of e ∷ []) t
           (record { posted = count_at t (e ∷ P); signed = is_signed_off t (e ∷ P) })) same
-          (rw (count_same e.station e P refl, signed_same e.station e P (is_sign_off e.message) refl
-              refl law.0.unsigned, ← law.0.next)
+          (rw (
+            count_same e.station e P refl,
+            signed_same e.station e P (is_sign_off e.message) refl
+                refl law.0.unsigned,
+            ← law.0.next,
+          )
           (starts_next is_sign_off (sent P) (arrival_of e) _
-              (lawful_start S depth P e.station law.1) law.0.unsigned law.0.next))
+          (lawful_start S depth P e.station law.1) law.0.unsigned law.0.next))
       | inr other ↦ rw (count_other s e P other, signed_other s e P other)
           (starts_other is_sign_off (sent P) (arrival_of e) s _ other
-              (lawful_start S depth P s law.1))
+          (lawful_start S depth P s law.1))
     ])
 
 pub all_start : (S : Museum) (depth : ℕ) (P : List Entry) (starts : List Start) → IsLawful S depth P
@@ -210,7 +214,7 @@ all_start S depth P starts law step = record {
   each = λ s start e.
       let is = is_start S P starts s start step e in
       subst (λ (x : Start). StartsFrom is_sign_off (sent P) s x) (rw (← is.count, ← is.sign) refl)
-          (lawful_start S depth P s law);
+      (lawful_start S depth P s law);
 }
 
 -- the stations that are made from the starts go on from the list
@@ -218,7 +222,7 @@ pub goes_on : (L : Book) (starts now : List Start) (all : List (Series Message))
     → IsLawful L.museum L.depth L.posted → InStep (map opened starts) L.museum L.posted
     → now ≡ starts
     → all ≡ map opened now → ((signs : Message → Bool) (taken : List (Arrived Message))
-        → AllStart signs taken now → AllMatch signs taken all) → GoesOn all L
+    → AllStart signs taken now → AllMatch signs taken all) → GoesOn all L
 goes_on L starts now all law step is made matches = record {
   in_step = subst (λ (xs : List (Series Message)). InStep xs L.museum L.posted)
       (sym (made ∙ ap (map opened) is)) step;
@@ -231,33 +235,38 @@ goes_on L starts now all law step is made matches = record {
 pub sends_follows : (L : Book) (e : Entry) (starts now : List Start) (sends : Bool)
     → InStep (map opened starts) L.museum L.posted → now ≡ starts
     → sends ≡ may_send (slice_get now e.station) e.n → sends ≡ true
-        → Follows L.museum L.depth L.posted (entry_of L.museum L.depth L.posted (arrival_of e))
+    → Follows L.museum L.depth L.posted (entry_of L.museum L.depth L.posted (arrival_of e))
 sends_follows L e starts now sends step is told on =
     follows_next L.museum L.depth L.posted (entry_of L.museum L.depth L.posted (arrival_of e))
-        starts step (ap (λ (xs : List Start). may_send (slice_get xs e.station) e.n) (sym is)
-        ∙ (sym told ∙ on)) refl
+    starts step (ap (λ (xs : List Start). may_send (slice_get xs e.station) e.n) (sym is)
+    ∙ (sym told ∙ on)) refl
 
 -- and so it may with its own, where that is the same
 pub judged_follows : (L : Book) (e : Entry) (changes : Changes)
     → Follows L.museum L.depth L.posted (entry_of L.museum L.depth L.posted (arrival_of e))
     → changes ≡ changes_of L e.message → changes.verdict ≡ e.verdict
-        → Follows L.museum L.depth L.posted e
+    → Follows L.museum L.depth L.posted e
 judged_follows L e changes f planned same =
-    record { known = f.known; next = f.next; few = f.few; unsigned = f.unsigned;
-        judged = sym same ∙ ap (λ (x : Changes). x.verdict) planned }
+    record {
+      known = f.known;
+      next = f.next;
+      few = f.few;
+      unsigned = f.unsigned;
+      judged = sym same ∙ ap (λ (x : Changes). x.verdict) planned;
+    }
 
 -- the first wrong entry of the list
 pub entry_fault : (S : Museum) (depth : ℕ) (L : Book) (O left left' : List Entry) (e : Entry)
     (fault : StoreFault) → L.museum ≡ S → L.depth ≡ depth
     → O ≡ left ++ L.posted → left ≡ left' ++ e ∷ [] → IsLawful L.museum L.depth L.posted
-        → IsEntryFault L.museum L.depth L.posted e fault → IsJudgeFault S depth O fault
+    → IsEntryFault L.museum L.depth L.posted e fault → IsJudgeFault S depth O fault
 entry_fault S depth L O left left' e NoMemory museum limit list last law h = tt
 entry_fault S depth L O left left' e Store museum limit list last law h = absurd h
 entry_fault S depth L O left left' e OtherSetup museum limit list last law h = absurd h
 entry_fault S depth L O left left' e OtherVersion museum limit list last law h = absurd h
 entry_fault S depth L O left left' e (Damaged at) museum limit list last law h =
     subst (λ (T : Museum). IsJudgeFault T depth O (Damaged at)) museum
-        (subst (λ d. IsJudgeFault L.museum d O (Damaged at)) limit (record {
+    (subst (λ d. IsJudgeFault L.museum d O (Damaged at)) limit (record {
       before = L.posted;
       entry = e;
       after = left';

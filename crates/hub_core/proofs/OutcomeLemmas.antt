@@ -34,19 +34,19 @@ pub from_start : (first start : ℕ) (es : List Entry) → start ≡ first - 1
 from_start first start es e =
     let few = take_few start es in
     ap (map (λ (e : Entry). outcome.Posted e.verdict))
-        (drop_few (first - 1) (take start es) (omega (arith, few)))
+    (drop_few (first - 1) (take start es) (omega (arith, few)))
 
 -- one more entry
 pub from_more : (first i : ℕ) (es : List Entry) (d : Entry) → first ≤ i + 1 → i < length es
     → from_first first (take (i + 1) es) ≡ from_first first (take i es) ++ outcome.Posted
-        (get_or es i d).verdict ∷ []
+    (get_or es i d).verdict ∷ []
 from_more first i es d low less =
     let count = length-take-le i es (omega arith) in
     ap (from_first first) (take_more es i d less)
     ∙ ap (map (λ (e : Entry). outcome.Posted e.verdict))
-        (drop-append-le (first - 1) (take i es) (get_or es i d ∷ []) (omega (arith, count)))
+    (drop-append-le (first - 1) (take i es) (get_or es i d ∷ []) (omega (arith, count)))
     ∙ map-append (λ (e : Entry). outcome.Posted e.verdict) (drop (first - 1) (take i es))
-        (get_or es i d ∷ [])
+    (get_or es i d ∷ [])
 
 -- all of them
 pub from_all : (first i : ℕ) (es : List Entry) → length es ≤ i

@@ -44,15 +44,15 @@ posted_next S depth taken s k j n before now m le e at list =
 pub caught_next : (S : Museum) (depth : ℕ) (taken : List (Arrived Message)) (s k n : ℕ)
     (before now now' : List Entry) (all all' : List (Series Message)) (m : Message)
     → Caught S depth taken s k before all now → n ≡ (series_at all s).posted + 1
-        → ComesDue is_sign_off taken s n m all' → is_sign_off m ≡ false
-        → all' ≡ slice_set all s (counted (series_at all s))
-        → now' ≡ post S depth now (arrived s n m)
+    → ComesDue is_sign_off taken s n m all' → is_sign_off m ≡ false
+    → all' ≡ slice_set all s (counted (series_at all s))
+    → now' ≡ post S depth now (arrived s n m)
     → Caught S depth taken s k before all' now'
 caught_next S depth taken s k n before now now' all all' m c e d off step list =
     let p : (series_at all' s).posted ≡ n =
-        ap (λ (x : List (Series Message)). (series_at x s).posted) step
-        ∙ (ap (λ (x : Series Message). x.posted)
-        (series_at_set_same all s (counted (series_at all s)) c.posting.within) ∙ sym e) in
+    ap (λ (x : List (Series Message)). (series_at x s).posted) step
+    ∙ (ap (λ (x : Series Message). x.posted)
+    (series_at_set_same all s (counted (series_at all s)) c.posting.within) ∙ sym e) in
     record {
       posting = d.goes_on off;
       forward = omega (arith, c.forward);
@@ -66,36 +66,36 @@ pub done_stop : (S : Museum) (depth : ℕ) (taken : List (Arrived Message)) (s k
     → Done S depth taken s k before all' now
 done_stop S depth taken s k before now all all' c every e =
     let q : (series_at all' s).posted ≡ (series_at all s).posted =
-        ap (λ (x : List (Series Message)). (series_at x s).posted) e in
+    ap (λ (x : List (Series Message)). (series_at x s).posted) e in
     let len : length all' ≡ length all = ap length e in
     let r : (series_at all s).posted ≡ ready is_sign_off taken s =
-        sym q ∙ (every.each s (omega (arith, c.posting.within))).count in
+    sym q ∙ (every.each s (omega (arith, c.posting.within))).count in
     record { matches = every; list = rw (← r) c.list }
 
 pub done_sign : (S : Museum) (depth : ℕ) (taken : List (Arrived Message)) (s k n : ℕ)
     (before now now' : List Entry) (all mid all' : List (Series Message)) (m : Message)
     → Caught S depth taken s k before all now → n ≡ (series_at all s).posted + 1
-        → ComesDue is_sign_off taken s n m mid
-        → (IsEnding is_sign_off taken s mid → AllMatch is_sign_off taken all')
-        → is_sign_off m ≡ true
+    → ComesDue is_sign_off taken s n m mid
+    → (IsEnding is_sign_off taken s mid → AllMatch is_sign_off taken all')
+    → is_sign_off m ≡ true
     → mid ≡ slice_set all s (counted (series_at all s))
-        → all' ≡ slice_set mid s (closed (series_at mid s))
-        → now' ≡ post S depth now (arrived s n m)
+    → all' ≡ slice_set mid s (closed (series_at mid s))
+    → now' ≡ post S depth now (arrived s n m)
     → Done S depth taken s k before all' now'
 done_sign S depth taken s k n before now now' all mid all' m c e d close on step off list =
     let every : AllMatch is_sign_off taken all' = close (d.ends on) in
     let within : s < length mid =
-        rw step (omega (arith, c.posting.within, length-set {A = Series Message})) in
+    rw step (omega (arith, c.posting.within, length-set {A = Series Message})) in
     let within' : s < length all' =
-        rw off (omega (arith, within, length-set {A = Series Message})) in
+    rw off (omega (arith, within, length-set {A = Series Message})) in
     let p : (series_at mid s).posted ≡ n =
-        ap (λ (x : List (Series Message)). (series_at x s).posted) step
-        ∙ (ap (λ (x : Series Message). x.posted)
-        (series_at_set_same all s (counted (series_at all s)) c.posting.within) ∙ sym e) in
+    ap (λ (x : List (Series Message)). (series_at x s).posted) step
+    ∙ (ap (λ (x : Series Message). x.posted)
+    (series_at_set_same all s (counted (series_at all s)) c.posting.within) ∙ sym e) in
     let p' : (series_at all' s).posted ≡ n =
-        ap (λ (x : List (Series Message)). (series_at x s).posted) off
-        ∙ (ap (λ (x : Series Message). x.posted)
-        (series_at_set_same mid s (closed (series_at mid s)) within) ∙ p) in
+    ap (λ (x : List (Series Message)). (series_at x s).posted) off
+    ∙ (ap (λ (x : Series Message). x.posted)
+    (series_at_set_same mid s (closed (series_at mid s)) within) ∙ p) in
     let r : n ≡ ready is_sign_off taken s = sym p' ∙ (every.each s within').count in
     record {
       matches = every;
@@ -108,7 +108,7 @@ pub next_follows : (S : Museum) (depth : ℕ) (P : List Entry) (all : List (Seri
     (m : Message) (v : Verdict) → InStep all S P → s < length all
     → (series_at all s).signed ≡ false →
     n ≡ (series_at all s).posted + 1 → n ≤ LAST → v ≡ verdict S depth P m
-        → Follows S depth P (record { station = s; n = n; message = m; verdict = v })
+    → Follows S depth P (record { station = s; n = n; message = m; verdict = v })
 next_follows S depth P all s n m v step within unsigned next few judged = record {
   known = omega (arith, step.stations);
   next = omega (arith, step.count s within);
@@ -165,7 +165,7 @@ pub step_written : (S : Museum) (P : List Entry) (all all' : List (Series Messag
     (q : Series Message) (e : Entry) → InStep all S P → e.station < length all
     → IsWritten all all' e.station q →
     q.posted ≡ (series_at all e.station).posted + 1 → q.signed ≡ is_sign_off e.message
-        → (series_at all e.station).signed ≡ false → InStep all' S (e ∷ P)
+    → (series_at all e.station).signed ≡ false → InStep all' S (e ∷ P)
 step_written S P all all' q e step within is posted sign unsigned =
     let s = e.station in
     record {
@@ -195,18 +195,18 @@ pub posted_list : (L L' : Book) (S : Museum) (depth : ℕ) (r : Arrived Message)
     → L.museum ≡ S → L.depth ≡ depth → L'.posted ≡ post S depth L.posted r
 posted_list L L' S depth r is museum limit =
     ap (λ (b : Book). b.posted) is
-        ∙ (ap (λ (S' : Museum). post S' L.depth L.posted r) museum
-        ∙ ap (λ d. post S d L.posted r) limit)
+    ∙ (ap (λ (S' : Museum). post S' L.depth L.posted r) museum
+    ∙ ap (λ d. post S d L.posted r) limit)
 
 pub posted_step : (L L' : Book) (r : Arrived Message) (all all' : List (Series Message))
     (q : Series Message) → IsPosted L L' r → InStep all L.museum L.posted → r.station < length all
     → IsWritten all all' r.station q →
     q.posted ≡ (series_at all r.station).posted + 1 → q.signed ≡ is_sign_off r.message
-        → (series_at all r.station).signed ≡ false → InStep all' L'.museum L'.posted
+    → (series_at all r.station).signed ≡ false → InStep all' L'.museum L'.posted
 posted_step L L' r all all' q is step within written posted sign unsigned =
     subst (λ (b : Book). InStep all' b.museum b.posted) (sym is)
     (step_written L.museum L.posted all all' q (entry_of L.museum L.depth L.posted r) step within
-        written posted sign unsigned)
+    written posted sign unsigned)
 
 -- and where a message is held
 pub step_held : (S : Museum) (P : List Entry) (all all' : List (Series Message)) (s : ℕ)
@@ -242,7 +242,7 @@ pub taken_unsigned : (all : List (Series Message)) (s n : ℕ) → refusal_of al
     → (series_at all s).signed ≡ false
 taken_unsigned all s n = elim (slice_get all s) as (λ o. refusal_in o n ≡ None
     → (unwrap_or o (series 0 false [])).signed ≡ false) [
-  | None ↦ λ h. absurd (none-some _ (sym h))
-  | Some q ↦ λ h. unsigned_if ((n == 0) || nat_lt LAST n)
-      (nat_le n q.posted || is_some (held_at q n)) q.signed (nat_lt (q.posted + window) n) h
-]
+      | None ↦ λ h. absurd (none-some _ (sym h))
+      | Some q ↦ λ h. unsigned_if ((n == 0) || nat_lt LAST n)
+          (nat_le n q.posted || is_some (held_at q n)) q.signed (nat_lt (q.posted + window) n) h
+    ]

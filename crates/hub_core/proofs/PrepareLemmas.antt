@@ -103,8 +103,14 @@ judge_fault S depth c P Store bound list of h = absurd h
 judge_fault S depth c P OtherVersion bound list of h = h
 judge_fault S depth c P OtherSetup bound list of h = h
 judge_fault S depth c P (Damaged at) bound list of h =
-    inr (inl (record { depth = depth; bound = bound; entries = P; list = list; stationed = of;
-    wrong = h }))
+    inr (inl (record {
+      depth = depth;
+      bound = bound;
+      entries = P;
+      list = list;
+      stationed = of;
+      wrong = h;
+    }))
 
 pub not_judged : (store : Holding) (S : Museum) (depth : ℕ) (P : List Entry) (fault : StoreFault)
     → IsListed store S depth P → All (IsOfStation (length S.stations)) P
@@ -205,9 +211,12 @@ pub not_restored : (old mid new : Holding) (S : Museum) (fault : StoreFault)
     → Comes old new (IsNotOpened S fault)
 not_restored old mid new S fault bound still each =
     comes_so old new (IsBound S) (IsNotOpened S fault) (λ c. IsRestoreFault S c fault)
-    (λ c d step h. (restore_fault S c fault
-        (same_fault S d (bound_to S c) fault (same_back _ _ step) h), inr step))
-        (bound_on old mid new S bound still) each
+    (λ c d step h. (
+      restore_fault S c fault
+          (same_fault S d (bound_to S c) fault (same_back _ _ step) h),
+      inr step,
+    ))
+    (bound_on old mid new S bound still) each
 
 -- what is left of the list by binding
 list_before : (S : Museum) (c : Content) (P : List Entry) → HasList P (bound_to S c) → HasList P c
@@ -223,9 +232,12 @@ pub restored_from : (old mid new : Holding) (S : Museum) (L : Book) → Comes ol
     → Comes old new (λ c d. HasList L.posted c × IsBound S c d)
 restored_from old mid new S L bound still stored =
     comes_so old new (IsBound S) (λ c d. HasList L.posted c × IsBound S c d) (HasList L.posted)
-    (λ c d step has. (list_before S c L.posted
-        (same_list d (bound_to S c) (same_back _ _ step) L.posted has), step))
-        (bound_on old mid new S bound still) (λ quiet c held. (stored.each quiet c held).list)
+    (λ c d step has. (
+      list_before S c L.posted
+          (same_list d (bound_to S c) (same_back _ _ step) L.posted has),
+      step,
+    ))
+    (bound_on old mid new S bound still) (λ quiet c held. (stored.each quiet c held).list)
 
 -- a call counted no refusal, and the next one met a fault
 pub counts_err : (T U : Type 0) (old mid new : ℕ) (x : StoreFault) (r : Result U StoreFault)
@@ -234,8 +246,8 @@ pub counts_err : (T U : Type 0) (old mid new : ℕ) (x : StoreFault) (r : Result
 counts_err T U old mid new x r same counts is =
     let (y, err, told) = err_from_is_err_and r is in
     subst (λ (q : Result U StoreFault). CountsRefusal old new q) (sym err)
-        (subst (λ z. CountsRefusal {T = U} old new (Err z)) (sym told)
-        (subst (λ n. CountsRefusal {T = U} n new (Err x)) same (untyped x counts)))
+    (subst (λ z. CountsRefusal {T = U} old new (Err z)) (sym told)
+    (subst (λ n. CountsRefusal {T = U} n new (Err x)) same (untyped x counts)))
   where
     untyped : (z : StoreFault) → CountsRefusal {T = T} mid new (Err z)
         → CountsRefusal {T = U} mid new (Err z)

@@ -31,9 +31,10 @@ use Rattle.hub_core.specs.Openings.{IsFirstUnlawful, HasWrongRow, HasWrongEntry,
 of_stations : (S : Museum) (depth : ℕ) (P : List Entry) → IsLawful S depth P
     → AllByRecursion (IsOfStation (length S.stations)) P
 of_stations S depth [] law = tt
-of_stations S depth (e ∷ P) law = let next = law.0.next in
-    (record { known = law.0.known; first = omega (arith, next); few = law.0.few },
-    of_stations S depth P law.1)
+of_stations S depth (e ∷ P) law = let next = law.0.next in (
+  record { known = law.0.known; first = omega (arith, next); few = law.0.few },
+  of_stations S depth P law.1,
+)
 
 follows_in : (S : Museum) (depth : ℕ) (before after : List Entry) (e : Entry)
     → IsLawful S depth (after ++ e ∷ before) → Follows S depth before e
@@ -57,7 +58,7 @@ module _ (S : Museum) (depth : ℕ) (P : List Entry) (c : Content) (law : IsLawf
   no_other_version h =
       let none : has_other_version (rows_of_meta depth) ≡ false = refl in
       let same : has_other_version (rows_of_meta depth) ≡ has_other_version c.meta =
-          list_any-IsPermutation _ (rows_of_meta depth) c.meta store.bound.meta in
+      list_any-IsPermutation _ (rows_of_meta depth) c.meta store.bound.meta in
       absurd (cc)
 
   no_wrong_row : (at : ℕ) → HasWrongRow S c at → ⊥
@@ -68,12 +69,12 @@ module _ (S : Museum) (depth : ℕ) (P : List Entry) (c : Content) (law : IsLawf
   no_wrong_entry at h =
       let list : h.entries ≡ P = one_list h.entries P c h.list store.list in
       let limit : h.depth ≡ depth = one_depth h.depth depth
-          (IsPermutation-trans _ _ _ h.bound.meta (IsPermutation-sym _ _ store.bound.meta)) in
+      (IsPermutation-trans _ _ _ h.bound.meta (IsPermutation-sym _ _ store.bound.meta)) in
       let wrong : IsFirstUnlawful S depth P at =
-          subst (λ d. IsFirstUnlawful S d P at) limit
-          (subst (λ (O : List Entry). IsFirstUnlawful S h.depth O at) list h.wrong) in
+      subst (λ d. IsFirstUnlawful S d P at) limit
+      (subst (λ (O : List Entry). IsFirstUnlawful S h.depth O at) list h.wrong) in
       wrong.wrong (follows_in S depth wrong.before wrong.after wrong.entry
-          (subst (IsLawful S depth) wrong.all law))
+      (subst (IsLawful S depth) wrong.all law))
 
   no_other_rows : (at : ℕ) → HasOtherRows S c at → ⊥
   no_other_rows at h =
@@ -113,8 +114,8 @@ module _ (store : Holding) where
       → L' ≡ L → HasEither store L.museum L.depth L.posted next → HasSomeStore store L'
   some_of_either L L' next law follows same either =
       subst (λ (b : Book). HasSomeStore store b) (sym same)
-          (has_more store _ (λ c. (P : List Entry) × IsLawful L.museum L.depth P
-          × IsStoreOf L.museum L.depth P c) (λ c has. elim has [
+      (has_more store _ (λ c. (P : List Entry) × IsLawful L.museum L.depth P
+      × IsStoreOf L.museum L.depth P c) (λ c has. elim has [
         | inl is ↦ (L.posted, law, is)
         | inr is ↦ (post L.museum L.depth L.posted next, (follows, law), is)
       ]) either)
@@ -123,18 +124,22 @@ module _ (store : Holding) where
   pub some_opens : (book : Book) → HasSomeStore store book → OpensAgain store book.museum
   some_opens book has =
       has_more store _ (λ c. (fault : StoreFault) → IsOpenFault book.museum c fault
-          → is_failure fault ≡ true) (λ c some fault h. opens book.museum book.depth some.0 c fault
-          some.1 some.2 h) has
+      → is_failure fault ≡ true) (λ c some fault h. opens book.museum book.depth some.0 c fault
+      some.1 some.2 h) has
 
 -- a message that isn't posted leaves a store with a lawful list
 pub unposted : (old new : Holding) (L L' : Book) (next : Arrived Message)
     → IsLawful L.museum L.depth L.posted
     → Follows L.museum L.depth L.posted (entry_of L.museum L.depth L.posted next)
     → L' ≡ L → (HasStore old L → HasEither new L.museum L.depth L.posted next)
-        → LeavesUnposted old new L L' next
+    → LeavesUnposted old new L L' next
 unposted old new L L' next law follows same left =
-    record { ledger = same; left = left; lawful = λ had. some_of_either new L L' next law follows
-    same (left had) }
+    record {
+      ledger = same;
+      left = left;
+      lawful = λ had. some_of_either new L L' next law follows
+          same (left had);
+    }
 
 abbrev with_verdict : Entry → Verdict → Entry
 with_verdict e v = record { station = e.station; n = e.n; message = e.message; verdict = v }
@@ -160,8 +165,8 @@ module _ (old new : Holding) (L L' : Book) (e : Entry) (changes : Changes)
       → LeavesUnposted old new L L (arrival_of e)
   unstored comes = unposted old new L L (arrival_of e) lawful next refl
       (λ had. left_in old new L (arrival_of e) changes lawful next planned had
-          (subst (λ (x : Entry). Comes old new (λ c d. AreSame c d ⊎ IsPosted x changes c d)) own
-          comes))
+      (subst (λ (x : Entry). Comes old new (λ c d. AreSame c d ⊎ IsPosted x changes c d)) own
+      comes))
 
   -- the ledger failed
   pub unapplied : L' ≡ L → Comes old new (IsPosted e changes)
@@ -174,7 +179,7 @@ module _ (old new : Holding) (L L' : Book) (e : Entry) (changes : Changes)
       → Posts old new L L' (arrival_of e)
   posts is comes =
       let is' : L' ≡ record L { posted = entry_with (arrival_of e) changes ∷ L.posted } =
-          is ∙ ap (λ (x : Entry). record L { posted = x ∷ L.posted }) own in
+      is ∙ ap (λ (x : Entry). record L { posted = x ∷ L.posted }) own in
       record {
         ledger = posted_book L (arrival_of e) changes planned L' is';
         stored = λ had. stored_book old new L (arrival_of e) changes lawful next planned had L' is'
@@ -192,5 +197,5 @@ fails_so old new S T fault same again comes quiet = by (is_failure fault) refl
         absurd (again.some (comes.quiet quiet) (comes.some quiet (λ d held.
         let (c, was, cause) = comes.from quiet d held in
         let on = again.each (comes.quiet quiet) c was fault
-            (subst (λ (M : Museum). IsOpenFault M c fault) same cause.0) in
+        (subst (λ (M : Museum). IsOpenFault M c fault) same cause.0) in
         absurd (false≢true (sym off ∙ on)))))

@@ -95,7 +95,7 @@ more_lines c p false w h e = absurd (true≢false (sym e))
 pub after_hub_fault : {Q : Type 0} (S : Museum) (depth : ℕ) (O : List Entry) (A : List Arrival)
     (i i' o o' : Option (List ℕ)) (holding : Q → Holding) (hub : State Q) (fault : HubFault)
     → BrokenOff S depth O A i i' o o' holding hub
-        → AfterFault S depth O A i i' o o' holding hub (replay_fault fault)
+    → AfterFault S depth O A i i' o o' holding hub (replay_fault fault)
 after_hub_fault S depth O A i i' o o' holding hub hub_faults.NoMemory broken = broken
 after_hub_fault S depth O A i i' o o' holding hub hub_faults.Store broken = broken
 after_hub_fault S depth O A i i' o o' holding hub hub_faults.Down broken = broken
@@ -171,10 +171,10 @@ module _ {Q : Type 0} {S : Museum} {depth : ℕ} {O : List Entry} {A : List Arri
     fault_line WriteFailed =
         let same : u.bytes ≡ ended (u.bytes ++ t.0) = sym (ended_whole u.bytes t.0 u.whole t.2) in
         let front : text S depth O A u.bytes ≡ take (length (text S depth O A u.bytes))
-            (text S depth O A u.bytes) =
+        (text S depth O A u.bytes) =
         sym (ap (take (length (text S depth O A u.bytes)))
-            (sym (append-nil (text S depth O A u.bytes))) ∙ take-append_seam
-            (text S depth O A u.bytes) []) in
+        (sym (append-nil (text S depth O A u.bytes))) ∙ take-append_seam
+        (text S depth O A u.bytes) []) in
         record {
           bytes = u.bytes ++ t.0;
           at_end = false;
@@ -209,9 +209,9 @@ module _ {Q : Type 0} {S : Museum} {depth : ℕ} {O : List Entry} {A : List Arri
         (without_return held)
     arrived_now =
         ap (λ (B : List Arrival). A ++ B)
-            (arrivals_more S u.bytes l.takes.bytes fed u.whole l.takes.one)
+        (arrivals_more S u.bytes l.takes.bytes fed u.whole l.takes.one)
         ∙ (sym (append_assoc A (arrivals S u.bytes)
-            (line_arrivals S (without_return l.takes.bytes)))
+        (line_arrivals S (without_return l.takes.bytes)))
         ∙ ap (λ (B : List Arrival). (A ++ arrivals S u.bytes) ++ B) (sym sent_now))
 
     text_now : text S depth O A now ≡ text S depth O A u.bytes ++ line_reply S depth O
@@ -219,21 +219,21 @@ module _ {Q : Type 0} {S : Museum} {depth : ℕ} {O : List Entry} {A : List Arri
     text_now =
         text_more S depth O A u.bytes l.takes.bytes fed u.whole l.takes.one
         ∙ (ap (λ n. text S depth O A u.bytes ++ line_reply S depth O (A ++ arrivals S u.bytes) n
-            (without_return l.takes.bytes)) (sym u.number)
+        (without_return l.takes.bytes)) (sym u.number)
         ∙ (ap (λ (q : List ℕ). text S depth O A u.bytes ++ q)
-            (sym (kept_reply S l.most l.enough l.takes.bytes depth O
-            (A ++ arrivals S u.bytes) number))
+        (sym (kept_reply S l.most l.enough l.takes.bytes depth O
+        (A ++ arrivals S u.bytes) number))
         ∙ ap (λ (q : List ℕ). text S depth O A u.bytes ++ line_reply S depth O
-            (A ++ arrivals S u.bytes) number (without_return q)) (sym l.takes.kept)))
+        (A ++ arrivals S u.bytes) number (without_return q)) (sym l.takes.kept)))
 
     outcomes_now : outcomes S depth O A now ≡ outcomes S depth O A u.bytes ++ line_outcomes S depth
         O (A ++ arrivals S u.bytes) (without_return held)
     outcomes_now =
         outcomes_more S depth O A u.bytes l.takes.bytes fed u.whole l.takes.one
         ∙ (ap (λ (q : List Outcome). outcomes S depth O A u.bytes ++ q)
-            (sym (kept_outcomes S l.most l.enough l.takes.bytes depth O (A ++ arrivals S u.bytes)))
+        (sym (kept_outcomes S l.most l.enough l.takes.bytes depth O (A ++ arrivals S u.bytes)))
         ∙ ap (λ (q : List ℕ). outcomes S depth O A u.bytes ++ line_outcomes S depth O
-            (A ++ arrivals S u.bytes) (without_return q)) (sym l.takes.kept))
+        (A ++ arrivals S u.bytes) (without_return q)) (sym l.takes.kept))
 
     -- a fault before the reply is whole
     pub fault_memory : (new : State Q) (fault : HubFault)
@@ -242,7 +242,7 @@ module _ {Q : Type 0} {S : Museum} {depth : ℕ} {O : List Entry} {A : List Arri
     fault_memory new fault some =
         let line : List ℕ = l.takes.bytes ++ feed_if fed in
         let sent : arrivals S line ≡ line_arrivals S (without_return held) =
-            one_arrivals S l.takes.bytes fed l.takes.one ∙ sym sent_now in
+        one_arrivals S l.takes.bytes fed l.takes.one ∙ sym sent_now in
         after_hub_fault S depth O A i i2 o o2 holding new fault (record {
           before = u.bytes;
           line = line;
@@ -272,7 +272,7 @@ module _ {Q : Type 0} {S : Museum} {depth : ℕ} {O : List Entry} {A : List Arri
           → CutShort S depth O A i i2 o o3 holding new
       fault_write o3 w =
           let same : now ≡ lines_read (not fed) now =
-              sym (lines_now u.bytes l.takes.bytes fed u.whole l.takes.one) in
+          sym (lines_now u.bytes l.takes.bytes fed u.whole l.takes.one) in
           let m : ℕ = length (text S depth O A u.bytes) + w.0 in
           record {
             bytes = now;
@@ -342,11 +342,11 @@ module _ {Q : Type 0} {S : Museum} {depth : ℕ} {O : List Entry} {A : List Arri
             → has_seen (before ++ outcomes S depth O A now)
         seen_now before h =
             let whole : (before ++ outcomes S depth O A u.bytes) ++ came ≡ before ++ outcomes S
-                depth O A now =
+            depth O A now =
             append_assoc before (outcomes S depth O A u.bytes) came
             ∙ ap (λ (q : List Outcome). before ++ q)
-                (ap (λ (q : List Outcome). outcomes S depth O A u.bytes ++ q) is
-                ∙ sym outcomes_now) in
+            (ap (λ (q : List Outcome). outcomes S depth O A u.bytes ++ q) is
+            ∙ sym outcomes_now) in
             subst has_seen whole (shown (before ++ outcomes S depth O A u.bytes) (seen before h))
 
         pub watched_more : (o3 : Option (List ℕ)) → Appends o2 o3 reply → fed ≡ true
@@ -364,15 +364,17 @@ pub whole_input : {Q : Type 0} (S : Museum) (depth : ℕ) (O : List Entry) (A : 
     (i i' o o' : Option (List ℕ)) (holding : Q → Holding) (hub : State Q)
     → Answered S depth O A i i' o o' holding hub true
     → IfSome i (λ bytes. IsAtEnd i' × Appends o o' (text S depth O A bytes)
-        × StandsFor holding hub O (A ++ arrivals S bytes))
+    × StandsFor holding hub O (A ++ arrivals S bytes))
 whole_input S depth O A None i' o o' holding hub a = tt
 whole_input S depth O A (Some xs) None o o' holding hub a = absurd a.read
 whole_input S depth O A (Some xs) (Some ys) o o' holding hub a =
     let none : ys ≡ [] = a.end refl in
     let same : a.bytes ≡ xs =
-        sym (a.read ∙ ap (λ (q : List ℕ). a.bytes ++ q) none ∙ append-nil a.bytes) in
-    (none, subst (λ (c : List ℕ). Appends o o' (text S depth O A c)) same a.written,
-        subst (λ (c : List ℕ). StandsFor holding hub O (A ++ arrivals S c)) same a.stands)
+    sym (a.read ∙ ap (λ (q : List ℕ). a.bytes ++ q) none ∙ append-nil a.bytes) in (
+      none,
+      subst (λ (c : List ℕ). Appends o o' (text S depth O A c)) same a.written,
+      subst (λ (c : List ℕ). StandsFor holding hub O (A ++ arrivals S c)) same a.stands,
+    )
 
 -- what a watch has seen of it
 pub whole_seen : {Q : Type 0} (S : Museum) (depth : ℕ) (O : List Entry) (A : List Arrival)
@@ -380,21 +382,21 @@ pub whole_seen : {Q : Type 0} (S : Museum) (depth : ℕ) (O : List Entry) (A : L
     (had_seen has_seen : List Outcome → Type 0)
     → Watched S depth O A i i' o o' holding hub had_seen has_seen
     → IfSome i (λ bytes. (before : List Outcome) → had_seen before
-        → has_seen (before ++ outcomes S depth O A bytes))
+    → has_seen (before ++ outcomes S depth O A bytes))
 whole_seen S depth O A None i' o o' holding hub had_seen has_seen w = tt
 whole_seen S depth O A (Some xs) None o o' holding hub had_seen has_seen w = absurd w.all.read
 whole_seen S depth O A (Some xs) (Some ys) o o' holding hub had_seen has_seen w =
     let none : ys ≡ [] = w.all.end refl in
     let same : w.all.bytes ≡ xs =
-        sym (w.all.read ∙ ap (λ (q : List ℕ). w.all.bytes ++ q) none ∙ append-nil w.all.bytes) in
+    sym (w.all.read ∙ ap (λ (q : List ℕ). w.all.bytes ++ q) none ∙ append-nil w.all.bytes) in
     λ before h. subst (λ (c : List ℕ). has_seen (before ++ outcomes S depth O A c)) same
-        (w.seen before h)
+    (w.seen before h)
 
 -- what came of this line at a hub with this museum and depth
 pub came_at : {S S' : Museum} {depth depth' : ℕ} {line line' : List ℕ} {P P' : List Entry} → S' ≡ S
     → depth' ≡ depth → line' ≡ line → P' ≡ P → (said : Reply) (O : List Entry) (A : List Arrival)
     → reply_outcomes P said ≡ line_outcomes S' depth' O A line'
-        → reply_outcomes P' said ≡ line_outcomes S depth O A line
+    → reply_outcomes P' said ≡ line_outcomes S depth O A line
 came_at {S} {S'} {depth} {depth'} {line} {line'} {P} {P'} s d l p said O A h =
     ap (λ (Q : List Entry). reply_outcomes Q said) p
     ∙ (h
@@ -407,15 +409,15 @@ pub told_at : {Q : Type 0} {S S' : Museum} {depth depth' : ℕ} {line line' repl
     → S' ≡ S → depth' ≡ depth → line' ≡ line → reply' ≡ reply
     → (holding : Q → Holding) (new : State Q) (O : List Entry) (A : List Arrival) (number : ℕ)
     → (reply ≡ line_reply S' depth' O A number line')
-        × StandsFor holding new O (A ++ line_arrivals S' line')
-        → LineTold S depth O A number line holding new reply'
+    × StandsFor holding new O (A ++ line_arrivals S' line')
+    → LineTold S depth O A number line holding new reply'
 told_at {Q} {S} {S'} {depth} {depth'} {line} {line'} {reply} s d l r holding new O A number h =
     let at = subst (λ (M : Museum). (reply ≡ line_reply M depth O A number line)
-        × StandsFor holding new O (A ++ line_arrivals M line)) s
+    × StandsFor holding new O (A ++ line_arrivals M line)) s
     (subst (λ n. (reply ≡ line_reply S' n O A number line)
-        × StandsFor holding new O (A ++ line_arrivals S' line)) d
+    × StandsFor holding new O (A ++ line_arrivals S' line)) d
     (subst (λ (q : List ℕ). (reply ≡ line_reply S' depth' O A number q)
-        × StandsFor holding new O (A ++ line_arrivals S' q)) l h)) in
+    × StandsFor holding new O (A ++ line_arrivals S' q)) l h)) in
     record { told = r ∙ at.0; stands = at.1 }
 
 pub some_at : {Q : Type 0} (S S' : Museum) (line line' : List ℕ) (holding : Q → Holding)
@@ -424,7 +426,7 @@ pub some_at : {Q : Type 0} (S S' : Museum) (line line' : List ℕ) (holding : Q 
     → TakesSome holding new O A (line_arrivals S line)
 some_at S S' line line' holding new O A s l h =
     subst (λ (M : Museum). TakesSome holding new O A (line_arrivals M line)) s
-        (subst (λ (q : List ℕ). TakesSome holding new O A (line_arrivals S' q)) l h)
+    (subst (λ (q : List ℕ). TakesSome holding new O A (line_arrivals S' q)) l h)
 
 -- how often the store has refused after a fault
 abbrev pub count_after : ℕ → ReplayFault → ℕ
@@ -459,10 +461,15 @@ module _ {Q T : Type 0} (holding : Q → Holding) (refusals : Q → ℕ) (i i' o
       → ((O : List Entry) (A : List Arrival) → StandsFor holding old O A
       → AfterFault old.book.museum old.book.depth O A i i' o o' holding new fault)
       → refusals new.register ≡ count_after (refusals old.register) fault
-          → EndsReplay {T = T} holding refusals i i' o o' old new (Err fault)
+      → EndsReplay {T = T} holding refusals i i' o o' old new (Err fault)
   ends_fault fault after count =
-      record { faults = after; up = tt; count = counted fault count; museum = museum;
-      depth = depth }
+      record {
+        faults = after;
+        up = tt;
+        count = counted fault count;
+        museum = museum;
+        depth = depth;
+      }
     where
       counted : (fault : ReplayFault)
           → refusals new.register ≡ count_after (refusals old.register) fault
@@ -476,7 +483,7 @@ module _ {Q T : Type 0} (holding : Q → Holding) (refusals : Q → ℕ) (i i' o
       → ((O : List Entry) (A : List Arrival) → StandsFor holding old O A
       → AfterFault old.book.museum old.book.depth O A i i' o o' holding new fault)
       → refusals new.register ≡ count_after (refusals old.register) fault
-          → EndsReplay holding refusals i i' o o' old new r
+      → EndsReplay holding refusals i i' o o' old new r
   ends_err (Ok x) fault is after count = absurd is
   ends_err (Err y) fault is after count =
       subst (λ f. EndsReplay {T = T} holding refusals i i' o o' old new (Err f)) (sym is)
@@ -486,8 +493,8 @@ module _ {Q T : Type 0} (holding : Q → Holding) (refusals : Q → ℕ) (i i' o
   pub ends_flush : (r : Result T ReplayFault) → IfErr r (λ y. y ≡ WriteFailed) → new.down ≡ false
       → refusals new.register ≡ refusals old.register
       → ((O : List Entry) (A : List Arrival) → StandsFor holding old O A
-          → AfterFault old.book.museum old.book.depth O A i i' o o' holding new WriteFailed)
-          → EndsReplay holding refusals i i' o o' old new r
+      → AfterFault old.book.museum old.book.depth O A i i' o o' holding new WriteFailed)
+      → EndsReplay holding refusals i i' o o' old new r
   ends_flush (Ok x) is up count after =
       record { faults = tt; up = up; count = count; museum = museum; depth = depth }
   ends_flush (Err y) is up count after =

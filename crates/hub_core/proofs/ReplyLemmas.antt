@@ -17,7 +17,7 @@ zero_more k = omega arith
 module _ (S : Museum) (depth : ℕ) (O : List Entry) where
   replies_more : (A : List Arrival) (k : ℕ) (xs : List (List ℕ)) (line : List ℕ)
       → replies S depth O A k (xs ++ line ∷ []) ≡ replies S depth O A k xs ++ line_reply S depth O
-          (A ++ flat_map (line_arrivals S) xs) (length xs + k) line
+      (A ++ flat_map (line_arrivals S) xs) (length xs + k) line
   replies_more A k [] line =
       append-nil (line_reply S depth O A k line)
       ∙ ap (λ (B : List Arrival). line_reply S depth O B k line) (sym (append-nil A))
@@ -26,15 +26,15 @@ module _ (S : Museum) (depth : ℕ) (O : List Entry) where
       ap (λ (t : List ℕ). line_reply S depth O A k x ++ t)
       (replies_more (A ++ line_arrivals S x) (k + 1) xs line
       ∙ ap (λ (B : List Arrival). replies S depth O (A ++ line_arrivals S x) (k + 1) xs
-          ++ line_reply S depth O B (length xs + (k + 1)) line)
-          (append_assoc A (line_arrivals S x) (flat_map (line_arrivals S) xs))
+      ++ line_reply S depth O B (length xs + (k + 1)) line)
+      (append_assoc A (line_arrivals S x) (flat_map (line_arrivals S) xs))
       ∙ ap (λ n. replies S depth O (A ++ line_arrivals S x) (k + 1) xs ++ line_reply S depth O
-          (A ++ (line_arrivals S x ++ flat_map (line_arrivals S) xs)) n line) (omega arith))
+      (A ++ (line_arrivals S x ++ flat_map (line_arrivals S) xs)) n line) (omega arith))
       ∙ sym (append_assoc (line_reply S depth O A k x) _ _)
 
   outcomes_of_more : (A : List Arrival) (xs : List (List ℕ)) (line : List ℕ)
       → all_outcomes S depth O A (xs ++ line ∷ []) ≡ all_outcomes S depth O A xs ++ line_outcomes S
-          depth O (A ++ flat_map (line_arrivals S) xs) line
+      depth O (A ++ flat_map (line_arrivals S) xs) line
   outcomes_of_more A [] line =
       append-nil (line_outcomes S depth O A line)
       ∙ ap (λ (B : List Arrival). line_outcomes S depth O B line) (sym (append-nil A))
@@ -42,8 +42,8 @@ module _ (S : Museum) (depth : ℕ) (O : List Entry) where
       ap (λ (t : List Outcome). line_outcomes S depth O A x ++ t)
       (outcomes_of_more (A ++ line_arrivals S x) xs line
       ∙ ap (λ (B : List Arrival). all_outcomes S depth O (A ++ line_arrivals S x) xs
-          ++ line_outcomes S depth O B line)
-          (append_assoc A (line_arrivals S x) (flat_map (line_arrivals S) xs)))
+      ++ line_outcomes S depth O B line)
+      (append_assoc A (line_arrivals S x) (flat_map (line_arrivals S) xs)))
       ∙ sym (append_assoc (line_outcomes S depth O A x) _ _)
 
 sent_more : (S : Museum) (xs : List (List ℕ)) (line : List ℕ)
@@ -62,7 +62,7 @@ lines_fed : (c p : List ℕ) → IsWhole c → HasNoFeed p
     → lines (c ++ (p ++ 10 ∷ [])) ≡ lines c ++ without_return p ∷ []
 lines_fed c p w h =
     ap (map line_of) (w.cut (p ++ 10 ∷ []) ∙ ap (λ (q : List (List ℕ)). pieces c ++ q)
-        (pieces_fed p [] h))
+    (pieces_fed p [] h))
     ∙ map_more (pieces c) (p ++ 10 ∷ [])
     ∙ ap (λ (l : List ℕ). lines c ++ l ∷ []) (line_fed p h)
 
@@ -77,7 +77,7 @@ module _ (S : Museum) (depth : ℕ) (O : List Entry) (A : List Arrival) where
   -- one more line, which a line feed ends or the input
   pub text_more : (c p : List ℕ) (fed : Bool) → IsWhole c → HasNoFeed p
       → text S depth O A (c ++ (p ++ feed_if fed)) ≡ text S depth O A c ++ line_reply S depth O
-          (A ++ arrivals S c) (length (lines c) + 1) (without_return p)
+      (A ++ arrivals S c) (length (lines c) + 1) (without_return p)
   text_more c p true w h = ap (replies S depth O A 1) (lines_fed c p w h) ∙ replies_more S depth O A
       1 (lines c) (without_return p)
   text_more c [] false w h = ap (text S depth O A) (append-nil c)
@@ -90,7 +90,7 @@ module _ (S : Museum) (depth : ℕ) (O : List Entry) (A : List Arrival) where
   -- what comes of it
   pub outcomes_more : (c p : List ℕ) (fed : Bool) → IsWhole c → HasNoFeed p
       → outcomes S depth O A (c ++ (p ++ feed_if fed)) ≡ outcomes S depth O A c ++ line_outcomes S
-          depth O (A ++ arrivals S c) (without_return p)
+      depth O (A ++ arrivals S c) (without_return p)
   outcomes_more c p true w h = ap (all_outcomes S depth O A) (lines_fed c p w h) ∙ outcomes_of_more
       S depth O A (lines c) (without_return p)
   outcomes_more c [] false w h =

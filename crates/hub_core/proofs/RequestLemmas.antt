@@ -36,7 +36,7 @@ pub of_object : (S : Museum) (d : Data) (text : List ℕ) (request : Request)
     → line_of S d ≡ Ok (record { station = find_station S text; request = request })
 of_object S d text request is there asked =
     let none : fault_at d (Station spells (λ _. true)) ≡ None =
-        text_fault Station (λ _. true) (get (key_name Station) d) text there in
+    text_fault Station (λ _. true) (get (key_name Station) d) text there in
     rw (is, none, asked, there) refl
 
 -- the same, whatever the station

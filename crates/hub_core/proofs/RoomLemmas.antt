@@ -22,7 +22,7 @@ digits_few n small = length-decimal-le 20 n (omega arith) (omega (arith, small))
 short_by_test : (name : List ℕ) → is_station_name name ≡ true → length name ≤ 16
 short_by_test name h =
     let sized : (nat_lt 0 (length name) && nat_le (length name) 16) ≡ true =
-        (and_parts _ (list_all is_station_byte name) h).0 in
+    (and_parts _ (list_all is_station_byte name) h).0 in
     let short : nat_le (length name) 16 ≡ true = (and_parts (nat_lt 0 (length name)) _ sized).1 in
     grind (arith, nat_tests)
 

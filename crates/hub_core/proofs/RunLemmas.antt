@@ -65,10 +65,13 @@ only_memory S (store.Damaged at) (inr (inr (inl wrong))) count =
     absurd (omega (arith, length-append wrong.wrong.after (wrong.wrong.entry ∷ wrong.wrong.before)))
 only_memory S (store.Damaged at) (inr (inr (inr wrong))) count =
     let none = nil_from_length wrong.entries
-        (no_entries wrong.entries (bound_to S nothing) refl wrong.list) in
+    (no_entries wrong.entries (bound_to S nothing) refl wrong.list) in
     let has : HasRows S [] (bound_to S nothing) =
-        record { spots = IsPermutation-refl []; lines = IsPermutation-refl [];
-        terms = IsPermutation-refl [] } in
+    record {
+      spots = IsPermutation-refl [];
+      lines = IsPermutation-refl [];
+      terms = IsPermutation-refl [];
+    } in
     absurd (wrong.wrong (subst (λ P. HasRows S P (bound_to S nothing)) (sym none) has))
 
 -- nothing, in any order
@@ -87,15 +90,15 @@ pub opened_fresh : (S : Museum) (register : Kept) (hub : State Kept) → registe
     → Opened in_memory S register hub → IsFresh hub S
 opened_fresh S register hub new opened =
     let (c, was, step) = opened.comes.from tt hub.register.content
-        (same_itself hub.register.content) in
+    (same_itself hub.register.content) in
     let is : c ≡ nothing = only_nothing c (subst (λ (k : Content). AreSame k c) new was) in
     let store = opened.stands.stored.each tt hub.register.content
-        (same_itself hub.register.content) in
+    (same_itself hub.register.content) in
     let empty : hub.book.posted ≡ [] =
-        nil_from_length hub.book.posted
-        (no_entries hub.book.posted c (ap (λ (k : Content). k.postings) is) step.0) in
+    nil_from_length hub.book.posted
+    (no_entries hub.book.posted c (ap (λ (k : Content). k.postings) is) step.0) in
     let at : AreSame (bound_to S nothing) hub.register.content =
-        subst (λ (k : Content). AreSame (bound_to S k) hub.register.content) is step.1 in
+    subst (λ (k : Content). AreSame (bound_to S k) hub.register.content) is step.1 in
     let meta = IsPermutation-trans _ _ _ store.bound.meta (IsPermutation-sym _ _ at.meta) in
     record {
       museum = opened.setup;
@@ -120,10 +123,10 @@ opens_hub None i1 taken given setup hub at takes none is fresh = tt
 opens_hub (Some bytes) i1 taken given setup hub at (is_head, short, left) none is fresh =
     let all : given ≡ head bytes = at ∙ is_head in
     let few : length (head bytes) ≤ LONGEST_HEAD =
-        subst (λ (l : List ℕ). length l ≤ LONGEST_HEAD) is_head short in
+    subst (λ (l : List ℕ). length l ≤ LONGEST_HEAD) is_head short in
     let within : nat_lt LONGEST_HEAD (length (head bytes)) ≡ false = grind (arith, nat_tests) in
     let whole : setup_fault (head bytes) ≡ None =
-        subst (λ (l : List ℕ). setup_fault l ≡ None) all none in (
+    subst (λ (l : List ℕ). setup_fault l ≡ None) all none in (
       ap (λ t. if t then Some HeadTooLong else option_map Setup (setup_fault (head bytes))) within
           ∙ ap (option_map Setup) whole,
       left,
@@ -134,29 +137,29 @@ opens_hub (Some bytes) i1 taken given setup hub at (is_head, short, left) none i
 -- the lines after the head are all answered
 pub lines_answered : (i i1 i2 o o' : Option (List ℕ)) (hub new : State Kept) → OpensHub i i1 hub
     → ((O : List Entry) (A : List Arrival) → StandsFor in_memory hub O A
-        → Answered hub.book.museum hub.book.depth O A i1 i2 o o' in_memory new true)
+    → Answered hub.book.museum hub.book.depth O A i1 i2 o o' in_memory new true)
     → IfSome i (λ bytes. (head_fault (head bytes) ≡ None) × IsAtEnd i2
-        × Appends o o' (run_text bytes))
+    × Appends o o' (run_text bytes))
 lines_answered None i1 i2 o o' hub new opens answered = tt
 lines_answered (Some bytes) i1 i2 o o' hub new opens answered =
     let fresh = opens.2 in
     let all : Answered (setup_in bytes) NEW_DEPTH [] [] (Some (after_head bytes)) i2 o o'
-        in_memory new true =
+    in_memory new true =
     subst (λ (S : Museum). Answered S NEW_DEPTH [] [] (Some (after_head bytes)) i2 o o' in_memory
-        new true) fresh.museum
+    new true) fresh.museum
     (subst (λ depth. Answered hub.book.museum depth [] [] (Some (after_head bytes)) i2 o o'
-        in_memory new true) fresh.depth
+    in_memory new true) fresh.depth
     (subst (λ (left : Option (List ℕ)). Answered hub.book.museum hub.book.depth [] [] left i2 o o'
-        in_memory new true) opens.1 (answered [] [] fresh.stands))) in
+    in_memory new true) opens.1 (answered [] [] fresh.stands))) in
     let whole = whole_input (setup_in bytes) NEW_DEPTH [] [] (Some (after_head bytes)) i2 o o'
-        in_memory new all in
+    in_memory new all in
     (opens.0, whole.0, whole.1)
 
 -- a fault in them
 pub lines_fault : (i i1 i2 o o' : Option (List ℕ)) (hub new : State Kept) (fault : ReplayFault)
     → OpensHub i i1 hub
     → ((O : List Entry) (A : List Arrival) → StandsFor in_memory hub O A
-        → AfterFault hub.book.museum hub.book.depth O A i1 i2 o o' in_memory new fault)
+    → AfterFault hub.book.museum hub.book.depth O A i1 i2 o o' in_memory new fault)
     → InLines i i2 o o' fault
 lines_fault None i1 i2 o o' hub new fault opens after = tt
 lines_fault (Some bytes) i1 i2 o o' hub new fault opens after =
@@ -167,9 +170,9 @@ lines_fault (Some bytes) i1 i2 o o' hub new fault opens after =
         subst (λ (S : Museum). AfterFault S NEW_DEPTH [] [] (Some (after_head bytes)) i2 o o'
             in_memory new fault) fresh.museum
             (subst (λ depth. AfterFault hub.book.museum depth [] [] (Some (after_head bytes)) i2 o
-                o' in_memory new fault) fresh.depth
+            o' in_memory new fault) fresh.depth
             (subst (λ (left : Option (List ℕ)). AfterFault hub.book.museum hub.book.depth [] [] left
-                i2 o o' in_memory new fault) opens.1 (after [] [] fresh.stands))),
+            i2 o o' in_memory new fault) opens.1 (after [] [] fresh.stands))),
       ),
     )
 

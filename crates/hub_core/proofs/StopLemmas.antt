@@ -24,8 +24,8 @@ unbroken_ready taken s n h =
     (λ lt.
     let e : n ≡ suc k + (n - suc k) = omega arith in
     let on : unbroken is_sign_off taken s (suc k) ≡ true =
-        down (unbroken is_sign_off taken s) (unbroken_down is_sign_off taken s) (suc k) (n - suc k)
-        (ap (unbroken is_sign_off taken s) (sym e) ∙ h) in
+    down (unbroken is_sign_off taken s) (unbroken_down is_sign_off taken s) (suc k) (n - suc k)
+    (ap (unbroken is_sign_off taken s) (sym e) ∙ h) in
     let off : unbroken is_sign_off taken s (suc k) ≡ false = ready_fails is_sign_off taken s in
     absurd (cc))
     (λ ge. ge)
@@ -37,42 +37,42 @@ pub due_ready : (taken : List (Arrived Message)) (s n : ℕ) (m : Message)
     → (series_at all' s).posted ≡ n → n ≤ ready is_sign_off taken s
 due_ready taken s n m all' d is = unbroken_ready taken s n
     (⊎_elim (λ on. ap (unbroken is_sign_off taken s) (sym is) ∙ (d.ends on).here.whole)
-        (λ off. ap (unbroken is_sign_off taken s) (sym is) ∙ (d.goes_on off).here.whole)
-        (cases_Bool (is_sign_off m)))
+    (λ off. ap (unbroken is_sign_off taken s) (sym is) ∙ (d.goes_on off).here.whole)
+    (cases_Bool (is_sign_off m)))
 
 -- what is due, with the message at which it stops
 due_parts : (taken : List (Arrived Message)) (s k j z : ℕ) (m : Message) → k ≤ j → suc j ≤ z
     → message_at taken s (suc j) ≡ Some m
     → due taken s k (z - k) ≡ due taken s k (j - k) ++ arrived s (suc j) m ∷ due taken s
-        (suc j) (z - suc j)
+    (suc j) (z - suc j)
 due_parts taken s k j z m low high at =
     let sum : z - k ≡ (suc j - k) + (z - suc j) = omega arith in
     let mid : k + (suc j - k) ≡ suc j = omega arith in
     ap (due taken s k) sum ∙ (due_split taken s k (suc j - k) (z - suc j)
     ∙ (ap (λ i. due taken s k (suc j - k) ++ due taken s i (z - suc j)) mid
     ∙ (ap (λ (xs : List (Arrived Message)). xs ++ due taken s (suc j) (z - suc j))
-        (due_next taken s k j m low at)
+    (due_next taken s k j m low at)
     ∙ append_assoc (due taken s k (j - k)) (arrived s (suc j) m ∷ [])
-        (due taken s (suc j) (z - suc j)))))
+    (due taken s (suc j) (z - suc j)))))
 
 module _ (store : Holding) where
   pub stopped_at : (S : Museum) (depth : ℕ) (taken : List (Arrived Message)) (s k n : ℕ)
       (before : List Entry) (L L' : Book) (all all' : List (Series Message)) (m : Message)
       → Caught S depth taken s k before all L.posted → n ≡ (series_at all s).posted + 1
-          → ComesDue is_sign_off taken s n m all' → (series_at all' s).posted ≡ n
+      → ComesDue is_sign_off taken s n m all' → (series_at all' s).posted ≡ n
       → L.museum ≡ S → L.depth ≡ depth → L' ≡ L
-          → HasEither store L.museum L.depth L.posted (arrived s n m)
+      → HasEither store L.museum L.depth L.posted (arrived s n m)
       → Stopped store S depth before (due taken s k (ready is_sign_off taken s - k)) L'.posted
   stopped_at S depth taken s k n before L L' all all' m c e d is museum limit same left =
       let j : ℕ = (series_at all s).posted in
       let q : n ≡ suc j = omega arith in
       let high : suc j ≤ ready is_sign_off taken s =
-          omega (arith, due_ready taken s n m all' d is) in
+      omega (arith, due_ready taken s n m all' d is) in
       let at : message_at taken s (suc j) ≡ Some m = ap (message_at taken s) (sym q) ∙ d.message in
       let list : L'.posted ≡ L.posted = ap (λ (b : Book). b.posted) same in
       let here : HasEither store S depth L.posted (arrived s n m) =
-          subst (λ (S' : Museum). HasEither store S' depth L.posted (arrived s n m)) museum
-          (subst (λ z. HasEither store L.museum z L.posted (arrived s n m)) limit left) in
+      subst (λ (S' : Museum). HasEither store S' depth L.posted (arrived s n m)) museum
+      (subst (λ z. HasEither store L.museum z L.posted (arrived s n m)) limit left) in
       record {
         done = due taken s k (j - k);
         next = arrived s n m;

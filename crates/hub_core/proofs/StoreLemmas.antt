@@ -28,13 +28,16 @@ use Rattle.hub_core.specs.StandsFor.{HasStore, HasEither}
 store_next : (S : Museum) (depth : ℕ) (P : List Entry) (e : Entry) (row : PostingRow)
     (changes : Changes) (c : Content)
     → IsLawful S depth P → Follows S depth P e → IsPostingRow (length P + 1) e row
-        → written S P e ≡ changes.spots
-        → (if is_applied e.verdict then new_lines S P e.message else []) ≡ changes.lines
+    → written S P e ≡ changes.spots
+    → (if is_applied e.verdict then new_lines S P e.message else []) ≡ changes.lines
     → IsStoreOf S depth P c → IsStoreOf S depth (e ∷ P) (with_posted row e changes c)
 store_next S depth P e row changes c lawful follows is wrote lined store = record {
   bound = record { setup = store.bound.setup; meta = store.bound.meta; limit = store.bound.limit };
-  list = record { rows = row ∷ store.list.rows; each = (is, store.list.each);
-      all = IsPermutation-cons row _ _ store.list.all };
+  list = record {
+    rows = row ∷ store.list.rows;
+    each = (is, store.list.each);
+    all = IsPermutation-cons row _ _ store.list.all;
+  };
   rows = record {
     spots = subst (λ (xs : List NewSpot). IsPermutation (rows_of_spots S (e ∷ P))
         (map spot_row (reverse xs) ++ c.spots)) wrote
@@ -51,22 +54,30 @@ pub store_posted : (L : Book) (r : Arrived Message) (changes : Changes) (row : P
     (c : Content) → IsLawful L.museum L.depth L.posted
     → Follows L.museum L.depth L.posted (entry_of L.museum L.depth L.posted r)
     → changes ≡ changes_of L r.message
-        → IsPostingRow changes.entry (record { station = r.station; n = r.n; message = r.message;
-        verdict = changes.verdict }) row → IsStoreOf L.museum L.depth L.posted c
+    → IsPostingRow changes.entry (record {
+      station = r.station;
+      n = r.n;
+      message = r.message;
+      verdict = changes.verdict;
+    }) row → IsStoreOf L.museum L.depth L.posted c
     → IsStoreOf L.museum L.depth (post L.museum L.depth L.posted r)
-        (with_posted row (record { station = r.station; n = r.n; message = r.message;
-        verdict = changes.verdict }) changes c)
+    (with_posted row (record {
+      station = r.station;
+      n = r.n;
+      message = r.message;
+      verdict = changes.verdict;
+    }) changes c)
 store_posted L r changes row c lawful follows planned is store =
     subst (λ v. IsStoreOf L.museum L.depth (post L.museum L.depth L.posted r)
-        (with_posted row (record { station = r.station; n = r.n; message = r.message; verdict = v })
-        changes c)) (ap (λ (x : Changes). x.verdict) (sym planned))
+    (with_posted row (record { station = r.station; n = r.n; message = r.message; verdict = v })
+    changes c)) (ap (λ (x : Changes). x.verdict) (sym planned))
     (store_next L.museum L.depth L.posted (entry_of L.museum L.depth L.posted r) row changes c
-        lawful follows
+    lawful follows
     (subst (λ (x : Changes). IsPostingRow x.entry
-        (record { station = r.station; n = r.n; message = r.message; verdict = x.verdict })
-        row) planned is)
+    (record { station = r.station; n = r.n; message = r.message; verdict = x.verdict })
+    row) planned is)
     (ap (λ (x : Changes). x.spots) (sym planned))
-        (ap (λ (x : Changes). x.lines) (sym planned)) store)
+    (ap (λ (x : Changes). x.lines) (sym planned)) store)
 
 -- a store says one depth limit
 pub one_depth : (d e : ℕ) → IsPermutation (rows_of_meta d) (rows_of_meta e) → d ≡ e
@@ -75,8 +86,12 @@ one_depth d e same = let sums = sum_by-IsPermutation (λ (row : MetaRow). nat_ab
 
 -- the entry of a message, as the register takes it
 abbrev pub entry_with : Arrived Message → Changes → Entry
-entry_with r changes = record { station = r.station; n = r.n; message = r.message;
-    verdict = changes.verdict }
+entry_with r changes = record {
+  station = r.station;
+  n = r.n;
+  message = r.message;
+  verdict = changes.verdict;
+}
 
 -- the ledger with the entry that the changes tell
 pub posted_book : (L : Book) (r : Arrived Message) (changes : Changes)
@@ -103,8 +118,8 @@ module _ (old new : Holding) (L : Book) (r : Arrived Message) (changes : Changes
       → IsStoreOf L.museum L.depth (post L.museum L.depth L.posted r) d
   step_posted c d store step =
       same_store (with_posted step.0 (entry_with r changes) changes c) d step.2 L.museum L.depth
-          (post L.museum L.depth L.posted r)
-          (store_posted L r changes step.0 c lawful follows planned step.1 store)
+      (post L.museum L.depth L.posted r)
+      (store_posted L r changes step.0 c lawful follows planned step.1 store)
 
   -- what the store has after the posting
   pub stored_in : Comes old new (IsPosted (entry_with r changes) changes)
@@ -118,8 +133,8 @@ module _ (old new : Holding) (L : Book) (r : Arrived Message) (changes : Changes
       → HasEither new L.museum L.depth L.posted r
   left_in comes =
       comes_has old new (λ c d. AreSame c d ⊎ IsPosted (entry_with r changes) changes c d)
-          (IsStoreOf L.museum L.depth L.posted) (λ c. IsStoreOf L.museum L.depth L.posted c
-          ⊎ IsStoreOf L.museum L.depth (post L.museum L.depth L.posted r) c)
+      (IsStoreOf L.museum L.depth L.posted) (λ c. IsStoreOf L.museum L.depth L.posted c
+      ⊎ IsStoreOf L.museum L.depth (post L.museum L.depth L.posted r) c)
       (λ c d store step. elim step [
         | inl same ↦ inl (same_store c d same L.museum L.depth L.posted store)
         | inr more ↦ inr (step_posted c d store more)

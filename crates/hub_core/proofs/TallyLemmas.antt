@@ -95,20 +95,28 @@ record IsWide (t : Tally) : Type 0 where
   pub posted : length t.posted ≡ VERDICTS
 
 wide_start : IsWide nothing_seen
-wide_start = record { refused = length-replicate {A = ℕ} REFUSALS 0;
-    posted = length-replicate {A = ℕ} VERDICTS 0 }
+wide_start = record {
+  refused = length-replicate {A = ℕ} REFUSALS 0;
+  posted = length-replicate {A = ℕ} VERDICTS 0;
+}
 
 wide_after : (t : Tally) (o : Outcome) → IsWide t → IsWide (tallied t o)
 wide_after t Answered w = record { refused = w.refused; posted = w.posted }
 wide_after t Bad w = record { refused = w.refused; posted = w.posted }
 wide_after t UnknownStation w = record { refused = w.refused; posted = w.posted }
 wide_after t (Refused r) w =
-    record { refused = length-set t.refused (refusal_place r)
-    (one_more (slice_index t.refused (refusal_place r))) ∙ w.refused; posted = w.posted }
+    record {
+      refused = length-set t.refused (refusal_place r)
+          (one_more (slice_index t.refused (refusal_place r))) ∙ w.refused;
+      posted = w.posted;
+    }
 wide_after t Held w = record { refused = w.refused; posted = w.posted }
 wide_after t (Posted v) w =
-    record { refused = w.refused; posted = length-set t.posted (verdict_number v)
-    (one_more (slice_index t.posted (verdict_number v))) ∙ w.posted }
+    record {
+      refused = w.refused;
+      posted = length-set t.posted (verdict_number v)
+          (one_more (slice_index t.posted (verdict_number v))) ∙ w.posted;
+    }
 wide_after t Asked w = record { refused = w.refused; posted = w.posted }
 
 -- one more entry
@@ -127,9 +135,9 @@ posted_clean counts v (suc n) x wide is not =
     let rest : length (drop 1 counts) + 1 ≡ VERDICTS = behind_length counts wide in
     ap (λ (xs : List ℕ). list_all (λ n. n == 0) (take (VERDICTS - 1) xs)) (behind counts n x)
     ∙ (some_not_0 (drop 1 counts) n (VERDICTS - 1) x (omega (arith, below, is, rest))
-        (omega (arith, below, is)) not
+    (omega (arith, below, is)) not
     ∙ sym (ap (λ b. list_all (λ n. n == 0) (slice_range counts 1 VERDICTS) && b) none
-        ∙ and_false (list_all (λ n. n == 0) (slice_range counts 1 VERDICTS))))
+    ∙ and_false (list_all (λ n. n == 0) (slice_range counts 1 VERDICTS))))
   where
     behind_length : (counts : List ℕ) → length counts ≡ VERDICTS
         → length (drop 1 counts) + 1 ≡ VERDICTS
@@ -145,29 +153,29 @@ clean_after t Bad w =
     (more_than_0 t.bad) ∙ sym (and_false (is_clean t))
 clean_after t UnknownStation w =
     ap (λ b. (t.bad == 0) &&
-        (b && (list_all (λ n. n == 0) t.refused && list_all (λ n. n == 0)
-        (slice_range t.posted 1 VERDICTS)))) (more_than_0 t.unknown_station)
+    (b && (list_all (λ n. n == 0) t.refused && list_all (λ n. n == 0)
+    (slice_range t.posted 1 VERDICTS)))) (more_than_0 t.unknown_station)
     ∙ (second (t.bad == 0) (list_all (λ n. n == 0) t.refused && list_all (λ n. n == 0)
-        (slice_range t.posted 1 VERDICTS))
+    (slice_range t.posted 1 VERDICTS))
     ∙ sym (and_false (is_clean t)))
 clean_after t (Refused r) w =
     let below = refusal_within r in
     ap (λ b. (t.bad == 0) && ((t.unknown_station == 0) &&
-        (b && list_all (λ n. n == 0) (slice_range t.posted 1 VERDICTS))))
-        (some_not_0_of_all t.refused (refusal_place r)
-        (one_more (slice_index t.refused (refusal_place r))) (omega (arith, below, w.refused))
-        (more_than_0 (slice_index t.refused (refusal_place r))))
+    (b && list_all (λ n. n == 0) (slice_range t.posted 1 VERDICTS))))
+    (some_not_0_of_all t.refused (refusal_place r)
+    (one_more (slice_index t.refused (refusal_place r))) (omega (arith, below, w.refused))
+    (more_than_0 (slice_index t.refused (refusal_place r))))
     ∙ (third (t.bad == 0) (t.unknown_station == 0)
-        (list_all (λ n. n == 0) (slice_range t.posted 1 VERDICTS))
+    (list_all (λ n. n == 0) (slice_range t.posted 1 VERDICTS))
     ∙ sym (and_false (is_clean t)))
 clean_after t Held w = and_true (is_clean t)
 clean_after t (Posted v) w =
     ap (λ b. (t.bad == 0) && ((t.unknown_station == 0) && (list_all (λ n. n == 0) t.refused && b)))
-        (posted_clean t.posted v (verdict_number v)
-        (one_more (slice_index t.posted (verdict_number v))) w.posted refl
-        (more_than_0 (slice_index t.posted (verdict_number v))))
+    (posted_clean t.posted v (verdict_number v)
+    (one_more (slice_index t.posted (verdict_number v))) w.posted refl
+    (more_than_0 (slice_index t.posted (verdict_number v))))
     ∙ outwards (t.bad == 0) (t.unknown_station == 0) (list_all (λ n. n == 0) t.refused)
-        (list_all (λ n. n == 0) (slice_range t.posted 1 VERDICTS)) (is_applied v)
+    (list_all (λ n. n == 0) (slice_range t.posted 1 VERDICTS)) (is_applied v)
   where
     outwards : (a b c d e : Bool) → (a && (b && (c && (d && e)))) ≡ ((a && (b && (c && d))) && e)
     outwards false b c d e = refl

@@ -44,9 +44,9 @@ pub more_taken : (a b c : Option (List ℕ)) (text : List ℕ) (m n : ℕ) → A
     → Appends b c (take n (take (length text - m) (drop m text))) → Appends a c (take (m + n) text)
 more_taken a b c text m n p q =
     let r : Appends b c (take n (drop m text)) =
-        subst (λ (l : List ℕ). Appends b c (take n l)) (all_taken m text) q in
+    subst (λ (l : List ℕ). Appends b c (take n l)) (all_taken m text) q in
     subst (Appends a c) (sym (take-add m n text))
-        (Appends-trans a b c (take m text) (take n (drop m text)) p r)
+    (Appends-trans a b c (take m text) (take n (drop m text)) p r)
 
 pub if_cause : {T E : Type 0} → (r : Result T E) (P : E → Type 0) (x : E) → IfErr r (λ y. y ≡ x)
     → P x → IfErr r P

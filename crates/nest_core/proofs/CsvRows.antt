@@ -35,10 +35,10 @@ after_end_rests (term.Any t) c = refl
 in_field_rests : (cfg : Config) (c : ℕ) → RestsAtEnd (in_field cfg c)
 in_field_rests cfg c =
     either (c == cfg.delimiter) (st.StartField, act.EndField) _
-        (goes_on st.StartField act.EndField refl)
+    (goes_on st.StartField act.EndField refl)
     (either (ends_with cfg.terminator c) (after_end cfg.terminator c, act.EndRecord)
-        (st.InField, act.Copy) (λ e. after_end_rests cfg.terminator c)
-        (goes_on st.InField act.Copy refl))
+    (st.InField, act.Copy) (λ e. after_end_rests cfg.terminator c)
+    (goes_on st.InField act.Copy refl))
 
 start_field_rests : (cfg : Config) (c : ℕ) → RestsAtEnd (start_field cfg c)
 start_field_rests cfg c = either (cfg.quoting && (c == cfg.quote)) (st.InQuoted, act.Skip)
@@ -47,9 +47,9 @@ start_field_rests cfg c = either (cfg.quoting && (c == cfg.quote)) (st.InQuoted,
 start_record_rests : (cfg : Config) (c : ℕ) → RestsAtEnd (start_record cfg c)
 start_record_rests cfg c =
     either (ends_with cfg.terminator c) (st.StartRecord, act.Skip) _
-        (goes_on st.StartRecord act.Skip refl)
+    (goes_on st.StartRecord act.Skip refl)
     (either (is_byte cfg.comment c) (st.InComment, act.Skip) (start_field cfg c)
-        (goes_on st.InComment act.Skip refl) (start_field_rests cfg c))
+    (goes_on st.InComment act.Skip refl) (start_field_rests cfg c))
 
 step_rests : (cfg : Config) (s : State) (c : ℕ) → RestsAtEnd (step cfg s c)
 step_rests cfg st.StartRecord c = start_record_rests cfg c
@@ -57,13 +57,13 @@ step_rests cfg st.StartField c = start_field_rests cfg c
 step_rests cfg st.InField c = in_field_rests cfg c
 step_rests cfg st.InQuoted c =
     either (cfg.quoting && (c == cfg.quote)) (st.AfterQuote, act.Skip) _
-        (goes_on st.AfterQuote act.Skip refl)
+    (goes_on st.AfterQuote act.Skip refl)
     (either (cfg.quoting && is_byte cfg.escape c) (st.InEscape, act.Skip) (st.InQuoted, act.Copy)
-        (goes_on st.InEscape act.Skip refl) (goes_on st.InQuoted act.Copy refl))
+    (goes_on st.InEscape act.Skip refl) (goes_on st.InQuoted act.Copy refl))
 step_rests cfg st.InEscape c = goes_on st.InQuoted act.Copy refl
 step_rests cfg st.AfterQuote c =
     either (cfg.quoting && cfg.double_quote && (c == cfg.quote)) (st.InQuoted, act.Copy)
-        (in_field cfg c) (goes_on st.InQuoted act.Copy refl) (in_field_rests cfg c)
+    (in_field cfg c) (goes_on st.InQuoted act.Copy refl) (in_field_rests cfg c)
 step_rests cfg st.InComment c =
     either (c == line_feed) (st.StartRecord, act.Skip) (st.InComment, act.Skip)
     (goes_on st.StartRecord act.Skip refl) (goes_on st.InComment act.Skip refl)
@@ -90,15 +90,15 @@ next_leaves cfg s fields field [] p e = by (ends_at_end s) e
     by false e = absurd (cc)
 next_leaves cfg s fields field (c ∷ rest) p e =
     by (is_end (step cfg s c).1) refl e
-        (next_leaves cfg (step cfg s c).0 (fields_after (step cfg s c).1 fields field)
-        (field_after (step cfg s c).1 c field) rest p)
+    (next_leaves cfg (step cfg s c).0 (fields_after (step cfg s c).1 fields field)
+    (field_after (step cfg s c).1 c field) rest p)
   where
     by : (b : Bool) → is_end (step cfg s c).1 ≡ b
         → cond b (Some (fields_after (step cfg s c).1 fields field, (step cfg s c).0, rest))
-            (next_record cfg (step cfg s c).0 (fields_after (step cfg s c).1 fields field)
-            (field_after (step cfg s c).1 c field) rest) ≡ Some p
+        (next_record cfg (step cfg s c).0 (fields_after (step cfg s c).1 fields field)
+        (field_after (step cfg s c).1 c field) rest) ≡ Some p
         → (next_record cfg (step cfg s c).0 (fields_after (step cfg s c).1 fields field)
-            (field_after (step cfg s c).1 c field) rest ≡ Some p → Leaves rest p)
+        (field_after (step cfg s c).1 c field) rest ≡ Some p → Leaves rest p)
         → Leaves (c ∷ rest) p
     by true h e more =
         let is : (fields_after (step cfg s c).1 fields field, (step cfg s c).0, rest) ≡ p = cc in
@@ -120,8 +120,8 @@ next_shorter cfg s (c ∷ rest) p rests e =
   where
     by : (b : Bool)
         → cond b (Some (fields_after (step cfg s c).1 [] [], (step cfg s c).0, rest))
-            (next_record cfg (step cfg s c).0 (fields_after (step cfg s c).1 [] [])
-            (field_after (step cfg s c).1 c []) rest) ≡ Some p
+        (next_record cfg (step cfg s c).0 (fields_after (step cfg s c).1 [] [])
+        (field_after (step cfg s c).1 c []) rest) ≡ Some p
         → length p.2 < suc (length rest)
     by true e = let is : rest ≡ p.2 = cc in omega (arith, ap length is)
     by false e = omega (arith, (next_leaves cfg (step cfg s c).0 _ _ rest p e).most)
@@ -142,20 +142,20 @@ enough zero m s xs rests small most = absurd (omega arith)
 enough (suc n) zero s xs rests small most = absurd (omega arith)
 enough (suc n) (suc m) s xs rests small most =
     by (next_record default_config s [] [] xs) refl
-        (λ (t : State) (ys : List ℕ) (r : ends_at_end t ≡ false) (f : length ys < n)
-        (g : length ys < m). enough n m t ys r f g)
+    (λ (t : State) (ys : List ℕ) (r : ends_at_end t ≡ false) (f : length ys < n)
+    (g : length ys < m). enough n m t ys r f g)
   where
     by : (o : Option Read) → next_record default_config s [] [] xs ≡ o
         → ((t : State) (ys : List ℕ) → ends_at_end t ≡ false → length ys < n → length ys < m
-            → records_from default_config n t ys ≡ records_from default_config m t ys)
+        → records_from default_config n t ys ≡ records_from default_config m t ys)
         → records_next (records_from default_config n) o ≡ records_next
-            (records_from default_config m) o
+        (records_from default_config m) o
     by None e more = refl
     by (Some p) e more =
         let left = next_leaves default_config s [] [] xs p e in
         let less = next_shorter default_config s xs p rests e in
         ap (λ (rows : List (List (List ℕ))). p.0 ∷ rows)
-            (more p.1 p.2 left.rests (omega arith) (omega arith))
+        (more p.1 p.2 left.rests (omega arith) (omega arith))
 
 pub left_none : (s : State) (xs : List ℕ) → next_record default_config s [] [] xs ≡ None
     → rows_left s xs ≡ []
@@ -170,7 +170,7 @@ left_some s xs p rests e =
     let less = next_shorter default_config s xs p rests e in
     ap (records_next (records_from default_config (length xs))) e
     ∙ ap (λ (rows : List (List (List ℕ))). p.0 ∷ rows)
-        (enough (length xs) (suc (length p.2)) p.1 p.2 left.rests (omega arith) (omega arith))
+    (enough (length xs) (suc (length p.2)) p.1 p.2 left.rests (omega arith) (omega arith))
 
 go_on : (cfg : Config) (s t : State) (xs : List ℕ) (row : List (List ℕ)) (left : Option (List ℕ))
     → ReadsNext cfg s (Some xs) left true row t
@@ -187,8 +187,8 @@ pub read_some : {R : Type 0} (rem : R → Option (List ℕ)) (a b : Reader R) (r
     (xs : List ℕ) → reader_config a ≡ default_config → source_of rem a ≡ Some xs
     → ReadRecord rem a b true row
     → (ys : List ℕ) × (source_of rem b ≡ Some ys)
-        × (next_record default_config (reader_state a) [] [] xs ≡ Some (row, reader_state b, ys))
+    × (next_record default_config (reader_state a) [] [] xs ≡ Some (row, reader_state b, ys))
 read_some rem a b row xs config source r =
     let next = go_on default_config a.state b.state xs row (pending_of (rem b.rdr) b)
-        (rw (config, source) at r.0) in
+    (rw (config, source) at r.0) in
     (next.0, rw r.1 next.1, next.2)

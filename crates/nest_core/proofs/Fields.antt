@@ -33,8 +33,8 @@ field_count-push [] f = refl
 field_count-push (g ∷ gs) f =
     let rest = field_count-push gs f in
     elim (length f == 0) as (λ t. field_count (gs ++ f ∷ []) ≡ cond t (field_count gs)
-        (length gs + 1) → field_count (g ∷ gs ++ f ∷ []) ≡ cond t (field_count (g ∷ gs))
-        (length (g ∷ gs) + 1)) [
+    (length gs + 1) → field_count (g ∷ gs ++ f ∷ []) ≡ cond t (field_count (g ∷ gs))
+    (length (g ∷ gs) + 1)) [
       | true ↦ λ e. rw e refl
       | false ↦ λ e. rw e (let some : (length gs + 1 == 0) ≡ false = grind (arith, nat_tests) in rw
           some (omega arith))
@@ -49,5 +49,5 @@ field_count-more row i n count next f len inside at before is =
     let f_is : f ≡ get_or row i [] = at ∙ unwrap_or-slice_get row i [] in
     let taken : length (take i row) ≡ i = length-take-le i row (omega arith) in
     let pushed : field_count (take i row ++ f ∷ []) ≡ cond (length f == 0)
-        (field_count (take i row)) (length (take i row) + 1) = field_count-push (take i row) f in
+    (field_count (take i row)) (length (take i row) + 1) = field_count-push (take i row) f in
     is ∙ rw (before) (sym (rw (take_more row i [] within, ← f_is) (pushed ∙ rw taken refl)))

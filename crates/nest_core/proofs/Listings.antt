@@ -52,14 +52,14 @@ pub fault_of : (S : Museum) (n : ℕ) (row : Fields) (t : Bool) (k : Option RowK
     → row_fault S n row ≡ cond t None (kind_fault S n row k)
 fault_of S n row t k e f =
     ap (λ b. cond b None (kind_fault S n row (row_kind (field row 0)))) e
-        ∙ ap (λ q. cond t None (kind_fault S n row q)) f
+    ∙ ap (λ q. cond t None (kind_fault S n row q)) f
 
 pub row_of : (S : Museum) (row : Fields) (t : Bool) (k : Option RowKind)
     → (field_count row == 0) ≡ t → row_kind (field row 0) ≡ k
     → with_row S row ≡ cond t S (with_kind S row k)
 row_of S row t k e f =
     ap (λ b. cond b S (with_kind S row (row_kind (field row 0)))) e
-        ∙ ap (λ q. cond t S (with_kind S row q)) f
+    ∙ ap (λ q. cond t S (with_kind S row q)) f
 
 faults_over : (n : ℕ) (a b : Bool) (o : Option SetupFault) → a ≡ true → b ≡ true
     → first_or o ((Some (BadFields n) if not a) ∷ (Some (BadCode n) if not b) ∷ []) ≡ o
@@ -87,12 +87,12 @@ chosen_is false x y e = absurd (cc)
 pub is_read : (row : Fields) (k : RowKind) (item : SetupRow) (count wanted : ℕ) (word : Bool)
     → count ≡ field_count row → (count ≡ 0 → ⊥)
     → row_kind (field row 0) ≡ Some k → wanted ≡ fields_of_kind k → count ≡ wanted
-        → word ≡ has_word k row → word ≡ true
+    → word ≡ has_word k row → word ≡ true
     → cond (has_codes k row) (Some (listed k row)) None ≡ Some item → IsRead row k item
 is_read row k item count wanted word counted some kind_is wants enough has right chosen =
     let codes = chosen_is (has_codes k row) (listed k row) item chosen in
     let fields : (field_count row == fields_of_kind k) ≡ true =
-        same_number _ _ (sym counted ∙ enough ∙ wants) in
+    same_number _ _ (sym counted ∙ enough ∙ wants) in
     let said : has_word k row ≡ true = sym has ∙ right in
     record {
       some = not_zero (field_count row) (λ none. some (counted ∙ none));
@@ -148,20 +148,20 @@ lent_refused k row code is at read =
 pub own_listed : (k : RowKind) (row : Fields) (code thing place normal : List ℕ) → k ≡ kind.Own
     → code ≡ field row 1 → place ≡ field row 2
     → thing_read Own code ≡ Some thing → place_read place ≡ Some normal
-        → Some (lists.Thing thing (Some normal)) ≡ chosen k row
+    → Some (lists.Thing thing (Some normal)) ≡ chosen k row
 own_listed k row code thing place normal is at then read found =
     rw is (choices (is_thing_code Own (field row 1)) (is_place_code (field row 2)) (field row 1)
-        thing (field row 2) normal (λ c p. lists.Thing c (Some p)) (rw at at read)
-        (rw then at found))
+    thing (field row 2) normal (λ c p. lists.Thing c (Some p)) (rw at at read)
+    (rw then at found))
 
 pub own_refused : (k : RowKind) (row : Fields) (code : List ℕ) → k ≡ kind.Own → code ≡ field row 1
     → thing_read Own code ≡ None → ◌≡◌ {A = Option SetupRow} None (chosen k row)
 own_refused k row code is at read =
     rw is (no_first (is_thing_code Own (field row 1)) (is_place_code (field row 2)) (field row 1)
-        (lists.Thing (field row 1) (Some (field row 2))) (rw at at read))
+    (lists.Thing (field row 1) (Some (field row 2))) (rw at at read))
 
 pub normal_refused : (k : RowKind) (row : Fields) (place : List ℕ) → k ≡ kind.Own
     → place ≡ field row 2 → place_read place ≡ None → ◌≡◌ {A = Option SetupRow} None (chosen k row)
 normal_refused k row place is then found =
     rw is (no_second (is_thing_code Own (field row 1)) (is_place_code (field row 2)) (field row 2)
-        (lists.Thing (field row 1) (Some (field row 2))) (rw then at found))
+    (lists.Thing (field row 1) (Some (field row 2))) (rw then at found))

@@ -36,7 +36,7 @@ pub normal_within : (S : Museum) (x : ℕ) (row : List ℕ × Option ℕ) → Is
 normal_within S x row is at =
     within (length S.places) (thing_kind row.0) row.1
     (and_parts (is_none (thing_fault row.0)) _
-        (passes_at (is_thing_row (length S.places)) S.things x row is.codes_of_things at)).1
+    (passes_at (is_thing_row (length S.places)) S.things x row is.codes_of_things at)).1
 
 still_below : (p n m : ℕ) → n ≤ m → nat_lt p n ≡ true → nat_lt p m ≡ true
 still_below p n m h e = grind (arith, nat_tests)
@@ -52,7 +52,7 @@ thing_row_more : (n m : ℕ) (row : List ℕ × Option ℕ) → n ≤ m → is_t
     → is_thing_row m row ≡ true
 thing_row_more n m row h e =
     let both = and_parts (is_none (thing_fault row.0))
-        (has_right_normal n (thing_kind row.0) row.1) e in
+    (has_right_normal n (thing_kind row.0) row.1) e in
     rw (both.0, normal_more n m (thing_kind row.0) row.1 h both.1) refl
 
 -- one more station
@@ -78,14 +78,14 @@ pub IsMuseum-place : (S : Museum) (code : List ℕ) (inside : Bool) → IsMuseum
 IsMuseum-place S code inside is right none few =
     let more = length-append S.places ((code, inside) ∷ []) in
     let listed : map (λ row. row.0) (S.places ++ (code, inside) ∷ []) ≡ place_codes S ++ code ∷ [] =
-        map-append (λ row. row.0) S.places ((code, inside) ∷ []) in
+    map-append (λ row. row.0) S.places ((code, inside) ∷ []) in
     record {
       names = is.names;
       codes_of_places = all_push is_place_row S.places (code, inside) is.codes_of_places right;
       codes_of_things = all_more (is_thing_row (length S.places))
           (is_thing_row (length (S.places ++ (code, inside) ∷ []))) S.things
           (λ row. thing_row_more (length S.places) (length (S.places ++ (code, inside) ∷ [])) row
-              (omega arith)) is.codes_of_things;
+          (omega arith)) is.codes_of_things;
       each_station = is.each_station;
       each_place = subst EachFound (sym listed)
           (EachFound-push (place_codes S) code is.each_place none);
@@ -103,7 +103,7 @@ pub IsMuseum-thing : (S : Museum) (code : List ℕ) (normal : Option ℕ) → Is
 IsMuseum-thing S code normal is right none few =
     let more = length-append S.things ((code, normal) ∷ []) in
     let listed : map (λ row. row.0) (S.things ++ (code, normal) ∷ []) ≡ thing_codes S ++ code ∷ [] =
-        map-append (λ row. row.0) S.things ((code, normal) ∷ []) in
+    map-append (λ row. row.0) S.things ((code, normal) ∷ []) in
     record {
       names = is.names;
       codes_of_places = is.codes_of_places;
@@ -125,8 +125,11 @@ lacking (Some p) e = (p, refl)
 place_below : (S : Museum) (code : List ℕ) (p : ℕ) → find_place S code ≡ Some p
     → p < length S.places
 place_below S code p found =
-    omega (arith, (position-Some (bytes_eq code) (place_codes S) p [] found).0,
-    length-map S.places (λ (row : List ℕ × Bool). row.0))
+    omega (
+      arith,
+      (position-Some (bytes_eq code) (place_codes S) p [] found).0,
+      length-map S.places (λ (row : List ℕ × Bool). row.0),
+    )
 
 normal_found : (S : Museum) (kind : ThingKind) (normal : Option (List ℕ))
     → has_normal kind normal ≡ true
@@ -136,7 +139,7 @@ normal_found S Own None h e = absurd (cc)
 normal_found S Own (Some place) h e =
     let there = lacking (find_place S place) e in
     subst (λ o. has_right_normal (length S.places) Own o ≡ true) (sym there.1)
-        (test_true there.0 (length S.places) (place_below S place there.0 there.1))
+    (test_true there.0 (length S.places) (place_below S place there.0 there.1))
 normal_found S Borrowed None h e = refl
 normal_found S Borrowed (Some place) h e = absurd (cc)
 normal_found S Container None h e = refl
@@ -168,12 +171,12 @@ thing_fits S n code normal none found few =
 pub place_added : (S B : Museum) (n : ℕ) (code : List ℕ) (inside : Bool) → S ≡ B
     → find_place S code ≡ None → length S.places < MOST_PLACES
     → (listing_fault B n (lists.Place code inside) ≡ None)
-        × (record S { places = S.places ++ (code, inside) ∷ [] } ≡ with_listed B
-        (lists.Place code inside))
+    × (record S { places = S.places ++ (code, inside) ∷ [] } ≡ with_listed B
+    (lists.Place code inside))
 place_added S B n code inside is none few =
     subst (λ (m : Museum). (listing_fault m n (lists.Place code inside) ≡ None)
-        × (record S { places = S.places ++ (code, inside) ∷ [] } ≡ with_listed m
-        (lists.Place code inside))) is
+    × (record S { places = S.places ++ (code, inside) ∷ [] } ≡ with_listed m
+    (lists.Place code inside))) is
     (place_fits S n code inside none few, refl)
 
 pub thing_added : (S B : Museum) (n : ℕ) (code : List ℕ) (normal : Option (List ℕ)) → S ≡ B
@@ -181,11 +184,11 @@ pub thing_added : (S B : Museum) (n : ℕ) (code : List ℕ) (normal : Option (L
     → length S.things < MOST_THINGS
     → (listing_fault B n (lists.Thing code normal) ≡ None)
     × (record S { things = S.things ++ (code, option_and_then (find_place S) normal) ∷ [] }
-        ≡ with_listed B (lists.Thing code normal))
+    ≡ with_listed B (lists.Thing code normal))
 thing_added S B n code normal is none found few =
     subst (λ (m : Museum). (listing_fault m n (lists.Thing code normal) ≡ None)
     × (record S { things = S.things ++ (code, option_and_then (find_place S) normal) ∷ [] }
-        ≡ with_listed m (lists.Thing code normal))) is
+    ≡ with_listed m (lists.Thing code normal))) is
     (thing_fits S n code normal none found few, refl)
 
 -- a normal place that was found, or that nobody asked for
@@ -204,7 +207,7 @@ normal_unasked S code (Some place) none = absurd (cc)
 pub normal_missing : (S : Museum) (n : ℕ) (code : List ℕ) (normal : Option (List ℕ))
     (number : Option ℕ) → find_thing S code ≡ None → number ≡ option_and_then (find_place S) normal
     → is_some normal ≡ true → is_none number ≡ true
-        → listing_fault S n (lists.Thing code normal) ≡ Some (UnknownNormal n)
+    → listing_fault S n (lists.Thing code normal) ≡ Some (UnknownNormal n)
 normal_missing S n code None number none is some missing = absurd (cc)
 normal_missing S n code (Some place) number none is some missing =
     let lacks : is_none (find_place S place) ≡ true = rw (← is) missing in rw (none, lacks) refl

@@ -55,16 +55,16 @@ same a = grind (arith, nat_tests)
 found_is : (n len i : ℕ) → cond (nat_lt n len) (Some n) None ≡ Some i → (n < len) × (n ≡ i)
 found_is n len i = elim (nat_lt n len) as (λ t. nat_lt n len ≡ t → cond t (Some n) None ≡ Some i
     → (n < len) × (n ≡ i)) [
-  | true ↦ λ t e. ((grind (arith, nat_tests)), cc)
-  | false ↦ λ t e. absurd (cc)
-] refl
+      | true ↦ λ t e. ((grind (arith, nat_tests)), cc)
+      | false ↦ λ t e. absurd (cc)
+    ] refl
 
 none_is : (n len : ℕ) → n ≤ len → cond (nat_lt n len) (Some n) None ≡ None → n ≡ len
 none_is n len most = elim (nat_lt n len) as (λ t. nat_lt n len ≡ t → cond t (Some n) None ≡ None
     → n ≡ len) [
-  | true ↦ λ t e. absurd (cc)
-  | false ↦ λ t e. (grind (arith, nat_tests))
-] refl
+      | true ↦ λ t e. absurd (cc)
+      | false ↦ λ t e. (grind (arith, nat_tests))
+    ] refl
 
 -- a test that finds nothing runs to the end
 pub absent : {X : Type 0} (p : X → Bool) (xs : List X) → position p xs ≡ None
@@ -78,9 +78,9 @@ pub position_push-found : {X : Type 0} (p : X → Bool) (xs : List X) (y : X) (i
 position_push-found p xs y i found =
     let at = found_is (position_or_len p xs) (length xs) i found in
     let stays : position_or_len p (xs ++ y ∷ []) ≡ position_or_len p xs =
-        position_or_len_push p xs y ∙ rw (apart _ _ at.0) refl in
+    position_or_len_push p xs y ∙ rw (apart _ _ at.0) refl in
     let more : position_or_len p xs < length (xs ++ y ∷ []) =
-        omega (arith, length-append xs (y ∷ [])) in
+    omega (arith, length-append xs (y ∷ [])) in
     rw (stays, test_true _ _ more) (ap Some at.1)
 
 -- what was not there is found where it is put
@@ -89,7 +89,7 @@ pub position_push-new : {X : Type 0} (p : X → Bool) (xs : List X) (y : X) → 
 position_push-new p xs y none passes =
     let at : position_or_len p xs ≡ length xs = absent p xs none in
     let new : position_or_len p (xs ++ y ∷ []) ≡ length xs =
-        position_or_len_push p xs y ∙ rw (at, same (length xs), passes) (omega arith) in
+    position_or_len_push p xs y ∙ rw (at, same (length xs), passes) (omega arith) in
     let more : length xs < length (xs ++ y ∷ []) = omega (arith, length-append xs (y ∷ [])) in
     rw (new, test_true _ _ more) refl
 
@@ -115,7 +115,7 @@ EachFound-push texts new each none i text at = elim (slice_get-push texts new i 
   | inl there ↦ position_push-found (bytes_eq text) texts new i (each i text there)
   | inr last ↦ subst (λ t. position (bytes_eq t) (texts ++ new ∷ []) ≡ Some i) last.1
       (position_push-new (bytes_eq new) texts new none ((bytes_eq-Decides new new).1 refl)
-          ∙ ap Some (sym last.0))
+      ∙ ap Some (sym last.0))
 ]
 
 -- a key that is not there is inserted behind the others
@@ -134,9 +134,9 @@ insert_new {Y = Y} entries code value none =
         ≡ suc (length (map (λ q. q.0) es))
         → cond t ((e.0, value) ∷ es) (e ∷ insert_entry bytes_eq es code value) ≡ e
         ∷ (es ++ (code, value) ∷ [])) [
-      | true ↦ λ k. absurd (omega arith)
-      | false ↦ λ k. ap (λ rest. e ∷ rest) (by es (omega arith))
-    ] h
+          | true ↦ λ k. absurd (omega arith)
+          | false ↦ λ k. ap (λ rest. e ∷ rest) (by es (omega arith))
+        ] h
 
 -- and so is a name
 pub insert_key_new : (names : List (List ℕ)) (name : List ℕ) → position (bytes_eq name) names ≡ None
@@ -149,9 +149,9 @@ insert_key_new names name none = rw (by names (absent (bytes_eq name) names none
     by (x ∷ xs) h = elim (bytes_eq name x) as
         (λ t. cond (not t) (1 + position_or_len (bytes_eq name) xs) 0 ≡ suc (length xs)
         → (t || list_any (bytes_eq name) xs) ≡ false) [
-      | true ↦ λ k. absurd (omega arith)
-      | false ↦ λ k. by xs (omega arith)
-    ] h
+          | true ↦ λ k. absurd (omega arith)
+          | false ↦ λ k. by xs (omega arith)
+        ] h
 
 -- what a look-up did not find is not there
 pub not_found : (o : Option ℕ) (found : Bool) → found ≡ is_some o → found ≡ false → o ≡ None

@@ -51,11 +51,11 @@ here_is S n before row o museum number e =
 pub one_more : (text : List ℕ) (S T : Museum) (n : ℕ) (s : State) (xs : List ℕ) (row : Fields)
     (t : State) (ys : List ℕ) → IsUpTo text S n s xs
     → next_record default_config s [] [] xs ≡ Some (row, t, ys) → row_fault S n row ≡ None
-        → T ≡ with_row S row → IsUpTo text T (n + 1) t ys
+    → T ≡ with_row S row → IsUpTo text T (n + 1) t ys
 one_more text S T n s xs row t ys up next none with =
     let left = left_some s xs (row, t, ys) up.rests next in
     let museum : museum_of (up.before ++ row ∷ []) ≡ with_row S row =
-        fold_push with_row no_museum up.before row ∙ ap (λ m. with_row m row) (sym up.museum) in
+    fold_push with_row no_museum up.before row ∙ ap (λ m. with_row m row) (sym up.museum) in
     record {
       before = up.before ++ row ∷ [];
       rows = up.rows ∙ ap (λ rows. up.before ++ rows) left
@@ -64,7 +64,7 @@ one_more text S T n s xs row t ys up next none with =
       number = omega (arith, length-append up.before (row ∷ []), up.number);
       fault = up.fault ∙ ap (first_fault up.before) left
           ∙ none_first (row_fault (museum_of up.before) (length up.before + 1) row)
-              (first_fault (up.before ++ row ∷ []) (rows_left t ys))
+          (first_fault (up.before ++ row ∷ []) (rows_left t ys))
           (here_is S n up.before row None up.museum up.number none);
       rests = (next_leaves default_config s [] [] xs (row, t, ys) next).rests;
     }
@@ -73,18 +73,18 @@ one_more text S T n s xs row t ys up next none with =
 pub fault_here : (text : List ℕ) (S : Museum) (n : ℕ) (s : State) (xs : List ℕ) (row : Fields)
     (t : State) (ys : List ℕ) (f : SetupFault) → IsUpTo text S n s xs
     → next_record default_config s [] [] xs ≡ Some (row, t, ys) → row_fault S n row ≡ Some f
-        → first_fault [] (records default_config text) ≡ Some f
+    → first_fault [] (records default_config text) ≡ Some f
 fault_here text S n s xs row t ys f up next some =
     up.fault ∙ ap (first_fault up.before) (left_some s xs (row, t, ys) up.rests next)
     ∙ some_first (row_fault (museum_of up.before) (length up.before + 1) row)
-        (first_fault (up.before ++ row ∷ []) (rows_left t ys)) f
+    (first_fault (up.before ++ row ∷ []) (rows_left t ys)) f
     (here_is S n up.before row (Some f) up.museum up.number some)
 
 -- no more row
 pub at_end : (text : List ℕ) (S : Museum) (n : ℕ) (s : State) (xs : List ℕ) → IsUpTo text S n s xs
     → next_record default_config s [] [] xs ≡ None
     → (first_fault [] (records default_config text) ≡ None)
-        × (S ≡ museum_of (records default_config text))
+    × (S ≡ museum_of (records default_config text))
 at_end text S n s xs up next =
     let left = left_none s xs next in (
       up.fault ∙ ap (first_fault up.before) left,

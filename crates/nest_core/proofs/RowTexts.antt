@@ -12,17 +12,17 @@ use Rattle.nest_core.specs.SetupTexts.{joined, kind_word, normal_fields, thing_f
 row_at : (S : Museum) (x : ℕ) (code : List ℕ) (kind : ThingKind) (normal : Option ℕ)
     → thing_code_of S x ≡ Some code → kind_of S x ≡ Some kind → normal ≡ normal_of S x
     → slice_get (map (λ row. joined (thing_fields S row)) S.things) x
-        ≡ Some (joined (kind_word kind ∷ code ∷ normal_fields S normal))
+    ≡ Some (joined (kind_word kind ∷ code ∷ normal_fields S normal))
 row_at S x code kind normal at is has =
     slice_get-map (λ row. joined (thing_fields S row)) S.things x
     ∙ by (slice_get S.things x) (sym (slice_get-map (λ row. row.0) S.things x) ∙ at)
-        (sym (ap (option_map thing_kind) (slice_get-map (λ row. row.0) S.things x)) ∙ is) has
+    (sym (ap (option_map thing_kind) (slice_get-map (λ row. row.0) S.things x)) ∙ is) has
   where
     by : (o : Option (List ℕ × Option ℕ)) → option_map (λ row. row.0) o ≡ Some code
         → option_map thing_kind (option_map (λ row. row.0) o) ≡ Some kind
         → normal ≡ option_and_then (λ row. row.1) o
         → option_map (λ row. joined (thing_fields S row)) o
-            ≡ Some (joined (kind_word kind ∷ code ∷ normal_fields S normal))
+        ≡ Some (joined (kind_word kind ∷ code ∷ normal_fields S normal))
     by None e f g = absurd (cc)
     by (Some row) e f g =
         let first : row.0 ≡ code = cc in
@@ -35,7 +35,7 @@ pub row_plain : (S : Museum) (x : ℕ) (code : List ℕ) (kind : ThingKind) (nor
     → thing_code_of S x ≡ Some code → kind_of S x ≡ Some kind → normal ≡ normal_of S x
     → normal ≡ None
     → slice_get (map (λ row. joined (thing_fields S row)) S.things) x
-        ≡ Some ((kind_word kind ++ 44 ∷ []) ++ code)
+    ≡ Some ((kind_word kind ++ 44 ∷ []) ++ code)
 row_plain S x code kind normal at is has none =
     row_at S x code kind normal at is has
     ∙ ap (λ n. Some (joined (kind_word kind ∷ code ∷ normal_fields S n))) none
@@ -51,10 +51,10 @@ pub row_normal : (S : Museum) (x : ℕ) (code : List ℕ) (kind : ThingKind) (no
     → normal ≡ normal_of S x
     → normal ≡ Some p → place_code_of S p ≡ Some place
     → slice_get (map (λ row. joined (thing_fields S row)) S.things) x
-        ≡ Some ((((kind_word kind ++ 44 ∷ []) ++ code) ++ 44 ∷ []) ++ place)
+    ≡ Some ((((kind_word kind ++ 44 ∷ []) ++ code) ++ 44 ∷ []) ++ place)
 row_normal S x code kind normal p place at is has some there =
     row_at S x code kind normal at is has
     ∙ ap (λ n. Some (joined (kind_word kind ∷ code ∷ normal_fields S n))) some
     ∙ rw there
-        (ap Some (sym (append_assoc ((kind_word kind ++ 44 ∷ []) ++ code) (44 ∷ []) place
-        ∙ texts (kind_word kind) code place)))
+    (ap Some (sym (append_assoc ((kind_word kind ++ 44 ∷ []) ++ code) (44 ∷ []) place
+    ∙ texts (kind_word kind) code place)))

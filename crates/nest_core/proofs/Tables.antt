@@ -16,7 +16,7 @@ table : (t u : Bool) (o q : Option SetupFault) (last : Option SetupFault) → t 
     → (if t then option_or o last else Some NotCsv) ≡ (if u then option_or q last else Some NotCsv)
 table t u o q last e f =
     ap (λ b. if b then option_or o last else Some NotCsv) e
-        ∙ ap (λ g. if u then option_or g last else Some NotCsv) f
+    ∙ ap (λ g. if u then option_or g last else Some NotCsv) f
 
 pub no_text : (bytes : List ℕ) → ¬ (IsUtf8 bytes) → is_utf8 bytes ≡ false
 no_text bytes h = false_from_ne_true (is_utf8 bytes) (λ e. h (IsUtf8-from_is_utf8 bytes e))
@@ -49,9 +49,9 @@ pub no_station : (bytes : List ℕ) (S : Museum) (n : ℕ) → is_utf8 bytes ≡
     → setup_fault bytes ≡ Some NoStation
 no_station bytes S n e none is counted zero =
     table (is_utf8 bytes) true (first_fault [] (rows_of bytes)) None
-        (station_fault (museum_of (rows_of bytes))) e none
+    (station_fault (museum_of (rows_of bytes))) e none
     ∙ ap (λ b. if b then Some NoStation else None)
-        (zero_rows n _ (counted ∙ ap (λ T. length T.stations) is) zero)
+    (zero_rows n _ (counted ∙ ap (λ T. length T.stations) is) zero)
 
 pub no_fault : (bytes : List ℕ) (S : Museum) (n : ℕ) → is_utf8 bytes ≡ true
     → first_fault [] (rows_of bytes) ≡ None → S ≡ museum_of (rows_of bytes) → n ≡ length S.stations
@@ -59,6 +59,6 @@ pub no_fault : (bytes : List ℕ) (S : Museum) (n : ℕ) → is_utf8 bytes ≡ t
     → setup_fault bytes ≡ None
 no_fault bytes S n e none is counted some =
     table (is_utf8 bytes) true (first_fault [] (rows_of bytes)) None
-        (station_fault (museum_of (rows_of bytes))) e none
+    (station_fault (museum_of (rows_of bytes))) e none
     ∙ ap (λ b. if b then Some NoStation else None)
-        (no_rows n _ (counted ∙ ap (λ T. length T.stations) is) some)
+    (no_rows n _ (counted ∙ ap (λ T. length T.stations) is) some)

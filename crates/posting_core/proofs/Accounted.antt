@@ -51,20 +51,23 @@ pub by_verdict : {X : Type 0} {S : Museum} {depth : ℕ} {P : List Entry} {e : E
     (IsApplied S depth P e → X) → (IsLeft S P e o → X) → X
 by_verdict {X} {S} {P} {e} o follows lawful applied refused =
     elim (is_applied e.verdict) as (λ b. is_applied e.verdict ≡ b → X) [
-  | true ↦
-      λ h. applied (record { lawful = lawful; applied = h;
-      judged = sym follows.judged ∙ applied_is e.verdict h })
-  | false ↦ λ h. refused (record {
-    stays = record {
-      place = ap (λ b. place (length S.things)
-          (with_put (if b then put_in S P e.message else None) (puts S P)) o) h;
-      target = ap (λ b. last (with_put (if b then put_in S P e.message else None) (puts S P)) o) h;
-    };
-    stages =
-        λ loan. ap (λ b. option_map_or (λ s. s) (if b then stage_by S P e.message loan o else None)
-        (stage S P loan o)) h;
-  })
-] refl
+      | true ↦
+          λ h. applied (record {
+            lawful = lawful;
+            applied = h;
+            judged = sym follows.judged ∙ applied_is e.verdict h;
+          })
+      | false ↦ λ h. refused (record {
+        stays = record {
+          place = ap (λ b. place (length S.things)
+              (with_put (if b then put_in S P e.message else None) (puts S P)) o) h;
+          target = ap (λ b. last (with_put (if b then put_in S P e.message else None) (puts S P)) o) h;
+        };
+        stages =
+            λ loan. ap (λ b. option_map_or (λ s. s) (if b then stage_by S P e.message loan o else None)
+            (stage S P loan o)) h;
+      })
+    ] refl
 
 -- a put leaves the targets of others
 other_target : (Q : List Put) (put : Put) (n o : ℕ) → is_carried n Q put.thing o ≡ false
@@ -72,11 +75,11 @@ other_target : (Q : List Put) (put : Put) (n o : ℕ) → is_carried n Q put.thi
 other_target Q put n o apart =
     elim (put.thing == o) as (λ b. (put.thing == o) ≡ b
     → (if b then Some put.to else last Q o) ≡ last Q o) [
-  | true ↦ λ e.
-      let same : (o == put.thing) ≡ true = grind (arith, nat_tests) in
-      absurd (false≢true (sym apart ∙ ap (λ b. b || is_among put.thing (chain n Q o)) same))
-  | false ↦ λ e. refl
-] refl
+      | true ↦ λ e.
+          let same : (o == put.thing) ≡ true = grind (arith, nat_tests) in
+          absurd (false≢true (sym apart ∙ ap (λ b. b || is_among put.thing (chain n Q o)) same))
+      | false ↦ λ e. refl
+    ] refl
 
 -- it goes with a thing, to the place of the target
 pub record GoesWith (S : Museum) (P : List Entry) (e : Entry) (put : Put) (o : ℕ) : Type 0 where
@@ -92,7 +95,7 @@ pub carried_among : (S : Museum) (P : List Entry) (x : List ℕ) (o : ℕ) → o
 carried_among S P x o less object carried =
     among_passing (λ y. not (is_container S y)) (carried_at S P (thing_no S x)) o (ap not object)
     ∙ among_passing (is_carried (length S.things) (puts S P) (thing_no S x))
-        (range_with_len 0 (length S.things)) o carried
+    (range_with_len 0 (length S.things)) o carried
     ∙ among_range 0 (length S.things) o (omega arith) (omega arith)
 
 pub apart_not_among : (S : Museum) (P : List Entry) (x : List ℕ) (o : ℕ) → is_container S o ≡ false
@@ -101,7 +104,7 @@ pub apart_not_among : (S : Museum) (P : List Entry) (x : List ℕ) (o : ℕ) →
 apart_not_among S P x o object apart =
     among_passing (λ y. not (is_container S y)) (carried_at S P (thing_no S x)) o (ap not object)
     ∙ not_among_passing (is_carried (length S.things) (puts S P) (thing_no S x))
-        (range_with_len 0 (length S.things)) o apart
+    (range_with_len 0 (length S.things)) o apart
 
 -- it crosses: under this loan it gets the stage, under the others it keeps its own
 pub record HasCrossed (S : Museum) (P : List Entry) (e : Entry) (c : Crossing) (o : ℕ) :
@@ -144,7 +147,7 @@ module _ {S : Museum} {depth : ℕ} {P : List Entry} {e : Entry} (a : IsApplied 
       let B : Book = record { museum = S; depth = depth; posted = P } in
       let allowed = allowed_in B e.message a.lawful a.judged is in
       elim (is_carried (length S.things) (puts S P) put.thing o) as
-          (λ b. is_carried (length S.things) (puts S P) put.thing o ≡ b → X) [
+      (λ b. is_carried (length S.things) (puts S P) put.thing o ≡ b → X) [
         | true ↦ λ h. goes (record {
           carried = h;
           after = place_applied ∙ comes_along e.message a.lawful is allowed o h;
@@ -160,7 +163,7 @@ module _ {S : Museum} {depth : ℕ} {P : List Entry} {e : Entry} (a : IsApplied 
       → stage S (e ∷ P) loan o ≡ crossed S P c loan o
   stage_crossed c is loan =
       ap (λ b. option_map_or (λ s. s) (if b then stage_by S P e.message loan o else None)
-          (stage S P loan o)) a.applied
+      (stage S P loan o)) a.applied
       ∙ ap (λ c. crossed S P c loan o) is
 
   pub nothing_crosses : crossing_in e.message ≡ None → (loan : List ℕ)
@@ -172,7 +175,7 @@ module _ {S : Museum} {depth : ℕ} {P : List Entry} {e : Entry} (a : IsApplied 
       → stage S (e ∷ P) loan o ≡ stage S P loan o
   crosses_without c is apart loan = stage_crossed (Some c) is loan
       ∙ ap (λ b. option_map_or (λ s. s) (if b then Some c.stage else None) (stage S P loan o))
-          (ap (λ b. bytes_eq c.loan loan && b) apart ∙ never (bytes_eq c.loan loan))
+      (ap (λ b. bytes_eq c.loan loan && b) apart ∙ never (bytes_eq c.loan loan))
     where
       never : (b : Bool) → (b && false) ≡ false
       never true = refl
@@ -183,14 +186,14 @@ module _ {S : Museum} {depth : ℕ} {P : List Entry} {e : Entry} (a : IsApplied 
   crosses_with c is among = record {
     here = stage_crossed (Some c) is c.loan
         ∙ ap (λ b. option_map_or (λ s. s)
-            (if b && is_among o (objects_in S P c.thing) then Some c.stage else None)
-            (stage S P c.loan o)) ((bytes_eq-Decides c.loan c.loan).1 refl)
+        (if b && is_among o (objects_in S P c.thing) then Some c.stage else None)
+        (stage S P c.loan o)) ((bytes_eq-Decides c.loan c.loan).1 refl)
         ∙ ap (λ b. option_map_or (λ s. s) (if b then Some c.stage else None)
-            (stage S P c.loan o)) among;
+        (stage S P c.loan o)) among;
     others = λ loan other. stage_crossed (Some c) is loan
         ∙ ap (λ b. option_map_or (λ s. s)
-            (if b && is_among o (objects_in S P c.thing) then Some c.stage else None)
-            (stage S P loan o)) other;
+        (if b && is_among o (objects_in S P c.thing) then Some c.stage else None)
+        (stage S P loan o)) other;
   }
 
 -- the object is at the stage under no loan, or under this one alone
@@ -222,9 +225,11 @@ by_loan X a b same other = elim (bytes_eq a b) as (λ t. bytes_eq a b ≡ t → 
 -- what was at the stage under no loan, and gets to it under this one
 pub went : {S : Museum} {P : List Entry} {e : Entry} {c : Crossing} {o : ℕ} → HasCrossed S P e c o
     → AtNone S P o c.stage → AtOne S (e ∷ P) o c.stage c.loan
-went {c} has none =
-    (has.here, λ other at. by_loan _ c.loan other (λ same. sym same)
-    (λ apart. absurd (none other (sym (has.others other apart) ∙ at))))
+went {c} has none = (
+  has.here,
+  λ other at. by_loan _ c.loan other (λ same. sym same)
+      (λ apart. absurd (none other (sym (has.others other apart) ∙ at))),
+)
 
 -- what was at the stage under this loan alone, and leaves it
 pub came : {S : Museum} {P : List Entry} {e : Entry} {c : Crossing} {o : ℕ} (s : LineStage)
@@ -253,8 +258,8 @@ pub ready : (S : Museum) (P : List Entry) (c : Crossing) (o : ℕ) → carries_u
 ready S P c o unlisted wrong among =
     let at = none_fails (is_at_stage S P c.loan c.wanted) (objects_in S P c.thing) o wrong among in
     elim (is_among o (objects S P c.loan)) as (λ b. is_among o (objects S P c.loan) ≡ b
-        → option_map_or (stage_eq c.wanted) (if b then Some (stage S P c.loan o) else None) false
-        ≡ true → IsReady S P c o) [
+    → option_map_or (stage_eq c.wanted) (if b then Some (stage S P c.loan o) else None) false
+    ≡ true → IsReady S P c o) [
       | true ↦ λ e k. record { listed = e; wanted = stage_same c.wanted (stage S P c.loan o) k }
       | false ↦ λ e k. absurd (false≢true k)
     ] refl at
@@ -264,6 +269,6 @@ pub agreement_stays : (P : List Entry) (e : Entry) (loan : List ℕ) (t : Agreem
     → agreement P loan ≡ Some t → agreement (e ∷ P) loan ≡ Some t
 agreement_stays P e loan t is =
     find-append (λ (u : Agreement). bytes_eq loan u.loan) (agreements P)
-        (option_to_list (agreement_by e.verdict e.message))
+    (option_to_list (agreement_by e.verdict e.message))
     ∙ ap (λ o. option_or o (find (λ u. bytes_eq loan u.loan)
-        (option_to_list (agreement_by e.verdict e.message)))) is
+    (option_to_list (agreement_by e.verdict e.message)))) is

@@ -29,8 +29,10 @@ use Rattle.posting_core.proofs.AppliedRows.{none_holds, applied_is}
 pub bytes_eq-sym : (a b : List ℕ) → bytes_eq a b ≡ bytes_eq b a
 bytes_eq-sym a b =
     let d = bytes_eq-Decides b a in
-    same_from_decides (bytes_eq a b) (bytes_eq b a) (bytes_eq-Decides a b) (λ e. sym (d.0 e),
-        λ e. d.1 (sym e))
+    same_from_decides (bytes_eq a b) (bytes_eq b a) (bytes_eq-Decides a b) (
+      λ e. sym (d.0 e),
+      λ e. d.1 (sym e),
+    )
 
 pub apart_sym : (a b : List ℕ) → bytes_eq a b ≡ false → bytes_eq b a ≡ false
 apart_sym a b apart = bytes_eq-sym b a ∙ apart
@@ -51,7 +53,7 @@ pub agree_applied : (S : Museum) (depth : ℕ) (P : List Entry) (m : Message) (t
 agree_applied S depth P (Agree first last loan partner objects) t applied is =
     let none = none_holds (agree_rows S P loan partner objects first last) refl applied in
     let new : agreement P loan ≡ None = let agreed : is_some (agreement P loan) ≡ false =
-        none.1.1.0 in search rules in
+    none.1.1.0 in search rules in
     subst (λ u. (agreement P u.loan ≡ None) × IsSound S u) (same_Some _ _ is) (
       new,
       record {
@@ -90,8 +92,7 @@ agreements_sound S depth (e ∷ P) (follows, lawful) =
     all_append (IsSound S) (agreements P) (option_to_list (agreement_by e.verdict e.message))
     (agreements_sound S depth P lawful)
     (elim (is_applied e.verdict) as (λ b. is_applied e.verdict ≡ b
-        → AllByRecursion (IsSound S) (option_to_list (if b then agreement_in e.message else None)))
-        [
+    → AllByRecursion (IsSound S) (option_to_list (if b then agreement_in e.message else None))) [
       | true ↦ λ h. new (agreement_in e.message)
           (λ t is. (agree_applied S depth P e.message t
           (sym follows.judged ∙ applied_is e.verdict h) is).1)
@@ -109,19 +110,19 @@ pub found_is : (loan : List ℕ) (ts : List Agreement) (t : Agreement)
 found_is loan [] t e = absurd (none-some _ e)
 found_is loan (u ∷ ts) t e = elim (bytes_eq loan u.loan) as (λ b. bytes_eq loan u.loan ≡ b
     → cond b (Some u) (find (λ v. bytes_eq loan v.loan) ts) ≡ Some t → loan ≡ t.loan) [
-  | true ↦ λ h k. (bytes_eq-Decides loan u.loan).0 h
-      ∙ (let same : u ≡ t = cc in ap (λ v. v.loan) same)
-  | false ↦ λ h k. found_is loan ts t k
-] refl e
+      | true ↦ λ h k. (bytes_eq-Decides loan u.loan).0 h
+          ∙ (let same : u ≡ t = cc in ap (λ v. v.loan) same)
+      | false ↦ λ h k. found_is loan ts t k
+    ] refl e
 
 found_holds : (Q : Agreement → Type 0) (p : Agreement → Bool) (ts : List Agreement) (t : Agreement)
     → AllByRecursion Q ts → find p ts ≡ Some t → Q t
 found_holds Q p [] t all e = absurd (none-some _ e)
 found_holds Q p (u ∷ ts) t (q, all) e =
     elim (p u) as (λ b. cond b (Some u) (find p ts) ≡ Some t → Q t) [
-  | true ↦ λ k. let same : u ≡ t = cc in subst Q same q
-  | false ↦ λ k. found_holds Q p ts t all k
-] e
+      | true ↦ λ k. let same : u ≡ t = cc in subst Q same q
+      | false ↦ λ k. found_holds Q p ts t all k
+    ] e
 
 pub agreement_sound : (S : Museum) (depth : ℕ) (P : List Entry) (loan : List ℕ) (t : Agreement)
     → IsLawful S depth P → agreement P loan ≡ Some t → IsSound S t
@@ -140,9 +141,9 @@ missed : (t : Agreement) (u : Agreement) (ts : List Agreement)
 missed t u ts none = elim (bytes_eq t.loan u.loan) as
     (λ b. cond b (Some u) (find (λ v. bytes_eq t.loan v.loan) ts) ≡ None
     → (b ≡ false) × (find (λ v. bytes_eq t.loan v.loan) ts ≡ None)) [
-  | true ↦ λ k. absurd (let some : Some u ≡ None = k in cc)
-  | false ↦ λ k. (refl, k)
-] none
+      | true ↦ λ k. absurd (let some : Some u ≡ None = k in cc)
+      | false ↦ λ k. (refl, k)
+    ] none
 
 apart_append : (ts : List Agreement) (t : Agreement) → AreApart ts
     → find (λ u. bytes_eq t.loan u.loan) ts ≡ None → AreApart (ts ++ t ∷ [])
@@ -150,9 +151,10 @@ apart_append [] t apart new = (refl, tt)
 apart_append (u ∷ ts) t (other, apart) new =
     let both = missed t u ts new in
     let last : find (λ v. bytes_eq u.loan v.loan) (t ∷ []) ≡ None =
-        rw (apart_sym t.loan u.loan both.0) refl in
-    (find-append (λ (v : Agreement). bytes_eq u.loan v.loan) ts (t ∷ []) ∙ rw (other, last) refl,
-        apart_append ts t apart both.1)
+    rw (apart_sym t.loan u.loan both.0) refl in (
+      find-append (λ (v : Agreement). bytes_eq u.loan v.loan) ts (t ∷ []) ∙ rw (other, last) refl,
+      apart_append ts t apart both.1,
+    )
 
 pub agreements_apart : (S : Museum) (depth : ℕ) (P : List Entry) → IsLawful S depth P
     → AreApart (agreements P)
@@ -160,7 +162,7 @@ agreements_apart S depth [] lawful = tt
 agreements_apart S depth (e ∷ P) (follows, lawful) =
     let before = agreements_apart S depth P lawful in
     elim (is_applied e.verdict) as (λ b. is_applied e.verdict ≡ b
-        → AreApart (agreements P ++ option_to_list (if b then agreement_in e.message else None))) [
+    → AreApart (agreements P ++ option_to_list (if b then agreement_in e.message else None))) [
       | true ↦ λ h. new before (agreement_in e.message)
           (λ t is. (agree_applied S depth P e.message t
           (sym follows.judged ∙ applied_is e.verdict h) is).0)
@@ -239,10 +241,16 @@ untouched S depth (e ∷ P) loan (follows, lawful) none =
     elim (is_applied e.verdict) as (λ b. is_applied e.verdict ≡ b → IsUntouched S (e ∷ P) loan) [
       | true ↦ λ h.
           let left = unnamed S P e.message loan
-              (named_agreed S depth P e.message loan
-              (sym follows.judged ∙ applied_is e.verdict h) none') in
-          record { awaited = λ o. rw (h, left.0 o) (before.awaited o);
-              ends = λ day. rw (h, left.1) (before.ends day); draft = rw (h, left.2) before.draft }
-      | false ↦ λ h. record { awaited = λ o. rw h (before.awaited o);
-          ends = λ day. rw h (before.ends day); draft = rw h before.draft }
+          (named_agreed S depth P e.message loan
+          (sym follows.judged ∙ applied_is e.verdict h) none') in
+          record {
+            awaited = λ o. rw (h, left.0 o) (before.awaited o);
+            ends = λ day. rw (h, left.1) (before.ends day);
+            draft = rw (h, left.2) before.draft;
+          }
+      | false ↦ λ h. record {
+        awaited = λ o. rw h (before.awaited o);
+        ends = λ day. rw h (before.ends day);
+        draft = rw h before.draft;
+      }
     ] refl

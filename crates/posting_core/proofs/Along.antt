@@ -27,10 +27,10 @@ more_along S P (Some p) ys is more = more_held S P p.thing ys is more
 pub asked_along : {X Y : Type 0} (S : Museum) (P : List Entry) (verdict : Verdict) (m : Message)
     (put : Option Put) (ys : List ℕ) (r : Result X Y) →
     put ≡ put_by S P verdict m → ys ≡ carried_with S P put → OnErr r (1 < length ys)
-        → OnErr r ((is_applied verdict && takes_along S P (put_in S P m)) ≡ true)
+    → OnErr r ((is_applied verdict && takes_along S P (put_in S P m)) ≡ true)
 asked_along S P verdict m put ys r is carries =
     on_err_weaker r (λ more. applied (is_applied verdict) (put_in S P m)
-        (more_along S P (put_by S P verdict m) ys (carries ∙ ap (carried_with S P) is) more))
+    (more_along S P (put_by S P verdict m) ys (carries ∙ ap (carried_with S P) is) more))
   where
     applied : (b : Bool) (o : Option Put) → takes_along S P (if b then o else None) ≡ true
         → (b && takes_along S P o) ≡ true

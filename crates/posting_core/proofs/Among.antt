@@ -22,7 +22,7 @@ among_passing p [] o pass = refl
 among_passing p (x ∷ xs) o pass = by_eq _ x o
     (λ t same. rw (ap p same ∙ pass, t) refl)
     (λ f. elim (p x) as (λ b. is_among o (cond b (x ∷ filter p xs) (filter p xs))
-        ≡ ((x == o) || is_among o xs)) [
+    ≡ ((x == o) || is_among o xs)) [
       | true ↦ ap (λ b. (x == o) || b) (among_passing p xs o pass)
       | false ↦ among_passing p xs o pass ∙ sym (ap (λ b. b || is_among o xs) f)
     ])
@@ -56,7 +56,7 @@ among_range a zero o low less = absurd (omega arith)
 among_range a (suc n) o low less = by_eq _ a o
     (λ t same. ap (λ b. b || is_among o (range_with_len (a + 1) n)) t)
     (λ f. ap (λ b. b || is_among o (range_with_len (a + 1) n)) f ∙ among_range (a + 1) n o
-        (grind (arith, nat_tests)) (omega arith))
+    (grind (arith, nat_tests)) (omega arith))
 
 -- where none fails, what stands among them passes
 pub none_fails : (p : ℕ → Bool) (xs : List ℕ) (o : ℕ) → list_any (λ x. not (p x)) xs ≡ false
@@ -73,9 +73,9 @@ pub position_cons : {X : Type 0} (p : X → Bool) (x : X) (xs : List X)
     → position p (x ∷ xs) ≡ (if p x then Some zero else option_map suc (position p xs))
 position_cons p x xs = elim (p x) as (λ b. p x ≡ b
     → position p (x ∷ xs) ≡ (if b then Some zero else option_map suc (position p xs))) [
-  | true ↦ λ e. rw e (first (length xs))
-  | false ↦ λ e. rw e (later (position_or_len p xs) (length xs))
-] refl
+      | true ↦ λ e. rw e (first (length xs))
+      | false ↦ λ e. rw e (later (position_or_len p xs) (length xs))
+    ] refl
   where
     first : (len : ℕ) → cond (nat_lt zero (suc len)) (Some zero) None ≡ Some zero
     first len = let same : nat_lt zero (suc len) ≡ true = grind (arith, nat_tests) in rw same refl
@@ -85,11 +85,11 @@ position_cons p x xs = elim (p x) as (λ b. p x ≡ b
     later n len = elim (nat_lt n len) as (λ b. nat_lt n len ≡ b
         → cond (nat_lt (1 + n) (suc len)) (Some (1 + n)) None ≡ option_map suc
         (cond b (Some n) None)) [
-      | true ↦ λ e. let same : nat_lt (1 + n) (suc len) ≡ true = grind (arith, nat_tests) in
-          rw same (ap Some (omega arith))
-      | false ↦ λ e. let same : nat_lt (1 + n) (suc len) ≡ false = grind (arith, nat_tests) in
-          rw same refl
-    ] refl
+          | true ↦ λ e. let same : nat_lt (1 + n) (suc len) ≡ true = grind (arith, nat_tests) in
+              rw same (ap Some (omega arith))
+          | false ↦ λ e. let same : nat_lt (1 + n) (suc len) ≡ false = grind (arith, nat_tests) in
+              rw same refl
+        ] refl
 
 pub eq_sym : (a b : ℕ) → nat_eq a b ≡ (b == a)
 eq_sym a b = grind (arith, nat_tests)
@@ -99,12 +99,12 @@ pub code_found : (S : Museum) (x : List ℕ) → is_known S x ≡ true
     → thing_code_of S (thing_no S x) ≡ Some x
 code_found S x known = elim (find_thing S x) as (λ o. find_thing S x ≡ o → is_some o ≡ true
     → thing_code_of S (unwrap_or o (length S.things)) ≡ Some x) [
-  | None ↦ λ e k. absurd (false≢true k)
-  | Some i ↦ λ e k.
-      let found = position-Some (bytes_eq x) (thing_codes S) i x e in
-      slice_get-get_or (thing_codes S) i x found.0
+      | None ↦ λ e k. absurd (false≢true k)
+      | Some i ↦ λ e k.
+          let found = position-Some (bytes_eq x) (thing_codes S) i x e in
+          slice_get-get_or (thing_codes S) i x found.0
           ∙ ap Some (sym ((bytes_eq-Decides x (get_or (thing_codes S) i x)).0 found.1))
-] refl known
+    ] refl known
 
 -- what stands among the numbers of known codes has one of these codes
 pub among_codes : (S : Museum) (bad : List ℕ → Bool) (xs : List (List ℕ)) (o : ℕ)
@@ -116,7 +116,11 @@ among_codes S bad (x ∷ xs) o known fine h =
     let knowns = or_parts (not (is_known S x)) (list_any (λ x. not (is_known S x)) xs) known in
     let fines = or_parts (bad x) (list_any bad xs) fine in
     by_eq _ (thing_no S x) o
-    (λ t same. (x, ap (thing_code_of S) (sym same) ∙ code_found S x
-        (not-false (is_known S x) knowns.0), fines.0))
+    (λ t same. (
+      x,
+      ap (thing_code_of S) (sym same) ∙ code_found S x
+          (not-false (is_known S x) knowns.0),
+      fines.0,
+    ))
     (λ f. among_codes S bad xs o knowns.1 fines.1
-        (sym (ap (λ b. b || is_among o (map (thing_no S) xs)) f) ∙ h))
+    (sym (ap (λ b. b || is_among o (map (thing_no S) xs)) f) ∙ h))

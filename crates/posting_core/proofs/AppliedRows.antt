@@ -16,9 +16,9 @@ pub none_holds : (rows : List (Row Verdict))
 none_holds [] refusals h = tt
 none_holds (row ∷ rows) refusals h =
     let parts = and_parts (not (is_applied row.says))
-        (list_all (λ row. not (is_applied row.says)) rows) refusals in
+    (list_all (λ row. not (is_applied row.says)) rows) refusals in
     elim row.holds as (λ b. row.holds ≡ b → (if b then row.says else first_of rows) ≡ Applied
-        → (b ≡ false) × AllByRecursion (λ row. row.holds ≡ false) rows) [
+    → (b ≡ false) × AllByRecursion (λ row. row.holds ≡ false) rows) [
       | true ↦ λ e k. absurd (false≢true (ap (λ v. not (is_applied v)) (sym k) ∙ parts.0))
       | false ↦ λ e k. (refl, none_holds rows parts.1 k)
     ] refl h

@@ -44,7 +44,7 @@ all_listed lines wanted (o ∷ os) h =
 pub gives_up_on_lines : (S : Museum) (P : List Entry) (thing : List ℕ) (x : ℕ) (verdict : Verdict)
     (lines : ℕ → Option LineStage) (wanted : LineStage) (objects : List ℕ) (late : Bool) →
     find_thing S thing ≡ Some x → verdict ≡ first_of (line_rows lines wanted objects late)
-        → holds_at S P x ≡ true → (holds_at S P (thing_no S thing) && hangs_on_lines verdict) ≡ true
+    → holds_at S P x ≡ true → (holds_at S P (thing_no S thing) && hangs_on_lines verdict) ≡ true
 gives_up_on_lines S P thing x verdict lines wanted objects late found is held =
     and_from _ _ (ap (λ o. holds_at S P (unwrap_or o (length S.things))) found ∙ held)
-        (ap hangs_on_lines is ∙ lines_hang lines wanted objects late)
+    (ap hangs_on_lines is ∙ lines_hang lines wanted objects late)

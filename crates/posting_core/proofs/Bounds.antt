@@ -41,10 +41,10 @@ all_below S [] h = All-nil (λ (o : ℕ). o < length S.things)
 all_below S (x ∷ xs) h = elim (is_known S x) as (λ b. is_known S x ≡ b
     → not b || list_any (λ x. not (is_known S x)) xs ≡ false
     → All (λ o. o < length S.things) (map (thing_no S) (x ∷ xs))) [
-  | true ↦ λ e k. All-cons (λ (o : ℕ). o < length S.things) (thing_no S x) (map (thing_no S) xs)
-      (thing_below S x e) (all_below S xs k)
-  | false ↦ λ e k. absurd (false≢true (sym k))
-] refl h
+      | true ↦ λ e k. All-cons (λ (o : ℕ). o < length S.things) (thing_no S x) (map (thing_no S) xs)
+          (thing_below S x e) (all_below S xs k)
+      | false ↦ λ e k. absurd (false≢true (sym k))
+    ] refl h
 
 terms_below : (S : Museum) (depth : ℕ) (P : List Entry) (loan : List ℕ) (t : Option Agreement)
     → IsLawful S depth P → agreement P loan ≡ t
@@ -75,9 +75,9 @@ found_agreed (t ∷ ts) zero loan at =
 found_agreed (t ∷ ts) (suc i) loan at =
     elim (bytes_eq loan t.loan) as
     (λ b. is_some (cond b (Some t) (find (λ u. bytes_eq loan u.loan) ts)) ≡ true) [
-  | true ↦ refl
-  | false ↦ found_agreed ts i loan at
-]
+      | true ↦ refl
+      | false ↦ found_agreed ts i loan at
+    ]
 
 pub told_agreed : (P : List Entry) (i : ℕ) (loan : List ℕ) → slice_get (loans P) i ≡ Some loan
     → is_agreed P loan ≡ true
@@ -97,16 +97,16 @@ by_put S depth P y p None before allowed k = before k
 by_put S depth P y p (Some put) before allowed k =
     elim (put.thing == y) as (λ b. (if b then Some put.to else last (puts S P) y) ≡ Some (At p)
     → p < length S.places) [
-  | true ↦ λ m. target_in S put.to p allowed.place (same_Some put.to (At p) m)
-  | false ↦ before
-] k
+      | true ↦ λ m. target_in S put.to p allowed.place (same_Some put.to (At p) m)
+      | false ↦ before
+    ] k
 
 last_within : (S : Museum) (depth : ℕ) (P : List Entry) (y p : ℕ) → IsLawful S depth P
     → last (puts S P) y ≡ Some (At p) → p < length S.places
 last_within S depth [] y p lawful h = absurd (none-some _ h)
 last_within S depth (e ∷ P) y p (follows, lawful) h =
     by_put S depth P y p (put_by S P e.verdict e.message) (λ k. last_within S depth P y p lawful k)
-        (put_allowed S depth P e.verdict e.message lawful follows.judged) h
+    (put_allowed S depth P e.verdict e.message lawful follows.judged) h
 
 target_place : (S : Museum) (t : Option Target) → ((p : ℕ) → t ≡ Some (At p) → p < length S.places)
     → IfSome (place_of t) (λ p. p < length S.places)
@@ -129,11 +129,11 @@ spot_within S number before (Some p) (Some day) within =
     elim (is_same_place before (Some p)) as
     (λ b. All (λ (s : Spot). s.place < length S.places)
     (option_to_list (if b then None else Some (record { entry = number; place = p; day = day })))) [
-  | true ↦ All-nil (λ (s : Spot). s.place < length S.places)
-  | false ↦ All-cons (λ (s : Spot). s.place < length S.places)
-      (record { entry = number; place = p; day = day }) [] within
-      (All-nil (λ (s : Spot). s.place < length S.places))
-]
+      | true ↦ All-nil (λ (s : Spot). s.place < length S.places)
+      | false ↦ All-cons (λ (s : Spot). s.place < length S.places)
+          (record { entry = number; place = p; day = day }) [] within
+          (All-nil (λ (s : Spot). s.place < length S.places))
+    ]
 
 pub spots_within : (S : Museum) (depth : ℕ) (P : List Entry) (x : ℕ) → IsLawful S depth P
     → All (λ s. s.place < length S.places) (spots S P x)
@@ -144,4 +144,4 @@ spots_within S depth (e ∷ P) x (follows, lawful) =
     (day_of e.message)))
     (spots_within S depth P x lawful)
     (spot_within S (length P + 1) (place_at S P x) (place_at S (e ∷ P) x) (day_of e.message)
-        (place_within S depth (e ∷ P) x (follows, lawful)))
+    (place_within S depth (e ∷ P) x (follows, lawful)))

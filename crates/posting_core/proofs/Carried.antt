@@ -29,15 +29,21 @@ ends_with at (suc steps) y x h = by_container _ at y
     let here = above-some at steps y c some in
     let h' : (c == x) || is_among x (above at steps c) ≡ true = sym (ap (is_among x) here) ∙ h in
     elim (c == x) as (λ b. (c == x) ≡ b → b || is_among x (above at steps c) ≡ true
-        → EndsWith at (suc steps) y x) [
+    → EndsWith at (suc steps) y x) [
       | true ↦ λ e k.
           let same : c ≡ x = grind (arith, nat_tests) in
-          record { less = steps; few = omega arith;
-              ends = ap (outermost y) here ∙ ap (λ z. outermost z (above at steps z)) same }
+          record {
+            less = steps;
+            few = omega arith;
+            ends = ap (outermost y) here ∙ ap (λ z. outermost z (above at steps z)) same;
+          }
       | false ↦ λ e k.
           let deeper = ends_with at steps c x k in
-          record { less = deeper.less; few = omega (arith, deeper.few);
-              ends = ap (outermost y) here ∙ deeper.ends }
+          record {
+            less = deeper.less;
+            few = omega (arith, deeper.few);
+            ends = ap (outermost y) here ∙ deeper.ends;
+          }
     ] refl h')
 
 -- what stands below x is where x is
@@ -46,18 +52,18 @@ same_place_below : (n d : ℕ) (at : ℕ → Option Target) (y x : ℕ) → IsSo
 same_place_below n d at y x sound h =
     let e = ends_with at n y x h in
     let ended : Ended at e.less x =
-        sym (ap (λ z. container_of (at z)) e.ends) ∙ chain_ends n d at sound y in
+    sym (ap (λ z. container_of (at z)) e.ends) ∙ chain_ends n d at sound y in
     ap (λ z. place_of (at z)) e.ends
     ∙ sym (ap (λ cs. place_of (at (outermost x cs)))
-        (same_chain at e.less n x ended (omega (arith, length_above at e.less x, e.few))))
+    (same_chain at e.less n x ended (omega (arith, length_above at e.less x, e.few))))
 
 -- what a thing carries is where it is
 pub carried_place : (S : Museum) (depth : ℕ) (P : List Entry) (x y : ℕ) → IsLawful S depth P
     → is_carried (length S.things) (puts S P) x y ≡ true → place_at S P y ≡ place_at S P x
 carried_place S depth P x y lawful h =
     elim (y == x) as (λ b. (y == x) ≡ b
-        → b || is_among x (above (last (puts S P)) (length S.things) y) ≡ true
-        → place_at S P y ≡ place_at S P x) [
+    → b || is_among x (above (last (puts S P)) (length S.things) y) ≡ true
+    → place_at S P y ≡ place_at S P x) [
       | true ↦ λ e k. ap (place_at S P) (let same : y ≡ x = grind (arith, nat_tests) in same)
       | false ↦ λ e k. same_place_below (length S.things) depth (last (puts S P)) y x
           (lawful_sound S depth P lawful) k
@@ -68,10 +74,10 @@ pub carried_alone : (S : Museum) (P : List Entry) (x y : ℕ) → last (puts S P
     → is_carried (length S.things) (puts S P) x y ≡ true → y ≡ x
 carried_alone S P x y never h =
     let none : is_among x (above (last (puts S P)) (length S.things) y) ≡ false =
-        ap (is_among x) (above-none (last (puts S P)) (length S.things) y
-        (ap container_of never)) in
+    ap (is_among x) (above-none (last (puts S P)) (length S.things) y
+    (ap container_of never)) in
     elim (y == x) as (λ b. (y == x) ≡ b
-        → b || is_among x (above (last (puts S P)) (length S.things) y) ≡ true → y ≡ x) [
+    → b || is_among x (above (last (puts S P)) (length S.things) y) ≡ true → y ≡ x) [
       | true ↦ λ e k. let same : y ≡ x = grind (arith, nat_tests) in same
       | false ↦ λ e k. absurd (false≢true (sym none ∙ k))
     ] refl h

@@ -97,15 +97,15 @@ all_ready : (S : Museum) (depth : ℕ) (P : List Entry) (m : Message) (c : Cross
 all_ready S depth P (Exit day x loan) c applied is =
     let none = none_holds (exit_rows S P x loan day) refl applied in
     subst (IsReadyAll S P) (same_Some _ c is)
-        (record { listed = none.1.1.1.1.1.0; wanted = none.1.1.1.1.1.1.0; step = exit_step loan })
+    (record { listed = none.1.1.1.1.1.0; wanted = none.1.1.1.1.1.1.0; step = exit_step loan })
 all_ready S depth P (Return day x loan p) c applied is =
     let none = none_holds (return_rows S P x loan p) refl applied in
     subst (IsReadyAll S P) (same_Some _ c is)
-        (record { listed = none.1.1.1.1.1.1.1.0; wanted = none.1.1.1.1.1.1.1.1.0; step = refl })
+    (record { listed = none.1.1.1.1.1.1.1.0; wanted = none.1.1.1.1.1.1.1.1.0; step = refl })
 all_ready S depth P (Receive day x loan p) c applied is =
     let none = none_holds (receive_rows S P x loan p day) refl applied in
     subst (IsReadyAll S P) (same_Some _ c is)
-        (record { listed = none.1.1.1.1.1.1.1.1.0; wanted = none.1.1.1.1.1.1.1.1.1.0; step = refl })
+    (record { listed = none.1.1.1.1.1.1.1.1.0; wanted = none.1.1.1.1.1.1.1.1.1.0; step = refl })
 all_ready S depth P _ c applied is = absurd (none-some _ is)
 
 -- a line is its loan's objects and its stage
@@ -114,7 +114,7 @@ same_line : (S : Museum) (P : List Entry) (e : Entry) (l : List ℕ) (o : ℕ)
     → line S (e ∷ P) l o ≡ line S P l o
 same_line S P e l o agreed staged =
     ap (λ t. if is_among o (option_map_or (objects_of S) t []) then Some (stage S (e ∷ P) l o) else
-        None) agreed
+    None) agreed
     ∙ ap (λ s. if is_among o (objects S P l) then Some s else None) staged
 
 -- of an applied entry
@@ -152,9 +152,9 @@ module _ {S : Museum} {depth : ℕ} {P : List Entry} {e : Entry} (a : IsApplied 
         → line S (e ∷ P) t.loan o ≡ (if b then Some Awaiting else None)
     agreed_line o b among =
         ap (λ u. if is_among o (option_map_or (objects_of S) u []) then Some
-            (stage S (e ∷ P) t.loan o) else None) now_agreed
+        (stage S (e ∷ P) t.loan o) else None) now_agreed
         ∙ ap (λ s. if is_among o (objects_of S t) then Some s else None)
-            (unstaged t.loan o ∙ (untouched S depth P t.loan a.lawful unagreed).awaited o)
+        (unstaged t.loan o ∙ (untouched S depth P t.loan a.lawful unagreed).awaited o)
         ∙ ap (λ c. if c then Some Awaiting else None) among
 
     no_line : (o : ℕ) → line S P t.loan o ≡ None
@@ -167,12 +167,12 @@ module _ {S : Museum} {depth : ℕ} {P : List Entry} {e : Entry} (a : IsApplied 
         → line S (e ∷ P) l o ≡ line S P l o
     agreed_others l o apart = elim (bytes_eq t.loan l) as (λ b. bytes_eq t.loan l ≡ b
         → (b && is_among o (objects_of S t)) ≡ false → line S (e ∷ P) l o ≡ line S P l o) [
-      | true ↦ λ h k. subst (λ m. line S (e ∷ P) m o ≡ line S P m o)
-          ((bytes_eq-Decides t.loan l).0 h) (agreed_line o false k ∙ sym (no_line o))
-      | false ↦ λ h k. same_line S P e l o
-          (agreement_after t is l ∙ ap (λ b. option_or (agreement P l) (cond b (Some t) None))
-          (apart_sym t.loan l h) ∙ or_none (agreement P l)) (unstaged l o)
-    ] refl apart
+          | true ↦ λ h k. subst (λ m. line S (e ∷ P) m o ≡ line S P m o)
+              ((bytes_eq-Decides t.loan l).0 h) (agreed_line o false k ∙ sym (no_line o))
+          | false ↦ λ h k. same_line S P e l o
+              (agreement_after t is l ∙ ap (λ b. option_or (agreement P l) (cond b (Some t) None))
+              (apart_sym t.loan l h) ∙ or_none (agreement P l)) (unstaged l o)
+        ] refl apart
       where
         or_none : (u : Option Agreement) → option_or u None ≡ u
         or_none None = refl
@@ -200,9 +200,9 @@ module _ {S : Museum} {depth : ℕ} {P : List Entry} {e : Entry} (a : IsApplied 
         → line S (e ∷ P) c.loan o ≡ Some c.stage
     crossed_line o among =
         ap (λ os. if is_among o os then Some (stage S (e ∷ P) c.loan o) else None)
-            (same_objects c.loan)
+        (same_objects c.loan)
         ∙ ap (λ b. if b then Some (stage S (e ∷ P) c.loan o) else None)
-            (ready S P c o crossed_ready.listed crossed_ready.wanted among).listed
+        (ready S P c o crossed_ready.listed crossed_ready.wanted among).listed
         ∙ ap (λ s. Some s) (crosses_with a o c is among).here
 
     line_before : (o : ℕ) → is_among o (objects_in S P c.thing) ≡ true
@@ -210,7 +210,7 @@ module _ {S : Museum} {depth : ℕ} {P : List Entry} {e : Entry} (a : IsApplied 
     line_before o among =
         let at = ready S P c o crossed_ready.listed crossed_ready.wanted among in
         ap (λ b. if b then Some (stage S P c.loan o) else None) at.listed
-            ∙ ap (λ s. Some s) at.wanted
+        ∙ ap (λ s. Some s) at.wanted
 
     stage_stays : (l : List ℕ) (o : ℕ)
         → (bytes_eq c.loan l && is_among o (objects_in S P c.thing)) ≡ false
@@ -218,9 +218,9 @@ module _ {S : Museum} {depth : ℕ} {P : List Entry} {e : Entry} (a : IsApplied 
     stage_stays l o apart = elim (is_among o (objects_in S P c.thing)) as
         (λ b. is_among o (objects_in S P c.thing) ≡ b → (bytes_eq c.loan l && b) ≡ false
         → stage S (e ∷ P) l o ≡ stage S P l o) [
-      | true ↦ λ h k. (crosses_with a o c is h).others l (alone (bytes_eq c.loan l) k)
-      | false ↦ λ h k. crosses_without a o c is h l
-    ] refl apart
+          | true ↦ λ h k. (crosses_with a o c is h).others l (alone (bytes_eq c.loan l) k)
+          | false ↦ λ h k. crosses_without a o c is h l
+        ] refl apart
       where
         alone : (b : Bool) → (b && true) ≡ false → b ≡ false
         alone true k = k
@@ -254,15 +254,27 @@ module _ {S : Museum} {depth : ℕ} {P : List Entry} {e : Entry} (a : IsApplied 
 
   pub written : Written S P e
   written = elim (agreement_in e.message) as (λ o. agreement_in e.message ≡ o → Written S P e) [
-    | Some t ↦ λ is. record { loan = t.loan; objects = objects_of S t; stage = Awaiting;
-        writes = agreed_writes t is }
+    | Some t ↦ λ is. record {
+      loan = t.loan;
+      objects = objects_of S t;
+      stage = Awaiting;
+      writes = agreed_writes t is;
+    }
     | None ↦ λ unagreed. elim (crossing_in e.message) as (λ o. crossing_in e.message ≡ o
         → Written S P e) [
-      | Some c ↦ λ is. record { loan = c.loan; objects = objects_in S P c.thing; stage = c.stage;
-          writes = crossed_writes c is }
-      | None ↦ λ uncrossed. record { loan = []; objects = []; stage = Awaiting;
-          writes = nothing_written unagreed uncrossed }
-    ] refl
+          | Some c ↦ λ is. record {
+            loan = c.loan;
+            objects = objects_in S P c.thing;
+            stage = c.stage;
+            writes = crossed_writes c is;
+          }
+          | None ↦ λ uncrossed. record {
+            loan = [];
+            objects = [];
+            stage = Awaiting;
+            writes = nothing_written unagreed uncrossed;
+          }
+        ] refl
   ] refl
 
 -- the lines that are written are those of these objects
@@ -289,14 +301,17 @@ all_named : (Q : NewLine → Type 0) (loan os : List ℕ) (s : LineStage)
 all_named Q loan [] s each = All-nil Q
 all_named Q loan (x ∷ os) s each =
     All-cons Q (record { loan = loan; object = x; stage = s }) (lines_at loan os s)
-        (each x (first_among x os)) (all_named Q loan os s
-        (λ o among. each o (later_among o x os among)))
+    (each x (first_among x os)) (all_named Q loan os s
+    (λ o among. each o (later_among o x os among)))
 
 -- what an entry changes of a ledger's lines
 module _ (B : Book) (e : Entry) (lawful : GoesOn B (e ∷ [])) where
   applied_in : is_applied e.verdict ≡ true → IsApplied B.museum B.depth B.posted e
-  applied_in h = record { lawful = lawful.1; applied = h;
-      judged = sym lawful.0.judged ∙ applied_is e.verdict h }
+  applied_in h = record {
+    lawful = lawful.1;
+    applied = h;
+    judged = sym lawful.0.judged ∙ applied_is e.verdict h;
+  }
 
   changed_lines : (b : Bool) → is_applied e.verdict ≡ b
       → (changes_of B e.message).lines ≡ (if b then new_lines B.museum B.posted e.message else [])
@@ -308,11 +323,11 @@ module _ (B : Book) (e : Entry) (lawful : GoesOn B (e ∷ [])) where
       (changes_of B e.message).lines
   stages_told = elim (is_applied e.verdict) as (λ b. is_applied e.verdict ≡ b
       → All Q (changes_of B e.message).lines) [
-    | true ↦ λ h. let w = written (applied_in h) in
-        subst (All Q) (sym (changed_lines true h ∙ w.writes.lines))
+        | true ↦ λ h. let w = written (applied_in h) in
+            subst (All Q) (sym (changed_lines true h ∙ w.writes.lines))
             (all_named Q w.loan w.objects w.stage w.writes.here)
-    | false ↦ λ h. subst (All Q) (sym (changed_lines false h)) (All-nil Q)
-  ] refl
+        | false ↦ λ h. subst (All Q) (sym (changed_lines false h)) (All-nil Q)
+      ] refl
     where
       Q : NewLine → Type 0
       Q l = line_in (later B (e ∷ [])) l.loan l.object ≡ Some l.stage
@@ -324,7 +339,7 @@ module _ (B : Book) (e : Entry) (lawful : GoesOn B (e ∷ [])) where
   lines_differ loan o = elim (is_applied e.verdict) as (λ b. is_applied e.verdict ≡ b → Differs) [
     | true ↦ λ h. let w = written (applied_in h) in
         let is = told (lines_at w.loan w.objects w.stage) (changed_lines true h ∙ w.writes.lines)
-            ∙ named w.loan w.objects w.stage loan o in
+        ∙ named w.loan w.objects w.stage loan o in
         by_name w is (bytes_eq w.loan loan && is_among o w.objects) refl
     | false ↦ λ h. (
       λ differs. absurd (differs ((unchanged B e h).lines loan o)),
@@ -351,10 +366,10 @@ module _ (B : Book) (e : Entry) (lawful : GoesOn B (e ∷ [])) where
             let parts = and_parts (bytes_eq w.loan loan) (is_among o w.objects) k in
             let loan_is : w.loan ≡ loan = (bytes_eq-Decides w.loan loan).0 parts.0 in
             step_differs (line_in B loan o) w.stage
-                (subst (λ l. is_step (line_in B l o) w.stage ≡ true) loan_is
-                (w.writes.step o parts.1))
+            (subst (λ l. is_step (line_in B l o) w.stage ≡ true) loan_is
+            (w.writes.step o parts.1))
             (sym same ∙ subst (λ l. line_in (later B (e ∷ [])) l o ≡ Some w.stage) loan_is
-                (w.writes.here o parts.1)),
+            (w.writes.here o parts.1)),
       )
       by_name w is false k = (
         λ differs. absurd (differs (w.writes.others loan o k)),

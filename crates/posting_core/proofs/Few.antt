@@ -32,7 +32,7 @@ same_count (suc k) e P above =
     let none : one_if (e.station == k) ≡ 0 = rw other refl in
     let rest : counted k (e ∷ P) ≡ counted k P = same_count k e P (omega arith) in
     let all : one_if (e.station == k) + count_at k P + counted k (e ∷ P) ≡ count_at k P + counted k
-        P = omega (arith, none, rest) in
+    P = omega (arith, none, rest) in
     all
 
 one_more : (k : ℕ) (e : Entry) (P : List Entry) → e.station < k
@@ -40,15 +40,15 @@ one_more : (k : ℕ) (e : Entry) (P : List Entry) → e.station < k
 one_more zero e P below = elim below [ ]
 one_more (suc k) e P below = elim (e.station == k) as (λ b. (e.station == k) ≡ b
     → (if b then 1 else 0) + count_at k P + counted k (e ∷ P) ≡ count_at k P + counted k P + 1) [
-  | true ↦ λ is.
-      let same : e.station ≡ k = grind (arith, nat_tests) in
-      let rest : counted k (e ∷ P) ≡ counted k P = same_count k e P (omega arith) in
-      omega (arith, rest)
-  | false ↦ λ is.
-      let less : e.station < k = grind (arith, nat_tests) in
-      let rest : counted k (e ∷ P) ≡ counted k P + 1 = one_more k e P less in
-      omega (arith, rest)
-] refl
+      | true ↦ λ is.
+          let same : e.station ≡ k = grind (arith, nat_tests) in
+          let rest : counted k (e ∷ P) ≡ counted k P = same_count k e P (omega arith) in
+          omega (arith, rest)
+      | false ↦ λ is.
+          let less : e.station < k = grind (arith, nat_tests) in
+          let rest : counted k (e ∷ P) ≡ counted k P + 1 = one_more k e P less in
+          omega (arith, rest)
+    ] refl
 
 -- a lawful list has all its entries at the stations of the setup
 all_counted : (S : Museum) (depth : ℕ) (P : List Entry) → IsLawful S depth P
@@ -61,7 +61,7 @@ all_counted S depth [] lawful = none (length S.stations)
 all_counted S depth (e ∷ P) (follows, lawful) =
     let rest : length P ≡ counted (length S.stations) P = all_counted S depth P lawful in
     let more : counted (length S.stations) (e ∷ P) ≡ counted (length S.stations) P + 1 =
-        one_more (length S.stations) e P follows.known in
+    one_more (length S.stations) e P follows.known in
     omega (arith, rest, more)
 
 -- no station has more than the last number
@@ -71,13 +71,13 @@ few_at S depth k [] lawful = omega arith
 few_at S depth k (e ∷ P) (follows, lawful) =
     elim (e.station == k) as (λ b. (e.station == k) ≡ b
     → (if b then 1 else 0) + count_at k P ≤ LAST_NUMBER) [
-  | true ↦ λ is.
-      let same : e.station ≡ k = grind (arith, nat_tests) in
-      let number : e.n ≡ count_at k P + 1 = follows.next ∙ ap (λ (s : ℕ). count_at s P + 1) same in
-      omega (arith, number, follows.few)
-  | false ↦ λ is. let rest : count_at k P ≤ LAST_NUMBER = few_at S depth k P lawful in
-      omega (arith, rest)
-] refl
+      | true ↦ λ is.
+          let same : e.station ≡ k = grind (arith, nat_tests) in
+          let number : e.n ≡ count_at k P + 1 = follows.next ∙ ap (λ (s : ℕ). count_at s P + 1) same in
+          omega (arith, number, follows.few)
+      | false ↦ λ is. let rest : count_at k P ≤ LAST_NUMBER = few_at S depth k P lawful in
+          omega (arith, rest)
+    ] refl
 
 few_counted : (S : Museum) (depth : ℕ) (k : ℕ) (P : List Entry) → IsLawful S depth P
     → counted k P ≤ 999999 * k
@@ -92,7 +92,7 @@ few_entries : (S : Museum) (depth : ℕ) (P : List Entry) → length S.stations 
 few_entries S depth P few lawful =
     let all : length P ≡ counted (length S.stations) P = all_counted S depth P lawful in
     let bound : counted (length S.stations) P ≤ 999999 * length S.stations =
-        few_counted S depth (length S.stations) P lawful in
+    few_counted S depth (length S.stations) P lawful in
     omega (arith, few, all, bound)
 
 abbrev the_spot : ℕ → ℕ → ℤ → Spot
@@ -109,9 +109,9 @@ one_spot number before (Some p) None = omega arith
 one_spot number before (Some p) (Some day) =
     elim (is_same_place before (Some p)) as
     (λ b. length (option_to_list (if b then None else Some (the_spot number p day))) ≤ 1) [
-  | true ↦ omega arith
-  | false ↦ one_is_one (the_spot number p day)
-]
+      | true ↦ omega arith
+      | false ↦ one_is_one (the_spot number p day)
+    ]
 
 few_spots : (S : Museum) (P : List Entry) (x : ℕ) → length (spots S P x) ≤ length P
 few_spots S [] x = omega arith
@@ -119,8 +119,8 @@ few_spots S (e ∷ P) x =
     let rest : length (spots S P x) ≤ length P = few_spots S P x in
     let one = one_spot (length P + 1) (place_at S P x) (place_at S (e ∷ P) x) (day_of e.message) in
     let all = length-append (spots S P x)
-        (option_to_list (spot_from (length P + 1) (place_at S P x) (place_at S (e ∷ P) x)
-        (day_of e.message))) in
+    (option_to_list (spot_from (length P + 1) (place_at S P x) (place_at S (e ∷ P) x)
+    (day_of e.message))) in
     omega (arith, rest, one, all)
 
 -- what a ledger keeps

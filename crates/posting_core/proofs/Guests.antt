@@ -36,7 +36,7 @@ never_put S depth [] o lawful object none = refl
 never_put S depth (e ∷ P) o (follows, lawful) object none =
     let before = never_put S depth P o lawful object in
     by_verdict o follows lawful (λ a. unplaced none before (turn a object))
-        (λ same. unplaced none before (Left same))
+    (λ same. unplaced none before (Left same))
 
 -- with its lender and a guest, by the stages
 record WithLender (S : Museum) (P : List Entry) (o : ℕ) : Type 0 where
@@ -85,7 +85,7 @@ received {S} {P} {e} {o} r (inl away) = inr (record {
 })
 received {S} {P} {o} r (inr guest) =
     let inside : option_map_or (is_inside S) (place_at S P o) false ≡ true =
-        ap (λ q. option_map_or (is_inside S) q false) guest.place.is ∙ guest.place.inside in
+    ap (λ q. option_map_or (is_inside S) q false) guest.place.is ∙ guest.place.inside in
     absurd (false≢true (sym r.before ∙ inside))
 
 -- of a borrowed object, entry by entry
@@ -95,16 +95,16 @@ module _ (S : Museum) (depth : ℕ) (o : ℕ) (borrowed : is_borrowed S o ≡ tr
       → IfSome (place_at S P o) (λ p. is_elsewhere S p ≡ true) → ⊥
   not_moved {P} lawful m = elim (place_at S P o) as (λ q. place_at S P o ≡ q
       → IfSome q (λ p. is_elsewhere S p ≡ true) → ⊥) [
-    | None ↦ λ none away.
-        let alone = carried_alone S P m.thing o
+        | None ↦ λ none away.
+            let alone = carried_alone S P m.thing o
             (never_put S depth P o lawful (borrowed_object S o borrowed) none) m.carried in
-        let here : is_borrowed S m.thing ≡ false =
+            let here : is_borrowed S m.thing ≡ false =
             ap (is_away S m.thing) (sym none ∙ m.before) ∙ m.here in
-        false≢true (sym here ∙ sym (ap (is_borrowed S) alone) ∙ borrowed)
-    | Some p ↦ λ at away.
-        let here : is_elsewhere S p ≡ false = ap (is_away S m.thing) (sym at ∙ m.before) ∙ m.here in
-        false≢true (sym here ∙ away)
-  ] refl
+            false≢true (sym here ∙ sym (ap (is_borrowed S) alone) ∙ borrowed)
+        | Some p ↦ λ at away.
+            let here : is_elsewhere S p ≡ false = ap (is_away S m.thing) (sym at ∙ m.before) ∙ m.here in
+            false≢true (sym here ∙ away)
+      ] refl
 
   moved : {P : List Entry} {e : Entry} → IsLawful S depth P → HasMoved S P e o → Account S P o
       → Account S (e ∷ P) o
@@ -116,9 +116,9 @@ module _ (S : Museum) (depth : ℕ) (o : ℕ) (borrowed : is_borrowed S o ≡ tr
   exited {P} {e} lawful x account =
       let loan_in = borrowed_listed S depth P x.loan o lawful borrowed x.ready.listed in
       let here : stage S P x.loan o ≡ Here =
-          x.ready.wanted ∙ ap (λ b. if b then Awaiting else Here) loan_in in
+      x.ready.wanted ∙ ap (λ b. if b then Awaiting else Here) loan_in in
       let leaves : (if is_out x.loan then Away else GivenBack) ≡ GivenBack =
-          ap (λ b. if b then Away else GivenBack) loan_in in
+      ap (λ b. if b then Away else GivenBack) loan_in in
       by here leaves account
     where
       by : stage S P x.loan o ≡ Here → (if is_out x.loan then Away else GivenBack) ≡ GivenBack
@@ -149,7 +149,7 @@ module _ (S : Museum) (depth : ℕ) (o : ℕ) (borrowed : is_borrowed S o ≡ tr
   accounted (e ∷ P) (follows, lawful) =
       let before = accounted P lawful in
       by_verdict o follows lawful (λ a. applied lawful before
-          (turn a (borrowed_object S o borrowed))) (λ same. left same before)
+      (turn a (borrowed_object S o borrowed))) (λ same. left same before)
 
 pub borrowed_accounted : (B : Book) (o : ℕ) → IsLawful B.museum B.depth B.posted
     → is_borrowed B.museum o ≡ true → IsWithLender B o ⊎ IsGuest B o
@@ -158,13 +158,17 @@ borrowed_accounted B o lawful borrowed =
   where
     answer : Account B.museum B.posted o → IsWithLender B o ⊎ IsGuest B o
     answer (inl away) =
-        inl (record { place = away.place;
-        loans = λ loan at. away.loans loan (line_stage B.museum B.posted loan o Here at) })
+        inl (record {
+          place = away.place;
+          loans = λ loan at. away.loans loan (line_stage B.museum B.posted loan o Here at);
+        })
     answer (inr guest) = inr (record {
       loan = guest.loan;
       loan_in = guest.loan_in;
-      here = (line_listed B.museum B.posted guest.loan o Here guest.listed guest.here.0,
-          λ other at. guest.here.1 other (line_stage B.museum B.posted other o Here at));
+      here = (
+        line_listed B.museum B.posted guest.loan o Here guest.listed guest.here.0,
+        λ other at. guest.here.1 other (line_stage B.museum B.posted other o Here at),
+      );
       at = guest.place.at;
       place = guest.place.is;
       inside = guest.place.inside;

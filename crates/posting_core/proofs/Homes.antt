@@ -77,15 +77,15 @@ module _ (S : Museum) (depth : ℕ) (o : ℕ) (own : is_own S o ≡ true) where
   not_lent lawful here (inl home) = home
   not_lent {P} lawful here (inr lent) =
       let at : is_elsewhere S (place_no S lent.listed.agreed.partner) ≡ false =
-          subst (λ q. IfSome q (λ p. is_elsewhere S p ≡ false)) lent.place here in
+      subst (λ q. IfSome q (λ p. is_elsewhere S p ≡ false)) lent.place here in
       absurd (false≢true (sym at ∙ partner_elsewhere S depth P lent.loan lent.listed.agreed lawful
-          lent.listed.found))
+      lent.listed.found))
 
   moved : {P : List Entry} {e : Entry} → IsLawful S depth P → HasMoved S P e o → Account S P o
       → Account S (e ∷ P) o
   moved {P} {e} lawful m account =
       let here = subst (λ q. IfSome q (λ p. is_elsewhere S p ≡ false)) (sym m.before)
-          (not_away S m.thing (place_at S P m.thing) m.here) in
+      (not_away S m.thing (place_at S P m.thing) m.here) in
       let home : Home S P o = not_lent lawful here account in
       inl (record { place = placed_in m.after; loans = none_left S P e o Away m.stages home.loans })
 
@@ -93,20 +93,23 @@ module _ (S : Museum) (depth : ℕ) (o : ℕ) (own : is_own S o ≡ true) where
       → Account S (e ∷ P) o
   exited {P} {e} lawful x account =
       let here = subst (λ q. IfSome q (λ p. is_elsewhere S p ≡ false)) (sym x.before.is)
-          (not_elsewhere_inside S x.before.at x.before.inside) in
+      (not_elsewhere_inside S x.before.at x.before.inside) in
       let home : Home S P o = not_lent lawful here account in
       let loan_out = own_listed S depth P x.loan o lawful own x.ready.listed in
       let away : (if is_out x.loan then Away else GivenBack) ≡ Away =
-          ap (λ b. if b then Away else GivenBack) loan_out in
+      ap (λ b. if b then Away else GivenBack) loan_out in
       inr (record {
         loan = x.loan;
         loan_out = loan_out;
         away = subst (λ s. AtOne S (e ∷ P) o s x.loan) away
             (went x.crossed (subst (AtNone S P o) (sym away) home.loans));
         listed = listed_stays S P e x.loan o
-            (record { agreed = x.agreed; found = x.found;
-            among = subst (λ t. is_among o (option_map_or (objects_of S) t []) ≡ true) x.found
-            x.ready.listed });
+            (record {
+              agreed = x.agreed;
+              found = x.found;
+              among = subst (λ t. is_among o (option_map_or (objects_of S) t []) ≡ true) x.found
+                  x.ready.listed;
+            });
         place = x.after;
       })
 
@@ -125,7 +128,7 @@ module _ (S : Museum) (depth : ℕ) (o : ℕ) (own : is_own S o ≡ true) where
   accounted (e ∷ P) (follows, lawful) =
       let before = accounted P lawful in
       by_verdict o follows lawful (λ a. applied lawful before (turn a (own_object S o own)))
-          (λ same. left same before)
+      (λ same. left same before)
 
 pub own_accounted : (B : Book) (o : ℕ) → IsLawful B.museum B.depth B.posted
     → is_own B.museum o ≡ true → IsHome B o ⊎ IsLent B o
@@ -133,13 +136,17 @@ own_accounted B o lawful own = answer (accounted B.museum B.depth o own B.posted
   where
     answer : Account B.museum B.posted o → IsHome B o ⊎ IsLent B o
     answer (inl home) =
-        inl (record { place = home.place;
-        loans = λ loan at. home.loans loan (line_stage B.museum B.posted loan o Away at) })
+        inl (record {
+          place = home.place;
+          loans = λ loan at. home.loans loan (line_stage B.museum B.posted loan o Away at);
+        })
     answer (inr lent) = inr (record {
       loan = lent.loan;
       loan_out = lent.loan_out;
-      away = (line_listed B.museum B.posted lent.loan o Away lent.listed lent.away.0,
-          λ other at. lent.away.1 other (line_stage B.museum B.posted other o Away at));
+      away = (
+        line_listed B.museum B.posted lent.loan o Away lent.listed lent.away.0,
+        λ other at. lent.away.1 other (line_stage B.museum B.posted other o Away at),
+      );
       partner = place_no B.museum lent.listed.agreed.partner;
       agreed = ap (option_map (λ t. place_no B.museum t.partner)) lent.listed.found;
       place = lent.place;

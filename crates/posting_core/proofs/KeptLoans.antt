@@ -22,14 +22,14 @@ loan_codes rows = map (λ row. row.loan) rows
 changed_first : (f : LoanRow → LoanRow) (loan : List ℕ) (rows : List LoanRow) (i : ℕ)
     (d new : LoanRow) → bytes_eq loan (get_or (loan_codes rows) i []) ≡ true →
     ((k : ℕ) → k < i → bytes_eq loan (get_or (loan_codes rows) k []) ≡ false)
-        → new ≡ f (get_or rows i d) → slice_set rows i new ≡ changed f loan rows
+    → new ≡ f (get_or rows i d) → slice_set rows i new ≡ changed f loan rows
 changed_first f loan [] i d new here before is = refl
 changed_first f loan (row ∷ rows) zero d new here before is =
     let this : bytes_eq loan row.loan ≡ true = here in rw this (ap (λ r. r ∷ rows) is)
 changed_first f loan (row ∷ rows) (suc i) d new here before is =
     let other : bytes_eq loan row.loan ≡ false = before zero (omega arith) in
     rw other (ap (λ rest. row ∷ rest)
-        (changed_first f loan rows i d new here (λ k earlier. before (suc k) (omega arith)) is))
+    (changed_first f loan rows i d new here (λ k earlier. before (suc k) (omega arith)) is))
 
 unchanged : (f : LoanRow → LoanRow) (loan : List ℕ) (rows : List LoanRow)
     → position_or_len (bytes_eq loan) (loan_codes rows) ≡ length (loan_codes rows)
@@ -57,14 +57,14 @@ pub changed_kept : (f : LoanRow → LoanRow) (loan : List ℕ) {codes : List (Li
     new ≡ f row → row ≡ get_or rows i row → slice_set rows i new ≡ changed f loan seen
 changed_kept f loan {rows} {i} {row} {new} same view at is there =
     let first = position-Some (bytes_eq loan) (loan_codes rows) i []
-        (ap (position (bytes_eq loan)) (sym same) ∙ sym at) in
+    (ap (position (bytes_eq loan)) (sym same) ∙ sym at) in
     changed_first f loan rows i row new first.1 first.2 (is ∙ ap f there) ∙ ap (changed f loan) view
 
 -- and where its number is told
 pub changed_at : (f : LoanRow → LoanRow) {rows seen : List LoanRow} {number : Option ℕ} {i : ℕ}
     {row new : LoanRow} → rows ≡ seen → number ≡ Some i → new ≡ f row → row ≡ get_or rows i row →
     (loan : List ℕ) → number ≡ position (bytes_eq loan) (loan_codes seen)
-        → slice_set rows i new ≡ changed f loan seen
+    → slice_set rows i new ≡ changed f loan seen
 changed_at f view is new there loan at =
     changed_kept f loan refl view (sym is ∙ at
     ∙ ap (λ rows. position (bytes_eq loan) (loan_codes rows)) (sym view)) new there
@@ -83,8 +83,11 @@ number_within rows loan at = subst (λ o. IfSome o (λ i. i < length rows)) (sym
     within : (o : Option ℕ) → position (bytes_eq loan) (loan_codes rows) ≡ o
         → IfSome o (λ i. i < length rows)
     within None e = tt
-    within (Some i) e = omega (arith, (position-Some (bytes_eq loan) (loan_codes rows) i [] e).0,
-        length-map rows (λ row. row.loan))
+    within (Some i) e = omega (
+      arith,
+      (position-Some (bytes_eq loan) (loan_codes rows) i [] e).0,
+      length-map rows (λ row. row.loan),
+    )
 
 -- a row's change leaves its code
 pub same_codes : (codes : List (List ℕ)) (rows : List LoanRow) (i : ℕ) (row new : LoanRow)
@@ -126,11 +129,14 @@ pub row_kept : (loan : List ℕ) {codes : List (List ℕ)} {rows seen : List Loa
     Some row ≡ find (λ r. bytes_eq loan r.loan) seen
 row_kept loan {rows} {i} {row} same view at there =
     let here : position (bytes_eq loan) (loan_codes rows) ≡ Some i =
-        ap (position (bytes_eq loan)) (sym same) ∙ sym at in
-    let less : i < length rows = omega (arith, (found loan (loan_codes rows) i here).0,
-        length-map rows (λ r. r.loan)) in
+    ap (position (bytes_eq loan)) (sym same) ∙ sym at in
+    let less : i < length rows = omega (
+      arith,
+      (found loan (loan_codes rows) i here).0,
+      length-map rows (λ r. r.loan),
+    ) in
     sym (ap (find (λ r. bytes_eq loan r.loan)) (sym view) ∙ row_at loan rows i here
-        ∙ slice_get-get_or rows i row less ∙ ap Some (sym there))
+    ∙ slice_get-get_or rows i row less ∙ ap Some (sym there))
 
 row_none : (loan : List ℕ) (rows : List LoanRow) → position (bytes_eq loan) (loan_codes rows) ≡ None
     → find (λ row. bytes_eq loan row.loan) rows ≡ None
@@ -145,23 +151,23 @@ unfound loan (row ∷ rows) = elim (bytes_eq loan row.loan) as
     (λ t. cond t (Some row) (find (λ r. bytes_eq loan r.loan) rows) ≡ None
     → cond (not t) (1 + position_or_len (bytes_eq loan) (loan_codes rows)) 0
     ≡ suc (length (loan_codes rows))) [
-  | true ↦ λ none. absurd (cc)
-  | false ↦ λ none. omega (arith, unfound loan rows none)
-]
+      | true ↦ λ none. absurd (cc)
+      | false ↦ λ none. omega (arith, unfound loan rows none)
+    ]
 
 pub no_row_kept : (loan : List ℕ) {codes : List (List ℕ)} {rows seen : List LoanRow}
     → codes ≡ loan_codes rows → rows ≡ seen → None ≡ position (bytes_eq loan) codes
     → None ≡ find (λ r. bytes_eq loan r.loan) seen
 no_row_kept loan {rows} same view none =
     sym (ap (find (λ r. bytes_eq loan r.loan)) (sym view) ∙ row_none loan rows
-        (ap (position (bytes_eq loan)) (sym same) ∙ sym none))
+    (ap (position (bytes_eq loan)) (sym same) ∙ sym none))
 
 -- a loan that has no row has no code
 code_none : (loan : List ℕ) (rows : List LoanRow) → find (λ row. bytes_eq loan row.loan) rows ≡ None
     → position (bytes_eq loan) (loan_codes rows) ≡ None
 code_none loan rows none =
     let n : nat_lt (length (loan_codes rows)) (length (loan_codes rows)) ≡ false =
-        grind (arith, nat_tests) in
+    grind (arith, nat_tests) in
     rw (unfound loan rows none, n) refl
 
 -- one more loan, whose code is new
@@ -174,8 +180,8 @@ one_more_code rows row none = insert_key_new (loan_codes rows) row.loan
 pub one_more_kept : (row : LoanRow) {codes : List (List ℕ)} {rows seen : List LoanRow}
     {loan : List ℕ} {after : List LoanRow} → codes ≡ loan_codes rows → rows ≡ seen →
     loan ≡ row.loan → find (λ r. bytes_eq row.loan r.loan) seen ≡ None → after ≡ rows ++ row ∷ []
-        → insert_key bytes_eq codes loan ≡ loan_codes after
+    → insert_key bytes_eq codes loan ≡ loan_codes after
 one_more_kept row {rows} {loan} same view code none more =
     ap (λ cs. insert_key bytes_eq cs loan) same ∙ ap (insert_key bytes_eq (loan_codes rows)) code
     ∙ one_more_code rows row (ap (find (λ r. bytes_eq row.loan r.loan)) view ∙ none)
-        ∙ ap loan_codes (sym more)
+    ∙ ap loan_codes (sym more)

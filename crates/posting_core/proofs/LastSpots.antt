@@ -44,7 +44,7 @@ target_placed S depth P (Move day x p) h = λ e. none-some _ (sym e)
 target_placed S depth P (Pack day x c) h = λ e.
     let none = none_holds (pack_rows S depth P x c) refl h in
     let outside : not (option_map_or (is_inside S) (place_at S P (thing_no S c)) false) ≡ true =
-        ap (λ o. not (option_map_or (is_inside S) o false)) e in
+    ap (λ o. not (option_map_or (is_inside S) o false)) e in
     let both : true ≡ false = sym outside ∙ none.1.1.1.0 in cc
 target_placed S depth P (Agree first last loan partner objects) h = tt
 target_placed S depth P (Authorise name loan) h = tt
@@ -66,10 +66,10 @@ entry_keeps_place S depth P e follows lawful x gone =
     applied : IsApplied S depth P e → place_at S P x ≡ None
     applied a = elim (put_in S P e.message) as (λ o. put_in S P e.message ≡ o
         → IfSome o (λ put. place_to S P put.to ≢ None) → place_at S P x ≡ None) [
-      | None ↦ λ is placed. sym (nothing_put a x is).place ∙ gone
-      | Some put ↦ λ is placed. by_carried a x put is
-          (λ goes. absurd (placed (sym goes.after ∙ gone))) (λ apart stays. sym stays.place ∙ gone)
-    ] refl (target_placed S depth P e.message a.judged)
+          | None ↦ λ is placed. sym (nothing_put a x is).place ∙ gone
+          | Some put ↦ λ is placed. by_carried a x put is
+              (λ goes. absurd (placed (sym goes.after ∙ gone))) (λ apart stays. sym stays.place ∙ gone)
+        ] refl (target_placed S depth P e.message a.judged)
 
 entry_without_day : (S : Museum) (P : List Entry) (e : Entry) (x : ℕ) → day_of e.message ≡ None
     → place_at S (e ∷ P) x ≡ place_at S P x
@@ -103,7 +103,7 @@ current_after row number before (Some p) None is gone undated =
 current_after row number before (Some p) (Some day) is gone undated =
     let new : Spot = record { entry = number; place = p; day = day } in
     elim (is_same_place before (Some p)) as (λ b. is_same_place before (Some p) ≡ b
-        → current (row ++ option_to_list (if b then None else Some new)) ≡ Some p) [
+    → current (row ++ option_to_list (if b then None else Some new)) ≡ Some p) [
       | true ↦ λ e. ap current (append-nil row) ∙ is ∙ same_is before p e
       | false ↦ λ e. ap (option_map (λ s. s.place)) (last_pushed None row new)
     ] refl
@@ -113,9 +113,9 @@ pub last_is_current : (S : Museum) (depth : ℕ) (P : List Entry) (x : ℕ) → 
 last_is_current S depth [] x lawful = refl
 last_is_current S depth (e ∷ P) x (follows, lawful) =
     current_after (spots S P x) (length P + 1) (place_at S P x) (place_at S (e ∷ P) x)
-        (day_of e.message)
+    (day_of e.message)
     (last_is_current S depth P x lawful) (entry_keeps_place S depth P e follows lawful x)
-        (entry_without_day S P e x)
+    (entry_without_day S P e x)
 
 pub unplaced_is_empty : (row : List Spot) (place : Option ℕ)
     → option_map (λ s. s.place) (last_or None row) ≡ place → place ≡ None → row ≡ []
@@ -142,23 +142,23 @@ before_new [] new k d e last = absurd (omega arith)
 before_new (s ∷ row) new k d e last =
     let here : k ≡ length row = omega arith in
     subst (λ i. (get_or (s ∷ row) i d).place ≢ new.place) (sym here)
-        (subst (λ o. IfSome o (λ s. s.place ≢ new.place)) (last_at s row d) last)
+    (subst (λ o. IfSome o (λ s. s.place ≢ new.place)) (last_at s row d) last)
 
 apart_pushed : (row : List Spot) (new : Spot) → AreChanges row
     → IfSome (last_or None row) (λ s. s.place ≢ new.place) → AreChanges (row ++ new ∷ [])
 apart_pushed row new apart last k d less =
     let fits : k + 1 < length row + 1 =
-        subst (λ n. k + 1 < n) (length-append row (new ∷ [])) less in
+    subst (λ n. k + 1 < n) (length-append row (new ∷ [])) less in
     let one : get_or (row ++ new ∷ []) k d ≡ get_or row k d =
-        get_or-append row (new ∷ []) d k (omega arith) in
+    get_or-append row (new ∷ []) d k (omega arith) in
     elim (cases_eq (k + 1) (length row)) [
       | inl e ↦
           let two : get_or (row ++ new ∷ []) (k + 1) d ≡ new =
-              ap (λ i. get_or (row ++ new ∷ []) i d) e ∙ get_or-append_seam row new [] d in
+          ap (λ i. get_or (row ++ new ∷ []) i d) e ∙ get_or-append_seam row new [] d in
           rw (one, two) (before_new row new k d e last)
       | inr n ↦
           let two : get_or (row ++ new ∷ []) (k + 1) d ≡ get_or row (k + 1) d =
-              get_or-append row (new ∷ []) d (k + 1) (omega arith) in
+          get_or-append row (new ∷ []) d (k + 1) (omega arith) in
           rw (one, two) (apart k d (omega arith))
     ]
 
@@ -170,7 +170,7 @@ differ_is before p row is differ = other (last_or None row) is
     other None e = tt
     other (Some s) e = λ same.
         let here : is_same_place (Some s.place) (Some p) ≡ false =
-            ap (λ b. is_same_place b (Some p)) e ∙ differ in
+        ap (λ b. is_same_place b (Some p)) e ∙ differ in
         absurd (grind (arith, nat_tests))
 
 -- an entry's spot is at another place than the one before it
@@ -182,7 +182,7 @@ apart_after row number before (Some p) None is apart = subst AreChanges (sym (ap
 apart_after row number before (Some p) (Some day) is apart =
     let new : Spot = record { entry = number; place = p; day = day } in
     elim (is_same_place before (Some p)) as (λ b. is_same_place before (Some p) ≡ b
-        → AreChanges (row ++ option_to_list (if b then None else Some new))) [
+    → AreChanges (row ++ option_to_list (if b then None else Some new))) [
       | true ↦ λ e. subst AreChanges (sym (append-nil row)) apart
       | false ↦ λ e. apart_pushed row new apart (differ_is before p row is e)
     ] refl
@@ -192,4 +192,4 @@ pub spots_apart : (S : Museum) (depth : ℕ) (P : List Entry) (x : ℕ) → IsLa
 spots_apart S depth [] x lawful = λ k d less. absurd (omega arith)
 spots_apart S depth (e ∷ P) x (follows, lawful) =
     apart_after (spots S P x) (length P + 1) (place_at S P x) (place_at S (e ∷ P) x)
-        (day_of e.message) (last_is_current S depth P x lawful) (spots_apart S depth P x lawful)
+    (day_of e.message) (last_is_current S depth P x lawful) (spots_apart S depth P x lawful)

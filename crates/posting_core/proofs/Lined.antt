@@ -42,20 +42,20 @@ map_apart : (f : ℕ → LineStage) (o : ℕ) (s : LineStage) (os : List ℕ) �
 map_apart f o s [] apart = refl
 map_apart f o s (y ∷ os) apart = elim (y == o) as (λ b. (y == o) ≡ b → (b || is_among o os) ≡ false
     → f y ∷ map f os ≡ (if o == y then s else f y) ∷ map (λ z. if o == z then s else f z) os) [
-  | true ↦ λ e h. absurd (false≢true (sym h))
-  | false ↦ λ e h. let other : (o == y) ≡ false = grind (arith, nat_tests) in
-      rw other (ap (λ ss. f y ∷ ss) (map_apart f o s os h))
-] refl apart
+      | true ↦ λ e h. absurd (false≢true (sym h))
+      | false ↦ λ e h. let other : (o == y) ≡ false = grind (arith, nat_tests) in
+          rw other (ap (λ ss. f y ∷ ss) (map_apart f o s os h))
+    ] refl apart
 
 set_once : (f : ℕ → LineStage) (o : ℕ) (s : LineStage) (os : List ℕ) → AreOnce os →
     option_map_or (λ i. slice_set (map f os) i s) (position (nat_eq o) os) (map f os)
-        ≡ map (λ y. if o == y then s else f y) os
+    ≡ map (λ y. if o == y then s else f y) os
 set_once f o s [] once = refl
 set_once f o s (y ∷ os) (apart, once) =
     rw (position_cons (nat_eq o) y os) (elim (nat_eq o y) as (λ b. nat_eq o y ≡ b →
     option_map_or (λ i. slice_set (f y ∷ map f os) i s)
-        (if b then Some zero else option_map suc (position (nat_eq o) os)) (f y ∷ map f os)
-        ≡ (if b then s else f y) ∷ map (λ z. if o == z then s else f z) os) [
+    (if b then Some zero else option_map suc (position (nat_eq o) os)) (f y ∷ map f os)
+    ≡ (if b then s else f y) ∷ map (λ z. if o == z then s else f z) os) [
       | true ↦ λ e. let same : o ≡ y = grind (arith, nat_tests) in
           ap (λ ss. s ∷ ss) (map_apart f o s os
           (subst (λ z. is_among z os ≡ false) (sym same) apart))
@@ -79,12 +79,12 @@ reset_more : (f : ℕ → LineStage) (o : ℕ) (os : List ℕ) (s : LineStage) (
 reset_more f o os s y = elim (is_among y os) as
     (λ b. option_map_or (λ t. t) (if b then Some s else None) (if o == y then s else f y)
     ≡ option_map_or (λ t. t) (if (o == y) || b then Some s else None) (f y)) [
-  | true ↦ elim (o == y) as (λ b. s ≡ option_map_or (λ t. t) (if b || true then Some s else None)
-      (f y)) [ true ↦ refl | false ↦ refl ]
-  | false ↦
-      elim (o == y) as (λ b. (if b then s else f y) ≡ option_map_or (λ t. t)
-      (if b || false then Some s else None) (f y)) [ true ↦ refl | false ↦ refl ]
-]
+      | true ↦ elim (o == y) as (λ b. s ≡ option_map_or (λ t. t) (if b || true then Some s else None)
+          (f y)) [ true ↦ refl | false ↦ refl ]
+      | false ↦
+          elim (o == y) as (λ b. (if b then s else f y) ≡ option_map_or (λ t. t)
+          (if b || false then Some s else None) (f y)) [ true ↦ refl | false ↦ refl ]
+    ]
 
 -- the lines of these objects get their stage
 pub lines_set : (row : LoanRow) (loan : List ℕ) (f : ℕ → LineStage) (os : List ℕ) (s : LineStage)
@@ -93,7 +93,7 @@ pub lines_set : (row : LoanRow) (loan : List ℕ) (f : ℕ → LineStage) (os : 
 lines_set row loan f [] s once = refl
 lines_set row loan f (o ∷ os) s once =
     ap (λ stages. with_lines (lines_at loan os s) (record row { stages = stages }))
-        (set_once f o s row.objects once)
+    (set_once f o s row.objects once)
     ∙ lines_set row loan (λ y. if o == y then s else f y) os s once
     ∙ ap (row_with row) (fun_ext (reset_more f o os s))
 
@@ -106,29 +106,29 @@ others_stay f g loan (t ∷ ts) same none =
     elim (bytes_eq loan t.loan) as (λ b. bytes_eq loan t.loan ≡ b
     → cond b (Some t) (find (λ u. bytes_eq loan u.loan) ts) ≡ None
     → g t ∷ map g ts ≡ f t ∷ map f ts) [
-  | true ↦ λ e h. absurd (none-some _ (sym h))
-  | false ↦ λ e h. ap (λ r. r ∷ map g ts) (same t e) ∙ ap (λ rs. f t ∷ rs)
-      (others_stay f g loan ts same h)
-] refl none
+      | true ↦ λ e h. absurd (none-some _ (sym h))
+      | false ↦ λ e h. ap (λ r. r ∷ map g ts) (same t e) ∙ ap (λ rs. f t ∷ rs)
+          (others_stay f g loan ts same h)
+    ] refl none
 
 changed_row : (Q : Agreement → Type 0) (f g : Agreement → LoanRow) (change : LoanRow → LoanRow)
     (loan : List ℕ) (ts : List Agreement) → AllByRecursion Q ts → AreApart ts
     → ((t : Agreement) → (f t).loan ≡ t.loan) →
     ((t : Agreement) → bytes_eq loan t.loan ≡ false → g t ≡ f t)
-        → ((t : Agreement) → Q t → loan ≡ t.loan → g t ≡ change (f t))
-        → map g ts ≡ changed change loan (map f ts)
+    → ((t : Agreement) → Q t → loan ≡ t.loan → g t ≡ change (f t))
+    → map g ts ≡ changed change loan (map f ts)
 changed_row Q f g change loan [] all apart named same new = refl
 changed_row Q f g change loan (t ∷ ts) (q, all) (other, apart) named same new =
     elim (bytes_eq loan (f t).loan) as (λ b. bytes_eq loan (f t).loan ≡ b
     → g t ∷ map g ts ≡ (if b then change (f t) ∷ map f ts else f t ∷ changed change loan
     (map f ts))) [
-  | true ↦ λ e. let is : loan ≡ t.loan = (bytes_eq-Decides loan (f t).loan).0 e ∙ named t in
-      ap (λ r. r ∷ map g ts) (new t q is) ∙ ap (λ rs. change (f t) ∷ rs)
+      | true ↦ λ e. let is : loan ≡ t.loan = (bytes_eq-Decides loan (f t).loan).0 e ∙ named t in
+          ap (λ r. r ∷ map g ts) (new t q is) ∙ ap (λ rs. change (f t) ∷ rs)
           (others_stay f g loan ts same (subst (λ l. find (λ u. bytes_eq l u.loan) ts ≡ None)
           (sym is) other))
-  | false ↦ λ e. ap (λ r. r ∷ map g ts) (same t (ap (bytes_eq loan) (sym (named t)) ∙ e))
-      ∙ ap (λ rs. f t ∷ rs) (changed_row Q f g change loan ts all apart named same new)
-] refl
+      | false ↦ λ e. ap (λ r. r ∷ map g ts) (same t (ap (bytes_eq loan) (sym (named t)) ∙ e))
+          ∙ ap (λ rs. f t ∷ rs) (changed_row Q f g change loan ts all apart named same new)
+    ] refl
 
 -- a loan's row after a message under a verdict that lets it stand or not
 abbrev row_by : Museum → List Entry → Bool → Message → Agreement → LoanRow
@@ -160,13 +160,13 @@ crossed : (S : Museum) (depth : ℕ) (P : List Entry) (m : Message) (c : Crossin
     → ((t : Agreement) → extension_in m t.loan ≡ None)
     → ((t : Agreement) → authorises m t.loan ≡ false) →
     rows_by S P true m ≡ changed (with_lines (lines_at c.loan (objects_in S P c.thing) c.stage))
-        c.loan (loan_rows S P)
+    c.loan (loan_rows S P)
 crossed S depth P m c lawful is none stays quiet =
     same_loans S P m none (changed (with_lines (lines_at c.loan os c.stage)) c.loan (loan_rows S P))
     (changed_row (IsSound S) (loan_row S P) (row_by S P true m)
-        (with_lines (lines_at c.loan os c.stage)) c.loan (agreements P)
-        (agreements_sound S depth P lawful) (agreements_apart S depth P lawful)
-        (λ t. refl) other new)
+    (with_lines (lines_at c.loan os c.stage)) c.loan (agreements P)
+    (agreements_sound S depth P lawful) (agreements_apart S depth P lawful)
+    (λ t. refl) other new)
   where
     os : List ℕ
     os = objects_in S P c.thing
@@ -179,9 +179,9 @@ crossed S depth P m c lawful is none stays quiet =
     new t sound same =
         let yes : bytes_eq c.loan t.loan ≡ true = (bytes_eq-Decides c.loan t.loan).1 same in
         let set : row_by S P true m t ≡ row_with (loan_row S P t)
-            (reset (stage S P t.loan) os c.stage) = rw (is, stays t, quiet t, yes) refl in
+        (reset (stage S P t.loan) os c.stage) = rw (is, stays t, quiet t, yes) refl in
         set ∙ sym (lines_set (loan_row S P t) c.loan (stage S P t.loan) os c.stage
-            (numbers_once S t.objects sound.known sound.once))
+        (numbers_once S t.objects sound.known sound.once))
 
 -- the objects of lines, and their stages
 pub objects_told : (loan : List ℕ) (s : LineStage) (os : List ℕ)
@@ -216,17 +216,21 @@ agreed S depth P m t lawful applied is none stays quiet =
     awaited = ap (λ f. map f (objects_of S t)) (fun_ext before.awaited)
 
     new : row_by S P true m t ≡ agreed_row S t (lines_of_agreement S t)
-    new = old t ∙ rw (awaited, before.ends t.last, before.draft,
-        objects_told t.loan Awaiting (objects_of S t),
-        stages_told t.loan Awaiting (objects_of S t)) refl
+    new = old t ∙ rw (
+      awaited,
+      before.ends t.last,
+      before.draft,
+      objects_told t.loan Awaiting (objects_of S t),
+      stages_told t.loan Awaiting (objects_of S t),
+    ) refl
 
 authorised : (S : Museum) (depth : ℕ) (P : List Entry) (loan name : List ℕ) → IsLawful S depth P
     → rows_by S P true (Authorise name loan) ≡ changed authorised_row loan (loan_rows S P)
 authorised S depth P loan name lawful =
     same_loans S P (Authorise name loan) refl (changed authorised_row loan (loan_rows S P))
     (changed_row (IsSound S) (loan_row S P) (row_by S P true (Authorise name loan)) authorised_row
-        loan (agreements P) (agreements_sound S depth P lawful)
-        (agreements_apart S depth P lawful) (λ t. refl)
+    loan (agreements P) (agreements_sound S depth P lawful)
+    (agreements_apart S depth P lawful) (λ t. refl)
     (λ t apart. rw apart refl) (λ t sound same. rw ((bytes_eq-Decides loan t.loan).1 same) refl))
 
 extended : (S : Museum) (depth : ℕ) (P : List Entry) (loan : List ℕ) (day : ℤ) → IsLawful S depth P
@@ -234,8 +238,8 @@ extended : (S : Museum) (depth : ℕ) (P : List Entry) (loan : List ℕ) (day : 
 extended S depth P loan day lawful =
     same_loans S P (Extend day loan) refl (changed (extended_row day) loan (loan_rows S P))
     (changed_row (IsSound S) (loan_row S P) (row_by S P true (Extend day loan)) (extended_row day)
-        loan (agreements P) (agreements_sound S depth P lawful)
-        (agreements_apart S depth P lawful) (λ t. refl)
+    loan (agreements P) (agreements_sound S depth P lawful)
+    (agreements_apart S depth P lawful) (λ t. refl)
     (λ t apart. rw apart refl) (λ t sound same. rw ((bytes_eq-Decides loan t.loan).1 same) refl))
 
 applied_rows : (S : Museum) (depth : ℕ) (P : List Entry) (m : Message) → IsLawful S depth P
@@ -247,8 +251,8 @@ applied_rows S depth P (Pack day x c) lawful h =
     same_loans S P (Pack day x c) refl (loan_rows S P) refl
 applied_rows S depth P (Agree first final loan partner objects) lawful h =
     agreed S depth P (Agree first final loan partner objects)
-        (record { loan = loan; partner = partner; objects = objects; first = first; last = final })
-        lawful h refl refl (λ u. refl) (λ u. refl)
+    (record { loan = loan; partner = partner; objects = objects; first = first; last = final })
+    lawful h refl refl (λ u. refl) (λ u. refl)
 applied_rows S depth P (Authorise name loan) lawful h = authorised S depth P loan name lawful
 applied_rows S depth P (Exit day x loan) lawful h =
     crossed S depth P (Exit day x loan) (exit_of x loan) lawful refl refl (λ t. refl) (λ t. refl)
@@ -268,11 +272,11 @@ applied_rows S depth P (Extend day loan) lawful h = extended S depth P loan day 
 pub rows_after_entry : (S : Museum) (depth : ℕ) (P : List Entry) (e : Entry) → Follows S depth P e
     → IsLawful S depth P →
     loan_rows S (e ∷ P) ≡ (if is_applied e.verdict then rows_with S (loan_rows S P) e.message
-        (new_lines S P e.message) else loan_rows S P)
+    (new_lines S P e.message) else loan_rows S P)
 rows_after_entry S depth P e follows lawful =
     elim (is_applied e.verdict) as (λ b. is_applied e.verdict ≡ b
-        → rows_by S P b e.message ≡ (if b then rows_with S (loan_rows S P) e.message
-        (new_lines S P e.message) else loan_rows S P)) [
+    → rows_by S P b e.message ≡ (if b then rows_with S (loan_rows S P) e.message
+    (new_lines S P e.message) else loan_rows S P)) [
       | true ↦ λ h. applied_rows S depth P e.message lawful
           (sym follows.judged ∙ applied_is e.verdict h)
       | false ↦ λ h. ap (map (row_by S P false e.message)) (append-nil (agreements P))

@@ -26,14 +26,14 @@ use Rattle.posting_core.proofs.Among.{position_cons, eq_sym}
 find_map : (f : Agreement → LoanRow) (loan : List ℕ) (ts : List Agreement)
     → ((t : Agreement) → (f t).loan ≡ t.loan) →
     find (λ row. bytes_eq loan row.loan) (map f ts) ≡ option_map f
-        (find (λ t. bytes_eq loan t.loan) ts)
+    (find (λ t. bytes_eq loan t.loan) ts)
 find_map f loan [] named = refl
 find_map f loan (t ∷ ts) named =
     ap (λ l. cond (bytes_eq loan l) (Some (f t)) (find (λ row. bytes_eq loan row.loan) (map f ts)))
-        (named t)
+    (named t)
     ∙ (elim (bytes_eq loan t.loan) as
-        (λ b. cond b (Some (f t)) (find (λ row. bytes_eq loan row.loan) (map f ts)) ≡ option_map f
-        (cond b (Some t) (find (λ u. bytes_eq loan u.loan) ts))) [
+    (λ b. cond b (Some (f t)) (find (λ row. bytes_eq loan row.loan) (map f ts)) ≡ option_map f
+    (cond b (Some t) (find (λ u. bytes_eq loan u.loan) ts))) [
       | true ↦ refl
       | false ↦ find_map f loan ts named
     ])
@@ -46,8 +46,8 @@ line_found f o [] = refl
 line_found f o (y ∷ os) = rw (position_cons (nat_eq o) y os, eq_sym o y)
     (elim (y == o) as (λ b. (y == o) ≡ b →
     option_and_then (slice_get (f y ∷ map f os))
-        (if b then Some zero else option_map suc (position (nat_eq o) os))
-        ≡ (if b || is_among o os then Some (f o) else None)) [
+    (if b then Some zero else option_map suc (position (nat_eq o) os))
+    ≡ (if b || is_among o os then Some (f o) else None)) [
       | true ↦ λ e. let same : y ≡ o = grind (arith, nat_tests) in ap (λ z. Some (f z)) same
       | false ↦ λ e. later (position (nat_eq o) os) ∙ line_found f o os
     ] refl)
@@ -70,8 +70,8 @@ pub row_is : (S : Museum) (P : List Entry) (loan : List ℕ) (rows : List LoanRo
     (is_some r ≡ is_agreed P loan) × IfSome r (IsRowOf S P loan)
 row_is S P loan rows r kept is =
     subst (λ o. (is_some o ≡ is_agreed P loan) × IfSome o (IsRowOf S P loan))
-        (sym (is ∙ ap (find (λ row. bytes_eq loan row.loan)) kept ∙ find_map (loan_row S P) loan
-        (agreements P) (λ t. refl)))
+    (sym (is ∙ ap (find (λ row. bytes_eq loan row.loan)) kept ∙ find_map (loan_row S P) loan
+    (agreements P) (λ t. refl)))
     (found (agreement P loan) refl)
   where
     found : (o : Option Agreement) → agreement P loan ≡ o
@@ -99,7 +99,7 @@ pub judged_by_row : (S : Museum) (P : List Entry) (loan : List ℕ) (row : LoanR
     (wanted : LineStage) (late : Bool) (r : Result Verdict NoMemory)
     → ((o : ℕ) → line_of row o ≡ line S P loan o) →
     IfOk r (λ v. v ≡ first_of (line_rows (line_of row) wanted os late))
-        → IfOk r (λ v. v ≡ first_of (line_rows (line S P loan) wanted os late))
+    → IfOk r (λ v. v ≡ first_of (line_rows (line S P loan) wanted os late))
 judged_by_row S P loan row os wanted late r same h =
     subst (λ (lines : ℕ → Option LineStage). IfOk r
     (λ v. v ≡ first_of (line_rows lines wanted os late))) (fun_ext same) h
@@ -127,11 +127,11 @@ pub code_at : (S : Museum) (P : List Entry) (rows : List LoanRow) (i : ℕ) (row
 code_at S P rows i row kept at =
     slice_get-map (λ (t : Agreement). t.loan) (agreements P) i
     ∙ (elim (slice_get (agreements P) i) as (λ o. option_map (loan_row S P) o ≡ Some row
-        → option_map (λ t. t.loan) o ≡ Some row.loan) [
+    → option_map (λ t. t.loan) o ≡ Some row.loan) [
       | None ↦ λ e. absurd (none-some _ e)
       | Some t ↦ λ e. ap (option_map (λ r. r.loan)) e
     ] (sym (slice_get-map (loan_row S P) (agreements P) i)
-        ∙ sym (ap (λ rs. slice_get rs i) kept) ∙ at))
+    ∙ sym (ap (λ rs. slice_get rs i) kept) ∙ at))
 
 found_at : (ts : List Agreement) (i : ℕ) (t : Agreement) → AreApart ts → slice_get ts i ≡ Some t
     → find (λ u. bytes_eq t.loan u.loan) ts ≡ Some t
@@ -142,12 +142,12 @@ found_at (u ∷ ts) zero t apart e = let same : u ≡ t = cc in
 found_at (u ∷ ts) (suc i) t (other, apart) e =
     elim (bytes_eq t.loan u.loan) as (λ b. bytes_eq t.loan u.loan ≡ b
     → cond b (Some u) (find (λ w. bytes_eq t.loan w.loan) ts) ≡ Some t) [
-  | true ↦ λ h. let same : t.loan ≡ u.loan = (bytes_eq-Decides t.loan u.loan).0 h in
-      let there = found_at ts i t apart e in
-      absurd (none-some _ (sym other ∙ ap (λ l. find (λ w. bytes_eq l w.loan) ts)
+      | true ↦ λ h. let same : t.loan ≡ u.loan = (bytes_eq-Decides t.loan u.loan).0 h in
+          let there = found_at ts i t apart e in
+          absurd (none-some _ (sym other ∙ ap (λ l. find (λ w. bytes_eq l w.loan) ts)
           (sym same) ∙ there))
-  | false ↦ λ h. found_at ts i t apart e
-] refl
+      | false ↦ λ h. found_at ts i t apart e
+    ] refl
 
 pub objects_at : (S : Museum) (depth : ℕ) (P : List Entry) (rows : List LoanRow) (i : ℕ)
     (row : LoanRow) → IsLawful S depth P → rows ≡ loan_rows S P → slice_get rows i ≡ Some row →
@@ -155,11 +155,11 @@ pub objects_at : (S : Museum) (depth : ℕ) (P : List Entry) (rows : List LoanRo
 objects_at S depth P rows i row lawful kept at =
     ap (option_map (objects S P)) (slice_get-map (λ (t : Agreement). t.loan) (agreements P) i)
     ∙ (elim (slice_get (agreements P) i) as (λ o. slice_get (agreements P) i ≡ o
-        → option_map (loan_row S P) o ≡ Some row
-        → option_map (objects S P) (option_map (λ t. t.loan) o) ≡ Some row.objects) [
+    → option_map (loan_row S P) o ≡ Some row
+    → option_map (objects S P) (option_map (λ t. t.loan) o) ≡ Some row.objects) [
       | None ↦ λ h e. absurd (none-some _ e)
       | Some t ↦ λ h e. ap (λ o. Some (option_map_or (objects_of S) o []))
           (found_at (agreements P) i t (agreements_apart S depth P lawful) h)
           ∙ ap (option_map (λ r. r.objects)) e
     ] refl (sym (slice_get-map (loan_row S P) (agreements P) i)
-        ∙ sym (ap (λ rs. slice_get rs i) kept) ∙ at))
+    ∙ sym (ap (λ rs. slice_get rs i) kept) ∙ at))

@@ -33,13 +33,13 @@ closed_done false stages h = absurd (let e : Draft ≡ Closed = h in cc)
 closed_done true stages h = elim (list_all is_done stages) as
     (λ b. (if b then Closed else (if list_any (λ s. not (is_awaiting s)) stages then Running else
     Authorised)) ≡ Closed → b ≡ true) [
-  | true ↦ λ e. refl
-  | false ↦ λ e. elim (list_any (λ s. not (is_awaiting s)) stages) as
-      (λ b. (if b then Running else Authorised) ≡ Closed → false ≡ true) [
-    | true ↦ λ k. cc
-    | false ↦ λ k. cc
-  ] e
-] h
+      | true ↦ λ e. refl
+      | false ↦ λ e. elim (list_any (λ s. not (is_awaiting s)) stages) as
+          (λ b. (if b then Running else Authorised) ≡ Closed → false ≡ true) [
+            | true ↦ λ k. cc
+            | false ↦ λ k. cc
+          ] e
+    ] h
 
 all_done : (f : ℕ → LineStage) (os : List ℕ) (o : ℕ) → list_all is_done (map f os) ≡ true
     → is_among o os ≡ true → is_done (f o) ≡ true
@@ -54,18 +54,18 @@ all_done f (x ∷ os) o all h =
 
 closed_line : (S : Museum) (P : List Entry) (loan : List ℕ) (t : Option Agreement) (o : ℕ) →
     option_map (λ t. state_by (is_authorised P loan) (map (stage S P loan) (objects_of S t))) t
-        ≡ Some Closed →
+    ≡ Some Closed →
     IfSome (if is_among o (option_map_or (objects_of S) t []) then Some (stage S P loan o) else
-        None) IsOver
+    None) IsOver
 closed_line S P loan None o closed = tt
 closed_line S P loan (Some t) o closed =
     elim (is_among o (objects_of S t)) as (λ b. is_among o (objects_of S t) ≡ b
     → IfSome (if b then Some (stage S P loan o) else None) IsOver) [
-  | true ↦ λ e. done_over (stage S P loan o)
-      (all_done (stage S P loan) (objects_of S t) o
-      (closed_done (is_authorised P loan) (map (stage S P loan) (objects_of S t)) cc) e)
-  | false ↦ λ e. tt
-] refl
+      | true ↦ λ e. done_over (stage S P loan o)
+          (all_done (stage S P loan) (objects_of S t) o
+          (closed_done (is_authorised P loan) (map (stage S P loan) (objects_of S t)) cc) e)
+      | false ↦ λ e. tt
+    ] refl
 
 pub closed_is_over : (S : Museum) (P : List Entry) (loan : List ℕ)
     → loan_state S P loan ≡ Some Closed → (o : ℕ) → IfSome (line S P loan o) IsOver
@@ -101,7 +101,7 @@ in_term : (S : Museum) (depth : ℕ) (P : List Entry) (m : Message) → verdict 
 in_term S depth P (Exit day x loan) h = λ out.
     let none = none_holds (exit_rows S P x loan day) refl h in
     within P loan day (not-false (is_agreed P loan) none.1.0)
-        (sym (ap (λ b. b && is_over P loan day) out) ∙ none.1.1.1.1.1.1.1.0)
+    (sym (ap (λ b. b && is_over P loan day) out) ∙ none.1.1.1.1.1.1.1.0)
 in_term S depth P (Receive day x loan p) h =
     let none = none_holds (receive_rows S P x loan p day) refl h in
     within P loan day (not-false (is_agreed P loan) none.1.1.1.0) none.1.1.1.1.1.1.1.1.1.1.0
@@ -111,9 +111,10 @@ pub at_each : (S : Museum) (depth : ℕ) (P : List Entry) (R : List Entry → Me
     → ((Q : List Entry) (m : Message) → verdict S depth Q m ≡ Applied → R Q m) → IsLawful S depth P
     → AtEachApplied R P
 at_each S depth [] R each lawful = tt
-at_each S depth (e ∷ P) R each (follows, lawful) =
-    (λ h. each P e.message (sym follows.judged ∙ applied_is e.verdict h),
-        at_each S depth P R each lawful)
+at_each S depth (e ∷ P) R each (follows, lawful) = (
+  λ h. each P e.message (sym follows.judged ∙ applied_is e.verdict h),
+  at_each S depth P R each lawful,
+)
 
 pub crosses_authorised : (S : Museum) (depth : ℕ) (P : List Entry) → IsLawful S depth P
     → AtEachApplied IsAuthorised P

@@ -24,7 +24,7 @@ same_thing : (S : Museum) (x y : List ℕ) → not (is_known S x) ≡ false → 
     → thing_no S x ≡ thing_no S y → x ≡ y
 same_thing S x y known_x known_y same =
     let codes : Some x ≡ Some y = sym (code_found S x (not-false (is_known S x) known_x))
-        ∙ ap (thing_code_of S) same ∙ code_found S y (not-false (is_known S y) known_y) in cc
+    ∙ ap (thing_code_of S) same ∙ code_found S y (not-false (is_known S y) known_y) in cc
 
 -- a number stands among others only where its code does
 unlike : (S : Museum) (x : List ℕ) (ys : List (List ℕ)) → not (is_known S x) ≡ false
@@ -35,10 +35,10 @@ unlike S x (y ∷ ys) known all apart =
     let both = or_parts (not (is_known S y)) (list_any (λ z. not (is_known S z)) ys) all in
     let two = or_parts (bytes_eq x y) (list_any (bytes_eq x) ys) apart in
     elim (thing_no S y == thing_no S x) as (λ b. (thing_no S y == thing_no S x) ≡ b
-        → (b || is_among (thing_no S x) (map (thing_no S) ys)) ≡ false) [
+    → (b || is_among (thing_no S x) (map (thing_no S) ys)) ≡ false) [
       | true ↦ λ e. let same : thing_no S x ≡ thing_no S y = grind (arith, nat_tests) in
           absurd (false≢true (sym two.0 ∙ (bytes_eq-Decides x y).1
-              (same_thing S x y known both.0 same)))
+          (same_thing S x y known both.0 same)))
       | false ↦ λ e. unlike S x ys known both.1 two.1
     ] refl
 
@@ -56,7 +56,7 @@ other_code : (S : Museum) (x : List ℕ) (ys : List (List ℕ))
 other_code S x [] apart = refl
 other_code S x (y ∷ ys) apart =
     let both = or_parts (thing_no S y == thing_no S x)
-        (is_among (thing_no S x) (map (thing_no S) ys)) apart in
+    (is_among (thing_no S x) (map (thing_no S) ys)) apart in
     let other : bytes_eq x y ≡ false = false_from_ne_true (bytes_eq x y) (λ e.
     let same : thing_no S x ≡ thing_no S y = ap (thing_no S) ((bytes_eq-Decides x y).0 e) in
     let numbers : (thing_no S y == thing_no S x) ≡ true = grind (arith, nat_tests) in
@@ -121,16 +121,16 @@ one_more_of f xs i d less =
 pub one_more_object : (lines : List NewLine) (i : ℕ) (d : NewLine) → i < length lines
     → AreOnce (map (λ l. l.object) lines) →
     insert_key nat_eq (map (λ l. l.object) (take i lines)) (get_or lines i d).object
-        ≡ map (λ l. l.object) (take (i + 1) lines)
+    ≡ map (λ l. l.object) (take (i + 1) lines)
 one_more_object lines i d less once =
     let object : NewLine → ℕ = λ l. l.object in
     let within : i < length (map object lines) = omega (arith, less, length-map lines object) in
     let among : is_among (get_or (map object lines) i d.object) (take i (map object lines))
-        ≡ false = once_among (map object lines) i d.object within once in
+    ≡ false = once_among (map object lines) i d.object within once in
     let here : is_among (get_or lines i d).object (map object (take i lines)) ≡ false =
     ap (λ n. is_among n (map object (take i lines)))
-        (sym (get_or-map object lines i d d.object less))
-        ∙ ap (is_among (get_or (map object lines) i d.object))
-        (sym (take-map object i lines)) ∙ among in
+    (sym (get_or-map object lines i d d.object less))
+    ∙ ap (is_among (get_or (map object lines) i d.object))
+    (sym (take-map object i lines)) ∙ among in
     rw (among_turned (get_or lines i d).object (map object (take i lines)) here)
-        (one_more_of object lines i d less)
+    (one_more_of object lines i d less)

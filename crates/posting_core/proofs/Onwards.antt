@@ -91,31 +91,34 @@ module _ (S : Museum) (depth : ℕ) (P : List Entry) (e : Entry) (lawful : IsLaw
   B = record { museum = S; depth = depth; posted = P }
 
   applied_here : is_applied e.verdict ≡ true → IsApplied S depth P e
-  applied_here h = record { lawful = lawful.1; applied = h;
-      judged = sym lawful.0.judged ∙ applied_is e.verdict h }
+  applied_here h = record {
+    lawful = lawful.1;
+    applied = h;
+    judged = sym lawful.0.judged ∙ applied_is e.verdict h;
+  }
 
   by_written : Written S P e → (o : ℕ)
       → goes_forward (line S P loan o) (line S (e ∷ P) loan o) ≡ true
   by_written w o = elim (bytes_eq w.loan loan && is_among o w.objects) as
       (λ b. (bytes_eq w.loan loan && is_among o w.objects) ≡ b
       → goes_forward (line S P loan o) (line S (e ∷ P) loan o) ≡ true) [
-    | true ↦ λ k.
-        let parts = and_parts (bytes_eq w.loan loan) (is_among o w.objects) k in
-        subst (λ l. goes_forward (line S P l o) (line S (e ∷ P) l o) ≡ true)
+        | true ↦ λ k.
+            let parts = and_parts (bytes_eq w.loan loan) (is_among o w.objects) k in
+            subst (λ l. goes_forward (line S P l o) (line S (e ∷ P) l o) ≡ true)
             ((bytes_eq-Decides w.loan loan).0 parts.0)
-        (ap (goes_forward (line S P w.loan o)) (w.writes.here o parts.1) ∙ step_forward
+            (ap (goes_forward (line S P w.loan o)) (w.writes.here o parts.1) ∙ step_forward
             (line S P w.loan o) w.stage (w.writes.step o parts.1))
-    | false ↦ λ k. ap (goes_forward (line S P loan o)) (w.writes.others loan o k) ∙ forward_itself
-        (line S P loan o)
-  ] refl
+        | false ↦ λ k. ap (goes_forward (line S P loan o)) (w.writes.others loan o k) ∙ forward_itself
+            (line S P loan o)
+      ] refl
 
   step_line : (o : ℕ) → goes_forward (line S P loan o) (line S (e ∷ P) loan o) ≡ true
   step_line o = elim (is_applied e.verdict) as (λ b. is_applied e.verdict ≡ b
       → goes_forward (line S P loan o) (line S (e ∷ P) loan o) ≡ true) [
-    | true ↦ λ h. by_written (written (applied_here h)) o
-    | false ↦ λ h. ap (goes_forward (line S P loan o)) ((unchanged B e h).lines loan o)
-        ∙ forward_itself (line S P loan o)
-  ] refl
+        | true ↦ λ h. by_written (written (applied_here h)) o
+        | false ↦ λ h. ap (goes_forward (line S P loan o)) ((unchanged B e h).lines loan o)
+            ∙ forward_itself (line S P loan o)
+      ] refl
 
   -- an agreed loan's stages too
   step_stage : (t : Agreement) → agreement P loan ≡ Some t → (o : ℕ)
@@ -123,8 +126,8 @@ module _ (S : Museum) (depth : ℕ) (P : List Entry) (e : Entry) (lawful : IsLaw
       → is_onward (stage S P loan o) (stage S (e ∷ P) loan o) ≡ true
   step_stage t is o among =
       sym (ap (λ l. goes_forward l (line S (e ∷ P) loan o)) (at P is)
-          ∙ ap (goes_forward (Some (stage S P loan o)))
-          (at (e ∷ P) (agreement_stays P e loan t is))) ∙ step_line o
+      ∙ ap (goes_forward (Some (stage S P loan o)))
+      (at (e ∷ P) (agreement_stays P e loan t is))) ∙ step_line o
     where
       at : (Q : List Entry) → agreement Q loan ≡ Some t → line S Q loan o ≡ Some (stage S Q loan o)
       at Q found =
@@ -149,7 +152,7 @@ all_done_on f g (o ∷ os) onward done =
     let parts = and_parts (is_done (f o)) (list_all is_done (map f os)) done in
     let here : is_done (g o) ≡ true = done_on (f o) (g o) (onward o (first_among o os)) parts.0 in
     ap (λ b. b && list_all is_done (map g os)) here ∙ all_done_on f g os
-        (λ p among. onward p (later_among p o os among)) parts.1
+    (λ p among. onward p (later_among p o os among)) parts.1
 
 closed_authorised : (authorised : Bool) (stages : List LineStage)
     → state_by authorised stages ≡ Closed → authorised ≡ true
@@ -176,15 +179,15 @@ step_closed S depth P e loan lawful closed = by (agreement P loan) refl closed
     by None is closed = absurd (none-some _ closed)
     by (Some t) is closed =
         let state : state_by (is_authorised P loan) (map (stage S P loan) (objects_of S t))
-            ≡ Closed = same_Some _ _ closed in
+        ≡ Closed = same_Some _ _ closed in
         let authorised = still_authorised P e loan
-            (closed_authorised (is_authorised P loan) (map (stage S P loan) (objects_of S t)) state)
-            in
+        (closed_authorised (is_authorised P loan) (map (stage S P loan) (objects_of S t)) state)
+        in
         let done = all_done_on (stage S P loan) (stage S (e ∷ P) loan) (objects_of S t)
-            (step_stage S depth P e lawful loan t is)
-            (closed_done (is_authorised P loan) (map (stage S P loan) (objects_of S t)) state) in
+        (step_stage S depth P e lawful loan t is)
+        (closed_done (is_authorised P loan) (map (stage S P loan) (objects_of S t)) state) in
         ap (option_map (λ u. state_by (is_authorised (e ∷ P) loan)
-            (map (stage S (e ∷ P) loan) (objects_of S u)))) (agreement_stays P e loan t is)
+        (map (stage S (e ∷ P) loan) (objects_of S u)))) (agreement_stays P e loan t is)
         ∙ rw (authorised, done) refl
 
 -- a last day only moves on
@@ -201,12 +204,12 @@ extended : (S : Museum) (depth : ℕ) (P : List Entry) (m : Message) (loan : Lis
 extended S depth P (Extend next l) loan day applied is =
     elim (bytes_eq l loan) as (λ b. bytes_eq l loan ≡ b
     → day ≤ℤ unwrap_or (if b then Some next else None) day) [
-  | true ↦ λ h. let same : l ≡ loan = (bytes_eq-Decides l loan).0 h in
-      later_day day next
+      | true ↦ λ h. let same : l ≡ loan = (bytes_eq-Decides l loan).0 h in
+          later_day day next
           (sym (ap (λ o. option_map_or (λ last. int_le next last) o false)
           (ap (last_day P) same ∙ is)) ∙ (none_holds (extend_rows P l next) refl applied).1.1.0)
-  | false ↦ λ h. same_day day
-] refl
+      | false ↦ λ h. same_day day
+    ] refl
 extended S depth P _ loan day applied is = same_day day
 
 step_day : (S : Museum) (depth : ℕ) (P : List Entry) (e : Entry) (loan : List ℕ)
@@ -222,11 +225,11 @@ step_day S depth P e loan (follows, lawful) = by (agreement P loan) refl
       elim (is_applied e.verdict) as (λ b. is_applied e.verdict ≡ b
           → last_from P loan t.last ≤ℤ unwrap_or (if b then extension_in e.message loan else None)
           (last_from P loan t.last)) [
-        | true ↦ λ h. extended S depth P e.message loan (last_from P loan t.last)
-            (sym follows.judged ∙ applied_is e.verdict h)
-            (ap (option_map (λ u. last_from P loan u.last)) is)
-        | false ↦ λ h. same_day (last_from P loan t.last)
-      ] refl,
+            | true ↦ λ h. extended S depth P e.message loan (last_from P loan t.last)
+                (sym follows.judged ∙ applied_is e.verdict h)
+                (ap (option_map (λ u. last_from P loan u.last)) is)
+            | false ↦ λ h. same_day (last_from P loan t.last)
+          ] refl,
     )
 
 day_itself : (day : Option ℤ) → MovesOn day day
@@ -248,8 +251,8 @@ pub lines_forward : (B : Book) (L : List Entry) → GoesOn B L → (loan : List 
 lines_forward B [] lawful loan o = forward_itself (line_in B loan o)
 lines_forward B (e ∷ L) lawful loan o =
     forward_on (line_in B loan o) (line_in (later B L) loan o) (line_in (later B (e ∷ L)) loan o)
-        (lines_forward B L lawful.1 loan o)
-        (step_line B.museum B.depth (L ++ B.posted) e lawful loan o)
+    (lines_forward B L lawful.1 loan o)
+    (step_line B.museum B.depth (L ++ B.posted) e lawful loan o)
 
 pub closed_stays : (B : Book) (L : List Entry) → GoesOn B L → (loan : List ℕ)
     → state_in B loan ≡ Some Closed → state_in (later B L) loan ≡ Some Closed
@@ -263,7 +266,7 @@ pub days_move_on : (B : Book) (L : List Entry) → GoesOn B L → (loan : List �
 days_move_on B [] lawful loan = day_itself (last_day_in B loan)
 days_move_on B (e ∷ L) lawful loan =
     day_on (last_day_in B loan) (last_day_in (later B L) loan) (last_day_in (later B (e ∷ L)) loan)
-        (days_move_on B L lawful.1 loan) (step_day B.museum B.depth (L ++ B.posted) e loan lawful)
+    (days_move_on B L lawful.1 loan) (step_day B.museum B.depth (L ++ B.posted) e loan lawful)
 
 -- no crate leaves under a loan in
 

@@ -30,7 +30,7 @@ object_by : (S : Museum) (o : ℕ) (is_kind : ThingKind → Bool)
     option_map_or is_kind (option_map thing_kind (thing_code_of S o)) false ≡ true → IsObject S o
 object_by S o is_kind no_container h =
     elim (thing_code_of S o) as (λ c. thing_code_of S o ≡ c
-        → option_map_or is_kind (option_map thing_kind c) false ≡ true → IsObject S o) [
+    → option_map_or is_kind (option_map thing_kind c) false ≡ true → IsObject S o) [
       | None ↦ λ e k. absurd (false≢true k)
       | Some x ↦ λ e k. record {
         below = subst (λ n. o < n) (length-map S.things (λ row. row.0))
@@ -66,9 +66,9 @@ pub listed_is : (S : Museum) (P : List Entry) (loan : List ℕ) (o : ℕ)
     → is_among o (objects S P loan) ≡ true → IsListed S P loan o
 listed_is S P loan o listed = elim (agreement P loan) as (λ t. agreement P loan ≡ t
     → is_among o (option_map_or (objects_of S) t []) ≡ true → IsListed S P loan o) [
-  | None ↦ λ e k. absurd (false≢true k)
-  | Some t ↦ λ e k. record { agreed = t; found = e; among = k }
-] refl listed
+      | None ↦ λ e k. absurd (false≢true k)
+      | Some t ↦ λ e k. record { agreed = t; found = e; among = k }
+    ] refl listed
 
 abbrev pub listed_stays : (S : Museum) (P : List Entry) (e : Entry) (loan : List ℕ) (o : ℕ)
     → IsListed S P loan o → IsListed S (e ∷ P) loan o
@@ -80,7 +80,7 @@ pub line_listed : (S : Museum) (P : List Entry) (loan : List ℕ) (o : ℕ) (s :
     → IsListed S P loan o → stage S P loan o ≡ s → line S P loan o ≡ Some s
 line_listed S P loan o s l at =
     ap (λ t. if is_among o (option_map_or (objects_of S) t []) then Some (stage S P loan o) else
-        None) l.found
+    None) l.found
     ∙ ap (λ b. if b then Some (stage S P loan o) else None) l.among
     ∙ ap Some at
 
@@ -88,9 +88,9 @@ pub line_stage : (S : Museum) (P : List Entry) (loan : List ℕ) (o : ℕ) (s : 
     → line S P loan o ≡ Some s → stage S P loan o ≡ s
 line_stage S P loan o s = elim (is_among o (objects S P loan)) as
     (λ b. (if b then Some (stage S P loan o) else None) ≡ Some s → stage S P loan o ≡ s) [
-  | true ↦ λ h. let q : Some (stage S P loan o) ≡ Some s = h in cc
-  | false ↦ λ h. absurd (let q : None ≡ Some s = h in cc)
-]
+      | true ↦ λ h. let q : Some (stage S P loan o) ≡ Some s = h in cc
+      | false ↦ λ h. absurd (let q : None ≡ Some s = h in cc)
+    ]
 
 -- a listed object has a code that its loan may list
 listed_code : (S : Museum) (depth : ℕ) (P : List Entry) (loan : List ℕ) (o : ℕ) → IsLawful S depth P
@@ -100,9 +100,12 @@ listed_code S depth P loan o lawful listed =
     let l = listed_is S P loan o listed in
     let sound = agreement_sound S depth P loan l.agreed lawful l.found in
     let code = among_codes S (is_of_wrong_owner l.agreed.loan) l.agreed.objects o sound.known
-        sound.owned l.among in
-    (code.0, code.1, ap (λ n. is_of_wrong_owner n code.0)
-        (found_is loan (agreements P) l.agreed l.found) ∙ code.2)
+    sound.owned l.among in (
+      code.0,
+      code.1,
+      ap (λ n. is_of_wrong_owner n code.0)
+          (found_is loan (agreements P) l.agreed l.found) ∙ code.2,
+    )
 
 -- an own object is listed by loans out alone, a borrowed one by loans in
 pub own_listed : (S : Museum) (depth : ℕ) (P : List Entry) (loan : List ℕ) (o : ℕ)
@@ -111,10 +114,10 @@ pub own_listed : (S : Museum) (depth : ℕ) (P : List Entry) (loan : List ℕ) (
 own_listed S depth P loan o lawful own listed =
     let code = listed_code S depth P loan o lawful listed in
     let kind : is_own_kind (thing_kind code.0) ≡ true =
-        sym (ap (λ c. option_map_or is_own_kind (option_map thing_kind c) false) code.1) ∙ own in
+    sym (ap (λ c. option_map_or is_own_kind (option_map thing_kind c) false) code.1) ∙ own in
     elim (is_out loan) as
-        (λ b. (if b then is_borrowed_kind (thing_kind code.0) else is_own_kind (thing_kind code.0))
-        ≡ false → b ≡ true) [
+    (λ b. (if b then is_borrowed_kind (thing_kind code.0) else is_own_kind (thing_kind code.0))
+    ≡ false → b ≡ true) [
       | true ↦ λ h. refl
       | false ↦ λ h. sym h ∙ kind
     ] code.2
@@ -125,11 +128,11 @@ pub borrowed_listed : (S : Museum) (depth : ℕ) (P : List Entry) (loan : List �
 borrowed_listed S depth P loan o lawful borrowed listed =
     let code = listed_code S depth P loan o lawful listed in
     let kind : is_borrowed_kind (thing_kind code.0) ≡ true =
-        sym (ap (λ c. option_map_or is_borrowed_kind (option_map thing_kind c) false) code.1)
-        ∙ borrowed in
+    sym (ap (λ c. option_map_or is_borrowed_kind (option_map thing_kind c) false) code.1)
+    ∙ borrowed in
     elim (is_out loan) as
-        (λ b. (if b then is_borrowed_kind (thing_kind code.0) else is_own_kind (thing_kind code.0))
-        ≡ false → b ≡ false) [
+    (λ b. (if b then is_borrowed_kind (thing_kind code.0) else is_own_kind (thing_kind code.0))
+    ≡ false → b ≡ false) [
       | true ↦ λ h. sym kind ∙ h
       | false ↦ λ h. refl
     ] code.2
@@ -140,4 +143,4 @@ pub partner_elsewhere : (S : Museum) (depth : ℕ) (P : List Entry) (loan : List
 partner_elsewhere S depth P loan t lawful found =
     let sound = agreement_sound S depth P loan t lawful found in
     elsewhere_if_not_inside S (place_no S t.partner) (place_below S t.partner sound.partner)
-        sound.elsewhere
+    sound.elsewhere

@@ -37,9 +37,9 @@ found_below : (xs : List (List ℕ)) (code : List ℕ) (n : ℕ) → n ≡ lengt
     → is_some (position (bytes_eq code) xs) ≡ true → unwrap_or (position (bytes_eq code) xs) n < n
 found_below xs code n same = elim (position (bytes_eq code) xs) as
     (λ o. position (bytes_eq code) xs ≡ o → is_some o ≡ true → unwrap_or o n < n) [
-  | None ↦ λ e h. absurd (false≢true h)
-  | Some i ↦ λ e h. subst (λ k. i < k) (sym same) (position-Some (bytes_eq code) xs i [] e).0
-] refl
+      | None ↦ λ e h. absurd (false≢true h)
+      | Some i ↦ λ e h. subst (λ k. i < k) (sym same) (position-Some (bytes_eq code) xs i [] e).0
+    ] refl
 
 pub thing_below : (S : Museum) (x : List ℕ) → is_known S x ≡ true → thing_no S x < length S.things
 thing_below S x known = found_below (thing_codes S) x (length S.things)
@@ -70,38 +70,54 @@ leaves_to S depth P x loan day lawful thing =
     elim (agreement P loan) as (λ o. agreement P loan ≡ o
     → IfSome (option_map (λ t. record { thing = thing_no S x; to = At (place_no S t.partner) }) o)
     (IsAllowedPut S depth P)) [
-  | None ↦ λ e. tt
-  | Some t ↦
-      λ e. record { thing = thing; place = place_below S t.partner
-      (agreement_sound S depth P loan t lawful e).partner; room = tt }
-] refl
+      | None ↦ λ e. tt
+      | Some t ↦
+          λ e. record {
+            thing = thing;
+            place = place_below S t.partner
+                (agreement_sound S depth P loan t lawful e).partner;
+            room = tt;
+          }
+    ] refl
 
 put_applied : (S : Museum) (depth : ℕ) (P : List Entry) (m : Message) → IsLawful S depth P
     → verdict S depth P m ≡ Applied → IfSome (put_in S P m) (IsAllowedPut S depth P)
 put_applied S depth P (Move day x p) lawful h =
     let none = none_holds (move_rows S P x p) refl h in
-    record { thing = thing_below S x (not-false (is_known S x) none.0);
-        place = place_below S p (not-false (is_known_place S p) none.1.0); room = tt }
+    record {
+      thing = thing_below S x (not-false (is_known S x) none.0);
+      place = place_below S p (not-false (is_known_place S p) none.1.0);
+      room = tt;
+    }
 put_applied S depth P (Pack day x c) lawful h =
     let none = none_holds (pack_rows S depth P x c) refl h in
     record {
       thing = thing_below S x (not-false (is_known S x) none.0);
       place = tt;
-      room = (thing_below S c (container_known S c (not-false (is_known_container S c) none.1.0)),
-          none.1.1.1.1.0, none.1.1.1.1.1.0);
+      room = (
+        thing_below S c (container_known S c (not-false (is_known_container S c) none.1.0)),
+        none.1.1.1.1.0,
+        none.1.1.1.1.1.0,
+      );
     }
 put_applied S depth P (Exit day x loan) lawful h =
     leaves_to S depth P x loan day lawful
-        (thing_below S x (not-false (is_known S x)
-        (none_holds (exit_rows S P x loan day) refl h).0))
+    (thing_below S x (not-false (is_known S x)
+    (none_holds (exit_rows S P x loan day) refl h).0))
 put_applied S depth P (Return day x loan p) lawful h =
     let none = none_holds (return_rows S P x loan p) refl h in
-    record { thing = thing_below S x (not-false (is_known S x) none.0);
-        place = place_below S p (not-false (is_known_place S p) none.1.0); room = tt }
+    record {
+      thing = thing_below S x (not-false (is_known S x) none.0);
+      place = place_below S p (not-false (is_known_place S p) none.1.0);
+      room = tt;
+    }
 put_applied S depth P (Receive day x loan p) lawful h =
     let none = none_holds (receive_rows S P x loan p day) refl h in
-    record { thing = thing_below S x (not-false (is_known S x) none.0);
-        place = place_below S p (not-false (is_known_place S p) none.1.0); room = tt }
+    record {
+      thing = thing_below S x (not-false (is_known S x) none.0);
+      place = place_below S p (not-false (is_known_place S p) none.1.0);
+      room = tt;
+    }
 put_applied S depth P (Agree first final loan partner objects) lawful h = tt
 put_applied S depth P (Authorise name loan) lawful h = tt
 put_applied S depth P (SignOff name) lawful h = tt
@@ -112,7 +128,7 @@ pub put_allowed : (S : Museum) (depth : ℕ) (P : List Entry) (v : Verdict) (m :
     → IfSome (put_by S P v m) (IsAllowedPut S depth P)
 put_allowed S depth P v m lawful judged =
     elim (is_applied v) as (λ t. is_applied v ≡ t
-        → IfSome (if t then put_in S P m else None) (IsAllowedPut S depth P)) [
+    → IfSome (if t then put_in S P m else None) (IsAllowedPut S depth P)) [
       | true ↦ λ e. put_applied S depth P m lawful (sym judged ∙ applied_is v e)
       | false ↦ λ e. tt
     ] refl
@@ -130,18 +146,19 @@ pub by_applied : (S : Museum) (P : List Entry) (v : Verdict) (m : Message) {put 
     → put_by S P v m ≡ Some put → (is_applied v ≡ true) × (put_in S P m ≡ Some put)
 by_applied S P v m {put} = elim (is_applied v) as
     (λ b. (if b then put_in S P m else None) ≡ Some put → (b ≡ true) × (put_in S P m ≡ Some put)) [
-  | true ↦ λ is. (refl, is)
-  | false ↦ λ is. absurd (none-some _ is)
-]
+      | true ↦ λ is. (refl, is)
+      | false ↦ λ is. absurd (none-some _ is)
+    ]
 
 -- it may go into a nest that stands for the puts before it
 pub may_go : (N : Nested) (S : Museum) (P : List Entry) (put : Put) → N.things ≡ length S.things
     → N.places ≡ length S.places → StandsFor N (puts S P) → IsAllowedPut S N.depth P put →
     (put.thing < N.things) × MayGo N put.thing put.to
-may_go N S P put things places stands allowed =
-    (subst (λ n. put.thing < n) (sym things) allowed.thing,
-        to put.to allowed.place (subst (λ n. IsAllowed (last (puts S P)) n N.depth put.thing put.to)
-        (sym things) allowed.room))
+may_go N S P put things places stands allowed = (
+  subst (λ n. put.thing < n) (sym things) allowed.thing,
+  to put.to allowed.place (subst (λ n. IsAllowed (last (puts S P)) n N.depth put.thing put.to)
+      (sym things) allowed.room),
+)
   where
     to : (t : Target) → IfSome (place_of (Some t)) (λ p. p < length S.places)
         → IsAllowed (last (puts S P)) N.things N.depth put.thing t → MayGo N put.thing t
@@ -164,8 +181,8 @@ lawful_sound S depth [] lawful =
     record { small = λ y c e. absurd (none-some _ e); ended = λ y. refl; far = λ y ge. refl }
 lawful_sound S depth (e ∷ P) (follows, lawful) =
     with_sound S depth P (put_by S P e.verdict e.message)
-        (put_allowed S depth P e.verdict e.message lawful follows.judged)
-        (lawful_sound S depth P lawful)
+    (put_allowed S depth P e.verdict e.message lawful follows.judged)
+    (lawful_sound S depth P lawful)
 
 -- what the put of an applied message does to a thing
 module _ {S : Museum} {depth : ℕ} {P : List Entry} (m : Message) {put : Put}
@@ -190,7 +207,7 @@ module _ {S : Museum} {depth : ℕ} {P : List Entry} (m : Message) {put : Put}
   stays apart =
       ap (λ o. place_by (last (with_put o (puts S P))) (length S.things) y) is
       ∙ place_stays (length S.things) depth (last (puts S P)) put.thing put.to y
-          (lawful_sound S depth P lawful) allowed.thing allowed.room apart
+      (lawful_sound S depth P lawful) allowed.thing allowed.room apart
 
 -- the containers above a thing are things
 above_below : (n d : ℕ) (at : ℕ → Option Target) → IsSound n d at → (steps x : ℕ)
@@ -198,10 +215,10 @@ above_below : (n d : ℕ) (at : ℕ → Option Target) → IsSound n d at → (s
 above_below n d at sound zero x = All-nil (λ (c : ℕ). c < n)
 above_below n d at sound (suc steps) x = elim (container_of (at x)) as (λ o. container_of (at x) ≡ o
     → All (λ c. c < n) (option_map_or (λ c. c ∷ above at steps c) o [])) [
-  | None ↦ λ e. All-nil (λ (c : ℕ). c < n)
-  | Some c ↦ λ e. All-cons (λ (y : ℕ). y < n) c (above at steps c) (sound.small x c e)
-      (above_below n d at sound steps c)
-] refl
+      | None ↦ λ e. All-nil (λ (c : ℕ). c < n)
+      | Some c ↦ λ e. All-cons (λ (y : ℕ). y < n) c (above at steps c) (sound.small x c e)
+          (above_below n d at sound steps c)
+    ] refl
 
 pub chain_below : (S : Museum) (depth : ℕ) (P : List Entry) (x : ℕ) → IsLawful S depth P
     → All (λ c. c < length S.things) (chain_at S P x)

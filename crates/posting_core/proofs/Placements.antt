@@ -40,9 +40,9 @@ target_placed S depth P (Move day x p) put applied is =
     subst (λ (p : Put). is_some (place_to S P p.to) ≡ true) (same_Some _ put is) refl
 target_placed S depth P (Pack day x c) put applied is =
     let inside = not-false (stands_inside S P c)
-        (none_holds (pack_rows S depth P x c) refl applied).1.1.1.0 in
+    (none_holds (pack_rows S depth P x c) refl applied).1.1.1.0 in
     subst (λ (p : Put). is_some (place_to S P p.to) ≡ true) (same_Some _ put is)
-        (inside_placed S (place_at S P (thing_no S c)) inside)
+    (inside_placed S (place_at S P (thing_no S c)) inside)
 target_placed S depth P (Exit day x loan) put applied is = leaves_to S P x (agreement P loan) put is
 target_placed S depth P (Return day x loan p) put applied is =
     subst (λ (p : Put). is_some (place_to S P p.to) ≡ true) (same_Some _ put is) refl
@@ -66,11 +66,11 @@ applied_placed : {S : Museum} {depth : ℕ} {P : List Entry} {e : Entry} (x : �
     → IsApplied S depth P e → HasPlace S P x → HasPlace S (e ∷ P) x
 applied_placed {S} {depth} {P} {e} x a before =
     elim (put_in S P e.message) as (λ o. put_in S P e.message ≡ o → HasPlace S (e ∷ P) x) [
-  | None ↦ λ is. stays_placed x (nothing_put a x is) before
-  | Some put ↦ λ is. by_carried a x put is
-      (λ goes done. ap is_some goes.after ∙ target_placed S depth P e.message put a.judged is)
-      (λ apart stays. stays_placed x stays before)
-] refl
+      | None ↦ λ is. stays_placed x (nothing_put a x is) before
+      | Some put ↦ λ is. by_carried a x put is
+          (λ goes done. ap is_some goes.after ∙ target_placed S depth P e.message put a.judged is)
+          (λ apart stays. stays_placed x stays before)
+    ] refl
 
 pub put_has_place : (S : Museum) (depth : ℕ) (P : List Entry) (x : ℕ) → IsLawful S depth P
     → is_some (last (puts S P) x) ≡ true → is_some (place_at S P x) ≡ true
@@ -78,6 +78,6 @@ put_has_place S depth [] x lawful put = absurd (false≢true put)
 put_has_place S depth (e ∷ P) x (follows, lawful) put =
     let before = put_has_place S depth P x lawful in
     let after : HasPlace S (e ∷ P) x =
-        by_verdict x follows lawful (λ a. applied_placed x a before)
-        (λ same. stays_placed x same.stays before) in
+    by_verdict x follows lawful (λ a. applied_placed x a before)
+    (λ same. stays_placed x same.stays before) in
     after put

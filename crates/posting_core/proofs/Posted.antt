@@ -116,14 +116,14 @@ module _ {S : Museum} {P : List Entry} {N : Nested} {R : List (List Spot)} {L : 
   pub row_kept : (x : ℕ) → x < length B.museum.things → x < length R
   row_kept x within =
       let less : x < length S.things =
-          subst (λ (C : Book). x < length C.museum.things) (sym same) within in
+      subst (λ (C : Book). x < length C.museum.things) (sym same) within in
       omega (arith, kept.rowed)
 
   -- of its spots
   pub spots_kept : (x : ℕ) → x < length B.museum.things → row_of R x ≡ spots_in B x
   spots_kept x within =
       subst (λ (C : Book). row_of R x ≡ spots_in C x) same
-          (kept.row x (subst (λ (C : Book). x < length C.museum.things) (sym same) within))
+      (kept.row x (subst (λ (C : Book). x < length C.museum.things) (sym same) within))
 
   -- they are at places of the setup
   pub spots_there : (x : ℕ) {found : List Spot} → x < length B.museum.things → found ≡ spots_in B x
@@ -142,11 +142,11 @@ module _ {S : Museum} {P : List Entry} {N : Nested} {R : List (List Spot)} {L : 
   pub loan_kept : (loan : List ℕ) (r : Option (ℕ × Bor LoanRow))
       → option_map (λ found. found.1.now) r ≡ find (λ row. bytes_eq loan row.loan) L →
       (is_some r ≡ is_agreed B.posted loan)
-          × IfSome r (λ found. IsRowOf B.museum B.posted loan found.1.now)
+      × IfSome r (λ found. IsRowOf B.museum B.posted loan found.1.now)
   loan_kept loan r is =
       subst (λ (C : Book). (is_some r ≡ is_agreed C.posted loan)
-          × IfSome r (λ found. IsRowOf C.museum C.posted loan found.1.now)) same
-          (borrowed r (row_is S P loan L (option_map (λ found. found.1.now) r) kept.loans is))
+      × IfSome r (λ found. IsRowOf C.museum C.posted loan found.1.now)) same
+      (borrowed r (row_is S P loan L (option_map (λ found. found.1.now) r) kept.loans is))
     where
       borrowed : (r : Option (ℕ × Bor LoanRow))
           → (is_some (option_map (λ found. found.1.now) r) ≡ is_agreed P loan)
@@ -187,25 +187,25 @@ spot_for S P m x = new_spot (length P + 1) (length (spots S P x)) (place_at S P 
 spots_after_entry : (S : Museum) (P : List Entry) (N : Nested) (R : List (List Spot))
     (L : List LoanRow) (e : Entry) → IsKept S P N R L →
     (x : ℕ) → x < length S.things → row_of (rows_after R (news_under S P e.verdict e.message)) x
-        ≡ spots S (e ∷ P) x
+    ≡ spots S (e ∷ P) x
 spots_after_entry S P N R L e kept x less =
     let number = length P + 1 in
     let things = length S.things in
     let day = day_of e.message in
     elim (is_applied e.verdict) as
-        (λ b. row_of (rows_after R (if b then new_spots S P e.message else [])) x
+    (λ b. row_of (rows_after R (if b then new_spots S P e.message else [])) x
     ≡ spots S P x ++ option_to_list
-        (spot_from number (place_at S P x)
-        (place things (with_put (if b then put_in S P e.message else None) (puts S P)) x) day)) [
+    (spot_from number (place_at S P x)
+    (place things (with_put (if b then put_in S P e.message else None) (puts S P)) x) day)) [
       | true ↦ rows_written R (spot_for S P e.message) 0 things x
           (λ y s h. own_spot number (length (spots S P y)) (place_at S P y)
           (place_after S P e.message y) day y s h) (omega (arith, kept.rowed)) (omega arith)
           (omega arith)
           ∙ ap (λ (r : List Spot). r ++ option_to_list
-              (option_map (λ s. s.spot) (spot_for S P e.message x))) (kept.row x less)
+          (option_map (λ s. s.spot) (spot_for S P e.message x))) (kept.row x less)
           ∙ ap (λ (o : Option Spot). spots S P x ++ option_to_list o)
-              (chosen_spot number (length (spots S P x)) (place_at S P x)
-              (place_after S P e.message x) day x)
+          (chosen_spot number (length (spots S P x)) (place_at S P x)
+          (place_after S P e.message x) day x)
       | false ↦ kept.row x less ∙ sym
           (ap (λ (o : Option Spot). spots S P x ++ option_to_list o)
           (same_place number (place_at S P x) day) ∙ append-nil (spots S P x))
@@ -215,11 +215,11 @@ news_within : (S : Museum) (P : List Entry) (v : Verdict) (m : Message)
     → All (λ s. s.thing < length S.things) (news_under S P v m)
 news_within S P v m = elim (is_applied v) as
     (λ b. All (λ s. s.thing < length S.things) (if b then new_spots S P m else [])) [
-  | true ↦ own_within (spot_for S P m) 0 (length S.things) (length S.things)
-      (λ y s h. own_spot (length P + 1) (length (spots S P y)) (place_at S P y)
-      (place_after S P m y) (day_of m) y s h) (omega arith)
-  | false ↦ All-nil (λ (s : NewSpot). s.thing < length S.things)
-]
+      | true ↦ own_within (spot_for S P m) 0 (length S.things) (length S.things)
+          (λ y s h. own_spot (length P + 1) (length (spots S P y)) (place_at S P y)
+          (place_after S P m y) (day_of m) y s h) (omega arith)
+      | false ↦ All-nil (λ (s : NewSpot). s.thing < length S.things)
+    ]
 
 -- a message that agrees a loan puts nothing anywhere
 unplaced : (S : Museum) (P : List Entry) (v : Verdict) (m : Message)
@@ -247,10 +247,10 @@ pub record IsPlanned (S : Museum) (P : List Entry) (N : Nested) (R : List (List 
 written : (B : Book) (e : Entry) (changes : Changes) → Follows B.museum B.depth B.posted e
     → changes ≡ changes_of B e.message →
     (changes.put ≡ put_by B.museum B.posted e.verdict e.message)
-        × (changes.carried ≡ carried_with B.museum B.posted changes.put)
-        × (changes.spots ≡ news_under B.museum B.posted e.verdict e.message)
-        × (changes.loan ≡ loan_by B.posted e.verdict e.message)
-        × (changes.lines ≡ lines_under B.museum B.posted e.verdict e.message)
+    × (changes.carried ≡ carried_with B.museum B.posted changes.put)
+    × (changes.spots ≡ news_under B.museum B.posted e.verdict e.message)
+    × (changes.loan ≡ loan_by B.posted e.verdict e.message)
+    × (changes.lines ≡ lines_under B.museum B.posted e.verdict e.message)
 written B e changes follows plan = (
   ap (λ (c : Changes). c.put) plan ∙ ap (λ (v : Verdict). put_by B.museum B.posted v e.message)
       (sym follows.judged),
@@ -268,16 +268,23 @@ pub planned : {S : Museum} {P : List Entry} {N : Nested} {R : List (List Spot)} 
     {B : Book} {e : Entry} {changes : Changes} {along : List ℕ} {news : List NewSpot}
     {lines : List NewLine} → IsKept S P N R L → book_of S P N ≡ B →
     Follows B.museum B.depth B.posted e → changes ≡ changes_of B e.message → along ≡ changes.carried
-        → news ≡ changes.spots → lines ≡ changes.lines
-        → IsPlanned S P N R L e changes.put along news changes.loan lines
+    → news ≡ changes.spots → lines ≡ changes.lines
+    → IsPlanned S P N R L e changes.put along news changes.loan lines
 planned {S} {P} {N} {B} {e} {changes} kept same follows plan same_carried same_spots same_lines =
     let follows' : Follows S N.depth P e =
-        subst (λ (C : Book). Follows C.museum C.depth C.posted e) (sym same) follows in
+    subst (λ (C : Book). Follows C.museum C.depth C.posted e) (sym same) follows in
     let (put_is, along_is, news_is, loan_is, lines_is) =
-        written (book_of S P N) e changes follows'
-        (subst (λ (C : Book). changes ≡ changes_of C e.message) (sym same) plan) in
-    record { kept = kept; follows = follows'; put_is = put_is; along_is = same_carried ∙ along_is;
-        news_is = same_spots ∙ news_is; loan_is = loan_is; lines_is = same_lines ∙ lines_is }
+    written (book_of S P N) e changes follows'
+    (subst (λ (C : Book). changes ≡ changes_of C e.message) (sym same) plan) in
+    record {
+      kept = kept;
+      follows = follows';
+      put_is = put_is;
+      along_is = same_carried ∙ along_is;
+      news_is = same_spots ∙ news_is;
+      loan_is = loan_is;
+      lines_is = same_lines ∙ lines_is;
+    }
 
 -- what follows of it
 module _ {S : Museum} {P : List Entry} {N : Nested} {R : List (List Spot)} {L : List LoanRow}
@@ -291,10 +298,13 @@ module _ {S : Museum} {P : List Entry} {N : Nested} {R : List (List Spot)} {L : 
   pub planned_agree : IfSome (agreement_by e.verdict e.message) (MayAgree L lines)
   planned_agree =
       elim (is_applied e.verdict) as (λ b. is_applied e.verdict ≡ b
-          → IfSome (if b then agreement_in e.message else None) (MayAgree L lines)) [
+      → IfSome (if b then agreement_in e.message else None) (MayAgree L lines)) [
         | true ↦ λ h. new (agreement_in e.message)
-            (λ t agreed. (agree_applied S N.depth P e.message t
-            (sym is.follows.judged ∙ applied_is e.verdict h) agreed, told t h agreed))
+            (λ t agreed. (
+              agree_applied S N.depth P e.message t
+                  (sym is.follows.judged ∙ applied_is e.verdict h) agreed,
+              told t h agreed,
+            ))
         | false ↦ λ h. tt
       ] refl
     where
@@ -303,7 +313,7 @@ module _ {S : Museum} {P : List Entry} {N : Nested} {R : List (List Spot)} {L : 
       told t h agreed =
           is.lines_is ∙ ap (λ b. if b then new_lines S P e.message else []) h
           ∙ ap (λ o. option_map_or (lines_of_agreement S) o
-              (option_map_or (lines_of_crossing S P) (crossing_in e.message) [])) agreed
+          (option_map_or (lines_of_crossing S P) (crossing_in e.message) [])) agreed
 
       new : (o : Option Agreement) → ((t : Agreement) → o ≡ Some t
           → ((agreement P t.loan ≡ None) × IsSound S t) × (lines ≡ lines_of_agreement S t))
@@ -312,11 +322,14 @@ module _ {S : Museum} {P : List Entry} {N : Nested} {R : List (List Spot)} {L : 
       new (Some t) each =
           let (agreed, are) = each t refl in
           let objects : map (λ (l : NewLine). l.object) lines ≡ objects_of S t =
-              ap (map (λ (l : NewLine). l.object)) are ∙ objects_told t.loan Awaiting
-              (objects_of S t) in
-          record { once = subst AreOnce (sym objects)
-              (numbers_once S t.objects agreed.1.known agreed.1.once); new =
-              row_missing S P L t.loan is.kept.loans agreed.0 }
+          ap (map (λ (l : NewLine). l.object)) are ∙ objects_told t.loan Awaiting
+          (objects_of S t) in
+          record {
+            once = subst AreOnce (sym objects)
+                (numbers_once S t.objects agreed.1.known agreed.1.once);
+            new =
+                row_missing S P L t.loan is.kept.loans agreed.0;
+          }
 
   -- the loan that goes on by it is found by that number among the rows
   pub planned_loan : loan ≡ row_by L e.verdict e.message
@@ -346,8 +359,8 @@ module _ {S : Museum} {P : List Entry} {N : Nested} {R : List (List Spot)} {L : 
   planned_put =
       subst (λ o. IfSome o (λ p. (p.thing < N.things) × MayGo N p.thing p.to)) (sym is.put_is)
       (IfSome_then (put_by S P e.verdict e.message)
-          (put_allowed S N.depth P e.verdict e.message is.kept.lawful is.follows.judged)
-          (λ p allowed. may_go N S P p is.kept.things is.kept.places is.kept.nest allowed))
+      (put_allowed S N.depth P e.verdict e.message is.kept.lawful is.follows.judged)
+      (λ p allowed. may_go N S P p is.kept.things is.kept.places is.kept.nest allowed))
 
   -- and what that carries is what the nest keeps of it
   pub planned_carried : IfSome put

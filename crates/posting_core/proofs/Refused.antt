@@ -59,28 +59,28 @@ same_line : (S : Museum) (P : List Entry) (e : Entry) (loan : List ℕ) (o : ℕ
     → is_applied e.verdict ≡ false → line S (e ∷ P) loan o ≡ line S P loan o
 same_line S P e loan o refused =
     ap (λ os. if is_among o os then Some (stage S (e ∷ P) loan o) else None)
-        (same_objects S P e loan refused)
+    (same_objects S P e loan refused)
     ∙ ap (λ s. if is_among o (objects S P loan) then Some s else None)
-        (same_stage S P e loan o refused)
+    (same_stage S P e loan o refused)
 
 state_of_terms : (S : Museum) (P : List Entry) (e : Entry) (loan : List ℕ) (t : Option Agreement)
     → is_applied e.verdict ≡ false →
     option_map (λ t. state_by (is_authorised (e ∷ P) loan)
-        (map (stage S (e ∷ P) loan) (objects_of S t))) t
-        ≡ option_map (λ t. state_by (is_authorised P loan) (map (stage S P loan) (objects_of S t)))
-        t
+    (map (stage S (e ∷ P) loan) (objects_of S t))) t
+    ≡ option_map (λ t. state_by (is_authorised P loan) (map (stage S P loan) (objects_of S t)))
+    t
 state_of_terms S P e loan None refused = refl
 state_of_terms S P e loan (Some t) refused =
     ap (λ b. Some (state_by b (map (stage S (e ∷ P) loan) (objects_of S t))))
-        (same_authorised P e loan refused)
+    (same_authorised P e loan refused)
     ∙ ap (λ ss. Some (state_by (is_authorised P loan) ss))
-        (same_stages S P e loan (objects_of S t) refused)
+    (same_stages S P e loan (objects_of S t) refused)
 
 same_state : (S : Museum) (P : List Entry) (e : Entry) (loan : List ℕ)
     → is_applied e.verdict ≡ false → loan_state S (e ∷ P) loan ≡ loan_state S P loan
 same_state S P e loan refused =
     ap (λ t. option_map (λ t. state_by (is_authorised (e ∷ P) loan)
-        (map (stage S (e ∷ P) loan) (objects_of S t))) t) (same_agreement P e loan refused)
+    (map (stage S (e ∷ P) loan) (objects_of S t))) t) (same_agreement P e loan refused)
     ∙ state_of_terms S P e loan (agreement P loan) refused
 
 day_of_terms : (P : List Entry) (e : Entry) (loan : List ℕ) (t : Option Agreement)
@@ -129,8 +129,16 @@ alike_on first next = record {
 }
 
 alike_itself : (B : Book) → AnswerAlike B B
-alike_itself B = record { places = λ x. refl; chains = λ x. refl; spots = λ x. refl; loans = refl;
-    objects = λ loan. refl; lines = λ loan o. refl; states = λ loan. refl; days = λ loan. refl }
+alike_itself B = record {
+  places = λ x. refl;
+  chains = λ x. refl;
+  spots = λ x. refl;
+  loans = refl;
+  objects = λ loan. refl;
+  lines = λ loan o. refl;
+  states = λ loan. refl;
+  days = λ loan. refl;
+}
 
 refused_is : (b : Bool) → not b ≡ true → b ≡ false
 refused_is true h = absurd (false≢true h)
@@ -141,4 +149,4 @@ all_unchanged B [] refused = alike_itself B
 all_unchanged B (e ∷ L) refused =
     let parts = and_parts (not (is_applied e.verdict)) (are_refused L) refused in
     alike_on (unchanged (later B L) e (refused_is (is_applied e.verdict) parts.0))
-        (all_unchanged B L parts.1)
+    (all_unchanged B L parts.1)

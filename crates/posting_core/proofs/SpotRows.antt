@@ -29,7 +29,7 @@ counted : (spots : List KeptSpot) (at count : ℕ) → LeadBack spots at count
 counted spots at zero back = refl
 counted spots at (suc count) (s, is, back) =
     ap length (last_at spots at count s is) ∙ length-append (spots_at spots s.before count)
-        (s.spot ∷ []) ∙ ap (λ n. n + 1) (counted spots s.before count back) ∙ omega arith
+    (s.spot ∷ []) ∙ ap (λ n. n + 1) (counted spots s.before count back) ∙ omega arith
 
 -- more spots leave what stands before them
 module _ (spots more : List KeptSpot) where
@@ -38,7 +38,7 @@ module _ (spots more : List KeptSpot) where
   read_on at s is =
       let within : at < length spots = slice_get_within spots at s is in
       slice_get_read (spots ++ more) (length (spots ++ more)) at s refl
-          (omega (arith, length-append spots more))
+      (omega (arith, length-append spots more))
       (sym (get_or-append spots more s at within ∙ get_or_from_slice_get spots at s s is))
 
   back_on : (at count : ℕ) → LeadBack spots at count → LeadBack (spots ++ more) at count
@@ -50,8 +50,8 @@ module _ (spots more : List KeptSpot) where
   spots_on at zero back = refl
   spots_on at (suc count) (s, is, back) =
       last_at (spots ++ more) at count s (read_on at s is)
-          ∙ ap (λ (row : List Spot). row ++ s.spot ∷ []) (spots_on s.before count back)
-          ∙ sym (last_at spots at count s is)
+      ∙ ap (λ (row : List Spot). row ++ s.spot ∷ []) (spots_on s.before count back)
+      ∙ sym (last_at spots at count s is)
 
   last_on : (l : LastSpot) → IsLast spots l → IsLast (spots ++ more) l
   last_on l is = record {
@@ -64,9 +64,9 @@ module _ (spots more : List KeptSpot) where
   rows_on [] h = refl
   rows_on (l ∷ ls) h =
       ap (λ (row : List Spot). row ∷ rows_of (spots ++ more) ls)
-          (spots_on l.at l.count (All-head (IsLast spots) l ls h).back)
+      (spots_on l.at l.count (All-head (IsLast spots) l ls h).back)
       ∙ ap (λ (rs : List (List Spot)). spots_at spots l.at l.count ∷ rs)
-          (rows_on ls (All-tail (IsLast spots) l ls h))
+      (rows_on ls (All-tail (IsLast spots) l ls h))
 
 -- what the view tells of a thing's last
 module _ {spots : List KeptSpot} (lasts : List LastSpot) {R : List (List Spot)}
@@ -82,9 +82,9 @@ module _ {spots : List KeptSpot} (lasts : List LastSpot) {R : List (List Spot)}
   row_at =
       ap (λ rs. row_of rs x) (sym same)
       ∙ ap (λ o. option_map_or (λ row. row) o [])
-          (slice_get-map (λ (l : LastSpot). spots_at spots l.at l.count) lasts x
-          ∙ ap (option_map (λ l. spots_at spots l.at l.count))
-          (slice_get_read lasts (length lasts) x last refl last_within at))
+      (slice_get-map (λ (l : LastSpot). spots_at spots l.at l.count) lasts x
+      ∙ ap (option_map (λ l. spots_at spots l.at l.count))
+      (slice_get_read lasts (length lasts) x last refl last_within at))
 
   pub row_counted : last.count ≡ length (row_of R x)
   row_counted = sym (ap length row_at ∙ counted spots last.at last.count is_last.back)
@@ -123,12 +123,15 @@ module _ {spots : List KeptSpot} {old : LastSpot} (was : IsLast spots old) (spot
   newest_spots = ap (spots_at (spots ++ pushed ∷ []) (length spots)) (sym one_more)
       ∙ last_at (spots ++ pushed ∷ []) (length spots) old.count pushed stands_last
       ∙ ap (λ (row : List Spot). row ++ spot ∷ [])
-          (spots_on spots (pushed ∷ []) old.at old.count was.back)
+      (spots_on spots (pushed ∷ []) old.at old.count was.back)
 
   newest_last : IsLast (spots ++ pushed ∷ []) newest
   newest_last = record {
-    back = subst (LeadBack (spots ++ pushed ∷ []) (length spots)) one_more (pushed, stands_last,
-        back_on spots (pushed ∷ []) old.at old.count was.back);
+    back = subst (LeadBack (spots ++ pushed ∷ []) (length spots)) one_more (
+      pushed,
+      stands_last,
+      back_on spots (pushed ∷ []) old.at old.count was.back,
+    );
     few = let few : old.count ≤ length spots = was.few in
         omega (arith, length-append spots (pushed ∷ []));
   }
@@ -143,9 +146,9 @@ module _ {spots : List KeptSpot} {old : LastSpot} (was : IsLast spots old) (spot
       → All (IsLast spots) lasts → rows_of spots lasts ≡ R
       → row_of R x ≡ spots_at spots old.at old.count →
       rows_of (spots ++ pushed ∷ []) (slice_set lasts x newest) ≡ slice_set R x
-          (row_of R x ++ spot ∷ [])
+      (row_of R x ++ spot ∷ [])
   pushed_rows lasts x R kept same row =
       map-set (λ (l : LastSpot). spots_at (spots ++ pushed ∷ []) l.at l.count) lasts x newest
       ∙ ap (λ rs. slice_set rs x (spots_at (spots ++ pushed ∷ []) newest.at newest.count))
-          (rows_on spots (pushed ∷ []) lasts kept ∙ same)
+      (rows_on spots (pushed ∷ []) lasts kept ∙ same)
       ∙ ap (slice_set R x) (newest_spots ∙ ap (λ (r : List Spot). r ++ spot ∷ []) (sym row))

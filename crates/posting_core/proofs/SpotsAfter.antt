@@ -25,11 +25,11 @@ none_before f a zero x own less = refl
 none_before f a (suc n) x own less =
     elim (f a) as (λ o. f a ≡ o → filter (λ s. s.thing == x)
     (cons_option o (filter_map f (range_with_len (a + 1) n))) ≡ []) [
-  | None ↦ λ e. none_before f (a + 1) n x own (omega arith)
-  | Some s ↦ λ e. let thing : s.thing ≡ a = own a s e in let other : (s.thing == x) ≡ false =
-      grind (arith, nat_tests) in
-      rw other (none_before f (a + 1) n x own (omega arith))
-] refl
+      | None ↦ λ e. none_before f (a + 1) n x own (omega arith)
+      | Some s ↦ λ e. let thing : s.thing ≡ a = own a s e in let other : (s.thing == x) ≡ false =
+          grind (arith, nat_tests) in
+          rw other (none_before f (a + 1) n x own (omega arith))
+    ] refl
 
 pub own_alone : (f : ℕ → Option NewSpot) (a n x : ℕ) → IsOwn f → a ≤ x → x < a + n
     → filter (λ s. s.thing == x) (filter_map f (range_with_len a n)) ≡ option_to_list (f x)
@@ -37,19 +37,19 @@ own_alone f a zero x own low high = absurd (omega arith)
 own_alone f a (suc n) x own low high =
     elim (f a) as (λ o. f a ≡ o → filter (λ s. s.thing == x)
     (cons_option o (filter_map f (range_with_len (a + 1) n))) ≡ option_to_list (f x)) [
-  | None ↦ λ e. elim (cases_eq a x) [
-    | inl same ↦ none_before f (a + 1) n x own (omega arith)
-        ∙ subst (λ y. [] ≡ option_to_list (f y)) same (ap option_to_list (sym e))
-    | inr n' ↦ own_alone f (a + 1) n x own (omega arith) (omega arith)
-  ]
-  | Some s ↦ λ e. let thing : s.thing ≡ a = own a s e in elim (cases_eq a x) [
-    | inl same ↦ let here : (s.thing == x) ≡ true = grind (arith, nat_tests) in
-        rw here (ap (λ ss. s ∷ ss) (none_before f (a + 1) n x own (omega arith))
+      | None ↦ λ e. elim (cases_eq a x) [
+        | inl same ↦ none_before f (a + 1) n x own (omega arith)
+            ∙ subst (λ y. [] ≡ option_to_list (f y)) same (ap option_to_list (sym e))
+        | inr n' ↦ own_alone f (a + 1) n x own (omega arith) (omega arith)
+      ]
+      | Some s ↦ λ e. let thing : s.thing ≡ a = own a s e in elim (cases_eq a x) [
+        | inl same ↦ let here : (s.thing == x) ≡ true = grind (arith, nat_tests) in
+            rw here (ap (λ ss. s ∷ ss) (none_before f (a + 1) n x own (omega arith))
             ∙ subst (λ y. s ∷ [] ≡ option_to_list (f y)) same (ap option_to_list (sym e)))
-    | inr n' ↦ let other : (s.thing == x) ≡ false = grind (arith, nat_tests) in
-        rw other (own_alone f (a + 1) n x own (omega arith) (omega arith))
-  ]
-] refl
+        | inr n' ↦ let other : (s.thing == x) ≡ false = grind (arith, nat_tests) in
+            rw other (own_alone f (a + 1) n x own (omega arith) (omega arith))
+      ]
+    ] refl
 
 listed_spot : (o : Option NewSpot)
     → map (λ s. s.spot) (option_to_list o) ≡ option_to_list (option_map (λ s. s.spot) o)
@@ -62,14 +62,14 @@ pub spots_added : (B : Book) (e : Entry) → GoesOn B (e ∷ []) → (x : ℕ) �
 spots_added B e (follows, lawful) x less =
     elim (is_applied e.verdict) as (λ b. is_applied e.verdict ≡ b
     → spots_in (later B (e ∷ [])) x ≡ spots_in B x ++ spots_for (changes_of B e.message) x) [
-  | true ↦ λ h. ap (λ o. spots_in B x ++ option_to_list o) (spot_is h)
-      ∙ ap (λ ss. spots_in B x ++ ss)
-      (sym (listed_spot (spot x)) ∙ sym
-      (ap (map (λ s. s.spot)) (own_alone spot 0 (length B.museum.things) x own (omega arith)
-      (omega arith))) ∙ sym (written true h))
-  | false ↦ λ h. (unchanged B e h).spots x
-      ∙ sym (ap (λ ss. spots_in B x ++ ss) (written false h) ∙ append-nil (spots_in B x))
-] refl
+      | true ↦ λ h. ap (λ o. spots_in B x ++ option_to_list o) (spot_is h)
+          ∙ ap (λ ss. spots_in B x ++ ss)
+          (sym (listed_spot (spot x)) ∙ sym
+          (ap (map (λ s. s.spot)) (own_alone spot 0 (length B.museum.things) x own (omega arith)
+          (omega arith))) ∙ sym (written true h))
+      | false ↦ λ h. (unchanged B e h).spots x
+          ∙ sym (ap (λ ss. spots_in B x ++ ss) (written false h) ∙ append-nil (spots_in B x))
+    ] refl
   where
     number : ℕ
     number = length B.posted + 1
@@ -96,8 +96,8 @@ spots_added B e (follows, lawful) x less =
         (day_of e.message) ≡ option_map (λ s. s.spot) (spot x)
     spot_is h =
         ap (λ b. spot_from number (place_at B.museum B.posted x)
-            (place (length B.museum.things)
-            (with_put (if b then put_in B.museum B.posted e.message else None)
-            (puts B.museum B.posted)) x) (day_of e.message)) h
+        (place (length B.museum.things)
+        (with_put (if b then put_in B.museum B.posted e.message else None)
+        (puts B.museum B.posted)) x) (day_of e.message)) h
         ∙ sym (chosen_spot number (length (spots_in B x)) (place_at B.museum B.posted x)
-            (place_after B.museum B.posted e.message x) (day_of e.message) x)
+        (place_after B.museum B.posted e.message x) (day_of e.message) x)

@@ -30,11 +30,11 @@ of_some c f g [] same none = refl
 of_some c f g (x ∷ xs) same none =
     elim (c x) as (λ b. c x ≡ b → filter_map f (cond b (x ∷ filter c xs) (filter c xs))
     ≡ cons_option (g x) (filter_map g xs)) [
-  | true ↦ λ e. ap (λ o. cons_option o (filter_map f (filter c xs))) (same x e)
-      ∙ ap (cons_option (g x)) (of_some c f g xs same none)
-  | false ↦ λ e. of_some c f g xs same none
-      ∙ sym (ap (λ o. cons_option o (filter_map g xs)) (none x e))
-] refl
+      | true ↦ λ e. ap (λ o. cons_option o (filter_map f (filter c xs))) (same x e)
+          ∙ ap (cons_option (g x)) (of_some c f g xs same none)
+      | false ↦ λ e. of_some c f g xs same none
+          ∙ sym (ap (λ o. cons_option o (filter_map g xs)) (none x e))
+    ] refl
 
 unmoved : (number count : ℕ) (o : Option ℕ) (day : Option ℤ) (y : ℕ)
     → new_spot number count o o day y ≡ None
@@ -50,11 +50,11 @@ carried_spots : {S : Museum} {depth : ℕ} {P : List Entry} (m : Message) {put :
     filter_map (spot_at S P m (place_to S P put.to)) (carried_at S P put.thing) ≡ new_spots S P m
 carried_spots {S} {P} m {put} lawful is allowed =
     of_some (is_carried (length S.things) (puts S P) put.thing)
-        (spot_at S P m (place_to S P put.to)) (λ y. spot_at S P m (place_after S P m y) y)
-        (range_with_len 0 (length S.things))
+    (spot_at S P m (place_to S P put.to)) (λ y. spot_at S P m (place_after S P m y) y)
+    (range_with_len 0 (length S.things))
     (λ y carried. ap (λ o. spot_at S P m o y) (sym (comes_along m lawful is allowed y carried)))
     (λ y apart. ap (λ o. spot_at S P m o y) (stays m lawful is allowed y apart)
-        ∙ unmoved (length P + 1) (length (spots S P y)) (place_at S P y) (day_of m) y)
+    ∙ unmoved (length P + 1) (length (spots S P y)) (place_at S P y) (day_of m) y)
 
 -- what gives nothing of each gives nothing of all
 none_of : (f : ℕ → Option NewSpot) (xs : List ℕ) → ((y : ℕ) → f y ≡ None) → filter_map f xs ≡ []
@@ -71,9 +71,9 @@ pub unplaced_spots : (S : Museum) (P : List Entry) (v : Verdict) (m : Message)
     → put_by S P v m ≡ None → [] ≡ (if is_applied v then new_spots S P m else [])
 unplaced_spots S P v m = elim (is_applied v) as (λ b. (if b then put_in S P m else None) ≡ None
     → [] ≡ (if b then new_spots S P m else [])) [
-  | true ↦ λ is. unplaced S P m is
-  | false ↦ λ is. refl
-]
+      | true ↦ λ is. unplaced S P m is
+      | false ↦ λ is. refl
+    ]
 
 -- one more of a list that is gone through
 one_more : (f : ℕ → Option NewSpot) (xs : List ℕ) (i d : ℕ) → i < length xs
@@ -92,27 +92,27 @@ pub one_more_spot : (f : ℕ → Option NewSpot) (xs : List ℕ) (i d : ℕ) (be
     after ≡ before ++ option_to_list o → after ≡ filter_map f (take (i + 1) xs)
 one_more_spot f xs i d before after o less done one more =
     more ∙ ap (λ zs. zs ++ option_to_list o) done
-        ∙ ap (λ p. filter_map f (take i xs) ++ option_to_list p) one ∙ sym (one_more f xs i d less)
+    ∙ ap (λ p. filter_map f (take i xs) ++ option_to_list p) one ∙ sym (one_more f xs i d less)
 
 -- the spots that a ledger finds are those of the message
 pub found_spots : (B : Book) (m : Message) {put : Put} {place number : ℕ} {day : ℤ} {xs : List ℕ}
     → IsLawful B.museum B.depth B.posted → put_by B.museum B.posted (verdict_in B m) m ≡ Some put →
     number ≡ length B.posted + 1 → day_of m ≡ Some day
-        → place_to B.museum B.posted put.to ≡ Some place
-        → xs ≡ carried_at B.museum B.posted put.thing →
+    → place_to B.museum B.posted put.to ≡ Some place
+    → xs ≡ carried_at B.museum B.posted put.thing →
     filter_map (λ y. new_spot number (length (spots_in B y)) (place_in B y) (Some place) (Some day)
-        y) xs ≡ (if is_applied (verdict_in B m) then new_spots B.museum B.posted m else [])
+    y) xs ≡ (if is_applied (verdict_in B m) then new_spots B.museum B.posted m else [])
 found_spots B m {put} {place} {day} {xs} lawful is counted dated there same =
     let (applied, put_is) = by_applied B.museum B.posted (verdict_in B m) m is in
     let spot : ℕ → Option ℤ → Option ℕ → ℕ → Option NewSpot =
-        λ n d o y. new_spot n (length (spots_in B y)) (place_in B y) o d y in
+    λ n d o y. new_spot n (length (spots_in B y)) (place_in B y) o d y in
     ap (λ n. filter_map (spot n (Some day) (Some place)) xs) counted
     ∙ ap (λ d. filter_map (spot (length B.posted + 1) d (Some place)) xs) (sym dated)
     ∙ ap (λ o. filter_map (spot (length B.posted + 1) (day_of m) o) xs) (sym there)
     ∙ ap (filter_map (spot (length B.posted + 1) (day_of m) (place_to B.museum B.posted put.to)))
-        same
+    same
     ∙ carried_spots m lawful put_is
-        (allowed_in B m lawful (applied_is (verdict_in B m) applied) put_is)
+    (allowed_in B m lawful (applied_is (verdict_in B m) applied) put_is)
     ∙ ap (λ b. if b then new_spots B.museum B.posted m else []) (sym applied)
 
 range_below : (a n k : ℕ) → a + n ≤ k → All (λ y. y < k) (range_with_len a n)

@@ -29,7 +29,7 @@ elsewhere_is : (S : Museum) (p : ℕ) → p < length S.places → is_elsewhere S
 elsewhere_is S p less =
     let is = slice_get-get_or S.places p ([], false) less in
     ap (λ o. option_map_or (λ r. not r.1) o false) is
-        ∙ sym (ap (λ o. not (option_map_or (λ r. r.1) o false)) is)
+    ∙ sym (ap (λ o. not (option_map_or (λ r. r.1) o false)) is)
 
 inside_if_not_elsewhere : (S : Museum) (p : ℕ) → p < length S.places → is_elsewhere S p ≡ false
     → is_inside S p ≡ true
@@ -59,9 +59,12 @@ inside_is S (Some p) h = record { at = p; is = refl; inside = h }
 comes_inside : (S : Museum) (p : List ℕ) → not (is_known_place S p) ≡ false
     → is_elsewhere S (place_no S p) ≡ false → IsInside S (Some (place_no S p))
 comes_inside S p known there =
-    record { at = place_no S p; is = refl;
-    inside = inside_if_not_elsewhere S (place_no S p)
-    (place_below S p (not-false (is_known_place S p) known)) there }
+    record {
+      at = place_no S p;
+      is = refl;
+      inside = inside_if_not_elsewhere S (place_no S p)
+          (place_below S p (not-false (is_known_place S p) known)) there;
+    }
 
 -- an object of the setup
 pub record IsObject (S : Museum) (o : ℕ) : Type 0 where
@@ -127,7 +130,7 @@ module _ {S : Museum} {depth : ℕ} {P : List Entry} {e : Entry} {o : ℕ} (a : 
   -- by one that nothing crosses by
   moves : (put : Put) → put_in S P e.message ≡ Some put → crossing_in e.message ≡ None →
       is_away S put.thing (place_at S P put.thing) ≡ false → IsInside S (place_to S P put.to)
-          → Turn S P e o
+      → Turn S P e o
   moves put is uncrossed here to = by_carried a o put is
       (λ goes. Moved (record {
         thing = put.thing;
@@ -146,7 +149,7 @@ module _ {S : Museum} {depth : ℕ} {P : List Entry} {e : Entry} {o : ℕ} (a : 
       (GoesWith S P e put o → HasCrossed S P e c o → IsReady S P c o → Turn S P e o) → Turn S P e o
   crosses put c is cross same unlisted wrong turn = by_carried a o put is
       (λ goes. let among = carried_among S P c.thing o object.below object.object
-          (subst (λ x. is_carried (length S.things) (puts S P) x o ≡ true) same goes.carried) in
+      (subst (λ x. is_carried (length S.things) (puts S P) x o ≡ true) same goes.carried) in
       turn goes (crosses_with a o c cross among) (ready S P c o unlisted wrong among))
       (λ apart stays. Left (record {
         stays = stays;
@@ -160,17 +163,19 @@ module _ {S : Museum} {depth : ℕ} {P : List Entry} {e : Entry} {o : ℕ} (a : 
   exits x loan day is h =
       let none = none_holds (exit_rows S P x loan day) refl h in
       let stands = inside_is S (place_at S P (thing_no S x))
-          (not-false (stands_inside S P x) none.1.1.1.1.0) in
+      (not-false (stands_inside S P x) none.1.1.1.1.0) in
       elim (agreement P loan) as (λ t. agreement P loan ≡ t → is_some t ≡ true → Turn S P e o) [
         | None ↦ λ found agreed. absurd (false≢true agreed)
         | Some t ↦ λ found agreed.
             let put : Put = record { thing = thing_no S x; to = At (place_no S t.partner) } in
             let puts_it : put_in S P e.message ≡ Some put =
-                ap (put_in S P) is
-                ∙ ap (option_map (λ t. record { thing = thing_no S x;
-                to = At (place_no S t.partner) })) found in
+            ap (put_in S P) is
+            ∙ ap (option_map (λ t. record {
+              thing = thing_no S x;
+              to = At (place_no S t.partner);
+            })) found in
             crosses put (exit_of x loan) puts_it (ap crossing_in is) refl none.1.1.1.1.1.0
-                none.1.1.1.1.1.1.0
+            none.1.1.1.1.1.1.0
             (λ goes crossed ready. Exited (record {
               x = x;
               loan = loan;
@@ -188,7 +193,7 @@ module _ {S : Museum} {depth : ℕ} {P : List Entry} {e : Entry} {o : ℕ} (a : 
   returns x loan p day is h =
       let none = none_holds (return_rows S P x loan p) refl h in
       crosses (record { thing = thing_no S x; to = At (place_no S p) })
-          (record { thing = x; loan = loan; wanted = Away; stage = Back })
+      (record { thing = x; loan = loan; wanted = Away; stage = Back })
       (ap (put_in S P) is) (ap crossing_in is) refl none.1.1.1.1.1.1.1.0 none.1.1.1.1.1.1.1.1.0
       (λ goes crossed ready. Returned (record {
         x = x;
@@ -204,7 +209,7 @@ module _ {S : Museum} {depth : ℕ} {P : List Entry} {e : Entry} {o : ℕ} (a : 
   receives x loan p day is h =
       let none = none_holds (receive_rows S P x loan p day) refl h in
       crosses (record { thing = thing_no S x; to = At (place_no S p) })
-          (record { thing = x; loan = loan; wanted = Awaiting; stage = Here })
+      (record { thing = x; loan = loan; wanted = Awaiting; stage = Here })
       (ap (put_in S P) is) (ap crossing_in is) refl none.1.1.1.1.1.1.1.1.0 none.1.1.1.1.1.1.1.1.1.0
       (λ goes crossed ready. Received (record {
         x = x;
@@ -220,12 +225,12 @@ module _ {S : Museum} {depth : ℕ} {P : List Entry} {e : Entry} {o : ℕ} (a : 
   by (Move day x p) is h =
       let none = none_holds (move_rows S P x p) refl h in
       moves (record { thing = thing_no S x; to = At (place_no S p) }) (ap (put_in S P) is)
-          (ap crossing_in is) none.1.1.1.0 (comes_inside S p none.1.0 none.1.1.0)
+      (ap crossing_in is) none.1.1.1.0 (comes_inside S p none.1.0 none.1.1.0)
   by (Pack day x c) is h =
       let none = none_holds (pack_rows S depth P x c) refl h in
       moves (record { thing = thing_no S x; to = Within (thing_no S c) }) (ap (put_in S P) is)
-          (ap crossing_in is) none.1.1.0
-          (inside_is S (place_at S P (thing_no S c)) (not-false (stands_inside S P c) none.1.1.1.0))
+      (ap crossing_in is) none.1.1.0
+      (inside_is S (place_at S P (thing_no S c)) (not-false (stands_inside S P c) none.1.1.1.0))
   by (Agree first final loan partner objects) is h =
       nothing (ap (put_in S P) is) (ap crossing_in is)
   by (Authorise name loan) is h = nothing (ap (put_in S P) is) (ap crossing_in is)

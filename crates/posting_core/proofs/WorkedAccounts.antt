@@ -34,20 +34,25 @@ other_loan : (P : List Entry) (agreed : List ℕ) (t : Agreement) (o : ℕ)
     → (loan : List ℕ) → bytes_eq loan agreed ≡ false → line_in (book P) loan o ≡ None
 other_loan P agreed t o found loan other =
     ap (λ u. if is_among o (option_map_or (objects_of museum) u []) then Some
-        (stage museum P loan o) else None) (found loan ∙ ap (λ b. cond b (Some t) None) other)
+    (stage museum P loan o) else None) (found loan ∙ ap (λ b. cond b (Some t) None) other)
 
 only_loan : (P : List Entry) (agreed : List ℕ) (t : Agreement) (o : ℕ)
     → ((loan : List ℕ) → agreement P loan ≡ cond (bytes_eq loan agreed) (Some t) None)
     → (loan : List ℕ) {line : LineStage} → line_in (book P) loan o ≡ Some line → loan ≡ agreed
 only_loan P agreed t o found loan {line} at =
     elim (bytes_eq loan agreed) as (λ b. bytes_eq loan agreed ≡ b → loan ≡ agreed) [
-  | true ↦ λ h. (bytes_eq-Decides loan agreed).0 h
-  | false ↦ λ h. absurd (none-some _ (sym (other_loan P agreed t o found loan h) ∙ at))
-] refl
+      | true ↦ λ h. (bytes_eq-Decides loan agreed).0 h
+      | false ↦ λ h. absurd (none-some _ (sym (other_loan P agreed t o found loan h) ∙ at))
+    ] refl
 
 terms_out : Agreement
-terms_out = record { loan = loan_1; partner = codes "MUSEUM-X";
-    objects = codes "2001.4.1" ∷ codes "2001.4.2" ∷ []; first = may; last = may_31 }
+terms_out = record {
+  loan = loan_1;
+  partner = codes "MUSEUM-X";
+  objects = codes "2001.4.1" ∷ codes "2001.4.2" ∷ [];
+  first = may;
+  last = may_31;
+}
 
 loan_out-away : IsUnderOne (book loan_out) Away object_1 loan_1
 unfolding terms_out
@@ -58,8 +63,15 @@ loan_out-partner : partner_in (book loan_out) loan_1 ≡ Some museum_x
 loan_out-partner = refl
 
 loan_out-lent : IsLent (book loan_out) object_1
-loan_out-lent = record { loan = loan_1; loan_out = refl; away = loan_out-away; partner = museum_x;
-    agreed = refl; place = refl; elsewhere = refl }
+loan_out-lent = record {
+  loan = loan_1;
+  loan_out = refl;
+  away = loan_out-away;
+  partner = museum_x;
+  agreed = refl;
+  place = refl;
+  elsewhere = refl;
+}
 
 -- what leaves does so under an authorised loan, and by its last day
 loan_out-authorised : IsAuthorised ready (leaves (codes "C1") loan_1 may_31)
@@ -81,8 +93,12 @@ abbrev drafted : List Entry
 drafted = run three_packed ((pack, two_agreed) ∷ [])
 
 abbrev refused : Entry
-refused = record { station = pack; n = 6; message = leaves (codes "C1") loan_1 may;
-    verdict = NotAuthorised }
+refused = record {
+  station = pack;
+  n = 6;
+  message = leaves (codes "C1") loan_1 may;
+  verdict = NotAuthorised;
+}
 
 refused_unauthorised-alike : AnswerAlike (book refused_unauthorised) (book drafted)
 refused_unauthorised-alike = unchanged (book drafted) refused refl
@@ -95,24 +111,38 @@ both_back-over = inl refl
 
 awaited-with_lender : IsWithLender (book awaited) borrowed
 awaited-with_lender =
-    record { place = tt; loans = λ loan. not_here
-    (is_among borrowed (objects museum awaited loan)) }
+    record {
+      place = tt;
+      loans = λ loan. not_here
+          (is_among borrowed (objects museum awaited loan));
+    }
   where
     not_here : (b : Bool) → (if b then Some Awaiting else None) ≢ Some Here
     not_here true at = let same : Some Awaiting ≡ Some Here = at in cc
     not_here false at = absurd (none-some _ at)
 
 terms_in : Agreement
-terms_in = record { loan = loan_in_1; partner = codes "LENDER-Y"; objects = codes "L1999.7" ∷ [];
-    first = may; last = may_31 }
+terms_in = record {
+  loan = loan_in_1;
+  partner = codes "LENDER-Y";
+  objects = codes "L1999.7" ∷ [];
+  first = may;
+  last = may_31;
+}
 
 here-here : IsUnderOne (book here) Here borrowed loan_in_1
 unfolding terms_in
 here-here = (refl, λ other at. only_loan here loan_in_1 terms_in borrowed (λ loan. refl) other at)
 
 here-guest : IsGuest (book here) borrowed
-here-guest = record { loan = loan_in_1; loan_in = refl; here = here-here; at = s2; place = refl;
-    inside = refl }
+here-guest = record {
+  loan = loan_in_1;
+  loan_in = refl;
+  here = here-here;
+  at = s2;
+  place = refl;
+  inside = refl;
+}
 
 -- how a ledger goes on
 

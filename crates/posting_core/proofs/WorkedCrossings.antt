@@ -59,13 +59,25 @@ found_last : last_day two_loans loan_1 ≡ Some may_31
 found_last = refl
 
 abbrev row_1 : LoanRow
-row_1 = record { loan = loan_1; partner = museum_x; objects = object_1 ∷ object_2 ∷ [];
-    stages = Awaiting ∷ Awaiting ∷ []; last = may_31; authorised = true }
+row_1 = record {
+  loan = loan_1;
+  partner = museum_x;
+  objects = object_1 ∷ object_2 ∷ [];
+  stages = Awaiting ∷ Awaiting ∷ [];
+  last = may_31;
+  authorised = true;
+}
 
 found_rows : loan_rows museum two_loans ≡
     row_1
-    ∷ record { loan = loan_2; partner = museum_x; objects = object_3 ∷ []; stages = Awaiting ∷ [];
-        last = may_31; authorised = false }
+    ∷ record {
+      loan = loan_2;
+      partner = museum_x;
+      objects = object_3 ∷ [];
+      stages = Awaiting ∷ [];
+      last = may_31;
+      authorised = false;
+    }
     ∷ []
 found_rows = refl
 
@@ -92,7 +104,7 @@ is_not_found h = let number : Some 0 ≡ Some 1 = h.number in cc
 incoming : first_of (incoming_rows museum two_loans (codes "C9") (codes "LO2024.3") (codes "S9") [])
     ∷ first_of (incoming_rows museum two_loans (codes "C1") (codes "LO2024.3") (codes "S9") [])
     ∷ first_of (incoming_rows museum two_loans (codes "C1") (codes "LO2024.3")
-        (codes "MUSEUM-X") [])
+    (codes "MUSEUM-X") [])
     ∷ first_of (incoming_rows museum two_loans (codes "C1") (codes "LO2024.3") (codes "S1") [])
     ∷ first_of (incoming_rows museum two_loans (codes "C1") loan_1 (codes "S1") [])
     ∷ [] ≡ UnknownThing ∷ UnknownPlace ∷ ElsewherePlace ∷ UnknownLoan ∷ Applied ∷ []

@@ -52,7 +52,7 @@ agree : told_after drafts (
     ∷ Agree may april_30 (codes "LO2024.9") (codes "MUSEUM-X") (codes "L1999.7" ∷ [])
     ∷ [])
     ≡ UnknownThing ∷ UnknownPlace ∷ LoanKnown ∷ InsidePartner ∷ NotObject ∷ Repeated
-        ∷ WrongOwner ∷ []
+    ∷ WrongOwner ∷ []
 agree = refl
 
 exit-drafts : told_after drafts (

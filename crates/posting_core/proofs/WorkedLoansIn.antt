@@ -68,7 +68,7 @@ loan_in-places = refl
 
 loan_in-spots : spots_in (book loan_in) borrowed ≡
     record { entry = 4; place = s1; day = may_31 } ∷ spot 6 s2
-        ∷ record { entry = 7; place = lender_y; day = june_5 } ∷ []
+    ∷ record { entry = 7; place = lender_y; day = june_5 } ∷ []
 loan_in-spots = refl
 
 -- a receipt writes the object's first spot, and its line
@@ -77,8 +77,11 @@ loan_in-receiving : changes_of (book awaited) (received may_31) ≡ record {
   verdict = Applied;
   put = put_at borrowed s1;
   carried = borrowed ∷ [];
-  spots = record { thing = borrowed; k = 1;
-      spot = record { entry = 4; place = s1; day = may_31 } } ∷ [];
+  spots = record {
+    thing = borrowed;
+    k = 1;
+    spot = record { entry = 4; place = s1; day = may_31 };
+  } ∷ [];
   loan = Some 0;
   lines = record { loan = loan_in_1; object = borrowed; stage = Here } ∷ [];
 }
@@ -121,7 +124,7 @@ tour_of_verdicts-verdicts : verdicts tour_of_verdicts ≡
     InsidePartner ∷ NoObjects ∷ NotObject ∷ Repeated ∷ WrongOwner ∷ BadTerm
     ∷ Applied ∷ LoanKnown ∷ Applied ∷ AlreadyAuthorised ∷ UnknownLoan ∷ WrongDirection
     ∷ ElsewherePlace ∷ UnknownPlace ∷ UnknownThing ∷ UnknownContainer ∷ ContainerNotHere ∷ Applied
-        ∷ NotObject ∷ []
+    ∷ NotObject ∷ []
 tour_of_verdicts-verdicts = refl
 
 -- what is refused agrees nothing and places nothing

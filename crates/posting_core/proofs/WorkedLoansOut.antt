@@ -98,7 +98,7 @@ loan_out = run ready ((pack, leaves (codes "C1") loan_1 may_31) ∷ [])
 
 loan_out-verdicts : verdicts loan_out ≡
     Applied ∷ Applied ∷ Applied ∷ Applied ∷ Applied ∷ NotAuthorised ∷ Applied ∷ NotListed ∷ Applied
-        ∷ TermOver ∷ Applied ∷ []
+    ∷ TermOver ∷ Applied ∷ []
 loan_out-verdicts = refl
 
 loan_out-lines : map (line_in (book loan_out) loan_1)
@@ -141,8 +141,15 @@ loan_out-spots = refl
 -- an agreement makes its lines, in the order of its list, and writes no spot
 loan_out-agreeing : changes_of (book three_packed)
     (agreed loan_1 (codes "2001.4.2" ∷ codes "2001.4.1" ∷ [])) ≡
-    record { entry = 5; verdict = Applied; put = None; carried = []; spots = []; loan = None;
-        lines = new_line object_2 Awaiting ∷ new_line object_1 Awaiting ∷ [] }
+    record {
+      entry = 5;
+      verdict = Applied;
+      put = None;
+      carried = [];
+      spots = [];
+      loan = None;
+      lines = new_line object_2 Awaiting ∷ new_line object_1 Awaiting ∷ [];
+    }
 loan_out-agreeing = refl
 
 -- an exit changes the lines of all objects that cross, ascending, and writes a spot of each thing
@@ -160,14 +167,28 @@ loan_out-leaving = refl
 
 -- a refused one changes neither
 loan_out-refused : changes_of (book ready) (leaves (codes "C1") loan_1 june_1)
-    ≡ record { entry = 11; verdict = TermOver; put = None; carried = []; spots = []; loan = None;
-    lines = [] }
+    ≡ record {
+      entry = 11;
+      verdict = TermOver;
+      put = None;
+      carried = [];
+      spots = [];
+      loan = None;
+      lines = [];
+    }
 loan_out-refused = refl
 
 -- an authorisation changes no line
 loan_out-authorising : changes_of (book refused_unauthorised) (authorised loan_1)
-    ≡ record { entry = 7; verdict = Applied; put = None; carried = []; spots = []; loan = Some 0;
-    lines = [] }
+    ≡ record {
+      entry = 7;
+      verdict = Applied;
+      put = None;
+      carried = [];
+      spots = [];
+      loan = Some 0;
+      lines = [];
+    }
 loan_out-authorising = refl
 
 -- something crosses with what is in it where a crate crosses by a loan
@@ -297,8 +318,15 @@ extend_tour-last_day = refl
 
 -- an extension changes no line and writes no spot
 extend_tour-extending : changes_of (book loan_out) (extended loan_1 june_30)
-    ≡ record { entry = 12; verdict = Applied; put = None; carried = []; spots = []; loan = Some 0;
-    lines = [] }
+    ≡ record {
+      entry = 12;
+      verdict = Applied;
+      put = None;
+      carried = [];
+      spots = [];
+      loan = Some 0;
+      lines = [];
+    }
 extend_tour-extending = refl
 
 -- extend_unauthorised: a draft isn't extended

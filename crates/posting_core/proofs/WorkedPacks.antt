@@ -78,29 +78,50 @@ crate_in_crate-contents = refl
 
 crate_in_crate-puts : puts museum filled ≡
     record { thing = object_1; to = Within crate_2 }
-        ∷ record { thing = crate_2; to = Within crate_1 } ∷ record { thing = crate_2; to = At s1 }
-        ∷ record { thing = crate_1; to = At s1 } ∷ []
+    ∷ record { thing = crate_2; to = Within crate_1 } ∷ record { thing = crate_2; to = At s1 }
+    ∷ record { thing = crate_1; to = At s1 } ∷ []
 crate_in_crate-puts = refl
 
 -- a Pack writes the spot of what comes to another place with it, here the first of the object
 crate_in_crate-packing : changes_of (book nested) (packed (codes "2001.4.1") (codes "C2")) ≡
-    record { entry = 4; verdict = Applied; put = put_in object_1 crate_2; carried = object_1 ∷ [];
-        spots = new object_1 1 4 s1 ∷ []; loan = None; lines = [] }
+    record {
+      entry = 4;
+      verdict = Applied;
+      put = put_in object_1 crate_2;
+      carried = object_1 ∷ [];
+      spots = new object_1 1 4 s1 ∷ [];
+      loan = None;
+      lines = [];
+    }
 crate_in_crate-packing = refl
 
 -- and none where the container stands in the same place
 crate_in_crate-repacking : changes_of (book filled) (packed (codes "2001.4.1") (codes "C1")) ≡
-    record { entry = 5; verdict = Applied; put = put_in object_1 crate_1; carried = object_1 ∷ [];
-        spots = []; loan = None; lines = [] }
+    record {
+      entry = 5;
+      verdict = Applied;
+      put = put_in object_1 crate_1;
+      carried = object_1 ∷ [];
+      spots = [];
+      loan = None;
+      lines = [];
+    }
 crate_in_crate-repacking = refl
 
 -- a crate's Move writes a spot of each thing that it carries, with the next number of that thing's
 -- list
 crate_in_crate-moving : changes_of (book filled) (moved (codes "C1") (codes "S2")) ≡
-    record { entry = 5; verdict = Applied; put = put_at crate_1 s2;
-        carried = crate_1 ∷ crate_2 ∷ object_1 ∷ []; spots =
-        new crate_1 2 5 s2 ∷ new crate_2 2 5 s2 ∷ new object_1 2 5 s2 ∷ []; loan =
-        None; lines = [] }
+    record {
+      entry = 5;
+      verdict = Applied;
+      put = put_at crate_1 s2;
+      carried = crate_1 ∷ crate_2 ∷ object_1 ∷ [];
+      spots =
+          new crate_1 2 5 s2 ∷ new crate_2 2 5 s2 ∷ new object_1 2 5 s2 ∷ [];
+      loan =
+          None;
+      lines = [];
+    }
 crate_in_crate-moving = refl
 
 -- packed again, each thing that comes along has the next number of its own list
@@ -109,10 +130,17 @@ taken_apart = run crate_in_crate
     ((pack, packed (codes "2001.4.2") (codes "C2")) ∷ (pack, moved (codes "C2") (codes "S1")) ∷ [])
 
 taken_apart-packing : changes_of (book taken_apart) (packed (codes "C2") (codes "C1")) ≡
-    record { entry = 8; verdict = Applied; put = put_in crate_2 crate_1;
-        carried = crate_2 ∷ object_1 ∷ object_2 ∷ []; spots =
-        new crate_2 4 8 s2 ∷ new object_1 4 8 s2 ∷ new object_2 3 8 s2 ∷ []; loan =
-        None; lines = [] }
+    record {
+      entry = 8;
+      verdict = Applied;
+      put = put_in crate_2 crate_1;
+      carried = crate_2 ∷ object_1 ∷ object_2 ∷ [];
+      spots =
+          new crate_2 4 8 s2 ∷ new object_1 4 8 s2 ∷ new object_2 3 8 s2 ∷ [];
+      loan =
+          None;
+      lines = [];
+    }
 taken_apart-packing = refl
 
 -- taken_out_of_a_crate: what was taken out stays where it was put when the crate moves on
@@ -126,7 +154,7 @@ taken_out_of_a_crate = run crate_in_crate (
 taken_out_of_a_crate-spots : map (spots museum taken_out_of_a_crate)
     (crate_1 ∷ crate_2 ∷ object_1 ∷ []) ≡
     (spot 1 s1 ∷ spot 5 s2 ∷ spot 7 s1 ∷ []) ∷ (spot 2 s1 ∷ spot 5 s2 ∷ spot 7 s1 ∷ [])
-        ∷ (spot 4 s1 ∷ spot 5 s2 ∷ spot 6 s1_a ∷ []) ∷ []
+    ∷ (spot 4 s1 ∷ spot 5 s2 ∷ spot 6 s1_a ∷ []) ∷ []
 taken_out_of_a_crate-spots = refl
 
 taken_out_of_a_crate-places : map (place_in (book taken_out_of_a_crate))
@@ -168,8 +196,15 @@ cycle-chains : map (chain_at museum cycle) (crate_1 ∷ crate_2 ∷ []) ≡ [] �
 cycle-chains = refl
 
 cycle-change : changes_of (book nested) (packed (codes "C1") (codes "C2"))
-    ≡ record { entry = 4; verdict = Cycle; put = None; carried = []; spots = []; loan = None;
-    lines = [] }
+    ≡ record {
+      entry = 4;
+      verdict = Cycle;
+      put = None;
+      carried = [];
+      spots = [];
+      loan = None;
+      lines = [];
+    }
 cycle-change = refl
 
 -- too_deep: eight containers above a thing, under a limit of eight
@@ -179,8 +214,8 @@ abbrev crates : Museum
 crates = record museum {
   things = museum.things
       ++ ((codes "C3", None) ∷ (codes "C4", None) ∷ (codes "C5", None) ∷ (codes "C6", None)
-          ∷ (codes "C7", None) ∷ (codes "C8", None) ∷ (codes "C9", None)
-          ∷ (codes "C10", None) ∷ []);
+      ∷ (codes "C7", None) ∷ (codes "C8", None) ∷ (codes "C9", None)
+      ∷ (codes "C10", None) ∷ []);
 }
 
 abbrev eight_deep : List Entry

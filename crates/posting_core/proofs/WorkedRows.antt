@@ -80,8 +80,12 @@ signed_off = SignOff (codes "Ada")
 
 -- one more entry: the station's next number, and the verdict of the rules
 abbrev entry_in : Museum → List Entry → ℕ → Message → Entry
-entry_in S P station m = record { station = station; n = count_at station P + 1; message = m;
-    verdict = verdict S 8 P m }
+entry_in S P station m = record {
+  station = station;
+  n = count_at station P + 1;
+  message = m;
+  verdict = verdict S 8 P m;
+}
 
 -- the entries of what these stations told, in this order, after P
 abbrev pub run_in : Museum → List Entry → List (ℕ × Message) → List Entry
@@ -135,41 +139,76 @@ held_then_posted-places = refl
 
 held_then_posted-puts : puts museum held_then_posted ≡
     record { thing = object_1; to = At s1_a } ∷ record { thing = object_2; to = At s2 }
-        ∷ record { thing = object_1; to = At s1 } ∷ []
+    ∷ record { thing = object_1; to = At s1 } ∷ []
 held_then_posted-puts = refl
 
 -- what one more message would change: a spot with the next number of its thing's list
 held_then_posted-change : changes_of (book held_then_posted)
     (moved (codes "2001.4.1") (codes "S2")) ≡
-    record { entry = 4; verdict = Applied; put = put_at object_1 s2; carried = object_1 ∷ [];
-        spots = record { thing = object_1; k = 3; spot = spot 4 s2 } ∷ []; loan = None; lines = [] }
+    record {
+      entry = 4;
+      verdict = Applied;
+      put = put_at object_1 s2;
+      carried = object_1 ∷ [];
+      spots = record { thing = object_1; k = 3; spot = spot 4 s2 } ∷ [];
+      loan = None;
+      lines = [];
+    }
 held_then_posted-change = refl
 
 -- a first placement has the number 1
 held_then_posted-first : changes_of (book held_then_posted)
     (moved (codes "2001.4.3") (codes "S2")) ≡
-    record { entry = 4; verdict = Applied; put = put_at object_3 s2; carried = object_3 ∷ [];
-        spots = record { thing = object_3; k = 1; spot = spot 4 s2 } ∷ []; loan = None; lines = [] }
+    record {
+      entry = 4;
+      verdict = Applied;
+      put = put_at object_3 s2;
+      carried = object_3 ∷ [];
+      spots = record { thing = object_3; k = 1; spot = spot 4 s2 } ∷ [];
+      loan = None;
+      lines = [];
+    }
 held_then_posted-first = refl
 
 -- a Move to the place where the thing is puts it there again, and writes nothing but the posted
 -- list
 held_then_posted-same : changes_of (book held_then_posted)
     (moved (codes "2001.4.1") (codes "S1-A")) ≡
-    record { entry = 4; verdict = Applied; put = put_at object_1 s1_a; carried = object_1 ∷ [];
-        spots = []; loan = None; lines = [] }
+    record {
+      entry = 4;
+      verdict = Applied;
+      put = put_at object_1 s1_a;
+      carried = object_1 ∷ [];
+      spots = [];
+      loan = None;
+      lines = [];
+    }
 held_then_posted-same = refl
 
 -- a sign-off puts nothing, and neither does a refused Move
 held_then_posted-sign_off : changes_of (book held_then_posted) signed_off
-    ≡ record { entry = 4; verdict = Applied; put = None; carried = []; spots = []; loan = None;
-    lines = [] }
+    ≡ record {
+      entry = 4;
+      verdict = Applied;
+      put = None;
+      carried = [];
+      spots = [];
+      loan = None;
+      lines = [];
+    }
 held_then_posted-sign_off = refl
 
 held_then_posted-refused : changes_of (book held_then_posted)
     (moved (codes "2001.4.1") (codes "MUSEUM-X")) ≡
-    record { entry = 4; verdict = ElsewherePlace; put = None; carried = []; spots = []; loan = None;
-        lines = [] }
+    record {
+      entry = 4;
+      verdict = ElsewherePlace;
+      put = None;
+      carried = [];
+      spots = [];
+      loan = None;
+      lines = [];
+    }
 held_then_posted-refused = refl
 
 -- tour_of_verdicts: refused Moves keep their numbers and place nothing
@@ -287,8 +326,11 @@ lawful-tour =
       follows P2 pack (moved (codes "2001.4.1") (codes "S1")) (omega arith) (omega arith) refl,
       (
         follows P1 gal signed_off (omega arith) (omega arith) refl,
-        (follows [] pack (moved (codes "2001.4.1") (codes "S9")) (omega arith)
-            (omega arith) refl, tt),
+        (
+          follows [] pack (moved (codes "2001.4.1") (codes "S9")) (omega arith)
+              (omega arith) refl,
+          tt,
+        ),
       ),
     )
 

@@ -51,7 +51,7 @@ three-lasts : All (IsLast three) (first ∷ second ∷ [])
 three-lasts = All-cons (IsLast three) first (second ∷ [])
     (record { back = (kept_spot 7 8 0, refl, (kept_spot 4 5 0, refl, tt)); few = omega arith })
     (All-cons (IsLast three) second []
-        (record { back = (kept_spot 6 5 0, refl, tt); few = omega arith }) (All-nil (IsLast three)))
+    (record { back = (kept_spot 6 5 0, refl, tt); few = omega arith }) (All-nil (IsLast three)))
 
 -- a spot that isn't there leads back to none
 unled : LeadBack (kept_spot 4 5 0 ∷ []) 1 1 → ⊥

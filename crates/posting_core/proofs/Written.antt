@@ -37,12 +37,12 @@ rows_before R f a (suc n) x own less =
     elim (f a) as (λ o. f a ≡ o
     → row_of (rows_after R (cons_option o (filter_map f (range_with_len (a + 1) n)))) x
     ≡ row_of R x) [
-  | None ↦ λ e. rows_before R f (a + 1) n x own (omega arith)
-  | Some s ↦ λ e. let t : s.thing ≡ a = own a s e in
-      rows_before (slice_set R s.thing (row_of R s.thing ++ s.spot ∷ [])) f (a + 1) n x own
+      | None ↦ λ e. rows_before R f (a + 1) n x own (omega arith)
+      | Some s ↦ λ e. let t : s.thing ≡ a = own a s e in
+          rows_before (slice_set R s.thing (row_of R s.thing ++ s.spot ∷ [])) f (a + 1) n x own
           (omega arith) ∙ row_other R s.thing x (row_of R s.thing ++ s.spot ∷ [])
           (λ h. absurd (omega arith))
-] refl
+    ] refl
 
 -- as many rows stand after what is written
 pub rows_length : (R : List (List Spot)) (ss : List NewSpot) → length (rows_after R ss) ≡ length R
@@ -62,23 +62,23 @@ rows_written R f a (suc n) x own fits low high =
     elim (f a) as (λ o. f a ≡ o
     → row_of (rows_after R (cons_option o (filter_map f (range_with_len (a + 1) n)))) x ≡ row_of R x
     ++ spot_at f x) [
-  | None ↦ λ e. elim (cases_eq a x) [
-    | inl same ↦ rows_before R f (a + 1) n x own (omega arith)
-        ∙ sym (subst (λ y. row_of R x ++ spot_at f y ≡ row_of R x) same
-        (rw e (append-nil (row_of R x))))
-    | inr n' ↦ rows_written R f (a + 1) n x own (omega arith) (omega arith) (omega arith)
-  ]
-  | Some s ↦ λ e. let t : s.thing ≡ a = own a s e in let row = row_of R s.thing ++ s.spot ∷ [] in
-      elim (cases_eq a x) [
-    | inl same ↦ rows_before (slice_set R s.thing row) f (a + 1) n x own (omega arith)
-        ∙ subst (λ y. row_of (slice_set R s.thing row) y ≡ row_of R y ++ spot_at f y) same
-        (subst (λ y. row_of (slice_set R s.thing row) y ≡ row_of R y ++ spot_at f a) t
-            (rw e (row_same R s.thing row (omega arith))))
-    | inr n' ↦ rows_written (slice_set R s.thing row) f (a + 1) n x own
-        (omega (arith, length-set R s.thing row)) (omega arith) (omega arith)
-        ∙ ap (λ (r : List Spot). r ++ spot_at f x) (row_other R s.thing x row (λ h. n' (sym t ∙ h)))
-  ]
-] refl
+      | None ↦ λ e. elim (cases_eq a x) [
+        | inl same ↦ rows_before R f (a + 1) n x own (omega arith)
+            ∙ sym (subst (λ y. row_of R x ++ spot_at f y ≡ row_of R x) same
+            (rw e (append-nil (row_of R x))))
+        | inr n' ↦ rows_written R f (a + 1) n x own (omega arith) (omega arith) (omega arith)
+      ]
+      | Some s ↦ λ e. let t : s.thing ≡ a = own a s e in let row = row_of R s.thing ++ s.spot ∷ [] in
+          elim (cases_eq a x) [
+            | inl same ↦ rows_before (slice_set R s.thing row) f (a + 1) n x own (omega arith)
+                ∙ subst (λ y. row_of (slice_set R s.thing row) y ≡ row_of R y ++ spot_at f y) same
+                (subst (λ y. row_of (slice_set R s.thing row) y ≡ row_of R y ++ spot_at f a) t
+                (rw e (row_same R s.thing row (omega arith))))
+            | inr n' ↦ rows_written (slice_set R s.thing row) f (a + 1) n x own
+                (omega (arith, length-set R s.thing row)) (omega arith) (omega arith)
+                ∙ ap (λ (r : List Spot). r ++ spot_at f x) (row_other R s.thing x row (λ h. n' (sym t ∙ h)))
+          ]
+    ] refl
 
 pub chosen_spot : (number count : ℕ) (before after : Option ℕ) (day : Option ℤ) (x : ℕ)
     → option_map (λ s. s.spot) (new_spot number count before after day x) ≡ spot_from number
@@ -95,10 +95,10 @@ own_spot number count before after day x s =
     elim (spot_from number before after day) as
     (λ o. option_map (λ spot. let t : NewSpot = record { thing = x; k = count + 1; spot = spot } in
     t) o ≡ Some s → s.thing ≡ x) [
-  | None ↦ λ e. absurd (none-some _ e)
-  | Some spot ↦ λ e. let made : NewSpot = record { thing = x; k = count + 1; spot = spot } in
-      let same : made ≡ s = cc in sym (ap (λ (t : NewSpot). t.thing) same)
-]
+      | None ↦ λ e. absurd (none-some _ e)
+      | Some spot ↦ λ e. let made : NewSpot = record { thing = x; k = count + 1; spot = spot } in
+          let same : made ≡ s = cc in sym (ap (λ (t : NewSpot). t.thing) same)
+    ]
 
 -- an entry that leaves the place writes no spot
 pub same_place : (number : ℕ) (p : Option ℕ) (day : Option ℤ) → spot_from number p p day ≡ None
@@ -114,8 +114,8 @@ own_within f a zero things own high = All-nil (λ (s : NewSpot). s.thing < thing
 own_within f a (suc n) things own high =
     elim (f a) as (λ o. f a ≡ o → All (λ s. s.thing < things)
     (cons_option o (filter_map f (range_with_len (a + 1) n)))) [
-  | None ↦ λ e. own_within f (a + 1) n things own (omega arith)
-  | Some s ↦ λ e. let t : s.thing ≡ a = own a s e in
-      All-cons (λ (r : NewSpot). r.thing < things) s (filter_map f (range_with_len (a + 1) n))
+      | None ↦ λ e. own_within f (a + 1) n things own (omega arith)
+      | Some s ↦ λ e. let t : s.thing ≡ a = own a s e in
+          All-cons (λ (r : NewSpot). r.thing < things) s (filter_map f (range_with_len (a + 1) n))
           (omega arith) (own_within f (a + 1) n things own (omega arith))
-] refl
+    ] refl

@@ -67,7 +67,7 @@ put_fresh new (r ∷ rs) free = go (value_cmp (rowid r) (rowid new)) refl
     go : (o : Ordering) → value_cmp (rowid r) (rowid new) ≡ o
         → IsPermutation (new ∷ rs) (put_row new rs)
         → IsPermutation (new ∷ r ∷ rs)
-            (match_ordering o (r ∷ put_row new rs) (new ∷ rs) (new ∷ r ∷ rs))
+        (match_ordering o (r ∷ put_row new rs) (new ∷ rs) (new ∷ r ∷ rs))
     go Less is later = IsPermutation-trans _ (r ∷ new ∷ rs) _
         (IsPermutation-sym _ _ (IsPermutation-middle (r ∷ []) new rs))
         (IsPermutation-cons r _ _ later)
@@ -90,8 +90,14 @@ adds_one rows news new after is fresh made =
 pub spares : (t : ℕ) (db next : Trees)
     → AllByRecursion (λ (k : Table). k.tree ≢ t → next k.tree ≡ db k.tree) hub_schema.tables
     → Spares t db next
-spares t db next all = record { meta = all.0; setup = all.1.0; postings = all.1.1.0;
-    spots = all.1.1.1.0; lines = all.1.1.1.1.0; terms = all.1.1.1.1.1.0 }
+spares t db next all = record {
+  meta = all.0;
+  setup = all.1.0;
+  postings = all.1.1.0;
+  spots = all.1.1.1.0;
+  lines = all.1.1.1.1.0;
+  terms = all.1.1.1.1.1.0;
+}
 
 abbrev uncounted : Table → Table
 uncounted t = record t { is_counted = false }
@@ -100,11 +106,16 @@ uncounted t = record t { is_counted = false }
 goes_through : (t : Table) (at : ℕ) (terms : List Term) (width : ℕ) (params : Row)
     (limit : Option ℕ) (mode : Mode) (schema : Schema) (db : Trees) (tally : Tally)
     (after : Database)
-    → OnRows (record { limit = limit; keys = mode.keys; schema = schema; table = uncounted t;
-        params = params }) mode None (Insert at (Values terms width)) db (Ok (tally, after))
+    → OnRows (record {
+      limit = limit;
+      keys = mode.keys;
+      schema = schema;
+      table = uncounted t;
+      params = params;
+    }) mode None (Insert at (Values terms width)) db (Ok (tally, after))
     → (mid : Trees) × Edited schema mode.keys db
-        (edit_of db (uncounted t) [] Chosen 0
-        (value_rows (stamped t params) width (length terms / width) terms)) (Ok mid)
+    (edit_of db (uncounted t) [] Chosen 0
+    (value_rows (stamped t params) width (length terms / width) terms)) (Ok mid)
     × (after ≡ record { schema = schema; trees = mid })
 goes_through t at terms width params limit mode schema db tally after does =
     let done = went does in
@@ -113,7 +124,7 @@ goes_through t at terms width params limit mode schema db tally after does =
     let written = went (went given.2).2 in
     let counted = went written.2 in
     let trees : done.0.trees ≡ written.0 = ap (λ (it : Written). it.trees) (same_value counted.2)
-        ∙ same_value counted.1 in (
+    ∙ same_value counted.1 in (
       written.0,
       subst (λ rows. Edited schema mode.keys db (edit_of db (uncounted t) [] Chosen 0 rows)
           (Ok written.0)) given.1.1 written.1,
@@ -123,13 +134,13 @@ goes_through t at terms width params limit mode schema db tally after does =
 -- an INSERT of what the parameters say into a table of the store
 module _ (text : List ℕ) (params : Row) (at : ℕ) (terms : List Term) (width : ℕ)
     (name : List ℕ) (tree : ℕ) (columns : List Column) (key : Option ℕ) (primary : List ℕ)
-        (uniques : List (List ℕ))
+    (uniques : List (List ℕ))
     (is : command_of (understood hub_schema text) ≡ Insert at (Values terms width))
-        (plain : IsPlain (understood hub_schema text))
+    (plain : IsPlain (understood hub_schema text))
     (there : slice_get hub_schema.tables at ≡ Some (table name tree columns key primary uniques))
     (row : Trees → Row) (casts : (db : Trees)
-        → (edit_of db (table name tree columns key primary uniques) [] Chosen 0
-        (value_rows (params ++ []) width (length terms / width) terms)).news ≡ row db ∷ []) where
+    → (edit_of db (table name tree columns key primary uniques) [] Chosen 0
+    (value_rows (params ++ []) width (length terms / width) terms)).news ≡ row db ∷ []) where
   abbrev into : Table
   into = table name tree columns key primary uniques
 
@@ -142,17 +153,27 @@ module _ (text : List ℕ) (params : Row) (at : ℕ) (terms : List Term) (width 
       let db = old.now.trees in
       let mode = mode_of old in
       let w = runs_as text params old new hub_schema has (Insert at (Values terms width)) is
-          plain count h in
+      plain count h in
       let on : Table → Part (Tally × Database) =
-          λ k. OnRows (record { limit = old.step_limit; keys = mode.keys; schema = hub_schema;
-          table = k; params = params }) mode None (Insert at (Values terms width)) db in
+      λ k. OnRows (record {
+        limit = old.step_limit;
+        keys = mode.keys;
+        schema = hub_schema;
+        table = k;
+        params = params;
+      }) mode None (Insert at (Values terms width)) db in
       let does : AtPlace on (slice_get hub_schema.tables at) (Ok (w.tally, new.now)) =
       subst (λ it. AtPlace
-          (λ k. OnRows (record { limit = old.step_limit; keys = mode.keys; schema = it; table = k;
-          params = params }) mode None (Insert at (Values terms width)) db) (slice_get it.tables at)
-          (Ok (w.tally, new.now))) has w.changed in
+      (λ k. OnRows (record {
+        limit = old.step_limit;
+        keys = mode.keys;
+        schema = it;
+        table = k;
+        params = params;
+      }) mode None (Insert at (Values terms width)) db) (slice_get it.tables at)
+      (Ok (w.tally, new.now))) has w.changed in
       let it = goes_through into at terms width params old.step_limit mode hub_schema db w.tally
-          new.now (subst (λ o. AtPlace on o (Ok (w.tally, new.now))) there does) in
+      new.now (subst (λ o. AtPlace on o (Ok (w.tally, new.now))) there does) in
       let last : new.now.trees ≡ it.0 = ap (λ (d : Database). d.trees) it.2 in
       let step = one_step hub_schema _ db it.0 (edit_of db into [] Chosen 0 given_rows) refl it.1 in
       record {

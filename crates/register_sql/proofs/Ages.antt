@@ -73,16 +73,18 @@ else_pair rows a b first second is unfit d e = (
     go (inr p) = e.1 p
 
 pub no_pair : (rows : List Row) → length rows ≢ 2 → Decides false (IsFirst rows)
-no_pair rows other = ((λ f. absurd (let e : false ≡ true = f in cc)),
-    λ h. absurd (other (length_permutation _ _ h)))
+no_pair rows other = (
+  (λ f. absurd (let e : false ≡ true = f in cc)),
+  λ h. absurd (other (length_permutation _ _ h)),
+)
 
 -- ---- none says the version
 
 pub none_next : (version : ℕ) (rows : List Row) (at : ℕ) (row : Row) → at < length rows
     → row ≡ slice_index_or rows at row → row ≢ meta_cells (version_row version)
     → ((k : ℕ) (d : Row) → k < at → slice_index_or rows k d ≢ meta_cells (version_row version))
-        → (k : ℕ) (d : Row) → k < at + 1
-        → slice_index_or rows k d ≢ meta_cells (version_row version)
+    → (k : ℕ) (d : Row) → k < at + 1
+    → slice_index_or rows k d ≢ meta_cells (version_row version)
 none_next version rows at row inside is unfit before k d low said = go (ltb k at) refl
   where
     go : (t : Bool) → ltb k at ≡ t → ⊥
@@ -90,7 +92,7 @@ none_next version rows at row inside is unfit before k d low said = go (ltb k at
     go false more =
         let here : k ≡ at = omega (arith, low, ltb-false k at more) in
         let same : slice_index_or rows k d ≡ row =
-            ap (λ i. slice_index_or rows i d) here ∙ default_free rows at d row inside ∙ sym is in
+        ap (λ i. slice_index_or rows i d) here ∙ default_free rows at d row inside ∙ sym is in
         unfit (sym same ∙ said)
 
 pub none_at_all : (version : ℕ) (rows : List Row) (at : ℕ) → length rows ≤ at
@@ -102,6 +104,7 @@ none_at_all version rows at low none =
 pub one_says : (version : ℕ) (rows : List Row) (at : ℕ) (row : Row) → at < length rows
     → row ≡ slice_index_or rows at row → row ≡ meta_cells (version_row version)
     → Decides false (LacksRow version rows)
-one_says version rows at row inside is fit =
-    ((λ f. absurd (let e : false ≡ true = f in cc)),
-    λ lacks. absurd (lacks at row inside (sym is ∙ fit)))
+one_says version rows at row inside is fit = (
+  (λ f. absurd (let e : false ≡ true = f in cc)),
+  λ lacks. absurd (lacks at row inside (sym is ∙ fit)),
+)

@@ -32,7 +32,7 @@ pub more_spots : (spots : List NewSpot) (s : NewSpot) (row : Row) → spot_cells
     → spots_shown (spots ++ s ∷ []) ≡ spots_shown spots ++ row ∷ []
 more_spots spots s row is =
     ap (map spot_cells) (map-append spot_row spots (s ∷ [])) ∙ map-append spot_cells
-        (map spot_row spots) _ ∙ ap (λ r. spots_shown spots ++ r ∷ []) is
+    (map spot_row spots) _ ∙ ap (λ r. spots_shown spots ++ r ∷ []) is
 
 pub more_lines : (kept : List (LineKey × LineStage)) (key : LineKey) (stage : LineStage) (row : Row)
     → line_cells (line_row (record { loan = key.loan; object = key.object; stage = stage })) ≡ row
@@ -54,7 +54,7 @@ pub keeps_line : (eq : LineKey → LineKey → Bool) (old new : List (LineKey ×
     (key : LineKey) (stage : LineStage) (row : Row) → lookup (eq key) old ≡ None
     → new ≡ insert_entry eq old key stage
     → line_cells (line_row (record { loan = key.loan; object = key.object; stage = stage })) ≡ row
-        → lines_shown new ≡ lines_shown old ++ row ∷ []
+    → lines_shown new ≡ lines_shown old ++ row ∷ []
 keeps_line eq old new key stage row none is cells =
     ap lines_shown (is ∙ insert_entry-absent eq key stage old
     (absent_from_lookup (eq key) old none)) ∙ more_lines old key stage row cells
@@ -62,7 +62,7 @@ keeps_line eq old new key stage row none is cells =
 pub keeps_term : (eq : List ℕ → List ℕ → Bool) (old new : List (List ℕ × ℤ)) (loan : List ℕ)
     (day : ℤ) (row : Row) → lookup (eq loan) old ≡ None → new ≡ insert_entry eq old loan day
     → term_cells (record { loan = loan; day = day }) ≡ row
-        → terms_shown new ≡ terms_shown old ++ row ∷ []
+    → terms_shown new ≡ terms_shown old ++ row ∷ []
 keeps_term eq old new loan day row none is cells =
     ap terms_shown (is ∙ insert_entry-absent eq loan day old
     (absent_from_lookup (eq loan) old none)) ∙ more_terms old loan day row cells
@@ -72,37 +72,51 @@ keeps_term eq old new loan day row none is cells =
 pub identity_of : (a b c : Bool) (S : Museum) (P : List Entry) (wanted kept sorted : List NewSpot)
     (lines kept_lines : List (LineKey × LineStage)) (terms kept_terms : List (List ℕ × ℤ))
     → wanted ≡ spots_by_thing S P → held_lines lines ≡ lines_by_loan S P
-        → term_rows terms ≡ rows_of_terms P → IsPermutation kept sorted
+    → term_rows terms ≡ rows_of_terms P → IsPermutation kept sorted
     → Decides a (IsPermutation wanted sorted) → Decides b (IsPermutation lines kept_lines)
-        → Decides c (IsPermutation terms kept_terms)
+    → Decides c (IsPermutation terms kept_terms)
     → (d : Content) → IsPermutation (map spot_row kept) d.spots
-        → IsPermutation (map line_row (held_lines kept_lines)) d.lines
-        → IsPermutation (term_rows kept_terms) d.terms → Decides (a && (b && c)) (HasRows S P d)
+    → IsPermutation (map line_row (held_lines kept_lines)) d.lines
+    → IsPermutation (term_rows kept_terms) d.terms → Decides (a && (b && c)) (HasRows S P d)
 identity_of a b c S P wanted kept sorted lines kept_lines terms kept_terms is lined dated same
     has_spots has_lines has_terms d spots ls ts =
     let plain : Content = content_of None [] (reverse sorted) (held_lines kept_lines)
-        (term_rows kept_terms) in
+    (term_rows kept_terms) in
     let e : Content = record plain { spots = d.spots; lines = d.lines; terms = d.terms } in
     let turned : IsPermutation (reverse sorted) kept =
-        IsPermutation-sym _ _ (IsPermutation-trans _ _ _ same (IsPermutation-reverse sorted)) in
+    IsPermutation-sym _ _ (IsPermutation-trans _ _ _ same (IsPermutation-reverse sorted)) in
     let moved : IsPermutation (map spot_row (reverse sorted)) d.spots =
-        IsPermutation-trans _ _ _ (IsPermutation-map spot_row _ _ turned) spots in
+    IsPermutation-trans _ _ _ (IsPermutation-map spot_row _ _ turned) spots in
     let told : Decides (a && (b && c)) (HasRows S P e) =
     told_by a b c S P wanted sorted lines kept_lines terms kept_terms None [] e is lined dated
-        has_spots has_lines has_terms
-    (record { setup = IsPermutation-refl plain.setup; meta = IsPermutation-refl plain.meta;
-        postings = IsPermutation-refl plain.postings; spots = moved; lines = ls; terms = ts }) in (
+    has_spots has_lines has_terms
+    (record {
+      setup = IsPermutation-refl plain.setup;
+      meta = IsPermutation-refl plain.meta;
+      postings = IsPermutation-refl plain.postings;
+      spots = moved;
+      lines = ls;
+      terms = ts;
+    }) in (
       λ t. let h = told.0 t in record { spots = h.spots; lines = h.lines; terms = h.terms },
       λ h. told.1 (record { spots = h.spots; lines = h.lines; terms = h.terms }),
     )
 
 spot_back : Row → SpotRow
-spot_back r = record { thing = id_in (column r 0); k = id_in (column r 1);
-    entry = id_in (column r 2); place = id_in (column r 3); day = id_in (column r 4) }
+spot_back r = record {
+  thing = id_in (column r 0);
+  k = id_in (column r 1);
+  entry = id_in (column r 2);
+  place = id_in (column r 3);
+  day = id_in (column r 4);
+}
 
 line_back : Row → LineRow
-line_back r = record { loan = bytes (column r 0); object = id_in (column r 1);
-    stage = id_in (column r 2) }
+line_back r = record {
+  loan = bytes (column r 0);
+  object = id_in (column r 1);
+  stage = id_in (column r 2);
+}
 
 term_back : Row → TermRow
 term_back r = record { loan = bytes (column r 0); day = id_in (column r 1) }
@@ -147,10 +161,10 @@ module _ {X : Type 0} (cells : X → Row) (shown pick : Row → Row) (shows : (r
       → IsPermutation (map cells xs) rows
   has_read table xs rows held read =
       let picks : IsPermutation (map pick (map cells xs)) (map pick (map (drop 1) table)) =
-          IsPermutation-map pick _ _ held in
+      IsPermutation-map pick _ _ held in
       IsPermutation-trans _ (map shown table) _
-          (subst (IsPermutation (map cells xs)) (all_shown table)
-          (subst (λ l. IsPermutation l (map pick (map (drop 1) table))) (all_cells xs) picks)) read
+      (subst (IsPermutation (map cells xs)) (all_shown table)
+      (subst (λ l. IsPermutation l (map pick (map (drop 1) table))) (all_cells xs) picks)) read
 
 five : Row → Row
 five r = column r 0 ∷ column r 1 ∷ column r 2 ∷ column r 3 ∷ column r 4 ∷ []

@@ -68,8 +68,10 @@ distinct_kept p (x ∷ xs) h = go (p x) (distinct_kept p xs h.1)
     go false more = more
 
 pub apart_kept : (p : Row → Bool) (rows : List Row) → Apart rows → Apart (filter p rows)
-apart_kept p rows h = record { ints = all_kept _ p rows h.ints;
-    differ = distinct_kept p rows h.differ }
+apart_kept p rows h = record {
+  ints = all_kept _ p rows h.ints;
+  differ = distinct_kept p rows h.differ;
+}
 
 -- one rowid, one row
 all_of : {X : Type 0} (P : X → Type 0) (xs : List X) (x : X) → AllByRecursion P xs → Has xs x → P x
@@ -146,7 +148,7 @@ filter_two {X} a b (x ∷ xs) = go (a x) (b x) refl (filter_two a b xs)
 
     go : (c d : Bool) → b x ≡ d → filter (λ x. not (b x)) rest ≡ filter (λ x. not (a x || b x)) xs
         → filter (λ x. not (b x)) (cond (not c) (x ∷ rest) rest) ≡ cond (not (c || d))
-            (x ∷ filter (λ x. not (a x || b x)) xs) (filter (λ x. not (a x || b x)) xs)
+        (x ∷ filter (λ x. not (a x || b x)) xs) (filter (λ x. not (a x || b x)) xs)
     go true d is h = h
     go false true is h = rw (is, h)
     go false false is h = rw (is, h)
@@ -216,7 +218,7 @@ pub left_over : (p : Row → Bool) (rows : List Row) (ids : List ℤ) → Apart 
 left_over p rows ids h same =
     without_is ids rows ∙ filter_same (λ r. not (gone_by ids r)) (λ r. not (p r)) rows (λ r there.
     ap not (sym (list_any-IsPermutation (λ id. has_rowid id r) _ ids same)
-        ∙ taken p rows h r there))
+    ∙ taken p rows h r there))
 
 pub no_rows : Apart []
 unfolding IsDistinct

@@ -33,10 +33,15 @@ never not = ((λ f. absurd (let e : false ≡ true = f in cc)), λ p. absurd (no
 -- of two rows whose rowids differ the one that isn't above is below
 below : (a b : Row) → HasNumber a → HasNumber b → same_id a b ≡ false → is_lt (id_cmp b a) ≡ false
     → IsBelow a b
-below a b one two differ up = (id_in (rowid a), id_in (rowid b), m, n,
-    lt_from_Less _ _ (sym (value_cmp-Int _ _)
-    ∙ subst (λ v. value_cmp v (Int (id_in (rowid b))) ≡ Less) m
-    (subst (λ w. value_cmp (rowid a) w ≡ Less) n less)))
+below a b one two differ up = (
+  id_in (rowid a),
+  id_in (rowid b),
+  m,
+  n,
+  lt_from_Less _ _ (sym (value_cmp-Int _ _)
+      ∙ subst (λ v. value_cmp v (Int (id_in (rowid b))) ≡ Less) m
+      (subst (λ w. value_cmp (rowid a) w ≡ Less) n less)),
+)
   where
     m : rowid a ≡ Int (id_in (rowid a))
     m = int_is (rowid a) one
@@ -73,10 +78,10 @@ pub sorted_rise : (rows : List Row) → IsSorted id_cmp rows → Apart rows → 
 sorted_rise rows up apart k d low =
     let next : suc k ≡ k + 1 = omega arith in
     below (slice_index_or rows k d) (slice_index_or rows (k + 1) d)
-        (number_at rows k d apart.ints (omega (arith, low)))
-        (number_at rows (k + 1) d apart.ints low)
+    (number_at rows k d apart.ints (omega (arith, low)))
+    (number_at rows (k + 1) d apart.ints low)
     (subst (λ i. same_id (slice_index_or rows k d) (slice_index_or rows i d) ≡ false) next
-        (next_differs rows k d apart.differ (omega (arith, low)))) (up k d (omega arith) low)
+    (next_differs rows k d apart.differ (omega (arith, low)))) (up k d (omega arith) low)
 
 -- a row that isn't below the next one
 default_free : (rows : List Row) (i : ℕ) (d e : Row) → i < length rows
@@ -91,10 +96,10 @@ pub not_rising : (rows : List Row) (at : ℕ) (a b : Row) → 1 ≤ at → at < 
 not_rising rows at a b some low a_is b_is other up =
     let here : at - 1 + 1 ≡ at = omega (arith, some) in
     let step : IsBelow (slice_index_or rows (at - 1) a) (slice_index_or rows at a) =
-        subst (λ i. IsBelow (slice_index_or rows (at - 1) a) (slice_index_or rows i a)) here
-        (up (at - 1) a (omega (arith, some, low))) in
+    subst (λ i. IsBelow (slice_index_or rows (at - 1) a) (slice_index_or rows i a)) here
+    (up (at - 1) a (omega (arith, some, low))) in
     other (subst (λ y. IsBelow a y) (default_free rows at a b low ∙ sym b_is)
-        (subst (λ x. IsBelow x (slice_index_or rows at a)) (sym a_is) step))
+    (subst (λ x. IsBelow x (slice_index_or rows at a)) (sym a_is) step))
 
 pub first_has_id : (rows : List Row) (first : Row) → 1 ≤ length rows
     → first ≡ slice_index_or rows 0 first → Apart rows → HasId first
@@ -131,14 +136,16 @@ read_apart query made db rows first low same apart =
     let table = db (tree_of query) in
     let all : Apart table = subst Apart (here (least_of query) made table low) apart in
     apart_moved (shown_in query db) rows same
-        (record { ints = ints_shown (shown_by query) (shows_first query first) table all.ints;
-        differ = differ_shown (shown_by query) (shows_first query first) table all.differ })
+    (record {
+      ints = ints_shown (shown_by query) (shows_first query first) table all.ints;
+      differ = differ_shown (shown_by query) (shows_first query first) table all.differ;
+    })
 
 pub apart_told : (query : Query) (made : ℕ) (db : Trees) (rows seen : List Row) (b : Bool)
     → seen ≡ rows → shows_id query ≡ true → least_of query ≤ made
     → IsPermutation (shown_in query db) rows → IsSorted id_cmp rows
     → (IsTrue b → Apart seen) → (IsSorted id_cmp seen → Apart seen → IsTrue b)
-        → Decides b (IsApartIn query made db)
+    → Decides b (IsApartIn query made db)
 apart_told query made db rows seen b is first low same up apart only = (
   (λ told. apart_read query made db rows first low same (subst Apart is (apart told))),
   λ held. only (subst (IsSorted id_cmp) (sym is) up)
@@ -154,25 +161,31 @@ unmade_told query made db high = ((λ _. apart_unmade query made db high), λ _.
 pub both_apart : (first second : Query) (made : ℕ) (old mid : State) (r : Result Bool Error)
     → IsSame old mid → IsApartIn first made old.now.trees
     → IfOk r (λ b. Decides b (IsApartIn second made mid.now.trees))
-        → IfOk r (λ b. Decides b (IsApartIn first made old.now.trees
-        × IsApartIn second made old.now.trees))
+    → IfOk r (λ b. Decides b (IsApartIn first made old.now.trees
+    × IsApartIn second made old.now.trees))
 both_apart first second made old mid (Ok b) same one two =
     let told : Decides b (IsApartIn second made old.now.trees) =
-        subst (λ db. Decides b (IsApartIn second made db)) (trees_same old mid same) two in
+    subst (λ db. Decides b (IsApartIn second made db)) (trees_same old mid same) two in
     ((λ is. (one, told.0 is)), λ both. told.1 both.1)
 both_apart first second made old mid (Err e) same one two = tt
 
 pub all_apart : (made : ℕ) (old mid : State) (r : Result Bool Error) → IsSame old mid
     → IsApartIn SetupIds made old.now.trees × IsApartIn PostingIds made old.now.trees
     → IfOk r (λ b. Decides b (IsApartIn LineIds made mid.now.trees
-        × IsApartIn TermIds made mid.now.trees))
-        → IfOk r (λ b. Decides b (AreApart made old.now.trees))
+    × IsApartIn TermIds made mid.now.trees))
+    → IfOk r (λ b. Decides b (AreApart made old.now.trees))
 all_apart made old mid (Ok b) same first last =
     let told =
-        subst (λ (db : Trees). Decides b (IsApartIn LineIds made db × IsApartIn TermIds made db))
-        (trees_same old mid same) last in
-    ((λ is. record { setup = first.0; postings = first.1; lines = (told.0 is).0;
-        terms = (told.0 is).1 }), λ all. told.1 (all.lines, all.terms))
+    subst (λ (db : Trees). Decides b (IsApartIn LineIds made db × IsApartIn TermIds made db))
+    (trees_same old mid same) last in (
+      (λ is. record {
+        setup = first.0;
+        postings = first.1;
+        lines = (told.0 is).0;
+        terms = (told.0 is).1;
+      }),
+      λ all. told.1 (all.lines, all.terms),
+    )
 all_apart made old mid (Err e) same first last = tt
 
 pub not_all : (made : ℕ) (db : Trees)

@@ -232,13 +232,13 @@ shows_is TermIds = refl
 pub rows_read : (query : Query) (made : ℕ) → least_of query ≤ made → made ≤ 6
     → (old new : State) (r : Result (Vec Row Global) Error) → old.now.schema ≡ prefix made
     → IfOk r (λ rows. Shown (text_of query) [] old new rows.items)
-        → IfOk r (λ rows. IsPermutation (shown_in query old.now.trees) rows.items)
+    → IfOk r (λ rows. IsPermutation (shown_in query old.now.trees) rows.items)
 rows_read query made some few old new (Err e) has h = tt
 rows_read query made some few old new (Ok rows) has h =
     subst (λ show. IsPermutation (map show (old.now.trees (tree_of query))) rows.items)
-        (shows_is query)
+    (shows_is query)
     (lists (prefix made) (text_of query) (tree_of query) (columns_of query) (names_of query)
-        (listed query made some few) old new (Ok rows) has h)
+    (listed query made some few) old new (Ok rows) has h)
 
 unsorted : (query : Query) → shows_id query ≡ false → (rows : List Row) → IsInOrder query rows
 unsorted query none rows is = absurd (let e : true ≡ false = sym is ∙ none in cc)
@@ -246,7 +246,7 @@ unsorted query none rows is = absurd (let e : true ≡ false = sym is ∙ none i
 pub rows_ordered : (query : Query) (made : ℕ) → least_of query ≤ made → made ≤ 6
     → (old new : State) (r : Result (Vec Row Global) Error) → old.now.schema ≡ prefix made
     → IfOk r (λ rows. Shown (text_of query) [] old new rows.items)
-        → IfOk r (λ rows. IsInOrder query rows.items)
+    → IfOk r (λ rows. IsInOrder query rows.items)
 rows_ordered query made some few old new (Err e) has h = tt
 rows_ordered Metas made some few old new (Ok rows) has h = unsorted Metas refl rows.items
 rows_ordered Setups made some few old new (Ok rows) has h =
@@ -275,8 +275,12 @@ rows_ordered TermIds made some few old new (Ok rows) has h =
     (listed TermIds made some few) old new (Ok rows) has h
 
 pub same_of : (old new : State) → IsUnchanged old new → IsSame old new
-same_of old new h = record { was_open = h.0.was_open; is_open = h.0.is_open; now = h.0.now_is;
-    committed = h.0.committed_is }
+same_of old new h = record {
+  was_open = h.0.was_open;
+  is_open = h.0.is_open;
+  now = h.0.now_is;
+  committed = h.0.committed_is;
+}
 
 pub rows_same : (query : Query) (made : ℕ) → least_of query ≤ made → made ≤ 6
     → (old new : State) (r : Result (Vec Row Global) Error) → old.now.schema ≡ prefix made
@@ -284,4 +288,4 @@ pub rows_same : (query : Query) (made : ℕ) → least_of query ≤ made → mad
 rows_same query made some few old new (Err e) has h = tt
 rows_same query made some few old new (Ok rows) has h =
     same_of old new (lists_same (prefix made) (text_of query) (tree_of query) (columns_of query)
-        (names_of query) (listed query made some few) old new (Ok rows) has h)
+    (names_of query) (listed query made some few) old new (Ok rows) has h)

@@ -66,14 +66,14 @@ pub metas_read : (made : ℕ) → 1 ≤ made → (db : Trees) (c : Content) (row
     → IsPermutation (map meta_cells c.meta) rows
 metas_read made some db c rows held read =
     let there : IsPermutation (map meta_cells c.meta) (map (drop 1) (db 0)) =
-        subst (λ l. IsPermutation (map meta_cells c.meta) (map (drop 1) l))
-        (here 1 made (db 0) some) held.meta in
+    subst (λ l. IsPermutation (map meta_cells c.meta) (map (drop 1) l))
+    (here 1 made (db 0) some) held.meta in
     let picks : IsPermutation (map pick (map meta_cells c.meta)) (map pick (map (drop 1) (db 0))) =
-        IsPermutation-map pick _ _ there in
+    IsPermutation-map pick _ _ there in
     IsPermutation-trans _ (map shown_meta (db 0)) _
-        (subst (IsPermutation (map meta_cells c.meta)) (all_picked (db 0))
-        (subst (λ l. IsPermutation l (map pick (map (drop 1) (db 0)))) (cells_picked c.meta) picks))
-        read
+    (subst (IsPermutation (map meta_cells c.meta)) (all_picked (db 0))
+    (subst (λ l. IsPermutation l (map pick (map (drop 1) (db 0)))) (cells_picked c.meta) picks))
+    read
 
 meta_back : Row → MetaRow
 meta_back r = record { name = bytes (column r 0); val = id_in (column r 1) }
@@ -112,11 +112,11 @@ is_other : (row : Row) → IsOther row → other row ≡ true
 unfolding other
 is_other row is =
     let name : bytes_eq (codes "version") (codes "version") ≡ true =
-        (bytes_eq-Decides (codes "version") (codes "version")).1 refl in
+    (bytes_eq-Decides (codes "version") (codes "version")).1 refl in
     let val : int_eq is.0 (pos 2) ≡ false =
-        differ (int_eq is.0 (pos 2)) (Decides-int_eq is.0 (pos 2)) in
+    differ (int_eq is.0 (pos 2)) (Decides-int_eq is.0 (pos 2)) in
     ap (λ r. bytes_eq (bytes (column r 0)) (codes "version") && not
-        (int_eq (id_in (column r 1)) (pos 2))) is.1 ∙ rw (name, val) refl
+    (int_eq (id_in (column r 1)) (pos 2))) is.1 ∙ rw (name, val) refl
   where
     differ : (b : Bool) → Decides b (is.0 ≡ pos 2) → b ≡ false
     differ true d = absurd (is.2 (d.0 refl))
@@ -137,11 +137,13 @@ any_at (r ∷ rows) (suc k) row low is fit =
 other_at : (m : MetaRow) → other (meta_cells m) ≡ true → IsOther (meta_cells m)
 unfolding other
 other_at m fit =
-    let parts = and_parts (bytes_eq m.name (codes "version")) _ fit in
-    (m.val, ap (λ n. Text n ∷ Int m.val ∷ [])
-        ((bytes_eq-Decides m.name (codes "version")).0 parts.0),
-        λ two. absurd (let bad : not (int_eq m.val (pos 2)) ≡ false = ap not
-        ((Decides-int_eq m.val (pos 2)).1 two) in let e : true ≡ false = sym parts.1 ∙ bad in cc))
+    let parts = and_parts (bytes_eq m.name (codes "version")) _ fit in (
+      m.val,
+      ap (λ n. Text n ∷ Int m.val ∷ [])
+          ((bytes_eq-Decides m.name (codes "version")).0 parts.0),
+      λ two. absurd (let bad : not (int_eq m.val (pos 2)) ≡ false = ap not
+          ((Decides-int_eq m.val (pos 2)).1 two) in let e : true ≡ false = sym parts.1 ∙ bad in cc),
+    )
 
 found_in : (rs : List Row) → AllByRecursion (λ r. (m : MetaRow) × (r ≡ meta_cells m)) rs
     → list_any other rs ≡ true → HasOther rs
@@ -150,9 +152,14 @@ found_in (r ∷ rs) all fit = pick_one (other r) refl fit (found_in rs all.1)
   where
     pick_one : (b : Bool) → other r ≡ b → (b || list_any other rs) ≡ true
         → (list_any other rs ≡ true → HasOther rs) → HasOther (r ∷ rs)
-    pick_one true is h next =
-        (0, r, omega arith, refl, subst IsOther (sym all.0.1)
-        (other_at all.0.0 (ap other (sym all.0.1) ∙ is)))
+    pick_one true is h next = (
+      0,
+      r,
+      omega arith,
+      refl,
+      subst IsOther (sym all.0.1)
+          (other_at all.0.0 (ap other (sym all.0.1) ∙ is)),
+    )
     pick_one false is h next = let it = next h in (suc it.0, it.1, omega (arith, it.2), it.3, it.4)
 
 pub none_other : (rows : List Row) (ms : List MetaRow) → IsPermutation (map meta_cells ms) rows
@@ -174,17 +181,20 @@ pub told_other : (S : Museum) (made : ℕ) → 1 ≤ made → (db : Trees) (rows
     → HasPart made db c → IsBindFault S c OtherVersion
 told_other S made some db rows read is c held =
     sym (others_are c.meta) ∙ list_any-IsPermutation other _ rows
-        (metas_read made some db c rows held read) ∙ any_at rows is.0 is.1 (omega (arith, is.2))
-        is.3 (is_other is.1 is.4)
+    (metas_read made some db c rows held read) ∙ any_at rows is.0 is.1 (omega (arith, is.2))
+    is.3 (is_other is.1 is.4)
 
 pub told_damaged : (S : Museum) (made : ℕ) → 1 ≤ made → (db : Trees) (rows : List Row)
     → IsPermutation (shown_in Metas db) rows → IsIdentity rows told.Damaged → (c : Content)
     → HasPart made db c → IsBindFault S c (Damaged 0)
 told_damaged S made some db rows read is c held =
-    let metas = metas_read made some db c rows held read in
-    (refl, some_old c.meta rows is.0 metas, none_other rows c.meta metas is.1,
-        λ whole. is.2 whole.0 whole.1 (IsPermutation-trans _ _ _
-        (IsPermutation-map meta_cells _ _ whole.2) metas))
+    let metas = metas_read made some db c rows held read in (
+      refl,
+      some_old c.meta rows is.0 metas,
+      none_other rows c.meta metas is.1,
+      λ whole. is.2 whole.0 whole.1 (IsPermutation-trans _ _ _
+          (IsPermutation-map meta_cells _ _ whole.2) metas),
+    )
 
 -- a store that says nothing of itself
 pub told_new : (db : Trees) (rows : List Row) → IsPermutation (shown_in Metas db) rows
@@ -221,13 +231,13 @@ pub has_the_setup : (S : Museum) (made : ℕ) (db : Trees)
 unfolding setup_back
 has_the_setup S made db is c held =
     IsPermutation-trans _ _ _ (setup_rows_are S)
-        (unmapped setup_shown setup_back (λ r. refl) (setup_from 1 (setup_rows S)) c.setup
-        (setup_in made db) (is.0 refl) (setups_shown made db c held))
+    (unmapped setup_shown setup_back (λ r. refl) (setup_from 1 (setup_rows S)) c.setup
+    (setup_in made db) (is.0 refl) (setups_shown made db c held))
 
 pub other_setup : (S : Museum) (made : ℕ) → 1 ≤ made → (db : Trees) (rows : List Row) (depth : ℕ)
     → IsPermutation (shown_in Metas db) rows → IsIdentity rows (told.Bound depth)
     → Decides false (IsPermutation (setup_rows_shown (setup_rows S)) (setup_in made db))
-        → (c : Content) → HasPart made db c → IsBindFault S c OtherSetup
+    → (c : Content) → HasPart made db c → IsBindFault S c OtherSetup
 other_setup S made some db rows depth read is differs c held = (
   (depth, is.0, whole_meta made some db rows depth read is c held),
   λ same. absurd (let e : false ≡ true = differs.1
@@ -259,9 +269,15 @@ pub other_fault : (fault : StoreFault) → is_failure fault ≡ false → fault 
 other_fault fault other is = absurd (let e : false ≡ true = sym other ∙ ap is_failure is in cc)
 
 pub same_all : (c : Content) → AreSame c c
-same_all c = record { setup = IsPermutation-refl c.setup; meta = IsPermutation-refl c.meta;
-    postings = IsPermutation-refl c.postings; spots = IsPermutation-refl c.spots; lines =
-    IsPermutation-refl c.lines; terms = IsPermutation-refl c.terms }
+same_all c = record {
+  setup = IsPermutation-refl c.setup;
+  meta = IsPermutation-refl c.meta;
+  postings = IsPermutation-refl c.postings;
+  spots = IsPermutation-refl c.spots;
+  lines =
+      IsPermutation-refl c.lines;
+  terms = IsPermutation-refl c.terms;
+}
 
 old_stays : (S : Museum) (c : Content) → is_new c.meta ≡ false → AreSame (bound_to S c) c
 old_stays S c old = subst (λ b. AreSame (bound_by b S c) c) (sym old) (same_all c)
@@ -278,27 +294,40 @@ sound_in made s part = subst (λ k. IsSound k s.now.trees) part.schema part.soun
 pub bound_old : (S : Museum) (depth : ℕ) (old new : State) (rows : List Row) → IsPart 6 old
     → IsPermutation (shown_in Metas old.now.trees) rows → IsIdentity rows (told.Bound depth)
     → Decides true (IsPermutation (setup_rows_shown (setup_rows S)) (setup_in 6 old.now.trees))
-        → AreApart 6 old.now.trees → IsSame old new → IsBoundAs S depth old new
+    → AreApart 6 old.now.trees → IsSame old new → IsBoundAs S depth old new
 bound_old S depth old new rows part read is has apart same =
     let db = old.now.trees in
     let sound = sound_in 6 old part in
     let back : new.now ≡ old.now = same.now in
-    let whole : IsWhole old.now = record { schema = part.schema; sound = part.sound;
-        lines = apart.lines; terms = apart.terms } in
+    let whole : IsWhole old.now = record {
+      schema = part.schema;
+      sound = part.sound;
+      lines = apart.lines;
+      terms = apart.terms;
+    } in
     let on : (d : Content) → AreRows new.now.trees d → AreRows db d =
-        λ d h. subst (λ (k : Database). AreRows k.trees d) back h in
+    λ d h. subst (λ (k : Database). AreRows k.trees d) back h in
     let metas : (d : Content) → AreRows db d → IsPermutation (rows_of_meta depth) d.meta =
-        whole_meta 6 (omega arith) db rows depth read is in
+    whole_meta 6 (omega arith) db rows depth read is in
     let first = content_in 6 (omega arith) db sound apart.setup.ints apart.postings.ints in
     record {
       was_open = same.was_open;
-      ready = record { is_open = same.is_open; settled = back ∙ part.settled ∙ sym same.committed;
-          whole = subst IsWhole (sym back) whole };
+      ready = record {
+        is_open = same.is_open;
+        settled = back ∙ part.settled ∙ sym same.committed;
+        whole = subst IsWhole (sym back) whole;
+      };
       content = (first.0, subst (λ (k : Database). AreRows k.trees first.0) (sym back) first.1);
-      comes = λ d h. (d, record { made = 6; few = omega arith; sound = sound; rows = on d h },
-          old_stays S d (old_meta depth d.meta (metas d (on d h))));
-      bound = λ d h. record { setup = has_the_setup S 6 db has d (on d h); meta = metas d (on d h);
-          limit = is.0 };
+      comes = λ d h. (
+        d,
+        record { made = 6; few = omega arith; sound = sound; rows = on d h },
+        old_stays S d (old_meta depth d.meta (metas d (on d h))),
+      );
+      bound = λ d h. record {
+        setup = has_the_setup S 6 db has d (on d h);
+        meta = metas d (on d h);
+        limit = is.0;
+      };
     }
 
 -- the rows that a new store then holds
@@ -326,14 +355,16 @@ new_takes S c none = ap (λ ms. bound_by (is_new ms) S c) none
 module _ (S : Museum) (made : ℕ) (few : made ≤ 6) (old : State) (part : IsPart made old)
     (none : had 1 made (old.now.trees 0) ≡ []) (apart : AreApart made old.now.trees)
     (next : Trees) (makes : MakesWhole made (setup_from 1 (setup_rows S)) (rows_of_meta 12)
-        old.now.trees next) where
+    old.now.trees next) where
   first : (c : Content) × HasPart made old.now.trees c
   first = content_in made few old.now.trees (sound_in made old part) apart.setup.ints
       apart.postings.ints
 
   made_content : (d : Content) × AreRows next d
-  made_content = (record first.0 { setup = rows_of_setup S; meta = rows_of_meta 12 },
-      made_rows S made old.now.trees next first.0 none first.1 makes)
+  made_content = (
+    record first.0 { setup = rows_of_setup S; meta = rows_of_meta 12 },
+    made_rows S made old.now.trees next first.0 none first.1 makes,
+  )
 
   empty_meta : first.0.meta ≡ []
   empty_meta = none_new first.0.meta
@@ -357,7 +388,7 @@ module _ (S : Museum) (made : ℕ) (few : made ≤ 6) (old : State) (part : IsPa
 pub bound_new : (S : Museum) (made : ℕ) → made ≤ 6 → (old new : State) → IsPart made old
     → had 1 made (old.now.trees 0) ≡ [] → AreApart made old.now.trees
     → IsMadeWhole made (setup_from 1 (setup_rows S)) (rows_of_meta 12) old new
-        → IsBoundAs S 12 old new
+    → IsBoundAs S 12 old new
 bound_new S made few old new part none apart is =
     let next = new.now.trees in
     record {
@@ -365,8 +396,12 @@ bound_new S made few old new part none apart is =
       ready = record {
         is_open = is.is_open;
         settled = sym is.committed;
-        whole = record { schema = is.schema; sound = is.sound; lines = rw is.rows.lines apart.lines;
-            terms = rw is.rows.terms apart.terms };
+        whole = record {
+          schema = is.schema;
+          sound = is.sound;
+          lines = rw is.rows.lines apart.lines;
+          terms = rw is.rows.terms apart.terms;
+        };
       };
       content = made_content S made few old part none apart next is.rows;
       comes = made_comes S made few old part none apart next is.rows;
@@ -376,7 +411,7 @@ bound_new S made few old new part none apart is =
 pub leaves_new : (S : Museum) (made : ℕ) → made ≤ 6 → (old : State) → IsPart made old
     → had 1 made (old.now.trees 0) ≡ [] → AreApart made old.now.trees
     → (db : Trees) → LeavesMade made (setup_from 1 (setup_rows S)) (rows_of_meta 12) old db
-        → LeavesBound S old db
+    → LeavesBound S old db
 leaves_new S made few old part none apart db is = record {
   sound = is.sound;
   content = made_content S made few old part none apart db is.rows;
@@ -398,8 +433,12 @@ bound_on S depth old mid new same is = record {
 pub refused_on : (S : Museum) (old mid new : State) (fault : StoreFault) → IsSame old mid
     → IsRefused S mid new fault → IsRefused S old new fault
 refused_on S old mid new fault same is = record {
-  same = record { was_open = same.was_open; is_open = is.same.is_open; now = is.same.now ∙ same.now;
-      committed = is.same.committed ∙ same.committed };
+  same = record {
+    was_open = same.was_open;
+    is_open = is.same.is_open;
+    now = is.same.now ∙ same.now;
+    committed = is.same.committed ∙ same.committed;
+  };
   cause = λ c h. is.cause c (subst (λ (k : Database). IsStored k.trees c) (sym same.now) h);
   unfit = λ store. subst (IsUnfitFor S) same.now (is.unfit store);
 }
@@ -407,8 +446,11 @@ refused_on S old mid new fault same is = record {
 pub leaves_on : (S : Museum) (old mid : State) → IsSame old mid → (db : Trees)
     → LeavesBound S mid db → LeavesBound S old db
 leaves_on S old mid same db is =
-    record { sound = is.sound; content = is.content;
-    comes = λ d h. subst (λ (k : Database). ComesBound S k.trees d) same.now (is.comes d h) }
+    record {
+      sound = is.sound;
+      content = is.content;
+      comes = λ d h. subst (λ (k : Database). ComesBound S k.trees d) same.now (is.comes d h);
+    }
 
 pub nothing_left : (old new : State) (P : Trees → Type 0) → Survives old new (λ _. ⊥)
     → Survives old new P
@@ -431,9 +473,9 @@ apart_there made old mid same apart =
 module _ (S : Museum) (made : ℕ) (few : made ≤ 6) (old mid new : State) (texts : List (List ℕ))
     (are : texts ≡ setup_rows S)
     (part : HasCleanDisk old → IsPart made old) (none : HasCleanDisk old
-        → had 1 made (old.now.trees 0) ≡ []) (first : Survives old mid (λ _. ⊥))
+    → had 1 made (old.now.trees 0) ≡ []) (first : Survives old mid (λ _. ⊥))
     (same : HasCleanDisk mid → IsSame old mid) (apart : HasCleanDisk mid
-        → AreApart made old.now.trees) where
+    → AreApart made old.now.trees) where
   early : HasCleanDisk mid → HasCleanDisk old
   early clean = omega (arith, first.clean, clean)
 
@@ -447,17 +489,17 @@ module _ (S : Museum) (made : ℕ) (few : made ≤ 6) (old mid new : State) (tex
       survives_then old mid new _ _ (LeavesBound S old) (λ _ db none. absurd none) (λ clean db is.
       let now : HasCleanDisk mid = omega (arith, second.clean, clean) in
       leaves_on S old mid (same now) db
-          (leaves_new S made few mid (part_same made old mid (part (early now)) (same now))
-          (none_there now) (apart_there made old mid (same now) (apart now)) db
+      (leaves_new S made few mid (part_same made old mid (part (early now)) (same now))
+      (none_there now) (apart_there made old mid (same now) (apart now)) db
       (subst (λ ts. LeavesMade made (setup_from 1 ts) (rows_of_meta 12) mid db) are is)))
-          first second
+      first second
 
   pub new_is_bound : HasCleanDisk mid
       → IsMadeWhole made (setup_from 1 texts) (rows_of_meta 12) mid new → IsBoundAs S 12 old new
   new_is_bound now is =
       bound_on S 12 old mid new (same now)
-          (bound_new S made few mid new (part_same made old mid (part (early now)) (same now))
-          (none_there now) (apart_there made old mid (same now) (apart now))
+      (bound_new S made few mid new (part_same made old mid (part (early now)) (same now))
+      (none_there now) (apart_there made old mid (same now) (apart now))
       (subst (λ ts. IsMadeWhole made (setup_from 1 ts) (rows_of_meta 12) mid new) are is))
 
 pub is_six : (made : ℕ) (s : State) → made ≤ 6 → 6 ≤ made → IsPart made s → IsPart 6 s
@@ -470,7 +512,7 @@ pub new_there : (made : ℕ) → 1 ≤ made → (old mid : State) → IsSame old
     → had 1 made (mid.now.trees 0) ≡ []
 new_there made some old mid same rows read is =
     here 1 made (mid.now.trees 0) some ∙ ap (λ (k : Database). k.trees 0) same.now
-        ∙ told_new old.now.trees rows read is
+    ∙ told_new old.now.trees rows read is
 
 -- an answer's clauses, weakened
 pub weaker : {X E : Type 0} (P Q : X → Type 0) → ((x : X) → P x → Q x)
@@ -491,5 +533,5 @@ pub crash_on : (S : Museum) (old mid new : State) → Survives old mid (λ _. �
     → Survives old new (LeavesBound S old)
 crash_on S old mid new first same second =
     survives_then old mid new _ _ (LeavesBound S old) (λ _ db none. absurd none)
-        (λ clean db is. leaves_on S old mid (same (omega (arith, second.clean, clean))) db is)
-        first second
+    (λ clean db is. leaves_on S old mid (same (omega (arith, second.clean, clean))) db is)
+    first second

@@ -42,13 +42,18 @@ module _ (page header log : List ℕ) (len : length page ≡ 512) (first : IsFir
   }
 
   only_is : (n : ℕ) (bytes : List ℕ) → only_page page n ≡ Some bytes → page ≡ bytes
-  only_is n bytes is = elim (cases_eq n 1)
-      [ inl e ↦ (let here = rw e at is in cc) | inr other ↦ absurd
-      (let none = rw (ne_eqb n 1 other) at is in cc) ]
+  only_is n bytes is = elim (cases_eq n 1) [
+    | inl e ↦ (let here = rw e at is in cc)
+    | inr other ↦ absurd
+        (let none = rw (ne_eqb n 1 other) at is in cc)
+  ]
 
   as_whole : AreWhole 512 (only_page page)
-  as_whole = record { first = refl; sized = λ n bytes is. subst (λ (b : List ℕ). length b ≡ 512)
-      (only_is n bytes is) len }
+  as_whole = record {
+    first = refl;
+    sized = λ n bytes is. subst (λ (b : List ℕ). length b ≡ 512)
+        (only_is n bytes is) len;
+  }
 
   all_taken : take 512 page ≡ page
   all_taken = take_all 512 page (omega (arith, len))
@@ -67,26 +72,51 @@ module _ (page header log : List ℕ) (len : length page ≡ 512) (first : IsFir
       [ inl e ↦ rw e (ap Some all_taken) | inr other ↦ rw (ne_eqb n 1 other) refl ]
 
   as_used : Recovers 512 (record { log = log; db = page }) (only_page page)
-  as_used = record { stored = only_page page; found = as_stored; whole = as_whole;
-      sealed = as_sealed; shows = as_shown; present = omega (arith, len) }
+  as_used = record {
+    stored = only_page page;
+    found = as_stored;
+    whole = as_whole;
+    sealed = as_sealed;
+    shows = as_shown;
+    present = omega (arith, len);
+  }
 
   pub blank_holds : (db : Trees) × HoldsDatabase (record { log = log; db = page }) db × IsEmpty db
   unfolding trees_in
   blank_holds =
       let pages = only_page page in
       let empty = new_is_empty 512 pages as_whole
-          (first_new page header 512 len (omega arith) (omega arith) first) in
+      (first_new page header 512 len (omega arith) (omega arith) first) in
       let ours : IsOurs 512 true [] pages =
-          record { file = empty.0; numbered = λ _. record { listed = empty.1; spaced = refl;
-          ordered = refl } } in
+      record {
+        file = empty.0;
+        numbered = λ _. record {
+          listed = empty.1;
+          spaced = refl;
+          ordered = refl;
+        };
+      } in
       let db = file_trees 512 [] pages in
       let unlisted = catalog_rows 512 [] (in_use 512 pages) in (
         db,
-        (512, (omega arith, omega arith, refl, refl),
-            record { pages = pages; wanted = []; schema = _; found = adopts_of 512 _ pages as_used;
-            ours = ours; reads = refl; sound = empty_is_sound db unlisted }),
-        (λ tree low. past_version tree low (all_trees 512 [] (in_use 512 pages)) (version_in pages)
-            ∙ named_tree tree low 512 [] (in_use 512 pages), unlisted),
+        (
+          512,
+          (omega arith, omega arith, refl, refl),
+          record {
+            pages = pages;
+            wanted = [];
+            schema = _;
+            found = adopts_of 512 _ pages as_used;
+            ours = ours;
+            reads = refl;
+            sound = empty_is_sound db unlisted;
+          },
+        ),
+        (
+          λ tree low. past_version tree low (all_trees 512 [] (in_use 512 pages)) (version_in pages)
+              ∙ named_tree tree low 512 [] (in_use 512 pages),
+          unlisted,
+        ),
       )
 
   -- a store that is opened on them has no row
@@ -107,13 +137,20 @@ new_first : IsFirstPage new_page (take 100 new_page)
 unfolding new_page first_page cell_count content_start
 new_first =
     let leaf = empty_page (record { tree = Table; leaf = true }) new_page 100
-        (omega arith, omega arith) (omega arith) refl refl refl refl refl in
+    (omega arith, omega arith) (omega arith) refl refl refl refl refl in
     record {
       exact = refl;
       begins = refl;
-      valid = (record { magic = refl; size = refl; versions = inr refl },
-          record { fractions = refl; format = inl refl; encoding = inl refl;
-          no_vacuum = (refl, refl); counted = refl });
+      valid = (
+        record { magic = refl; size = refl; versions = inr refl },
+        record {
+          fractions = refl;
+          format = inl refl;
+          encoding = inl refl;
+          no_vacuum = (refl, refl);
+          counted = refl;
+        },
+      );
       pages = refl;
       first = refl;
       free = refl;

@@ -80,8 +80,12 @@ row_is : (r : Row) (key : Option ℕ) (cs : List Column) (n : ℕ) → length cs
     → r ≡ map (column r) (range_with_len 0 (n + 1))
 row_is [] key cs n len typed last = absurd (let e : false ≡ true = last in cc)
 row_is (v ∷ r) key cs n len typed last =
-    columns_are (v ∷ r) (n + 1) (omega (arith, len, reaches (v ∷ r) n last,
-    few_values key 0 cs r typed))
+    columns_are (v ∷ r) (n + 1) (omega (
+      arith,
+      len,
+      reaches (v ∷ r) n last,
+      few_values key 0 cs r typed,
+    ))
 
 same_cells : {a b : Value} {r t : Row} → a ≡ b → r ≡ t → a ∷ r ≡ b ∷ t
 same_cells p q = cc
@@ -96,7 +100,7 @@ meta_read r is =
     let here = and_parts (not (is_null (column r 1))) _ is.present in
     let last = and_parts (not (is_null (column r 2))) _ here.1 in
     let all : drop 1 r ≡ column r 1 ∷ column r 2 ∷ [] =
-        ap (drop 1) (row_is r None meta.columns 2 refl is.typed last.0) in
+    ap (drop 1) (row_is r None meta.columns 2 refl is.typed last.0) in
     let typed = subst (λ vs. are_typed None 0 meta.columns vs ≡ true) all is.typed in
     let first = and_parts (is_of kind.Text (column r 1)) _ typed in
     let second = and_parts (is_of kind.Integer (column r 2)) _ first.1 in
@@ -108,16 +112,17 @@ pub setup_read : (r : Row) → HasNumber r → IsRight setup r → (s : SetupRow
 setup_read r number is =
     let last = and_parts (not (is_null (column r 2))) _ is.present in
     let all : r ≡ column r 0 ∷ column r 1 ∷ column r 2 ∷ [] =
-        row_is r (Some 0) setup.columns 2 refl is.typed last.0 in
+    row_is r (Some 0) setup.columns 2 refl is.typed last.0 in
     let typed = subst (λ vs. are_typed (Some 0) 0 setup.columns vs ≡ true)
-        (ap (drop 1) all) is.typed in
+    (ap (drop 1) all) is.typed in
     let first = and_parts (is_null (column r 1)) _ typed in
     let second = and_parts (is_of kind.Text (column r 2)) _ first.1 in
     let id = number_cell (column r 0) number in
-    let text = text_cell (column r 2) second.0 last.0 in
-    (record { id = id.0; text = text.0 },
-        all ∙ same_cells (id.1) (same_cells (null_cell (column r 1) first.0)
-        (same_cells (text.1) refl)))
+    let text = text_cell (column r 2) second.0 last.0 in (
+      record { id = id.0; text = text.0 },
+      all ∙ same_cells (id.1) (same_cells (null_cell (column r 1) first.0)
+          (same_cells (text.1) refl)),
+    )
 
 pub posting_read : (r : Row) → HasNumber r → IsRight posting r → (p : PostingRow)
     × (r ≡ posting_cells p)
@@ -127,9 +132,9 @@ posting_read r number is =
     let p4 = and_parts (not (is_null (column r 4))) _ p3.1 in
     let p5 = and_parts (not (is_null (column r 5))) _ p4.1 in
     let all : r ≡ column r 0 ∷ column r 1 ∷ column r 2 ∷ column r 3 ∷ column r 4 ∷ column r 5 ∷ [] =
-        row_is r (Some 0) posting.columns 5 refl is.typed p5.0 in
+    row_is r (Some 0) posting.columns 5 refl is.typed p5.0 in
     let typed = subst (λ vs. are_typed (Some 0) 0 posting.columns vs ≡ true)
-        (ap (drop 1) all) is.typed in
+    (ap (drop 1) all) is.typed in
     let t1 = and_parts (is_null (column r 1)) _ typed in
     let t2 = and_parts (is_of kind.Integer (column r 2)) _ t1.1 in
     let t3 = and_parts (is_of kind.Integer (column r 3)) _ t2.1 in
@@ -139,11 +144,12 @@ posting_read r number is =
     let station = int_cell (column r 2) t2.0 p2.0 in
     let n = int_cell (column r 3) t3.0 p3.0 in
     let body = text_cell (column r 4) t4.0 p4.0 in
-    let verdict = int_cell (column r 5) t5.0 p5.0 in
-    (record { id = id.0; station = station.0; n = n.0; body = body.0; verdict = verdict.0 },
-        all ∙ same_cells (id.1) (same_cells (null_cell (column r 1) t1.0)
-        (same_cells (station.1) (same_cells (n.1)
-        (same_cells (body.1) (same_cells (verdict.1) refl))))))
+    let verdict = int_cell (column r 5) t5.0 p5.0 in (
+      record { id = id.0; station = station.0; n = n.0; body = body.0; verdict = verdict.0 },
+      all ∙ same_cells (id.1) (same_cells (null_cell (column r 1) t1.0)
+          (same_cells (station.1) (same_cells (n.1)
+          (same_cells (body.1) (same_cells (verdict.1) refl))))),
+    )
 
 pub spot_read : (r : Row) → IsRight spot r → (s : SpotRow) × (drop 1 r ≡ spot_cells s)
 spot_read r is =
@@ -153,7 +159,7 @@ spot_read r is =
     let p4 = and_parts (not (is_null (column r 4))) _ p3.1 in
     let p5 = and_parts (not (is_null (column r 5))) _ p4.1 in
     let all : drop 1 r ≡ column r 1 ∷ column r 2 ∷ column r 3 ∷ column r 4 ∷ column r 5 ∷ [] =
-        ap (drop 1) (row_is r None spot.columns 5 refl is.typed p5.0) in
+    ap (drop 1) (row_is r None spot.columns 5 refl is.typed p5.0) in
     let typed = subst (λ vs. are_typed None 0 spot.columns vs ≡ true) all is.typed in
     let t1 = and_parts (is_of kind.Integer (column r 1)) _ typed in
     let t2 = and_parts (is_of kind.Integer (column r 2)) _ t1.1 in
@@ -164,10 +170,11 @@ spot_read r is =
     let k = int_cell (column r 2) t2.0 p2.0 in
     let entry = int_cell (column r 3) t3.0 p3.0 in
     let place = int_cell (column r 4) t4.0 p4.0 in
-    let day = int_cell (column r 5) t5.0 p5.0 in
-    (record { thing = thing.0; k = k.0; entry = entry.0; place = place.0; day = day.0 },
-        all ∙ same_cells (thing.1) (same_cells (k.1)
-        (same_cells (entry.1) (same_cells (place.1) (same_cells (day.1) refl)))))
+    let day = int_cell (column r 5) t5.0 p5.0 in (
+      record { thing = thing.0; k = k.0; entry = entry.0; place = place.0; day = day.0 },
+      all ∙ same_cells (thing.1) (same_cells (k.1)
+          (same_cells (entry.1) (same_cells (place.1) (same_cells (day.1) refl)))),
+    )
 
 pub line_read : (r : Row) → IsRight line r → (l : LineRow) × (drop 1 r ≡ line_cells l)
 line_read r is =
@@ -175,23 +182,24 @@ line_read r is =
     let p2 = and_parts (not (is_null (column r 2))) _ p1.1 in
     let p3 = and_parts (not (is_null (column r 3))) _ p2.1 in
     let all : drop 1 r ≡ column r 1 ∷ column r 2 ∷ column r 3 ∷ [] =
-        ap (drop 1) (row_is r None line.columns 3 refl is.typed p3.0) in
+    ap (drop 1) (row_is r None line.columns 3 refl is.typed p3.0) in
     let typed = subst (λ vs. are_typed None 0 line.columns vs ≡ true) all is.typed in
     let t1 = and_parts (is_of kind.Text (column r 1)) _ typed in
     let t2 = and_parts (is_of kind.Integer (column r 2)) _ t1.1 in
     let t3 = and_parts (is_of kind.Integer (column r 3)) _ t2.1 in
     let loan = text_cell (column r 1) t1.0 p1.0 in
     let object = int_cell (column r 2) t2.0 p2.0 in
-    let stage = int_cell (column r 3) t3.0 p3.0 in
-    (record { loan = loan.0; object = object.0; stage = stage.0 },
-        all ∙ same_cells (loan.1) (same_cells (object.1) (same_cells (stage.1) refl)))
+    let stage = int_cell (column r 3) t3.0 p3.0 in (
+      record { loan = loan.0; object = object.0; stage = stage.0 },
+      all ∙ same_cells (loan.1) (same_cells (object.1) (same_cells (stage.1) refl)),
+    )
 
 pub term_read : (r : Row) → IsRight term r → (t : TermRow) × (drop 1 r ≡ term_cells t)
 term_read r is =
     let p1 = and_parts (not (is_null (column r 1))) _ is.present in
     let p2 = and_parts (not (is_null (column r 2))) _ p1.1 in
     let all : drop 1 r ≡ column r 1 ∷ column r 2 ∷ [] =
-        ap (drop 1) (row_is r None term.columns 2 refl is.typed p2.0) in
+    ap (drop 1) (row_is r None term.columns 2 refl is.typed p2.0) in
     let typed = subst (λ vs. are_typed None 0 term.columns vs ≡ true) all is.typed in
     let t1 = and_parts (is_of kind.Text (column r 1)) _ typed in
     let t2 = and_parts (is_of kind.Integer (column r 2)) _ t1.1 in

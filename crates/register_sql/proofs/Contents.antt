@@ -30,9 +30,12 @@ module _ (schema : Schema) (db : Trees) (table : Table) {X : Type 0} (part : Row
   all_read [] known typed present = ([], refl)
   all_read (r ∷ rows) known typed present =
       let one =
-          reads r known.0
-          (record { typed = (and_parts (are_typed table.key 0 table.columns (drop 1 r))
-          (has_computed table r) typed.0).0; present = present.0 }) in
+      reads r known.0
+      (record {
+        typed = (and_parts (are_typed table.key 0 table.columns (drop 1 r))
+            (has_computed table r) typed.0).0;
+        present = present.0;
+      }) in
       let more = all_read rows known.1 typed.1 present.1 in
       (one.0 ∷ more.0, rw (sym one.1, more.1))
 
@@ -54,8 +57,14 @@ same_rows a b is = subst (IsPermutation a) is (IsPermutation-refl a)
 
 read_content : (made : ℕ) (db : Trees) → AreRead made db → (c : Content) × HasPart made db c
 read_content made db r = (
-  record { setup = r.setup.0; meta = r.meta.0; postings = r.postings.0; spots = r.spots.0;
-      lines = r.lines.0; terms = r.terms.0 },
+  record {
+    setup = r.setup.0;
+    meta = r.meta.0;
+    postings = r.postings.0;
+    spots = r.spots.0;
+    lines = r.lines.0;
+    terms = r.terms.0;
+  },
   record {
     meta = same_rows _ _ r.meta.1;
     setup = same_rows _ _ r.setup.1;
@@ -107,16 +116,34 @@ module _ (schema : Schema) (db : Trees) where
 are_read : (made : ℕ) → made ≤ 6 → (db : Trees) → IsSound (prefix made) db
     → AreNumbered (had 2 made (db 2)) → AreNumbered (had 3 made (db 3)) → AreRead made db
 are_read zero few db sound ids numbers =
-    record { meta = ([], refl); setup = ([], refl); postings = ([], refl); spots = ([], refl);
-    lines = ([], refl); terms = ([], refl) }
+    record {
+      meta = ([], refl);
+      setup = ([], refl);
+      postings = ([], refl);
+      spots = ([], refl);
+      lines = ([], refl);
+      terms = ([], refl);
+    }
 are_read (suc zero) few db sound ids numbers =
     let d = sound.obeys.rules Datatype in let n = sound.obeys.rules NotNull in
-    record { meta = metas (prefix 1) db (d.0, n.0); setup = ([], refl); postings = ([], refl);
-        spots = ([], refl); lines = ([], refl); terms = ([], refl) }
+    record {
+      meta = metas (prefix 1) db (d.0, n.0);
+      setup = ([], refl);
+      postings = ([], refl);
+      spots = ([], refl);
+      lines = ([], refl);
+      terms = ([], refl);
+    }
 are_read (suc (suc zero)) few db sound ids numbers =
     let d = sound.obeys.rules Datatype in let n = sound.obeys.rules NotNull in
-    record { meta = metas (prefix 2) db (d.0, n.0); setup = setups (prefix 2) db ids (d.1.0, n.1.0);
-        postings = ([], refl); spots = ([], refl); lines = ([], refl); terms = ([], refl) }
+    record {
+      meta = metas (prefix 2) db (d.0, n.0);
+      setup = setups (prefix 2) db ids (d.1.0, n.1.0);
+      postings = ([], refl);
+      spots = ([], refl);
+      lines = ([], refl);
+      terms = ([], refl);
+    }
 are_read (suc (suc (suc zero))) few db sound ids numbers =
     let d = sound.obeys.rules Datatype in let n = sound.obeys.rules NotNull in
     record {
@@ -174,9 +201,9 @@ pub unmapped : {X : Type 0} (cells : X → Row) (back : Row → X) → ((x : X) 
     → IsPermutation (map cells ys) rows → IsPermutation xs ys
 unmapped {X} cells back undoes xs ys rows p q =
     let both : IsPermutation (map back (map cells xs)) (map back (map cells ys)) =
-        IsPermutation-map back _ _ (IsPermutation-trans _ rows _ p (IsPermutation-sym _ _ q)) in
+    IsPermutation-map back _ _ (IsPermutation-trans _ rows _ p (IsPermutation-sym _ _ q)) in
     subst (λ l. IsPermutation l ys) (all xs)
-        (subst (IsPermutation (map back (map cells xs))) (all ys) both)
+    (subst (IsPermutation (map back (map cells xs))) (all ys) both)
   where
     all : (zs : List X) → map back (map cells zs) ≡ zs
     all [] = refl
@@ -190,14 +217,27 @@ same_part made db c d p q = record {
   meta = unmapped meta_cells (λ r. record { name = bytes (column r 0); val = id_in (column r 1) })
       (λ x. refl) _ _ _ p.meta q.meta;
   postings = unmapped posting_cells
-      (λ r. record { id = id_in (column r 0); station = id_in (column r 2); n = id_in (column r 3);
-      body = bytes (column r 4); verdict = id_in (column r 5) }) (λ x. refl) _ _ _
+      (λ r. record {
+        id = id_in (column r 0);
+        station = id_in (column r 2);
+        n = id_in (column r 3);
+        body = bytes (column r 4);
+        verdict = id_in (column r 5);
+      }) (λ x. refl) _ _ _
       p.postings q.postings;
-  spots = unmapped spot_cells (λ r. record { thing = id_in (column r 0); k = id_in (column r 1);
-      entry = id_in (column r 2); place = id_in (column r 3); day = id_in (column r 4) })
+  spots = unmapped spot_cells (λ r. record {
+    thing = id_in (column r 0);
+    k = id_in (column r 1);
+    entry = id_in (column r 2);
+    place = id_in (column r 3);
+    day = id_in (column r 4);
+  })
       (λ x. refl) _ _ _ p.spots q.spots;
-  lines = unmapped line_cells (λ r. record { loan = bytes (column r 0); object = id_in (column r 1);
-      stage = id_in (column r 2) }) (λ x. refl) _ _ _ p.lines q.lines;
+  lines = unmapped line_cells (λ r. record {
+    loan = bytes (column r 0);
+    object = id_in (column r 1);
+    stage = id_in (column r 2);
+  }) (λ x. refl) _ _ _ p.lines q.lines;
   terms = unmapped term_cells (λ r. record { loan = bytes (column r 0); day = id_in (column r 1) })
       (λ x. refl) _ _ _ p.terms q.terms;
 }

@@ -30,14 +30,14 @@ creates text schema after table is old new count has h =
     let w = runs_as text [] old new schema has CreateTable is.command is.plain count h in
     let sql = statement_of text (understood schema text) in
     let done =
-        went (subst (λ it. Does old.step_limit (mode_of old) [] (record old.now { schema = it }) sql
-        None CreateTable (Ok (w.tally, new.now))) has w.changed) in
+    went (subst (λ it. Does old.step_limit (mode_of old) [] (record old.now { schema = it }) sql
+    None CreateTable (Ok (w.tally, new.now))) has w.changed) in
     let made = went done.1 in
     let it = made.1 in
     let same : it.table ≡ table = same_value (sym it.defined ∙ is.defined) in
     let schema_is : made.0.schema ≡ after = it.is ∙ ap (created schema) same ∙ is.makes in
     let last : done.0 ≡ made.0 =
-        same_value (rw (ap lacks_sequence schema_is ∙ is.counted) at made.2) in
+    same_value (rw (ap lacks_sequence schema_is ∙ is.counted) at made.2) in
     let now : new.now ≡ done.0 = ap (λ (p : Tally × Database). p.1) (same_value done.2) in
     let all = now ∙ last in
     record {
@@ -50,14 +50,14 @@ creates text schema after table is old new count has h =
 
 made_on : (k : ℕ) (table : Table) → IsCreate (create_of k) (prefix k) (prefix (suc k)) table
     → ((db next : Trees) → next (next_tree (prefix k)) ≡ [] → KeepsRows (prefix k).tables db next
-        → Grown k (suc k) db next)
+    → Grown k (suc k) db next)
     → (old new : State) (r : Result ℕ Error) → IsMade k old
-        → ExecutesInside 0 (create_of k) [] old new r
-        → OnOk r (Goes (suc k) (Grown k (suc k)) old new)
+    → ExecutesInside 0 (create_of k) [] old new r
+    → OnOk r (Goes (suc k) (Grown k (suc k)) old new)
 made_on k table is grows old new (Err e) made h = tt
 made_on k table is grows old new (Ok count) made h =
     let done = creates (create_of k) (prefix k) (prefix (suc k)) table is old new count
-        (made.schema h.1.was_open) h.0 in
+    (made.schema h.1.was_open) h.0 in
     record {
       is = record { schema = λ _. done.schema_is; sound = λ _. done.sound; inside = h.1.mode };
       stays = λ _. h.1.is_open;
@@ -67,23 +67,59 @@ made_on k table is grows old new (Ok count) made h =
 pub made_at : (k : ℕ) → k < 6 → (old new : State) (r : Result ℕ Error) → IsMade k old
     → ExecutesInside 0 (create_of k) [] old new r → OnOk r (Goes (suc k) (Grown k (suc k)) old new)
 made_at zero low = made_on 0 _ creates_meta
-    (λ db next none kept. record { meta = none; setup = refl; postings = refl; spots = refl;
-    lines = refl; terms = refl })
+    (λ db next none kept. record {
+      meta = none;
+      setup = refl;
+      postings = refl;
+      spots = refl;
+      lines = refl;
+      terms = refl;
+    })
 made_at (suc zero) low = made_on 1 _ creates_setup
-    (λ db next none kept. record { meta = kept.0; setup = none; postings = refl; spots = refl;
-    lines = refl; terms = refl })
+    (λ db next none kept. record {
+      meta = kept.0;
+      setup = none;
+      postings = refl;
+      spots = refl;
+      lines = refl;
+      terms = refl;
+    })
 made_at (suc (suc zero)) low =
-    made_on 2 _ creates_posting (λ db next none kept. record { meta = kept.0; setup = kept.1.0;
-    postings = none; spots = refl; lines = refl; terms = refl })
+    made_on 2 _ creates_posting (λ db next none kept. record {
+      meta = kept.0;
+      setup = kept.1.0;
+      postings = none;
+      spots = refl;
+      lines = refl;
+      terms = refl;
+    })
 made_at (suc (suc (suc zero))) low =
-    made_on 3 _ creates_spot (λ db next none kept. record { meta = kept.0; setup = kept.1.0;
-    postings = kept.1.1.0; spots = none; lines = refl; terms = refl })
+    made_on 3 _ creates_spot (λ db next none kept. record {
+      meta = kept.0;
+      setup = kept.1.0;
+      postings = kept.1.1.0;
+      spots = none;
+      lines = refl;
+      terms = refl;
+    })
 made_at (suc (suc (suc (suc zero)))) low =
-    made_on 4 _ creates_line (λ db next none kept. record { meta = kept.0; setup = kept.1.0;
-    postings = kept.1.1.0; spots = kept.1.1.1.0; lines = none; terms = refl })
+    made_on 4 _ creates_line (λ db next none kept. record {
+      meta = kept.0;
+      setup = kept.1.0;
+      postings = kept.1.1.0;
+      spots = kept.1.1.1.0;
+      lines = none;
+      terms = refl;
+    })
 made_at (suc (suc (suc (suc (suc zero))))) low =
-    made_on 5 _ creates_term (λ db next none kept. record { meta = kept.0; setup = kept.1.0;
-    postings = kept.1.1.0; spots = kept.1.1.1.0; lines = kept.1.1.1.1.0; terms = none })
+    made_on 5 _ creates_term (λ db next none kept. record {
+      meta = kept.0;
+      setup = kept.1.0;
+      postings = kept.1.1.0;
+      spots = kept.1.1.1.0;
+      lines = kept.1.1.1.1.0;
+      terms = none;
+    })
 made_at (suc (suc (suc (suc (suc (suc k)))))) low = absurd (omega (arith, low))
 
 pub made_by : (k : ℕ) → k < 6 → (text : List ℕ) → text ≡ create_of k → (old new : State) (n : ℕ)
@@ -92,13 +128,22 @@ pub made_by : (k : ℕ) → k < 6 → (text : List ℕ) → text ≡ create_of k
 made_by k low text is old new n made ran =
     let one : suc k ≡ k + 1 = omega arith in
     subst (λ j. Goes j (Grown k j) old new) one
-        (made_at k low old new (Ok n) made
-        (subst (λ t. ExecutesInside 0 t [] old new (Ok n)) is ran))
+    (made_at k low old new (Ok n) made
+    (subst (λ t. ExecutesInside 0 t [] old new (Ok n)) is ran))
 
 pub grown_still : (k : ℕ) (s : State) → IsMade k s → Goes k (Grown k k) s s
-grown_still k s is = record { is = is; stays = λ up. up;
-    rows = record { meta = refl; setup = refl; postings = refl; spots = refl; lines = refl;
-    terms = refl } }
+grown_still k s is = record {
+  is = is;
+  stays = λ up. up;
+  rows = record {
+    meta = refl;
+    setup = refl;
+    postings = refl;
+    spots = refl;
+    lines = refl;
+    terms = refl;
+  };
+}
 
 pub grows_then : (i j k : ℕ) (a b c : State) → Goes j (Grown i j) a b → Goes k (Grown j k) b c
     → Goes k (Grown i k) a c

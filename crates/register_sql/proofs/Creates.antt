@@ -23,30 +23,60 @@ pub record IsCreate (text : List ℕ) (schema after : Schema) (table : Table) : 
 
 pub creates_meta : IsCreate (create_of 0) (prefix 0) (prefix 1) (record meta { tree = 0 })
 unfolding understood everything digits
-creates_meta = record { command = refl; plain = (refl, refl); defined = refl; makes = refl;
-    counted = refl }
+creates_meta = record {
+  command = refl;
+  plain = (refl, refl);
+  defined = refl;
+  makes = refl;
+  counted = refl;
+}
 
 pub creates_setup : IsCreate (create_of 1) (prefix 1) (prefix 2) (record setup { tree = 0 })
 unfolding understood everything digits
-creates_setup = record { command = refl; plain = (refl, refl); defined = refl; makes = refl;
-    counted = refl }
+creates_setup = record {
+  command = refl;
+  plain = (refl, refl);
+  defined = refl;
+  makes = refl;
+  counted = refl;
+}
 
 pub creates_posting : IsCreate (create_of 2) (prefix 2) (prefix 3) (record posting { tree = 0 })
 unfolding understood everything digits
-creates_posting = record { command = refl; plain = (refl, refl); defined = refl; makes = refl;
-    counted = refl }
+creates_posting = record {
+  command = refl;
+  plain = (refl, refl);
+  defined = refl;
+  makes = refl;
+  counted = refl;
+}
 
 pub creates_spot : IsCreate (create_of 3) (prefix 3) (prefix 4) (record spot { tree = 0 })
 unfolding understood everything digits
-creates_spot = record { command = refl; plain = (refl, refl); defined = refl; makes = refl;
-    counted = refl }
+creates_spot = record {
+  command = refl;
+  plain = (refl, refl);
+  defined = refl;
+  makes = refl;
+  counted = refl;
+}
 
 pub creates_line : IsCreate (create_of 4) (prefix 4) (prefix 5) (record line { tree = 0 })
 unfolding understood everything digits
-creates_line = record { command = refl; plain = (refl, refl); defined = refl; makes = refl;
-    counted = refl }
+creates_line = record {
+  command = refl;
+  plain = (refl, refl);
+  defined = refl;
+  makes = refl;
+  counted = refl;
+}
 
 pub creates_term : IsCreate (create_of 5) (prefix 5) (prefix 6) (record term { tree = 0 })
 unfolding understood everything digits
-creates_term = record { command = refl; plain = (refl, refl); defined = refl; makes = refl;
-    counted = refl }
+creates_term = record {
+  command = refl;
+  plain = (refl, refl);
+  defined = refl;
+  makes = refl;
+  counted = refl;
+}

@@ -82,42 +82,50 @@ by_term_tail params (v ∷ r) = refl
 
 line_test : (l k : LineRow) → tail_key line_key (line_key_params l) (line_cells k)
     ≡ is_same_line l k
-line_test l k = rw (text_eq k.loan l.loan, int_eq_is k.object l.object, text_test k.loan l.loan,
-    number_test k.object l.object, true_last (int_eq l.object k.object))
+line_test l k = rw (
+  text_eq k.loan l.loan,
+  int_eq_is k.object l.object,
+  text_test k.loan l.loan,
+  number_test k.object l.object,
+  true_last (int_eq l.object k.object),
+)
 
 term_test : (t u : TermRow) → tail_key term_key (term_key_params t) (term_cells u)
     ≡ is_same_loan t u
-term_test t u = rw (text_eq u.loan t.loan, text_test u.loan t.loan,
-    true_last (bytes_eq t.loan u.loan))
+term_test t u = rw (
+  text_eq u.loan t.loan,
+  text_test u.loan t.loan,
+  true_last (bytes_eq t.loan u.loan),
+)
 
 -- what is left of the rows of a table is what is left of the rows that it holds
 fewer : {X : Type 0} (cells : X → Row) (test : X → Bool) (goes tail : Row → Bool)
     → ((x : X) → tail (cells x) ≡ test x) → ((r : Row) → goes r ≡ tail (drop 1 r))
     → (xs : List X) (rows : List Row) → IsPermutation (map cells xs) (map (drop 1) rows)
     → IsPermutation (map cells (filter (λ x. not (test x)) xs))
-        (map (drop 1) (filter (λ r. not (goes r)) rows))
+    (map (drop 1) (filter (λ r. not (goes r)) rows))
 fewer cells test goes tail is by xs rows same =
     let held : map cells (filter (λ x. not (test x)) xs) ≡ filter (λ t. not (tail t))
-        (map cells xs) =
+    (map cells xs) =
     ap (map cells) (filter_same (λ x. not (test x)) (λ x. not (tail (cells x))) xs
-        (λ x _. ap not (sym (is x)))) ∙ sym (filter-map (λ t. not (tail t)) cells xs) in
+    (λ x _. ap not (sym (is x)))) ∙ sym (filter-map (λ t. not (tail t)) cells xs) in
     let left : map (drop 1) (filter (λ r. not (goes r)) rows) ≡ filter (λ t. not (tail t))
-        (map (drop 1) rows) =
+    (map (drop 1) rows) =
     ap (map (drop 1)) (filter_same (λ r. not (goes r)) (λ r. not (tail (drop 1 r))) rows
-        (λ r _. ap not (by r))) ∙ sym (filter-map (λ t. not (tail t)) (drop 1) rows) in
+    (λ r _. ap not (by r))) ∙ sym (filter-map (λ t. not (tail t)) (drop 1) rows) in
     rw (held, left) (IsPermutation-filter (λ t. not (tail t)) _ _ same)
 
 pub fewer_lines : (l : LineRow) (lines : List LineRow) (rows : List Row)
     → IsPermutation (map line_cells lines) (map (drop 1) rows)
     → IsPermutation (map line_cells (filter (λ k. not (is_same_line l k)) lines))
-        (map (drop 1) (filter (λ r. not (has_key line_key (line_key_params l) r)) rows))
+    (map (drop 1) (filter (λ r. not (has_key line_key (line_key_params l) r)) rows))
 fewer_lines l = fewer line_cells (is_same_line l) (has_key line_key (line_key_params l))
     (tail_key line_key (line_key_params l)) (line_test l) (by_line_tail (line_key_params l))
 
 pub fewer_terms : (t : TermRow) (terms : List TermRow) (rows : List Row)
     → IsPermutation (map term_cells terms) (map (drop 1) rows)
     → IsPermutation (map term_cells (filter (λ u. not (is_same_loan t u)) terms))
-        (map (drop 1) (filter (λ r. not (has_key term_key (term_key_params t) r)) rows))
+    (map (drop 1) (filter (λ r. not (has_key term_key (term_key_params t) r)) rows))
 fewer_terms t = fewer term_cells (is_same_loan t) (has_key term_key (term_key_params t))
     (tail_key term_key (term_key_params t)) (term_test t) (by_term_tail (term_key_params t))
 
@@ -126,18 +134,18 @@ pub removes_line : (old new : State) (l : LineRow) (count : ℕ) → old.now.sch
     → Removes 7 (has_key line_key (line_key_params l)) old.now new.now
 removes_line old new l =
     removed delete_line (line_key_params l) 4 line_key line.name line.tree line.columns line.key
-        line.primary line.uniques delete_line_is delete_line_plain refl (λ db. refl) old new
+    line.primary line.uniques delete_line_is delete_line_plain refl (λ db. refl) old new
 
 pub removes_term : (old new : State) (t : TermRow) (count : ℕ) → old.now.schema ≡ hub_schema
     → Apart (old.now.trees 9) → Executes delete_term (term_key_params t) old new (Ok count)
     → Removes 9 (has_key term_key (term_key_params t)) old.now new.now
 removes_term old new t =
     removed delete_term (term_key_params t) 5 term_key term.name term.tree term.columns term.key
-        term.primary term.uniques delete_term_is delete_term_plain refl (λ db. refl) old new
+    term.primary term.uniques delete_term_is delete_term_plain refl (λ db. refl) old new
 
 pub removes_setup : (old new : State) (count : ℕ) → old.now.schema ≡ hub_schema
     → Apart (old.now.trees 2) → Executes delete_setup [] old new (Ok count)
     → Removes 2 (has_key setup_key []) old.now new.now
 removes_setup old new =
     removed delete_setup [] 1 setup_key setup.name setup.tree setup.columns setup.key setup.primary
-        setup.uniques delete_setup_is delete_setup_plain refl (λ db. refl) old new
+    setup.uniques delete_setup_is delete_setup_plain refl (λ db. refl) old new

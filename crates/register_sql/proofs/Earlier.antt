@@ -31,13 +31,13 @@ pub late_is_wrong : (stations number : ℕ) (e : Entry) (p : PostingRow) → IsP
     → is_early e ≡ false → IsWrongEarly stations number p
 late_is_wrong stations number e p keeps late f other known =
     absurd (let no : false ≡ true = sym late ∙ ap is_early (one_entry number e f p keeps other)
-        ∙ known.early in cc)
+    ∙ known.early in cc)
 
 pub early_wrong_at : (stations : ℕ) (rows : List Row) (ps : List PostingRow) (i : ℕ) (row : Row)
     (entries : List Entry) → map posting_shown ps ≡ rows → i < length rows → row ≡ get_or rows i row
     → ArePostings (reverse entries) (reverse (take i ps)) → All (IsEarlyOf stations) entries
-        → ((p : PostingRow) → posting_shown p ≡ row → IsWrongEarly stations (i + 1) p)
-        → IsEarlyWrongAt stations (i + 1) ps
+    → ((p : PostingRow) → posting_shown p ≡ row → IsWrongEarly stations (i + 1) p)
+    → IsEarlyWrongAt stations (i + 1) ps
 early_wrong_at stations rows ps i row entries are low is kept known wrong =
     let p = get_or ps i (back row) in
     let less : i < length ps = omega (arith, low, same_length ps rows are) in
@@ -59,9 +59,9 @@ postings_read : (db : Trees) (rows : List Row) (c : Content) → HasPart 5 db c
     × (map posting_shown ps ≡ rows) × IsPermutation c.postings ps
 postings_read db rows c held read =
     let moved : IsPermutation (map posting_shown c.postings) (map shown_posting (db 3)) =
-        subst (λ l. IsPermutation l (map shown_posting (db 3)))
-        (map_twice shown_posting posting_cells c.postings)
-        (IsPermutation-map shown_posting _ _ held.postings) in
+    subst (λ l. IsPermutation l (map shown_posting (db 3)))
+    (map_twice shown_posting posting_cells c.postings)
+    (IsPermutation-map shown_posting _ _ held.postings) in
     lift-permutation posting_shown c.postings rows (IsPermutation-trans _ _ _ moved read)
 
 pub early_listed : (db : Trees) (rows : List Row) (entries : List Entry)
@@ -71,9 +71,12 @@ pub early_listed : (db : Trees) (rows : List Row) (entries : List Entry)
     → (c : Content) → HasPart 5 db c → HasList (reverse entries) c
 early_listed db rows entries read kept c held =
     let it = postings_read db rows c held read in
-    record { rows = reverse it.0; each = kept it.0 it.1;
-        all = IsPermutation-trans _ it.0 _ (IsPermutation-sym _ _ (IsPermutation-reverse it.0))
-        (IsPermutation-sym _ _ it.2) }
+    record {
+      rows = reverse it.0;
+      each = kept it.0 it.1;
+      all = IsPermutation-trans _ it.0 _ (IsPermutation-sym _ _ (IsPermutation-reverse it.0))
+          (IsPermutation-sym _ _ it.2);
+    }
 
 first_wrong : (db : Trees) (rows : List Row) (stations at : ℕ)
     → IsPermutation (shown_in Postings db) rows → IsSorted id_cmp rows
@@ -81,17 +84,21 @@ first_wrong : (db : Trees) (rows : List Row) (stations at : ℕ)
     → (c : Content) → HasPart 5 db c → IsFirstEarlyWrong stations at c
 first_wrong db rows stations at read sorted wrong c held =
     let it = postings_read db rows c held read in
-    record { rows = it.0; all = IsPermutation-sym _ _ it.2;
-        order = in_order it.0 (subst (IsSorted id_cmp) (sym it.1) sorted); first = wrong it.0 it.1 }
+    record {
+      rows = it.0;
+      all = IsPermutation-sym _ _ it.2;
+      order = in_order it.0 (subst (IsSorted id_cmp) (sym it.1) sorted);
+      first = wrong it.0 it.1;
+    }
 
 pub early_fault : (db : Trees) (rows : List Row) (stations : ℕ) (fault : StoreFault)
     → IsPermutation (shown_in Postings db) rows → IsSorted id_cmp rows
     → (fault ≢ NoMemory → (at : ℕ) × (fault ≡ Damaged at)
-        × ((ps : List PostingRow) → map posting_shown ps ≡ rows → IsEarlyWrongAt stations at ps))
+    × ((ps : List PostingRow) → map posting_shown ps ≡ rows → IsEarlyWrongAt stations at ps))
     → (at : ℕ) → fault ≡ Damaged at → (c : Content) → HasPart 5 db c
-        → IsFirstEarlyWrong stations at c
+    → IsFirstEarlyWrong stations at c
 early_fault db rows stations fault read sorted why at is c held =
     let it = why (λ none. absurd (let e : Damaged at ≡ NoMemory = sym is ∙ none in cc)) in
     let same : it.0 ≡ at = let e : Damaged it.0 ≡ Damaged at = sym it.1 ∙ is in cc in
     subst (λ n. IsFirstEarlyWrong stations n c) same
-        (first_wrong db rows stations it.0 read sorted it.2 c held)
+    (first_wrong db rows stations it.0 read sorted it.2 c held)

@@ -15,8 +15,10 @@ use Rattle.register_sql.specs.Posting.{IsWhole, IsReady, Within, Turns, Makes, S
 use Rattle.register_sql.specs.Rows.{AreRows}
 
 pub kept_then : (a b c : State) → KeepsCommit a b → KeepsCommit b c → KeepsCommit a c
-kept_then a b c p q = record { was_open = λ up. p.was_open (q.was_open up);
-    committed = λ up. q.committed up ∙ p.committed (q.was_open up) }
+kept_then a b c p q = record {
+  was_open = λ up. p.was_open (q.was_open up);
+  committed = λ up. q.committed up ∙ p.committed (q.was_open up);
+}
 
 -- `transaction` does nothing to the store
 pub kept_begin : {S : Type 0} (g : Ghosts S) (old : Held S) (new : State)
@@ -25,8 +27,14 @@ pub kept_begin : {S : Type 0} (g : Ghosts S) (old : Held S) (new : State)
 kept_begin g old new kept = record { was_open = kept.was_open; committed = kept.committed }
 
 pub survives_still : (s : State) (P : Trees → Type 0) → Survives s s P
-survives_still s P = record { clean = omega arith; shield = λ h. h; counts = omega arith;
-    limit = refl; closes = λ _ up. inl up; crash = λ _ db h. inl h }
+survives_still s P = record {
+  clean = omega arith;
+  shield = λ h. h;
+  counts = omega arith;
+  limit = refl;
+  closes = λ _ up. inl up;
+  crash = λ _ db h. inl h;
+}
 
 pub survives_on : (a b c : State) → Survives a b (λ _. ⊥) → Survives b c (λ _. ⊥)
     → Survives a c (λ _. ⊥)
@@ -44,30 +52,43 @@ on_ok (Err e) h f = tt
 pub makes_then : {T : Type 0} (a b c : State) (f g : Content → Content) (r : Result T Error)
     → Makes a b f → OnOk r (Makes b c g) → OnOk r (Makes a c (λ x. g (f x)))
 makes_then a b c f g (Ok x) first second =
-    record { within = second.within; stays = λ up. second.stays (first.stays up);
-        rows = λ k rows. second.rows (f k) (first.rows k rows) }
+    record {
+      within = second.within;
+      stays = λ up. second.stays (first.stays up);
+      rows = λ k rows. second.rows (f k) (first.rows k rows);
+    }
 makes_then a b c f g (Err e) first second = tt
 
 pub makes_as : {T : Type 0} (a b : State) (f g : Content → Content) (r : Result T Error)
     → ((c : Content) → f c ≡ g c) → OnOk r (Makes a b f) → OnOk r (Makes a b g)
 makes_as a b f g (Err e) same h = tt
 makes_as a b f g (Ok x) same h =
-    record { within = h.within; stays = h.stays;
-    rows = λ c rows. subst (AreRows b.now.trees) (same c) (h.rows c rows) }
+    record {
+      within = h.within;
+      stays = h.stays;
+      rows = λ c rows. subst (AreRows b.now.trees) (same c) (h.rows c rows);
+    }
 
 pub makes_same : (a b : State) (f g : Content → Content) → ((c : Content) → f c ≡ g c) → Makes a b f
     → Makes a b g
-makes_same a b f g same h = record { within = h.within; stays = h.stays;
-    rows = λ c rows. subst (AreRows b.now.trees) (same c) (h.rows c rows) }
+makes_same a b f g same h = record {
+  within = h.within;
+  stays = h.stays;
+  rows = λ c rows. subst (AreRows b.now.trees) (same c) (h.rows c rows);
+}
 
 pub so_far_first : (s : State) (all : Content → Content) → Within s → SoFar s s all all
-so_far_first s all within = record { within = within; stays = λ up. up; kept = kept_still s;
-    rows = λ c rows. (c, rows, refl) }
+so_far_first s all within = record {
+  within = within;
+  stays = λ up. up;
+  kept = kept_still s;
+  rows = λ c rows. (c, rows, refl);
+}
 
 pub so_far_on : {R : Type 0} (old mid new : State) (all : Content → Content) (step : R → Content
     → Content) (left rest : List R) (row : R) → left ≡ row ∷ rest
     → SoFar old mid all (with_each step left) → KeepsCommit mid new → Makes mid new (step row)
-        → SoFar old new all (with_each step rest)
+    → SoFar old new all (with_each step rest)
 so_far_on old mid new all step left rest row is far kept makes = record {
   within = makes.within;
   stays = λ up. makes.stays (far.stays up);
@@ -97,7 +118,7 @@ drop_next l j d low = let one : suc j ≡ j + 1 = omega arith in
 pub done_by_commit : {T : Type 0} (old mid new : State) (change : Content → Content)
     (r : Result T Error) → KeepsCommit old mid → Makes old mid change
     → OnOk r (IsTrue mid.in_transaction × Shows mid new mid.now mid.now false × KeepsCounts mid new
-        × (new.marks ≡ [])) → OnOk r (IsDone old new change)
+    × (new.marks ≡ [])) → OnOk r (IsDone old new change)
 done_by_commit old mid new change (Err e) kept makes ok = tt
 done_by_commit old mid new change (Ok x) kept makes ok =
     let shown = ok.1 in
@@ -114,18 +135,20 @@ done_by_commit old mid new change (Ok x) kept makes ok =
 pub survives_whole : {S : Type 0} (g : Ghosts S) (old : Held S) (mid new : State) (Posted : Trees
     → Type 0) → Survives (state g (record old { in_transaction = true })) mid (λ _. ⊥)
     → Survives mid new (λ db. db ≡ mid.now.trees) → (HasCleanDisk mid → Posted mid.now.trees)
-        → Survives (state g old) new Posted
+    → Survives (state g old) new Posted
 survives_whole g old mid new Posted first second done =
     survives_then (state g old) mid new _ _ Posted (λ _ db none. absurd none)
-        (λ clean db is. rw is (done (omega (arith, second.clean))))
-        (survives_begin g old mid _ first) second
+    (λ clean db is. rw is (done (omega (arith, second.clean))))
+    (survives_begin g old mid _ first) second
 
 leaves_whole : (old mid : State) (change : Content → Content) → IsReady old → Makes old mid change
     → LeavesWhole old change mid.now.trees
 leaves_whole old mid change ready makes =
     let whole = makes.within.whole (makes.stays ready.is_open) in
-    record { sound = subst (λ s. IsSound s mid.now.trees) whole.schema whole.sound;
-        rows = makes.rows }
+    record {
+      sound = subst (λ s. IsSound s mid.now.trees) whole.schema whole.sound;
+      rows = makes.rows;
+    }
 
 pub makes_begin : {S : Type 0} (g : Ghosts S) (old : Held S) (mid : State) (change : Content
     → Content) → Makes (state g (record old { in_transaction = true })) mid change
@@ -136,10 +159,10 @@ makes_begin g old mid change did =
 pub survives_makes : {S : Type 0} (g : Ghosts S) (old : Held S) (mid new : State) (change : Content
     → Content) → (HasCleanDisk (state g old) → IsReady (state g old))
     → Survives (state g (record old { in_transaction = true })) mid (λ _. ⊥)
-        → Survives mid new (λ db. db ≡ mid.now.trees)
-        → (HasCleanDisk mid → Makes (state g (record old { in_transaction = true })) mid change)
+    → Survives mid new (λ db. db ≡ mid.now.trees)
+    → (HasCleanDisk mid → Makes (state g (record old { in_transaction = true })) mid change)
     → Survives (state g old) new (LeavesWhole (state g old) change)
 survives_makes g old mid new change ready first second makes =
     survives_whole g old mid new (LeavesWhole (state g old) change) first second
     (λ clean. leaves_whole (state g old) mid change (ready (omega (arith, first.clean, clean)))
-        (makes_begin g old mid change (makes clean)))
+    (makes_begin g old mid change (makes clean)))

@@ -25,20 +25,27 @@ use Rattle.register_sql.proofs.Texts.{insert_meta, insert_setup, delete_setup}
 module _ (text : List ℕ) (given params : Row) (Step : Trees → Trees → Type 0) (old new : State)
     (made : IsMade 6 old) (is : given ≡ params)
     (step : (count : ℕ) → IsTrue old.is_open → Executes text params old new (Ok count)
-        → (new.now.schema ≡ hub_schema) × IsDatabase new.now
-        × Step old.now.trees new.now.trees) where
+    → (new.now.schema ≡ hub_schema) × IsDatabase new.now
+    × Step old.now.trees new.now.trees) where
   goes : (q : Result ℕ Error) → ExecutesInside 0 text given old new q → OnOk q (Goes 6 Step old new)
   goes (Err e) h = tt
   goes (Ok count) h =
       let done = step count h.1.was_open (rw is at h.0) in
-      record { is = record { schema = λ _. done.0; sound = λ _. done.1; inside = h.1.mode };
-          stays = λ _. h.1.is_open; rows = done.2 }
+      record {
+        is = record { schema = λ _. done.0; sound = λ _. done.1; inside = h.1.mode };
+        stays = λ _. h.1.is_open;
+        rows = done.2;
+      }
 
 spared : (t : ℕ) (db next : Trees) → (3 ≡ t → ⊥) → (5 ≡ t → ⊥) → (7 ≡ t → ⊥) → (9 ≡ t → ⊥)
     → changes.Spares t db next → Spares db next
 spared t db next a b c d same =
-    record { postings = same.postings a; spots = same.spots b; lines = same.lines c;
-    terms = same.terms d }
+    record {
+      postings = same.postings a;
+      spots = same.spots b;
+      lines = same.lines c;
+      terms = same.terms d;
+    }
 
 pub added_meta : (old new : State) (r : MetaRow) (given : Row) (q : Result ℕ Error) → IsMade 6 old
     → ExecutesInside 0 insert_meta given old new q → given ≡ meta_params r
@@ -98,16 +105,26 @@ pub goes_then : {T : Type 0} (j k : ℕ) (First Next Both : Trees → Trees → 
     (r : Result T Error) → ((x y z : Trees) → First x y → Next y z → Both x z)
     → Goes j First a b → OnOk r (Goes k Next b c) → OnOk r (Goes k Both a c)
 goes_then j k First Next Both a b c r joined p next = on_ok r next (λ q.
-    record { is = q.is; stays = λ up. q.stays (p.stays up);
-        rows = joined a.now.trees b.now.trees c.now.trees p.rows q.rows })
+    record {
+      is = q.is;
+      stays = λ up. q.stays (p.stays up);
+      rows = joined a.now.trees b.now.trees c.now.trees p.rows q.rows;
+    })
 
 spares_then : (a b c : Trees) → Spares a b → Spares b c → Spares a c
-spares_then a b c p q = record { postings = q.postings ∙ p.postings; spots = q.spots ∙ p.spots;
-    lines = q.lines ∙ p.lines; terms = q.terms ∙ p.terms }
+spares_then a b c p q = record {
+  postings = q.postings ∙ p.postings;
+  spots = q.spots ∙ p.spots;
+  lines = q.lines ∙ p.lines;
+  terms = q.terms ∙ p.terms;
+}
 
 none_added : (db : Trees) → AddsSetup [] db db
-none_added db = record { meta = refl; setup = IsPermutation-refl (db 2);
-    others = record { postings = refl; spots = refl; lines = refl; terms = refl } }
+none_added db = record {
+  meta = refl;
+  setup = IsPermutation-refl (db 2);
+  others = record { postings = refl; spots = refl; lines = refl; terms = refl };
+}
 
 one_more : (r : SetupRow) (rest : List SetupRow) (a b c : Trees) → AddsSetup (r ∷ []) a b
     → AddsSetup rest b c → AddsSetup (r ∷ rest) a c
@@ -116,8 +133,8 @@ one_more r rest a b c p q = record {
   setup = IsPermutation-trans _ (map setup_cells rest ++ setup_cells r ∷ a 2) _
       (IsPermutation-sym _ _ (IsPermutation-middle (map setup_cells rest) (setup_cells r) (a 2)))
       (IsPermutation-trans _ (map setup_cells rest ++ b 2) _
-          (IsPermutation-append _ _ _ _ (IsPermutation-refl (map setup_cells rest))
-          p.setup) q.setup);
+      (IsPermutation-append _ _ _ _ (IsPermutation-refl (map setup_cells rest))
+      p.setup) q.setup);
   others = spares_then a b c p.others q.others;
 }
 
@@ -138,9 +155,12 @@ so_far_on old mid new all left rest r is far went = record {
 pub so_far_last : (old new : State) (all left : List SetupRow) → left ≡ []
     → SoFarSetup old new all left → Goes 6 (AddsSetup all) old new
 so_far_last old new all left is far =
-    record { is = far.is; stays = far.stays;
-        rows = far.rows new.now.trees (subst (λ l. AddsSetup l new.now.trees new.now.trees) (sym is)
-        (none_added new.now.trees)) }
+    record {
+      is = far.is;
+      stays = far.stays;
+      rows = far.rows new.now.trees (subst (λ l. AddsSetup l new.now.trees new.now.trees) (sym is)
+          (none_added new.now.trees));
+    }
 
 pub two_metas : (v d : MetaRow) (a b c : Trees) → AddsMeta (d ∷ []) a b → AddsMeta (v ∷ []) b c
     → AddsMeta (v ∷ d ∷ []) a c
@@ -197,7 +217,7 @@ goes_begin g old mid Step went = record { is = went.is; stays = went.stays; rows
 pub made_by_commit : {T : Type 0} (old mid new : State) (made : ℕ) (s : List SetupRow)
     (m : List MetaRow) (r : Result T Error) → Goes 6 (MakesWhole made s m) old mid
     → OnOk r (IsTrue mid.in_transaction × Shows mid new mid.now mid.now false × KeepsCounts mid new
-        × (new.marks ≡ [])) → OnOk r (IsMadeWhole made s m old new)
+    × (new.marks ≡ [])) → OnOk r (IsMadeWhole made s m old new)
 made_by_commit old mid new made s m (Err e) went ok = tt
 made_by_commit old mid new made s m (Ok x) went ok =
     let shown = ok.1 in
@@ -215,18 +235,21 @@ leaves_made : (old mid : State) (made : ℕ) (s : List SetupRow) (m : List MetaR
     → LeavesMade made s m old mid.now.trees
 leaves_made old mid made s m up went =
     let still = went.stays up in
-    record { sound = subst (λ k. IsSound k mid.now.trees) (went.is.schema still)
-        (went.is.sound still); rows = went.rows }
+    record {
+      sound = subst (λ k. IsSound k mid.now.trees) (went.is.schema still)
+          (went.is.sound still);
+      rows = went.rows;
+    }
 
 pub survives_made : {S : Type 0} (g : Ghosts S) (old : Held S) (mid new : State) (made : ℕ)
     (s : List SetupRow) (m : List MetaRow)
     → (HasCleanDisk (state g old) → IsTrue (state g old).is_open)
     → Survives (state g (record old { in_transaction = true })) mid (λ _. ⊥)
-        → Survives mid new (λ db. db ≡ mid.now.trees)
-        → (HasCleanDisk mid → Goes 6 (MakesWhole made s m)
-        (state g (record old { in_transaction = true })) mid)
+    → Survives mid new (λ db. db ≡ mid.now.trees)
+    → (HasCleanDisk mid → Goes 6 (MakesWhole made s m)
+    (state g (record old { in_transaction = true })) mid)
     → Survives (state g old) new (LeavesMade made s m (state g old))
 survives_made g old mid new made s m up first second went =
     survives_whole g old mid new (LeavesMade made s m (state g old)) first second
     (λ clean. leaves_made (state g old) mid made s m (up (omega (arith, first.clean, clean)))
-        (goes_begin g old mid _ (went clean)))
+    (goes_begin g old mid _ (went clean)))

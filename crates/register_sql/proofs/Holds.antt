@@ -36,15 +36,17 @@ Holds s c = (db : Trees) × s.may_leave db × IsStored db c
 -- an open store may hold what it shows, and nothing else
 pub shown_held : (s : State) → Laws s → IsSettled s → (c : Content)
     → IsStored s.now.trees c → Holds s c
-shown_held s laws up c stored =
-    (s.committed.trees, laws.stays up.is_open,
-    subst (λ (d : Database). IsStored d.trees c) up.settled stored)
+shown_held s laws up c stored = (
+  s.committed.trees,
+  laws.stays up.is_open,
+  subst (λ (d : Database). IsStored d.trees c) up.settled stored,
+)
 
 pub held_shown : (s : State) → Laws s → IsSettled s → (c : Content) → Holds s c
     → IsStored s.now.trees c
 held_shown s laws up c held =
     subst (λ db. IsStored db c) (laws.settled held.0 up.is_open held.1
-        ∙ sym (ap (λ (d : Database). d.trees) up.settled)) held.2
+    ∙ sym (ap (λ (d : Database). d.trees) up.settled)) held.2
 
 whole_sound : (s : State) → IsReady s → IsSound hub_schema s.now.trees
 whole_sound s ready = subst (λ k. IsSound k s.now.trees) ready.whole.schema ready.whole.sound
@@ -67,7 +69,7 @@ pub ready_left : (s : State) → Laws s → IsReady s → (db : Trees) → s.may
     → IsSound hub_schema db
 ready_left s laws ready db left =
     let is : s.now.trees ≡ db = ap (λ (d : Database). d.trees) ready.settled
-        ∙ sym (laws.settled db ready.is_open left) in
+    ∙ sym (laws.settled db ready.is_open left) in
     subst (IsSound hub_schema) is (whole_sound s ready)
 
 pub no_two : (a b : ⊥) → a ≡ b
@@ -84,9 +86,13 @@ same_comes old new before after up survives = record {
       let was = up early in
       ∥∥₁_elim (after.survives clean) no_two (λ left. elim (survives.crash clean left.0 left.1) [
         | inl had ↦
-            none c (left.0, left.1, subst (λ db. IsStored db c)
-            (before.settled held.0 was.is_open held.1 ∙ sym (before.settled left.0 was.is_open had))
-            held.2)
+            none c (
+              left.0,
+              left.1,
+              subst (λ db. IsStored db c)
+                  (before.settled held.0 was.is_open held.1 ∙ sym (before.settled left.0 was.is_open had))
+                  held.2,
+            )
         | inr not ↦ not
       ]);
   from = λ clean d held. elim (survives.crash clean held.0 held.1) [
@@ -96,8 +102,11 @@ same_comes old new before after up survives = record {
 }
 
 pub still_comes : (s : State) → Comes (in_store s) (in_store s) AreSame
-still_comes s = record { quiet = λ clean. clean; some = λ clean none. none;
-    from = λ clean d held. (d, held, same_all d) }
+still_comes s = record {
+  quiet = λ clean. clean;
+  some = λ clean none. none;
+  from = λ clean d held. (d, held, same_all d);
+}
 
 -- what is read of the shown rows is true of each content that the store may hold
 pub each_read : (old new : State) (Q : Content → Type 0) → Laws new
@@ -108,8 +117,11 @@ each_read old new Q laws early ready same read clean c held =
     let it = same clean in
     let was = ready (early clean) in
     let up : IsReady new =
-        record { is_open = it.is_open; settled = it.now ∙ was.settled ∙ sym it.committed;
-        whole = subst IsWhole (sym it.now) was.whole } in
+    record {
+      is_open = it.is_open;
+      settled = it.now ∙ was.settled ∙ sym it.committed;
+      whole = subst IsWhole (sym it.now) was.whole;
+    } in
     read clean c (subst (λ (d : Database). AreRows d.trees c) it.now (held_rows new laws up c held))
 
 -- ---- bound
@@ -132,9 +144,12 @@ bound_comes S depth old new P before after up survives is = record {
       (rows_held new after it.ready it.content.0 it.content.1));
   from = λ clean d held.
       let it = is clean in
-      let came = it.comes d (held_rows new after it.ready d held) in
-      (came.0, shown_held old before (up (omega (arith, survives.clean, clean))) came.0
-          came.1, came.2);
+      let came = it.comes d (held_rows new after it.ready d held) in (
+        came.0,
+        shown_held old before (up (omega (arith, survives.clean, clean))) came.0
+            came.1,
+        came.2,
+      );
 }
 
 pub refused_comes : (S : Museum) (fault : StoreFault) (old new : State) (P : Trees → Type 0)
@@ -147,13 +162,13 @@ refused_comes S fault old new P before after up survives is = record {
       let it = is clean in
       let was = up (omega (arith, survives.clean, clean)) in
       none c (shown_held new after (still it.same was) c
-          (subst (λ (d : Database). IsStored d.trees c) (sym it.same.now)
-          (held_shown old before was c held)));
+      (subst (λ (d : Database). IsStored d.trees c) (sym it.same.now)
+      (held_shown old before was c held)));
   from = λ clean d held.
       let it = is clean in
       let was = up (omega (arith, survives.clean, clean)) in
       let stored = subst (λ (k : Database). IsStored k.trees d) it.same.now
-          (held_shown new after (still it.same was) d held) in
+      (held_shown new after (still it.same was) d held) in
       (d, shown_held old before was d stored, (it.cause d stored, inl (same_all d)));
 }
   where
@@ -180,20 +195,29 @@ failed_comes S fault old new fails before after up survives = record {
       let was = up (omega (arith, survives.clean, clean)) in
       ∥∥₁_elim (after.survives clean) no_two (λ left. elim (survives.crash clean left.0 left.1) [
         | inl had ↦
-            none c (left.0, left.1, subst (λ db. IsStored db c)
-            (before.settled held.0 was.is_open held.1 ∙ sym (before.settled left.0 was.is_open had))
-            held.2)
-        | inr bound ↦ none bound.content.0 (left.0, left.1,
-            record { made = 6; few = omega arith; sound = bound.sound; rows = bound.content.1 })
+            none c (
+              left.0,
+              left.1,
+              subst (λ db. IsStored db c)
+                  (before.settled held.0 was.is_open held.1 ∙ sym (before.settled left.0 was.is_open had))
+                  held.2,
+            )
+        | inr bound ↦ none bound.content.0 (
+          left.0,
+          left.1,
+          record { made = 6; few = omega arith; sound = bound.sound; rows = bound.content.1 },
+        )
       ]);
   from = λ clean d held.
       let was = up (omega (arith, survives.clean, clean)) in
       elim (survives.crash clean held.0 held.1) [
         | inl had ↦ (d, (held.0, had, held.2), (failure_cause S d fault fails, inl (same_all d)))
         | inr bound ↦
-            let came = bound.comes d (part_of 6 (omega arith) held.0 bound.sound d held.2) in
-            (came.0, shown_held old before was came.0 came.1,
-                (failure_cause S came.0 fault fails, inr (fails, came.2)))
+            let came = bound.comes d (part_of 6 (omega arith) held.0 bound.sound d held.2) in (
+              came.0,
+              shown_held old before was came.0 came.1,
+              (failure_cause S came.0 fault fails, inr (fails, came.2)),
+            )
       ];
 }
 
@@ -202,9 +226,9 @@ failed_comes S fault old new fails before after up survives = record {
 pub posted_comes : (e : Entry) (changes : Changes) (row : PostingRow) (old new : State) (P : Trees
     → Type 0) → IsPostingRow changes.entry e row → Laws old → Laws new
     → (HasCleanDisk old → IsReady old)
-        → (HasCleanDisk old → (c : Content) × AreRows old.now.trees c) → Survives old new P
+    → (HasCleanDisk old → (c : Content) × AreRows old.now.trees c) → Survives old new P
     → (HasCleanDisk new → IsDone old new (with_posted row e changes))
-        → Comes (in_store old) (in_store new) (IsPosted e changes)
+    → Comes (in_store old) (in_store new) (IsPosted e changes)
 posted_comes e changes row old new P keeps before after ready content survives done = record {
   quiet = λ clean. omega (arith, survives.clean, clean);
   some = λ clean none. absurd (
@@ -212,16 +236,22 @@ posted_comes e changes row old new P keeps before after ready content survives d
       let it = done clean in
       let had = content early in
       none (with_posted row e changes had.0)
-          (rows_held new after (now_ready it) (with_posted row e changes had.0)
-          (it.rows had.0 had.1)));
+      (rows_held new after (now_ready it) (with_posted row e changes had.0)
+      (it.rows had.0 had.1)));
   from = λ clean d held.
       let early : HasCleanDisk old = omega (arith, survives.clean, clean) in
       let it = done clean in
       let had = content early in
-      let rows = held_rows new after (now_ready it) d held in
-      (had.0, rows_held old before (ready early) had.0 had.1,
-          (row, keeps, same_part 6 new.now.trees (with_posted row e changes had.0) d
-          (it.rows had.0 had.1) rows));
+      let rows = held_rows new after (now_ready it) d held in (
+        had.0,
+        rows_held old before (ready early) had.0 had.1,
+        (
+          row,
+          keeps,
+          same_part 6 new.now.trees (with_posted row e changes had.0) d
+              (it.rows had.0 had.1) rows,
+        ),
+      );
 }
   where
     now_ready : IsDone old new (with_posted row e changes) → IsReady new
@@ -230,8 +260,8 @@ posted_comes e changes row old new P keeps before after ready content survives d
 pub unposted_comes : (e : Entry) (changes : Changes) (row : PostingRow) (old new : State)
     → IsPostingRow changes.entry e row → Laws old → Laws new
     → (HasCleanDisk old → IsReady old)
-        → (HasCleanDisk old → (c : Content) × AreRows old.now.trees c)
-        → Survives old new (LeavesWhole old (with_posted row e changes))
+    → (HasCleanDisk old → (c : Content) × AreRows old.now.trees c)
+    → Survives old new (LeavesWhole old (with_posted row e changes))
     → Comes (in_store old) (in_store new) (λ c d. AreSame c d ⊎ IsPosted e changes c d)
 unposted_comes e changes row old new keeps before after ready content survives = record {
   quiet = λ clean. omega (arith, survives.clean, clean);
@@ -241,12 +271,23 @@ unposted_comes e changes row old new keeps before after ready content survives =
       let had = content early in
       ∥∥₁_elim (after.survives clean) no_two (λ left. elim (survives.crash clean left.0 left.1) [
         | inl same ↦
-            none c (left.0, left.1, subst (λ db. IsStored db c)
-            (before.settled held.0 was.is_open held.1
-            ∙ sym (before.settled left.0 was.is_open same)) held.2)
-        | inr whole ↦ none (with_posted row e changes had.0) (left.0, left.1,
-            record { made = 6; few = omega arith; sound = whole.sound;
-            rows = whole.rows had.0 had.1 })
+            none c (
+              left.0,
+              left.1,
+              subst (λ db. IsStored db c)
+                  (before.settled held.0 was.is_open held.1
+                  ∙ sym (before.settled left.0 was.is_open same)) held.2,
+            )
+        | inr whole ↦ none (with_posted row e changes had.0) (
+          left.0,
+          left.1,
+          record {
+            made = 6;
+            few = omega arith;
+            sound = whole.sound;
+            rows = whole.rows had.0 had.1;
+          },
+        )
       ]);
   from = λ clean d held.
       let early : HasCleanDisk old = omega (arith, survives.clean, clean) in
@@ -268,14 +309,20 @@ unposted_comes e changes row old new keeps before after ready content survives =
 
 pub still_unposted : (e : Entry) (changes : Changes) (s : State)
     → Comes (in_store s) (in_store s) (λ c d. AreSame c d ⊎ IsPosted e changes c d)
-still_unposted e changes s = record { quiet = λ clean. clean; some = λ clean none. none;
-    from = λ clean d held. (d, held, inl (same_all d)) }
+still_unposted e changes s = record {
+  quiet = λ clean. clean;
+  some = λ clean none. none;
+  from = λ clean d held. (d, held, inl (same_all d));
+}
 
 pub still_unbound : (S : Museum) (fault : StoreFault) (s : State) → is_failure fault ≡ true
     → Comes (in_store s) (in_store s) (IsNotBound S fault)
 still_unbound S fault s fails =
-    record { quiet = λ clean. clean; some = λ clean none. none;
-    from = λ clean d held. (d, held, (failure_cause S d fault fails, inl (same_all d))) }
+    record {
+      quiet = λ clean. clean;
+      some = λ clean none. none;
+      from = λ clean d held. (d, held, (failure_cause S d fault fails, inl (same_all d)));
+    }
 
 -- ---- the count of refusals
 
@@ -296,14 +343,25 @@ no_row f (r ∷ rows) h = absurd (omega (arith, length_permutation _ _ h))
 pub without_rows : (c : Content) → c.setup ≡ [] → c.meta ≡ [] → c.postings ≡ [] → c.spots ≡ []
     → c.lines ≡ [] → c.terms ≡ [] → c ≡ no_rows
 without_rows c p q r s t u =
-    let all : Content = record { setup = c.setup; meta = c.meta; postings = c.postings;
-        spots = c.spots; lines = c.lines; terms = c.terms } in
+    let all : Content = record {
+      setup = c.setup;
+      meta = c.meta;
+      postings = c.postings;
+      spots = c.spots;
+      lines = c.lines;
+      terms = c.terms;
+    } in
     let e : all ≡ no_rows = rw (p, q, r, s, t, u) refl in e
 
 pub none_held : (db : Trees) → HasPart 0 db no_rows
-none_held db = record { meta = IsPermutation-refl []; setup = IsPermutation-refl [];
-    postings = IsPermutation-refl []; spots = IsPermutation-refl []; lines = IsPermutation-refl [];
-    terms = IsPermutation-refl [] }
+none_held db = record {
+  meta = IsPermutation-refl [];
+  setup = IsPermutation-refl [];
+  postings = IsPermutation-refl [];
+  spots = IsPermutation-refl [];
+  lines = IsPermutation-refl [];
+  terms = IsPermutation-refl [];
+}
 
 pub empty_has : (s : State) → ((db : Trees) → s.may_leave db → db ≡ s.committed.trees)
     → s.may_leave s.committed.trees → s.now ≡ s.committed → IsDatabase s.now
@@ -311,16 +369,23 @@ pub empty_has : (s : State) → ((db : Trees) → s.may_leave db → db ≡ s.co
     → Has (in_store s) (λ c. c ≡ no_rows)
 empty_has s left stays settled sound schema =
     let there : IsSound (prefix 0) s.committed.trees =
-        subst (λ (d : Database). IsSound (prefix 0) d.trees) settled
-        (subst (λ k. IsSound k s.now.trees) schema sound) in
+    subst (λ (d : Database). IsSound (prefix 0) d.trees) settled
+    (subst (λ k. IsSound k s.now.trees) schema sound) in
     record {
-      some = λ clean none. none no_rows (s.committed.trees, stays,
-          record { made = 0; few = omega arith; sound = there;
-          rows = none_held s.committed.trees });
+      some = λ clean none. none no_rows (
+        s.committed.trees,
+        stays,
+        record {
+          made = 0;
+          few = omega arith;
+          sound = there;
+          rows = none_held s.committed.trees;
+        },
+      );
       each = λ clean c held.
           let stored : IsStored s.committed.trees c =
-              subst (λ db. IsStored db c) (left held.0 held.1) held.2 in
+          subst (λ db. IsStored db c) (left held.0 held.1) held.2 in
           let part = part_of 0 (omega arith) s.committed.trees there c stored in
           without_rows c (no_row _ _ part.setup) (no_row _ _ part.meta) (no_row _ _ part.postings)
-              (no_row _ _ part.spots) (no_row _ _ part.lines) (no_row _ _ part.terms);
+          (no_row _ _ part.spots) (no_row _ _ part.lines) (no_row _ _ part.terms);
     }

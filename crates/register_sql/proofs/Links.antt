@@ -38,8 +38,11 @@ same_kept old new P bound stopped kept between survives same = record {
   settled = λ none clean. let it = same clean in let was = kept.settled none (early clean) in
       record { is_open = it.is_open; settled = it.now ∙ was.settled ∙ sym it.committed };
   ready = λ none bind clean. let it = same clean in let was = kept.ready none bind (early clean) in
-      record { is_open = it.is_open; settled = it.now ∙ was.settled ∙ sym it.committed;
-      whole = subst IsWhole (sym it.now) was.whole };
+      record {
+        is_open = it.is_open;
+        settled = it.now ∙ was.settled ∙ sym it.committed;
+        whole = subst IsWhole (sym it.now) was.whole;
+      };
   content = λ none bind clean. let it = same clean in let had =
       kept.content none bind (early clean) in
       (had.0, subst (λ (d : Database). AreRows d.trees had.0) (sym it.now) had.1);
@@ -78,8 +81,12 @@ bound_kept S depth old new stopped none between bound = record {
 }
 
 pub ready_part : (s : State) → IsReady s → IsPart 6 s
-ready_part s ready = record { is_open = ready.is_open; settled = ready.settled;
-    schema = ready.whole.schema; sound = ready.whole.sound }
+ready_part s ready = record {
+  is_open = ready.is_open;
+  settled = ready.settled;
+  schema = ready.whole.schema;
+  sound = ready.whole.sound;
+}
 
 -- ---- what was read is so of each content that the store may hold
 

@@ -40,15 +40,15 @@ all_answered : (t : ℕ) (project : List Term) (db : Trees) (rows : List Row)
 all_answered t project db rows a =
     let q = ordered_by_rowid t project in
     let staged : a.staged ≡ map (λ r. [] ∷ r ∷ []) (db t) =
-        a.grouped ∙ singles (λ r. [] ∷ r ∷ []) (db t) in
+    a.grouped ∙ singles (λ r. [] ∷ r ∷ []) (db t) in
     let kept : a.kept ≡ map (output q) (map (λ r. [] ∷ r ∷ []) (db t)) =
-        a.distinct ∙ ap (map (output q)) staged in
+    a.distinct ∙ ap (map (output q)) staged in
     let shows : rows ≡ map (λ (o : Output). o.1) a.ordered = a.shown in
     let all : map (λ (o : Output). o.1) a.kept ≡ map (shows_of q) (db t) =
     ap (map (λ (o : Output). o.1)) kept ∙ map_twice _ _ (map (λ r. [] ∷ r ∷ []) (db t))
-        ∙ map_twice _ _ (db t) in
+    ∙ map_twice _ _ (db t) in
     rw shows (subst (λ l. IsPermutation l (map (λ (o : Output). o.1) a.ordered)) all
-        (IsPermutation-map (λ (o : Output). o.1) a.kept a.ordered a.same))
+    (IsPermutation-map (λ (o : Output). o.1) a.kept a.ordered a.same))
 
 abbrev IsKeyed : Output → Type 0
 IsKeyed o = column o.0 0 ≡ column o.1 0
@@ -61,18 +61,18 @@ module _ (t : ℕ) (project : List Term) where
   rows_sorted outs keyed sorted k d low next =
       let d' : Output = ([], d) in
       let len : length (map (λ (o : Output). o.1) outs) ≡ length outs =
-          length-map outs (λ (o : Output). o.1) in
+      length-map outs (λ (o : Output). o.1) in
       let here : k < length outs = omega (arith, next, len) in
       let there : k + 1 < length outs = omega (arith, next, len) in
       let first = get_or-map (λ (o : Output). o.1) outs k d' d here in
       let second = get_or-map (λ (o : Output). o.1) outs (k + 1) d' d there in
       let plain : is_lt (value_cmp (column (get_or outs (k + 1) d').0 0)
-          (column (get_or outs k d').0 0)) ≡ false = ap is_lt (sym (then-Equal _)) ∙ sorted k d'
-          low there in
+      (column (get_or outs k d').0 0)) ≡ false = ap is_lt (sym (then-Equal _)) ∙ sorted k d'
+      low there in
       rw (first, second) (subst (λ v. is_lt (value_cmp v (column (get_or outs k d').1 0)) ≡ false)
-          (all-get_or IsKeyed outs (k + 1) d' keyed there)
+      (all-get_or IsKeyed outs (k + 1) d' keyed there)
       (subst (λ v. is_lt (value_cmp (column (get_or outs (k + 1) d').0 0) v) ≡ false)
-          (all-get_or IsKeyed outs k d' keyed here) plain))
+      (all-get_or IsKeyed outs k d' keyed here) plain))
 
   all_keyed : (staged : List (List Row))
       → AllByRecursion IsKeyed (map (output (ordered_by_rowid t (col 1 0 ∷ project))) staged)
@@ -83,7 +83,7 @@ module _ (t : ℕ) (project : List Term) where
       → IsAnswer (ordered_by_rowid t (col 1 0 ∷ project)) db [] rows → IsSorted id_cmp rows
   sorted_answer db rows a =
       let keyed = all-permutation IsKeyed _ _ a.same
-          (subst (AllByRecursion IsKeyed) (sym a.distinct) (all_keyed a.staged)) in
+      (subst (AllByRecursion IsKeyed) (sym a.distinct) (all_keyed a.staged)) in
       subst (IsSorted id_cmp) (sym a.shown) (rows_sorted a.ordered keyed a.sorted)
 
 -- a text that lists a table of this schema
@@ -104,13 +104,13 @@ module _ (schema : Schema) (text : List ℕ) (t : ℕ) (project : List Term) (na
   pub lists : (old new : State) (r : Result (Vec Row Global) Error) → old.now.schema ≡ schema
       → IfOk r (λ rows. Shown text [] old new rows.items)
       → IfOk r (λ rows. IsPermutation
-          (map (shows_of (ordered_by_rowid t project)) (old.now.trees t)) rows.items)
+      (map (shows_of (ordered_by_rowid t project)) (old.now.trees t)) rows.items)
   lists old new (Ok rows) has h =
       let read = reads_as text [] old new schema has _ is.command is.plain is.unlisted
-          rows.items h in
+      rows.items h in
       subst (λ l. IsPermutation (map (shows_of (ordered_by_rowid t project)) l) rows.items)
-          (is.bare old.now.trees) (all_answered t project (overlay old.now.trees []) rows.items
-          (read.answer Null))
+      (is.bare old.now.trees) (all_answered t project (overlay old.now.trees []) rows.items
+      (read.answer Null))
   lists old new (Err e) has h = tt
 
   pub lists_same : (old new : State) (r : Result (Vec Row Global) Error) → old.now.schema ≡ schema
@@ -130,8 +130,8 @@ module _ (schema : Schema) (text : List ℕ) (t : ℕ) (project : List Term) (na
 pub lists_sorted : (schema : Schema) (text : List ℕ) (t : ℕ) (project : List Term)
     (names : List (List ℕ)) → IsListing schema text t (col 1 0 ∷ project) names
     → (old new : State) (r : Result (Vec Row Global) Error) → old.now.schema ≡ schema
-        → IfOk r (λ rows. Shown text [] old new rows.items)
-        → IfOk r (λ rows. IsSorted id_cmp rows.items)
+    → IfOk r (λ rows. Shown text [] old new rows.items)
+    → IfOk r (λ rows. IsSorted id_cmp rows.items)
 lists_sorted schema text t project names is old new (Ok rows) has h =
     let read = reads_as text [] old new schema has _ is.command is.plain is.unlisted rows.items h in
     sorted_answer t project (overlay old.now.trees []) rows.items (read.answer Null)

@@ -107,8 +107,11 @@ module _ (S : Museum) (made : ℕ) (some : 1 ≤ made) (db : Trees) (rows : List
       → IsMigrateFault S c OtherVersion
   says_other is c held =
       let metas = metas_read made some db c rows held read in
-      inr (told_other S made some db rows read is.0 c held, lacks_in 1 c.meta rows metas is.1,
-          lacks_in 2 c.meta rows metas is.2)
+      inr (
+        told_other S made some db rows read is.0 c held,
+        lacks_in 1 c.meta rows metas is.1,
+        lacks_in 2 c.meta rows metas is.2,
+      )
 
   pub says_second : IsAged rows age.Second → (c : Content) → HasPart made db c → ¬ Lacks 2 c.meta
   says_second is c held lacks =
@@ -159,9 +162,13 @@ pub left_as : (S : Museum) (made : ℕ) → made ≤ 6 → (old new : State) (fa
     → ((c : Content) → HasPart made old.now.trees c → IsMigrateFault S c fault) → fault ≢ Store
     → IsLeft S old new fault
 left_as S made few old new fault part same cause other =
-    record { same = same; cause = λ c held. cause c
-        (part_of made few old.now.trees (sound_in made old part) c held); unfit =
-        λ is. absurd (other is) }
+    record {
+      same = same;
+      cause = λ c held. cause c
+          (part_of made few old.now.trees (sound_in made old part) c held);
+      unfit =
+          λ is. absurd (other is);
+    }
 
 pub left_unfit : (S : Museum) (old new : State) → IsSame old new → IsUnfit S old.now
     → IsLeft S old new Store
@@ -170,16 +177,20 @@ left_unfit S old new same unfit = record { same = same; cause = λ c held. tt; u
 pub left_no_store : (S : Museum) (old : State) → IsSettled old → IsNoStore old.now
     → IsLeft S old old Store
 left_no_store S old settled other =
-    left_unfit S old old (record { was_open = settled.is_open; is_open = settled.is_open;
-        now = refl; committed = refl }) (inl other)
+    left_unfit S old old (record {
+      was_open = settled.is_open;
+      is_open = settled.is_open;
+      now = refl;
+      committed = refl;
+    }) (inl other)
 
 pub other_tables : (S : Museum) (made : ℕ) → 1 ≤ made → made ≤ 6 → (old : State) (rows : List Row)
     → IsPart made old → IsPermutation (shown_in Metas old.now.trees) rows → IsAged rows age.First
     → Decides true (IsPermutation (setup_rows_shown (setup_rows S)) (setup_in made old.now.trees))
-        → made ≢ 5 → IsUnfit S old.now
+    → made ≢ 5 → IsUnfit S old.now
 other_tables S made some few old rows part read is has other =
     let held : (c : Content) → IsStored old.now.trees c → HasPart made old.now.trees c =
-        part_of made few old.now.trees (sound_in made old part) in
+    part_of made few old.now.trees (sound_in made old part) in
     inr (record {
       meta = λ c stored. says_first S made some old.now.trees rows read is c (held c stored);
       setup = λ c stored. has_the_setup S made old.now.trees has c (held c stored);
@@ -190,9 +201,12 @@ pub other_rowids : (S : Museum) (old : State) → IsPart 5 old → IsFirstOf S o
     → ¬ AreFirstApart old.now.trees → IsUnfit S old.now
 other_rowids S old part first other =
     let held : (c : Content) → IsStored old.now.trees c → HasPart 5 old.now.trees c =
-        part_of 5 (omega arith) old.now.trees (sound_in 5 old part) in
-    inr (record { meta = λ c stored. first.meta c (held c stored);
-        setup = λ c stored. first.setup c (held c stored); unfit = inr other })
+    part_of 5 (omega arith) old.now.trees (sound_in 5 old part) in
+    inr (record {
+      meta = λ c stored. first.meta c (held c stored);
+      setup = λ c stored. first.setup c (held c stored);
+      unfit = inr other;
+    })
 
 pub left_without_tables : (S : Museum) (old : State) → IsPart 0 old → IsSame old old
     → IsLeft S old old OtherVersion
@@ -204,8 +218,11 @@ pub second_as : (made : ℕ) → 1 ≤ made → made ≤ 6 → (old new : State)
     → IsPart made old → IsSame old new → IsPermutation (shown_in Metas old.now.trees) rows
     → IsAged rows age.Second → (S : Museum) → IsRaised S old new
 second_as made some few old new rows part same read is S =
-    inr (record { same = same; second = λ c held. says_second S made some old.now.trees rows read is
-        c (part_of made few old.now.trees (sound_in made old part) c held) })
+    inr (record {
+      same = same;
+      second = λ c held. says_second S made some old.now.trees rows read is
+          c (part_of made few old.now.trees (sound_in made old part) c held);
+    })
 
 -- ---- what the transaction made
 
@@ -213,7 +230,7 @@ module _ (S : Museum) (entries : List Entry) (old : State) (is : IsRaisable S ol
     (listed : (c : Content) → HasPart 5 old.now.trees c → HasList (reverse entries) c)
     (known : All (IsEarlyOf (length S.stations)) entries)
     (next : Trees) (lifts : (c : Content) → HasPart 5 old.now.trees c
-        → AreRows next (lifted entries c)) where
+    → AreRows next (lifted entries c)) where
   first : (c : Content) × HasPart 5 old.now.trees c
   first = content_in 5 (omega arith) old.now.trees (sound_in 5 old is.part) is.apart.setup.ints
       is.apart.postings.ints
@@ -228,8 +245,10 @@ module _ (S : Museum) (entries : List Entry) (old : State) (is : IsRaisable S ol
   }
 
   moved_content : (d : Content) × AreRows next d
-  moved_content = (migrated (reverse entries) first.0,
-      subst (AreRows next) (lifted_is entries first.0) (lifts first.0 first.1))
+  moved_content = (
+    migrated (reverse entries) first.0,
+    subst (AreRows next) (lifted_is entries first.0) (lifts first.0 first.1),
+  )
 
   moved_comes : (d : Content) → AreRows next d → ComesMigrated S old.now.trees d
   unfolding moved_content
@@ -245,8 +264,8 @@ pub moved_of : (S : Museum) (entries : List Entry) (old mid new : State) → IsR
     → IsLifted entries mid new → IsRaised S old new
 moved_of S entries old mid new is same listed known did =
     let lifts : (c : Content) → HasPart 5 old.now.trees c
-        → AreRows new.now.trees (lifted entries c) =
-        λ c held. did.rows c (subst (λ (k : Database). HasPart 5 k.trees c) (sym same.now) held) in
+    → AreRows new.now.trees (lifted entries c) =
+    λ c held. did.rows c (subst (λ (k : Database). HasPart 5 k.trees c) (sym same.now) held) in
     inl (record {
       was_open = is.part.is_open;
       ready = record { is_open = did.is_open; settled = sym did.committed; whole = did.whole };
@@ -260,33 +279,38 @@ leaves_of : (S : Museum) (entries : List Entry) (old mid : State) → IsRaisable
     → (db : Trees) → LeavesLifted entries mid db → LeavesMoved S old db
 leaves_of S entries old mid is same listed known db did =
     let lifts : (c : Content) → HasPart 5 old.now.trees c → AreRows db (lifted entries c) =
-        λ c held. did.rows c (subst (λ (k : Database). HasPart 5 k.trees c) (sym same.now) held) in
-    record { sound = did.sound; content = moved_content S entries old is listed known db lifts;
-        comes = moved_comes S entries old is listed known db lifts }
+    λ c held. did.rows c (subst (λ (k : Database). HasPart 5 k.trees c) (sym same.now) held) in
+    record {
+      sound = did.sound;
+      content = moved_content S entries old is listed known db lifts;
+      comes = moved_comes S entries old is listed known db lifts;
+    }
 
 pub moved_survives : (S : Museum) (entries : List Entry) (old mid new : State)
     → (HasCleanDisk old → IsRaisable S old) → Survives old mid (λ _. ⊥)
     → (HasCleanDisk mid → IsSame old mid)
     → (HasCleanDisk mid → (c : Content) → HasPart 5 old.now.trees c → HasList (reverse entries) c)
-        → All (IsEarlyOf (length S.stations)) entries → Survives mid new (LeavesLifted entries mid)
-        → Survives old new (LeavesMoved S old)
+    → All (IsEarlyOf (length S.stations)) entries → Survives mid new (LeavesLifted entries mid)
+    → Survives old new (LeavesMoved S old)
 moved_survives S entries old mid new is first same listed known second =
     survives_then old mid new _ _ (LeavesMoved S old) (λ _ db none. absurd none) (λ clean db did.
     let now : HasCleanDisk mid = omega (arith, second.clean, clean) in
     leaves_of S entries old mid (is (omega (arith, first.clean, now))) (same now) (listed now) known
-        db did) first second
+    db did) first second
 
 pub raisable_on : (S : Museum) (old mid : State) → IsPart 5 old → IsFirstOf S old.now.trees
     → IsSame old mid → Apart (old.now.trees 0) → AreApart 5 old.now.trees → IsRaisable S mid
 raisable_on S old mid part first same metas apart =
     let back : (c : Content) → HasPart 5 mid.now.trees c → HasPart 5 old.now.trees c =
-        λ c h. subst (λ (k : Database). HasPart 5 k.trees c) same.now h in
+    λ c h. subst (λ (k : Database). HasPart 5 k.trees c) same.now h in
     record {
       part = part_same 5 old mid part same;
       meta_apart = subst (λ (k : Database). Apart (k.trees 0)) (sym same.now) metas;
       apart = subst (λ (k : Database). AreApart 5 k.trees) (sym same.now) apart;
-      first = record { meta = λ c h. first.meta c (back c h);
-          setup = λ c h. first.setup c (back c h) };
+      first = record {
+        meta = λ c h. first.meta c (back c h);
+        setup = λ c h. first.setup c (back c h);
+      };
     }
 
 pub first_on : (S : Museum) (old mid : State) → IsSame old mid → IsFirstOf S old.now.trees
@@ -306,7 +330,7 @@ lines_there old mid same apart =
 list_cause : (S : Museum) (c : Content) (fault : StoreFault) → is_of_listing fault ≡ true
     → IsPermutation first_meta c.meta → IsPermutation (rows_of_setup S) c.setup
     → ((at : ℕ) → fault ≡ Damaged at → IsFirstEarlyWrong (length S.stations) at c)
-        → IsMigrateFault S c fault
+    → IsMigrateFault S c fault
 list_cause S c NoMemory is meta setup why = tt
 list_cause S c Store is meta setup why = tt
 list_cause S c OtherSetup is meta setup why = absurd (let e : false ≡ true = is in cc)
@@ -317,11 +341,11 @@ pub list_left : (S : Museum) (stations : ℕ) (fault : StoreFault) (old new : St
     → stations ≡ length S.stations → IsRaisable S old → IsSame old new → is_of_listing fault ≡ true
     → fault ≢ Store
     → ((at : ℕ) → fault ≡ Damaged at → (c : Content) → HasPart 5 old.now.trees c
-        → IsFirstEarlyWrong stations at c) → IsLeft S old new fault
+    → IsFirstEarlyWrong stations at c) → IsLeft S old new fault
 list_left S stations fault old new are raisable same is other why =
     left_as S 5 (omega arith) old new fault raisable.part same
     (λ c held. list_cause S c fault is (raisable.first.meta c held) (raisable.first.setup c held)
-        (λ at fit. subst (λ n. IsFirstEarlyWrong n at c) are (why at fit c held)))
+    (λ at fit. subst (λ n. IsFirstEarlyWrong n at c) are (why at fit c held)))
     other
 
 pub metas_and_others : (old mid : State) (r : Result Bool Error) → IsSame old mid
@@ -330,7 +354,7 @@ pub metas_and_others : (old mid : State) (r : Result Bool Error) → IsSame old 
 metas_and_others old mid (Err e) same metas others = tt
 metas_and_others old mid (Ok b) same metas others =
     let told : Decides b (AreApart 5 old.now.trees) =
-        subst (λ db. Decides b (AreApart 5 db)) (trees_same old mid same) others in
+    subst (λ db. Decides b (AreApart 5 db)) (trees_same old mid same) others in
     ((λ is. (metas, told.0 is)), λ both. told.1 both.1)
 
 -- ---- after a read that changed nothing
@@ -338,9 +362,12 @@ metas_and_others old mid (Ok b) same metas others =
 pub told_on : (old mid : State) → IsSame old mid → (rows : List Row)
     → IsPermutation (shown_in Metas old.now.trees) rows → IsAged rows age.First → (rows : List Row)
     × IsPermutation (shown_in Metas mid.now.trees) rows × IsAged rows age.First
-told_on old mid same rows read is =
-    (rows, subst (λ (k : Database). IsPermutation (shown_in Metas k.trees) rows)
-    (sym same.now) read, is)
+told_on old mid same rows read is = (
+  rows,
+  subst (λ (k : Database). IsPermutation (shown_in Metas k.trees) rows)
+      (sym same.now) read,
+  is,
+)
 
 pub raised_on : (S : Museum) (old mid new : State) → IsSame old mid → IsRaised S mid new
     → IsRaised S old new
@@ -351,8 +378,10 @@ raised_on S old mid new same (inl it) = inl (record {
   comes = λ d h. subst (λ (k : Database). ComesMigrated S k.trees d) same.now (it.comes d h);
 })
 raised_on S old mid new same (inr it) =
-    inr (record { same = same_then old mid new same it.same;
-    second = λ c h. it.second c (subst (λ (k : Database). IsStored k.trees c) (sym same.now) h) })
+    inr (record {
+      same = same_then old mid new same it.same;
+      second = λ c h. it.second c (subst (λ (k : Database). IsStored k.trees c) (sym same.now) h);
+    })
 
 pub left_on : (S : Museum) (old mid new : State) (fault : StoreFault) → IsSame old mid
     → IsLeft S mid new fault → IsLeft S old new fault
@@ -365,16 +394,19 @@ left_on S old mid new fault same it = record {
 leaves_on : (S : Museum) (old mid : State) → IsSame old mid → (db : Trees) → LeavesMoved S mid db
     → LeavesMoved S old db
 leaves_on S old mid same db it =
-    record { sound = it.sound; content = it.content;
-    comes = λ d h. subst (λ (k : Database). ComesMigrated S k.trees d) same.now (it.comes d h) }
+    record {
+      sound = it.sound;
+      content = it.content;
+      comes = λ d h. subst (λ (k : Database). ComesMigrated S k.trees d) same.now (it.comes d h);
+    }
 
 pub crash_on : (S : Museum) (old mid new : State) → Survives old mid (λ _. ⊥)
     → (HasCleanDisk mid → IsSame old mid) → Survives mid new (LeavesMoved S mid)
     → Survives old new (LeavesMoved S old)
 crash_on S old mid new first same second =
     survives_then old mid new _ _ (LeavesMoved S old) (λ _ db none. absurd none)
-        (λ clean db is. leaves_on S old mid (same (omega (arith, second.clean, clean))) db is)
-        first second
+    (λ clean db is. leaves_on S old mid (same (omega (arith, second.clean, clean))) db is)
+    first second
 
 pub weaker_ok : {X E : Type 0} (P Q : Type 0) → (P → Q) → (r : Result (Result X StoreFault) E)
     → IfOk r (λ a. OnOk a P) → IfOk r (λ a. OnOk a Q)

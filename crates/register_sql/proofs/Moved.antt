@@ -39,7 +39,7 @@ second_comes : (S : Museum) (old new : State) → Laws old → Laws new
 second_comes S old new before after early up clean it d held =
     let was = up (early clean) in
     let stored = subst (λ (k : Database). IsStored k.trees d) it.same.now
-        (held_shown new after (still old new it.same was) d held) in
+    (held_shown new after (still old new it.same was) d held) in
     (d, shown_held old before was d stored, inr (it.second d stored, same_all d))
 
 pub raised_comes : (S : Museum) (old new : State) (P : Trees → Type 0) → Laws old → Laws new
@@ -61,8 +61,8 @@ raised_comes S old new P before after up survives is = record {
     some clean (inr it) none c held =
         let was = up (early clean) in
         none c (shown_held new after (still old new it.same was) c
-            (subst (λ (k : Database). IsStored k.trees c) (sym it.same.now)
-            (held_shown old before was c held)))
+        (subst (λ (k : Database). IsStored k.trees c) (sym it.same.now)
+        (held_shown old before was c held)))
 
     from : HasCleanDisk new → IsRaised S old new → (d : Content) → Holds new d
         → (c : Content) × Holds old c × Migrates S c d
@@ -79,13 +79,13 @@ left_comes S fault old new P before after up survives is = record {
       let it = is clean in
       let was = up (omega (arith, survives.clean, clean)) in
       none c (shown_held new after (still old new it.same was) c
-          (subst (λ (k : Database). IsStored k.trees c) (sym it.same.now)
-          (held_shown old before was c held)));
+      (subst (λ (k : Database). IsStored k.trees c) (sym it.same.now)
+      (held_shown old before was c held)));
   from = λ clean d held.
       let it = is clean in
       let was = up (omega (arith, survives.clean, clean)) in
       let stored = subst (λ (k : Database). IsStored k.trees d) it.same.now
-          (held_shown new after (still old new it.same was) d held) in
+      (held_shown new after (still old new it.same was) d held) in
       (d, shown_held old before was d stored, (it.cause d stored, inl (same_all d)));
 }
 
@@ -108,28 +108,40 @@ unmoved_comes S fault old new fails before after up survives = record {
       let was = up (omega (arith, survives.clean, clean)) in
       ∥∥₁_elim (after.survives clean) no_two (λ left. elim (survives.crash clean left.0 left.1) [
         | inl had ↦
-            none c (left.0, left.1, subst (λ db. IsStored db c)
-            (before.settled held.0 was.is_open held.1 ∙ sym (before.settled left.0 was.is_open had))
-            held.2)
-        | inr moved ↦ none moved.content.0 (left.0, left.1,
-            record { made = 6; few = omega arith; sound = moved.sound; rows = moved.content.1 })
+            none c (
+              left.0,
+              left.1,
+              subst (λ db. IsStored db c)
+                  (before.settled held.0 was.is_open held.1 ∙ sym (before.settled left.0 was.is_open had))
+                  held.2,
+            )
+        | inr moved ↦ none moved.content.0 (
+          left.0,
+          left.1,
+          record { made = 6; few = omega arith; sound = moved.sound; rows = moved.content.1 },
+        )
       ]);
   from = λ clean d held.
       let was = up (omega (arith, survives.clean, clean)) in
       elim (survives.crash clean held.0 held.1) [
         | inl had ↦ (d, (held.0, had, held.2), (failure_cause S d fault fails, inl (same_all d)))
         | inr moved ↦
-            let came = moved.comes d (part_of 6 (omega arith) held.0 moved.sound d held.2) in
-            (came.0, shown_held old before was came.0 came.1,
-                (failure_cause S came.0 fault fails, inr (fails, came.2)))
+            let came = moved.comes d (part_of 6 (omega arith) held.0 moved.sound d held.2) in (
+              came.0,
+              shown_held old before was came.0 came.1,
+              (failure_cause S came.0 fault fails, inr (fails, came.2)),
+            )
       ];
 }
 
 pub still_unmoved : (S : Museum) (fault : StoreFault) (s : State) → is_failure fault ≡ true
     → Comes (in_store s) (in_store s) (IsNotMigrated S fault)
 still_unmoved S fault s fails =
-    record { quiet = λ clean. clean; some = λ clean none. none;
-    from = λ clean d held. (d, held, (failure_cause S d fault fails, inl (same_all d))) }
+    record {
+      quiet = λ clean. clean;
+      some = λ clean none. none;
+      from = λ clean d held. (d, held, (failure_cause S d fault fails, inl (same_all d)));
+    }
 
 -- ---- what is true of the connection after a migration
 
@@ -138,7 +150,7 @@ pub answer_kept : {X : Type 0} (S : Museum) (old new : State) (P : Trees → Typ
     (stopped : Option Error) (r : Result X StoreFault) → stopped ≡ None → IsKept old bound stopped
     → new.in_transaction ≡ false → Survives old new P
     → (HasCleanDisk new → OnOk r (IsRaised S old new))
-        → (HasCleanDisk new → IfErr r (IsLeft S old new)) → IsKept new bound stopped
+    → (HasCleanDisk new → IfErr r (IsLeft S old new)) → IsKept new bound stopped
 answer_kept {X} S old new P bound stopped r none kept between survives raised left = record {
   between = between;
   settled = λ _ clean. settled_by r clean (raised clean) (left clean);
@@ -151,8 +163,11 @@ answer_kept {X} S old new P bound stopped r none kept between survives raised le
 
     same_ready : bound ≡ true → HasCleanDisk new → IsSame old new → IsReady new
     same_ready bind clean it = let was = kept.ready none bind (early clean) in
-        record { is_open = it.is_open; settled = it.now ∙ was.settled ∙ sym it.committed;
-        whole = subst IsWhole (sym it.now) was.whole }
+        record {
+          is_open = it.is_open;
+          settled = it.now ∙ was.settled ∙ sym it.committed;
+          whole = subst IsWhole (sym it.now) was.whole;
+        }
 
     same_content : bound ≡ true → HasCleanDisk new → IsSame old new
         → (c : Content) × AreRows new.now.trees c

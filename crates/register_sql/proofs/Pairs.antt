@@ -78,13 +78,15 @@ else_pair rows a b depth first second is unfit d e = (
     go (inr p) = e.1 p
 
 pub no_pair : (rows : List Row) (depth : ℕ) → length rows ≢ 2 → Decides false (IsWhole depth rows)
-no_pair rows depth other = ((λ f. absurd (let e : false ≡ true = f in cc)),
-    λ h. absurd (other (length_permutation _ _ h)))
+no_pair rows depth other = (
+  (λ f. absurd (let e : false ≡ true = f in cc)),
+  λ h. absurd (other (length_permutation _ _ h)),
+)
 
 pub none_next : (rows : List Row) (at : ℕ) (row : Row) → at < length rows
     → row ≡ slice_index_or rows at row → ¬ IsOther row
     → ((k : ℕ) (d : Row) → k < at → ¬ IsOther (slice_index_or rows k d)) → (k : ℕ) (d : Row)
-        → k < at + 1 → ¬ IsOther (slice_index_or rows k d)
+    → k < at + 1 → ¬ IsOther (slice_index_or rows k d)
 none_next rows at row inside is unfit before k d low other = go (ltb k at) refl
   where
     go : (t : Bool) → ltb k at ≡ t → ⊥
@@ -92,12 +94,13 @@ none_next rows at row inside is unfit before k d low other = go (ltb k at) refl
     go false more =
         let here : k ≡ at = omega (arith, low, ltb-false k at more) in
         let same : slice_index_or rows k d ≡ row =
-            ap (λ i. slice_index_or rows i d) here ∙ default_free rows at d row inside ∙ sym is in
+        ap (λ i. slice_index_or rows i d) here ∙ default_free rows at d row inside ∙ sym is in
         unfit (subst IsOther same other)
 
 pub none_at_all : (rows : List Row) (at : ℕ) → length rows ≤ at
     → ((k : ℕ) (d : Row) → k < at → ¬ IsOther (slice_index_or rows k d))
     → Decides false (HasOther rows)
-none_at_all rows at low none =
-    ((λ f. absurd (let e : false ≡ true = f in cc)),
-    λ h. absurd (none h.0 h.1 (omega (arith, low, h.2)) (subst IsOther h.3 h.4)))
+none_at_all rows at low none = (
+  (λ f. absurd (let e : false ≡ true = f in cc)),
+  λ h. absurd (none h.0 h.1 (omega (arith, low, h.2)) (subst IsOther h.3 h.4)),
+)

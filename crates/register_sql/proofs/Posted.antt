@@ -21,10 +21,10 @@ use Rattle.register_sql.proofs.Texts.{insert_posting, insert_spot, insert_line, 
 more : {X : Type 0} (cells : X → Row) (x : X) (xs : List X) (id : Value) (rows next : List Row)
     → IsPermutation ((id ∷ cells x) ∷ rows) next
     → IsPermutation (map cells xs) (map (drop 1) rows)
-        → IsPermutation (map cells (x ∷ xs)) (map (drop 1) next)
+    → IsPermutation (map cells (x ∷ xs)) (map (drop 1) next)
 more cells x xs id rows next adds held =
     IsPermutation-trans _ (cells x ∷ map (drop 1) rows) _ (IsPermutation-cons _ _ _ held)
-        (IsPermutation-map (drop 1) _ _ adds)
+    (IsPermutation-map (drop 1) _ _ adds)
 
 apart_added : (row : Row) (rows next : List Row) → HasNumber row → is_taken rows row ≡ false
     → IsPermutation (row ∷ rows) next → Apart rows → Apart next
@@ -37,8 +37,12 @@ posting_added r db next whole it =
     let same = it.others in
     let lines = same.lines (λ e. omega arith) in
     let terms = same.terms (λ e. omega arith) in (
-      record { schema = it.schema; sound = it.sound; lines = subst Apart (sym lines) whole.lines;
-          terms = subst Apart (sym terms) whole.terms },
+      record {
+        schema = it.schema;
+        sound = it.sound;
+        lines = subst Apart (sym lines) whole.lines;
+        terms = subst Apart (sym terms) whole.terms;
+      },
       λ c rows. record {
         meta = rw (same.meta (λ e. omega arith)) rows.meta;
         setup = rw (same.setup (λ e. omega arith)) rows.setup;
@@ -56,8 +60,12 @@ spot_added r id db next whole it =
     let same = it.others in
     let lines = same.lines (λ e. omega arith) in
     let terms = same.terms (λ e. omega arith) in (
-      record { schema = it.schema; sound = it.sound; lines = subst Apart (sym lines) whole.lines;
-          terms = subst Apart (sym terms) whole.terms },
+      record {
+        schema = it.schema;
+        sound = it.sound;
+        lines = subst Apart (sym lines) whole.lines;
+        terms = subst Apart (sym terms) whole.terms;
+      },
       λ c rows. record {
         meta = rw (same.meta (λ e. omega arith)) rows.meta;
         setup = rw (same.setup (λ e. omega arith)) rows.setup;
@@ -72,13 +80,17 @@ spot_added r id db next whole it =
 lines_changed : (change : List LineRow → List LineRow) (db next : Database) → IsWhole db
     → next.schema ≡ db.schema → IsDatabase next → Spares 7 db.trees next.trees
     → Apart (next.trees 7) → ((ls : List LineRow)
-        → IsPermutation (map line_cells ls) (map (drop 1) (db.trees 7))
-        → IsPermutation (map line_cells (change ls)) (map (drop 1) (next.trees 7)))
+    → IsPermutation (map line_cells ls) (map (drop 1) (db.trees 7))
+    → IsPermutation (map line_cells (change ls)) (map (drop 1) (next.trees 7)))
     → IsWhole next × Turns (λ c. record c { lines = change c.lines }) db.trees next.trees
 lines_changed change db next whole schema sound same apart held =
     let terms = same.terms (λ e. omega arith) in (
-      record { schema = rw schema whole.schema; sound = sound; lines = apart;
-          terms = subst Apart (sym terms) whole.terms },
+      record {
+        schema = rw schema whole.schema;
+        sound = sound;
+        lines = apart;
+        terms = subst Apart (sym terms) whole.terms;
+      },
       λ c rows. record {
         meta = rw (same.meta (λ e. omega arith)) rows.meta;
         setup = rw (same.setup (λ e. omega arith)) rows.setup;
@@ -93,13 +105,17 @@ lines_changed change db next whole schema sound same apart held =
 terms_changed : (change : List TermRow → List TermRow) (db next : Database) → IsWhole db
     → next.schema ≡ db.schema → IsDatabase next → Spares 9 db.trees next.trees
     → Apart (next.trees 9) → ((ts : List TermRow)
-        → IsPermutation (map term_cells ts) (map (drop 1) (db.trees 9))
-        → IsPermutation (map term_cells (change ts)) (map (drop 1) (next.trees 9)))
+    → IsPermutation (map term_cells ts) (map (drop 1) (db.trees 9))
+    → IsPermutation (map term_cells (change ts)) (map (drop 1) (next.trees 9)))
     → IsWhole next × Turns (λ c. record c { terms = change c.terms }) db.trees next.trees
 terms_changed change db next whole schema sound same apart held =
     let lines = same.lines (λ e. omega arith) in (
-      record { schema = rw schema whole.schema; sound = sound;
-          lines = subst Apart (sym lines) whole.lines; terms = apart },
+      record {
+        schema = rw schema whole.schema;
+        sound = sound;
+        lines = subst Apart (sym lines) whole.lines;
+        terms = apart;
+      },
       λ c rows. record {
         meta = rw (same.meta (λ e. omega arith)) rows.meta;
         setup = rw (same.setup (λ e. omega arith)) rows.setup;
@@ -114,31 +130,34 @@ terms_changed change db next whole schema sound same apart held =
 module _ (text : List ℕ) (given params : Row) (change : Content → Content) (old new : State)
     (within : Within old)
     (is : given ≡ params) (step : (count : ℕ) → IsWhole old.now
-        → Executes text params old new (Ok count) → IsWhole new.now
-        × Turns change old.now.trees new.now.trees) where
+    → Executes text params old new (Ok count) → IsWhole new.now
+    × Turns change old.now.trees new.now.trees) where
   makes : (q : Result ℕ Error) → ExecutesInside 0 text given old new q
       → OnOk q (Makes old new change)
   makes (Err e) h = tt
   makes (Ok count) h =
       let done = step count (within.whole h.1.was_open) (rw is at h.0) in
-      record { within = record { whole = λ _. done.0; inside = h.1.mode }; stays = λ _. h.1.is_open;
-          rows = done.1 }
+      record {
+        within = record { whole = λ _. done.0; inside = h.1.mode };
+        stays = λ _. h.1.is_open;
+        rows = done.1;
+      }
 
 pub inserts_posting : (old new : State) (r : PostingRow) (given : Row) (q : Result ℕ Error)
     → Within old → ExecutesInside 0 insert_posting given old new q → given ≡ posting_params r
     → OnOk q (Makes old new (with_posting r))
 inserts_posting old new r given q within h is =
     makes insert_posting given (posting_params r) (with_posting r) old new within is
-        (λ count whole ran. posting_added r old.now new.now whole
-        (adds_posting old new r count whole.schema ran)) q h
+    (λ count whole ran. posting_added r old.now new.now whole
+    (adds_posting old new r count whole.schema ran)) q h
 
 pub inserts_spot : (old new : State) (r : SpotRow) (given : Row) (q : Result ℕ Error) → Within old
     → ExecutesInside 0 insert_spot given old new q → given ≡ spot_params r
     → OnOk q (Makes old new (with_spot r))
 inserts_spot old new r given q within h is =
     makes insert_spot given (spot_params r) (with_spot r) old new within is
-        (λ count whole ran. spot_added r _ old.now new.now whole
-        (adds_spot old new r count whole.schema ran)) q h
+    (λ count whole ran. spot_added r _ old.now new.now whole
+    (adds_spot old new r count whole.schema ran)) q h
 
 pub inserts_line : (old new : State) (r : LineRow) (given : Row) (q : Result ℕ Error) → Within old
     → ExecutesInside 0 insert_line given old new q → given ≡ line_params r
@@ -147,7 +166,7 @@ inserts_line old new r given q within h is =
     makes insert_line given (line_params r) (more_line r) old new within is (λ count whole ran.
     let it = adds_line old new r count whole.schema ran in
     lines_changed (λ ls. r ∷ ls) old.now new.now whole (it.schema ∙ sym whole.schema) it.sound
-        it.others (apart_added _ _ _ refl it.free it.rows whole.lines)
+    it.others (apart_added _ _ _ refl it.free it.rows whole.lines)
     (λ ls held. more line_cells r ls _ (old.now.trees 7) (new.now.trees 7) it.rows held)) q h
 
 pub inserts_term : (old new : State) (r : TermRow) (given : Row) (q : Result ℕ Error) → Within old
@@ -157,7 +176,7 @@ inserts_term old new r given q within h is =
     makes insert_term given (term_params r) (more_term r) old new within is (λ count whole ran.
     let it = adds_term old new r count whole.schema ran in
     terms_changed (λ ts. r ∷ ts) old.now new.now whole (it.schema ∙ sym whole.schema) it.sound
-        it.others (apart_added _ _ _ refl it.free it.rows whole.terms)
+    it.others (apart_added _ _ _ refl it.free it.rows whole.terms)
     (λ ts held. more term_cells r ts _ (old.now.trees 9) (new.now.trees 9) it.rows held)) q h
 
 pub deletes_line : (old new : State) (r : LineRow) (given : Row) (q : Result ℕ Error) → Within old
@@ -165,10 +184,10 @@ pub deletes_line : (old new : State) (r : LineRow) (given : Row) (q : Result ℕ
     → OnOk q (Makes old new (without_line r))
 deletes_line old new r given q within h is =
     makes delete_line given (line_key_params r) (without_line r) old new within is
-        (λ count whole ran.
+    (λ count whole ran.
     let it = removes_line old new r count whole.schema whole.lines ran in
     lines_changed _ old.now new.now whole (it.schema ∙ sym whole.schema) it.sound it.others
-        (subst Apart (sym it.rows) (apart_kept _ (old.now.trees 7) whole.lines))
+    (subst Apart (sym it.rows) (apart_kept _ (old.now.trees 7) whole.lines))
     (λ ls held. rw it.rows (fewer_lines r ls (old.now.trees 7) held))) q h
 
 pub deletes_term : (old new : State) (r : TermRow) (given : Row) (q : Result ℕ Error) → Within old
@@ -176,8 +195,8 @@ pub deletes_term : (old new : State) (r : TermRow) (given : Row) (q : Result ℕ
     → OnOk q (Makes old new (without_term r))
 deletes_term old new r given q within h is =
     makes delete_term given (term_key_params r) (without_term r) old new within is
-        (λ count whole ran.
+    (λ count whole ran.
     let it = removes_term old new r count whole.schema whole.terms ran in
     terms_changed _ old.now new.now whole (it.schema ∙ sym whole.schema) it.sound it.others
-        (subst Apart (sym it.rows) (apart_kept _ (old.now.trees 9) whole.terms))
+    (subst Apart (sym it.rows) (apart_kept _ (old.now.trees 9) whole.terms))
     (λ ts held. rw it.rows (fewer_terms r ts (old.now.trees 9) held))) q h

@@ -81,9 +81,14 @@ unread_is_wrong stations number p few unfit e is of = unfit (record {
 -- a row is shown of one posting alone
 pub one_shown : (p q : PostingRow) → posting_shown p ≡ posting_shown q → p ≡ q
 one_shown p q same =
-    ap (λ (r : Row). let back : PostingRow = record { id = id_in (column r 0);
-    station = id_in (column r 1); n = id_in (column r 2); body = bytes (column r 3); verdict =
-    id_in (column r 4) } in back) same
+    ap (λ (r : Row). let back : PostingRow = record {
+      id = id_in (column r 0);
+      station = id_in (column r 1);
+      n = id_in (column r 2);
+      body = bytes (column r 3);
+      verdict =
+          id_in (column r 4);
+    } in back) same
 
 -- the rows of a content that holds the table, in the order in which they were read
 pub postings_read : (db : Trees) (rows : List Row) (c : Content) → AreRows db c
@@ -91,9 +96,9 @@ pub postings_read : (db : Trees) (rows : List Row) (c : Content) → AreRows db 
     × (map posting_shown ps ≡ rows) × IsPermutation c.postings ps
 postings_read db rows c held read =
     let moved : IsPermutation (map posting_shown c.postings) (map shown_posting (db 3)) =
-        subst (λ l. IsPermutation l (map shown_posting (db 3)))
-        (map_twice shown_posting posting_cells c.postings)
-        (IsPermutation-map shown_posting _ _ held.postings) in
+    subst (λ l. IsPermutation l (map shown_posting (db 3)))
+    (map_twice shown_posting posting_cells c.postings)
+    (IsPermutation-map shown_posting _ _ held.postings) in
     lift-permutation posting_shown c.postings rows (IsPermutation-trans _ _ _ moved read)
 
 pub in_order : (ps : List PostingRow) → IsSorted id_cmp (map posting_shown ps)
@@ -103,7 +108,7 @@ in_order ps sorted k d low high =
     let first = get_or-map posting_shown ps k d (posting_shown d) (omega (arith, low)) in
     let second = get_or-map posting_shown ps (k + 1) d (posting_shown d) high in
     ap is_lt (sym (value_cmp-Int (get_or ps (k + 1) d).id (get_or ps k d).id)) ∙ rw (first, second)
-        at (sorted k (posting_shown d) (omega (arith, low, many)) (omega (arith, high, many)))
+    at (sorted k (posting_shown d) (omega (arith, low, many)) (omega (arith, high, many)))
 
 -- ---- one entry more
 
@@ -113,17 +118,17 @@ pub taken_shown : (ps : List PostingRow) (rows : List Row) (i : ℕ) (row : Row)
 taken_shown ps rows i row d are low is =
     let many : length ps ≡ length rows = sym (length-map ps posting_shown) ∙ ap length are in
     sym (get_or-map posting_shown ps i d row (omega (arith, low, many))) ∙ ap (λ l. get_or l i row)
-        are ∙ sym is
+    are ∙ sym is
 
 pub next_entry : (entries more : List Entry) (ps : List PostingRow) (i : ℕ) (e : Entry)
     (p : PostingRow) → i < length ps → p ≡ get_or ps i p → more ≡ entries ++ e ∷ []
     → IsPostingRow (i + 1) e p
     → ArePostings (reverse entries) (reverse (take i ps))
-        → ArePostings (reverse more) (reverse (take (i + 1) ps))
+    → ArePostings (reverse more) (reverse (take (i + 1) ps))
 next_entry entries more ps i e p less is pushed kept before =
     let count : length (reverse entries) ≡ i =
-        as_many (reverse entries) (reverse (take i ps)) before ∙ length-reverse (take i ps)
-        ∙ length-take-le i ps (omega arith) in
+    as_many (reverse entries) (reverse (take i ps)) before ∙ length-reverse (take i ps)
+    ∙ length-take-le i ps (omega arith) in
     subst (λ l. ArePostings (reverse l) (reverse (take (i + 1) ps))) (sym pushed)
     (subst (λ l. ArePostings l (reverse (take (i + 1) ps))) (sym (reverse-append entries (e ∷ [])))
     (subst (λ l. ArePostings (e ∷ reverse entries) (reverse l)) (sym (taken_next ps i p less is))
@@ -138,8 +143,13 @@ default_free (x ∷ xs) (suc i) d e low = default_free xs i d e (omega (arith, l
 
 -- the posting that the row is shown of
 abbrev pub back : Row → PostingRow
-back r = record { id = id_in (column r 0); station = id_in (column r 1); n = id_in (column r 2);
-    body = bytes (column r 3); verdict = id_in (column r 4) }
+back r = record {
+  id = id_in (column r 0);
+  station = id_in (column r 1);
+  n = id_in (column r 2);
+  body = bytes (column r 3);
+  verdict = id_in (column r 4);
+}
 
 pub same_length : (ps : List PostingRow) (rows : List Row) → map posting_shown ps ≡ rows
     → length ps ≡ length rows
@@ -149,19 +159,19 @@ pub next_listed : (entries more : List Entry) (rows : List Row) (ps : List Posti
     (e : Entry) (row : Row) → map posting_shown ps ≡ rows → i < length rows
     → row ≡ get_or rows i row → more ≡ entries ++ e ∷ []
     → ((p : PostingRow) → posting_shown p ≡ row → IsPostingRow (i + 1) e p)
-        → ArePostings (reverse entries) (reverse (take i ps))
-        → ArePostings (reverse more) (reverse (take (i + 1) ps))
+    → ArePostings (reverse entries) (reverse (take i ps))
+    → ArePostings (reverse more) (reverse (take (i + 1) ps))
 next_listed entries more rows ps i e row are low is pushed keeps before =
     let p = get_or ps i (back row) in
     let less : i < length ps = omega (arith, low, same_length ps rows are) in
     next_entry entries more ps i e p less (default_free ps i (back row) p less) pushed
-        (keeps p (taken_shown ps rows i row (back row) are low is)) before
+    (keeps p (taken_shown ps rows i row (back row) are low is)) before
 
 pub wrong_at : (stations : ℕ) (rows : List Row) (ps : List PostingRow) (i : ℕ) (row : Row)
     (entries : List Entry) → map posting_shown ps ≡ rows → i < length rows → row ≡ get_or rows i row
     → ArePostings (reverse entries) (reverse (take i ps)) → All (IsOfStation stations) entries
-        → ((p : PostingRow) → posting_shown p ≡ row → IsWrongRow stations (i + 1) p)
-        → IsWrongAt stations (i + 1) ps
+    → ((p : PostingRow) → posting_shown p ≡ row → IsWrongRow stations (i + 1) p)
+    → IsWrongAt stations (i + 1) ps
 wrong_at stations rows ps i row entries are low is kept stationed wrong =
     let p = get_or ps i (back row) in
     let less : i < length ps = omega (arith, low, same_length ps rows are) in
@@ -198,9 +208,12 @@ pub listed_of : (db : Trees) (rows : List Row) (entries : List Entry)
     → (c : Content) → AreRows db c → HasList (reverse entries) c
 listed_of db rows entries read kept c held =
     let it = postings_read db rows c held read in
-    record { rows = reverse it.0; each = kept it.0 it.1;
-        all = IsPermutation-trans _ it.0 _ (IsPermutation-sym _ _ (IsPermutation-reverse it.0))
-        (IsPermutation-sym _ _ it.2) }
+    record {
+      rows = reverse it.0;
+      each = kept it.0 it.1;
+      all = IsPermutation-trans _ it.0 _ (IsPermutation-sym _ _ (IsPermutation-reverse it.0))
+          (IsPermutation-sym _ _ it.2);
+    }
 
 pub first_wrong : (db : Trees) (rows : List Row) (stations at : ℕ)
     → IsPermutation (shown_in Postings db) rows → IsSorted id_cmp rows
@@ -208,15 +221,19 @@ pub first_wrong : (db : Trees) (rows : List Row) (stations at : ℕ)
     → (c : Content) → AreRows db c → IsFirstWrong stations at c
 first_wrong db rows stations at read sorted wrong c held =
     let it = postings_read db rows c held read in
-    record { rows = it.0; all = IsPermutation-sym _ _ it.2;
-        order = in_order it.0 (subst (IsSorted id_cmp) (sym it.1) sorted); first = wrong it.0 it.1 }
+    record {
+      rows = it.0;
+      all = IsPermutation-sym _ _ it.2;
+      order = in_order it.0 (subst (IsSorted id_cmp) (sym it.1) sorted);
+      first = wrong it.0 it.1;
+    }
 
 -- why the entries can't be listed
 pub list_fault : (db : Trees) (rows : List Row) (stations : ℕ) (fault : StoreFault)
     → IsPermutation (shown_in Postings db) rows → IsSorted id_cmp rows
     → (fault ≢ NoMemory → (at : ℕ) × (fault ≡ Damaged at)
-        × ((ps : List PostingRow) → map posting_shown ps ≡ rows → IsWrongAt stations at ps))
-        → (c : Content) → AreRows db c → IsListFault stations c fault
+    × ((ps : List PostingRow) → map posting_shown ps ≡ rows → IsWrongAt stations at ps))
+    → (c : Content) → AreRows db c → IsListFault stations c fault
 list_fault db rows stations NoMemory read sorted why c held = tt
 list_fault db rows stations Store read sorted why c held = tt
 list_fault db rows stations OtherSetup read sorted why c held =
@@ -225,7 +242,7 @@ list_fault db rows stations (Damaged at) read sorted why c held =
     let it = why (λ e. cc) in
     let same : it.0 ≡ at = let e = it.1 in cc in
     subst (λ n. IsFirstWrong stations n c) same
-        (first_wrong db rows stations it.0 read sorted it.2 c held)
+    (first_wrong db rows stations it.0 read sorted it.2 c held)
 list_fault db rows stations OtherVersion read sorted why c held =
     absurd (let it = why (λ e. cc) in let e = it.1 in cc)
 

@@ -52,7 +52,7 @@ removes_meta : (old new : State) (count : ℕ) → old.now.schema ≡ hub_schema
     → Removes 0 (has_key no_key []) old.now new.now
 removes_meta old new =
     removed delete_meta [] 0 no_key meta.name meta.tree meta.columns meta.key meta.primary
-        meta.uniques delete_meta_is delete_meta_plain refl (λ db. refl) old new
+    meta.uniques delete_meta_is delete_meta_plain refl (λ db. refl) old new
 
 filter_none : {X : Type 0} (xs : List X) → filter (λ _. false) xs ≡ []
 filter_none [] = refl
@@ -159,7 +159,7 @@ pub lifted_by_commit : {S T : Type 0} (g : Ghosts S) (entries : List Entry) (old
     (mid new : State) (r : Result T Error)
     → IsLifting entries (state g (record old { in_transaction = true })) mid
     → OnOk r (IsTrue mid.in_transaction × Shows mid new mid.now mid.now false × KeepsCounts mid new
-        × (new.marks ≡ [])) → OnOk r (IsLifted entries (state g old) new)
+    × (new.marks ≡ [])) → OnOk r (IsLifted entries (state g old) new)
 lifted_by_commit g entries old mid new (Err e) did ok = tt
 lifted_by_commit g entries old mid new (Ok x) did ok =
     let shown = ok.1 in
@@ -175,20 +175,22 @@ leaves_lifted : (entries : List Entry) (old mid : State) → IsTrue old.is_open
     → IsLifting entries old mid → LeavesLifted entries old mid.now.trees
 leaves_lifted entries old mid up did =
     let whole = did.within.whole (did.stays up) in
-    record { sound = subst (λ s. IsSound s mid.now.trees) whole.schema whole.sound;
-        rows = did.rows }
+    record {
+      sound = subst (λ s. IsSound s mid.now.trees) whole.schema whole.sound;
+      rows = did.rows;
+    }
 
 pub survives_lifted : {S : Type 0} (g : Ghosts S) (entries : List Entry) (old : Held S)
     (mid new : State) → (HasCleanDisk (state g old) → IsTrue (state g old).is_open)
     → Survives (state g (record old { in_transaction = true })) mid (λ _. ⊥)
-        → Survives mid new (λ db. db ≡ mid.now.trees)
-        → (HasCleanDisk mid
-        → IsLifting entries (state g (record old { in_transaction = true })) mid)
+    → Survives mid new (λ db. db ≡ mid.now.trees)
+    → (HasCleanDisk mid
+    → IsLifting entries (state g (record old { in_transaction = true })) mid)
     → Survives (state g old) new (LeavesLifted entries (state g old))
 survives_lifted g entries old mid new up first second did =
     survives_whole g old mid new (LeavesLifted entries (state g old)) first second
     (λ clean. leaves_lifted entries (state g old) mid (up (omega (arith, first.clean, clean)))
-        (lifting_begin g entries old mid (did clean)))
+    (lifting_begin g entries old mid (did clean)))
 
 -- ---- the last days that are given one after another
 
@@ -224,17 +226,19 @@ unfolding days_after
 each_given [] c = refl
 each_given (e ∷ es) c =
     let next : Content =
-        record c { terms = option_map_or (λ t. put is_same_loan t c.terms) (term_of e) c.terms } in
+    record c { terms = option_map_or (λ t. put is_same_loan t c.terms) (term_of e) c.terms } in
     let joined : days_after (reverse (e ∷ es)) c.terms ≡ days_after (reverse es) next.terms =
-        ap (λ P. days_after P c.terms) (reverse_onto es e []) ∙ after_both (reverse es)
-        (e ∷ []) c.terms in
+    ap (λ P. days_after P c.terms) (reverse_onto es e []) ∙ after_both (reverse es)
+    (e ∷ []) c.terms in
     ap (with_each (λ x. with_some_term (term_of x)) es) (one_given (term_of e) c) ∙ each_given es
-        next ∙ ap (λ ts. let d : Content = record c { terms = ts } in d) (sym joined)
+    next ∙ ap (λ ts. let d : Content = record c { terms = ts } in d) (sym joined)
 
 -- what the transaction makes is what a migration makes
 pub lifted_is : (entries : List Entry) (c : Content)
     → lifted entries c ≡ migrated (reverse entries) c
 lifted_is entries c =
     let first : Content = record c { meta = rows_of_meta 8; terms = [] } in
-    each_given entries first ∙ ap (λ ts. let d : Content = record c { meta = rows_of_meta 8;
-        terms = ts } in d) (after_none (reverse entries))
+    each_given entries first ∙ ap (λ ts. let d : Content = record c {
+      meta = rows_of_meta 8;
+      terms = ts;
+    } in d) (after_none (reverse entries))

@@ -35,8 +35,10 @@ rest_rises x xs up k d low = rw add-one (rw add-one at (up (suc k) d (omega (ari
 lower : (x y : Row) (ys : List Row) → Under x y → AllByRecursion (Under y) ys
     → AllByRecursion (Under x) ys
 lower x y [] h all = tt
-lower x y (z ∷ zs) h all = (value_cmp_total.trans (rowid x) (rowid y) (rowid z) h all.0,
-    lower x y zs h all.1)
+lower x y (z ∷ zs) h all = (
+  value_cmp_total.trans (rowid x) (rowid y) (rowid z) h all.0,
+  lower x y zs h all.1,
+)
 
 all_below : (x : Row) (ys : List Row) → IsRising (x ∷ ys) → IsAscending Under ys
     → AllByRecursion (Under x) ys
@@ -68,8 +70,10 @@ all_differ [] up = tt
 all_differ (x ∷ xs) up = (others_differ x xs up.0, all_differ xs up.1)
 
 pub rises : (x : Row) (n : ℤ) (xs : List Row) → rowid x ≡ Int n → IsRising (x ∷ xs) → Apart (x ∷ xs)
-rises x n xs is up = record { ints = all_numbers x n xs is up;
-    differ = all_differ (x ∷ xs) (all_rise (x ∷ xs) up) }
+rises x n xs is up = record {
+  ints = all_numbers x n xs is up;
+  differ = all_differ (x ∷ xs) (all_rise (x ∷ xs) up);
+}
 
 -- what a query shows with the rowids first tells that those of the table differ
 shown_ints : (shown : Row → Row) → ((r : Row) → rowid (shown r) ≡ rowid r) → (rows : List Row)
@@ -96,8 +100,10 @@ shown_differ shown first (r ∷ rs) h =
 pub shown_apart : (shown : Row → Row) → ((r : Row) → rowid (shown r) ≡ rowid r) → (rows : List Row)
     → Apart (map shown rows) → Apart rows
 shown_apart shown first rows h =
-    record { ints = shown_ints shown first rows h.ints;
-    differ = shown_differ shown first rows h.differ }
+    record {
+      ints = shown_ints shown first rows h.ints;
+      differ = shown_differ shown first rows h.differ;
+    }
 
 pub rises_all : (rows : List Row) (first : Row) (n : ℤ) → 1 ≤ length rows
     → (first ≡ slice_index_or rows 0 first) → rowid first ≡ Int n → IsRising rows → Apart rows
@@ -117,9 +123,9 @@ default_free (x ∷ xs) (suc i) d e low = default_free xs i d e (omega (arith, l
 pub next_rises : (rows : List Row) (at : ℕ) (a b : Row) → at < length rows
     → a ≡ slice_index_or rows (at - 1) a → b ≡ slice_index_or rows at b → IsBelow a b
     → ((k : ℕ) (d : Row) → k + 1 < at
-        → IsBelow (slice_index_or rows k d) (slice_index_or rows (k + 1) d))
+    → IsBelow (slice_index_or rows k d) (slice_index_or rows (k + 1) d))
     → (k : ℕ) (d : Row) → k + 1 < at + 1
-        → IsBelow (slice_index_or rows k d) (slice_index_or rows (k + 1) d)
+    → IsBelow (slice_index_or rows k d) (slice_index_or rows (k + 1) d)
 next_rises rows at a b inside a_is b_is last before k d low = go (ltb (k + 1) at) refl
   where
     go : (t : Bool) → ltb (k + 1) at ≡ t
@@ -129,13 +135,13 @@ next_rises rows at a b inside a_is b_is last before k d low = go (ltb (k + 1) at
         let here : at ≡ k + 1 = omega (arith, low, ltb-false (k + 1) at is) in
         let there : at - 1 ≡ k = omega (arith, here) in
         let first : a ≡ slice_index_or rows k d =
-            a_is ∙ ap (λ i. slice_index_or rows i a) there ∙ default_free rows k a d
-            (omega (arith, here, inside)) in
+        a_is ∙ ap (λ i. slice_index_or rows i a) there ∙ default_free rows k a d
+        (omega (arith, here, inside)) in
         let second : b ≡ slice_index_or rows (k + 1) d =
-            b_is ∙ ap (λ i. slice_index_or rows i b) here ∙ default_free rows (k + 1) b d
-            (omega (arith, here, inside)) in
+        b_is ∙ ap (λ i. slice_index_or rows i b) here ∙ default_free rows (k + 1) b d
+        (omega (arith, here, inside)) in
         subst (λ y. IsBelow (slice_index_or rows k d) y) second
-            (subst (λ x. IsBelow x b) first last)
+        (subst (λ x. IsBelow x b) first last)
 
 -- ---- of the store's queries
 
@@ -174,7 +180,7 @@ pub apart_read : (query : Query) (made : ℕ) (db : Trees) (rows : List Row) →
 apart_read query made db rows first low same apart =
     let table = db (tree_of query) in
     let all : Apart table = shown_apart (shown_by query) (shows_first query first) table
-        (apart_moved rows (shown_in query db) (IsPermutation-sym _ _ same) apart) in
+    (apart_moved rows (shown_in query db) (IsPermutation-sym _ _ same) apart) in
     subst Apart (sym (here (least_of query) made table low)) all
 
 -- and so does a table that isn't there
@@ -192,12 +198,20 @@ part_same made old new part same = record {
 }
 
 pub same_then : (a b c : State) → IsSame a b → IsSame b c → IsSame a c
-same_then a b c p q = record { was_open = p.was_open; is_open = q.is_open; now = q.now ∙ p.now;
-    committed = q.committed ∙ p.committed }
+same_then a b c p q = record {
+  was_open = p.was_open;
+  is_open = q.is_open;
+  now = q.now ∙ p.now;
+  committed = q.committed ∙ p.committed;
+}
 
 pub same_still : (made : ℕ) (s : State) → IsPart made s → IsSame s s
-same_still made s part = record { was_open = part.is_open; is_open = part.is_open; now = refl;
-    committed = refl }
+same_still made s part = record {
+  was_open = part.is_open;
+  is_open = part.is_open;
+  now = refl;
+  committed = refl;
+}
 
 -- ---- one table after another
 

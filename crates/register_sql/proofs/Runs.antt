@@ -49,28 +49,36 @@ reads_something : (size : ℕ) (image : Image) (pages : PageMap) (wanted : List 
 reads_something size image pages wanted found ours nothing =
     let (page, is) = some_value (found.stored 1) found.whole.first in
     let used : pages 1 ≡ Some (take size page) =
-        ap (λ (p : PageMap). p 1) (sym found.shows) ∙ trimmed_some size _ 1 page is in
+    ap (λ (p : PageMap). p 1) (sym found.shows) ∙ trimmed_some size _ 1 page is in
     let head : header_in pages ≡ take 100 (take size page) =
-        ap (λ (o : Option (List ℕ)). take 100 (unwrap_or o [])) used in
+    ap (λ (o : Option (List ℕ)). take 100 (unwrap_or o [])) used in
     let magic = ours.file.sound.header.0.magic in
     let long : length (take 16 (take 100 (take size page))) ≡ 16 =
-        sym (ap (λ (b : List ℕ). length (take 16 b)) head) ∙ ap length magic in
-    let large : 16 ≤ size = omega (arith, long, length-take 16 (take 100 (take size page)),
-        length-take 100 (take size page), length-take size page) in
+    sym (ap (λ (b : List ℕ). length (take 16 b)) head) ∙ ap length magic in
+    let large : 16 ≤ size = omega (
+      arith,
+      long,
+      length-take 16 (take 100 (take size page)),
+      length-take 100 (take size page),
+      length-take size page,
+    ) in
     let whole : 1 < stored_size size = omega (arith, large) in
     let byte : slice_index (header_in pages) 0 ≡ slice_index page 0 =
-        ap (λ (b : List ℕ). slice_index b 0) head ∙ get_or-take 100 (take size page) 0 0
-        (omega arith) ∙ get_or-take size page 0 0 (omega (arith, large)) in
+    ap (λ (b : List ℕ). slice_index b 0) head ∙ get_or-take 100 (take size page) 0 0
+    (omega arith) ∙ get_or-take size page 0 0 (omega (arith, large)) in
     let gate : slice_index (header_in pages) 0 ≡ 83 =
-        sym (get_or-take 16 (header_in pages) 0 0 (omega arith))
-        ∙ ap (λ (b : List ℕ). slice_index b 0) magic in
+    sym (get_or-take 16 (header_in pages) 0 0 (omega arith))
+    ∙ ap (λ (b : List ℕ). slice_index b 0) magic in
     let first : slice_index page 0 ≡ 83 = sym byte ∙ gate in
     let never = λ (other : ℕ) (some : 0 < other). begun_is_not_blank (sealed (first_page other))
-        page (stored_size size) image found.stored found.found is (found.whole.sized 1 page is)
-        whole (first ∙ sym (first_byte other some))
-        (λ none. let never = sym (first_byte other some) ∙ none in omega arith) in
-    elim nothing [ inl plain ↦ never (used_size 4096 false) (omega arith) plain | inr summed ↦ never
-        (used_size 4096 true) (omega arith) summed ]
+    page (stored_size size) image found.stored found.found is (found.whole.sized 1 page is)
+    whole (first ∙ sym (first_byte other some))
+    (λ none. let never = sym (first_byte other some) ∙ none in omega arith) in
+    elim nothing [
+      | inl plain ↦ never (used_size 4096 false) (omega arith) plain
+      | inr summed ↦ never
+          (used_size 4096 true) (omega arith) summed
+    ]
 
 found_empty : (image : Image) (db : Trees) → AreFoundIn image db → IsNothing image → IsEmpty db
 found_empty image db (inl read) nothing =
@@ -85,12 +93,16 @@ empty_rows db store empty its =
     let sound : IsSound (prefix 0) db = empty_is_sound db empty.1 in
     record {
       some = λ clean none. none no_rows
-          (its.all no_rows (record { made = 0; few = omega arith; sound = sound;
-          rows = none_held db }));
+          (its.all no_rows (record {
+            made = 0;
+            few = omega arith;
+            sound = sound;
+            rows = none_held db;
+          }));
       each = λ clean c held.
           let part = part_of 0 (omega arith) db sound c (its.only c held) in
           without_rows c (no_row _ _ part.setup) (no_row _ _ part.meta) (no_row _ _ part.postings)
-              (no_row _ _ part.spots) (no_row _ _ part.lines) (no_row _ _ part.terms);
+          (no_row _ _ part.spots) (no_row _ _ part.lines) (no_row _ _ part.terms);
     }
 
 -- what an opening on the files finds, where the open store has the rows of what is committed
@@ -105,8 +117,10 @@ found_in image s found its = record {
 
 -- two stores of one database may hold the same rows
 pub alike : (db : Trees) (old new : Holding) → HasIts old db → HasIts new db → AreAlike old new
-alike db old new was is = record { none_lost = λ c held. is.all c (was.only c held);
-    none_added = λ c held. was.all c (is.only c held) }
+alike db old new was is = record {
+  none_lost = λ c held. is.all c (was.only c held);
+  none_added = λ c held. was.all c (is.only c held);
+}
 
 -- what was copied, opened again
 pub alike_again : (image : Image) (old new : Holding) → HoldsRowsOf image old → IsFoundIn image new

@@ -64,9 +64,11 @@ pub setup_gone : (same : Bool) (texts : List (List ℕ)) (made : ℕ) (db : Tree
     → Decides same (IsPermutation (setup_rows_shown texts) (setup_in made db))
 setup_gone same texts made db high told =
     subst (λ l. Decides same (IsPermutation (setup_rows_shown texts) (map shown_setup l)))
-        (sym (gone 2 made (db 2) high))
-    ((λ yes. subst (λ l. IsPermutation l []) (told.0 yes) (IsPermutation-refl []),
-        λ alike. told.1 (empty (setup_rows_shown texts) alike)))
+    (sym (gone 2 made (db 2) high))
+    ((
+      λ yes. subst (λ l. IsPermutation l []) (told.0 yes) (IsPermutation-refl []),
+      λ alike. told.1 (empty (setup_rows_shown texts) alike),
+    ))
   where
     empty : (rows : List Row) → IsPermutation rows [] → [] ≡ rows
     empty [] h = refl
@@ -82,8 +84,8 @@ from_end k [] text = let e : k + 0 ≡ k = omega arith in
 from_end k (t ∷ texts) text =
     let e : k + 1 + length texts ≡ k + length (t ∷ texts) = omega arith in
     ap (λ l. record { id = pos k; text = t } ∷ l)
-        (from_end (k + 1) texts text ∙ ap
-        (λ n. setup_from (k + 1) texts ++ record { id = pos n; text = text } ∷ []) e)
+    (from_end (k + 1) texts text ∙ ap
+    (λ n. setup_from (k + 1) texts ++ record { id = pos n; text = text } ∷ []) e)
 
 got_from : (k : ℕ) (texts : List (List ℕ)) (i : ℕ) (d : Row) (t : List ℕ) → i < length texts
     → get_or (map setup_shown (setup_from k texts)) i d ≡ setup_shown
@@ -102,41 +104,42 @@ shown_length k (x ∷ texts) = ap suc (shown_length (k + 1) texts)
 
 pub not_as_many : (rows : List Row) (texts : List (List ℕ)) → length rows ≢ length texts
     → Decides false (rows ≡ setup_rows_shown texts)
-not_as_many rows texts other =
-    ((λ no. absurd (let e : false ≡ true = no in cc)),
-    λ same. absurd (other (ap length same ∙ shown_length 1 texts)))
+not_as_many rows texts other = (
+  (λ no. absurd (let e : false ≡ true = no in cc)),
+  λ same. absurd (other (ap length same ∙ shown_length 1 texts)),
+)
 
 pub not_there : (rows : List Row) (texts : List (List ℕ)) (i : ℕ) (row : Row) (text : List ℕ)
     (same : Bool) → i < length texts → row ≡ get_or rows i row → text ≡ get_or texts i text
     → Decides same (row ≡ setup_shown (record { id = pos (i + 1); text = text })) → same ≡ false
-        → Decides false (rows ≡ setup_rows_shown texts)
+    → Decides false (rows ≡ setup_rows_shown texts)
 not_there rows texts i row text same low is text_is told unfit = (
   (λ f. absurd (let e : false ≡ true = f in cc)),
   λ all.
       let one : 1 + i ≡ i + 1 = omega arith in
       let here : row ≡ setup_shown (record { id = pos (i + 1); text = text }) =
       is ∙ ap (λ l. get_or l i row) all ∙ got_from 1 texts i row text low
-          ∙ ap (λ n. setup_shown (record { id = pos n; text = get_or texts i text })) one
-          ∙ ap (λ t. setup_shown (record { id = pos (i + 1); text = t })) (sym text_is) in
+      ∙ ap (λ n. setup_shown (record { id = pos n; text = get_or texts i text })) one
+      ∙ ap (λ t. setup_shown (record { id = pos (i + 1); text = t })) (sym text_is) in
       sym unfit ∙ told.1 here,
 )
 
 pub one_further : (rows : List Row) (texts : List (List ℕ)) (i : ℕ) (row : Row) (text : List ℕ)
     → i < length rows → i < length texts → row ≡ get_or rows i row → text ≡ get_or texts i text
     → row ≡ setup_shown (record { id = pos (i + 1); text = text })
-        → take i rows ≡ setup_rows_shown (take i texts)
-        → take (i + 1) rows ≡ setup_rows_shown (take (i + 1) texts)
+    → take i rows ≡ setup_rows_shown (take i texts)
+    → take (i + 1) rows ≡ setup_rows_shown (take (i + 1) texts)
 one_further rows texts i row text low less is text_is here before =
     let many : 1 + length (take i texts) ≡ i + 1 =
-        omega (arith, length-take-le i texts (omega arith)) in
+    omega (arith, length-take-le i texts (omega arith)) in
     let last : map setup_shown (setup_from 1 (take i texts ++ text ∷ [])) ≡ setup_rows_shown
-        (take i texts) ++ setup_shown (record { id = pos (1 + length (take i texts)); text = text })
-        ∷ [] =
+    (take i texts) ++ setup_shown (record { id = pos (1 + length (take i texts)); text = text })
+    ∷ [] =
     ap (map setup_shown) (from_end 1 (take i texts) text) ∙ map-append setup_shown
-        (setup_from 1 (take i texts)) _ in
+    (setup_from 1 (take i texts)) _ in
     taken_next rows i row low is ∙ ap (λ l. l ++ row ∷ []) before
-        ∙ ap (λ r. setup_rows_shown (take i texts) ++ r ∷ [])
-        (here ∙ ap (λ n. setup_shown (record { id = pos n; text = text })) (sym many)) ∙ sym last
+    ∙ ap (λ r. setup_rows_shown (take i texts) ++ r ∷ [])
+    (here ∙ ap (λ n. setup_shown (record { id = pos n; text = text })) (sym many)) ∙ sym last
     ∙ ap setup_rows_shown (sym (taken_next texts i text less text_is))
 
 -- ---- the same rows as a register numbers them, the last first
@@ -149,12 +152,12 @@ numbered_are (text ∷ texts) =
     let few : 1 + length (reverse texts) ≡ length texts + 1 = omega (arith, length-reverse texts) in
     let split : setup_from 1 (reverse (text ∷ texts)) ≡ setup_from 1 (reverse texts) ++ last ∷ [] =
     ap (setup_from 1) (reverse_onto texts text []) ∙ from_end 1 (reverse texts) text
-        ∙ ap (λ n. setup_from 1 (reverse texts) ++ record { id = pos n; text = text } ∷ []) few in
+    ∙ ap (λ n. setup_from 1 (reverse texts) ++ record { id = pos n; text = text } ∷ []) few in
     let moved : IsPermutation (last ∷ setup_from 1 (reverse texts))
-        (setup_from 1 (reverse texts) ++ last ∷ []) =
+    (setup_from 1 (reverse texts) ++ last ∷ []) =
     IsPermutation-sym _ _
-        (subst (λ l. IsPermutation (setup_from 1 (reverse texts) ++ last ∷ []) (last ∷ l))
-        (append-nil (setup_from 1 (reverse texts)))
-        (IsPermutation-middle (setup_from 1 (reverse texts)) last [])) in
+    (subst (λ l. IsPermutation (setup_from 1 (reverse texts) ++ last ∷ []) (last ∷ l))
+    (append-nil (setup_from 1 (reverse texts)))
+    (IsPermutation-middle (setup_from 1 (reverse texts)) last [])) in
     subst (IsPermutation (last ∷ numbered texts)) (sym split)
-        (IsPermutation-trans _ _ _ (IsPermutation-cons last _ _ (numbered_are texts)) moved)
+    (IsPermutation-trans _ _ _ (IsPermutation-cons last _ _ (numbered_are texts)) moved)

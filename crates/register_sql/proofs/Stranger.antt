@@ -41,8 +41,8 @@ module _ {T : Type 0} (cells : T → Row) where
       go false more =
           let here : k ≡ at = omega (arith, low, ltb-false k at more) in
           let found : slice_index_or wanted k d ≡ t =
-              ap (λ i. slice_index_or wanted i d) here ∙ default_free wanted at d t
-              inside ∙ sym is in
+          ap (λ i. slice_index_or wanted i d) here ∙ default_free wanted at d t
+          inside ∙ sym is in
           other (ap cells (sym found) ∙ same)
 
   pub none_in_all : (wanted : List T) (row : Row) (at : ℕ) → length wanted ≤ at
@@ -52,9 +52,11 @@ module _ {T : Type 0} (cells : T → Row) where
   each_other : (wanted : List T) (row : Row) → IsNone cells (length wanted) wanted row
       → AllByRecursion (λ r. r ≢ row) (map cells wanted)
   each_other [] row none = tt
-  each_other (t ∷ wanted) row none =
-      (none zero t (omega arith), each_other wanted row
-      (λ k d low. none (suc k) d (omega (arith, low))))
+  each_other (t ∷ wanted) row none = (
+    none zero t (omega arith),
+    each_other wanted row
+        (λ k d low. none (suc k) d (omega (arith, low))),
+  )
 
   none_from_all : (wanted : List T) (row : Row) → AllByRecursion (λ r. r ≢ row) (map cells wanted)
       → IsNone cells (length wanted) wanted row
@@ -96,7 +98,7 @@ module _ {T : Type 0} (cells : T → Row) where
         go false more =
             let here : k ≡ at = omega (arith, under, ltb-false k at more) in
             let found : r ≡ row = r_is ∙ ap (λ i. slice_index_or rows i r) here ∙ default_free rows
-                at r row low ∙ sym is in
+            at r row low ∙ sym is in
             subst (λ x. ¬ IsStrange wanted x) (sym found) other
 
     pub none_strange : (wanted : List T) (rows : List Row) (at : ℕ) → length rows ≤ at
@@ -127,12 +129,12 @@ pub strange_spots : (S : Museum) (P : List Entry) (wanted : List NewSpot) (ss ls
 strange_spots S P wanted ss ls ts is strange d found has =
     let other = stranger IsNoSpot (map cells_of_spot wanted) ss strange in
     let by_thing : IsPermutation (map spot_row wanted) d.spots =
-        IsPermutation-trans _ _ _ (IsPermutation-map spot_row _ _
-        (subst (λ l. IsPermutation l (all_written S P)) (sym is) (looking_back S P))) has.spots in
+    IsPermutation-trans _ _ _ (IsPermutation-map spot_row _ _
+    (subst (λ l. IsPermutation l (all_written S P)) (sym is) (looking_back S P))) has.spots in
     other (IsPermutation-trans _ _ _
-        (subst (λ l. IsPermutation l (map spot_cells d.spots))
-        (map_twice spot_cells spot_row wanted) (IsPermutation-map spot_cells _ _ by_thing))
-        found.spots)
+    (subst (λ l. IsPermutation l (map spot_cells d.spots))
+    (map_twice spot_cells spot_row wanted) (IsPermutation-map spot_cells _ _ by_thing))
+    found.spots)
 
 pub strange_lines : (S : Museum) (P : List Entry) (wanted : List (LineKey × LineStage))
     (ss ls ts : List Row) → held_lines wanted ≡ lines_by_loan S P
@@ -141,12 +143,12 @@ pub strange_lines : (S : Museum) (P : List Entry) (wanted : List (LineKey × Lin
 strange_lines S P wanted ss ls ts is strange d found has =
     let other = stranger IsNoLine (map cells_of_line wanted) ls strange in
     let lined : IsPermutation (map line_row (held_lines wanted)) d.lines =
-        subst (λ l. IsPermutation (map line_row l) d.lines) (sym is) has.lines in
+    subst (λ l. IsPermutation (map line_row l) d.lines) (sym is) has.lines in
     let shown : map line_cells (map line_row (held_lines wanted)) ≡ map cells_of_line wanted =
-        lines_twice wanted in
+    lines_twice wanted in
     other (IsPermutation-trans _ _ _
-        (subst (λ l. IsPermutation l (map line_cells d.lines)) shown
-        (IsPermutation-map line_cells _ _ lined)) found.lines)
+    (subst (λ l. IsPermutation l (map line_cells d.lines)) shown
+    (IsPermutation-map line_cells _ _ lined)) found.lines)
 
 pub strange_terms : (S : Museum) (P : List Entry) (wanted : List (List ℕ × ℤ)) (ss ls ts : List Row)
     → term_rows wanted ≡ rows_of_terms P → HasStranger IsNoTerm (map cells_of_term wanted) ts
@@ -154,10 +156,10 @@ pub strange_terms : (S : Museum) (P : List Entry) (wanted : List (List ℕ × �
 strange_terms S P wanted ss ls ts is strange d found has =
     let other = stranger IsNoTerm (map cells_of_term wanted) ts strange in
     let dated : IsPermutation (term_rows wanted) d.terms =
-        subst (λ l. IsPermutation l d.terms) (sym is) has.terms in
+    subst (λ l. IsPermutation l d.terms) (sym is) has.terms in
     other (IsPermutation-trans _ _ _
-        (subst (λ l. IsPermutation l (map term_cells d.terms)) (terms_twice wanted)
-        (IsPermutation-map term_cells _ _ dated)) found.terms)
+    (subst (λ l. IsPermutation l (map term_cells d.terms)) (terms_twice wanted)
+    (IsPermutation-map term_cells _ _ dated)) found.terms)
 
 -- what is told of one table after another
 pub spots_told : (S : Museum) (P : List Entry) (wanted : List NewSpot) (ss ls ts : List Row)
@@ -181,11 +183,11 @@ pub all_told : (S : Museum) (P : List Entry) (spots : List NewSpot)
     (lines : List (LineKey × LineStage)) (terms : List (List ℕ × ℤ))
     (ss ls ts : List Row) (b : Bool)
     → spots ≡ spots_by_thing S P → held_lines lines ≡ lines_by_loan S P
-        → term_rows terms ≡ rows_of_terms P
+    → term_rows terms ≡ rows_of_terms P
     → ¬ HasStranger IsNoSpot (map cells_of_spot spots) ss
-        → ¬ HasStranger IsNoLine (map cells_of_line lines) ls
-        → Decides b (HasStranger IsNoTerm (map cells_of_term terms) ts)
-        → Decides b (AreStrange S P ss ls ts)
+    → ¬ HasStranger IsNoLine (map cells_of_line lines) ls
+    → Decides b (HasStranger IsNoTerm (map cells_of_term terms) ts)
+    → Decides b (AreStrange S P ss ls ts)
 all_told S P spots lines terms ss ls ts b spots_is lines_is terms_is no_spot no_line told =
     ((λ is. inr (inr (there (told.0 is)))), λ strange. back strange)
   where

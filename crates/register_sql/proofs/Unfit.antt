@@ -30,13 +30,21 @@ refused_unfit S old new same unfit =
 pub refused_no_store : (S : Museum) (old : State) → IsSettled old → IsNoStore old.now
     → IsRefused S old old Store
 refused_no_store S old settled other =
-    refused_unfit S old old (record { was_open = settled.is_open; is_open = settled.is_open;
-        now = refl; committed = refl }) (inl other)
+    refused_unfit S old old (record {
+      was_open = settled.is_open;
+      is_open = settled.is_open;
+      now = refl;
+      committed = refl;
+    }) (inl other)
 
 pub refused_for_memory : (S : Museum) (old : State) → IsSettled old → IsRefused S old old NoMemory
 refused_for_memory S old settled = record {
-  same = record { was_open = settled.is_open; is_open = settled.is_open; now = refl;
-      committed = refl };
+  same = record {
+    was_open = settled.is_open;
+    is_open = settled.is_open;
+    now = refl;
+    committed = refl;
+  };
   cause = λ c held. tt;
   unfit = λ is. absurd (memory_is_not_store is);
 }
@@ -46,7 +54,7 @@ pub new_unfit : (S : Museum) (made : ℕ) → made ≤ 6 → (old : State) → I
     → had 1 made (old.now.trees 0) ≡ [] → ¬ AreApart made old.now.trees → IsUnfitFor S old.now
 new_unfit S made few old part none other =
     let held : (c : Content) → IsStored old.now.trees c → HasPart made old.now.trees c =
-        part_of made few old.now.trees (sound_in made old part) in
+    part_of made few old.now.trees (sound_in made old part) in
     inr (inl (record {
       new = λ c stored. ap is_new (none_new c.meta
           (subst (λ l. IsPermutation (map meta_cells c.meta) (map (drop 1) l)) none
@@ -59,13 +67,17 @@ pub old_unfit : (S : Museum) (made : ℕ) → 1 ≤ made → made ≤ 6
     → (old : State) (rows : List Row) (depth : ℕ) → IsPart made old
     → IsPermutation (shown_in Metas old.now.trees) rows → IsIdentity rows (told.Bound depth)
     → Decides true (IsPermutation (setup_rows_shown (setup_rows S)) (setup_in made old.now.trees))
-        → (old.now.schema ≢ hub_schema) ⊎ (¬ AreApart 6 old.now.trees) → IsUnfitFor S old.now
+    → (old.now.schema ≢ hub_schema) ⊎ (¬ AreApart 6 old.now.trees) → IsUnfitFor S old.now
 old_unfit S made some few old rows depth part read is has unfit =
     let held : (c : Content) → IsStored old.now.trees c → HasPart made old.now.trees c =
-        part_of made few old.now.trees (sound_in made old part) in
+    part_of made few old.now.trees (sound_in made old part) in
     inr (inr (record {
-      whole = λ c stored. (depth, is.0, whole_meta made some old.now.trees rows depth read is c
-          (held c stored));
+      whole = λ c stored. (
+        depth,
+        is.0,
+        whole_meta made some old.now.trees rows depth read is c
+            (held c stored),
+      );
       setup = λ c stored. has_the_setup S made old.now.trees has c (held c stored);
       unfit = unfit;
     }))

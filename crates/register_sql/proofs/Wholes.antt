@@ -31,16 +31,24 @@ lines_are (l ∷ ls) c = lines_are ls (with_line (line_row l) c)
 
 pub posted_is : (row : PostingRow) (e : Entry) (changes : Changes) (c : Content)
     → with_some_term (term_of e) (with_each (λ l. with_line (line_row l)) changes.lines
-        (with_each (λ s. with_spot (spot_row s)) changes.spots (with_posting row c))) ≡ with_posted
-        row e changes c
+    (with_each (λ s. with_spot (spot_row s)) changes.spots (with_posting row c))) ≡ with_posted
+    row e changes c
 posted_is row e changes c =
-    rw (spots_are changes.spots (with_posting row c),
-        lines_are changes.lines (record c { postings = row ∷ c.postings;
-        spots = map spot_row (reverse changes.spots) ++ c.spots })) (terms (term_of e))
+    rw (
+      spots_are changes.spots (with_posting row c),
+      lines_are changes.lines (record c {
+        postings = row ∷ c.postings;
+        spots = map spot_row (reverse changes.spots) ++ c.spots;
+      }),
+    ) (terms (term_of e))
   where
     mid : Content
-    mid = record c { postings = row ∷ c.postings; spots = map spot_row (reverse changes.spots)
-        ++ c.spots; lines = put_each is_same_line (map line_row changes.lines) c.lines }
+    mid = record c {
+      postings = row ∷ c.postings;
+      spots = map spot_row (reverse changes.spots)
+          ++ c.spots;
+      lines = put_each is_same_line (map line_row changes.lines) c.lines;
+    }
 
     terms : (t : Option TermRow) → with_some_term t mid
         ≡ record mid { terms = option_map_or (λ t. put is_same_loan t c.terms) t c.terms }

@@ -100,23 +100,36 @@ agreed_kept = record {
 moved_kept : IsPostingRow 2 moved (posting 2 moved_text)
 unfolding is_utf8 chars encode value punctuate lex content escape_byte days_from_civil day_count
     days_of_years days_of_months
-moved_kept = record { id = refl; station = refl; n = refl; body = rw may-text refl;
-    reads_back = refl; verdict = refl }
+moved_kept = record {
+  id = refl;
+  station = refl;
+  n = refl;
+  body = rw may-text refl;
+  reads_back = refl;
+  verdict = refl;
+}
 
 listed : HasList entries first
-listed = record { rows = posting 2 moved_text ∷ posting 1 agreed_text ∷ [];
-    each = (moved_kept, (agreed_kept, tt)); all =
-    IsPermutation-reverse (posting 2 moved_text ∷ posting 1 agreed_text ∷ []) }
+listed = record {
+  rows = posting 2 moved_text ∷ posting 1 agreed_text ∷ [];
+  each = (moved_kept, (agreed_kept, tt));
+  all =
+      IsPermutation-reverse (posting 2 moved_text ∷ posting 1 agreed_text ∷ []);
+}
 
 agreed_known : IsEarlyOf 1 agreed
 agreed_known =
-    record { stationed = record { known = omega arith; first = omega arith; few = omega arith };
-    early = refl }
+    record {
+      stationed = record { known = omega arith; first = omega arith; few = omega arith };
+      early = refl;
+    }
 
 moved_known : IsEarlyOf 1 moved
 moved_known =
-    record { stationed = record { known = omega arith; first = omega arith; few = omega arith };
-    early = refl }
+    record {
+      stationed = record { known = omega arith; first = omega arith; few = omega arith };
+      early = refl;
+    }
 
 is_first : IsOfFirst museum entries first
 is_first = record {
@@ -181,8 +194,10 @@ unfolding IsDistinct value_cmp is_nan lt
 apart = (
   record { ints = (refl, (refl, tt)); differ = ((refl, tt), (tt, tt)) },
   record {
-    setup = record { ints = (refl, (refl, (refl, (refl, tt))));
-        differ = ((refl, (refl, (refl, tt))), ((refl, (refl, tt)), ((refl, tt), (tt, tt)))) };
+    setup = record {
+      ints = (refl, (refl, (refl, (refl, tt))));
+      differ = ((refl, (refl, (refl, tt))), ((refl, (refl, tt)), ((refl, tt), (tt, tt))));
+    };
     postings = record { ints = (refl, (refl, tt)); differ = ((refl, tt), (tt, tt)) };
     lines = record { ints = (refl, tt); differ = (tt, tt) };
     terms = record { ints = tt; differ = tt };

@@ -81,7 +81,7 @@ meta_table = (Int (pos 1) ∷ Text (codes "depth") ∷ Int (pos 12) ∷ [])
 abbrev setup_table : List Row
 setup_table =
     (Int (pos 1) ∷ Null ∷ Text (codes "station,PACK") ∷ [])
-        ∷ (Int (pos 2) ∷ Null ∷ Text (codes "place,S1,inside") ∷ [])
+    ∷ (Int (pos 2) ∷ Null ∷ Text (codes "place,S1,inside") ∷ [])
     ∷ (Int (pos 3) ∷ Null ∷ Text (codes "own,2001.4.1,S1") ∷ []) ∷ []
 
 abbrev posting_table : List Row
@@ -210,8 +210,10 @@ setup-unmade = refl
 apart : AreApart 6 tables
 unfolding IsDistinct value_cmp is_nan lt
 apart = record {
-  setup = record { ints = (refl, (refl, (refl, tt)));
-      differ = ((refl, (refl, tt)), ((refl, tt), (tt, tt))) };
+  setup = record {
+    ints = (refl, (refl, (refl, tt)));
+    differ = ((refl, (refl, tt)), ((refl, tt), (tt, tt)));
+  };
   postings = record { ints = (refl, tt); differ = (tt, tt) };
   lines = record { ints = (refl, (refl, tt)); differ = ((refl, tt), (tt, tt)) };
   terms = record { ints = (refl, tt); differ = (tt, tt) };
@@ -221,7 +223,7 @@ apart = record {
 says_something : IsSound hub_schema tables → IsUnfitNew at_rest.now → ⊥
 says_something sound h =
     absurd (let e : false ≡ true = h.new worked
-        (record { made = 6; few = omega arith; sound = sound; rows = held }) in cc)
+    (record { made = 6; few = omega arith; sound = sound; rows = held }) in cc)
 
 fit : (S : Museum) → IsSound hub_schema tables → IsUnfitFor S at_rest.now → ⊥
 fit S sound (inl h) = h 6 refl
@@ -260,8 +262,14 @@ abbrev made_tables : Trees
 made_tables t = slice_index_or (meta_table ∷ [] ∷ setup_table ∷ []) t []
 
 made_whole : MakesWhole 0 setup (rows_of_meta 12) tables made_tables
-made_whole = record { meta = held.meta; setup_is = held.setup; postings = refl; spots = refl;
-    lines = refl; terms = refl }
+made_whole = record {
+  meta = held.meta;
+  setup_is = held.setup;
+  postings = refl;
+  spots = refl;
+  lines = refl;
+  terms = refl;
+}
 
 -- ---- posted
 
@@ -291,8 +299,13 @@ no_later = refl
 -- ---- what can be a spot
 
 fits : FitsSpot spot
-fits = record { thing = lit< tt; k = lit< tt; entry = lit< tt; place = lit< tt;
-    day = record { from = record { le = tt }; to = record { le = tt } } }
+fits = record {
+  thing = lit< tt;
+  k = lit< tt;
+  entry = lit< tt;
+  place = lit< tt;
+  day = record { from = record { le = tt }; to = record { le = tt } };
+}
 
 -- a text in place of a number, a row of four cells, and a number that is none
 no_spot-text : IsNoSpot (Text loan ∷ Int (pos 1) ∷ Int (pos 1) ∷ Int (pos 0) ∷ Int (pos 19844) ∷ [])

@@ -45,7 +45,7 @@ pub record IsLeft {D : Type 0} (g : Ghosts D) (store : Holding) (files : Files D
   pub was_quiet : store.is_quiet
   pub left : (image : Image) → outcomes g files.log files.db image
       → ∥ ((db : Trees) × HoldsDatabase image db
-          × ((c : Content) → IsStored db c → store.holds c)) ∥₁
+      × ((c : Content) → IsStored db c → store.holds c)) ∥₁
 
 -- Whatever the new store may hold, the old one may have held.
 abbrev pub Lasts : Holding → Holding → Type 0

@@ -99,7 +99,7 @@ mutual
       IsUtf8-append (comma_if later) (quoted key ++ 58 ∷ rest) (comma later)
       (IsUtf8-append (quoted key) (58 ∷ rest) (IsUtf8-quoted key (IsUtf8-are_ascii key h.0))
       (then 58 rest refl (IsUtf8-append (compact_text d) (members_text true ms) (utf8 d h.1)
-          (members_utf8 true ms h.2))))
+      (members_utf8 true ms h.2))))
 
 -- what is spelled is UTF-8
 
@@ -129,30 +129,76 @@ of_things (o ∷ os) h = let both = and_parts (is_thing o) (list_all is_thing os
     (of_thing o (no_fault (thing_fault o) both.0), of_things os both.1)
 
 texts : (m : message.Message) → IsSpelled m → HasTexts (json m)
-texts (Move day x p) h =
-    (refl, of_day day, (refl, of_word (codes "move") refl,
-    (refl, of_place p h.1, (refl, of_thing x h.0, tt))))
-texts (Pack day x c) h =
-    (refl, of_thing c h.1, (refl, of_day day,
-    (refl, of_word (codes "pack") refl, (refl, of_thing x h.0, tt))))
-texts (Agree first last loan partner objects) h =
-    (refl, of_day first, (refl, of_word (codes "agree") refl,
-        (refl, of_day last, (refl, of_loan loan h.0,
-        (refl, of_things objects h.2.things, (refl, of_place partner h.1, tt))))))
+texts (Move day x p) h = (
+  refl,
+  of_day day,
+  (
+    refl,
+    of_word (codes "move") refl,
+    (refl, of_place p h.1, (refl, of_thing x h.0, tt)),
+  ),
+)
+texts (Pack day x c) h = (
+  refl,
+  of_thing c h.1,
+  (
+    refl,
+    of_day day,
+    (refl, of_word (codes "pack") refl, (refl, of_thing x h.0, tt)),
+  ),
+)
+texts (Agree first last loan partner objects) h = (
+  refl,
+  of_day first,
+  (
+    refl,
+    of_word (codes "agree") refl,
+    (
+      refl,
+      of_day last,
+      (
+        refl,
+        of_loan loan h.0,
+        (refl, of_things objects h.2.things, (refl, of_place partner h.1, tt)),
+      ),
+    ),
+  ),
+)
 texts (Authorise name loan) h =
     (refl, h.1.utf8, (refl, of_word (codes "authorise") refl, (refl, of_loan loan h.0, tt)))
-texts (Exit day x loan) h =
-    (refl, of_day day, (refl, of_word (codes "exit") refl,
-    (refl, of_loan loan h.1, (refl, of_thing x h.0, tt))))
-texts (Return day x loan p) h =
-    (refl, of_day day, (refl, of_word (codes "return") refl,
-    (refl, of_loan loan h.1, (refl, of_place p h.2, (refl, of_thing x h.0, tt)))))
-texts (Receive day x loan p) h =
-    (refl, of_day day, (refl, of_word (codes "receive") refl,
-    (refl, of_loan loan h.1, (refl, of_place p h.2, (refl, of_thing x h.0, tt)))))
+texts (Exit day x loan) h = (
+  refl,
+  of_day day,
+  (
+    refl,
+    of_word (codes "exit") refl,
+    (refl, of_loan loan h.1, (refl, of_thing x h.0, tt)),
+  ),
+)
+texts (Return day x loan p) h = (
+  refl,
+  of_day day,
+  (
+    refl,
+    of_word (codes "return") refl,
+    (refl, of_loan loan h.1, (refl, of_place p h.2, (refl, of_thing x h.0, tt))),
+  ),
+)
+texts (Receive day x loan p) h = (
+  refl,
+  of_day day,
+  (
+    refl,
+    of_word (codes "receive") refl,
+    (refl, of_loan loan h.1, (refl, of_place p h.2, (refl, of_thing x h.0, tt))),
+  ),
+)
 texts (SignOff name) h = (refl, h.utf8, (refl, of_word (codes "signoff") refl, tt))
-texts (Extend last loan) h = (refl, of_word (codes "extend") refl,
-    (refl, of_day last, (refl, of_loan loan h.0, tt)))
+texts (Extend last loan) h = (
+  refl,
+  of_word (codes "extend") refl,
+  (refl, of_day last, (refl, of_loan loan h.0, tt)),
+)
 
 -- the value that is read of the text
 
@@ -197,11 +243,11 @@ read_text m has =
     let d = json m in
     let ts = json_tokens (outline d) in
     let told : tokens (body_of m) ≡ ts =
-        ap tokens (sym (print-outline d)) ∙ tokens-print ts
-        (ArePrintable-json_tokens (outline d) (numbers d has)) in
+    ap tokens (sym (print-outline d)) ∙ tokens-print ts
+    (ArePrintable-json_tokens (outline d) (numbers d has)) in
     ap (λ r. option_and_then serde.of_json (option_and_then (λ p. if_last p.0 p.1) r))
-        (ap (value max_depth) (told ∙ sym (append-nil ts)) ∙ value-json_tokens (outline d) max_depth
-        [] (shallow m))
+    (ap (value max_depth) (told ∙ sym (append-nil ts)) ∙ value-json_tokens (outline d) max_depth
+    [] (shallow m))
     ∙ outline_back m
 
 -- the message of that value
@@ -211,8 +257,16 @@ json_back (Move day x p) h = rw (h.0, h.1, h.2.spells.0, h.2.spells.1) refl
 json_back (Pack day x c) h = rw (h.0, h.1, h.2.spells.0, h.2.spells.1) refl
 json_back (Agree first last loan partner objects) h =
     let fits = strings_fit is_thing objects h.2.few h.2.things in
-    rw (h.0, h.1, fits, h.3.spells.0, h.3.spells.1, h.4.spells.0, h.4.spells.1,
-        texts_back objects) refl
+    rw (
+      h.0,
+      h.1,
+      fits,
+      h.3.spells.0,
+      h.3.spells.1,
+      h.4.spells.0,
+      h.4.spells.1,
+      texts_back objects,
+    ) refl
 json_back (Authorise name loan) h = rw (h.0, name_passes name h.1) refl
 json_back (Exit day x loan) h = rw (h.0, h.1, h.2.spells.0, h.2.spells.1) refl
 json_back (Return day x loan p) h = rw (h.0, h.1, h.2, h.3.spells.0, h.3.spells.1) refl
@@ -224,4 +278,4 @@ pub reads_back : (m : message.Message) → IsSpelled m → of_bytes (body_of m) 
 reads_back m h =
     let has = texts m h in
     of_value (body_of m) (json m) (is_utf8-from_IsUtf8 (body_of m) (utf8 (json m) has))
-        (read_text m has) ∙ json_back m h
+    (read_text m has) ∙ json_back m h

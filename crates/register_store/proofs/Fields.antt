@@ -31,7 +31,7 @@ day_there o text e = ap (λ (found : Option (List ℕ)). day_number (unwrap_or f
 pub name_passes : (text : List ℕ) → IsName text → is_name text ≡ true
 name_passes text h =
     and_from _ _ (and_from _ _ (and_from _ _ (is_utf8-from_IsUtf8 text h.utf8) (lt-ltb _ _ h.some))
-        (le-leb _ _ h.few)) h.plain
+    (le-leb _ _ h.few)) h.plain
 
 -- what was read of the text at a key, by a reader that tells by a test whether it gives a value
 pub read_there : {T : Type 0} (key : Key) (fault_of : List ℕ → Option CodeFault) (Is : T → Type 0)
@@ -39,8 +39,8 @@ pub read_there : {T : Type 0} (key : Key) (fault_of : List ℕ → Option CodeFa
     → option_and_then as_str o ≡ Some text
     → MatchResult read (λ x. Is x × (fault_of text ≡ None)) (λ fault. fault_of text ≡ Some fault)
     → MatchResult (ok_or (result_ok read) (BadField key))
-        (λ x. (value_fault (key spells (λ t. is_none (fault_of t))) o ≡ None) × Is x)
-        (λ fault. value_fault (key spells (λ t. is_none (fault_of t))) o ≡ Some fault)
+    (λ x. (value_fault (key spells (λ t. is_none (fault_of t))) o ≡ None) × Is x)
+    (λ fault. value_fault (key spells (λ t. is_none (fault_of t))) o ≡ Some fault)
 read_there key fault_of Is (Ok x) o text e h =
     (text_fault key (λ t. is_none (fault_of t)) o text e ∙ rw h.1, h.0)
 read_there key fault_of Is (Err fault) o text e h =
@@ -51,13 +51,14 @@ pub read_text_there : (key : Key) (fault_of : List ℕ → Option CodeFault)
     (read : Result (List ℕ) CodeFault) (o : Option Data) (text : List ℕ)
     → option_and_then as_str o ≡ Some text
     → MatchResult read (λ x. (x ≡ text) × (fault_of text ≡ None))
-        (λ fault. fault_of text ≡ Some fault)
+    (λ fault. fault_of text ≡ Some fault)
     → MatchResult (ok_or (result_ok read) (BadField key))
-        (λ x. (value_fault (key spells (λ t. is_none (fault_of t))) o ≡ None) × (x ≡ text_of o))
-        (λ fault. value_fault (key spells (λ t. is_none (fault_of t))) o ≡ Some fault)
-read_text_there key fault_of (Ok x) o text e h =
-    (text_fault key (λ t. is_none (fault_of t)) o text e ∙ rw h.1,
-        h.0 ∙ sym (ap (λ (found : Option (List ℕ)). unwrap_or found []) e))
+    (λ x. (value_fault (key spells (λ t. is_none (fault_of t))) o ≡ None) × (x ≡ text_of o))
+    (λ fault. value_fault (key spells (λ t. is_none (fault_of t))) o ≡ Some fault)
+read_text_there key fault_of (Ok x) o text e h = (
+  text_fault key (λ t. is_none (fault_of t)) o text e ∙ rw h.1,
+  h.0 ∙ sym (ap (λ (found : Option (List ℕ)). unwrap_or found []) e),
+)
 read_text_there key fault_of (Err fault) o text e h =
     text_fault key (λ t. is_none (fault_of t)) o text e ∙ rw h
 

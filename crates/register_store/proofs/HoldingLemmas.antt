@@ -45,12 +45,18 @@ has_more store P Q more has =
 
 module _ (c d : Content) (same : AreSame c d) where
   pub same_bound : (S : Museum) (depth : ℕ) → IsBoundTo S depth c → IsBoundTo S depth d
-  same_bound S depth h = record { setup = IsPermutation-trans _ _ _ h.setup same.setup;
-      meta = IsPermutation-trans _ _ _ h.meta same.meta; limit = h.limit }
+  same_bound S depth h = record {
+    setup = IsPermutation-trans _ _ _ h.setup same.setup;
+    meta = IsPermutation-trans _ _ _ h.meta same.meta;
+    limit = h.limit;
+  }
 
   pub same_list : (P : List Entry) → HasList P c → HasList P d
-  same_list P h = record { rows = h.rows; each = h.each;
-      all = IsPermutation-trans _ _ _ h.all same.postings }
+  same_list P h = record {
+    rows = h.rows;
+    each = h.each;
+    all = IsPermutation-trans _ _ _ h.all same.postings;
+  }
 
   pub same_rows_held : (S : Museum) (P : List Entry) → HasRows S P c → HasRows S P d
   same_rows_held S P h = record {
@@ -61,10 +67,17 @@ module _ (c d : Content) (same : AreSame c d) where
 
   pub same_store : (S : Museum) (depth : ℕ) (P : List Entry) → IsStoreOf S depth P c
       → IsStoreOf S depth P d
-  same_store S depth P h = record { bound = same_bound S depth h.bound; list = same_list P h.list;
-      rows = same_rows_held S P h.rows }
+  same_store S depth P h = record {
+    bound = same_bound S depth h.bound;
+    list = same_list P h.list;
+    rows = same_rows_held S P h.rows;
+  }
 
   pub same_wrong : (stations at : ℕ) → IsFirstWrong stations at c → IsFirstWrong stations at d
   same_wrong stations at h =
-      record { rows = h.rows; all = IsPermutation-trans _ _ _ h.all same.postings; order = h.order;
-      first = h.first }
+      record {
+        rows = h.rows;
+        all = IsPermutation-trans _ _ _ h.all same.postings;
+        order = h.order;
+        first = h.first;
+      }

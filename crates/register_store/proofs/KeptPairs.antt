@@ -29,14 +29,14 @@ module _ {K V : Type 0} (same : K → K → Bool) (alike : V → V → Bool) (ke
       elim (same p.0 e.0) as (λ t. same p.0 e.0 ≡ t
       → option_map_or (λ value. alike value p.1) (cond t (Some e.1) (lookup (same p.0) kept)) false
       ≡ true → Contains (e ∷ kept) p) [
-    | true ↦ λ h value.
-        let key : p.0 ≡ e.0 = (keys p.0 e.0).0 h in
-        let is : e ≡ p = ap (λ k. (k, e.1)) (sym key) ∙ ap (λ v. (p.0, v))
+        | true ↦ λ h value.
+            let key : p.0 ≡ e.0 = (keys p.0 e.0).0 h in
+            let is : e ≡ p = ap (λ k. (k, e.1)) (sym key) ∙ ap (λ v. (p.0, v))
             ((values e.1 p.1).0 value) in
-        (0, omega arith, is)
-    | false ↦ λ h rest. let more = from_lookup kept p rest in
-        (suc more.0, omega (arith, more.1), more.2)
-  ] refl there
+            (0, omega arith, is)
+        | false ↦ λ h rest. let more = from_lookup kept p rest in
+            (suc more.0, omega (arith, more.1), more.2)
+      ] refl there
 
   -- each that a map keeps is kept
   all_kept : (kept : List (K × V)) → IsDistinct same (keys_of kept)
@@ -82,20 +82,21 @@ module _ {K V : Type 0} (same : K → K → Bool) (alike : V → V → Bool) (ke
   are_all [] (e ∷ kept) many distinct there = absurd (omega arith)
   are_all (p ∷ wanted) kept many distinct (here, there) =
       let split : IsPermutation kept (p ∷ remove kept here.0) =
-          IsPermutation-remove kept here.0 p here.1 (sym here.2) in
+      IsPermutation-remove kept here.0 p here.1 (sym here.2) in
       let count = length_permutation _ _ split in
       let rest = are_all wanted (remove kept here.0) (omega arith) distinct.1
-          (left wanted distinct.0 there split) in
+      (left wanted distinct.0 there split) in
       IsPermutation-trans _ _ _ (IsPermutation-cons p _ _ rest) (IsPermutation-sym _ _ split)
     where
       left : (ps : List (K × V)) → AllByRecursion (λ l. same p.0 l ≡ false) (keys_of ps)
           → AllByRecursion (λ q. Contains kept q) ps → IsPermutation kept (p ∷ remove kept here.0)
           → AllByRecursion (λ q. Contains (remove kept here.0) q) ps
       left [] apart there split = tt
-      left (q ∷ ps) (other, apart) (one, more) split =
-          (after_first p (remove kept here.0) q other
-          (Contains-permutation kept (p ∷ remove kept here.0) q split one),
-          left ps apart more split)
+      left (q ∷ ps) (other, apart) (one, more) split = (
+        after_first p (remove kept here.0) q other
+            (Contains-permutation kept (p ∷ remove kept here.0) q split one),
+        left ps apart more split,
+      )
 
   weaker : (kept ps : List (K × V)) → AllByRecursion (λ p. is_kept same alike kept p ≡ true) ps
       → AllByRecursion (λ p. Contains kept p) ps
@@ -113,5 +114,5 @@ module _ {K V : Type 0} (same : K → K → Bool) (alike : V → V → Bool) (ke
       → IsPermutation wanted kept → list_all (is_kept same alike kept) wanted ≡ true
   kept_wanted wanted kept distinct perm =
       all_true (is_kept same alike kept) wanted
-          (all-permutation (λ p. is_kept same alike kept p ≡ true) kept wanted
-          (IsPermutation-sym _ _ perm) (all_kept kept distinct))
+      (all-permutation (λ p. is_kept same alike kept p ≡ true) kept wanted
+      (IsPermutation-sym _ _ perm) (all_kept kept distinct))

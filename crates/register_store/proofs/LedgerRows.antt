@@ -41,8 +41,8 @@ module _ {X : Type 0} where
   next_loan F ls i loan old new added all there is pushed before =
       let rest : drop i ls ≡ loan ∷ drop (i + 1) ls = rw add-one (at ls i loan there) in
       ap (λ l. l ++ flat_map F (drop (i + 1) ls)) (pushed ∙ ap (λ l. old ++ l) is) ∙ append_assoc
-          old (F loan) (flat_map F (drop (i + 1) ls)) ∙ ap (λ l. old ++ flat_map F l)
-          (sym rest) ∙ before
+      old (F loan) (flat_map F (drop (i + 1) ls)) ∙ ap (λ l. old ++ flat_map F l)
+      (sym rest) ∙ before
 
 -- the objects that a ledger tells of its loan
 pub told_objects : (B : Book) (ls : List (List ℕ)) (i : ℕ) (loan os : List ℕ)
@@ -50,7 +50,7 @@ pub told_objects : (B : Book) (ls : List (List ℕ)) (i : ℕ) (loan os : List �
     → lines_of_loan B loan os ≡ lines_of_loan B loan (objects_of_loan B loan)
 told_objects B ls i loan os there told =
     let same : Some (objects_of_loan B loan) ≡ Some os =
-        ap (option_map (objects_of_loan B)) (sym there) ∙ told in
+    ap (option_map (objects_of_loan B)) (sym there) ∙ told in
     let is : os ≡ objects_of_loan B loan = cc in
     ap (lines_of_loan B loan) is
 
@@ -72,9 +72,9 @@ own_agreement (t ∷ ts) (new, apart) = (
         elim (bytes_eq t.loan u.loan) as (λ b. bytes_eq t.loan u.loan ≡ b
         → cond b (Some u) (find (λ v. bytes_eq t.loan v.loan) us) ≡ None
         → AllByRecursion (λ w. find (λ v. bytes_eq w.loan v.loan) (t ∷ ts) ≡ Some w) (u ∷ us)) [
-      | true ↦ λ e h. absurd (none-some _ (sym h))
-      | false ↦ λ e h. ((rw (apart_sym t.loan u.loan e) one), later us h more)
-    ] refl none
+          | true ↦ λ e h. absurd (none-some _ (sym h))
+          | false ↦ λ e h. ((rw (apart_sym t.loan u.loan e) one), later us h more)
+        ] refl none
 
 -- each number is among its list's
 among_own : (os : List ℕ) → AllByRecursion (λ o. is_among o os ≡ true) os
@@ -103,17 +103,17 @@ module _ (B : Book) where
   told_lines : (t : Agreement) → agreement P t.loan ≡ Some t → (os : List ℕ)
       → AllByRecursion (λ o. is_among o (objects_of S t) ≡ true) os
       → lines_of_loan B t.loan os ≡ map
-          (λ o. record { loan = t.loan; object = o; stage = stage S P t.loan o }) os
+      (λ o. record { loan = t.loan; object = o; stage = stage S P t.loan o }) os
   told_lines t own [] there = refl
   told_lines t own (o ∷ os) (one, there) =
       let has : line S P t.loan o ≡ Some (stage S P t.loan o) =
       ap (λ a. if is_among o (option_map_or (objects_of S) a []) then Some (stage S P t.loan o) else
-          None) own ∙ ap (λ b. if b then Some (stage S P t.loan o) else None) one in
+      None) own ∙ ap (λ b. if b then Some (stage S P t.loan o) else None) one in
       ap (λ (a : Option LineStage). option_to_list
-          (option_map (λ s. record { loan = t.loan; object = o; stage = s }) a) ++ lines_of_loan B
-          t.loan os) has
+      (option_map (λ s. record { loan = t.loan; object = o; stage = s }) a) ++ lines_of_loan B
+      t.loan os) has
       ∙ ap (λ l. record { loan = t.loan; object = o; stage = stage S P t.loan o } ∷ l)
-          (told_lines t own os there)
+      (told_lines t own os there)
 
   all_lines : (ts : List Agreement) → AllByRecursion (λ t. agreement P t.loan ≡ Some t) ts
       → flat_map (λ loan. lines_of_loan B loan (objects_of_loan B loan)) (map (λ t. t.loan) ts)
@@ -121,10 +121,10 @@ module _ (B : Book) where
   all_lines [] own = refl
   all_lines (t ∷ ts) (one, own) =
       ap (λ a. lines_of_loan B t.loan (option_map_or (objects_of S) a [])
-          ++ flat_map (λ loan. lines_of_loan B loan (objects_of_loan B loan))
-          (map (λ t. t.loan) ts)) one
+      ++ flat_map (λ loan. lines_of_loan B loan (objects_of_loan B loan))
+      (map (λ t. t.loan) ts)) one
       ∙ ap (λ l. l ++ flat_map (λ loan. lines_of_loan B loan (objects_of_loan B loan))
-          (map (λ t. t.loan) ts)) (told_lines t one (objects_of S t) (among_own (objects_of S t)))
+      (map (λ t. t.loan) ts)) (told_lines t one (objects_of S t) (among_own (objects_of S t)))
       ∙ ap (λ l. lines_under S P t ++ l) (all_lines ts own)
 
   all_days : (ts : List Agreement) → AllByRecursion (λ t. agreement P t.loan ≡ Some t) ts
@@ -133,9 +133,9 @@ module _ (B : Book) where
   all_days [] own = refl
   all_days (t ∷ ts) (one, own) =
       ap (λ (a : Option Agreement). option_to_list
-          (option_map (λ day. record { loan = t.loan; day = day })
-          (option_map (λ u. last_from P t.loan u.last) a)) ++ flat_map (day_of_loan B)
-          (map (λ t. t.loan) ts)) one
+      (option_map (λ day. record { loan = t.loan; day = day })
+      (option_map (λ u. last_from P t.loan u.last) a)) ++ flat_map (day_of_loan B)
+      (map (λ t. t.loan) ts)) one
       ∙ ap (λ l. record { loan = t.loan; day = last_from P t.loan t.last } ∷ l) (all_days ts own)
 
   pub lines_told : IsLawful S B.depth P

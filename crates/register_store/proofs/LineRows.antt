@@ -66,9 +66,9 @@ same_apart r q s = λ same. by (bytes_eq r.loan q.loan) (r.object == q.object) r
         → has_same_key q s ≡ false → has_same_key r s ≡ false
     by true true h k both apart =
         subst (λ o. (bytes_eq r.loan s.loan && (o == s.object)) ≡ false)
-            (sym (number_is r.object q.object k))
-            (subst (λ l. (bytes_eq l s.loan && (q.object == s.object)) ≡ false)
-            (sym (equal_is r.loan q.loan h)) apart)
+        (sym (number_is r.object q.object k))
+        (subst (λ l. (bytes_eq l s.loan && (q.object == s.object)) ≡ false)
+        (sym (equal_is r.loan q.loan h)) apart)
     by true false h k both apart = absurd (false≢true both)
     by false b h k both apart = absurd (false≢true both)
 
@@ -79,7 +79,7 @@ same_turned r q = by (bytes_eq r.loan q.loan) refl
         → has_same_key q r ≡ false
     by true h apart =
         let loans : bytes_eq q.loan r.loan ≡ true =
-            (bytes_eq-Decides q.loan r.loan).1 (sym (equal_is r.loan q.loan h)) in
+        (bytes_eq-Decides q.loan r.loan).1 (sym (equal_is r.loan q.loan h)) in
         let numbers : (q.object == r.object) ≡ false = grind (arith, nat_tests) in
         rw (loans, numbers) refl
     by false h apart = rw (apart_sym r.loan q.loan h) refl
@@ -105,8 +105,8 @@ module _ (S : Museum) where
   all_set f loan o s ts =
       map-flat_map (replaced has_same_key (row loan o s)) (lines_at S f) ts
       ∙ flat_map_same_on _ _ (λ t. map-map (replaced has_same_key (row loan o s))
-          (λ y. row t.loan y (f t.loan y)) (objects_of S t) ∙ map_same _ _
-          (one_set f loan o s t.loan) (objects_of S t)) ts
+      (λ y. row t.loan y (f t.loan y)) (objects_of S t) ∙ map_same _ _
+      (one_set f loan o s t.loan) (objects_of S t)) ts
 
   -- no line of other loans is of this one
   other_loans : (loan : List ℕ) (ts : List Agreement) → find (λ u. bytes_eq loan u.loan) ts ≡ None
@@ -115,9 +115,9 @@ module _ (S : Museum) where
   other_loans loan (t ∷ ts) none =
       elim (bytes_eq loan t.loan) as (λ b. cond b (Some t) (find (λ u. bytes_eq loan u.loan) ts)
       ≡ None → (b ≡ false) × AllByRecursion (λ u. bytes_eq loan u.loan ≡ false) ts) [
-    | true ↦ λ h. absurd (none-some _ (sym h))
-    | false ↦ λ h. (refl, other_loans loan ts h)
-  ] none
+        | true ↦ λ h. absurd (none-some _ (sym h))
+        | false ↦ λ h. (refl, other_loans loan ts h)
+      ] none
 
   free_of : (f : List ℕ → ℕ → LineStage) (loan : List ℕ) (o : ℕ) (s : LineStage)
       (ts : List Agreement) → find (λ u. bytes_eq loan u.loan) ts ≡ None
@@ -125,10 +125,10 @@ module _ (S : Museum) where
   free_of f loan o s ts none =
       let Free : NewLine → Type 0 = λ q. has_same_key (row loan o s) q ≡ false in
       all-flat_map Free (lines_at S f) ts
-          (all_weaker (λ u. bytes_eq loan u.loan ≡ false)
-          (λ u. AllByRecursion Free (lines_at S f u))
+      (all_weaker (λ u. bytes_eq loan u.loan ≡ false)
+      (λ u. AllByRecursion Free (lines_at S f u))
       (λ u apart. all-map Free (λ y. row u.loan y (f u.loan y)) (λ y. rw apart refl)
-          (objects_of S u)) ts (other_loans loan ts none))
+      (objects_of S u)) ts (other_loans loan ts none))
 
   -- the lines of an agreement are apart
   free_in : (f : List ℕ → ℕ → LineStage) (loan : List ℕ) (o : ℕ) (s : LineStage) (os : List ℕ)
@@ -153,9 +153,9 @@ module _ (S : Museum) where
   once_at f [] apart once = tt
   once_at f (t ∷ ts) (other, apart) (one, once) =
       ascending-append (λ r q. has_same_key r q ≡ false) (lines_at S f t) (all_at S f ts)
-          (once_in f t.loan (objects_of S t) one) (once_at f ts apart once)
+      (once_in f t.loan (objects_of S t) one) (once_at f ts apart once)
       (all-map (λ r. IsFree has_same_key r (all_at S f ts)) (λ o. row t.loan o (f t.loan o))
-          (λ o. free_of f t.loan o (f t.loan o) ts other) (objects_of S t))
+      (λ o. free_of f t.loan o (f t.loan o) ts other) (objects_of S t))
 
   -- a listed object has a line
   has_in : (f : List ℕ → ℕ → LineStage) (loan : List ℕ) (o : ℕ) (s : LineStage) (os : List ℕ)
@@ -165,8 +165,8 @@ module _ (S : Museum) where
   has_in f loan o s (y ∷ os) there =
       let loans : bytes_eq loan loan ≡ true = (bytes_eq-Decides loan loan).1 refl in
       rw loans (elim (y == o) as (λ b. (y == o) ≡ b → (b || is_among o os) ≡ true
-          → ((o == y) || list_any (has_same_key (row loan o s))
-          (map (λ z. row loan z (f loan z)) os)) ≡ true) [
+      → ((o == y) || list_any (has_same_key (row loan o s))
+      (map (λ z. row loan z (f loan z)) os)) ≡ true) [
         | true ↦ λ e h. let same : (o == y) ≡ true = grind (arith, nat_tests) in rw same refl
         | false ↦ λ e h. let other : (o == y) ≡ false = grind (arith, nat_tests) in
             rw other (has_in f loan o s os h)
@@ -183,7 +183,7 @@ module _ (S : Museum) where
       → is_among o (option_map_or (objects_of S)
       (cond b (Some t) (find (λ u. bytes_eq loan u.loan) ts)) []) ≡ true
       → (list_any (has_same_key (row loan o s)) (lines_at S f t) || list_any
-          (has_same_key (row loan o s)) (all_at S f ts)) ≡ true) [
+      (has_same_key (row loan o s)) (all_at S f ts)) ≡ true) [
         | true ↦ λ e h. let here : list_any (has_same_key (row loan o s)) (lines_at S f t) ≡ true =
             subst (λ l. list_any (has_same_key (row l o s)) (lines_at S f t) ≡ true)
             (sym (equal_is loan t.loan e)) (has_in f t.loan o s (objects_of S t) h) in rw here refl
@@ -200,10 +200,10 @@ pub put_crossed : (S : Museum) (ts : List Agreement) (loan : List ℕ) (s : Line
     → ℕ → LineStage) (os : List ℕ) → AreApart ts
     → AllByRecursion (λ t. numbers.AreOnce (objects_of S t)) ts
     → AllByRecursion (λ o. is_among o
-        (option_map_or (objects_of S) (find (λ u. bytes_eq loan u.loan) ts) []) ≡ true) os
+    (option_map_or (objects_of S) (find (λ u. bytes_eq loan u.loan) ts) []) ≡ true) os
     → ((l : List ℕ) (y : ℕ) → g l y ≡ (if bytes_eq loan l && is_among y os then s else f l y))
     → IsPermutation (all_at S g ts)
-        (put_each has_same_key (map (λ o. row loan o s) os) (all_at S f ts))
+    (put_each has_same_key (map (λ o. row loan o s) os) (all_at S f ts))
 put_crossed S ts loan s f g [] apart once listed is =
     IsPermutation-same _ _ (flat_map_same_on _ _
     (λ t. map_same _ _ (λ o. ap (row t.loan o)
@@ -215,12 +215,12 @@ put_crossed S ts loan s f g [] apart once listed is =
 put_crossed S ts loan s f g (o ∷ os) apart once (here, listed) is =
     IsPermutation-trans _ _ _
     (put_crossed S ts loan s (set f loan o s) g os apart once listed
-        (λ l y. is l y ∙ later (bytes_eq loan l) (o == y) (is_among y os) s (f l y)))
+    (λ l y. is l y ∙ later (bytes_eq loan l) (o == y) (is_among y os) s (f l y)))
     (put_each_same has_same_key (map (λ o. row loan o s) os) _ _
     (subst (λ rows. IsPermutation rows (put has_same_key (row loan o s) (all_at S f ts)))
-        (all_set S f loan o s ts)
+    (all_set S f loan o s ts)
     (put_replaces has_same_key same_apart (row loan o s) (all_at S f ts) (once_at S f ts apart once)
-        (has_at S f loan o s ts here))))
+    (has_at S f loan o s ts here))))
   where
     later : (a b c : Bool) (x y : LineStage)
         → (if a && (b || c) then x else y) ≡ (if a && c then x else (if a && b then x else y))
@@ -239,8 +239,8 @@ put_agreed (l ∷ ls) rows once (first, free) =
     let new = put_new has_same_key l rows first in
     let more : AllByRecursion (λ k. IsFree has_same_key k (l ∷ rows)) ls = both ls once.0 free in
     IsPermutation-trans _ _ _ (IsPermutation-middle rows l ls)
-        (subst (λ k. IsPermutation (l ∷ (rows ++ ls)) (put_each has_same_key ls k)) (sym new)
-        (put_agreed ls (l ∷ rows) once.1 more))
+    (subst (λ k. IsPermutation (l ∷ (rows ++ ls)) (put_each has_same_key ls k)) (sym new)
+    (put_agreed ls (l ∷ rows) once.1 more))
   where
     both : (ks : List NewLine) → AllByRecursion (λ k. has_same_key l k ≡ false) ks
         → AllByRecursion (λ k. IsFree has_same_key k rows) ks
@@ -277,9 +277,11 @@ all_listed : (S : Museum) (P : List Entry) (loan : List ℕ) (os : List ℕ)
 all_listed S P loan [] none = tt
 all_listed S P loan (o ∷ os) none =
     let both = or_parts (not (is_listed S P loan o))
-        (list_any (λ y. not (is_listed S P loan y)) os) none in
-    (there (is_among o (objects S P loan)) (stage S P loan o)
-        (not-false (is_listed S P loan o) both.0), all_listed S P loan os both.1)
+    (list_any (λ y. not (is_listed S P loan y)) os) none in (
+      there (is_among o (objects S P loan)) (stage S P loan o)
+          (not-false (is_listed S P loan o) both.0),
+      all_listed S P loan os both.1,
+    )
   where
     there : (b : Bool) (s : LineStage) → is_some (if b then Some s else None) ≡ true → b ≡ true
     there true s h = refl
@@ -289,16 +291,16 @@ crossed : (S : Museum) (depth : ℕ) (P : List Entry) (m : Message) (c : Crossin
     → IsLawful S depth P → crossing_in m ≡ Some c → agreement_in m ≡ None
     → carries_unlisted S P c ≡ false
     → IsPermutation (lines_after S P true m)
-        (put_each has_same_key (lines_of_crossing S P c) (lines_by_loan S P))
+    (put_each has_same_key (lines_of_crossing S P c) (lines_by_loan S P))
 crossed S depth P m c lawful is none listed =
     let os = objects_in S P c.thing in
     let same : agreements P ++ option_to_list (agreement_in m) ≡ agreements P =
-        ap (λ o. agreements P ++ option_to_list o) none ∙ append-nil (agreements P) in
+    ap (λ o. agreements P ++ option_to_list o) none ∙ append-nil (agreements P) in
     subst (λ ts. IsPermutation (all_at S (stage_after S P true m) ts)
-        (put_each has_same_key (lines_of_crossing S P c) (lines_by_loan S P))) (sym same)
+    (put_each has_same_key (lines_of_crossing S P c) (lines_by_loan S P))) (sym same)
     (put_crossed S (agreements P) c.loan c.stage (stage S P) (stage_after S P true m) os
-        (agreements_apart S depth P lawful) (objects_once S depth P lawful)
-        (all_listed S P c.loan os listed)
+    (agreements_apart S depth P lawful) (objects_once S depth P lawful)
+    (all_listed S P c.loan os listed)
     (λ l y. rw is (each (bytes_eq c.loan l && is_among y os) c.stage (stage S P l y))))
   where
     each : (b : Bool) (x y : LineStage)
@@ -310,28 +312,28 @@ agreed : (S : Museum) (depth : ℕ) (P : List Entry) (m : Message) (t : Agreemen
     → IsLawful S depth P → verdict S depth P m ≡ Applied → agreement_in m ≡ Some t
     → crossing_in m ≡ None
     → IsPermutation (lines_after S P true m)
-        (put_each has_same_key (lines_of_agreement S t) (lines_by_loan S P))
+    (put_each has_same_key (lines_of_agreement S t) (lines_by_loan S P))
 agreed S depth P m t lawful applied is none =
     let new = agree_applied S depth P m t applied is in
     let before = untouched S depth P t.loan lawful new.0 in
     let f : List ℕ → ℕ → LineStage = stage S P in
     let sound : IsSound S t = new.1 in
     let once : AreOnce has_same_key (lines_of_agreement S t) =
-        once_in S (λ l o. Awaiting) t.loan (objects_of S t)
-        (numbers_once S t.objects sound.known sound.once) in
+    once_in S (λ l o. Awaiting) t.loan (objects_of S t)
+    (numbers_once S t.objects sound.known sound.once) in
     let free : AllByRecursion (λ l. IsFree has_same_key l (lines_by_loan S P))
-        (lines_of_agreement S t) =
+    (lines_of_agreement S t) =
     all-map (λ l. IsFree has_same_key l (lines_by_loan S P)) (λ o. row t.loan o Awaiting)
-        (λ o. free_of S f t.loan o Awaiting (agreements P) new.0) (objects_of S t) in
+    (λ o. free_of S f t.loan o Awaiting (agreements P) new.0) (objects_of S t) in
     let old : lines_after S P true m ≡ all_at S f (agreements P ++ t ∷ []) =
     ap (λ o. all_at S (stage_after S P true m) (agreements P ++ option_to_list o)) is
-        ∙ flat_map_same_on _ _ (λ u. map_same _ _ (λ o. ap (row u.loan o) (same_stage u.loan o))
-        (objects_of S u)) (agreements P ++ t ∷ []) in
+    ∙ flat_map_same_on _ _ (λ u. map_same _ _ (λ o. ap (row u.loan o) (same_stage u.loan o))
+    (objects_of S u)) (agreements P ++ t ∷ []) in
     let awaited : lines_at S f t ≡ lines_of_agreement S t =
-        map_same _ _ (λ o. ap (row t.loan o) (before.awaited o)) (objects_of S t) in
+    map_same _ _ (λ o. ap (row t.loan o) (before.awaited o)) (objects_of S t) in
     subst (λ l. IsPermutation l (put_each has_same_key (lines_of_agreement S t)
-        (lines_by_loan S P)))
-        (sym (old ∙ last (agreements P) ∙ ap (λ l. all_at S f (agreements P) ++ l) awaited))
+    (lines_by_loan S P)))
+    (sym (old ∙ last (agreements P) ∙ ap (λ l. all_at S f (agreements P) ++ l) awaited))
     (put_agreed (lines_of_agreement S t) (lines_by_loan S P) once free)
   where
     same_stage : (l : List ℕ) (o : ℕ) → stage_after S P true m l o ≡ stage S P l o
@@ -364,8 +366,8 @@ applied_lines S depth P (Pack day x c) lawful h =
     IsPermutation-same _ _ (other S P true (Pack day x c) refl refl)
 applied_lines S depth P (Agree first final loan partner objects) lawful h =
     agreed S depth P (Agree first final loan partner objects)
-        (record { loan = loan; partner = partner; objects = objects; first = first; last = final })
-        lawful h refl refl
+    (record { loan = loan; partner = partner; objects = objects; first = first; last = final })
+    lawful h refl refl
 applied_lines S depth P (Authorise name loan) lawful h =
     IsPermutation-same _ _ (other S P true (Authorise name loan) refl refl)
 applied_lines S depth P (Exit day x loan) lawful h =
@@ -373,12 +375,12 @@ applied_lines S depth P (Exit day x loan) lawful h =
     (none_holds (exit_rows S P x loan day) refl h).1.1.1.1.1.0
 applied_lines S depth P (Return day x loan p) lawful h =
     crossed S depth P (Return day x loan p)
-        (record { thing = x; loan = loan; wanted = Away; stage = Back }) lawful refl refl
-        (none_holds (return_rows S P x loan p) refl h).1.1.1.1.1.1.1.0
+    (record { thing = x; loan = loan; wanted = Away; stage = Back }) lawful refl refl
+    (none_holds (return_rows S P x loan p) refl h).1.1.1.1.1.1.1.0
 applied_lines S depth P (Receive day x loan p) lawful h =
     crossed S depth P (Receive day x loan p)
-        (record { thing = x; loan = loan; wanted = Awaiting; stage = Here }) lawful refl refl
-        (none_holds (receive_rows S P x loan p day) refl h).1.1.1.1.1.1.1.1.0
+    (record { thing = x; loan = loan; wanted = Awaiting; stage = Here }) lawful refl refl
+    (none_holds (receive_rows S P x loan p day) refl h).1.1.1.1.1.1.1.1.0
 applied_lines S depth P (SignOff name) lawful h =
     IsPermutation-same _ _ (other S P true (SignOff name) refl refl)
 applied_lines S depth P (Extend day loan) lawful h =
@@ -388,12 +390,12 @@ applied_lines S depth P (Extend day loan) lawful h =
 next_lines : (S : Museum) (depth : ℕ) (P : List Entry) (e : Entry) → Follows S depth P e
     → IsLawful S depth P
     → IsPermutation (lines_by_loan S (e ∷ P))
-        (put_each has_same_key (if is_applied e.verdict then new_lines S P e.message else [])
-        (lines_by_loan S P))
+    (put_each has_same_key (if is_applied e.verdict then new_lines S P e.message else [])
+    (lines_by_loan S P))
 next_lines S depth P e follows lawful =
     elim (is_applied e.verdict) as (λ b. is_applied e.verdict ≡ b
-        → IsPermutation (lines_after S P b e.message)
-        (put_each has_same_key (if b then new_lines S P e.message else []) (lines_by_loan S P))) [
+    → IsPermutation (lines_after S P b e.message)
+    (put_each has_same_key (if b then new_lines S P e.message else []) (lines_by_loan S P))) [
       | true ↦ λ h. applied_lines S depth P e.message lawful
           (sym follows.judged ∙ applied_is e.verdict h)
       | false ↦ λ h. IsPermutation-same _ _ (other S P false e.message refl refl)
@@ -410,12 +412,12 @@ keyed_rows l k = ap (λ b. bytes_eq l.loan k.loan && b) (same_number l.object k.
 pub next_line_rows : (S : Museum) (depth : ℕ) (P : List Entry) (e : Entry) (rows : List LineRow)
     → Follows S depth P e → IsLawful S depth P → IsPermutation (rows_of_lines S P) rows
     → IsPermutation (rows_of_lines S (e ∷ P))
-        (put_each is_same_line
-        (map line_row (if is_applied e.verdict then new_lines S P e.message else [])) rows)
+    (put_each is_same_line
+    (map line_row (if is_applied e.verdict then new_lines S P e.message else [])) rows)
 next_line_rows S depth P e rows follows lawful same =
     let new = if is_applied e.verdict then new_lines S P e.message else [] in
     IsPermutation-trans _ _ _
     (subst (IsPermutation (rows_of_lines S (e ∷ P)))
-        (put_mapped has_same_key is_same_line line_row keyed_rows new (lines_by_loan S P))
-        (IsPermutation-map line_row _ _ (next_lines S depth P e follows lawful)))
+    (put_mapped has_same_key is_same_line line_row keyed_rows new (lines_by_loan S P))
+    (IsPermutation-map line_row _ _ (next_lines S depth P e follows lawful)))
     (put_each_same is_same_line (map line_row new) (rows_of_lines S P) rows same)

@@ -19,20 +19,20 @@ taken_length xs i less = length-take-le i xs (omega arith)
 pub next_row : (entries more : List Entry) (rows : List KeptEntry) (i : ℕ) (e : Entry)
     (row : KeptEntry) → i < length rows → row ≡ get_or rows i row → more ≡ entries ++ e ∷ []
     → IsPostingRow (i + 1) e (kept_row row)
-        → ArePostings (reverse entries) (map kept_row (reverse (take i rows)))
-        → ArePostings (reverse more) (map kept_row (reverse (take (i + 1) rows)))
+    → ArePostings (reverse entries) (map kept_row (reverse (take i rows)))
+    → ArePostings (reverse more) (map kept_row (reverse (take (i + 1) rows)))
 next_row entries more rows i e row less is pushed kept before =
     let count : length (reverse entries) ≡ i =
     as_many (reverse entries) (map kept_row (reverse (take i rows))) before
-        ∙ length-map (reverse (take i rows)) kept_row ∙ length-reverse (take i rows) ∙ taken_length
-        rows i less in
+    ∙ length-map (reverse (take i rows)) kept_row ∙ length-reverse (take i rows) ∙ taken_length
+    rows i less in
     subst (λ l. ArePostings (reverse l) (map kept_row (reverse (take (i + 1) rows)))) (sym pushed)
     (subst (λ l. ArePostings l (map kept_row (reverse (take (i + 1) rows))))
-        (sym (reverse-append entries (e ∷ [])))
+    (sym (reverse-append entries (e ∷ [])))
     (subst (λ l. ArePostings (e ∷ reverse entries) (map kept_row (reverse l)))
-        (sym (taken_next rows i row less is))
+    (sym (taken_next rows i row less is))
     (subst (λ l. ArePostings (e ∷ reverse entries) (map kept_row l))
-        (sym (reverse-append (take i rows) (row ∷ [])))
+    (sym (reverse-append (take i rows) (row ∷ [])))
     (subst (λ n. IsPostingRow (n + 1) e (kept_row row)) (sym count) kept, before))))
 
 not_less : (a b : ℕ) → b ≤ a → is_lt (int_cmp (pos a) (pos b)) ≡ false
@@ -46,11 +46,11 @@ in_order (r ∷ rows) order k d low high =
     let all : List KeptEntry = r ∷ rows in
     let many : length (map kept_row all) ≡ length all = length-map all kept_row in
     let here : get_or (map kept_row all) k d ≡ kept_row (get_or all k r) =
-        get_or-map kept_row all k r d (omega (arith, many, high)) in
+    get_or-map kept_row all k r d (omega (arith, many, high)) in
     let next : get_or (map kept_row all) (k + 1) d ≡ kept_row (get_or all (k + 1) r) =
-        get_or-map kept_row all (k + 1) r d (omega (arith, many, high)) in
+    get_or-map kept_row all (k + 1) r d (omega (arith, many, high)) in
     rw (here, next) (not_less (get_or all (k + 1) r).id (get_or all k r).id
-        (order k (k + 1) r (omega arith) (omega (arith, many, high))))
+    (order k (k + 1) r (omega arith) (omega (arith, many, high))))
 
 pub all_next : {X : Type 0} (P : X → Type 0) (xs more : List X) (x : X) → more ≡ xs ++ x ∷ [] → P x
     → All P xs → All P more

@@ -24,14 +24,14 @@ module _ {X Y : Type 0} (f : X → Y) where
       → take i (map f xs) ≡ take i (map f ys) → take (i + 1) (map f xs) ≡ take (i + 1) (map f ys)
   same_further xs ys i x y lx ly is is' same before =
       rw add-one (taken xs i x lx is ∙ ap (λ l. l ++ f x ∷ []) before
-          ∙ ap (λ z. take i (map f ys) ++ z ∷ []) same ∙ sym (taken ys i y ly is'))
+      ∙ ap (λ z. take i (map f ys) ++ z ∷ []) same ∙ sym (taken ys i y ly is'))
 
   -- and where they are the same, each element is
   pub same_there : (xs ys : List X) (i : ℕ) (x y : X) → i < length xs → i < length ys
       → x ≡ get_or xs i x → y ≡ get_or ys i y → map f xs ≡ map f ys → f x ≡ f y
   same_there xs ys i x y lx ly is is' same =
       sym (mapped_at xs i x (f x) lx is) ∙ ap (λ l. get_or l i (f x)) same ∙ mapped_at ys i y
-          (f x) ly is'
+      (f x) ly is'
 
 module _ {X : Type 0} where
   got : (xs : List X) (i : ℕ) (x : X) → slice_get xs i ≡ Some x
@@ -55,7 +55,7 @@ module _ {X : Type 0} where
   flat_further f a zero = append-nil (f a) ∙ ap f (omega arith)
   flat_further f a (suc n) =
       ap (λ l. f a ++ l) (flat_further f (a + 1) n)
-          ∙ sym (append_assoc (f a) (flat_map f (range_with_len (a + 1) n)) (f (a + 1 + n)))
+      ∙ sym (append_assoc (f a) (flat_map f (range_with_len (a + 1) n)) (f (a + 1 + n)))
       ∙ ap (λ k. (f a ++ flat_map f (range_with_len (a + 1) n)) ++ f k) (omega arith)
 
   pub flat_next : (f : ℕ → List X) (n : ℕ)

@@ -28,8 +28,8 @@ when_amiss false all fault amiss = refl
 pub list_fault : (key : Key) (test : List ℕ → Bool) (o : Option Data) (ds : List Data)
     → option_and_then as_array o ≡ Some (items_of ds)
     → value_fault (key lists test) o
-        ≡ (if nat_le (length ds) MOST_OBJECTS && list_all (is_string test) ds then None else Some
-        (BadField key))
+    ≡ (if nat_le (length ds) MOST_OBJECTS && list_all (is_string test) ds then None else Some
+    (BadField key))
 list_fault key test None ds e = cc
 list_fault key test (Some value) ds e = rw (e, items_list-items_of ds)
 
@@ -37,7 +37,7 @@ list_fault key test (Some value) ds e = rw (e, items_list-items_of ds)
 pub texts_there : (o : Option Data) (ds : List Data)
     → option_and_then as_array o ≡ Some (items_of ds)
     → option_map_or (λ found. map (λ value. text_of (Some value)) (items_list found))
-        (option_and_then as_array o) [] ≡ map (λ value. text_of (Some value)) ds
+    (option_and_then as_array o) [] ≡ map (λ value. text_of (Some value)) ds
 texts_there o ds e = rw (e, items_list-items_of ds)
 
 -- an item amiss
@@ -53,7 +53,7 @@ pub listed_right : (key : Key) (test : List ℕ → Bool) (o : Option Data) (ds 
     (texts : List (List ℕ)) → option_and_then as_array o ≡ Some (items_of ds)
     → list_all (is_string test) ds ≡ true
     → texts ≡ map (λ value. text_of (Some value)) ds → length texts ≤ MOST_OBJECTS
-        → value_fault (key lists test) o ≡ None
+    → value_fault (key lists test) o ≡ None
 listed_right key test o ds texts there right is few =
     let long = ap length is ∙ length-map ds (λ value. text_of (Some value)) in
     list_fault key test o ds there ∙ rw (le-leb (length ds) MOST_OBJECTS (omega arith), right)
@@ -62,7 +62,7 @@ listed_right key test o ds texts there right is few =
 pub listed_many : (key : Key) (test : List ℕ → Bool) (o : Option Data) (ds : List Data)
     (texts : List (List ℕ)) → option_and_then as_array o ≡ Some (items_of ds)
     → texts ≡ map (λ value. text_of (Some value)) ds → MOST_OBJECTS < length texts
-        → value_fault (key lists test) o ≡ Some (BadField key)
+    → value_fault (key lists test) o ≡ Some (BadField key)
 listed_many key test o ds texts there is many =
     let long = ap length is ∙ length-map ds (λ value. text_of (Some value)) in
     let more : nat_le (length ds) MOST_OBJECTS ≡ false = grind (arith, nat_tests) in
@@ -74,7 +74,7 @@ pub one_amiss : {V : Type 0} (seen : V → Data) (test : List ℕ → Bool) (vs 
     → list_all (is_string test) (map seen vs) ≡ false
 one_amiss {V} seen test vs i v within is amiss =
     list_all-map (is_string test) seen vs ∙ list_all_at (λ (w : V). is_string test (seen w)) vs i v
-        within (ap (λ (w : V). is_string test (seen w)) (sym is) ∙ amiss)
+    within (ap (λ (w : V). is_string test (seen w)) (sym is) ∙ amiss)
 
 all_strings : (test : List ℕ → Bool) (texts : List (List ℕ))
     → list_all (is_string test) (map string texts) ≡ list_all test texts
@@ -85,8 +85,8 @@ pub strings_fit : (test : List ℕ → Bool) (texts : List (List ℕ)) → lengt
     → list_all test texts ≡ true → are_strings test (items_of (map string texts)) ≡ true
 strings_fit test texts few all =
     rw (items_list-items_of (map string texts))
-        (and_from _ _ (le-leb _ _ (omega (arith, length-map texts string)))
-        (all_strings test texts ∙ all))
+    (and_from _ _ (le-leb _ _ (omega (arith, length-map texts string)))
+    (all_strings test texts ∙ all))
 
 -- and they are read as they were written
 pub texts_back : (texts : List (List ℕ))

@@ -37,11 +37,15 @@ no_such_name name kind apart =
 pub other_kind : (d kind : Data) (name : List ℕ) → is_some (as_object d) ≡ true
     → get (key_name Kind) d ≡ Some kind → as_str kind ≡ Some name
     → (name ≡ codes "move" → ⊥) → (name ≡ codes "pack" → ⊥) → (name ≡ codes "signoff" → ⊥)
-        → of_json d ≡ of_named d (kind_named loan_kinds name)
+    → of_json d ≡ of_named d (kind_named loan_kinds name)
 other_kind d kind name is there text not_move not_pack not_sign_off =
-    of_object d is ∙ rw (there, text, no_such_name name (codes "move") not_move,
-        no_such_name name (codes "pack") not_pack,
-        no_such_name name (codes "signoff") not_sign_off) refl
+    of_object d is ∙ rw (
+      there,
+      text,
+      no_such_name name (codes "move") not_move,
+      no_such_name name (codes "pack") not_pack,
+      no_such_name name (codes "signoff") not_sign_off,
+    ) refl
 
 -- a value that names a kind which takes memory
 pub grows : (d kind : Data) (name : List ℕ) → get (key_name Kind) d ≡ Some kind

@@ -52,7 +52,7 @@ module _ {X : Type 0} (number : X → ℕ) where
   once (x ∷ xs) (y ∷ ys) h k same all =
       let first : x ≡ y = head all.0 in
       let under : AllByRecursion (IsIn ys) xs =
-          rest y ys xs (length xs) (k.0 ∙ omega arith) (low xs h.1) all.1 in
+      rest y ys xs (length xs) (k.0 ∙ omega arith) (low xs h.1) all.1 in
       ap (λ z. z ∷ xs) first ∙ ap (λ l. y ∷ l) (once xs ys h.1 k.1 (omega arith) under)
     where
       head : IsIn (y ∷ ys) x → x ≡ y
@@ -64,8 +64,8 @@ module _ {X : Type 0} (number : X → ℕ) where
   one_order xs ys h k same =
       once xs ys h k (sym (length_permutation xs ys same))
       (recursion_from_All (IsIn ys) xs
-          (All-permutation (IsIn ys) ys xs (IsPermutation-sym xs ys same)
-          (All-from_recursion (IsIn ys) ys (in_itself ys))))
+      (All-permutation (IsIn ys) ys xs (IsPermutation-sym xs ys same)
+      (All-from_recursion (IsIn ys) ys (in_itself ys))))
 
 texts_numbered : (texts : List (List ℕ))
     → IsNumbered (λ (r : SetupRow). nat_abs r.id) (numbered texts)
@@ -92,8 +92,8 @@ pub one_setup : (a b : List (List ℕ))
     → IsPermutation (numbered (reverse a)) (numbered (reverse b)) → a ≡ b
 one_setup a b same =
     let turned = texts_of (reverse a) (reverse b)
-        (one_order (λ (r : SetupRow). nat_abs r.id) _ _ (texts_numbered (reverse a))
-        (texts_numbered (reverse b)) same) in
+    (one_order (λ (r : SetupRow). nat_abs r.id) _ _ (texts_numbered (reverse a))
+    (texts_numbered (reverse b)) same) in
     sym (reverse-reverse a) ∙ ap reverse turned ∙ reverse-reverse b
 
 pub as_many : (P : List Entry) (rows : List PostingRow) → ArePostings P rows
@@ -116,7 +116,7 @@ all_verdicts = Applied ∷ UnknownThing ∷ UnknownPlace ∷ ElsewherePlace ∷ 
     ∷ UnknownLoan ∷ LoanKnown ∷ InsidePartner ∷ NoObjects ∷ NotObject ∷ Repeated
     ∷ WrongOwner ∷ BadTerm
     ∷ AlreadyAuthorised ∷ NotAuthorised ∷ WrongDirection ∷ NotHere ∷ ContainerNotHere ∷ Cycle
-        ∷ TooDeep ∷ NotWithPartner ∷ AlreadyHere ∷ NotListed ∷ WrongStage ∷ TermOver ∷ NotLater ∷ []
+    ∷ TooDeep ∷ NotWithPartner ∷ AlreadyHere ∷ NotListed ∷ WrongStage ∷ TermOver ∷ NotLater ∷ []
 
 pub of_number : (v : Verdict) → get_or all_verdicts (verdict_number v) Applied ≡ v
 of_number v = elim v as (λ v. get_or all_verdicts (verdict_number v) Applied ≡ v) [
@@ -158,17 +158,33 @@ one_entry number e f row h k =
     let station : e.station ≡ f.station = ap nat_abs (sym h.station ∙ k.station) in
     let n : e.n ≡ f.n = ap nat_abs (sym h.n ∙ k.n) in
     let message : e.message ≡ f.message =
-        one_message e.message f.message row.body h.reads_back k.reads_back in
+    one_message e.message f.message row.body h.reads_back k.reads_back in
     let verdict : e.verdict ≡ f.verdict =
-        one_verdict e.verdict f.verdict (ap nat_abs (sym h.verdict ∙ k.verdict)) in
-    ap (λ s. let x : Entry = record { station = s; n = e.n; message = e.message;
-        verdict = e.verdict } in x) station
-    ∙ ap (λ j. let x : Entry = record { station = f.station; n = j; message = e.message;
-        verdict = e.verdict } in x) n
-    ∙ ap (λ m. let x : Entry = record { station = f.station; n = f.n; message = m;
-        verdict = e.verdict } in x) message
-    ∙ ap (λ v. let x : Entry = record { station = f.station; n = f.n; message = f.message;
-        verdict = v } in x) verdict
+    one_verdict e.verdict f.verdict (ap nat_abs (sym h.verdict ∙ k.verdict)) in
+    ap (λ s. let x : Entry = record {
+      station = s;
+      n = e.n;
+      message = e.message;
+      verdict = e.verdict;
+    } in x) station
+    ∙ ap (λ j. let x : Entry = record {
+      station = f.station;
+      n = j;
+      message = e.message;
+      verdict = e.verdict;
+    } in x) n
+    ∙ ap (λ m. let x : Entry = record {
+      station = f.station;
+      n = f.n;
+      message = m;
+      verdict = e.verdict;
+    } in x) message
+    ∙ ap (λ v. let x : Entry = record {
+      station = f.station;
+      n = f.n;
+      message = f.message;
+      verdict = v;
+    } in x) verdict
 
 same_entries : (P Q : List Entry) (rows : List PostingRow) → ArePostings P rows
     → ArePostings Q rows → P ≡ Q
@@ -180,14 +196,14 @@ same_entries (e ∷ P) [] (row ∷ rows) h k = absurd k
 same_entries (e ∷ P) (f ∷ Q) (row ∷ rows) h k =
     let before = same_entries P Q rows h.1 k.1 in
     ap (λ x. x ∷ P) (one_entry (length P + 1) e f row h.0
-        (subst (λ (l : List Entry). IsPostingRow (length l + 1) f row) (sym before) k.0))
-        ∙ ap (λ l. f ∷ l) before
+    (subst (λ (l : List Entry). IsPostingRow (length l + 1) f row) (sym before) k.0))
+    ∙ ap (λ l. f ∷ l) before
 
 -- two lists that a store has are one
 pub one_list : (P Q : List Entry) (c : Content) → HasList P c → HasList Q c → P ≡ Q
 one_list P Q c h k =
     let same : IsPermutation h.rows k.rows =
-        IsPermutation-trans _ _ _ h.all (IsPermutation-sym _ _ k.all) in
+    IsPermutation-trans _ _ _ h.all (IsPermutation-sym _ _ k.all) in
     let rows : h.rows ≡ k.rows = one_order (λ (r : PostingRow). nat_abs r.id) h.rows k.rows
-        (rows_numbered P h.rows h.each) (rows_numbered Q k.rows k.each) same in
+    (rows_numbered P h.rows h.each) (rows_numbered Q k.rows k.each) same in
     same_entries P Q k.rows (subst (ArePostings P) rows h.each) k.each

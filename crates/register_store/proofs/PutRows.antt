@@ -58,13 +58,13 @@ module _ {R : Type 0} (same : R → R → Bool) where
   put_replaces apart r (q ∷ rows) once there =
       elim (same r q) as (λ b. same r q ≡ b → (b || list_any (same r) rows) ≡ true
       → IsPermutation ((if b then r else q) ∷ map (replaced r) rows)
-          (r ∷ (if not b then q ∷ filter (λ s. not (same r s)) rows else filter
-          (λ s. not (same r s)) rows))) [
+      (r ∷ (if not b then q ∷ filter (λ s. not (same r s)) rows else filter
+      (λ s. not (same r s)) rows))) [
         | true ↦ λ e h.
             let free : IsFree r rows = all_weaker (λ s. same q s ≡ false) (λ s. same r s ≡ false)
-                (λ s apart_from. apart r q s e apart_from) rows once.0 in
+            (λ s apart_from. apart r q s e apart_from) rows once.0 in
             IsPermutation-same _ _ (ap (λ l. r ∷ l)
-                (none_replaced r rows free ∙ sym (all_stay r rows free)))
+            (none_replaced r rows free ∙ sym (all_stay r rows free)))
         | false ↦ λ e h. IsPermutation-trans _ _ _
             (IsPermutation-cons q _ _ (put_replaces apart r rows once.1 h)) (exchanged r q _)
       ] refl there
@@ -89,21 +89,21 @@ module _ {R : Type 0} (same : R → R → Bool) where
         elim (eq k e.0) as (λ b. eq k e.0 ≡ b
         → IsDistinct eq (keys_of (if b then (e.0, v) ∷ kept else e ∷ insert_entry eq kept k v))
         → IsPermutation (rows_of (if b then (e.0, v) ∷ kept else e ∷ insert_entry eq kept k v))
-            (put same (row k v) (rows_of (e ∷ kept)))) [
+        (put same (row k v) (rows_of (e ∷ kept)))) [
           | true ↦ λ h d.
               let is : k ≡ e.0 = exact k e.0 h in
               let free : IsFree (row k v) (rows_of kept) =
-                  others k v kept (subst (λ l. AllByRecursion (λ m. eq l m ≡ false) (keys_of kept))
-                  (sym is) d.0) in
+              others k v kept (subst (λ l. AllByRecursion (λ m. eq l m ≡ false) (keys_of kept))
+              (sym is) d.0) in
               let gone : same (row k v) (row e.0 e.1) ≡ true = keyed k e.0 v e.1 ∙ h in
               IsPermutation-same _ _
-                  (rw gone (ap (λ l. row l v ∷ rows_of kept) (sym is) ∙ ap (λ l. row k v ∷ l)
-                  (sym (all_stay (row k v) (rows_of kept) free))))
+              (rw gone (ap (λ l. row l v ∷ rows_of kept) (sym is) ∙ ap (λ l. row k v ∷ l)
+              (sym (all_stay (row k v) (rows_of kept) free))))
           | false ↦ λ h d.
               let stays : same (row k v) (row e.0 e.1) ≡ false = keyed k e.0 v e.1 ∙ h in
               rw stays (IsPermutation-trans _ _ _
-                  (IsPermutation-cons (row e.0 e.1) _ _ (inserted k v kept d.1))
-                  (exchanged (row k v) (row e.0 e.1) _))
+              (IsPermutation-cons (row e.0 e.1) _ _ (inserted k v kept d.1))
+              (exchanged (row k v) (row e.0 e.1) _))
         ] refl distinct
 
 -- rows are put as what they stand for is
@@ -118,7 +118,7 @@ module _ {A R : Type 0} (alike : A → A → Bool) (same : R → R → Bool) (ro
       (λ t. map row (if not t then b ∷ filter (λ c. not (alike a c)) held else filter
       (λ c. not (alike a c)) held)
       ≡ (if not t then row b ∷ filter (λ r. not (same (row a) r)) (map row held) else filter
-          (λ r. not (same (row a) r)) (map row held))) [
+      (λ r. not (same (row a) r)) (map row held))) [
         | true ↦ others_kept a held
         | false ↦ ap (λ l. row b ∷ l) (others_kept a held)
       ])

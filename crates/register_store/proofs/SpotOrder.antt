@@ -20,13 +20,17 @@ module _ (cmp : NewSpot → NewSpot → Ordering) (by_thing : (a b : NewSpot) �
   later : (a : NewSpot) (j : ℕ) (ss : List Spot) → a.k < j
       → AllByRecursion (Before a) (spots_of_thing a.thing j ss)
   later a j [] less = tt
-  later a j (s ∷ ss) less = (by_k a (record { thing = a.thing; k = j; spot = s }) refl less,
-      later a (j + 1) ss (omega arith))
+  later a j (s ∷ ss) less = (
+    by_k a (record { thing = a.thing; k = j; spot = s }) refl less,
+    later a (j + 1) ss (omega arith),
+  )
 
   of_thing : (x k : ℕ) (ss : List Spot) → IsAscending Before (spots_of_thing x k ss)
   of_thing x k [] = tt
-  of_thing x k (s ∷ ss) = (later (record { thing = x; k = k; spot = s }) (k + 1) ss (omega arith),
-      of_thing x (k + 1) ss)
+  of_thing x k (s ∷ ss) = (
+    later (record { thing = x; k = k; spot = s }) (k + 1) ss (omega arith),
+    of_thing x (k + 1) ss,
+  )
 
   above_thing : (a : NewSpot) (x k : ℕ) (ss : List Spot) → a.thing < x
       → AllByRecursion (Before a) (spots_of_thing x k ss)
@@ -45,9 +49,10 @@ module _ (cmp : NewSpot → NewSpot → Ordering) (by_thing : (a b : NewSpot) �
       → AllByRecursion (λ a. AllByRecursion (Before a)
       (flat_map (λ x. spots_of_thing x 1 (f x)) (range_with_len (x + 1) n))) (spots_of_thing x k ss)
   each_above f x k n [] = tt
-  each_above f x k n (s ∷ ss) =
-      (above_things (record { thing = x; k = k; spot = s }) f (x + 1) n (omega arith),
-      each_above f x (k + 1) n ss)
+  each_above f x k n (s ∷ ss) = (
+    above_things (record { thing = x; k = k; spot = s }) f (x + 1) n (omega arith),
+    each_above f x (k + 1) n ss,
+  )
 
   of_things : (f : ℕ → List Spot) (x n : ℕ)
       → IsAscending Before (flat_map (λ x. spots_of_thing x 1 (f x)) (range_with_len x n))

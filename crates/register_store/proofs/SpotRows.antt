@@ -35,7 +35,7 @@ module _ {X : Type 0} where
   parted A B [] = IsPermutation-refl []
   parted A B (x ∷ xs) =
       IsPermutation-trans _ _ _ (IsPermutation-append (A x ++ B x) (B x ++ A x) _ _
-          (IsPermutation-append_comm (A x) (B x)) (parted A B xs))
+      (IsPermutation-append_comm (A x) (B x)) (parted A B xs))
       (middle (B x) (A x) (flat_map B xs) (flat_map A xs))
 
   filtered : (f : ℕ → Option X) (xs : List ℕ)
@@ -57,8 +57,8 @@ rows_append : (x k : ℕ) (a b : List Spot)
 rows_append x k [] b = ap (λ j. spots_of_thing x j b) (omega arith)
 rows_append x k (s ∷ a) b =
     ap (λ l. record { thing = x; k = k; spot = s } ∷ l)
-        (rows_append x (k + 1) a b ∙ ap (λ j. spots_of_thing x (k + 1) a ++ spots_of_thing x j b)
-        (omega arith))
+    (rows_append x (k + 1) a b ∙ ap (λ j. spots_of_thing x (k + 1) a ++ spots_of_thing x j b)
+    (omega arith))
 
 one_row : (x count : ℕ) (o : Option Spot)
     → spots_of_thing x (1 + count) (option_to_list o) ≡ option_to_list
@@ -75,8 +75,8 @@ abbrev added : Museum → List Entry → Bool → Message → ℕ → List NewSp
 added S P applied m x =
     spots_of_thing x (1 + length (spots S P x))
     (option_to_list (spot_from (length P + 1) (place_at S P x)
-        (place (length S.things) (with_put (if applied then put_in S P m else None) (puts S P)) x)
-        (day_of m)))
+    (place (length S.things) (with_put (if applied then put_in S P m else None) (puts S P)) x)
+    (day_of m)))
 
 all_added : (S : Museum) (P : List Entry) (applied : Bool) (m : Message)
     → flat_map (added S P applied m) (range_with_len 0 (length S.things))
@@ -84,14 +84,14 @@ all_added : (S : Museum) (P : List Entry) (applied : Bool) (m : Message)
 all_added S P true m =
     ap (λ (f : ℕ → List NewSpot). flat_map f (range_with_len 0 (length S.things)))
     (fun_ext (λ x. one_row x (length (spots S P x))
-        (spot_from (length P + 1) (place_at S P x) (place_after S P m x) (day_of m))))
+    (spot_from (length P + 1) (place_at S P x) (place_after S P m x) (day_of m))))
     ∙ sym (filtered (λ x. new_spot (length P + 1) (length (spots S P x)) (place_at S P x)
-        (place_after S P m x) (day_of m) x) (range_with_len 0 (length S.things)))
+    (place_after S P m x) (day_of m) x) (range_with_len 0 (length S.things)))
 all_added S P false m =
     ap (λ (f : ℕ → List NewSpot). flat_map f (range_with_len 0 (length S.things)))
     (fun_ext
-        (λ x. ap (λ (o : Option Spot). spots_of_thing x (1 + length (spots S P x))
-        (option_to_list o)) (same_place (length P + 1) (place_at S P x) (day_of m))))
+    (λ x. ap (λ (o : Option Spot). spots_of_thing x (1 + length (spots S P x))
+    (option_to_list o)) (same_place (length P + 1) (place_at S P x) (day_of m))))
     ∙ nothing (range_with_len 0 (length S.things))
 
 pub looking_back : (S : Museum) (P : List Entry)
@@ -102,18 +102,18 @@ looking_back S (e ∷ P) =
     let things = range_with_len 0 (length S.things) in
     let applied = is_applied e.verdict in
     let each : spots_by_thing S (e ∷ P)
-        ≡ flat_map (λ x. before S P x ++ added S P applied e.message x) things =
+    ≡ flat_map (λ x. before S P x ++ added S P applied e.message x) things =
     ap (λ (f : ℕ → List NewSpot). flat_map f things)
     (fun_ext (λ x. rows_append x 1 (spots S P x)
-        (option_to_list (spot_from (length P + 1) (place_at S P x) (place_at S (e ∷ P) x)
-        (day_of e.message))))) in
+    (option_to_list (spot_from (length P + 1) (place_at S P x) (place_at S (e ∷ P) x)
+    (day_of e.message))))) in
     let whole : IsPermutation (spots_by_thing S (e ∷ P)) (written S P e ++ spots_by_thing S P) =
     subst (λ l. IsPermutation (spots_by_thing S (e ∷ P)) (l ++ spots_by_thing S P))
-        (all_added S P applied e.message)
+    (all_added S P applied e.message)
     (subst (λ l. IsPermutation l (flat_map (added S P applied e.message) things ++ spots_by_thing S
-        P)) (sym each) (parted (before S P) (added S P applied e.message) things)) in
+    P)) (sym each) (parted (before S P) (added S P applied e.message) things)) in
     IsPermutation-trans _ _ _ whole
-        (IsPermutation-append _ _ _ _ (IsPermutation-reverse (written S P e)) (looking_back S P))
+    (IsPermutation-append _ _ _ _ (IsPermutation-reverse (written S P e)) (looking_back S P))
 
 -- the rows after an entry
 pub next_spot_rows : (S : Museum) (P : List Entry) (e : Entry) (rows : List SpotRow)
@@ -121,5 +121,5 @@ pub next_spot_rows : (S : Museum) (P : List Entry) (e : Entry) (rows : List Spot
     → IsPermutation (rows_of_spots S (e ∷ P)) (map spot_row (reverse (written S P e)) ++ rows)
 next_spot_rows S P e rows same =
     subst (λ l. IsPermutation l (map spot_row (reverse (written S P e)) ++ rows))
-        (sym (map-append spot_row (reverse (written S P e)) (all_written S P)))
+    (sym (map-append spot_row (reverse (written S P e)) (all_written S P)))
     (IsPermutation-append_right (map spot_row (reverse (written S P e))) _ _ same)

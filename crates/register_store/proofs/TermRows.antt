@@ -43,9 +43,9 @@ free_of f loan day [] none = tt
 free_of f loan day (t ∷ ts) none =
     elim (bytes_eq loan t.loan) as (λ b. cond b (Some t) (find (λ u. bytes_eq loan u.loan) ts)
     ≡ None → (b ≡ false) × IsFree is_same_loan (row loan day) (terms_at f ts)) [
-  | true ↦ λ h. absurd (none-some _ (sym h))
-  | false ↦ λ h. (refl, free_of f loan day ts h)
-] none
+      | true ↦ λ h. absurd (none-some _ (sym h))
+      | false ↦ λ h. (refl, free_of f loan day ts h)
+    ] none
 
 once_at : (f : Agreement → ℤ) (ts : List Agreement) → AreApart ts
     → AreOnce is_same_loan (terms_at f ts)
@@ -60,9 +60,9 @@ has_at f loan day (t ∷ ts) there =
     elim (bytes_eq loan t.loan) as
     (λ b. is_some (cond b (Some t) (find (λ u. bytes_eq loan u.loan) ts)) ≡ true
     → (b || list_any (is_same_loan (row loan day)) (terms_at f ts)) ≡ true) [
-  | true ↦ λ h. refl
-  | false ↦ λ h. has_at f loan day ts h
-] there
+      | true ↦ λ h. refl
+      | false ↦ λ h. has_at f loan day ts h
+    ] there
 
 one_set : (f : Agreement → ℤ) (loan : List ℕ) (day : ℤ) (t : Agreement)
     → replaced is_same_loan (row loan day) (row t.loan (f t))
@@ -70,9 +70,9 @@ one_set : (f : Agreement → ℤ) (loan : List ℕ) (day : ℤ) (t : Agreement)
 one_set f loan day t = elim (bytes_eq loan t.loan) as (λ b. bytes_eq loan t.loan ≡ b
     → (if b then row loan day else row t.loan (f t))
     ≡ row t.loan (unwrap_or (if b then Some day else None) (f t))) [
-  | true ↦ λ e. ap (λ l. row l day) ((bytes_eq-Decides loan t.loan).0 e)
-  | false ↦ λ e. refl
-] refl
+      | true ↦ λ e. ap (λ l. row l day) ((bytes_eq-Decides loan t.loan).0 e)
+      | false ↦ λ e. refl
+    ] refl
 
 -- each loan has one last day
 pub terms_once : (S : Museum) (depth : ℕ) (P : List Entry) → IsLawful S depth P
@@ -96,15 +96,15 @@ extended : (S : Museum) (depth : ℕ) (P : List Entry) (loan : List ℕ) (day : 
 extended S depth P loan day lawful known =
     let f : Agreement → ℤ = λ t. last_from P t.loan t.last in
     let each : map (replaced is_same_loan (row loan day)) (rows_of_terms P)
-        ≡ terms_at (last_after P true (Extend day loan)) (agreements P) =
+    ≡ terms_at (last_after P true (Extend day loan)) (agreements P) =
     map-map (replaced is_same_loan (row loan day)) (λ t. row t.loan (f t)) (agreements P)
-        ∙ map_same _ _ (one_set f loan day) (agreements P) in
+    ∙ map_same _ _ (one_set f loan day) (agreements P) in
     subst (λ ts. IsPermutation (terms_at (last_after P true (Extend day loan)) ts)
-        (put is_same_loan (row loan day) (rows_of_terms P))) (sym (append-nil (agreements P)))
+    (put is_same_loan (row loan day) (rows_of_terms P))) (sym (append-nil (agreements P)))
     (subst (λ rows. IsPermutation rows (put is_same_loan (row loan day) (rows_of_terms P))) each
     (put_replaces is_same_loan same_apart (row loan day) (rows_of_terms P)
-        (terms_once S depth P lawful) (has_at f loan day (agreements P)
-        (not-false (is_agreed P loan) known))))
+    (terms_once S depth P lawful) (has_at f loan day (agreements P)
+    (not-false (is_agreed P loan) known))))
 
 agreed : (S : Museum) (depth : ℕ) (P : List Entry) (m : Message) (t : Agreement)
     → IsLawful S depth P → verdict S depth P m ≡ Applied → agreement_in m ≡ Some t
@@ -116,16 +116,16 @@ agreed S depth P m t lawful applied is stays =
     let before = untouched S depth P t.loan lawful new.0 in
     let old : terms_after P true m ≡ terms_at f (agreements P ++ t ∷ []) =
     ap (λ o. terms_at (last_after P true m) (agreements P ++ option_to_list o)) is ∙ map_same _ _
-        (λ u. ap (λ (o : Option ℤ). row u.loan (unwrap_or o (f u))) (stays u))
-        (agreements P ++ t ∷ []) in
+    (λ u. ap (λ (o : Option ℤ). row u.loan (unwrap_or o (f u))) (stays u))
+    (agreements P ++ t ∷ []) in
     let whole : terms_after P true m ≡ rows_of_terms P ++ row t.loan t.last ∷ [] =
     old ∙ map-append (λ u. row u.loan (f u)) (agreements P) (t ∷ [])
-        ∙ ap (λ day. rows_of_terms P ++ row t.loan day ∷ []) (before.ends t.last) in
+    ∙ ap (λ day. rows_of_terms P ++ row t.loan day ∷ []) (before.ends t.last) in
     subst (λ rows. IsPermutation rows (put is_same_loan (row t.loan t.last) (rows_of_terms P)))
-        (sym whole)
+    (sym whole)
     (subst (λ rows. IsPermutation (rows_of_terms P ++ row t.loan t.last ∷ []) rows)
-        (sym (put_new is_same_loan (row t.loan t.last) (rows_of_terms P)
-        (free_of f t.loan t.last (agreements P) new.0)))
+    (sym (put_new is_same_loan (row t.loan t.last) (rows_of_terms P)
+    (free_of f t.loan t.last (agreements P) new.0)))
     (IsPermutation-to_front (rows_of_terms P) (row t.loan t.last)))
 
 -- the rows after a last day is put, if there is one
@@ -143,9 +143,9 @@ unchanged : (P : List Entry) (b : Bool) (m : Message) → (if b then agreement_i
 unchanged P b m none stays =
     IsPermutation-same _ _
     (ap (λ o. terms_at (last_after P b m) (agreements P ++ option_to_list o)) none
-        ∙ ap (terms_at (last_after P b m)) (append-nil (agreements P))
+    ∙ ap (terms_at (last_after P b m)) (append-nil (agreements P))
     ∙ map_same _ _ (λ u. ap (λ (o : Option ℤ). row u.loan (unwrap_or o (last_from P u.loan u.last)))
-        (stays u)) (agreements P))
+    (stays u)) (agreements P))
 
 applied_term : (S : Museum) (depth : ℕ) (P : List Entry) (m : Message) → IsLawful S depth P
     → verdict S depth P m ≡ Applied
@@ -154,8 +154,8 @@ applied_term S depth P (Move day x p) lawful h = unchanged P true (Move day x p)
 applied_term S depth P (Pack day x c) lawful h = unchanged P true (Pack day x c) refl (λ u. refl)
 applied_term S depth P (Agree first final loan partner objects) lawful h =
     agreed S depth P (Agree first final loan partner objects)
-        (record { loan = loan; partner = partner; objects = objects; first = first; last = final })
-        lawful h refl (λ u. refl)
+    (record { loan = loan; partner = partner; objects = objects; first = first; last = final })
+    lawful h refl (λ u. refl)
 applied_term S depth P (Authorise name loan) lawful h =
     unchanged P true (Authorise name loan) refl (λ u. refl)
 applied_term S depth P (Exit day x loan) lawful h =
@@ -175,8 +175,8 @@ pub next_terms : (S : Museum) (depth : ℕ) (P : List Entry) (e : Entry) (terms 
 next_terms S depth P e terms follows lawful same =
     IsPermutation-trans _ _ _
     (elim (is_applied e.verdict) as (λ b. is_applied e.verdict ≡ b
-        → IsPermutation (terms_after P b e.message)
-        (with_term (if b then term_in e.message else None) (rows_of_terms P))) [
+    → IsPermutation (terms_after P b e.message)
+    (with_term (if b then term_in e.message else None) (rows_of_terms P))) [
       | true ↦ λ h. applied_term S depth P e.message lawful
           (sym follows.judged ∙ applied_is e.verdict h)
       | false ↦ λ h. unchanged P false e.message refl (λ u. refl)

@@ -47,23 +47,23 @@ ascending (e ∷ P) (row ∷ rows) h =
     let number = h.0.id in
     subst (IsAscending (λ a b. by_id a b ≡ Less)) (sym (reverse-append (row ∷ []) rows))
     (ascending-append (λ a b. by_id a b ≡ Less) (reverse rows) (row ∷ [])
-        (ascending P rows h.1) (tt, tt)
+    (ascending P rows h.1) (tt, tt)
     (all-permutation (λ a. AllByRecursion (λ b. by_id a b ≡ Less) (row ∷ [])) rows (reverse rows)
-        (IsPermutation-reverse rows)
+    (IsPermutation-reverse rows)
     (all_weaker (λ (r : PostingRow). r.id <ℤ pos (length P + 1))
-        (λ a. AllByRecursion (λ b. by_id a b ≡ Less) (row ∷ []))
-        (λ a less. (Less-from_lt a.id row.id (subst (λ z. a.id <ℤ z) (sym number) less), tt)) rows
-        (below P rows (length P + 1) h.1 (omega arith)))))
+    (λ a. AllByRecursion (λ b. by_id a b ≡ Less) (row ∷ []))
+    (λ a less. (Less-from_lt a.id row.id (subst (λ z. a.id <ℤ z) (sym number) less), tt)) rows
+    (below P rows (length P + 1) h.1 (omega arith)))))
 
 -- each row keeps its entry, under its number
 kept : (stations at : ℕ) (later : List PostingRow) (row : PostingRow) (before : List PostingRow)
     (P : List Entry)
     → ArePostings P (later ++ row ∷ before) → AllByRecursion (IsOfStation stations) P
-        → length before + 1 ≡ at → IsWrongRow stations at row → ⊥
+    → length before + 1 ≡ at → IsWrongRow stations at row → ⊥
 kept stations at [] row before [] h known number wrong = absurd h
 kept stations at [] row before (e ∷ P) h known number wrong =
     wrong e (subst (λ n. IsPostingRow n e row) (ap (λ n. n + 1) (as_many P before h.1) ∙ number)
-        h.0) known.0
+    h.0) known.0
 kept stations at (r ∷ later) row before [] h known number wrong = absurd h
 kept stations at (r ∷ later) row before (e ∷ P) h known number wrong =
     kept stations at later row before P h.1 known.1 number wrong
@@ -72,20 +72,20 @@ pub never_wrong : (stations at : ℕ) (P : List Entry) (c : Content) → HasList
     → All (IsOfStation stations) P → IsFirstWrong stations at c → ⊥
 never_wrong stations at P c h known fault =
     let same = IsPermutation-trans _ _ _ (IsPermutation-sym _ _ (IsPermutation-reverse h.rows))
-        (IsPermutation-trans _ _ _ h.all (IsPermutation-sym _ _ fault.all)) in
+    (IsPermutation-trans _ _ _ h.all (IsPermutation-sym _ _ fault.all)) in
     let rows : fault.rows ≡ reverse h.rows =
-        sorted_unique by_id by_id-total (reverse h.rows) fault.rows (ascending P h.rows h.each) same
-        fault.order in
+    sorted_unique by_id by_id-total (reverse h.rows) fault.rows (ascending P h.rows h.each) same
+    fault.order in
     let split : h.rows ≡ reverse fault.first.after ++ fault.first.row ∷ reverse fault.first.before =
     sym (reverse-reverse h.rows) ∙ ap reverse (sym rows ∙ fault.first.split)
-        ∙ turned fault.first.before fault.first.row fault.first.after in
+    ∙ turned fault.first.before fault.first.row fault.first.after in
     kept stations at (reverse fault.first.after) fault.first.row (reverse fault.first.before) P
-        (subst (ArePostings P) split h.each) (recursion_from_All (IsOfStation stations) P known)
+    (subst (ArePostings P) split h.each) (recursion_from_All (IsOfStation stations) P known)
     (ap (λ n. n + 1) (length-reverse fault.first.before) ∙ fault.first.number) fault.first.wrong
   where
     turned : (before : List PostingRow) (row : PostingRow) (after : List PostingRow)
         → reverse (before ++ row ∷ after) ≡ reverse after ++ row ∷ reverse before
     turned before row after =
         reverse-append before (row ∷ after) ∙ ap (λ l. l ++ reverse before)
-            (reverse-append (row ∷ []) after) ∙ append_assoc (reverse after) (row ∷ [])
-            (reverse before)
+        (reverse-append (row ∷ []) after) ∙ append_assoc (reverse after) (row ∷ [])
+        (reverse before)

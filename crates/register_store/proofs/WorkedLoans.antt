@@ -36,7 +36,7 @@ term loan day = record { loan = loan; day = day }
 abbrev agreed : List Entry
 agreed =
     entry pack 4 (Agree may may_31 loan_1 (codes "MUSEUM-X")
-        (codes "2001.4.1" ∷ codes "2001.4.2" ∷ [])) Applied
+    (codes "2001.4.1" ∷ codes "2001.4.2" ∷ [])) Applied
     ∷ entry pack 3 (Pack may (codes "2001.4.2") (codes "C1")) Applied
     ∷ entry pack 2 (Pack may (codes "2001.4.1") (codes "C1")) Applied
     ∷ entry pack 1 (Move may (codes "C1") (codes "S1")) Applied
@@ -91,8 +91,11 @@ abbrev row : List ℕ → ℕ → LineStage → LineRow
 row loan o stage = line_row (line loan o stage)
 
 -- as the table has it: an object that is away
-row-away : row loan_1 object_2 Away ≡ record { loan = codes "LO2024.1"; object = pos 3;
-    stage = pos 1 }
+row-away : row loan_1 object_2 Away ≡ record {
+  loan = codes "LO2024.1";
+  object = pos 3;
+  stage = pos 1;
+}
 row-away = refl
 
 -- a line takes the place of that of its loan and object, and of no other
@@ -103,7 +106,7 @@ put-one = refl
 put-new : put_each is_same_line (row loan_2 object_1 Awaiting ∷ row loan_2 object_2 Awaiting ∷ [])
     (rows_of_lines museum agreed) ≡
     row loan_2 object_2 Awaiting ∷ row loan_2 object_1 Awaiting ∷ row loan_1 object_1 Awaiting
-        ∷ row loan_1 object_2 Awaiting ∷ []
+    ∷ row loan_1 object_2 Awaiting ∷ []
 put-new = refl
 
 put-both : put_each is_same_line (row loan_1 object_1 Away ∷ row loan_1 object_2 Away ∷ [])

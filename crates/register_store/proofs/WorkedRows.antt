@@ -163,8 +163,14 @@ abbrev new : Content
 new = record { setup = []; meta = []; postings = []; spots = []; lines = []; terms = [] }
 
 abbrev bound : Content
-bound = record { setup = setup_down; meta = meta 2 12; postings = []; spots = []; lines = [];
-    terms = [] }
+bound = record {
+  setup = setup_down;
+  meta = meta 2 12;
+  postings = [];
+  spots = [];
+  lines = [];
+  terms = [];
+}
 
 new-bound : bound_to museum new ≡ bound
 new-bound = refl
@@ -175,14 +181,21 @@ posted = record bound { postings = row_3 ∷ row_2 ∷ row_1 ∷ []; spots = map
 
 -- what an applied entry changes that is of no loan
 abbrev pub moving : ℕ → List NewSpot → Changes
-moving number spots = record { entry = number; verdict = Applied; put = None; carried = [];
-    spots = spots; loan = None; lines = [] }
+moving number spots = record {
+  entry = number;
+  verdict = Applied;
+  put = None;
+  carried = [];
+  spots = spots;
+  loan = None;
+  lines = [];
+}
 
 three-posted :
     with_posted row_3 entry_3 (moving 3 (spot object_1 2 3 s1_a ∷ []))
     (with_posted row_2 entry_2 (moving 2 (spot object_2 1 2 s2 ∷ []))
-        (with_posted row_1 entry_1 (moving 1 (spot object_1 1 1 s1 ∷ [])) (bound_to museum new)))
-        ≡ posted
+    (with_posted row_1 entry_1 (moving 1 (spot object_1 1 1 s1 ∷ [])) (bound_to museum new)))
+    ≡ posted
 three-posted = refl
 
 -- an old store stays, whatever it is bound to
@@ -204,30 +217,54 @@ in_tables = record {
 first_kept : IsPostingRow 1 entry_1 row_1
 unfolding is_utf8 chars encode value punctuate lex content escape_byte days_from_civil day_count
     days_of_years days_of_months
-first_kept = record { id = refl; station = refl; n = refl; body = first_run-text; reads_back = refl;
-    verdict = refl }
+first_kept = record {
+  id = refl;
+  station = refl;
+  n = refl;
+  body = first_run-text;
+  reads_back = refl;
+  verdict = refl;
+}
 
 second_kept : IsPostingRow 2 entry_2 row_2
 unfolding is_utf8 chars encode value punctuate lex content escape_byte days_from_civil day_count
     days_of_years days_of_months
-second_kept = record { id = refl; station = refl; n = refl; body = rw may-text refl;
-    reads_back = refl; verdict = refl }
+second_kept = record {
+  id = refl;
+  station = refl;
+  n = refl;
+  body = rw may-text refl;
+  reads_back = refl;
+  verdict = refl;
+}
 
 third_kept : IsPostingRow 3 entry_3 row_3
 unfolding is_utf8 chars encode value punctuate lex content escape_byte days_from_civil day_count
     days_of_years days_of_months
-third_kept = record { id = refl; station = refl; n = refl; body = rw may-text refl;
-    reads_back = refl; verdict = refl }
+third_kept = record {
+  id = refl;
+  station = refl;
+  n = refl;
+  body = rw may-text refl;
+  reads_back = refl;
+  verdict = refl;
+}
 
 held_then_posted-listed : HasList held_then_posted in_tables
-held_then_posted-listed = record { rows = row_3 ∷ row_2 ∷ row_1 ∷ [];
-    each = (third_kept, (second_kept, (first_kept, tt))); all =
-    IsPermutation-reverse (row_3 ∷ row_2 ∷ row_1 ∷ []) }
+held_then_posted-listed = record {
+  rows = row_3 ∷ row_2 ∷ row_1 ∷ [];
+  each = (third_kept, (second_kept, (first_kept, tt)));
+  all =
+      IsPermutation-reverse (row_3 ∷ row_2 ∷ row_1 ∷ []);
+}
 
 held_then_posted-stored : IsStoreOf museum 12 held_then_posted in_tables
 held_then_posted-stored = record {
-  bound = record { setup = IsPermutation-reverse setup_down;
-      meta = IsPermutation-reverse (meta 2 12); limit = refl };
+  bound = record {
+    setup = IsPermutation-reverse setup_down;
+    meta = IsPermutation-reverse (meta 2 12);
+    limit = refl;
+  };
   list = held_then_posted-listed;
   rows = record {
     spots = IsPermutation-map spot_row _ _
@@ -368,7 +405,7 @@ no_such_verdict : IsWrongRow 2 1 (posting 1 gal 1 first_text 26)
 no_such_verdict e kept known =
     let number : 26 ≡ verdict_number e.verdict = ap nat_abs kept.verdict in
     let applied : Applied ≡ e.verdict =
-        subst (λ n. get_or all_verdicts n Applied ≡ e.verdict) (sym number) (of_number e.verdict) in
+    subst (λ n. get_or all_verdicts n Applied ≡ e.verdict) (sym number) (of_number e.verdict) in
     differ 0 26 (omega arith) (ap verdict_number applied ∙ sym number)
 
 -- a cell below 0 is no entry's, whatever stands in the others

@@ -7,7 +7,7 @@ use Rattle.report_rows.specs.Fields.{Told, member, members}
 members-append : (names : List (List ℕ)) (values : List Told) (name : List ℕ) (value : Told)
     → length names ≡ length values
     → members (names ++ name ∷ []) (values ++ value ∷ []) ≡ members names values
-        ++ member name value ∷ []
+    ++ member name value ∷ []
 members-append [] [] name value same = refl
 members-append [] (v ∷ values) name value same = absurd (omega (arith, same))
 members-append (x ∷ names) [] name value same = absurd (omega (arith, same))
@@ -30,8 +30,12 @@ pub members_more : {X Y : Type 0} (f : X → List ℕ) (g : Y → Told) (xs : Li
     ≡ members (map f (take i xs)) (map g (take i ys)) ++ member (f (get_or xs i x)) (g y) ∷ []
 members_more f g xs ys i x y h k at =
     let one : take (i + 1) ys ≡ take i ys ++ y ∷ [] =
-        take_more ys i y k ∙ ap (λ z. take i ys ++ z ∷ []) (sym at) in
-    rw (take_more xs i x h, one, map-append f (take i xs) (get_or xs i x ∷ []),
-        map-append g (take i ys) (y ∷ []))
+    take_more ys i y k ∙ ap (λ z. take i ys ++ z ∷ []) (sym at) in
+    rw (
+      take_more xs i x h,
+      one,
+      map-append f (take i xs) (get_or xs i x ∷ []),
+      map-append g (take i ys) (y ∷ []),
+    )
     (members-append (map f (take i xs)) (map g (take i ys)) (f (get_or xs i x)) (g y)
-        (alike f g xs ys i h k))
+    (alike f g xs ys i h k))

@@ -187,7 +187,7 @@ full-line = refl
 module _ (thing place normal day : String Global)
     (thing-is : string_bytes thing ≡ codes "2001.4.1") (place-is : string_bytes place ≡ codes "S2")
     (normal-is : string_bytes normal ≡ codes "S1-A")
-        (day-is : string_bytes day ≡ codes "2024-05-01") where
+    (day-is : string_bytes day ≡ codes "2024-05-01") where
   away-line : words_line
       (away_words (record { object = thing; place = Some place; normal = Some normal }))
       ≡ codes "2001.4.1 S2 normal S1-A\n"
@@ -209,22 +209,37 @@ module _ (thing place normal day : String Global)
 
   -- count_list
   elsewhere-line : words_line
-      (counted_words (record { row = Some 2; place = normal; thing = Some thing;
-      answer = word (codes "Elsewhere"); on_record = Some place }))
+      (counted_words (record {
+        row = Some 2;
+        place = normal;
+        thing = Some thing;
+        answer = word (codes "Elsewhere");
+        on_record = Some place;
+      }))
       ≡ codes "row 2 Elsewhere S2\n"
   unfolding digits
   elsewhere-line = rw place-is refl
 
   counted-line : words_line
-      (counted_words (record { row = Some 7; place = place; thing = None;
-      answer = word (codes "Counted"); on_record = None }))
+      (counted_words (record {
+        row = Some 7;
+        place = place;
+        thing = None;
+        answer = word (codes "Counted");
+        on_record = None;
+      }))
       ≡ codes "row 7 Counted\n"
   unfolding digits
   counted-line = refl
 
   missing-line : words_line
-      (counted_words (record { row = None; place = place; thing = Some thing;
-      answer = word (codes "Missing"); on_record = None }))
+      (counted_words (record {
+        row = None;
+        place = place;
+        thing = Some thing;
+        answer = word (codes "Missing");
+        on_record = None;
+      }))
       ≡ codes "missing S2 2001.4.1\n"
   missing-line = rw (place-is, thing-is) refl
 
@@ -232,32 +247,50 @@ module _ (thing place normal day : String Global)
       (containers-are : map string_bytes containers.items ≡ codes "C2" ∷ codes "C1" ∷ [])
       (none-are : map string_bytes none.items ≡ []) where
     where-line : words_line
-        (where_words (record { thing = thing; state = word (codes "at"); place = Some place;
-        containers = containers }))
+        (where_words (record {
+          thing = thing;
+          state = word (codes "at");
+          place = Some place;
+          containers = containers;
+        }))
         ≡ codes "2001.4.1 at S2 in C2 C1\n"
     where-line = rw (thing-is, place-is, containers-are) refl
 
     straight-line : words_line
-        (where_words (record { thing = thing; state = word (codes "at"); place = Some place;
-        containers = none }))
+        (where_words (record {
+          thing = thing;
+          state = word (codes "at");
+          place = Some place;
+          containers = none;
+        }))
         ≡ codes "2001.4.1 at S2\n"
     straight-line = rw (thing-is, place-is, none-are) refl
 
     unplaced-line : words_line
-        (where_words (record { thing = thing; state = word (codes "unplaced"); place = None;
-        containers = none }))
+        (where_words (record {
+          thing = thing;
+          state = word (codes "unplaced");
+          place = None;
+          containers = none;
+        }))
         ≡ codes "2001.4.1 unplaced\n"
     unplaced-line = rw (thing-is, none-are) refl
 
     content-line : words_line
-        (content_words (record { thing = thing; state = word (codes "in");
-        containers = containers }))
+        (content_words (record {
+          thing = thing;
+          state = word (codes "in");
+          containers = containers;
+        }))
         ≡ codes "2001.4.1 in C2 C1\n"
     content-line = rw (thing-is, containers-are) refl
 
     unknown-line : words_line
-        (content_words (record { thing = thing; state = word (codes "unknown");
-        containers = none }))
+        (content_words (record {
+          thing = thing;
+          state = word (codes "unknown");
+          containers = none;
+        }))
         ≡ codes "2001.4.1 unknown\n"
     unknown-line = rw (thing-is, none-are) refl
 
@@ -265,7 +298,7 @@ module _ (thing place normal day : String Global)
 
 module _ (loan partner first last object : String Global)
     (loan-is : string_bytes loan ≡ codes "LO2024.1")
-        (last-is : string_bytes last ≡ codes "2024-05-31")
+    (last-is : string_bytes last ≡ codes "2024-05-31")
     (object-is : string_bytes object ≡ codes "2001.4.1") where
   overdue-line : words_line (overdue_words (record { loan = loan; last = last }))
       ≡ codes "LO2024.1 2024-05-31\n"
@@ -297,27 +330,32 @@ module _ (loan partner first last object : String Global)
 
 module _ (station message : String Global)
     (station-is : string_bytes station ≡ codes "PACK")
-        (message-is : string_bytes message ≡ codes "{\"by\":\"A. Keeper\",\"kind\":\"signoff\"}")
-        where
-  station-line : words_line
-      (station_words (record { station = station; next = Some 6; signed_off = false }))
-      ≡ codes "PACK next 6\n"
-  unfolding digits
-  station-line = rw station-is refl
+    (message-is : string_bytes message ≡ codes "{\"by\":\"A. Keeper\",\"kind\":\"signoff\"}")
+  where
+    station-line : words_line
+        (station_words (record { station = station; next = Some 6; signed_off = false }))
+        ≡ codes "PACK next 6\n"
+    unfolding digits
+    station-line = rw station-is refl
 
-  station_off-line : words_line
-      (station_words (record { station = station; next = None; signed_off = true }))
-      ≡ codes "PACK signed off\n"
-  station_off-line = rw station-is refl
+    station_off-line : words_line
+        (station_words (record { station = station; next = None; signed_off = true }))
+        ≡ codes "PACK signed off\n"
+    station_off-line = rw station-is refl
 
-  station_full-line : words_line
-      (station_words (record { station = station; next = None; signed_off = false }))
-      ≡ codes "PACK full\n"
-  station_full-line = rw station-is refl
+    station_full-line : words_line
+        (station_words (record { station = station; next = None; signed_off = false }))
+        ≡ codes "PACK full\n"
+    station_full-line = rw station-is refl
 
-  posted-line : words_line
-      (posted_words (record { entry = 6; station = station; n = 6; verdict = word (codes "Applied");
-      message = message }))
-      ≡ codes "6 PACK 6 Applied {\"by\":\"A. Keeper\",\"kind\":\"signoff\"}\n"
-  unfolding digits
-  posted-line = rw (station-is, message-is) refl
+    posted-line : words_line
+        (posted_words (record {
+          entry = 6;
+          station = station;
+          n = 6;
+          verdict = word (codes "Applied");
+          message = message;
+        }))
+        ≡ codes "6 PACK 6 Applied {\"by\":\"A. Keeper\",\"kind\":\"signoff\"}\n"
+    unfolding digits
+    posted-line = rw (station-is, message-is) refl

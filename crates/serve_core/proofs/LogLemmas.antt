@@ -24,14 +24,14 @@ log_arrivals-append G H = flat_map-append (λ (l : LogLine). sent_item l.station
 pub answered-append : (S : Museum) (depth : ℕ) (O : List Entry) (A : List Arrival)
     (G H : List LogLine)
     → IsAnswered S depth O A G → IsAnswered S depth O (A ++ log_arrivals G) H
-        → IsAnswered S depth O A (G ++ H)
+    → IsAnswered S depth O A (G ++ H)
 answered-append S depth O A [] H g h =
     subst (λ (B : List Arrival). IsAnswered S depth O B H) (append-nil A) h
 answered-append S depth O A (l ∷ G) H g h = (
   g.0,
   answered-append S depth O (A ++ sent_item l.station l.item) G H g.1
       (subst (λ (B : List Arrival). IsAnswered S depth O B H)
-          (sym (append_assoc A (sent_item l.station l.item) (log_arrivals G))) h),
+      (sym (append_assoc A (sent_item l.station l.item) (log_arrivals G))) h),
 )
 
 -- nothing was taken

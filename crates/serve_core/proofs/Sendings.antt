@@ -26,8 +26,11 @@ lane_trans : (x y z : Lane) → SameLane x y → SameLane y z → SameLane x z
 lane_trans x y z p q = ((q.0.0 ∙ p.0.0, q.0.1 ∙ p.0.1, q.0.2 ∙ p.0.2, q.0.3 ∙ p.0.3), q.1 ∙ p.1)
 
 pub still_trans : (x y z : Sent) → IsStill x y → IsStill y z → IsStill x z
-still_trans x y z p q = record { same = lane_trans x.lane y.lane z.lane p.same q.same;
-    items = q.items ∙ p.items; whole = q.whole ∙ p.whole }
+still_trans x y z p q = record {
+  same = lane_trans x.lane y.lane z.lane p.same q.same;
+  items = q.items ∙ p.items;
+  whole = q.whole ∙ p.whole;
+}
 
 pub all_still : (xs : List Sent) → AllZip IsStill xs xs
 all_still [] = tt
@@ -48,7 +51,7 @@ sent_here = read_here (λ (x : Sent). sent_items x.lane) sent_of (λ x. refl)
 pub settled_at : (cs0 cs : List Ring) (xs0 xs : List Sent) (i : ℕ) (c : Ring) (x : Sent)
     → received_at cs i ≡ received_at cs0 i → sent_at xs i ≡ sent_at xs0 i
     → i < length cs → i < length xs → c ≡ get_or cs i c → x ≡ get_or xs i x
-        → Begins (received_is c) (sent_items x.lane) → Begins (received_at cs0 i) (sent_at xs0 i)
+    → Begins (received_is c) (sent_items x.lane) → Begins (received_at cs0 i) (sent_at xs0 i)
 settled_at cs0 cs xs0 xs i c x p q lc lx ac ax b = (
   b.0,
   sym q ∙ (sent_here xs i x lx ax
@@ -59,7 +62,7 @@ settled_at cs0 cs xs0 xs i c x p q lc lx ac ax b = (
 module _ {H X : Type 0} (lane : H → Lane) (feed : H → X) (its : X → List Item) where
   pub back_to : (hs : List H) (xs : List Sent) (cs0 cs : List Ring)
       → AllZip (λ h x. Sends (lane h) (its (feed h)) x) hs xs → AllZip IsFresh (map lane hs) cs0
-          → AllZip SameConsumer cs0 cs → AllZip IsSentTo xs cs
+      → AllZip SameConsumer cs0 cs → AllZip IsSentTo xs cs
   back_to [] [] [] [] a b c = tt
   back_to [] [] [] (y ∷ cs) a b c = absurd c
   back_to [] [] (x ∷ cs0) cs a b c = absurd b
@@ -79,14 +82,15 @@ module _ {H X : Type 0} (lane : H → Lane) (feed : H → X) (its : X → List I
 
   pub back_of : (hs : List H) (xs : List Sent) (cs0 : List Ring)
       → AllZip (λ h x. Sends (lane h) (its (feed h)) x) hs xs → AllZip IsFresh (map lane hs) cs0
-          → AllZip IsSent xs (map its (map feed hs))
+      → AllZip IsSent xs (map its (map feed hs))
   back_of [] [] cs0 a b = tt
   back_of [] (e ∷ xs) cs0 a b = absurd a
   back_of (h ∷ hs) [] cs0 a b = absurd a
   back_of (h ∷ hs) (e ∷ xs) [] a b = absurd b
-  back_of (h ∷ hs) (e ∷ xs) (x ∷ cs0) a b =
-      (subst (λ (ys : List Item). IsSent e (ys ++ its (feed h))) b.0.1 a.0.back_is,
-          back_of hs xs cs0 a.1 b.1)
+  back_of (h ∷ hs) (e ∷ xs) (x ∷ cs0) a b = (
+    subst (λ (ys : List Item). IsSent e (ys ++ its (feed h))) b.0.1 a.0.back_is,
+    back_of hs xs cs0 a.1 b.1,
+  )
 
 -- the ends of the lanes that came back
 pub ends_on : (xs : List Sent) (es : List LaneEnd) (cs : List Ring) → AllZip IsEndOfSent xs es
@@ -144,14 +148,14 @@ left_after : (ls : List Lane) (cs0 cs : List Ring) (G H : List LogLine) (s : ℕ
     → received_at cs s ++ items_of s H ≡ items_of s (G ++ H)
 left_after ls cs0 cs G H s fresh t =
     ap (λ (ys : List Item). ys ++ items_of s H)
-        (t.taken s ∙ ap (λ (ys : List Item). ys ++ items_of s G) (fresh_none ls cs0 s fresh))
-        ∙ sym (items_of-append s G H)
+    (t.taken s ∙ ap (λ (ys : List Item). ys ++ items_of s G) (fresh_none ls cs0 s fresh))
+    ∙ sym (items_of-append s G H)
 
 stations_both : (n m k : ℕ) (G H : List LogLine) → n ≡ m → k ≡ m → AreOfStations n G
     → AreOfStations k H → AreOfStations m (G ++ H)
 stations_both n m k G H p q a b =
     All-append (λ l. l.station < m) G H (subst (λ (i : ℕ). AreOfStations i G) p a)
-        (subst (λ (i : ℕ). AreOfStations i H) q b)
+    (subst (λ (i : ℕ). AreOfStations i H) q b)
 
 -- how many feeds, lanes and rings there are
 module _ (ls : List Lane) (cs0 cs : List Ring) (xs : List Sent) (fs : List (List Item)) where
@@ -167,13 +171,13 @@ module _ (ls : List Lane) (cs0 cs : List Ring) (xs : List Sent) (fs : List (List
   pub fronts_stopped : (G : List LogLine) (fault : ServeFault) → AllZip IsFresh ls cs0
       → TakesSome cs0 cs G → AllZip IsSentTo xs cs → AllZip IsSent xs fs
       → ((s : ℕ) → s < length cs → Begins (received_at cs s) (sent_at xs s))
-          → IsOneOf (length fs) fault → AreFronts fs G fault
+      → IsOneOf (length fs) fault → AreFronts fs G fault
   fronts_stopped G fault fresh t to of settled named = record {
     stations = subst (λ (i : ℕ). AreOfStations i G) (feeds_count t.rings to of) t.stations;
     front = λ s lt. begins_trans (items_of s G) (sent_at xs s) (items_at fs s)
         (begins_trans (items_of s G) (received_at cs s) (sent_at xs s)
         (subst (λ (ys : List Item). Begins (ys ++ items_of s G) (received_at cs s))
-            (fresh_none ls cs0 s fresh) (t.taken s))
+        (fresh_none ls cs0 s fresh) (t.taken s))
         (settled s (let e = rings_count to of in omega (arith, e))))
         (front_sent xs fs s of);
     named = named;
@@ -183,13 +187,13 @@ module _ (ls : List Lane) (cs0 cs : List Ring) (xs : List Sent) (fs : List (List
   pub fronts_left : (G H : List LogLine) (fault : ServeFault) → AllZip IsFresh ls cs0
       → Takes cs0 cs G → AllZip IsSentTo xs cs → AllZip IsSent xs fs
       → AreOfStations (length cs) H → SentFront cs xs H → IsOneOf (length fs) fault
-          → AreFronts fs (G ++ H) fault
+      → AreFronts fs (G ++ H) fault
   fronts_left G H fault fresh t to of stations front named = record {
     stations = stations_both (length cs0) (length fs) (length cs) G H (feeds_count t.rings to of)
         (rings_count to of) t.stations stations;
     front = λ s lt. begins_trans (items_of s (G ++ H)) (sent_at xs s) (items_at fs s)
         (subst (λ (ys : List Item). Begins ys (sent_at xs s)) (left_after ls cs0 cs G H s fresh t)
-            (front s (let e = rings_count to of in omega (arith, e))))
+        (front s (let e = rings_count to of in omega (arith, e))))
         (front_sent xs fs s of);
     named = named;
   }
@@ -197,7 +201,7 @@ module _ (ls : List Lane) (cs0 cs : List Ring) (xs : List Sent) (fs : List (List
   pub merged : (G H : List LogLine) → AllZip IsFresh ls cs0 → Takes cs0 cs G → AllZip IsSentTo xs cs
       → AllZip IsSent xs fs
       → AreOfStations (length cs) H → SentWhole cs xs H → All (λ (x : Sent). x.whole ≡ true) xs
-          → IsMerge fs (G ++ H)
+      → IsMerge fs (G ++ H)
   merged G H fresh t to of stations left whole = record {
     stations = stations_both (length cs0) (length fs) (length cs) G H (feeds_count t.rings to of)
         (rings_count to of) t.stations stations;
@@ -221,38 +225,45 @@ pub settled_view : (cs arg : List Ring) (xs : List Sent) (n : ℕ) → cs ≡ ar
     → (s : ℕ) → s < length arg → Begins (received_at arg s) (sent_at xs s)
 settled_view cs arg xs n same len f s lt =
     subst (λ (bs : List Ring). Begins (received_at bs s) (sent_at xs s)) same
-        (f s (let e = ap length same in omega (arith, e, len, lt)))
+    (f s (let e = ap length same in omega (arith, e, len, lt)))
 
 pub fronts_none : (fs : List (List Item)) (fault : ServeFault) → IsOneOf (length fs) fault
     → AreFronts fs [] fault
-fronts_none fs fault named = record { stations = All-nil (λ l. l.station < length fs);
-    front = λ s lt. (items_at fs s, refl); named = named }
+fronts_none fs fault named = record {
+  stations = All-nil (λ l. l.station < length fs);
+  front = λ s lt. (items_at fs s, refl);
+  named = named;
+}
 
 -- what the ends tell is what was sent
 pub left_front : (cs : List Ring) (xs0 xs : List Sent) (cs1 : List Ring) (es : List LaneEnd)
     (G : List LogLine) → AllZip IsStill xs0 xs → AllZip IsEndOfSent xs es
     → length cs1 ≡ length cs → ((s : ℕ) → received_at cs1 s ≡ received_at cs s)
-        → TakesFront cs1 es G → SentFront cs xs0 G
+    → TakesFront cs1 es G → SentFront cs xs0 G
 left_front cs xs0 xs cs1 es G still ends len same front s lt =
-    let f = front s (omega (arith, len)) in
-    (f.0, sym (still_at xs0 xs s still)
-        ∙ (sym (ended_sent xs es s ends)
-        ∙ (f.1 ∙ ap (λ (ys : List Item). (ys ++ items_of s G) ++ f.0) (same s))))
+    let f = front s (omega (arith, len)) in (
+      f.0,
+      sym (still_at xs0 xs s still)
+          ∙ (sym (ended_sent xs es s ends)
+          ∙ (f.1 ∙ ap (λ (ys : List Item). (ys ++ items_of s G) ++ f.0) (same s))),
+    )
 
 pub left_whole : (cs : List Ring) (xs0 xs : List Sent) (cs1 : List Ring) (es : List LaneEnd)
     (G : List LogLine) → AllZip IsStill xs0 xs → AllZip IsEndOfSent xs es
     → length cs1 ≡ length cs → ((s : ℕ) → received_at cs1 s ≡ received_at cs s) → TakesLeft cs1 es G
-        → SentWhole cs xs0 G
+    → SentWhole cs xs0 G
 left_whole cs xs0 xs cs1 es G still ends len same left s lt =
     ap (λ (ys : List Item). ys ++ items_of s G) (sym (same s))
-        ∙ (left s (omega (arith, len)) ∙ (ended_sent xs es s ends ∙ still_at xs0 xs s still))
+    ∙ (left s (omega (arith, len)) ∙ (ended_sent xs es s ends ∙ still_at xs0 xs s still))
 
 -- no line more
 pub none_left : (cs : List Ring) (xs : List Sent)
     → ((s : ℕ) → s < length cs → Begins (received_at cs s) (sent_at xs s)) → SentFront cs xs []
-none_left cs xs settled s lt =
-    ((settled s lt).0, (settled s lt).1 ∙ ap (λ (ys : List Item). ys ++ (settled s lt).0)
-    (sym (append-nil (received_at cs s))))
+none_left cs xs settled s lt = (
+  (settled s lt).0,
+  (settled s lt).1 ∙ ap (λ (ys : List Item). ys ++ (settled s lt).0)
+      (sym (append-nil (received_at cs s))),
+)
 
 -- a front of each feed, and the one item more that met a fault
 stations_left : (n : ℕ) (G H : List LogLine) → AreOfStations n (G ++ H) → AreOfStations n G

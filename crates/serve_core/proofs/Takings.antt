@@ -73,8 +73,8 @@ pub items_of_other : (t s : ℕ) (G : List LogLine) → t ≢ s → AreOf s G �
 items_of_other t s [] ne of = refl
 items_of_other t s (l ∷ G) ne of =
     let e : (l.station == t) ≡ false = let f = of.0 in
-        by_bool (l.station == t) (λ h. let g : l.station ≡ t = grind (arith, nat_tests) in absurd
-        (ne (sym g ∙ f))) (λ h. h) in
+    by_bool (l.station == t) (λ h. let g : l.station ≡ t = grind (arith, nat_tests) in absurd
+    (ne (sym g ∙ f))) (λ h. h) in
     rw e (items_of_other t s G ne of.1)
 
 pub item_of_line : (s : ℕ) (l : LogLine) → l.station ≡ s → items_of s (l ∷ []) ≡ l.item ∷ []
@@ -123,15 +123,15 @@ ended_here = read_here end_items ended_of (λ x. refl)
 taken_here : (bs cs : List Ring) (G H : List LogLine) (i : ℕ) (c d : Ring) (rest : List Item)
     → received_at cs i ≡ received_at bs i ++ items_of i G → i < length cs → c ≡ get_or cs i c
     → received_is d ≡ (received_is c ++ items_of i H) ++ rest
-        → received_at (slice_set cs i d) i ≡ (received_at bs i ++ items_of i (G ++ H)) ++ rest
+    → received_at (slice_set cs i d) i ≡ (received_at bs i ++ items_of i (G ++ H)) ++ rest
 taken_here bs cs G H i c d rest before lt at taken =
     received_set cs i d lt
     ∙ (taken
     ∙ ap (λ (xs : List Item). (xs ++ items_of i H) ++ rest)
-        (sym (received_here cs i c lt at) ∙ before)
+    (sym (received_here cs i c lt at) ∙ before)
     ∙ ap (λ (xs : List Item). xs ++ rest)
-        (append_assoc (received_at bs i) (items_of i G) (items_of i H)
-        ∙ ap (λ (xs : List Item). received_at bs i ++ xs) (sym (items_of-append i G H))))
+    (append_assoc (received_at bs i) (items_of i G) (items_of i H)
+    ∙ ap (λ (xs : List Item). received_at bs i ++ xs) (sym (items_of-append i G H))))
 
 taken_other : (bs cs : List Ring) (G H : List LogLine) (i s : ℕ) (d : Ring)
     → received_at cs s ≡ received_at bs s ++ items_of s G → s ≢ i → AreOf i H
@@ -139,8 +139,8 @@ taken_other : (bs cs : List Ring) (G H : List LogLine) (i s : ℕ) (d : Ring)
 taken_other bs cs G H i s d before ne of =
     received_other cs i s d ne
     ∙ (before ∙ ap (λ (xs : List Item). received_at bs s ++ xs)
-        (sym (items_of-append s G H ∙ ap (λ (xs : List Item). items_of s G ++ xs)
-        (items_of_other s i H ne of) ∙ append-nil (items_of s G))))
+    (sym (items_of-append s G H ∙ ap (λ (xs : List Item). items_of s G ++ xs)
+    (items_of_other s i H ne of) ∙ append-nil (items_of s G))))
 
 are_of_stations : (count s : ℕ) (G : List LogLine) → s < count → AreOf s G → AreOfStations count G
 are_of_stations count s [] lt of = All-nil (λ l. l.station < count)
@@ -187,12 +187,18 @@ takes_then bs cs G H i c d t lt at h = record {
 }
 
 pub takes_none : (cs : List Ring) → Takes cs cs []
-takes_none cs = record { rings = same_rings cs; stations = All-nil (λ l. l.station < length cs);
-    taken = λ s. sym (append-nil (received_at cs s)) }
+takes_none cs = record {
+  rings = same_rings cs;
+  stations = All-nil (λ l. l.station < length cs);
+  taken = λ s. sym (append-nil (received_at cs s));
+}
 
 pub takes_is_some : (bs cs : List Ring) (G : List LogLine) → Takes bs cs G → TakesSome bs cs G
-takes_is_some bs cs G t = record { rings = t.rings; stations = t.stations;
-    taken = λ s. ([], t.taken s ∙ sym (append-nil _)) }
+takes_is_some bs cs G t = record {
+  rings = t.rings;
+  stations = t.stations;
+  taken = λ s. ([], t.taken s ∙ sym (append-nil _));
+}
 
 -- lines, and then more
 pub lines_then : (xs ys zs G H : List LogLine) → ys ≡ xs ++ G → zs ≡ ys ++ H → zs ≡ xs ++ (G ++ H)
@@ -211,9 +217,11 @@ ascends_more low k [] [] a of h le = tt
 ascends_more low k [] (m ∷ []) a of h le =
     ((let e = of.0 in omega (arith, e)), (let e = of.0 in omega (arith, e)), tt)
 ascends_more low k [] (m ∷ x ∷ xs) a of h le = absurd (omega arith)
-ascends_more low k (l ∷ G) H a of h le =
-    (a.0, (let e = a.1 in omega (arith, e)),
-    ascends_more (l.station + 1) k G H a.2 of h (let e = a.1 in omega (arith, e)))
+ascends_more low k (l ∷ G) H a of h le = (
+  a.0,
+  (let e = a.1 in omega (arith, e)),
+  ascends_more (l.station + 1) k G H a.2 of h (let e = a.1 in omega (arith, e)),
+)
 
 -- the ends and the rings after a look at lane i
 module _ {X : Type 0} (f : X → List Item) (read : Option X → List Item) (is : (x : X)
@@ -224,7 +232,7 @@ module _ {X : Type 0} (f : X → List Item) (read : Option X → List Item) (is 
       by_bool (s == i)
       (λ e. let e' : i ≡ s = grind (arith, nat_tests) in
       subst (λ (k : ℕ). read (slice_get (slice_set xs i y) k) ≡ read (slice_get xs k)) e'
-          (read_set f read is xs i y lt ∙ (same ∙ sym (read_here f read is xs i x lt at))))
+      (read_set f read is xs i y lt ∙ (same ∙ sym (read_here f read is xs i x lt at))))
       (λ n. let ne : s ≢ i = grind (arith, nat_tests) in read_other f read is xs i s y ne)
 
 pub received_kept : (cs : List Ring) (i s : ℕ) (c d : Ring) → i < length cs → c ≡ get_or cs i c
@@ -248,7 +256,7 @@ by_step P i before here s lt = by_bool (s == i)
 pub front_at : (cs0 cs : List Ring) (es0 es : List LaneEnd) (i : ℕ) (c : Ring) (e : LaneEnd)
     → received_at cs i ≡ received_at cs0 i → ended_at es i ≡ ended_at es0 i
     → i < length cs → i < length es → c ≡ get_or cs i c → e ≡ get_or es i e
-        → Begins (received_is c) (end_items e) → Begins (received_at cs0 i) (ended_at es0 i)
+    → Begins (received_is c) (end_items e) → Begins (received_at cs0 i) (ended_at es0 i)
 front_at cs0 cs es0 es i c e p q lc le ac ae b = (
   b.0,
   sym q ∙ (ended_here es i e le ae
@@ -285,7 +293,7 @@ takes_push s b c d G l x t ring got line = record {
       ∙ (append_assoc (received_is b) (items_of s G) (x ∷ [])
       ∙ ap (λ (xs : List Item). received_is b ++ xs)
       (sym (items_of-append s G (l ∷ []) ∙ ap (λ (xs : List Item). items_of s G ++ xs)
-          (item_of_line s l line.0 ∙ ap (λ (y : Item). y ∷ []) line.1)))));
+      (item_of_line s l line.0 ∙ ap (λ (y : Item). y ∷ []) line.1)))));
 }
 
 pub moved : (r r' k k' all : List Item) (x : Item) → r ++ k ≡ all → r' ≡ r ++ x ∷ [] → k ≡ x ∷ k'
@@ -316,7 +324,7 @@ pub front_after : (arg cs0 cs : List Ring) (es0 es : List LaneEnd) (G : List Log
 front_after arg cs0 cs es0 es G n same t ends len b =
     subst (λ (xs : List Ring). TakesFront xs es0 G) same
     (front_of_lines cs0 cs es0 G t
-        (λ s lt. let k : s < n = omega (arith, len) in ((b s k).0, sym (ends.1 s) ∙ (b s k).1)))
+    (λ s lt. let k : s < n = omega (arith, len) in ((b s k).0, sym (ends.1 s) ∙ (b s k).1)))
 
 pub some_then_none : (a b c : List Ring) (G : List LogLine) → TakesSome a b G → TakesSome b c []
     → TakesSome a c G
@@ -362,7 +370,7 @@ takes_after a b c G H p q = record {
   stations = stations_after a b G H (zip_length SameConsumer a b p.rings) p.stations q.stations;
   taken = λ s. q.taken s ∙ (ap (λ (xs : List Item). xs ++ items_of s H) (p.taken s)
       ∙ (append_assoc (received_at a s) (items_of s G) (items_of s H)
-          ∙ ap (λ (xs : List Item). received_at a s ++ xs) (sym (items_of-append s G H))));
+      ∙ ap (λ (xs : List Item). received_at a s ++ xs) (sym (items_of-append s G H))));
 }
 
 pub takes_joined : (a b : List Ring) (G H D : List LogLine) → Takes a b (G ++ (H ++ D))
@@ -397,8 +405,11 @@ module _ {X Y : Type 0} (R : X → Y → Type 0) where
 pub takes_one : (s : ℕ) (b d : Ring) (l : LogLine) (x : Item) → SameConsumer b d
     → received_is d ≡ received_is b ++ x ∷ [] → IsLineOf s x l → TakesOf s b d (l ∷ [])
 takes_one s b d l x ring got line =
-    takes_push s b b d [] l x (record { ring = ((refl, refl, refl, refl), refl); of = tt;
-    taken = sym (append-nil (received_is b)) }) ring got line
+    takes_push s b b d [] l x (record {
+      ring = ((refl, refl, refl, refl), refl);
+      of = tt;
+      taken = sym (append-nil (received_is b));
+    }) ring got line
 
 pub length_push : {X : Type 0} (xs : List X) (x : X) → length (xs ++ x ∷ []) ≡ suc (length xs)
 length_push [] x = refl

@@ -33,11 +33,11 @@ rest_is bytes at = let l : length (drop at bytes) ≡ length bytes - at = length
 pub next_line : (bytes rest : List ℕ) (at n next : ℕ) → rest ≡ drop at bytes → at < length bytes
     → n ≤ length rest → HasNoFeed (take n rest)
     → (n < length rest → take (n + 1) rest ≡ take n rest ++ 10 ∷ [])
-        → next ≡ min (length bytes) (at + length (take n rest) + 1)
+    → next ≡ min (length bytes) (at + length (take n rest) + 1)
     → lines (drop at bytes) ≡ without_return (take n rest) ∷ lines (drop next bytes)
 next_line bytes rest at n next same lt le h fed given =
     let is : next ≡ min (length bytes) (at + n + 1) =
-        given ∙ ap (λ k. min (length bytes) (at + k + 1)) (length-take-le n rest le) in
+    given ∙ ap (λ k. min (length bytes) (at + k + 1)) (length-take-le n rest le) in
     let l : length rest ≡ length bytes - at = ap length same ∙ length-drop at bytes in
     ap lines (sym same)
     ∙ ⊎_elim
@@ -45,7 +45,7 @@ next_line bytes rest at n next same lt le h fed given =
     let e : next ≡ at + (n + 1) = omega (arith, is, less, l) in
     ap lines (cut_at rest n (fed less)) ∙ lines_fed (take n rest) (drop (n + 1) rest) h
     ∙ ap (λ (ys : List ℕ). without_return (take n rest) ∷ lines ys)
-        (ap (drop (n + 1)) same ∙ drop-drop (n + 1) at bytes ∙ ap (λ k. drop k bytes) (sym e)))
+    (ap (drop (n + 1)) same ∙ drop-drop (n + 1) at bytes ∙ ap (λ k. drop k bytes) (sym e)))
     (λ (all : length rest ≤ n).
     let e : length bytes ≤ next = omega (arith, is, all, l) in
     let whole : take n rest ≡ rest = take_all n rest all in

@@ -136,11 +136,11 @@ gal_of_two = omega arith
 of_two : AreOfStations 2 both
 of_two =
     All-cons (λ (l : LogLine). l.station < 2) pack_moved
-        (gal_moved ∷ gal_asked ∷ pack_asked ∷ []) pack_of_two
+    (gal_moved ∷ gal_asked ∷ pack_asked ∷ []) pack_of_two
     (All-cons (λ (l : LogLine). l.station < 2) gal_moved (gal_asked ∷ pack_asked ∷ []) gal_of_two
     (All-cons (λ (l : LogLine). l.station < 2) gal_asked (pack_asked ∷ []) gal_of_two
     (All-cons (λ (l : LogLine). l.station < 2) pack_asked [] pack_of_two
-        (All-nil (λ (l : LogLine). l.station < 2)))))
+    (All-nil (λ (l : LogLine). l.station < 2)))))
 
 whole_of_two : (s : ℕ) → s < 2 → items_of s both ≡ items_at feeds s
 whole_of_two zero lt = refl

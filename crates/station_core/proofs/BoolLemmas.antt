@@ -60,5 +60,5 @@ greatest_is p n k f none on off le =
     let t : p (suc g) ≡ true = down p f (suc g) (k - suc g) (rw e at on) in
     let u : p (suc g) ≡ false = greatest_fails p n (omega arith) in (cc) in
     ⊎_elim (λ lt. absurd (below lt))
-        (λ ge. ⊎_elim (λ lt. absurd (above lt)) (λ ge'. (omega arith)) (cases_lt k g))
-        (cases_lt g k)
+    (λ ge. ⊎_elim (λ lt. absurd (above lt)) (λ ge'. (omega arith)) (cases_lt k g))
+    (cases_lt g k)

@@ -76,7 +76,7 @@ module _ {M : Type 0} where
   highest_bound (r ∷ rs) s n h =
       highest_step (is_number s n r) r.message (message_at rs s n) n r.n (highest rs)
       (λ e. let q : (r.n == n) ≡ true = (and_parts (r.station == s) (r.n == n) e).1 in grind
-          (arith, nat_tests)) (highest_bound rs s n) h
+      (arith, nat_tests)) (highest_bound rs s n) h
 
   -- an unbroken run, one message shorter
   pub unbroken_down : (signs : M → Bool) (rs : List (Arrived M)) (s j : ℕ)
@@ -89,8 +89,8 @@ module _ {M : Type 0} where
       → unbroken signs rs s (suc j) ≡ true → is_some (message_at rs s (suc j)) ≡ true
   unbroken_found signs rs s j h =
       let last =
-          (and_parts (unbroken signs rs s j)
-          (is_some (message_at rs s (suc j)) && not (ends signs rs s j)) h).1 in
+      (and_parts (unbroken signs rs s j)
+      (is_some (message_at rs s (suc j)) && not (ends signs rs s j)) h).1 in
       (and_parts (is_some (message_at rs s (suc j))) (not (ends signs rs s j)) last).0
 
   bound_of : (signs : M → Bool) (rs : List (Arrived M)) (s k : ℕ) → unbroken signs rs s k ≡ true
@@ -114,7 +114,7 @@ module _ {M : Type 0} where
   ready_fails signs rs s =
       ⊎_elim (greatest_fails (unbroken signs rs s) (highest rs))
       (λ ge. false_from_ne_true (unbroken signs rs s (suc (ready signs rs s)))
-          (λ on. let h = bound_of signs rs s (suc (ready signs rs s)) on in (omega arith)))
+      (λ on. let h = bound_of signs rs s (suc (ready signs rs s)) on in (omega arith)))
       (cases_lt (ready signs rs s) (highest rs))
 
   -- a run stops at a sign-off, and where a number is missing
@@ -145,8 +145,11 @@ module _ {M : Type 0} where
       → unbroken signs qs s k ≡ unbroken signs rs s k
   unbroken_same signs rs qs s zero f = refl
   unbroken_same signs rs qs s (suc k) f =
-      rw (unbroken_same signs rs qs s k (λ n h. f n (omega arith)), f (suc k) (omega arith),
-          ends_same signs rs qs s k (λ n h. f n (omega arith))) refl
+      rw (
+        unbroken_same signs rs qs s k (λ n h. f n (omega arith)),
+        f (suc k) (omega arith),
+        ends_same signs rs qs s k (λ n h. f n (omega arith)),
+      ) refl
 
   pub ready_same : (signs : M → Bool) (rs qs : List (Arrived M)) (s : ℕ)
       → ((n : ℕ) → n ≤ suc (ready signs rs s) → message_at qs s n ≡ message_at rs s n)
@@ -154,7 +157,7 @@ module _ {M : Type 0} where
   ready_same signs rs qs s f =
       ready_is signs qs s (ready signs rs s)
       (unbroken_same signs rs qs s (ready signs rs s) (λ n h. f n (omega arith))
-          ∙ ready_holds signs rs s)
+      ∙ ready_holds signs rs s)
       (unbroken_same signs rs qs s (suc (ready signs rs s)) f ∙ ready_fails signs rs s)
 
   pub due_same : (rs qs : List (Arrived M)) (s k d : ℕ)
@@ -167,8 +170,13 @@ module _ {M : Type 0} where
   pub due_split : (rs : List (Arrived M)) (s k d e : ℕ)
       → due rs s k (d + e) ≡ due rs s k d ++ due rs s (k + d) e
   due_split rs s k d zero = rw (add-zero, append-nil) refl
-  due_split rs s k d (suc e) = rw (add-suc d e, due_split rs s k d e, append_assoc, add_assoc,
-      add-suc d e) refl
+  due_split rs s k d (suc e) = rw (
+    add-suc d e,
+    due_split rs s k d e,
+    append_assoc,
+    add_assoc,
+    add-suc d e,
+  ) refl
 
   -- what is due, with one message more
   pub due_next : (rs : List (Arrived M)) (s k j : ℕ) (m : M) → k ≤ j

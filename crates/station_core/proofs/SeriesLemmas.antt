@@ -19,10 +19,10 @@ module _ {M : Type 0} where
       → Matches signs taken s (opened start)
   matches_opened signs taken s start whole sign none =
       let at : message_at taken s (suc start.posted) ≡ None =
-          none (suc start.posted) (omega arith) in
+      none (suc start.posted) (omega arith) in
       let k : ready signs taken s ≡ start.posted =
-          ready_is signs taken s start.posted whole
-          (stops_at_missing signs taken s start.posted at) in
+      ready_is signs taken s start.posted whole
+      (stops_at_missing signs taken s start.posted at) in
       record {
         count = sym k;
         sign = sign ∙ sym (ap (ends signs taken s) k);
@@ -39,9 +39,9 @@ module _ {M : Type 0} where
       (q : Series M) → t ≢ r.station → Matches signs taken t q → Matches signs (taken ++ r ∷ []) t q
   matches_other signs taken r t q ne ms =
       let same : (n : ℕ) → message_at (taken ++ r ∷ []) t n ≡ message_at taken t n =
-          λ n. at_other_station taken r t n (λ e. ne (sym e)) in
+      λ n. at_other_station taken r t n (λ e. ne (sym e)) in
       let k : ready signs (taken ++ r ∷ []) t ≡ ready signs taken t =
-          ready_same signs taken (taken ++ r ∷ []) t (λ n h. same n) in
+      ready_same signs taken (taken ++ r ∷ []) t (λ n h. same n) in
       record {
         count = ms.count ∙ sym k;
         sign = ms.sign ∙ sym (ap (ends signs (taken ++ r ∷ []) t) k ∙ ends_same signs taken
@@ -63,7 +63,7 @@ module _ {M : Type 0} where
       let s : ℕ = r.station in
       let qs : List (Arrived M) = taken ++ r ∷ [] in
       let same : (n : ℕ) → n ≤ q.posted → message_at qs s n ≡ message_at taken s n =
-          λ n h. at_other_number taken r s n (λ e. absurd (omega arith)) in
+      λ n h. at_other_number taken r s n (λ e. absurd (omega arith)) in
       record {
         whole = unbroken_same signs taken qs s q.posted same ∙ rw ms.count
             (ready_holds signs taken s);
@@ -74,7 +74,7 @@ module _ {M : Type 0} where
           inside = λ i h. ⊎_elim
               (λ lt. held_other i h (λ e. absurd (omega arith)))
               (λ ge. ⊎_elim (λ lt. held_other i h (λ e. absurd (omega arith)))
-                  (λ ge'. held_here i h (omega arith)) (cases_lt (r.n - q.posted - 1) i))
+              (λ ge'. held_here i h (omega arith)) (cases_lt (r.n - q.posted - 1) i))
               (cases_lt i (r.n - q.posted - 1));
           above = λ n h. at_other_number taken r s n (λ e. absurd (omega arith))
               ∙ (ms.held off).above n h;
@@ -87,7 +87,7 @@ module _ {M : Type 0} where
       held_other i h ne =
           slot_set_other q.slots (r.n - q.posted - 1) i r.message ne
           ∙ ((ms.held off).inside i h ∙ sym
-              (at_other_number taken r r.station (q.posted + (i + 1)) (λ e. ne (omega arith))))
+          (at_other_number taken r r.station (q.posted + (i + 1)) (λ e. ne (omega arith))))
 
       held_here : (i : ℕ) → i < window → i ≡ r.n - q.posted - 1
           → slot_at (slice_set q.slots (r.n - q.posted - 1) (Some r.message)) i
@@ -95,7 +95,7 @@ module _ {M : Type 0} where
       held_here i h e =
           let n : q.posted + (i + 1) ≡ r.n = omega arith in
           rw (n, at_its_number taken r none, e)
-              (slot_set_same q.slots (r.n - q.posted - 1) r.message (omega (arith, ms.width)))
+          (slot_set_same q.slots (r.n - q.posted - 1) r.message (omega (arith, ms.width)))
 
   -- the first place is that of the next number
   pub next_of : (signs : M → Bool) (taken : List (Arrived M)) (s : ℕ) (q : Series M)
@@ -110,17 +110,22 @@ module _ {M : Type 0} where
         slot_shift q.slots i
         ∙ ⊎_elim
         (λ lt. let e : q.posted + (suc i + 1) ≡ q.posted + 1 + (i + 1) = omega arith in rw e at
-            (held.inside (suc i) lt))
+        (held.inside (suc i) lt))
         (λ ge. slot_past q.slots (suc i) (omega arith)
-            ∙ sym (held.above (q.posted + 1 + (i + 1)) (omega arith)))
+        ∙ sym (held.above (q.posted + 1 + (i + 1)) (omega arith)))
         (cases_lt (suc i) window);
     above = λ n h. held.above n (omega arith);
   }
 
   counted_width : (q : Series M) → length q.slots ≡ window → length (counted q).slots ≡ window
   counted_width q width =
-      omega (arith, window_is, width, length-append (drop 1 q.slots) (None ∷ []),
-      length-drop 1 q.slots)
+      omega (
+        arith,
+        window_is,
+        width,
+        length-append (drop 1 q.slots) (None ∷ []),
+        length-drop 1 q.slots,
+      )
 
   -- one message is counted as posted
   counted_whole : (signs : M → Bool) (taken : List (Arrived M)) (s : ℕ) (q : Series M) (m : M)
@@ -133,7 +138,7 @@ module _ {M : Type 0} where
       → Pending signs taken s (counted q)
   pending_counted signs taken s q m p here off =
       let at : message_at taken s (suc q.posted) ≡ Some m =
-          sym (next_of signs taken s q p) ∙ here in
+      sym (next_of signs taken s q p) ∙ here in
       record {
         whole = counted_whole signs taken s q m p at;
         goes_on = rw (add-one, at) off;
@@ -147,7 +152,7 @@ module _ {M : Type 0} where
       → Ending signs taken s (counted q)
   ending_counted signs taken s q m p here on =
       let at : message_at taken s (suc q.posted) ≡ Some m =
-          sym (next_of signs taken s q p) ∙ here in
+      sym (next_of signs taken s q p) ∙ here in
       record {
         whole = counted_whole signs taken s q m p at;
         ended = rw (add-one, at) on;
@@ -160,7 +165,7 @@ module _ {M : Type 0} where
   matches_pending signs taken s q p here =
       let at : message_at taken s (suc q.posted) ≡ None = sym (next_of signs taken s q p) ∙ here in
       let k : ready signs taken s ≡ q.posted =
-          ready_is signs taken s q.posted p.whole (stops_at_missing signs taken s q.posted at) in
+      ready_is signs taken s q.posted p.whole (stops_at_missing signs taken s q.posted at) in
       record {
         count = sym k;
         sign = p.sign ∙ sym (ap (ends signs taken s) k ∙ p.goes_on);
@@ -174,8 +179,8 @@ module _ {M : Type 0} where
       → Ending signs taken s q → Matches signs taken s (closed q)
   matches_closed signs taken s q p =
       let k : ready signs taken s ≡ q.posted =
-          ready_is signs taken s q.posted p.whole
-          (stops_at_sign_off signs taken s q.posted p.ended) in
+      ready_is signs taken s q.posted p.whole
+      (stops_at_sign_off signs taken s q.posted p.ended) in
       record {
         count = sym k;
         sign = sym (ap (ends signs taken s) k ∙ p.ended);
@@ -195,7 +200,11 @@ module _ {M : Type 0} where
         | inl e ↦ rw (lt, e, ms.empty e (n - q.posted - 1)) refl
         | inr e ↦ ⊎_elim
             (λ h. rw (lt, e, (ms.held e).inside (n - q.posted - 1) h, place) refl)
-            (λ h. rw (lt, e, slot_past q.slots (n - q.posted - 1) (omega (arith, ms.width)),
-                (ms.held e).above n (omega arith)) refl)
+            (λ h. rw (
+              lt,
+              e,
+              slot_past q.slots (n - q.posted - 1) (omega (arith, ms.width)),
+              (ms.held e).above n (omega arith),
+            ) refl)
             (cases_lt (n - q.posted - 1) window)
       ]

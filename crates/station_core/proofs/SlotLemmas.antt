@@ -64,7 +64,7 @@ module _ {M : Type 0} where
   series_at_read all items s q same read within =
       let here : s < length items = rw same within in
       rw (← same) (series_at_there items s q
-          (slice_get_read items (length items) s q refl here read))
+      (slice_get_read items (length items) s q refl here read))
 
   -- a place past the window's end
   pub slot_past : (xs : List (Option M)) (i : ℕ) → length xs ≤ i → slot_at xs i ≡ None
@@ -74,5 +74,10 @@ module _ {M : Type 0} where
   pub fits_empty : (k h w : ℕ) (ring : Buffer (Option M)) → k ≤ LAST → h ≤ LAST → w ≡ window
       → ring ≡ buffer (replicate w None) w → FitsWindow k h ring
   fits_empty k h w ring few last e same =
-      rw same (record { count = few; last = last; width = length-replicate w None ∙ e; room = e;
-      none_above = λ i _. slot_empty w i })
+      rw same (record {
+        count = few;
+        last = last;
+        width = length-replicate w None ∙ e;
+        room = e;
+        none_above = λ i _. slot_empty w i;
+      })

@@ -46,11 +46,11 @@ module _ {M : Type 0} where
       → refusal signs stations taken s n ≡ None → IsAccepted signs stations taken s n
   accepted signs stations taken s n h =
       let tests = tests_none (nat_le stations s) ((n == 0) || nat_lt LAST n)
-          (is_double signs taken s n) (is_signed signs taken s)
-          (nat_lt (ready signs taken s + window) n) h in
+      (is_double signs taken s n) (is_signed signs taken s)
+      (nat_lt (ready signs taken s + window) n) h in
       let number = or_parts (n == 0) (nat_lt LAST n) tests.1 in
       let double = or_parts (nat_le n (ready signs taken s))
-          (not (is_signed signs taken s) && is_some (message_at taken s n)) tests.2 in
+      (not (is_signed signs taken s) && is_some (message_at taken s n)) tests.2 in
       record {
         within = let t = tests.0 in grind (arith, nat_tests);
         low = let t = double.0 in grind (arith, nat_tests);
@@ -107,14 +107,14 @@ module _ {M : Type 0} where
       let ms : Matches signs taken s q = every.each s h in
       let there : nat_le (length all) s ≡ false = grind (arith, nat_tests) in
       let sign : ends signs taken s q.posted ≡ q.signed =
-          ap (ends signs taken s) ms.count ∙ sym ms.sign in
+      ap (ends signs taken s) ms.count ∙ sym ms.sign in
       rw (series_there all s h, there, ← ms.count, sign)
       (⊎_elim
       (λ low. rw (held_is_taken signs taken s n q ms low) refl)
       (λ high. let le : nat_le n q.posted ≡ true = grind (arith, nat_tests) in rw le refl)
       (cases_lt q.posted n)))
       (λ h. let there : nat_le (length all) s ≡ true = grind (arith, nat_tests) in rw
-          (slice_get_past all s h, there) refl)
+      (slice_get_past all s h, there) refl)
       (cases_lt s (length all))
 
   -- there is a station where nothing is refused
@@ -122,7 +122,7 @@ module _ {M : Type 0} where
       → s < length all
   accepted_within all s n h =
       ⊎_elim (λ lt. lt) (λ ge. let e : refusal_of all s n ≡ Some UnknownStation = rw
-          (slice_get_past all s ge) refl in absurd (cc)) (cases_lt s (length all))
+      (slice_get_past all s ge) refl in absurd (cc)) (cases_lt s (length all))
 
   -- the stations as they start
   opened_at : (xs : List Start) (s : ℕ) → s < length xs → (start : Start)
@@ -139,7 +139,7 @@ module _ {M : Type 0} where
         let p = opened_at starts s (omega (arith, length-map starts (opened {M = M}))) in
         let from : StartsFrom signs taken s p.0 = every.each s p.0 p.1 in
         let q : series_at (map (opened {M = M}) starts) s ≡ opened p.0 =
-            series_at_there (map (opened {M = M}) starts) s (opened p.0) p.2 in
+        series_at_there (map (opened {M = M}) starts) s (opened p.0) p.2 in
         rw q (matches_opened signs taken s p.0 from.whole from.sign from.none_above);
   }
 
@@ -150,8 +150,8 @@ module _ {M : Type 0} where
       (slice_set all s (with_held (series_at all s) n m))
   posting_taken signs taken all s n m every none =
       let a : IsAccepted signs (length all) taken s n =
-          accepted signs (length all) taken s n
-          (sym (refusal_agrees signs taken all s n every) ∙ none) in
+      accepted signs (length all) taken s n
+      (sym (refusal_agrees signs taken all s n every) ∙ none) in
       let q : Series M = series_at all s in
       let ms : Matches signs taken s q = every.each s a.within in
       let off : q.signed ≡ false = ms.sign ∙ a.goes_on in
@@ -236,12 +236,12 @@ module _ {M : Type 0} where
   pub stays_among : (o : Option (ℕ × M)) (all new : List (Series M)) (s : ℕ) → s < length all
       → OnSome o (new ≡ slice_set all s (counted (series_at all s)))
       → OnSome o ((n : ℕ) → (series_at all s).posted + 1 < n
-          → held_at (series_at new s) n ≡ held_at (series_at all s) n)
+      → held_at (series_at new s) n ≡ held_at (series_at all s) n)
   stays_among None all new s within e = tt
   stays_among (Some d) all new s within e = λ n later.
       let here : series_at new s ≡ counted (series_at all s) =
-          ap (λ (l : List (Series M)). series_at l s) e ∙ series_at_there _ s _
-          (slice_get-set_same all s (counted (series_at all s)) within) in
+      ap (λ (l : List (Series M)). series_at l s) e ∙ series_at_there _ s _
+      (slice_get-set_same all s (counted (series_at all s)) within) in
       ap (λ (q : Series M). held_at q n) here ∙ held_later (series_at all s) n later
 
   pub unchanged_among : (o : Option (ℕ × M)) (all items : List (Series M)) (s : ℕ)
@@ -257,7 +257,7 @@ module _ {M : Type 0} where
       → IfSome o (λ d. (d.0 ≡ (series_at all s).posted + 1) × (d.0 ≤ LAST))
       → OnSome o (new ≡ slice_set all s (counted (series_at all s)))
       → IfSome o (λ d. (signs : M → Bool) (taken : List (Arrived M)) → IsPosting signs taken s all
-          → ComesDue signs taken s d.0 d.1 new)
+      → ComesDue signs taken s d.0 d.1 new)
   due_among None all new s message number e = tt
   due_among (Some d) all new s message number e =
       λ signs taken posting. rw e (comes_due signs taken all s d.0 d.1 posting message number.0)

@@ -1,12 +1,17 @@
 use Rattle.std.proofs.Common.{◌∙◌, ap, sym}
 use Rattle.command_words.specs.Completion.{has_option}
 use Rattle.command_words.specs.Tables.{form_by}
-use Rattle.command_words.proofs.Filling.{has_both, has_none}
+use Rattle.command_words.proofs.Filling.{has_both, has_none, help_has_none}
 use Rattle.command_words.proofs.completion.takes_option.Goals as goal
 
 pub returns-in-Explain : goal.returns-in-Explain
 returns-in-Explain c =
     has_none c.args.option ∙ ap (λ n. has_option c.args.option (form_by n)) (sym c.in-Explain.is)
 
+pub returns-in-Help : goal.returns-in-Help
+returns-in-Help c =
+    help_has_none c.args.option ∙ ap (λ n. has_option c.args.option (form_by n)) (sym c.in-Help.is)
+
 pub returns-in_default : goal.returns-in_default
-returns-in_default c = has_both c.args.option c.args.name c.in_default.not-Explain
+returns-in_default c =
+    has_both c.args.option c.args.name c.in_default.not-Explain c.in_default.not-Help

@@ -27,8 +27,8 @@ loop-number-preserved c =
     let found : c.in-Ok.found ≡ true = c.if-not-found.false in
     let read = rw found at (c.in-Ok.ensures.reads kept.0 kept.1) in
     let next = read_some (λ (s : Bor (List ℕ)). Some s.now) c.loop-number.reader
-        c.read_byte_record.new.self (fields_of c.read_byte_record.new.row) kept.3 kept.2
-        kept.4 read in (
+    c.read_byte_record.new.self (fields_of c.read_byte_record.new.row) kept.3 kept.2
+    kept.4 read in (
       read.3 ∙ kept.0,
       inl (c.in-Ok.ensures.ready kept.0),
       read.2 ∙ kept.2,
@@ -45,9 +45,9 @@ returns-then-not-found c =
     let none : c.in-Ok.found ≡ false = c.if-not-found.true in
     let read = rw none at (c.in-Ok.ensures.reads kept.0 kept.1) in
     at_end (strip_bom c.args.bytes.now) c.loop-number.kept.items c.loop-number.number _
-        kept.3 kept.5
+    kept.3 kept.5
     (rows-end (λ (s : Bor (List ℕ)). Some s.now) c.loop-number.reader c.read_byte_record.new.self _
-        default_config kept.3 kept.2 kept.4 read)
+    default_config kept.3 kept.2 kept.4 read)
 
 pub returns-in_err-add_row : goal.returns-in_err-add_row
 returns-in_err-add_row c =
@@ -55,9 +55,9 @@ returns-in_err-add_row c =
     let found : c.in-Ok.found ≡ true = c.if-not-found.false in
     let read = rw found at (c.in-Ok.ensures.reads kept.0 kept.1) in
     let next = read_some (λ (s : Bor (List ℕ)). Some s.now) c.loop-number.reader
-        c.read_byte_record.new.self (fields_of c.read_byte_record.new.row) kept.3 kept.2
-        kept.4 read in
+    c.read_byte_record.new.self (fields_of c.read_byte_record.new.row) kept.3 kept.2
+    kept.4 read in
     match_err c.from_residual.result _ _ _ c.from_residual.ensures.1 (λ fault gives. λ other.
     fault_here (strip_bom c.args.bytes.now) c.loop-number.kept.items c.loop-number.number _ kept.3 _
-        _ next.0 fault kept.5 next.2
+    _ next.0 fault kept.5 next.2
     (c.in_err-add_row.ensures.fault (λ e. other (gives ∙ e)) ∙ ap Some (sym gives)))

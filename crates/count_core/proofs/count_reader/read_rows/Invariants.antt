@@ -9,4 +9,4 @@ abbrev pub invariant-loop-number : goal.invariant-loop-number
 invariant-loop-number l = (reader_trim l.reader ≡ trim.None) × Ready l.reader
     × (reader_config l.reader ≡ default_config)
     × (xs : List ℕ) × (source_of (λ s. Some s.now) l.reader ≡ Some xs)
-        × IsUpTo (strip_bom l.bytes) l.kept.items l.number (reader_state l.reader) xs
+    × IsUpTo (strip_bom l.bytes) l.kept.items l.number (reader_state l.reader) xs

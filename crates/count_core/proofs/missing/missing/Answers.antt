@@ -21,23 +21,23 @@ loop-i-preserved c =
     let missed = IsMissingIn B.museum in
     let here : q < length B.museum.places = search rules in
     let count : length B.museum.places ≡ length lists =
-        sym are.many ∙ length-map lists (λ (v : Vec ℕ Global). v.items) in
+    sym are.many ∙ length-map lists (λ (v : Vec ℕ Global). v.items) in
     let there = slice_get_read lists (length B.museum.places) q c.index.result.now count here
-        c.index.ensures in
+    c.index.ensures in
     let objects : List ℕ = filter (is_missing B rows q)
-        (range_with_len 0 (length B.museum.things)) in
+    (range_with_len 0 (length B.museum.things)) in
     let found : c.as_slice.result.now ≡ objects =
     c.as_slice.ensures.value ∙ (sym (at_of lists q c.index.result.now there)
-        ∙ (are.each q here ∙ missed_in B rows c.args.flags.now q c.requires.flags)) in
+    ∙ (are.each q here ∙ missed_in B rows c.args.flags.now q c.requires.flags)) in
     let added = c.in_ok-add_missing.ensures
-        ∙ ap (λ xs. c.loop-i.missing.items ++ map (missing_at q) xs) found in
+    ∙ ap (λ xs. c.loop-i.missing.items ++ map (missing_at q) xs) found in
     let below = filter_below (is_missing B rows q) (length B.museum.things) in (
       added
           ∙ (ap (λ xs. xs ++ map (missing_at q) objects) c.loop-i.invariant.0
           ∙ sym (flat_map_more (missing_in B rows) c.in_ok-places.places.items c.loop-i.i q
-              (omega (arith, c.loop-i-test.true)) c.index-place.ensures)),
+          (omega (arith, c.loop-i-test.true)) c.index-place.ensures)),
       subst (All missed) (sym added)
           (All-append missed c.loop-i.missing.items (map (missing_at q) objects)
-              c.loop-i.invariant.1 (All-map missed (missing_at q) objects
-              (λ k d lt. (below k d lt, here)))),
+          c.loop-i.invariant.1 (All-map missed (missing_at q) objects
+          (λ k d lt. (below k d lt, here)))),
     )

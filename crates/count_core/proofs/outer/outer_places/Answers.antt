@@ -17,14 +17,14 @@ loop-end-preserved c =
       | in-Some+in_ok-push w ↦
           ap (λ (v : Vec ℕ Global). v.items) w.places-is
           ∙ (w.in_ok-push.ensures.items ∙ (ap (λ xs. xs ++ w.in-Some.outer ∷ [])
-              c.loop-end.invariant
+          c.loop-end.invariant
           ∙ sym (fronts_more S text end ∙ ap (λ o. before ++ cons_option o [])
-              (sym c.outer_place.ensures ∙ w.in-Some.is))))
+          (sym c.outer_place.ensures ∙ w.in-Some.is))))
       | in_default w ↦
           ap (λ (v : Vec ℕ Global). v.items) w.places-is
           ∙ (c.loop-end.invariant ∙ sym (fronts_more S text end
-              ∙ (ap (λ o. before ++ cons_option o []) (sym c.outer_place.ensures ∙ w.in_default.is)
-              ∙ append-nil before)))
+          ∙ (ap (λ o. before ++ cons_option o []) (sym c.outer_place.ensures ∙ w.in_default.is)
+          ∙ append-nil before)))
     ]
 
 pub returns : goal.returns
@@ -36,4 +36,4 @@ returns c =
     c.in_ok-push-2.ensures.items
     ∙ (ap (λ xs. xs ++ c.args.place ∷ []) c.loop-end.invariant
     ∙ (ap (λ n. filter_map (outer_place S text) (range_with_len 0 n) ++ c.args.place ∷ []) over
-        ∙ itself_last S text c.args.place c.is_museum.ensures own))
+    ∙ itself_last S text c.args.place c.is_museum.ensures own))

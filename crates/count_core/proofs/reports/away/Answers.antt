@@ -18,14 +18,14 @@ loop-object-preserved c =
           let p = w.place_of-place.result in
           let new : AwayObject = record { object = x; place = p } in
           let pushed = ap (λ (v : Vec AwayObject Global). v.items) w.objects-is
-              ∙ w.in_ok-push.ensures.items in (
+          ∙ w.in_ok-push.ensures.items in (
             pushed
                 ∙ (ap (λ xs. xs ++ new ∷ []) c.loop-object.invariant.0
                 ∙ (ap (λ (q : Option ℕ). map (away_object B)
-                    (filter (is_away B) (range_with_len 0 x)) ++ record { object = x; place = q }
-                    ∷ []) w.place_of-place.ensures.place
+                (filter (is_away B) (range_with_len 0 x)) ++ record { object = x; place = q }
+                ∷ []) w.place_of-place.ensures.place
                 ∙ sym (ap (map (away_object B))
-                    (filter_with (is_away B) x (sym c.is_away.ensures ∙ w.if-is_away.true))
+                (filter_with (is_away B) x (sym c.is_away.ensures ∙ w.if-is_away.true))
                 ∙ map-append (away_object B) (filter (is_away B) (range_with_len 0 x)) (x ∷ [])))),
             subst (All (IsAwayIn B.museum)) (sym pushed)
                 (All-push (IsAwayIn B.museum) c.loop-object.objects.items new

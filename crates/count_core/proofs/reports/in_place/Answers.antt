@@ -14,7 +14,7 @@ loop-thing-preserved c =
     elim c.if-is_in.branch [
       | then-is_in+in_ok-push w ↦
           let pushed = ap (λ (v : Vec ℕ Global). v.items) w.things-is
-              ∙ w.in_ok-push.ensures.items in (
+          ∙ w.in_ok-push.ensures.items in (
             pushed ∙ (ap (λ xs. xs ++ x ∷ []) c.loop-thing.invariant.0
                 ∙ sym (filter_with test x (sym c.is_in.ensures ∙ w.if-is_in.true))),
             subst (All of_setup) (sym pushed)

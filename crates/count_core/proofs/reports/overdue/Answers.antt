@@ -14,12 +14,12 @@ loop-i-preserved c =
       | then-is_overdue+in_ok-push w ↦
           ap (λ (v : Vec (List ℕ) Global). v.items) w.loans-is
           ∙ (w.in_ok-push.ensures.items ∙ (ap (λ xs. xs ++ c.loan_at-loan.result ∷ [])
-              c.loop-i.invariant
+          c.loop-i.invariant
           ∙ sym (filter_take_with test (loans_in B) c.loop-i.i c.loan_at-loan.result below
-              c.loan_at-loan.ensures.loan (sym c.is_overdue.ensures ∙ w.if-is_overdue.true))))
+          c.loan_at-loan.ensures.loan (sym c.is_overdue.ensures ∙ w.if-is_overdue.true))))
       | else-is_overdue w ↦
           ap (λ (v : Vec (List ℕ) Global). v.items) w.loans-is
           ∙ (c.loop-i.invariant ∙ sym (filter_take_without test (loans_in B) c.loop-i.i
-              c.loan_at-loan.result below c.loan_at-loan.ensures.loan
-              (sym c.is_overdue.ensures ∙ w.if-is_overdue.false)))
+          c.loan_at-loan.result below c.loan_at-loan.ensures.loan
+          (sym c.is_overdue.ensures ∙ w.if-is_overdue.false)))
     ]

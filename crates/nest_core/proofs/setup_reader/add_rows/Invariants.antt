@@ -8,5 +8,5 @@ use Rattle.nest_core.proofs.setup_reader.add_rows.Given as goal
 abbrev pub invariant-loop-before : goal.invariant-loop-before
 invariant-loop-before l = TakesRows l.reader
     × (xs : List ℕ) × (source_of (λ s. Some s.now) l.reader ≡ Some xs)
-        × IsUpTo (strip_bom l.fn.bytes) l.setup (l.before + 1) (reader_state l.reader) xs
+    × IsUpTo (strip_bom l.fn.bytes) l.setup (l.before + 1) (reader_state l.reader) xs
     × (l.before + length xs ≤ length l.fn.bytes)

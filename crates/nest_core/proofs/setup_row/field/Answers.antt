@@ -5,4 +5,4 @@ use Rattle.nest_core.proofs.setup_row.field.Goals as goal
 pub returns : goal.returns
 returns c =
     ap (λ (f : Bor (List ℕ)). f.now) c.unwrap_or.ensures ∙ field_found _ c.args.i c.get.result _
-        refl c.get.ensures.value
+    refl c.get.ensures.value

@@ -8,5 +8,5 @@ loop-i-preserved c =
     let lines = c.args.lines.now in
     c.in_ok-insert.ensures.keys
     ∙ ap (λ keys. insert_key nat_eq keys (get_or lines c.loop-i.i c.index-lines-i.result).object)
-        c.loop-i.invariant
+    c.loop-i.invariant
     ∙ one_more_object lines c.loop-i.i c.index-lines-i.result c.loop-i-test.true c.requires

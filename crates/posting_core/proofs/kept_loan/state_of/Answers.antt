@@ -24,21 +24,21 @@ is_running authorised stages a d n = rw (a, d, n) refl
 pub returns-then-all : goal.returns-then-all
 returns-then-all c =
     let all = all_from_yields_List is_done _ _ c.all.result c.all.ensures.ran
-        (YieldsList-from_slice c.args.stages.now cc) (λ x b q k. search (rules, tests)) in
+    (YieldsList-from_slice c.args.stages.now cc) (λ x b q k. search (rules, tests)) in
     is_closed c.args.authorised c.args.stages.now (cc) (cc)
 
 pub returns-then-any : goal.returns-then-any
 returns-then-any c =
     let all = all_from_yields_List is_done _ _ c.all.result c.all.ensures.ran
-        (YieldsList-from_slice c.args.stages.now cc) (λ x b q k. search (rules, tests)) in
+    (YieldsList-from_slice c.args.stages.now cc) (λ x b q k. search (rules, tests)) in
     let any = any_from_yields_List (λ s. not (is_awaiting s)) _ _ c.any.result c.any.ensures.ran
-        (YieldsList-from_slice c.args.stages.now cc) (λ x b q k. search (rules, tests)) in
+    (YieldsList-from_slice c.args.stages.now cc) (λ x b q k. search (rules, tests)) in
     is_running c.args.authorised c.args.stages.now (cc) (cc) (cc)
 
 pub returns : goal.returns
 returns c =
     let all = all_from_yields_List is_done _ _ c.all.result c.all.ensures.ran
-        (YieldsList-from_slice c.args.stages.now cc) (λ x b q k. search (rules, tests)) in
+    (YieldsList-from_slice c.args.stages.now cc) (λ x b q k. search (rules, tests)) in
     let any = any_from_yields_List (λ s. not (is_awaiting s)) _ _ c.any.result c.any.ensures.ran
-        (YieldsList-from_slice c.args.stages.now cc) (λ x b q k. search (rules, tests)) in
+    (YieldsList-from_slice c.args.stages.now cc) (λ x b q k. search (rules, tests)) in
     is_waiting c.args.authorised c.args.stages.now (cc) (cc) (cc)

@@ -6,7 +6,7 @@ use Rattle.posting_core.proofs.recording.write.Goals as goal
 pub returns-in_ok-push-in-Agree-clause-ok : goal.returns-in_ok-push-in-Agree-clause-ok
 returns-in_ok-push-in-Agree-clause-ok c =
     rw c.in-Agree.is (c.in_ok-push-in-Agree.ensures.ok
-        ∙ ap (λ (row : LoanRow). c.args.loans.now ++ row ∷ []) c.in_ok-row-in-Agree.ensures)
+    ∙ ap (λ (row : LoanRow). c.args.loans.now ++ row ∷ []) c.in_ok-row-in-Agree.ensures)
 
 pub cross-requires : goal.cross-requires
 cross-requires c = number_within c.args.loans.now c.in-Exit.loan

@@ -8,5 +8,5 @@ pub returns-in-Ok : goal.returns-in-Ok
 returns-in-Ok g c honest left clean =
     let image = image_at g.T.Start in
     lasts_again image (in_store (file_state c.args.register.conn))
-        (in_store (file_state c.in-Ok.again.conn)) ((c.let_go-files.ensures honest).left image left)
-        (c.in-Ok.ensures.found clean)
+    (in_store (file_state c.in-Ok.again.conn)) ((c.let_go-files.ensures honest).left image left)
+    (c.in-Ok.ensures.found clean)

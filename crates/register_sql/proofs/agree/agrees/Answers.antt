@@ -17,15 +17,15 @@ returns-clause-told g c clean =
     let same = (c.in_ok-spots.ensures.same now).now in
     let loans = c.in_ok-loans.ensures.rows clean in
     let spots = subst (IsPermutation (shown_in Spots old.now.trees)) (sym c.deref.ensures.value)
-        (c.in_ok-spots.ensures.rows now) in
+    (c.in_ok-spots.ensures.rows now) in
     let lines =
-        subst (λ (k : Database). IsPermutation (shown_in Lines k.trees) c.deref-2.result.now) same
-        (subst (IsPermutation (shown_in Lines mid.now.trees)) (sym c.deref-2.ensures.value) loans.0)
-        in
+    subst (λ (k : Database). IsPermutation (shown_in Lines k.trees) c.deref-2.result.now) same
+    (subst (IsPermutation (shown_in Lines mid.now.trees)) (sym c.deref-2.ensures.value) loans.0)
+    in
     let terms =
-        subst (λ (k : Database). IsPermutation (shown_in Terms k.trees) c.deref-3.result.now) same
-        (subst (IsPermutation (shown_in Terms mid.now.trees)) (sym c.deref-3.ensures.value) loans.1)
-        in
+    subst (λ (k : Database). IsPermutation (shown_in Terms k.trees) c.deref-3.result.now) same
+    (subst (IsPermutation (shown_in Terms mid.now.trees)) (sym c.deref-3.ensures.value) loans.1)
+    in
     if_ok c.compare-answer.result (λ equal told d rows. told d
-        (rows_found old.now.trees c.deref.result.now c.deref-2.result.now c.deref-3.result.now spots
-        lines terms d rows)) c.compare-answer.ensures.told
+    (rows_found old.now.trees c.deref.result.now c.deref-2.result.now c.deref-3.result.now spots
+    lines terms d rows)) c.compare-answer.ensures.told

@@ -13,4 +13,4 @@ returns-in-Ok-None-clause-kept c =
     let none : lookup (bytes_eq loan) kept ≡ None = search rules in
     let done : c.insert.new.self.entries ≡ insert_entry bytes_eq kept loan day = search rules in
     keeps_term bytes_eq kept c.insert.new.self.entries loan day c.args.row.now none done
-        c.in-Some.ensures'.read
+    c.in-Some.ensures'.read

@@ -16,10 +16,10 @@ returns-then-not-apart-clause-refused g c clean =
     let mid = state g.S.Store c.are_all_apart.new.conn in
     let early : HasCleanDisk old = omega (arith, clean, c.are_all_apart.ensures.survives.clean) in
     let other = not_from_Decides c.in_ok-apart.apart (c.in_ok-apart.ensures.told clean)
-        (search rules) in
+    (search rules) in
     refused_unfit S old mid (c.in_ok-apart.ensures.same clean)
-        (new_unfit S c.args.made c.requires.few old (c.requires.part early)
-        (c.requires.new early) other)
+    (new_unfit S c.args.made c.requires.few old (c.requires.part early)
+    (c.requires.new early) other)
 
 pub returns-in-Err-clause-refused : goal.returns-in-Err-clause-refused
 returns-in-Err-clause-refused g c clean =
@@ -28,7 +28,7 @@ returns-in-Err-clause-refused g c clean =
     let mid = state g.S.Store c.are_all_apart.new.conn in
     let early : HasCleanDisk old = omega (arith, clean, c.are_all_apart.ensures.survives.clean) in
     refused_as S c.args.made c.requires.few old mid NoMemory (c.requires.part early)
-        (c.in_ok-apart.ensures.same clean) (λ k held. tt) memory_is_not_store
+    (c.in_ok-apart.ensures.same clean) (λ k held. tt) memory_is_not_store
 
 pub returns-in_err-make_whole-clause-crash : goal.returns-in_err-make_whole-clause-crash
 returns-in_err-make_whole-clause-crash g c =
@@ -39,7 +39,7 @@ returns-in_err-make_whole-clause-crash g c =
     let texts = map string_bytes c.deref.result.now in
     let are : texts ≡ setup_rows S = search rules in
     new_survives S c.args.made c.requires.few old mid new texts are c.requires.part c.requires.new
-        c.are_all_apart.ensures.survives c.in_ok-apart.ensures.same
+    c.are_all_apart.ensures.survives c.in_ok-apart.ensures.same
     (λ clean. (c.in_ok-apart.ensures.told clean).0 (search rules)) c.make_whole.ensures.crash
 
 pub returns-clause-bound : goal.returns-clause-bound
@@ -52,9 +52,9 @@ returns-clause-bound g c clean =
     let are : texts ≡ setup_rows S = search rules in
     let now : HasCleanDisk mid = omega (arith, clean, c.make_whole.ensures.crash.clean) in
     new_is_bound S c.args.made c.requires.few old mid new texts are c.requires.part c.requires.new
-        c.are_all_apart.ensures.survives c.in_ok-apart.ensures.same
+    c.are_all_apart.ensures.survives c.in_ok-apart.ensures.same
     (λ k. (c.in_ok-apart.ensures.told k).0 (search rules)) now
-        (c.in_ok-make_whole.ensures.made clean)
+    (c.in_ok-make_whole.ensures.made clean)
 
 pub returns-clause-crash : goal.returns-clause-crash
 returns-clause-crash g c =
@@ -65,5 +65,5 @@ returns-clause-crash g c =
     let texts = map string_bytes c.deref.result.now in
     let are : texts ≡ setup_rows S = search rules in
     new_survives S c.args.made c.requires.few old mid new texts are c.requires.part c.requires.new
-        c.are_all_apart.ensures.survives c.in_ok-apart.ensures.same
+    c.are_all_apart.ensures.survives c.in_ok-apart.ensures.same
     (λ clean. (c.in_ok-apart.ensures.told clean).0 (search rules)) c.make_whole.ensures.crash

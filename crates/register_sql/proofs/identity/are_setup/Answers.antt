@@ -21,11 +21,11 @@ returns-then-not-is_setup c =
     let many : length (map string_bytes texts) ≡ length texts = length-map texts string_bytes in
     let bytes : text ≡ string_bytes c.index-texts-at.result = search rules in
     let is : text ≡ get_or (map string_bytes texts) at text =
-        bytes ∙ ap string_bytes c.index-texts-at.is
-        ∙ sym (get_or-map string_bytes texts at c.index-texts-at.result text low) in
+    bytes ∙ ap string_bytes c.index-texts-at.is
+    ∙ sym (get_or-map string_bytes texts at c.index-texts-at.result text low) in
     not_there c.args.rows.now (map string_bytes texts) at c.index-rows-at.result text
-        c.is_setup.result (omega (arith, low, many)) c.index-rows-at.is is c.is_setup.ensures
-        (search rules)
+    c.is_setup.result (omega (arith, low, many)) c.index-rows-at.is is c.is_setup.ensures
+    (search rules)
 
 pub rows-preserved : goal.rows-preserved
 rows-preserved c =
@@ -37,11 +37,11 @@ rows-preserved c =
     let many : length (map string_bytes texts) ≡ length texts = length-map texts string_bytes in
     let bytes : text ≡ string_bytes c.index-texts-at.result = search rules in
     let is : text ≡ get_or (map string_bytes texts) at text =
-        bytes ∙ ap string_bytes c.index-texts-at.is
-        ∙ sym (get_or-map string_bytes texts at c.index-texts-at.result text low) in
+    bytes ∙ ap string_bytes c.index-texts-at.is
+    ∙ sym (get_or-map string_bytes texts at c.index-texts-at.result text low) in
     one_further c.args.rows.now (map string_bytes texts) at c.index-rows-at.result text
-        c.rows-test.true (omega (arith, low, many)) c.index-rows-at.is is
-        (c.is_setup.ensures.0 (search rules)) c.rows.invariant
+    c.rows-test.true (omega (arith, low, many)) c.index-rows-at.is is
+    (c.is_setup.ensures.0 (search rules)) c.rows.invariant
 
 pub returns : goal.returns
 returns c =
@@ -53,5 +53,5 @@ returns c =
     let high = c.rows-test.false in
     let all : rows ≡ setup_rows_shown (map string_bytes texts) =
     sym (take_all at rows high) ∙ c.rows.invariant ∙ ap setup_rows_shown
-        (take_all at (map string_bytes texts) (omega (arith, same, many, high))) in
+    (take_all at (map string_bytes texts) (omega (arith, same, many, high))) in
     (λ _. all, λ _. refl)

@@ -13,5 +13,5 @@ returns-clause-told g c clean =
     let texts = map string_bytes c.deref.result.now in
     let are : texts ≡ setup_rows c.args.setup.now = search rules in
     subst (λ ts. Decides c.in_ok-same.same
-        (IsPermutation (setup_rows_shown ts) (setup_in c.args.made old.now.trees))) are
-        (c.in_ok-same.ensures.told clean)
+    (IsPermutation (setup_rows_shown ts) (setup_in c.args.made old.now.trees))) are
+    (c.in_ok-same.ensures.told clean)

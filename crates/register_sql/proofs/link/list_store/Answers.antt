@@ -13,22 +13,28 @@ returns-in-Ok-clause-listed g c =
     let old = state g.S.Store c.args.link.now.conn in
     let new = state g.S.Store c.list.new.conn in
     let store = c.list.new.conn.store in
-    let after : Laws new = record { settled = g.met.S.Store.settled store;
-        stays = g.met.S.Store.stays store; survives = g.met.S.Store.survives store } in
+    let after : Laws new = record {
+      settled = g.met.S.Store.settled store;
+      stays = g.met.S.Store.stays store;
+      survives = g.met.S.Store.survives store;
+    } in
     read_ok old new c.args.link.now.stopped c.requires c.in_default.is c.list.ensures.survives
-        c.in-Ok.ensures.same after c.in-Ok.answer (λ entries. HasList (reverse entries.items))
-        c.in-Ok.ensures.listed
+    c.in-Ok.ensures.same after c.in-Ok.answer (λ entries. HasList (reverse entries.items))
+    c.in-Ok.ensures.listed
 
 pub returns-in-Ok-clause-cause : goal.returns-in-Ok-clause-cause
 returns-in-Ok-clause-cause g c =
     let old = state g.S.Store c.args.link.now.conn in
     let new = state g.S.Store c.list.new.conn in
     let store = c.list.new.conn.store in
-    let after : Laws new = record { settled = g.met.S.Store.settled store;
-        stays = g.met.S.Store.stays store; survives = g.met.S.Store.survives store } in
+    let after : Laws new = record {
+      settled = g.met.S.Store.settled store;
+      stays = g.met.S.Store.stays store;
+      survives = g.met.S.Store.survives store;
+    } in
     read_err old new c.args.link.now.stopped c.requires c.in_default.is c.list.ensures.survives
-        c.in-Ok.ensures.same after c.in-Ok.answer (λ fault k. IsListFault c.args.stations k fault)
-        c.in-Ok.ensures.cause
+    c.in-Ok.ensures.same after c.in-Ok.answer (λ fault k. IsListFault c.args.stations k fault)
+    c.in-Ok.ensures.cause
 
 pub returns-in-Ok-clause-unchanged : goal.returns-in-Ok-clause-unchanged
 returns-in-Ok-clause-unchanged g c =
@@ -36,10 +42,16 @@ returns-in-Ok-clause-unchanged g c =
     let new = state g.S.Store c.list.new.conn in
     let first = c.args.link.now.conn.store in
     let store = c.list.new.conn.store in
-    let before : Laws old = record { settled = g.met.S.Store.settled first;
-        stays = g.met.S.Store.stays first; survives = g.met.S.Store.survives first } in
-    let after : Laws new = record { settled = g.met.S.Store.settled store;
-        stays = g.met.S.Store.stays store; survives = g.met.S.Store.survives store } in
+    let before : Laws old = record {
+      settled = g.met.S.Store.settled first;
+      stays = g.met.S.Store.stays first;
+      survives = g.met.S.Store.survives first;
+    } in
+    let after : Laws new = record {
+      settled = g.met.S.Store.settled store;
+      stays = g.met.S.Store.stays store;
+      survives = g.met.S.Store.survives store;
+    } in
     same_comes old new before after (c.requires.settled c.in_default.is) c.list.ensures.survives
 
 pub returns-in-Err-clause-unchanged : goal.returns-in-Err-clause-unchanged
@@ -48,10 +60,16 @@ returns-in-Err-clause-unchanged g c =
     let new = state g.S.Store c.list.new.conn in
     let first = c.args.link.now.conn.store in
     let store = c.list.new.conn.store in
-    let before : Laws old = record { settled = g.met.S.Store.settled first;
-        stays = g.met.S.Store.stays first; survives = g.met.S.Store.survives first } in
-    let after : Laws new = record { settled = g.met.S.Store.settled store;
-        stays = g.met.S.Store.stays store; survives = g.met.S.Store.survives store } in
+    let before : Laws old = record {
+      settled = g.met.S.Store.settled first;
+      stays = g.met.S.Store.stays first;
+      survives = g.met.S.Store.survives first;
+    } in
+    let after : Laws new = record {
+      settled = g.met.S.Store.settled store;
+      stays = g.met.S.Store.stays store;
+      survives = g.met.S.Store.survives store;
+    } in
     subst (λ conn. Comes (in_store old) (in_store (state g.S.Store conn)) AreSame)
-        (sym c.stop.ensures.conn) (same_comes old new before after
-        (c.requires.settled c.in_default.is) c.list.ensures.survives)
+    (sym c.stop.ensures.conn) (same_comes old new before after
+    (c.requires.settled c.in_default.is) c.list.ensures.survives)

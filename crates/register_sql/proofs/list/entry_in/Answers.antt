@@ -9,4 +9,4 @@ returns-in-Err-clause-damaged c other =
 pub returns-in-Err-clause-wrong : goal.returns-in-Err-clause-wrong
 returns-in-Err-clause-wrong c other p is =
     unread_is_wrong c.args.stations c.args.number p (omega arith)
-        (c.in-Err.ensures.unreadable (λ full. other (c.unread.ensures.memory full)) p is)
+    (c.in-Err.ensures.unreadable (λ full. other (c.unread.ensures.memory full)) p is)

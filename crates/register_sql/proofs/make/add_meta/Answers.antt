@@ -12,5 +12,5 @@ returns-clause-wrote g c clean =
     let early : HasCleanDisk old = omega (arith, c.run.ensures.survives.clean) in
     let made = c.requires early in
     on_ok c.run.result (c.run.ensures.ran clean made.inside)
-        (λ ran. added_meta old new (record { name = c.args.name.now; val = pos c.args.val }) _
-        (Ok ran.0) made ran.1 (search rules))
+    (λ ran. added_meta old new (record { name = c.args.name.now; val = pos c.args.val }) _
+    (Ok ran.0) made ran.1 (search rules))

@@ -16,7 +16,7 @@ returns-clause-wrote g c clean =
     let d : MetaRow = record { name = codes "depth"; val = pos c.args.depth } in
     let v : MetaRow = record { name = codes "version"; val = pos 2 } in
     goes_then 6 6 (AddsMeta (d ∷ [])) (AddsMeta (v ∷ [])) (AddsMeta (rows_of_meta c.args.depth)) old
-        mid new c.add_meta-version.result (two_metas v d)
+    mid new c.add_meta-version.result (two_metas v d)
     (c.in_ok-add_meta.ensures.wrote early) (c.add_meta-version.ensures.wrote clean)
 
 pub returns-clause-kept : goal.returns-clause-kept

@@ -10,10 +10,15 @@ use Rattle.register_sql.proofs.make.add_setups.Goals as goal
 
 pub texts-init : goal.texts-init
 texts-init g c =
-    let old = state g.S.Store c.args.tx.now.conn.now in
-    (refl, survives_still old (λ _. ⊥),
-        λ clean. (kept_still old, so_far_first old
-        (setup_from 1 (map string_bytes c.args.texts.now)) (c.requires clean)))
+    let old = state g.S.Store c.args.tx.now.conn.now in (
+      refl,
+      survives_still old (λ _. ⊥),
+      λ clean. (
+        kept_still old,
+        so_far_first old
+            (setup_from 1 (map string_bytes c.args.texts.now)) (c.requires clean),
+      ),
+    )
 
 pub texts-preserved : goal.texts-preserved
 texts-preserved g c =
@@ -30,12 +35,12 @@ texts-preserved g c =
           let text = c.index-texts-at.result in
           let is : get_or all at text ≡ text = search rules in
           let next : drop at all ≡ text ∷ drop (at + 1) all =
-              subst (λ t. drop at all ≡ t ∷ drop (at + 1) all) is
-              (drop_next all at text (omega (arith, c.texts-test.true))) in
+          subst (λ t. drop at all ≡ t ∷ drop (at + 1) all) is
+          (drop_next all at text (omega (arith, c.texts-test.true))) in
           let rest = setup_from (at + 1 + 1) (map string_bytes (drop (at + 1) all)) in
           let bytes : c.as_str.result.now ≡ string_bytes text = search rules in
           let left : setup_from (at + 1) (map string_bytes (drop at all))
-              ≡ record { id = pos (at + 1); text = c.as_str.result.now } ∷ rest =
+          ≡ record { id = pos (at + 1); text = c.as_str.result.now } ∷ rest =
           ap (λ l. setup_from (at + 1) (map string_bytes l)) next ∙ rw bytes refl in (
             kept_then old mid new had.0 (c.add_setup.ensures.kept clean),
             so_far_on old mid new (setup_from 1 (map string_bytes all))
@@ -50,6 +55,6 @@ returns-clause-wrote g c clean =
     let all = c.args.texts.now in
     let at = c.texts.at in
     so_far_last (state g.S.Store c.args.tx.now.conn.now) (state g.S.Store c.texts.tx.conn.now)
-        (setup_from 1 (map string_bytes all)) (setup_from (at + 1) (map string_bytes (drop at all)))
+    (setup_from 1 (map string_bytes all)) (setup_from (at + 1) (map string_bytes (drop at all)))
     (ap (λ l. setup_from (at + 1) (map string_bytes l))
-        (drop_all at all (omega (arith, c.texts-test.false)))) (c.texts.invariant.2 clean).1
+    (drop_all at all (omega (arith, c.texts-test.false)))) (c.texts.invariant.2 clean).1

@@ -11,5 +11,5 @@ invariant-texts g l =
     (l.tx.conn.ghost_name ≡ l.fn.tx.conn.ghost_name)
     × Survives old now (λ _. ⊥)
     × (HasCleanDisk now → KeepsCommit old now
-        × SoFarSetup old now (setup_from 1 (map string_bytes l.texts))
-        (setup_from (l.at + 1) (map string_bytes (drop l.at l.texts))))
+    × SoFarSetup old now (setup_from 1 (map string_bytes l.texts))
+    (setup_from (l.at + 1) (map string_bytes (drop l.at l.texts))))

@@ -12,5 +12,5 @@ returns-clause-wrote g c clean =
     let early : HasCleanDisk old = omega (arith, c.run.ensures.survives.clean) in
     let made = c.requires.made early in
     on_ok c.run.result (c.run.ensures.ran clean made.inside)
-        (λ ran. cleared_setup old new _ (Ok ran.0) made (c.requires.apart early) ran.1
-        (search rules))
+    (λ ran. cleared_setup old new _ (Ok ran.0) made (c.requires.apart early) ran.1
+    (search rules))

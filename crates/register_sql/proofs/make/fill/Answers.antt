@@ -17,7 +17,7 @@ returns-clause-wrote g c clean =
     let s = setup_from 1 (map string_bytes c.args.texts.now) in
     let m = rows_of_meta c.args.depth in
     goes_then 6 6 (ReplacesSetup s) (AddsMeta m) (Fills s m) old mid new
-        c.add_metas.result (fills s m)
+    c.add_metas.result (fills s m)
     (c.in_ok-replace_setup.ensures.wrote early) (c.add_metas.ensures.wrote clean)
 
 pub returns-clause-kept : goal.returns-clause-kept

@@ -29,7 +29,7 @@ fill-requires-clause-apart g c clean up =
     let mid = state g.S.Store c.make_rest.new.tx.conn.now in
     let early : HasCleanDisk old = omega (arith, clean, c.make_rest.ensures.survives.clean) in
     apart_on c.args.made old mid (c.make_rest.ensures.kept clean)
-        (c.in_ok-make_rest.ensures.wrote clean).rows (c.requires.apart early) up
+    (c.in_ok-make_rest.ensures.wrote clean).rows (c.requires.apart early) up
 
 pub returns-clause-kept : goal.returns-clause-kept
 returns-clause-kept g c clean =

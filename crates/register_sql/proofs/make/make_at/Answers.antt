@@ -14,4 +14,4 @@ returns-clause-wrote g c clean =
     let made = c.requires.made early in
     let is : c.create_text-text.result.now ≡ create_of c.args.at = search rules in
     on_ok c.run.result (c.run.ensures.ran clean made.inside)
-        (λ ran. made_by c.args.at c.requires.few _ is old new ran.0 made ran.1)
+    (λ ran. made_by c.args.at c.requires.few _ is old new ran.0 made ran.1)

@@ -7,9 +7,12 @@ use Rattle.register_sql.proofs.make.make_rest.Goals as goal
 
 pub tables-init : goal.tables-init
 tables-init g c =
-    let old = state g.S.Store c.args.tx.now.conn.now in
-    (refl, survives_still old (λ _. ⊥),
-        λ clean. (kept_still old, grown_still c.args.made old (c.requires.made clean)), omega arith)
+    let old = state g.S.Store c.args.tx.now.conn.now in (
+      refl,
+      survives_still old (λ _. ⊥),
+      λ clean. (kept_still old, grown_still c.args.made old (c.requires.made clean)),
+      omega arith,
+    )
 
 pub tables-preserved : goal.tables-preserved
 tables-preserved g c =
@@ -21,9 +24,10 @@ tables-preserved g c =
       survives_on old mid new c.tables.invariant.1 c.make_at.ensures.survives,
       λ clean.
           let early : HasCleanDisk mid = omega (arith, c.make_at.ensures.survives.clean) in
-          let had = c.tables.invariant.2 early in
-          (kept_then old mid new had.0 (c.make_at.ensures.kept clean),
-              grows_then c.args.made at (at + 1) old mid new had.1
-              (c.in_ok-make_at.ensures.wrote clean)),
+          let had = c.tables.invariant.2 early in (
+            kept_then old mid new had.0 (c.make_at.ensures.kept clean),
+            grows_then c.args.made at (at + 1) old mid new had.1
+                (c.in_ok-make_at.ensures.wrote clean),
+          ),
       omega arith,
     )

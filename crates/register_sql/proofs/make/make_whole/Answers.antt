@@ -17,10 +17,10 @@ returns-clause-crash g c =
     let s = setup_from 1 (map string_bytes c.args.texts.now) in
     let m = rows_of_meta c.args.depth in
     subst (λ h. Survives (state g.S.Store old) (state g.S.Store h)
-        (LeavesMade c.args.made s m (state g.S.Store old))) same
+    (LeavesMade c.args.made s m (state g.S.Store old))) same
     (survives_made g.S.Store old mid (state g.S.Store end) c.args.made s m
-        (λ clean. (c.requires.part clean).is_open) (rw begun at c.make_all.ensures.survives)
-        c.commit.ensures.survives
+    (λ clean. (c.requires.part clean).is_open) (rw begun at c.make_all.ensures.survives)
+    c.commit.ensures.survives
     (λ clean. rw begun at (c.in_ok-make_all.ensures.wrote clean)))
 
 pub returns-clause-made : goal.returns-clause-made
@@ -33,10 +33,10 @@ returns-clause-made g c clean =
     let same : c.commit.new.self.0 ≡ c.conn-2-1.given.0 = search rules in
     let end = state g.S.Store c.commit.new.self.0 in
     let clean' : HasCleanDisk end =
-        subst (λ h. HasCleanDisk (state g.S.Store h)) (sym same) clean in
+    subst (λ h. HasCleanDisk (state g.S.Store h)) (sym same) clean in
     let early : HasCleanDisk mid = omega (arith, c.commit.ensures.survives.clean, clean') in
     subst (λ h. OnOk c.commit.result
-        (IsMadeWhole c.args.made s m (state g.S.Store old) (state g.S.Store h))) same
+    (IsMadeWhole c.args.made s m (state g.S.Store old) (state g.S.Store h))) same
     (made_by_commit (state g.S.Store old) mid end c.args.made s m c.commit.result
     (goes_begin g.S.Store old mid _ (rw begun at c.in_ok-make_all.ensures.wrote early))
-        (c.commit.ensures.ok clean'))
+    (c.commit.ensures.ok clean'))

@@ -15,7 +15,7 @@ returns-clause-wrote g c clean =
     let early : HasCleanDisk mid = omega (arith, c.add_setups.ensures.survives.clean) in
     let s = setup_from 1 (map string_bytes c.args.texts.now) in
     goes_then 6 6 (ClearsSetup) (AddsSetup s) (ReplacesSetup s) old mid new c.add_setups.result
-        (replaces s)
+    (replaces s)
     (c.in_ok-clear_setup.ensures.wrote early) (c.add_setups.ensures.wrote clean)
 
 pub returns-clause-kept : goal.returns-clause-kept

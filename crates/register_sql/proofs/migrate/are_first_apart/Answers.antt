@@ -18,10 +18,10 @@ returns-clause-told g c clean =
     let old = state g.S.Store c.args.conn.now in
     let mid = state g.S.Store c.is_apart.new.conn in
     let early : HasCleanDisk mid =
-        omega (arith, clean, c.are_all_apart-others.ensures.survives.clean) in
+    omega (arith, clean, c.are_all_apart-others.ensures.survives.clean) in
     metas_and_others old mid c.are_all_apart-others.result (c.in_ok-metas.ensures.same early)
-        ((c.in_ok-metas.ensures.told early).0 (search rules))
-        (c.are_all_apart-others.ensures.told clean)
+    ((c.in_ok-metas.ensures.told early).0 (search rules))
+    (c.are_all_apart-others.ensures.told clean)
 
 pub returns-clause-same : goal.returns-clause-same
 returns-clause-same g c clean =
@@ -29,9 +29,9 @@ returns-clause-same g c clean =
     let mid = state g.S.Store c.is_apart.new.conn in
     let new = state g.S.Store c.are_all_apart-others.new.conn in
     let early : HasCleanDisk mid =
-        omega (arith, clean, c.are_all_apart-others.ensures.survives.clean) in
+    omega (arith, clean, c.are_all_apart-others.ensures.survives.clean) in
     on_same old mid new c.are_all_apart-others.result (c.in_ok-metas.ensures.same early)
-        (c.are_all_apart-others.ensures.same clean)
+    (c.are_all_apart-others.ensures.same clean)
 
 pub returns-clause-survives : goal.returns-clause-survives
 returns-clause-survives g c = survives_on _ _ _ c.is_apart.ensures.survives

@@ -19,13 +19,13 @@ returns-in-Err-clause-refused g c clean =
     let early : HasCleanDisk old = omega (arith, clean, c.early_list.ensures.survives.clean) in
     let are : c.stations.result ≡ length S.stations = search rules in
     list_left S c.stations.result c.in-Err.fault old mid are (c.requires.raisable early)
-        (c.in_ok-listed.ensures.same clean)
+    (c.in_ok-listed.ensures.same clean)
     (subst (λ a. IfErr a (λ fault. is_of_listing fault ≡ true)) c.in-Err.is
-        c.in_ok-listed.ensures.faults)
+    c.in_ok-listed.ensures.faults)
     (subst (λ a. IfErr a (λ fault. fault ≢ Store)) c.in-Err.is c.in_ok-listed.ensures.able)
     (subst (λ a. IfErr a (λ fault. (at : ℕ) → fault ≡ Damaged at → (k : Content)
-        → HasPart 5 old.now.trees k → IsFirstEarlyWrong c.stations.result at k)) c.in-Err.is
-        (c.in_ok-listed.ensures.cause clean))
+    → HasPart 5 old.now.trees k → IsFirstEarlyWrong c.stations.result at k)) c.in-Err.is
+    (c.in_ok-listed.ensures.cause clean))
 
 pub returns-clause-raised : goal.returns-clause-raised
 returns-clause-raised g c clean =
@@ -40,10 +40,10 @@ returns-clause-raised g c clean =
     let are : c.stations.result ≡ length S.stations = search rules in
     moved_of S entries old mid new (c.requires.raisable early) (c.in_ok-listed.ensures.same now)
     (subst (λ a. IfOk a (λ es. (k : Content) → HasPart 5 old.now.trees k
-        → HasList (reverse es.items) k)) c.in-Ok.is (c.in_ok-listed.ensures.listed now))
+    → HasList (reverse es.items) k)) c.in-Ok.is (c.in_ok-listed.ensures.listed now))
     (subst (λ n. All (IsEarlyOf n) entries) are
-        (subst (λ a. IfOk a (λ es. All (IsEarlyOf c.stations.result) es.items)) c.in-Ok.is
-        c.in_ok-listed.ensures.known))
+    (subst (λ a. IfOk a (λ es. All (IsEarlyOf c.stations.result) es.items)) c.in-Ok.is
+    c.in_ok-listed.ensures.known))
     (subst (λ es. IsLifted es mid new) same (c.in_ok-lift_whole.ensures.lifted clean))
 
 pub returns-clause-crash : goal.returns-clause-crash
@@ -56,12 +56,12 @@ returns-clause-crash g c =
     let same : c.deref.result.now ≡ entries = c.deref.ensures.value in
     let are : c.stations.result ≡ length S.stations = search rules in
     moved_survives S entries old mid new c.requires.raisable c.early_list.ensures.survives
-        c.in_ok-listed.ensures.same
+    c.in_ok-listed.ensures.same
     (λ now. subst (λ a. IfOk a (λ es. (k : Content) → HasPart 5 old.now.trees k
-        → HasList (reverse es.items) k)) c.in-Ok.is (c.in_ok-listed.ensures.listed now))
+    → HasList (reverse es.items) k)) c.in-Ok.is (c.in_ok-listed.ensures.listed now))
     (subst (λ n. All (IsEarlyOf n) entries) are
-        (subst (λ a. IfOk a (λ es. All (IsEarlyOf c.stations.result) es.items)) c.in-Ok.is
-        c.in_ok-listed.ensures.known))
+    (subst (λ a. IfOk a (λ es. All (IsEarlyOf c.stations.result) es.items)) c.in-Ok.is
+    c.in_ok-listed.ensures.known))
     (subst (λ es. Survives mid new (LeavesLifted es mid)) same c.lift_whole.ensures.crash)
 
 pub returns-in_err-lift_whole-clause-crash : goal.returns-in_err-lift_whole-clause-crash
@@ -74,12 +74,12 @@ returns-in_err-lift_whole-clause-crash g c =
     let same : c.deref.result.now ≡ entries = c.deref.ensures.value in
     let are : c.stations.result ≡ length S.stations = search rules in
     moved_survives S entries old mid new c.requires.raisable c.early_list.ensures.survives
-        c.in_ok-listed.ensures.same
+    c.in_ok-listed.ensures.same
     (λ now. subst (λ a. IfOk a (λ es. (k : Content) → HasPart 5 old.now.trees k
-        → HasList (reverse es.items) k)) c.in-Ok.is (c.in_ok-listed.ensures.listed now))
+    → HasList (reverse es.items) k)) c.in-Ok.is (c.in_ok-listed.ensures.listed now))
     (subst (λ n. All (IsEarlyOf n) entries) are
-        (subst (λ a. IfOk a (λ es. All (IsEarlyOf c.stations.result) es.items)) c.in-Ok.is
-        c.in_ok-listed.ensures.known))
+    (subst (λ a. IfOk a (λ es. All (IsEarlyOf c.stations.result) es.items)) c.in-Ok.is
+    c.in_ok-listed.ensures.known))
     (subst (λ es. Survives mid new (LeavesLifted es mid)) same c.lift_whole.ensures.crash)
 
 pub lift_whole-requires-clause-part : goal.lift_whole-requires-clause-part

@@ -8,14 +8,14 @@ use Rattle.register_sql.proofs.mismatch.has_strange_line.Goals as goal
 pub rows-preserved : goal.rows-preserved
 rows-preserved c =
     none_before_next cells_of_line IsNoLine c.args.wanted.now c.args.rows.now c.rows.row-index
-        c.row-item.result c.rows-test.true c.row-item.is
+    c.row-item.result c.rows-test.true c.row-item.is
     (not_from_Decides _ c.is_strange_line.ensures c.if-is_strange_line.false) c.rows.invariant
 
 pub returns-then-is_strange_line : goal.returns-then-is_strange_line
 returns-then-is_strange_line c =
     strange_here cells_of_line IsNoLine c.args.wanted.now c.args.rows.now c.rows.row-index
-        c.row-item.result c.rows-test.true c.row-item.is
-        (c.is_strange_line.ensures.0 (search rules))
+    c.row-item.result c.rows-test.true c.row-item.is
+    (c.is_strange_line.ensures.0 (search rules))
 
 pub returns : goal.returns
 returns c = none_strange cells_of_line IsNoLine c.args.wanted.now c.args.rows.now c.rows.row-index

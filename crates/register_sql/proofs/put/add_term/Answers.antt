@@ -12,5 +12,5 @@ returns-clause-wrote g c clean =
     let early : HasCleanDisk old = omega (arith, c.run.ensures.survives.clean) in
     let within = c.requires early in
     on_ok c.run.result (c.run.ensures.ran clean within.inside)
-        (λ ran. inserts_term old new (record { loan = c.args.term.now.0; day = c.args.term.now.1 })
-        _ (Ok ran.0) within ran.1 (search rules))
+    (λ ran. inserts_term old new (record { loan = c.args.term.now.0; day = c.args.term.now.1 })
+    _ (Ok ran.0) within ran.1 (search rules))

@@ -13,5 +13,5 @@ returns-clause-wrote g c clean =
     let early : HasCleanDisk old = omega (arith, c.run.ensures.survives.clean) in
     let within = c.requires early in
     on_ok c.run.result (c.run.ensures.ran clean within.inside)
-        (λ ran. deletes_line old new (line_row c.args.line.now) _ (Ok ran.0) within ran.1
-        (search rules))
+    (λ ran. deletes_line old new (line_row c.args.line.now) _ (Ok ran.0) within ran.1
+    (search rules))

@@ -15,12 +15,12 @@ returns-clause-wrote g c clean =
     let spots = c.args.changes.now.spots in
     let is : c.as_slice.result.now ≡ spots = search rules in
     makes_then (state g.S.Store c.args.tx.now.conn.now) mid new
-        (with_posting (posting_row c.args.row.now)) (with_each (λ s. with_spot (spot_row s)) spots)
-        c.put_spots.result
+    (with_posting (posting_row c.args.row.now)) (with_each (λ s. with_spot (spot_row s)) spots)
+    c.put_spots.result
     (c.in_ok-put_posting.ensures.wrote early)
-        (subst (λ l. OnOk c.put_spots.result
-        (Makes mid new (with_each (λ s. with_spot (spot_row s)) l))) is
-        (c.put_spots.ensures.wrote clean))
+    (subst (λ l. OnOk c.put_spots.result
+    (Makes mid new (with_each (λ s. with_spot (spot_row s)) l))) is
+    (c.put_spots.ensures.wrote clean))
 
 pub returns-clause-kept : goal.returns-clause-kept
 returns-clause-kept g c clean =

@@ -15,9 +15,9 @@ returns-clause-wrote g c clean =
     let lines = c.args.changes.now.lines in
     let is : c.as_slice.result.now ≡ lines = search rules in
     makes_then old mid new (with_each (λ l. with_line (line_row l)) lines)
-        (with_some_term (term_of c.args.entry.now)) c.put_some_term.result
+    (with_some_term (term_of c.args.entry.now)) c.put_some_term.result
     (subst (λ l. Makes old mid (with_each (λ r. with_line (line_row r)) l)) is
-        (c.in_ok-put_lines.ensures.wrote early)) (c.put_some_term.ensures.wrote clean)
+    (c.in_ok-put_lines.ensures.wrote early)) (c.put_some_term.ensures.wrote clean)
 
 pub returns-clause-kept : goal.returns-clause-kept
 returns-clause-kept g c clean =

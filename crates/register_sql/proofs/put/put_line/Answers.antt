@@ -13,8 +13,8 @@ returns-clause-wrote g c clean =
     let new = state g.S.Store c.add_line.new.tx.conn.now in
     let early : HasCleanDisk mid = omega (arith, c.add_line.ensures.survives.clean) in
     makes_then old mid new (without_line (line_row c.args.line.now))
-        (more_line (line_row c.args.line.now)) c.add_line.result
-        (c.in_ok-clear_line.ensures.wrote early) (c.add_line.ensures.wrote clean)
+    (more_line (line_row c.args.line.now)) c.add_line.result
+    (c.in_ok-clear_line.ensures.wrote early) (c.add_line.ensures.wrote clean)
 
 pub returns-clause-kept : goal.returns-clause-kept
 returns-clause-kept g c clean =

@@ -22,10 +22,10 @@ lines-preserved g c =
           let is : get_or rows at row ≡ row = search rules in
           let next = drop_next rows at row (omega (arith, c.lines-test.true)) in
           so_far_on old mid new (with_each (λ l. with_line (line_row l)) rows)
-              (λ l. with_line (line_row l)) (drop at rows) (drop (at + 1) rows) row
-              (subst (λ r. drop at rows ≡ r ∷ drop (at + 1) rows) is next)
+          (λ l. with_line (line_row l)) (drop at rows) (drop (at + 1) rows) row
+          (subst (λ r. drop at rows ≡ r ∷ drop (at + 1) rows) is next)
           (c.lines.invariant.2 early) (c.put_line.ensures.kept clean)
-              (c.in_ok-put_line.ensures.wrote clean),
+          (c.in_ok-put_line.ensures.wrote clean),
     )
 
 pub returns-clause-wrote : goal.returns-clause-wrote
@@ -33,6 +33,6 @@ returns-clause-wrote g c clean =
     let rows = c.args.lines.now in
     let at = c.lines.line-index in
     so_far_last (state g.S.Store c.args.tx.now.conn.now) (state g.S.Store c.lines.tx.conn.now)
-        (with_each (λ l. with_line (line_row l)) rows) (λ l. with_line (line_row l)) (drop at rows)
-        (drop_all at rows (omega (arith, c.lines-test.false)))
+    (with_each (λ l. with_line (line_row l)) rows) (λ l. with_line (line_row l)) (drop at rows)
+    (drop_all at rows (omega (arith, c.lines-test.false)))
     (c.lines.invariant.2 clean)

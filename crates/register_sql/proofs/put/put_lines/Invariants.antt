@@ -12,4 +12,4 @@ invariant-lines g l =
     (l.tx.conn.ghost_name ≡ l.fn.tx.conn.ghost_name)
     × Survives old now (λ _. ⊥)
     × (HasCleanDisk now → SoFar old now (with_each (λ l. with_line (line_row l)) l.lines)
-        (with_each (λ l. with_line (line_row l)) (drop l.line-index l.lines)))
+    (with_each (λ l. with_line (line_row l)) (drop l.line-index l.lines)))

@@ -19,8 +19,8 @@ returns-clause-wrote g c clean =
     let e = c.args.entry.now in
     makes_as old new _ (with_posted row e changes) c.put_last.result (posted_is row e changes)
     (makes_then old mid new (λ x. with_each (λ s. with_spot (spot_row s)) changes.spots
-        (with_posting row x)) (λ x. with_some_term (term_of e)
-        (with_each (λ l. with_line (line_row l)) changes.lines x))
+    (with_posting row x)) (λ x. with_some_term (term_of e)
+    (with_each (λ l. with_line (line_row l)) changes.lines x))
     c.put_last.result (c.in_ok-put_first.ensures.wrote early) (c.put_last.ensures.wrote clean))
 
 pub returns-clause-kept : goal.returns-clause-kept

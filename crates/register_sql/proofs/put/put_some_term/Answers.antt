@@ -12,4 +12,4 @@ returns-in_ok-put_term-clause-wrote g c clean =
     let t : TermRow = record { loan = c.in-Some.term.0; day = c.in-Some.term.1 } in
     let is : Some t ≡ term_of c.args.entry.now = search rules in
     makes_same old new (with_term t) (with_some_term (term_of c.args.entry.now))
-        (λ x. ap (λ o. with_some_term o x) is) (c.in_ok-put_term.ensures.wrote clean)
+    (λ x. ap (λ o. with_some_term o x) is) (c.in_ok-put_term.ensures.wrote clean)

@@ -22,10 +22,10 @@ spots-preserved g c =
           let is : get_or rows at row ≡ row = search rules in
           let next = drop_next rows at row (omega (arith, c.spots-test.true)) in
           so_far_on old mid new (with_each (λ s. with_spot (spot_row s)) rows)
-              (λ s. with_spot (spot_row s)) (drop at rows) (drop (at + 1) rows) row
-              (subst (λ r. drop at rows ≡ r ∷ drop (at + 1) rows) is next)
+          (λ s. with_spot (spot_row s)) (drop at rows) (drop (at + 1) rows) row
+          (subst (λ r. drop at rows ≡ r ∷ drop (at + 1) rows) is next)
           (c.spots.invariant.2 early) (c.put_spot.ensures.kept clean)
-              (c.in_ok-put_spot.ensures.wrote clean),
+          (c.in_ok-put_spot.ensures.wrote clean),
     )
 
 pub returns-clause-wrote : goal.returns-clause-wrote
@@ -33,6 +33,6 @@ returns-clause-wrote g c clean =
     let rows = c.args.spots.now in
     let at = c.spots.spot-index in
     so_far_last (state g.S.Store c.args.tx.now.conn.now) (state g.S.Store c.spots.tx.conn.now)
-        (with_each (λ s. with_spot (spot_row s)) rows) (λ s. with_spot (spot_row s)) (drop at rows)
-        (drop_all at rows (omega (arith, c.spots-test.false)))
+    (with_each (λ s. with_spot (spot_row s)) rows) (λ s. with_spot (spot_row s)) (drop at rows)
+    (drop_all at rows (omega (arith, c.spots-test.false)))
     (c.spots.invariant.2 clean)

@@ -12,4 +12,4 @@ invariant-spots g l =
     (l.tx.conn.ghost_name ≡ l.fn.tx.conn.ghost_name)
     × Survives old now (λ _. ⊥)
     × (HasCleanDisk now → SoFar old now (with_each (λ s. with_spot (spot_row s)) l.spots)
-        (with_each (λ s. with_spot (spot_row s)) (drop l.spot-index l.spots)))
+    (with_each (λ s. with_spot (spot_row s)) (drop l.spot-index l.spots)))

@@ -12,9 +12,9 @@ returns-clause-wrote g c clean =
     let new = state g.S.Store c.add_term.new.tx.conn.now in
     let early : HasCleanDisk mid = omega (arith, c.add_term.ensures.survives.clean) in
     makes_then old mid new
-        (without_term (record { loan = c.args.term.now.0; day = c.args.term.now.1 }))
-        (more_term (record { loan = c.args.term.now.0; day = c.args.term.now.1 })) c.add_term.result
-        (c.in_ok-clear_term.ensures.wrote early) (c.add_term.ensures.wrote clean)
+    (without_term (record { loan = c.args.term.now.0; day = c.args.term.now.1 }))
+    (more_term (record { loan = c.args.term.now.0; day = c.args.term.now.1 })) c.add_term.result
+    (c.in_ok-clear_term.ensures.wrote early) (c.add_term.ensures.wrote clean)
 
 pub returns-clause-kept : goal.returns-clause-kept
 returns-clause-kept g c clean =

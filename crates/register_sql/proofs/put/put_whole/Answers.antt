@@ -16,9 +16,9 @@ returns-clause-crash g c =
     let begun = c.transaction-tx.ensures.begun in
     let change = with_posted (posting_row c.args.row.now) c.args.entry.now c.args.changes.now in
     subst (λ h. Survives (state g.S.Store old) (state g.S.Store h)
-        (LeavesWhole (state g.S.Store old) change)) same
+    (LeavesWhole (state g.S.Store old) change)) same
     (survives_makes g.S.Store old mid (state g.S.Store end) change c.requires.ready
-        (rw begun at c.put_rows.ensures.survives) c.commit.ensures.survives
+    (rw begun at c.put_rows.ensures.survives) c.commit.ensures.survives
     (λ clean. rw begun at (c.in_ok-put_rows.ensures.wrote clean)))
 
 pub returns-clause-posted : goal.returns-clause-posted
@@ -30,10 +30,10 @@ returns-clause-posted g c clean =
     let same : c.commit.new.self.0 ≡ c.conn-2-1.given.0 = search rules in
     let end = state g.S.Store c.commit.new.self.0 in
     let clean' : HasCleanDisk end =
-        subst (λ h. HasCleanDisk (state g.S.Store h)) (sym same) clean in
+    subst (λ h. HasCleanDisk (state g.S.Store h)) (sym same) clean in
     let early : HasCleanDisk mid = omega (arith, c.commit.ensures.survives.clean, clean') in
     subst (λ h. OnOk c.commit.result (IsDone (state g.S.Store old) (state g.S.Store h) change)) same
     (done_by_commit (state g.S.Store old) mid end change c.commit.result
-        (kept_begin g.S.Store old mid (rw begun at c.put_rows.ensures.kept early))
+    (kept_begin g.S.Store old mid (rw begun at c.put_rows.ensures.kept early))
     (makes_begin g.S.Store old mid change (rw begun at c.in_ok-put_rows.ensures.wrote early))
-        (c.commit.ensures.ok clean'))
+    (c.commit.ensures.ok clean'))

@@ -14,9 +14,9 @@ returns-clause-rows g c clean =
     let early : HasCleanDisk old = omega (arith, c.query_all.ensures.survives.clean) in
     let text : c.text_of-text.result.now ≡ text_of c.args.query = search rules in
     rows_read c.args.query c.args.made c.requires.some c.requires.few old new c.query_all.result
-        (c.requires.part early).schema
+    (c.requires.part early).schema
     (subst (λ t. IfOk c.query_all.result (λ rows. Shown t [] old new rows.items)) text
-        (c.query_all.ensures.ok clean))
+    (c.query_all.ensures.ok clean))
 
 pub returns-clause-order : goal.returns-clause-order
 returns-clause-order g c clean =
@@ -25,9 +25,9 @@ returns-clause-order g c clean =
     let early : HasCleanDisk old = omega (arith, c.query_all.ensures.survives.clean) in
     let text : c.text_of-text.result.now ≡ text_of c.args.query = search rules in
     rows_ordered c.args.query c.args.made c.requires.some c.requires.few old new c.query_all.result
-        (c.requires.part early).schema
+    (c.requires.part early).schema
     (subst (λ t. IfOk c.query_all.result (λ rows. Shown t [] old new rows.items)) text
-        (c.query_all.ensures.ok clean))
+    (c.query_all.ensures.ok clean))
 
 pub returns-clause-same : goal.returns-clause-same
 returns-clause-same g c clean =
@@ -36,9 +36,9 @@ returns-clause-same g c clean =
     let early : HasCleanDisk old = omega (arith, c.query_all.ensures.survives.clean) in
     let text : c.text_of-text.result.now ≡ text_of c.args.query = search rules in
     rows_same c.args.query c.args.made c.requires.some c.requires.few old new c.query_all.result
-        (c.requires.part early).schema
+    (c.requires.part early).schema
     (subst (λ t. IfOk c.query_all.result (λ rows. Shown t [] old new rows.items)) text
-        (c.query_all.ensures.ok clean))
+    (c.query_all.ensures.ok clean))
 
 pub returns-clause-survives : goal.returns-clause-survives
 returns-clause-survives g c =
@@ -48,6 +48,6 @@ returns-clause-survives g c =
     let new = state g.S.Store c.query_all.new.self in
     let text : c.text_of-text.result.now ≡ text_of query = search rules in
     lists_survives (prefix made) (text_of query) (tree_of query) (columns_of query) (names_of query)
-        (listed query made c.requires.some c.requires.few) old new
-        (λ clean. (c.requires.part clean).schema)
+    (listed query made c.requires.some c.requires.few) old new
+    (λ clean. (c.requires.part clean).schema)
     (subst (λ t. Survives old new (CommitsShowing t [] old)) text c.query_all.ensures.survives)

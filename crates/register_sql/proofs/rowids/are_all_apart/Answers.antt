@@ -18,10 +18,10 @@ returns-clause-told g c clean =
     let old = state g.S.Store c.args.conn.now in
     let mid = state g.S.Store c.are_both_apart.new.conn in
     let early : HasCleanDisk mid =
-        omega (arith, clean, c.are_both_apart-last.ensures.survives.clean) in
+    omega (arith, clean, c.are_both_apart-last.ensures.survives.clean) in
     all_apart c.args.made old mid c.are_both_apart-last.result (c.in_ok-first.ensures.same early)
-        ((c.in_ok-first.ensures.told early).0 (search rules))
-        (c.are_both_apart-last.ensures.told clean)
+    ((c.in_ok-first.ensures.told early).0 (search rules))
+    (c.are_both_apart-last.ensures.told clean)
 
 pub returns-clause-same : goal.returns-clause-same
 returns-clause-same g c clean =
@@ -29,9 +29,9 @@ returns-clause-same g c clean =
     let mid = state g.S.Store c.are_both_apart.new.conn in
     let new = state g.S.Store c.are_both_apart-last.new.conn in
     let early : HasCleanDisk mid =
-        omega (arith, clean, c.are_both_apart-last.ensures.survives.clean) in
+    omega (arith, clean, c.are_both_apart-last.ensures.survives.clean) in
     on_same old mid new c.are_both_apart-last.result (c.in_ok-first.ensures.same early)
-        (c.are_both_apart-last.ensures.same clean)
+    (c.are_both_apart-last.ensures.same clean)
 
 pub returns-clause-survives : goal.returns-clause-survives
 returns-clause-survives g c = survives_on _ _ _ c.are_both_apart.ensures.survives

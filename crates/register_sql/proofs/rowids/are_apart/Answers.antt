@@ -11,7 +11,7 @@ pub returns-then-has_id-clause-apart : goal.returns-then-has_id-clause-apart
 returns-then-has_id-clause-apart c is =
     let has = c.has_id.ensures.0 c.if-has_id.true in
     rises_all c.args.rows.now c.first-item.result has.0 c.in-len1-up.len_at_least (search rules)
-        has.1 (c.are_rising.ensures.0 is)
+    has.1 (c.are_rising.ensures.0 is)
 
 pub returns-then-has_id-clause-sorted : goal.returns-then-has_id-clause-sorted
 returns-then-has_id-clause-sorted c up apart =
@@ -20,5 +20,5 @@ returns-then-has_id-clause-sorted c up apart =
 pub returns-else-has_id-clause-sorted : goal.returns-else-has_id-clause-sorted
 returns-else-has_id-clause-sorted c up apart =
     absurd (not_from_Decides _ c.has_id.ensures c.if-has_id.false
-        (first_has_id c.args.rows.now c.first-item.result c.in-len1-up.len_at_least
-        (search rules) apart))
+    (first_has_id c.args.rows.now c.first-item.result c.in-len1-up.len_at_least
+    (search rules) apart))

@@ -19,8 +19,8 @@ returns-clause-told g c clean =
     let mid = state g.S.Store c.is_apart.new.conn in
     let early : HasCleanDisk mid = omega (arith, clean, c.is_apart-second.ensures.survives.clean) in
     both_apart c.args.one c.args.other c.args.made old mid c.is_apart-second.result
-        (c.in_ok-first.ensures.same early) ((c.in_ok-first.ensures.told early).0 (search rules))
-        (c.is_apart-second.ensures.told clean)
+    (c.in_ok-first.ensures.same early) ((c.in_ok-first.ensures.told early).0 (search rules))
+    (c.is_apart-second.ensures.told clean)
 
 pub returns-clause-same : goal.returns-clause-same
 returns-clause-same g c clean =
@@ -29,7 +29,7 @@ returns-clause-same g c clean =
     let new = state g.S.Store c.is_apart-second.new.conn in
     let early : HasCleanDisk mid = omega (arith, clean, c.is_apart-second.ensures.survives.clean) in
     on_same old mid new c.is_apart-second.result (c.in_ok-first.ensures.same early)
-        (c.is_apart-second.ensures.same clean)
+    (c.is_apart-second.ensures.same clean)
 
 pub returns-clause-survives : goal.returns-clause-survives
 returns-clause-survives g c = survives_on _ _ _ c.is_apart.ensures.survives

@@ -12,7 +12,7 @@ returns-clause-wrote g c clean =
     let new = state g.S.Store c.put_terms.new.tx.conn.now in
     let early : HasCleanDisk mid = omega (arith, c.put_terms.ensures.survives.clean) in
     lifts c.args.entries.now old mid new c.put_terms.result (c.in_ok-raise.ensures.wrote early)
-        (c.put_terms.ensures.wrote clean)
+    (c.put_terms.ensures.wrote clean)
 
 pub put_terms-requires : goal.put_terms-requires
 put_terms-requires g c clean =
@@ -20,7 +20,7 @@ put_terms-requires g c clean =
     let mid = state g.S.Store c.raise.new.tx.conn.now in
     let early : HasCleanDisk old = omega (arith, clean, c.raise.ensures.survives.clean) in
     within_raised old mid (c.raise.ensures.kept clean) (c.requires.lines early)
-        (c.in_ok-raise.ensures.wrote clean)
+    (c.in_ok-raise.ensures.wrote clean)
 
 pub returns-clause-kept : goal.returns-clause-kept
 returns-clause-kept g c clean =

@@ -14,10 +14,10 @@ returns-clause-crash g c =
     let begun = c.transaction-tx.ensures.begun in
     let entries = c.args.entries.now in
     subst (λ h. Survives (state g.S.Store old) (state g.S.Store h)
-        (LeavesLifted entries (state g.S.Store old))) same
+    (LeavesLifted entries (state g.S.Store old))) same
     (survives_lifted g.S.Store entries old mid (state g.S.Store end)
-        (λ clean. (c.requires.part clean).is_open) (rw begun at c.lift.ensures.survives)
-        c.commit.ensures.survives
+    (λ clean. (c.requires.part clean).is_open) (rw begun at c.lift.ensures.survives)
+    c.commit.ensures.survives
     (λ clean. rw begun at (c.in_ok-lift.ensures.wrote clean)))
 
 pub returns-clause-lifted : goal.returns-clause-lifted
@@ -29,9 +29,9 @@ returns-clause-lifted g c clean =
     let same : c.commit.new.self.0 ≡ c.conn-2-1.given.0 = search rules in
     let end = state g.S.Store c.commit.new.self.0 in
     let clean' : HasCleanDisk end =
-        subst (λ h. HasCleanDisk (state g.S.Store h)) (sym same) clean in
+    subst (λ h. HasCleanDisk (state g.S.Store h)) (sym same) clean in
     let early : HasCleanDisk mid = omega (arith, c.commit.ensures.survives.clean, clean') in
     subst (λ h. OnOk c.commit.result (IsLifted entries (state g.S.Store old) (state g.S.Store h)))
-        same
+    same
     (lifted_by_commit g.S.Store entries old mid end c.commit.result
     (rw begun at (c.in_ok-lift.ensures.wrote early)) (c.commit.ensures.ok clean'))

@@ -22,10 +22,10 @@ entries-preserved g c =
           let is : get_or rows at row ≡ row = search rules in
           let next = drop_next rows at row (omega (arith, c.entries-test.true)) in
           so_far_on old mid new (with_each (λ e. with_some_term (term_of e)) rows)
-              (λ e. with_some_term (term_of e)) (drop at rows) (drop (at + 1) rows) row
-              (subst (λ r. drop at rows ≡ r ∷ drop (at + 1) rows) is next)
+          (λ e. with_some_term (term_of e)) (drop at rows) (drop (at + 1) rows) row
+          (subst (λ r. drop at rows ≡ r ∷ drop (at + 1) rows) is next)
           (c.entries.invariant.2 early) (c.put_some_term.ensures.kept clean)
-              (c.in_ok-put_some_term.ensures.wrote clean),
+          (c.in_ok-put_some_term.ensures.wrote clean),
     )
 
 pub returns-clause-wrote : goal.returns-clause-wrote
@@ -33,6 +33,6 @@ returns-clause-wrote g c clean =
     let rows = c.args.entries.now in
     let at = c.entries.entry-index in
     so_far_last (state g.S.Store c.args.tx.now.conn.now) (state g.S.Store c.entries.tx.conn.now)
-        (with_each (λ e. with_some_term (term_of e)) rows) (λ e. with_some_term (term_of e))
-        (drop at rows) (drop_all at rows (omega (arith, c.entries-test.false)))
+    (with_each (λ e. with_some_term (term_of e)) rows) (λ e. with_some_term (term_of e))
+    (drop at rows) (drop_all at rows (omega (arith, c.entries-test.false)))
     (c.entries.invariant.2 clean)

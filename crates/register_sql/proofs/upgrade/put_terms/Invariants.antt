@@ -12,4 +12,4 @@ invariant-entries g l =
     (l.tx.conn.ghost_name ≡ l.fn.tx.conn.ghost_name)
     × Survives old now (λ _. ⊥)
     × (HasCleanDisk now → SoFar old now (with_each (λ e. with_some_term (term_of e)) l.entries)
-        (with_each (λ e. with_some_term (term_of e)) (drop l.entry-index l.entries)))
+    (with_each (λ e. with_some_term (term_of e)) (drop l.entry-index l.entries)))

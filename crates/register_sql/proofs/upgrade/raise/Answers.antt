@@ -16,7 +16,7 @@ returns-clause-wrote g c clean =
     let new = state g.S.Store c.renew_metas.new.tx.conn.now in
     let early : HasCleanDisk mid = omega (arith, c.renew_metas.ensures.survives.clean) in
     goes_then 6 6 (Grown 5 6) (RenewsMeta (rows_of_meta 8)) Raises old mid new
-        c.renew_metas.result raises
+    c.renew_metas.result raises
     (c.in_ok-make_at.ensures.wrote early) (c.renew_metas.ensures.wrote clean)
 
 pub renew_metas-requires-clause-made : goal.renew_metas-requires-clause-made
@@ -28,7 +28,7 @@ renew_metas-requires-clause-apart g c clean up =
     let mid = state g.S.Store c.make_at.new.tx.conn.now in
     let early : HasCleanDisk old = omega (arith, clean, c.make_at.ensures.survives.clean) in
     apart_grown old mid (c.make_at.ensures.kept clean) (c.in_ok-make_at.ensures.wrote clean).rows
-        (c.requires.apart early) up
+    (c.requires.apart early) up
 
 pub returns-clause-kept : goal.returns-clause-kept
 returns-clause-kept g c clean =

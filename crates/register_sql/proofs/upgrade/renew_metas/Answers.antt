@@ -16,7 +16,7 @@ returns-clause-wrote g c clean =
     let new = state g.S.Store c.add_metas.new.tx.conn.now in
     let early : HasCleanDisk mid = omega (arith, c.add_metas.ensures.survives.clean) in
     goes_then 6 6 ClearsMeta (AddsMeta (rows_of_meta 8)) (RenewsMeta (rows_of_meta 8)) old mid new
-        c.add_metas.result (renews (rows_of_meta 8))
+    c.add_metas.result (renews (rows_of_meta 8))
     (c.in_ok-clear_metas.ensures.wrote early) (c.add_metas.ensures.wrote clean)
 
 pub returns-clause-kept : goal.returns-clause-kept

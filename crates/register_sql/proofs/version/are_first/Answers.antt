@@ -11,9 +11,9 @@ returns-then-are_first_pair c =
     let a = c.a-item.result in
     let b = c.b-item.result in
     subst (λ t. Decides t (IsFirst rows)) (sym c.if-are_first_pair.true)
-        (are_pair rows a b c.are_first_pair.result
-        (two_rows rows a b c.in-len2.len_at_least c.in-len2.len_below c.a-item.is c.b-item.is)
-        c.if-are_first_pair.true c.are_first_pair.ensures)
+    (are_pair rows a b c.are_first_pair.result
+    (two_rows rows a b c.in-len2.len_at_least c.in-len2.len_below c.a-item.is c.b-item.is)
+    c.if-are_first_pair.true c.are_first_pair.ensures)
 
 pub returns-else-are_first_pair : goal.returns-else-are_first_pair
 returns-else-are_first_pair c =
@@ -21,9 +21,9 @@ returns-else-are_first_pair c =
     let a = c.a-item.result in
     let b = c.b-item.result in
     else_pair rows a b c.are_first_pair.result c.are_first_pair-else-are_first_pair.result
-        (two_rows rows a b c.in-len2.len_at_least c.in-len2.len_below c.a-item.is c.b-item.is)
-        c.if-are_first_pair.false c.are_first_pair.ensures
-        c.are_first_pair-else-are_first_pair.ensures
+    (two_rows rows a b c.in-len2.len_at_least c.in-len2.len_below c.a-item.is c.b-item.is)
+    c.if-are_first_pair.false c.are_first_pair.ensures
+    c.are_first_pair-else-are_first_pair.ensures
 
 pub returns-in_default : goal.returns-in_default
 returns-in_default c = no_pair c.args.rows.now (λ is. omega (arith, is, c.in_default.len_below))

@@ -5,8 +5,8 @@ use Rattle.register_sql.proofs.version.lacks_version.Goals as goal
 pub rows-preserved : goal.rows-preserved
 rows-preserved c =
     none_next c.args.version c.args.rows.now c.rows.row-index c.row-item.result c.rows-test.true
-        c.row-item.is (λ said. let no : true ≡ false = sym (c.is_meta.ensures.1 said)
-        ∙ c.if-is_meta.false in cc) c.rows.invariant
+    c.row-item.is (λ said. let no : true ≡ false = sym (c.is_meta.ensures.1 said)
+    ∙ c.if-is_meta.false in cc) c.rows.invariant
 
 pub returns-then-is_meta : goal.returns-then-is_meta
 returns-then-is_meta c = one_says c.args.version c.args.rows.now c.rows.row-index c.row-item.result

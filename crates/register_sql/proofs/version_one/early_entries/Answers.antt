@@ -14,7 +14,7 @@ rows-preserved c =
     let entry = c.in-Ok.entry in
     let row = c.index-rows-i.result in
     let keeps : (p : PostingRow) → posting_shown p ≡ row → IsPostingRow (i + 1) entry p =
-        search rules in
+    search rules in
     record {
       kept = λ ps are. next_listed c.rows.entries.items c.push.new.self.items rows ps i entry row
           are c.rows-test.true c.index-rows-i.is (search rules) keeps
@@ -29,10 +29,13 @@ returns-in-Err-clause-faults c other =
     let i = c.rows.i in
     let row = c.index-rows-i.result in
     let wrong : (p : PostingRow) → posting_shown p ≡ row → IsWrongEarly c.args.stations (i + 1) p =
-        search rules in
-    (i + 1, search rules, λ ps are. early_wrong_at c.args.stations rows ps i row
-        c.rows.entries.items are c.rows-test.true c.index-rows-i.is (c.rows.invariant.kept ps are)
-        c.rows.invariant.known wrong)
+    search rules in (
+      i + 1,
+      search rules,
+      λ ps are. early_wrong_at c.args.stations rows ps i row
+          c.rows.entries.items are c.rows-test.true c.index-rows-i.is (c.rows.invariant.kept ps are)
+          c.rows.invariant.known wrong,
+    )
 
 pub returns-clause-kept : goal.returns-clause-kept
 returns-clause-kept c ps are =

@@ -12,10 +12,10 @@ pub returns-clause-listed : goal.returns-clause-listed
 returns-clause-listed g c clean =
     let old = state g.S.Store c.args.conn.now in
     let read = subst (IsPermutation (shown_in Postings old.now.trees)) (sym c.deref.ensures.value)
-        (c.in_ok-rows.ensures.rows clean) in
+    (c.in_ok-rows.ensures.rows clean) in
     if_ok c.early_entries-answer.result
-        (λ entries kept. early_listed old.now.trees c.deref.result.now entries.items read kept)
-        c.early_entries-answer.ensures.kept
+    (λ entries kept. early_listed old.now.trees c.deref.result.now entries.items read kept)
+    c.early_entries-answer.ensures.kept
 
 pub returns-clause-faults : goal.returns-clause-faults
 returns-clause-faults g c = if_err c.early_entries-answer.result
@@ -25,9 +25,9 @@ pub returns-clause-cause : goal.returns-clause-cause
 returns-clause-cause g c clean =
     let old = state g.S.Store c.args.conn.now in
     let read = subst (IsPermutation (shown_in Postings old.now.trees)) (sym c.deref.ensures.value)
-        (c.in_ok-rows.ensures.rows clean) in
+    (c.in_ok-rows.ensures.rows clean) in
     let order = subst (IsSorted id_cmp) (sym c.deref.ensures.value)
-        (c.in_ok-rows.ensures.order clean refl) in
+    (c.in_ok-rows.ensures.order clean refl) in
     if_err c.early_entries-answer.result
-        (λ fault why. early_fault old.now.trees c.deref.result.now c.args.stations fault read order
-        why) c.early_entries-answer.ensures.faults
+    (λ fault why. early_fault old.now.trees c.deref.result.now c.args.stations fault read order
+    why) c.early_entries-answer.ensures.faults

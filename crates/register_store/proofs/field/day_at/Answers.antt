@@ -11,5 +11,5 @@ returns-clause-exact g c =
     let bytes = c.as_bytes.ensures.value in
     let read = rw (bytes, ← day) at c.parse.ensures.exact in
     let answer = c.ok_or.ensures.value ∙ ap (λ (o : Option ℤ). ok_or o (BadField c.args.key))
-        c.ok.ensures.value in
+    c.ok.ensures.value in
     rw answer (read_there c.args.key day_fault _ c.parse.result _ c.in_ok-text.text.now text read)

@@ -10,15 +10,15 @@ pub loop-i-init : goal.loop-i-init
 loop-i-init c =
     let B = c.args.ledger.now in
     ap (λ l. held_lines l ++ flat_map (λ loan. lines_of_loan B loan (objects_of_loan B loan))
-        (loans_in B)) c.new-rows.ensures.items ∙ lines_told B c.is_lawful.ensures
+    (loans_in B)) c.new-rows.ensures.items ∙ lines_told B c.is_lawful.ensures
 
 pub loop-i-preserved : goal.loop-i-preserved
 loop-i-preserved c =
     let B = c.args.ledger.now in
     let loan = c.loan_at.result in
     next_loan (λ loan. lines_of_loan B loan (objects_of_loan B loan)) (loans_in B) c.loop-i.i loan
-        (held_lines c.loop-i.rows.items) (held_lines c.push_lines.new.rows.items)
-        (lines_of_loan B loan c.objects.result.now)
+    (held_lines c.loop-i.rows.items) (held_lines c.push_lines.new.rows.items)
+    (lines_of_loan B loan c.objects.result.now)
     (lines_by_loan B.museum B.posted) c.loan_at.ensures.loan
-        (told_objects B (loans_in B) c.loop-i.i loan c.objects.result.now c.loan_at.ensures.loan
-        c.objects.ensures.objects) c.in_ok-push_lines.ensures c.loop-i.invariant
+    (told_objects B (loans_in B) c.loop-i.i loan c.objects.result.now c.loan_at.ensures.loan
+    c.objects.ensures.objects) c.in_ok-push_lines.ensures c.loop-i.invariant

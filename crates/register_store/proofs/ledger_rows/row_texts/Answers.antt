@@ -8,7 +8,7 @@ pub loop-i-preserved : goal.loop-i-preserved
 loop-i-preserved c =
     let text = c.in_ok-row_text.field-0 in
     let there = got_further (setup_rows c.args.setup.now) c.loop-i.i (string_bytes text)
-        (search rules) in
+    (search rules) in
     ap (map string_bytes) (c.in_ok-push.ensures.items) ∙ map-append string_bytes
-        c.loop-i.texts.items (text ∷ []) ∙ ap (λ l. l ++ string_bytes text ∷ [])
-        c.loop-i.invariant ∙ sym there
+    c.loop-i.texts.items (text ∷ []) ∙ ap (λ l. l ++ string_bytes text ∷ [])
+    c.loop-i.invariant ∙ sym there

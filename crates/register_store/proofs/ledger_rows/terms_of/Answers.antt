@@ -10,12 +10,12 @@ pub loop-i-init : goal.loop-i-init
 loop-i-init c =
     let B = c.args.ledger.now in
     ap (λ l. term_rows l ++ flat_map (day_of_loan B) (loans_in B)) c.new-rows.ensures.items
-        ∙ days_told B c.is_lawful.ensures
+    ∙ days_told B c.is_lawful.ensures
 
 pub loop-i-preserved : goal.loop-i-preserved
 loop-i-preserved c =
     let B = c.args.ledger.now in
     next_loan (day_of_loan B) (loans_in B) c.loop-i.i c.loan_at.result
-        (term_rows c.loop-i.rows.items) (term_rows c.push_day.new.rows.items)
-        (day_of_loan B c.loan_at.result)
+    (term_rows c.loop-i.rows.items) (term_rows c.push_day.new.rows.items)
+    (day_of_loan B c.loan_at.result)
     (rows_of_terms B.posted) c.loan_at.ensures.loan refl c.in_ok-push_day.ensures c.loop-i.invariant

@@ -20,22 +20,22 @@ loop-i-preserved c =
     let entries = c.insert.ensures.entries in
     let unique = c.insert.ensures.unique in
     let done : c.insert.new.self.entries ≡ Rattle.indexmap.specs.IndexMap.insert_entry (ghosts).eq
-        kept key l.stage = search rules in
+    kept key l.stage = search rules in
     let inside : IsPermutation (held_lines c.insert.new.self.entries)
-        (put has_same_key l (held_lines kept)) =
+    (put has_same_key l (held_lines kept)) =
     subst (λ es. IsPermutation (held_lines es) (put has_same_key l (held_lines kept))) (sym done)
     (inserted has_same_key (ghosts).eq key_is
-        (λ k s. record { loan = k.loan; object = k.object; stage = s }) (λ k m v w. refl) key
-        l.stage kept
+    (λ k s. record { loan = k.loan; object = k.object; stage = s }) (λ k m v w. refl) key
+    l.stage kept
     (subst (λ es. Rattle.std.specs.List.IsDistinct (ghosts).eq (Rattle.std.specs.Map.keys_of es))
-        done unique)) in
+    done unique)) in
     let next : drop i lines ≡ l ∷ drop (i + 1) lines =
-        (rw add-one (drop-cons lines i l c.loop-i-test.true)) ∙ ap (λ z. z ∷ drop (i + 1) lines)
-        (sym c.index-lines-i.is) in
+    (rw add-one (drop-cons lines i l c.loop-i-test.true)) ∙ ap (λ z. z ∷ drop (i + 1) lines)
+    (sym c.index-lines-i.is) in
     record {
       room = let used = c.insert.ensures.spare in let room = c.loop-i.invariant.room in omega arith;
       left = IsPermutation-trans _ _ _ (put_each_same has_same_key (drop (i + 1) lines) _ _ inside)
           (subst (λ ls. IsPermutation (put_each has_same_key ls (held_lines kept))
-              (put_each has_same_key lines (held_lines c.args.kept.now.entries))) next
-              c.loop-i.invariant.left);
+          (put_each has_same_key lines (held_lines c.args.kept.now.entries))) next
+          c.loop-i.invariant.left);
     }

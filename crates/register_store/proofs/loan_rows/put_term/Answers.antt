@@ -21,11 +21,11 @@ returns-in-Some c =
     let unique = c.insert.ensures.unique in
     let said : term_of c.args.entry.now ≡ Some t = sym c.in-Some.ensures' in
     let put : IsPermutation (term_rows (insert_entry bytes_eq kept loan day))
-        (put is_same_loan t (term_rows kept)) =
+    (put is_same_loan t (term_rows kept)) =
     inserted is_same_loan bytes_eq (λ k l e. (bytes_eq-Decides k l).0 e)
-        (λ k d. record { loan = k; day = d }) (λ k l v w. refl) loan day kept
+    (λ k d. record { loan = k; day = d }) (λ k l v w. refl) loan day kept
     (subst (λ es. IsDistinct bytes_eq (keys_of es)) done unique) in
     subst (λ es. IsPermutation (term_rows es)
-        (with_term (term_of c.args.entry.now) (term_rows kept))) (sym done)
+    (with_term (term_of c.args.entry.now) (term_rows kept))) (sym done)
     (subst (λ o. IsPermutation (term_rows (insert_entry bytes_eq kept loan day))
-        (with_term o (term_rows kept))) (sym said) put)
+    (with_term o (term_rows kept))) (sym said) put)

@@ -12,11 +12,11 @@ returns-in_default-kind-clause-exact g c =
     let text : as_str kind ≡ Some name = grind arith in
     let other = c.in_default-kind in
     rw (other_kind d kind name object c.in_ok-value_at.ensures.exact text other.not-move
-        other.not-pack other.not-signoff) c.loan_message_of.ensures.exact
+    other.not-pack other.not-signoff) c.loan_message_of.ensures.exact
 
 pub returns-in_default-kind-clause-gives_up : goal.returns-in_default-kind-clause-gives_up
 returns-in_default-kind-clause-gives_up g c = λ gave_up.
     let kind = g.V.Fields.seen c.in_ok-value_at.field-0.now in
     let text : as_str kind ≡ Some c.in-Some.kind.now = grind arith in
     grows (g.V.Fields.seen c.args.value.now) kind c.in-Some.kind.now c.in_ok-value_at.ensures.exact
-        text (c.loan_message_of.ensures.gives_up gave_up)
+    text (c.loan_message_of.ensures.gives_up gave_up)

@@ -9,7 +9,7 @@ pub returns-clause-text : goal.returns-clause-text
 returns-clause-text c =
     let is = c.in_ok-object.ensures in
     c.in_ok-to_string.ensures.text (ap has_float is ∙ no_float c.args.message.now)
-        ∙ ap compact_text is
+    ∙ ap compact_text is
 
 pub returns-clause-reads_back : goal.returns-clause-reads_back
 returns-clause-reads_back c = ap of_bytes (returns-clause-text c) ∙ reads_back c.args.message.now

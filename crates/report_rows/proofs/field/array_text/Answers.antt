@@ -9,7 +9,7 @@ pub returns : goal.returns
 returns c =
     let xs = c.args.texts.now in
     let all = c.loop-i.invariant ∙ ap (λ ts. map quoted (map string_bytes ts))
-        (take_all c.loop-i.i xs (omega arith)) in
+    (take_all c.loop-i.i xs (omega arith)) in
     let joined = joined_alike string_bytes quoted (codes ",") c.loop-i.items.items
-        (map string_bytes xs) all in
+    (map string_bytes xs) all in
     search rules

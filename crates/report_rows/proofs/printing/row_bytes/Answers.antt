@@ -6,7 +6,7 @@ pub returns-in-Ok : goal.returns-in-Ok
 returns-in-Ok c =
     let from = c.from_writer-wtr.ensures in
     let plain : c.from_writer-wtr.result.cfg.style ≢ style.NonNumeric =
-        rw (from.cfg, c.new.ensures) (λ e. cc e) in
+    rw (from.cfg, c.new.ensures) (λ e. cc e) in
     let h = c.in_ok-write_fields.ensures.bytes from.fields from.wrote plain in
     let text = rw (from.cfg, c.new.ensures, from.wtr, c.new-2.ensures.items, from.empty) at h in
     c.in-Ok.ensures.ok ∙ text

@@ -9,5 +9,5 @@ pub returns : goal.returns
 returns c =
     let told_words = filter is_told (map told c.args.words.now) in
     let joined = joined_alike string_bytes plain_text (codes " ") _ told_words
-        c.in_ok-texts.ensures in
+    c.in_ok-texts.ensures in
     search rules

@@ -8,4 +8,4 @@ pub returns : goal.returns
 returns c =
     c.loop-i.invariant
     ∙ ap (λ ts. map plain_text (filter is_told (map told ts)))
-        (take_all c.loop-i.i c.args.words.now (omega arith))
+    (take_all c.loop-i.i c.args.words.now (omega arith))

@@ -8,11 +8,11 @@ pub loop-found-preserved : goal.loop-found-preserved
 loop-found-preserved c =
     let inv = c.loop-found.invariant in
     let there : 0 < length c.loop-found.found.items =
-        grind (arith, nat_tests, c.loop-found.found.ok.0) in
+    grind (arith, nat_tests, c.loop-found.found.ok.0) in
     let ends = c.loop-found.ends.items in
     let all = c.args.found.items in
     let more : length c.push.new.self.items ≡ suc (length ends) =
-        ap length c.in-Ok.ensures.items ∙ length_push ends c.in-Some.end in
+    ap length c.in-Ok.ensures.items ∙ length_push ends c.in-Some.end in
     record {
       left = c.remove-sent.ensures.items
           ∙ (ap (drop 1) inv.left ∙ (left_then IsEndOfSent all ends ∙ ap (λ n. drop n all)
@@ -20,9 +20,23 @@ loop-found-preserved c =
       ends = rw (more, c.in-Ok.ensures.items)
           (joined_then IsEndOfSent all ends c.remove-sent.result c.in-Some.end inv.ends
           (rw inv.left at c.remove-sent.ensures.value) (rw inv.left at there) c.in-Some.ensures);
-      room = omega (arith, inv.room, c.in-Ok.ensures.len, c.in-Ok.ensures.capacity,
-          ap length c.remove-sent.ensures.items, c.remove-sent.new.self.ok.0,
-          c.loop-found.found.ok.0, there);
-      count = omega (arith, inv.count, c.in-Ok.ensures.len, ap length c.remove-sent.ensures.items,
-          c.remove-sent.new.self.ok.0, c.loop-found.found.ok.0, there);
+      room = omega (
+        arith,
+        inv.room,
+        c.in-Ok.ensures.len,
+        c.in-Ok.ensures.capacity,
+        ap length c.remove-sent.ensures.items,
+        c.remove-sent.new.self.ok.0,
+        c.loop-found.found.ok.0,
+        there,
+      );
+      count = omega (
+        arith,
+        inv.count,
+        c.in-Ok.ensures.len,
+        ap length c.remove-sent.ensures.items,
+        c.remove-sent.new.self.ok.0,
+        c.loop-found.found.ok.0,
+        there,
+      );
     }

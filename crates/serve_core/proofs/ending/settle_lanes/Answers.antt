@@ -18,32 +18,59 @@ loop-i-init c = record {
 pub index_mut-requires-in-loop-i : goal.index_mut-requires-in-loop-i
 index_mut-requires-in-loop-i c =
     let inv = c.loop-i.invariant in
-    omega (arith, c.loop-i-test.true, c.len-i-end.ensures, zip_length SameConsumer _ _ inv.rings,
-        zip_length IsSentTo _ _ inv.pairs, c.args.rings.now.ok.0, c.loop-i.found.ok.0,
-        c.loop-i.rings.ok.0)
+    omega (
+      arith,
+      c.loop-i-test.true,
+      c.len-i-end.ensures,
+      zip_length SameConsumer _ _ inv.rings,
+      zip_length IsSentTo _ _ inv.pairs,
+      c.args.rings.now.ok.0,
+      c.loop-i.found.ok.0,
+      c.loop-i.rings.ok.0,
+    )
 
 pub settle_lane-requires : goal.settle_lane-requires
 settle_lane-requires c =
     let inv = c.loop-i.invariant in
     let lt : c.loop-i.i < length c.loop-i.found.items =
-        omega (arith, c.loop-i-test.true, c.len-i-end.ensures,
-        zip_length SameConsumer _ _ inv.rings, zip_length IsSentTo _ _ inv.pairs,
-        c.args.rings.now.ok.0, c.loop-i.found.ok.0, c.loop-i.rings.ok.0) in
+    omega (
+      arith,
+      c.loop-i-test.true,
+      c.len-i-end.ensures,
+      zip_length SameConsumer _ _ inv.rings,
+      zip_length IsSentTo _ _ inv.pairs,
+      c.args.rings.now.ok.0,
+      c.loop-i.found.ok.0,
+      c.loop-i.rings.ok.0,
+    ) in
     zip_get IsSentTo c.loop-i.found.items c.loop-i.rings.items c.loop-i.i
-        c.index_mut-in-loop-i.result.now c.index_mut.result.now inv.pairs lt
-        c.index_mut-in-loop-i.ensures.value c.index_mut.ensures.value
+    c.index_mut-in-loop-i.result.now c.index_mut.result.now inv.pairs lt
+    c.index_mut-in-loop-i.ensures.value c.index_mut.ensures.value
 
 pub loop-i-preserved : goal.loop-i-preserved
 loop-i-preserved c =
     let inv = c.loop-i.invariant in
     let s = c.settle_lane.ensures in
     let lf : c.loop-i.i < length c.loop-i.found.items =
-        omega (arith, c.loop-i-test.true, c.len-i-end.ensures,
-        zip_length SameConsumer _ _ inv.rings, zip_length IsSentTo _ _ inv.pairs,
-        c.args.rings.now.ok.0, c.loop-i.found.ok.0, c.loop-i.rings.ok.0) in
+    omega (
+      arith,
+      c.loop-i-test.true,
+      c.len-i-end.ensures,
+      zip_length SameConsumer _ _ inv.rings,
+      zip_length IsSentTo _ _ inv.pairs,
+      c.args.rings.now.ok.0,
+      c.loop-i.found.ok.0,
+      c.loop-i.rings.ok.0,
+    ) in
     let lr : c.loop-i.i < length c.loop-i.rings.items =
-        omega (arith, c.loop-i-test.true, c.len-i-end.ensures,
-        zip_length SameConsumer _ _ inv.rings, c.args.rings.now.ok.0, c.loop-i.rings.ok.0) in
+    omega (
+      arith,
+      c.loop-i-test.true,
+      c.len-i-end.ensures,
+      zip_length SameConsumer _ _ inv.rings,
+      c.args.rings.now.ok.0,
+      c.loop-i.rings.ok.0,
+    ) in
     let x = c.index_mut-in-loop-i.result.now in
     let r = c.index_mut.result.now in
     record {
@@ -60,7 +87,7 @@ loop-i-preserved c =
       front = by_step (λ k. Begins (received_at c.args.rings.now.items k)
           (sent_at c.args.found.now.items k)) c.loop-i.i inv.front
           (settled_at c.args.rings.now.items c.loop-i.rings.items c.args.found.now.items
-              c.loop-i.found.items c.loop-i.i r x (inv.taken c.loop-i.i)
-              (still_at _ _ c.loop-i.i inv.found) lr lf c.index_mut.ensures.value
-              c.index_mut-in-loop-i.ensures.value s.front);
+          c.loop-i.found.items c.loop-i.i r x (inv.taken c.loop-i.i)
+          (still_at _ _ c.loop-i.i inv.found) lr lf c.index_mut.ensures.value
+          c.index_mut-in-loop-i.ensures.value s.front);
     }

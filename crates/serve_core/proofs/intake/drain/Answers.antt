@@ -30,8 +30,11 @@ loop-init g c =
       [],
       sym (append-nil _),
       serves_none g.R.Register.holding c.args.hub.now,
-      record { ring = s.looked.0; of = tt;
-          taken = s.looked.1 ∙ sym (append-nil (received_is c.args.ring.now)) },
+      record {
+        ring = s.looked.0;
+        of = tt;
+        taken = s.looked.1 ∙ sym (append-nil (received_is c.args.ring.now));
+      },
       s.fifo,
       omega (arith, s.value),
       s.finished.0,
@@ -57,9 +60,11 @@ returns-in_err-log_item-clause-fault g c =
 
 pub returns-in_err-log_item-clause-end : goal.returns-in_err-log_item-clause-end
 returns-in_err-log_item-clause-end g c =
-    let inv = c.loop.invariant in
-    (still_end (record { finished = c.slots_after-left.new.finished }) c.loop.ring
-        c.pop_known-item.new.self inv.6 c.pop_known-item.ensures.ring, inv.7)
+    let inv = c.loop.invariant in (
+      still_end (record { finished = c.slots_after-left.new.finished }) c.loop.ring
+          c.pop_known-item.new.self inv.6 c.pop_known-item.ensures.ring,
+      inv.7,
+    )
 
 pub returns-clause-level : goal.returns-clause-level
 returns-clause-level g c = c.loop.invariant.8

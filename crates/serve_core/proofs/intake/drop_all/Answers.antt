@@ -10,7 +10,7 @@ loop-i-preserved c =
     let inv = c.loop-i.invariant in
     let d = c.drop_one-taken.ensures in
     let lt : c.loop-i.i < length c.loop-i.rings.items =
-        omega (arith, c.loop-i-test.true, c.len-i-end.ensures, inv.1, c.loop-i.rings.ok.0) in (
+    omega (arith, c.loop-i-test.true, c.len-i-end.ensures, inv.1, c.loop-i.rings.ok.0) in (
       dropped_at c.args.rings.now.items c.loop-i.rings.items c.loop-i.i c.index_mut.result.now
           c.drop_one-taken.new.ring inv.0 lt c.index_mut.ensures.value d.ring d.some,
       inv.1,

@@ -22,18 +22,32 @@ loop-i-init g c = (
 pub index_mut-requires-in-loop-i : goal.index_mut-requires-in-loop-i
 index_mut-requires-in-loop-i g c =
     let inv = c.loop-i.invariant in
-    omega (arith, c.loop-i-test.true, c.len-i-end.ensures, inv.7, zip_length IsEndOn _ _ inv.5,
-        c.loop-i.ends.ok.0, c.loop-i.rings.ok.0)
+    omega (
+      arith,
+      c.loop-i-test.true,
+      c.len-i-end.ensures,
+      inv.7,
+      zip_length IsEndOn _ _ inv.5,
+      c.loop-i.ends.ok.0,
+      c.loop-i.rings.ok.0,
+    )
 
 pub drain-requires : goal.drain-requires
 drain-requires g c =
     let inv = c.loop-i.invariant in
     let le : c.loop-i.i < length c.loop-i.ends.items =
-        omega (arith, c.loop-i-test.true, c.len-i-end.ensures, inv.7, zip_length IsEndOn _ _ inv.5,
-        c.loop-i.ends.ok.0, c.loop-i.rings.ok.0) in
+    omega (
+      arith,
+      c.loop-i-test.true,
+      c.len-i-end.ensures,
+      inv.7,
+      zip_length IsEndOn _ _ inv.5,
+      c.loop-i.ends.ok.0,
+      c.loop-i.rings.ok.0,
+    ) in
     zip_get IsEndOn c.loop-i.ends.items c.loop-i.rings.items c.loop-i.i
-        c.index_mut-in-loop-i.result.now c.index_mut.result.now inv.5 le
-        c.index_mut-in-loop-i.ensures.value c.index_mut.ensures.value
+    c.index_mut-in-loop-i.result.now c.index_mut.result.now inv.5 le
+    c.index_mut-in-loop-i.ensures.value c.index_mut.ensures.value
 
 pub returns-in_err-drain-clause-fault : goal.returns-in_err-drain-clause-fault
 returns-in_err-drain-clause-fault g c =
@@ -57,8 +71,15 @@ returns-in_err-drain-clause-ends g c =
     let inv = c.loop-i.invariant in
     let d = c.in_err-drain.ensures.end in
     let le : c.loop-i.i < length c.loop-i.ends.items =
-        omega (arith, c.loop-i-test.true, c.len-i-end.ensures, inv.7, zip_length IsEndOn _ _ inv.5,
-        c.loop-i.ends.ok.0, c.loop-i.rings.ok.0) in (
+    omega (
+      arith,
+      c.loop-i-test.true,
+      c.len-i-end.ensures,
+      inv.7,
+      zip_length IsEndOn _ _ inv.5,
+      c.loop-i.ends.ok.0,
+      c.loop-i.rings.ok.0,
+    ) in (
       zip_set IsEndOn c.loop-i.ends.items c.loop-i.rings.items c.loop-i.i c.drain.new.end
           c.drain.new.ring inv.5 d.0,
       ends_set c.args.ends.now.items c.loop-i.ends.items c.loop-i.i c.index_mut-in-loop-i.result.now
@@ -71,10 +92,17 @@ loop-i-preserved g c =
     let t = c.in_ok-drain.ensures.lines in
     let d = c.in_ok-drain.ensures.end in
     let le : c.loop-i.i < length c.loop-i.ends.items =
-        omega (arith, c.loop-i-test.true, c.len-i-end.ensures, inv.7, zip_length IsEndOn _ _ inv.5,
-        c.loop-i.ends.ok.0, c.loop-i.rings.ok.0) in
+    omega (
+      arith,
+      c.loop-i-test.true,
+      c.len-i-end.ensures,
+      inv.7,
+      zip_length IsEndOn _ _ inv.5,
+      c.loop-i.ends.ok.0,
+      c.loop-i.rings.ok.0,
+    ) in
     let lc : c.loop-i.i < length c.loop-i.rings.items =
-        omega (arith, c.loop-i-test.true, c.len-i-end.ensures, inv.7, c.loop-i.rings.ok.0) in
+    omega (arith, c.loop-i-test.true, c.len-i-end.ensures, inv.7, c.loop-i.rings.ok.0) in
     let e = c.index_mut-in-loop-i.result.now in (
       inv.0 ++ t.0,
       lines_then _ _ _ inv.0 t.0 inv.1 t.1,
@@ -83,7 +111,7 @@ loop-i-preserved g c =
           c.index_mut.ensures.value t.3,
       by_step (λ s. received_at _ s ≡ ended_at c.args.ends.now.items s) c.loop-i.i
           (λ s lt. received_before c.loop-i.rings.items c.loop-i.i s c.drain.new.ring lt
-              ∙ inv.4 s lt)
+          ∙ inv.4 s lt)
           (drained_at c.loop-i.rings.items c.args.ends.now.items c.loop-i.ends.items c.loop-i.i
           c.drain.new.ring e (inv.6.1 c.loop-i.i) lc le c.index_mut-in-loop-i.ensures.value
           t.4),

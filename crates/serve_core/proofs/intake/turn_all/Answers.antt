@@ -5,16 +5,25 @@ use Rattle.serve_core.proofs.Takings.{takes_none, takes_then, lines_then, ascend
 use Rattle.serve_core.proofs.intake.turn_all.Goals as goal
 
 pub loop-i-init : goal.loop-i-init
-loop-i-init g c =
-    ([], sym (append-nil _), serves_none g.R.Register.holding c.args.hub.now, takes_none _, refl,
-        tt, refl, omega arith, refl, refl)
+loop-i-init g c = (
+  [],
+  sym (append-nil _),
+  serves_none g.R.Register.holding c.args.hub.now,
+  takes_none _,
+  refl,
+  tt,
+  refl,
+  omega arith,
+  refl,
+  refl,
+)
 
 pub loop-i-preserved : goal.loop-i-preserved
 loop-i-preserved g c =
     let inv = c.loop-i.invariant in
     let t = c.in_ok-taken.ensures.lines in
     let within : c.loop-i.i < length c.loop-i.rings.items =
-        omega (arith, c.loop-i-test.true, c.len-i-end.ensures, inv.6, c.loop-i.rings.ok.0) in (
+    omega (arith, c.loop-i-test.true, c.len-i-end.ensures, inv.6, c.loop-i.rings.ok.0) in (
       inv.0 ++ t.0,
       lines_then _ _ _ inv.0 t.0 inv.1 t.1,
       serves_then g.R.Register.holding _ _ _ inv.0 t.0 inv.2 t.2,

@@ -15,14 +15,25 @@ use Rattle.serve_core.proofs.serving.finish_all.Goals as goal
 
 pub end_all-requires-clause-few : goal.end_all-requires-clause-few
 end_all-requires-clause-few g c =
-    omega (arith, c.requires.few, zip_length IsStill _ _ c.settle_lanes.ensures.found,
-        c.args.room.found.ok.0, c.settle_lanes.new.found.ok.0)
+    omega (
+      arith,
+      c.requires.few,
+      zip_length IsStill _ _ c.settle_lanes.ensures.found,
+      c.args.room.found.ok.0,
+      c.settle_lanes.new.found.ok.0,
+    )
 
 pub end_all-requires-clause-room : goal.end_all-requires-clause-room
-end_all-requires-clause-room g c =
-    (c.requires.ends.0, omega (arith, c.requires.ends.1,
-        zip_length IsStill _ _ c.settle_lanes.ensures.found, c.args.room.found.ok.0,
-        c.settle_lanes.new.found.ok.0))
+end_all-requires-clause-room g c = (
+  c.requires.ends.0,
+  omega (
+    arith,
+    c.requires.ends.1,
+    zip_length IsStill _ _ c.settle_lanes.ensures.found,
+    c.args.room.found.ok.0,
+    c.settle_lanes.new.found.ok.0,
+  ),
+)
 
 pub finish-requires : goal.finish-requires
 finish-requires g c = ends_on c.settle_lanes.new.found.items c.end_all.new.ends.items
@@ -35,8 +46,13 @@ returns-in-Some-clause-left g c =
     c.args.room.found.items c.args.log.now c.args.log.now
     c.are_whole-whole.result c.missing_end.result c.in-Some.station c.missing_end.ensures.missing
     c.missing_end.ensures.memory
-    (omega (arith, lt, zip_length IsSentTo _ _ c.settle_lanes.ensures.pairs,
-        zip_length SameConsumer _ _ c.settle_lanes.ensures.rings, c.settle_lanes.new.found.ok.0))
+    (omega (
+      arith,
+      lt,
+      zip_length IsSentTo _ _ c.settle_lanes.ensures.pairs,
+      zip_length SameConsumer _ _ c.settle_lanes.ensures.rings,
+      c.settle_lanes.new.found.ok.0,
+    ))
     (record {
       lines = [];
       log = sym (append-nil _);
@@ -51,7 +67,7 @@ returns-in-Ok-clause-lines g c =
     let t = c.in-Ok.ensures.lines in
     let s = c.settle_lanes.ensures in
     let len : length c.settle_lanes.new.self ≡ length c.args.intake =
-        sym (zip_length SameConsumer _ _ s.rings) in
+    sym (zip_length SameConsumer _ _ s.rings) in
     on_ok_weaker c.all_or_no_memory.result
     (λ w. (
       t.0,

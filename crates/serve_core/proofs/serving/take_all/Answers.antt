@@ -11,22 +11,32 @@ use Rattle.serve_core.proofs.serving.take_all.Goals as goal
 pub finish_all-requires-clause-lanes : goal.finish_all-requires-clause-lanes
 finish_all-requires-clause-lanes g c =
     back_to (λ h. h.promise.lane.value) (λ h. h.promise.feed.value) g.F.Feed.items
-        c.args.prepared.children.items c.join_all.new.found.items c.args.prepared.intake
-        c.turn_until.new.intake
+    c.args.prepared.children.items c.join_all.new.found.items c.args.prepared.intake
+    c.turn_until.new.intake
     c.join_all.ensures c.requires.lanes c.in-Ok.ensures.lines.3.rings
 
 pub finish_all-requires-clause-few : goal.finish_all-requires-clause-few
 finish_all-requires-clause-few g c =
-    omega (arith, c.requires.room.few,
-        zip_length (λ h s. Sends h.promise.lane.value (g.F.Feed.items h.promise.feed.value) s) _ _
-        c.join_all.ensures, c.args.prepared.children.ok.0, c.join_all.new.found.ok.0)
+    omega (
+      arith,
+      c.requires.room.few,
+      zip_length (λ h s. Sends h.promise.lane.value (g.F.Feed.items h.promise.feed.value) s) _ _
+          c.join_all.ensures,
+      c.args.prepared.children.ok.0,
+      c.join_all.new.found.ok.0,
+    )
 
 pub finish_all-requires-clause-ends : goal.finish_all-requires-clause-ends
 finish_all-requires-clause-ends g c = (
   c.requires.room.no_ends,
-  omega (arith, c.requires.room.ends,
-      zip_length (λ h s. Sends h.promise.lane.value (g.F.Feed.items h.promise.feed.value) s) _ _
-      c.join_all.ensures, c.args.prepared.children.ok.0, c.join_all.new.found.ok.0),
+  omega (
+    arith,
+    c.requires.room.ends,
+    zip_length (λ h s. Sends h.promise.lane.value (g.F.Feed.items h.promise.feed.value) s) _ _
+        c.join_all.ensures,
+    c.args.prepared.children.ok.0,
+    c.join_all.new.found.ok.0,
+  ),
 )
 
 pub settle_lanes-requires : goal.settle_lanes-requires
@@ -34,8 +44,8 @@ settle_lanes-requires g c =
     let t = some_then_none _ _ _ _ (takes_is_some _ _ _ c.in-Err.ensures.fault.5)
     c.drop_until.ensures in
     back_to (λ h. h.promise.lane.value) (λ h. h.promise.feed.value) g.F.Feed.items
-        c.args.prepared.children.items c.join_all-in-Err.new.found.items c.args.prepared.intake
-        c.drop_until.new.intake
+    c.args.prepared.children.items c.join_all-in-Err.new.found.items c.args.prepared.intake
+    c.drop_until.new.intake
     c.join_all-in-Err.ensures c.requires.lanes t.rings
 
 pub returns-in-Ok-clause-merge : goal.returns-in-Ok-clause-merge
@@ -49,7 +59,7 @@ returns-in-Ok-clause-merge g c =
     c.args.prepared.intake c.turn_until.new.intake c.join_all.ensures c.requires.lanes
     t.3.rings in
     let of = back_of (λ h. h.promise.lane.value) (λ h. h.promise.feed.value) g.F.Feed.items hs found
-        c.args.prepared.intake c.join_all.ensures c.requires.lanes in
+    c.args.prepared.intake c.join_all.ensures c.requires.lanes in
     on_ok_weaker c.finish_all.result
     (λ f. subst (λ (G : List LogLine). IsMerge feeds G)
     (sym (log_whole _ _ _ t.0 f.0 c.requires.log t.1 f.1))
@@ -77,7 +87,7 @@ returns-in-Ok-clause-left g c =
     let to = back_to (λ h. h.promise.lane.value) (λ h. h.promise.feed.value) g.F.Feed.items hs found
     c.args.prepared.intake cs c.join_all.ensures c.requires.lanes t.3.rings in
     let of = back_of (λ h. h.promise.lane.value) (λ h. h.promise.feed.value) g.F.Feed.items hs found
-        c.args.prepared.intake c.join_all.ensures c.requires.lanes in
+    c.args.prepared.intake c.join_all.ensures c.requires.lanes in
     IfErr-weaker c.finish_all.result
     (EndsLanes g.R.Register.holding c.turn_until.new.hub c.finish_all.new.hub cs found
     c.turn_until.new.log c.finish_all.new.log)
@@ -98,10 +108,10 @@ returns-in-Err-clause-left g c =
     let lanes = map (λ h. h.promise.lane.value) hs in
     let feeds = map g.F.Feed.items (map (λ h. h.promise.feed.value) hs) in
     let to = back_to (λ h. h.promise.lane.value) (λ h. h.promise.feed.value) g.F.Feed.items hs found
-        c.args.prepared.intake c.drop_until.new.intake c.join_all-in-Err.ensures
-        c.requires.lanes t.rings in
+    c.args.prepared.intake c.drop_until.new.intake c.join_all-in-Err.ensures
+    c.requires.lanes t.rings in
     let of = back_of (λ h. h.promise.lane.value) (λ h. h.promise.feed.value) g.F.Feed.items hs found
-        c.args.prepared.intake c.join_all-in-Err.ensures c.requires.lanes in
+    c.args.prepared.intake c.join_all-in-Err.ensures c.requires.lanes in
     let is = sym (f.3 ∙ ap (λ (ls : List LogLine). ls ++ f.0) c.requires.log) in
     let fault = serve_fault c.in-Err.fault in
     subst (AfterFault g.R.Register.holding c.args.hub.now c.turn_until.new.hub feeds

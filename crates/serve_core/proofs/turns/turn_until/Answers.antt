@@ -5,9 +5,18 @@ use Rattle.serve_core.proofs.Takings.{lines_then, takes_none, takes_after, takes
 use Rattle.serve_core.proofs.turns.turn_until.Goals as goal
 
 pub loop-init : goal.loop-init
-loop-init g c =
-    (tt, tt, ([], sym (append-nil _), serves_none g.R.Register.holding c.args.hub.now,
-    takes_none _), refl, refl)
+loop-init g c = (
+  tt,
+  tt,
+  (
+    [],
+    sym (append-nil _),
+    serves_none g.R.Register.holding c.args.hub.now,
+    takes_none _,
+  ),
+  refl,
+  refl,
+)
 
 pub loop-preserved : goal.loop-preserved
 loop-preserved g c =

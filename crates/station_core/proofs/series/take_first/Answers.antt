@@ -8,4 +8,4 @@ returns-then-is_last-clause-moved g c =
     let taken : c.take.new.self ≡ None = search rules in
     ap (λ (xs : List (Option g.row.M.Denot)). buffer xs c.args.slots.now.capacity)
     (moves_alone c.args.slots.now.items c.take.new.self c.requires.some taken
-        (c.requires.last c.if-is_last.true))
+    (c.requires.last c.if-is_last.true))

@@ -14,19 +14,19 @@ returns-clause-only c =
     let value = rw c.unwrap-date.ensures at c.from_unix_epoch_day.ensures.value in
     let text = c.new.ensures ∙ c.text_of.ensures ∙ ap (λ y. date_text y date.month date.day) year in
     let low : first_number ≤ℤ c.args.self.now =
-        subst (λ n. first_number ≤ℤ n) c.self.view_is c.self.invariant.0 in
+    subst (λ n. first_number ≤ℤ n) c.self.view_is c.self.invariant.0 in
     let number = c.self.inside.number in
     let range : (first_number ≤ℤ number) × (number ≤ℤ last_number) = c.self.invariant in
     let narrow : to_z w32 (of_z w32 number) ≡ number = omega (arith, ints) in
     let wide : to_z w64 (of_z w64 number) ≡ number = omega (arith, ints) in
     let is : epoch_day date ≡ c.args.self.now =
-        value ∙ ap (λ z. to_z w64 (of_z w64 z)) narrow ∙ wide ∙ c.self.view_is in
+    value ∙ ap (λ z. to_z w64 (of_z w64 z)) narrow ∙ wide ∙ c.self.view_is in
     subst (λ t. IsOnlySpelling t c.args.self.now) (sym text)
-        (only_spelling date c.args.self.now is low)
+    (only_spelling date c.args.self.now is low)
 
 pub returns-clause-text : goal.returns-clause-text
 returns-clause-text c =
     let day = text_spells_day c.args.self.now
-        (subst (λ n. first_number ≤ℤ n) c.self.view_is c.self.invariant.0)
-        (subst (λ n. n ≤ℤ last_number) c.self.view_is c.self.invariant.1) in
+    (subst (λ n. first_number ≤ℤ n) c.self.view_is c.self.invariant.0)
+    (subst (λ n. n ≤ℤ last_number) c.self.view_is c.self.invariant.1) in
     sym ((returns-clause-only c).only (day_text c.args.self.now) day.spells)

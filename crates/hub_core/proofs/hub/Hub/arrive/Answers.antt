@@ -16,15 +16,19 @@ use Rattle.hub_core.proofs.hub.Hub.arrive.Goals as goal
 pub returns-in-Some-clause-headline : goal.returns-in-Some-clause-headline
 returns-in-Some-clause-headline g c =
     let hub : State g.row.R.Denot =
-        record { sequences = c.self.inside.sequences; book = c.self.inside.ledger;
-        register = c.self.inside.register; down = c.self.inside.down } in
+    record {
+      sequences = c.self.inside.sequences;
+      book = c.self.inside.ledger;
+      register = c.self.inside.register;
+      down = c.self.inside.down;
+    } in
     subst (λ (h : State g.row.R.Denot). (O : List Entry) (A : List Arrival)
-        → StandsFor g.R.Register.holding h O A
-        → (Refused c.in-Some.refusal ≡ reply h.book.museum h.book.depth O A c.args.arrival)
-        × StandsFor g.R.Register.holding h O (A ++ c.args.arrival ∷ [])) c.self.view_is
+    → StandsFor g.R.Register.holding h O A
+    → (Refused c.in-Some.refusal ≡ reply h.book.museum h.book.depth O A c.args.arrival)
+    × StandsFor g.R.Register.holding h O (A ++ c.args.arrival ∷ [])) c.self.view_is
     (λ O A st. stands_refused g.R.Register.holding hub O A c.args.arrival c.in-Some.refusal st
     (refused_by hub O A c.args.arrival _ _ (c.self.invariant.0 c.if-self.false)
-        (c.test.ensures.taken is_sign_off _ st.series) c.in-Some.is))
+    (c.test.ensures.taken is_sign_off _ st.series) c.in-Some.is))
 
 pub returns-in-Some-clause-closed : goal.returns-in-Some-clause-closed
 returns-in-Some-clause-closed g c = λ _. refl
@@ -49,10 +53,10 @@ post_due-requires-clause-known g c =
     let all = c.self.inside.sequences in
     let s = c.args.arrival.station in
     let within : s < length all = accepted_within all s c.args.arrival.n
-        (sym c.test.ensures.table ∙ c.in_default.is) in
+    (sym c.test.ensures.table ∙ c.in_default.is) in
     let is = written all c.take.new.self s
-        (with_held (series_at all s) c.args.arrival.n c.args.arrival.message) within
-        c.take.ensures.held in
+    (with_held (series_at all s) c.args.arrival.n c.args.arrival.message) within
+    c.take.ensures.held in
     subst (λ n. s < n) (sym is.same_length) within
 
 pub post_due-requires-clause-unsigned : goal.post_due-requires-clause-unsigned
@@ -62,8 +66,8 @@ post_due-requires-clause-unsigned g c =
     let refused = sym c.test.ensures.table ∙ c.in_default.is in
     let within : s < length all = accepted_within all s c.args.arrival.n refused in
     let is = written all c.take.new.self s
-        (with_held (series_at all s) c.args.arrival.n c.args.arrival.message) within
-        c.take.ensures.held in
+    (with_held (series_at all s) c.args.arrival.n c.args.arrival.message) within
+    c.take.ensures.held in
     ap (λ (x : Series Message). x.signed) is.here ∙ taken_unsigned all s c.args.arrival.n refused
 
 pub post_due-requires-clause-in_step : goal.post_due-requires-clause-in_step
@@ -71,78 +75,94 @@ post_due-requires-clause-in_step g c =
     let all = c.self.inside.sequences in
     let s = c.args.arrival.station in
     let within : s < length all = accepted_within all s c.args.arrival.n
-        (sym c.test.ensures.table ∙ c.in_default.is) in
+    (sym c.test.ensures.table ∙ c.in_default.is) in
     let is = written all c.take.new.self s
-        (with_held (series_at all s) c.args.arrival.n c.args.arrival.message) within
-        c.take.ensures.held in
+    (with_held (series_at all s) c.args.arrival.n c.args.arrival.message) within
+    c.take.ensures.held in
     step_held c.self.inside.ledger.museum c.self.inside.ledger.posted all c.take.new.self s _
-        (c.self.invariant.0 c.if-self.false) within is refl refl
+    (c.self.invariant.0 c.if-self.false) within is refl refl
 
 pub returns-clause-headline : goal.returns-clause-headline
 returns-clause-headline g c =
     let hub : State g.row.R.Denot =
-        record { sequences = c.self.inside.sequences; book = c.self.inside.ledger;
-        register = c.self.inside.register; down = c.self.inside.down } in
+    record {
+      sequences = c.self.inside.sequences;
+      book = c.self.inside.ledger;
+      register = c.self.inside.register;
+      down = c.self.inside.down;
+    } in
     let new : State g.row.R.Denot =
-        record { sequences = c.post_due.new.sequences; book = c.post_due.new.ledger;
-        register = c.post_due.new.register; down = c.self.inside.down } in
+    record {
+      sequences = c.post_due.new.sequences;
+      book = c.post_due.new.ledger;
+      register = c.post_due.new.register;
+      down = c.self.inside.down;
+    } in
     let step = c.self.invariant.0 c.if-self.false in
     let due = c.in_default-post_due.ensures in
     subst (λ (h : State g.row.R.Denot). (O : List Entry) (A : List Arrival)
-        → StandsFor g.R.Register.holding h O A
-        → (c.answer_from.result ≡ reply h.book.museum h.book.depth O A c.args.arrival)
-        × StandsFor g.R.Register.holding new O (A ++ c.args.arrival ∷ [])) c.self.view_is
+    → StandsFor g.R.Register.holding h O A
+    → (c.answer_from.result ≡ reply h.book.museum h.book.depth O A c.args.arrival)
+    × StandsFor g.R.Register.holding new O (A ++ c.args.arrival ∷ [])) c.self.view_is
     (λ O A st.
     let h = stands_taken g.R.Register.holding hub new c.take.new.self O A c.args.arrival st
-        step.stations
+    step.stations
     (refused_by hub O A c.args.arrival _ _ step (c.test.ensures.taken is_sign_off _ st.series)
-        c.in_default.is)
+    c.in_default.is)
     c.if-self.false due.museum due.depth c.take.ensures.held (c.take.ensures.taken is_sign_off)
-        due.posted.done due.posted.stored in (
+    due.posted.done due.posted.stored in (
       c.answer_from.ensures ∙ (reply_counted (length hub.book.posted) (length new.book.posted)
           (length c.posted.result.now) (length c.posted-2.result.now)
           (length_back c.posted.result.now hub.book.posted c.posted.ensures)
-              (length_back c.posted-2.result.now new.book.posted c.posted-2.ensures) ∙ h.0),
+          (length_back c.posted-2.result.now new.book.posted c.posted-2.ensures) ∙ h.0),
       h.1,
     ))
 
 pub returns-in-Err-clause-after_fault : goal.returns-in-Err-clause-after_fault
 returns-in-Err-clause-after_fault g c =
     let hub : State g.row.R.Denot =
-        record { sequences = c.self.inside.sequences; book = c.self.inside.ledger;
-        register = c.self.inside.register; down = c.self.inside.down } in
+    record {
+      sequences = c.self.inside.sequences;
+      book = c.self.inside.ledger;
+      register = c.self.inside.register;
+      down = c.self.inside.down;
+    } in
     let step = c.self.invariant.0 c.if-self.false in
     subst (λ (h : State g.row.R.Denot). (O : List Entry) (A : List Arrival)
-        → StandsFor g.R.Register.holding h O A
+    → StandsFor g.R.Register.holding h O A
     → Stopped (g.R.Register.holding c.post_due.new.register) h.book.museum h.book.depth
-        h.book.posted (due_with h.book.museum h.book.depth O A c.args.arrival)
-        c.post_due.new.ledger.posted) c.self.view_is
+    h.book.posted (due_with h.book.museum h.book.depth O A c.args.arrival)
+    c.post_due.new.ledger.posted) c.self.view_is
     (λ O A st. stands_stopped g.R.Register.holding hub
-        (g.R.Register.holding c.post_due.new.register) c.take.new.self c.post_due.new.ledger.posted
-        O A c.args.arrival st step.stations
+    (g.R.Register.holding c.post_due.new.register) c.take.new.self c.post_due.new.ledger.posted
+    O A c.args.arrival st step.stations
     (refused_by hub O A c.args.arrival _ _ step (c.test.ensures.taken is_sign_off _ st.series)
-        c.in_default.is)
+    c.in_default.is)
     c.take.ensures.held (c.take.ensures.taken is_sign_off) c.in-Err.ensures.stopped.stopped)
 
 pub returns-in-Err-clause-answers : goal.returns-in-Err-clause-answers
 returns-in-Err-clause-answers g c =
     let hub : State g.row.R.Denot =
-        record { sequences = c.self.inside.sequences; book = c.self.inside.ledger;
-        register = c.self.inside.register; down = c.self.inside.down } in
+    record {
+      sequences = c.self.inside.sequences;
+      book = c.self.inside.ledger;
+      register = c.self.inside.register;
+      down = c.self.inside.down;
+    } in
     let step = c.self.invariant.0 c.if-self.false in
     subst (λ (h : State g.row.R.Denot). (O : List Entry) (A : List Arrival)
-        → StandsFor g.R.Register.holding h O A
+    → StandsFor g.R.Register.holding h O A
     → (first : ℕ) × (last : ℕ)
-        × (reply h.book.museum h.book.depth O A c.args.arrival ≡ Posted first last)) c.self.view_is
+    × (reply h.book.museum h.book.depth O A c.args.arrival ≡ Posted first last)) c.self.view_is
     (λ O A st.
     let none = refused_by hub O A c.args.arrival _ _ step
-        (c.test.ensures.taken is_sign_off _ st.series) c.in_default.is in
+    (c.test.ensures.taken is_sign_off _ st.series) c.in_default.is in
     let stop = stands_stopped g.R.Register.holding hub
-        (g.R.Register.holding c.post_due.new.register) c.take.new.self c.post_due.new.ledger.posted
-        O A c.args.arrival st step.stations none
+    (g.R.Register.holding c.post_due.new.register) c.take.new.self c.post_due.new.ledger.posted
+    O A c.args.arrival st step.stations none
     c.take.ensures.held (c.take.ensures.taken is_sign_off) c.in-Err.ensures.stopped.stopped in
     reply_due hub.book.museum hub.book.depth O A c.args.arrival stop.done stop.next stop.rest
-        none stop.all)
+    none stop.all)
 
 pub returns-in-Err-clause-fault : goal.returns-in-Err-clause-fault
 returns-in-Err-clause-fault g c = refl
@@ -150,7 +170,7 @@ returns-in-Err-clause-fault g c = refl
 pub returns-in-Err-clause-closed : goal.returns-in-Err-clause-closed
 returns-in-Err-clause-closed g c =
     let up : c.args.self.now.down ≡ false =
-        subst (λ (h : State g.row.R.Denot). h.down ≡ false) c.self.view_is c.if-self.false in
+    subst (λ (h : State g.row.R.Denot). h.down ≡ false) c.self.view_is c.if-self.false in
     λ down. absurd (false≢true (sym up ∙ down))
 
 pub returns-in-Err-clause-museum : goal.returns-in-Err-clause-museum
@@ -172,7 +192,7 @@ invariant_of-self g c = (
 pub returns-clause-closed : goal.returns-clause-closed
 returns-clause-closed g c =
     let up : c.args.self.now.down ≡ false =
-        subst (λ (h : State g.row.R.Denot). h.down ≡ false) c.self.view_is c.if-self.false in
+    subst (λ (h : State g.row.R.Denot). h.down ≡ false) c.self.view_is c.if-self.false in
     λ down. absurd (false≢true (sym up ∙ down))
 
 pub returns-clause-count : goal.returns-clause-count

@@ -9,7 +9,7 @@ pub returns-clause-opens_again : goal.returns-clause-opens_again
 returns-clause-opens_again g c =
     let hub = c.self.inside in
     subst (λ (h : State g.row.R.Denot). OpensAgain (g.R.Register.holding hub.register)
-        h.book.museum) c.self.view_is
+    h.book.museum) c.self.view_is
     (some_opens (g.R.Register.holding hub.register) hub.ledger
     (⊎_elim c.self.invariant.3 (λ up. some_of_store (g.R.Register.holding hub.register) hub.ledger
-        c.is_lawful.ensures (c.self.invariant.2 up)) (cases_Bool hub.down)))
+    c.is_lawful.ensures (c.self.invariant.2 up)) (cases_Bool hub.down)))

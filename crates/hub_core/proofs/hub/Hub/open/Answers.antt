@@ -6,7 +6,11 @@ returns-in-Ok-clause-opened g c =
     let prepared = c.in-Ok.ensures.prepared in
     record {
       setup = prepared.museum;
-      stands = record { up = refl; list = refl; series = prepared.goes_on.series;
-          stored = prepared.stored };
+      stands = record {
+        up = refl;
+        list = refl;
+        series = prepared.goes_on.series;
+        stored = prepared.stored;
+      };
       comes = prepared.comes;
     }

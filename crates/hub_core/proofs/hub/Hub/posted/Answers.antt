@@ -11,4 +11,4 @@ returns-clause-runs g c O A stands s =
     let d = c.args.self.now.book.depth in
     let law : IsLawful S d c.args.self.now.book.posted = search rules in
     ap (cut s) stands.list ∙ each_run S d O A s
-        (subst (λ (P : List Entry). IsLawful S d P) stands.list law)
+    (subst (λ (P : List Entry). IsLawful S d P) stands.list law)

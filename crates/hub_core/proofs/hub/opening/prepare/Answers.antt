@@ -15,7 +15,7 @@ pub restore-requires-clause-bound : goal.restore-requires-clause-bound
 restore-requires-clause-bound g c =
     let L = c.in_ok-ledger.ledger in
     subst (λ (S : Museum). Has (g.R.Register.holding c.bound.new.register) (IsBoundTo S L.depth))
-        (sym c.in_ok-ledger.ensures.new.0) c.in_ok-ledger.ensures.bound
+    (sym c.in_ok-ledger.ensures.new.0) c.in_ok-ledger.ensures.bound
 
 pub returns-in-Err-clause-refused : goal.returns-in-Err-clause-refused
 returns-in-Err-clause-refused g c =
@@ -24,10 +24,10 @@ returns-in-Err-clause-refused g c =
     let new = g.R.Register.holding c.restore.new.register in
     let fault = c.in-Err.fault in
     let wrong : Each new (λ k. IsRestoreFault c.args.setup k fault) =
-        subst (λ (S : Museum). Each new (λ k. IsRestoreFault S k fault))
-        c.in_ok-ledger.ensures.new.0 c.in-Err.ensures.fault in
+    subst (λ (S : Museum). Each new (λ k. IsRestoreFault S k fault))
+    c.in_ok-ledger.ensures.new.0 c.in-Err.ensures.fault in
     not_restored old mid new c.args.setup fault c.in_ok-ledger.ensures.kept
-        c.in-Err.ensures.unchanged wrong
+    c.in-Err.ensures.unchanged wrong
 
 pub returns-in-Ok-clause-prepared : goal.returns-in-Ok-clause-prepared
 returns-in-Ok-clause-prepared g c =

@@ -19,10 +19,10 @@ returns-in_err-entries-clause-fault g c =
     let new = g.R.Register.holding c.all.new.self in
     let fault = c.in_err-entries.field-0.0 in
     if_err c.from_residual.result (λ f. Each new (λ k. IsRestoreFault L.museum k f)) fault
-        c.from_residual.ensures.1
+    c.from_residual.ensures.1
     (not_listed old new L.museum L.depth (g.R.Register.stations c.args.register.now) fault
-        c.requires.ready.1 c.requires.bound c.in_err-entries.ensures.unchanged
-        c.in_err-entries.ensures.cause)
+    c.requires.ready.1 c.requires.bound c.in_err-entries.ensures.unchanged
+    c.in_err-entries.ensures.cause)
 
 pub returns-in_err-starts-clause-fault : goal.returns-in_err-starts-clause-fault
 returns-in_err-starts-clause-fault g c =
@@ -34,14 +34,14 @@ returns-in_err-starts-clause-fault g c =
     let fault = c.in_err-starts.field-0.0 in
     let of : All (IsOfStation (length S.stations)) P =
     All-permutation (IsOfStation (length S.stations)) _ P
-        (IsPermutation-reverse c.in_ok-entries.entries.items)
-        (subst (λ n. All (IsOfStation n) c.in_ok-entries.entries.items) c.requires.ready.1
-        c.in_ok-entries.ensures.stationed) in
+    (IsPermutation-reverse c.in_ok-entries.entries.items)
+    (subst (λ n. All (IsOfStation n) c.in_ok-entries.entries.items) c.requires.ready.1
+    c.in_ok-entries.ensures.stationed) in
     if_err c.from_residual-in_err-starts.result (λ f. Each new (λ k. IsRestoreFault S k f)) fault
-        c.from_residual-in_err-starts.ensures.1
+    c.from_residual-in_err-starts.ensures.1
     (not_judged new S L.depth P fault
-        (is_listed old new S L.depth P c.requires.bound c.in_ok-entries.ensures.unchanged
-        c.in_ok-entries.ensures.listed) of c.in_err-starts.ensures.cause)
+    (is_listed old new S L.depth P c.requires.bound c.in_ok-entries.ensures.unchanged
+    c.in_ok-entries.ensures.listed) of c.in_err-starts.ensures.cause)
 
 pub returns-in_err-compare-clause-fault : goal.returns-in_err-compare-clause-fault
 returns-in_err-compare-clause-fault g c =
@@ -52,12 +52,12 @@ returns-in_err-compare-clause-fault g c =
     let new = g.R.Register.holding c.compare.new.register in
     let fault = c.in_err-compare.field-0.0 in
     let listed = is_listed old mid L.museum L.depth P c.requires.bound
-        c.in_ok-entries.ensures.unchanged c.in_ok-entries.ensures.listed in
+    c.in_ok-entries.ensures.unchanged c.in_ok-entries.ensures.listed in
     if_err c.from_residual-in_err-compare.result (λ f. Each new (λ k. IsRestoreFault L.museum k f))
-        fault c.from_residual-in_err-compare.ensures.1
+    fault c.from_residual-in_err-compare.ensures.1
     (not_agreed L P c.in_ok-starts.starts.items c.judged.new.ledger c.in_ok-starts.ensures.judged
-        new fault (listed_still mid new L.museum L.depth P listed
-        c.in_err-compare.ensures.unchanged) c.in_err-compare.ensures.fault)
+    new fault (listed_still mid new L.museum L.depth P listed
+    c.in_err-compare.ensures.unchanged) c.in_err-compare.ensures.fault)
 
 pub returns-in_err-compare-clause-unchanged : goal.returns-in_err-compare-clause-unchanged
 returns-in_err-compare-clause-unchanged g c =
@@ -68,7 +68,7 @@ new-requires g c =
     let L = c.judged.new.ledger in
     let judged = c.in_ok-starts.ensures.judged in
     subst (λ (xs : List Start). All (λ s. s.posted ≤ LAST) xs) (sym c.deref.ensures.value)
-        (all_few L.museum L.depth L.posted c.in_ok-starts.starts.items judged.lawful judged.in_step)
+    (all_few L.museum L.depth L.posted c.in_ok-starts.starts.items judged.lawful judged.in_step)
 
 pub returns-in_err-new-clause-unchanged : goal.returns-in_err-new-clause-unchanged
 returns-in_err-new-clause-unchanged g c =
@@ -85,7 +85,7 @@ returns-clause-restored g c =
     let judged = c.in_ok-starts.ensures.judged in
     let starts = c.in_ok-starts.starts.items in
     let listed = is_listed old mid L.museum L.depth P c.requires.bound
-        c.in_ok-entries.ensures.unchanged c.in_ok-entries.ensures.listed in
+    c.in_ok-entries.ensures.unchanged c.in_ok-entries.ensures.listed in
     record {
       museum = judged.museum;
       goes_on = goes_on L' starts c.deref.result.now c.in_ok-new.field-0 judged.lawful

@@ -21,8 +21,8 @@ invariant-loop-n g l = record {
       → HasStore (g.R.Register.holding l.register) l.ledger;
   caught : (taken : List (Arrived Message)) → IsPosting is_sign_off taken l.station l.fn.sequences →
       Caught l.fn.ledger.museum l.fn.ledger.depth taken l.station
-          (series_at l.fn.sequences l.station).posted l.fn.ledger.posted l.sequences
-          l.ledger.posted;
+      (series_at l.fn.sequences l.station).posted l.fn.ledger.posted l.sequences
+      l.ledger.posted;
 }
 
 abbrev pub decreases-loop-n : goal.decreases-loop-n

@@ -14,11 +14,11 @@ returns-in_err-changes-clause-left g c =
     let L = c.args.ledger.now in
     let store = g.R.Register.holding c.args.register.now in
     on_err _ (unposted store store L L r c.is_lawful.ensures c.requires.follows refl
-        (either_of store L r))
+    (either_of store L r))
 
 pub post_entry-requires-clause-follows : goal.post_entry-requires-clause-follows
 post_entry-requires-clause-follows g c =
     let r : Arrived Message = arrived c.args.station c.args.n c.args.message in
     let L = c.args.ledger.now in
     subst (λ (x : Changes). Follows L.museum L.depth L.posted (entry_with r x))
-        (sym c.in_ok-changes.ensures.ok) c.requires.follows
+    (sym c.in_ok-changes.ensures.ok) c.requires.follows

@@ -19,8 +19,12 @@ post_again-requires c = sends_follows c.args.ledger.now c.args.entry.now c.args.
 pub index_mut-requires : goal.index_mut-requires
 index_mut-requires c =
     let f = c.in_ok-post_again.ensures.follows in
-    omega (arith, f.known, c.requires.stations,
-        length-map c.args.starts.now.items (opened {M = Message}))
+    omega (
+      arith,
+      f.known,
+      c.requires.stations,
+      length-map c.args.starts.now.items (opened {M = Message}),
+    )
 
 pub returns-clause-in_step : goal.returns-clause-in_step
 returns-clause-in_step c =
@@ -28,21 +32,21 @@ returns-clause-in_step c =
     let e = c.args.entry.now in
     let starts = c.args.starts.now.items in
     subst (λ (b : Book). InStep
-        (map opened (slice_set starts e.station
-        (record { posted = e.n; signed = c.is_sign_off.result }))) b.museum b.posted)
-        (sym c.in_ok-post_again.ensures.posted)
+    (map opened (slice_set starts e.station
+    (record { posted = e.n; signed = c.is_sign_off.result }))) b.museum b.posted)
+    (sym c.in_ok-post_again.ensures.posted)
     (next_step L.museum L.depth L.posted e starts
-        (slice_set starts e.station (record { posted = e.n; signed = c.is_sign_off.result }))
-        c.requires c.in_ok-post_again.ensures.follows
+    (slice_set starts e.station (record { posted = e.n; signed = c.is_sign_off.result }))
+    c.requires c.in_ok-post_again.ensures.follows
     (ap (λ (b : Bool). slice_set starts e.station (record { posted = e.n; signed = b }))
-        c.is_sign_off.ensures))
+    c.is_sign_off.ensures))
 
 pub returns-then-not-may_send-clause-cause : goal.returns-then-not-may_send-clause-cause
 returns-then-not-may_send-clause-cause c =
     let L = c.args.ledger.now in
     let starts = c.args.starts.now.items in
     let sends : c.may_send.result ≡ may_send (slice_get starts c.args.entry.now.station)
-        c.args.entry.now.n = rw (← c.deref.ensures.value) c.may_send.ensures in (
+    c.args.entry.now.n = rw (← c.deref.ensures.value) c.may_send.ensures in (
       sym c.next_number.ensures,
       λ follows. false≢true (sym c.if-not-may_send.true ∙ sends ∙ follows_sends L.museum L.depth
           L.posted c.args.entry.now starts c.requires follows),

@@ -25,8 +25,8 @@ loop-entry-init c =
       lawful = subst (λ (P : List Entry). IsLawful L.museum L.depth P) (sym none) tt;
       in_step = subst (λ (P : List Entry). InStep (map opened starts) L.museum P) (sym none)
           (subst (λ (S : Museum). InStep (map opened starts) S []) c.setup.ensures
-              (fresh_step c.setup.result.now c.stations.result starts c.stations.ensures.count
-              c.in_ok-starts.ensures));
+          (fresh_step c.setup.result.now c.stations.result starts c.stations.ensures.count
+          c.in_ok-starts.ensures));
     }
 
 pub returns-in_err-judge_next-clause-cause : goal.returns-in_err-judge_next-clause-cause
@@ -35,10 +35,10 @@ returns-in_err-judge_next-clause-cause c =
     let L = c.args.ledger.now in
     let fault = c.in_err-judge_next.field-0.0 in
     if_err c.from_residual-in_err-judge_next.result
-        (IsJudgeFault L.museum L.depth (reverse c.args.entries.items)) fault
-        c.from_residual-in_err-judge_next.ensures.1
+    (IsJudgeFault L.museum L.depth (reverse c.args.entries.items)) fault
+    c.from_residual-in_err-judge_next.ensures.1
     (entry_fault L.museum L.depth c.loop-entry.ledger (reverse c.args.entries.items)
-        c.loop-entry.left.items c.pop.new.self.items c.in-Some.entry fault inv.museum
-        inv.depth inv.list
+    c.loop-entry.left.items c.pop.new.self.items c.in-Some.entry fault inv.museum
+    inv.depth inv.list
     (c.pop.ensures.items ∙ ap (λ (o : Option Entry). c.pop.new.self.items ++ option_to_list o)
-        c.in-Some.is) inv.lawful c.in_err-judge_next.ensures.cause)
+    c.in-Some.is) inv.lawful c.in_err-judge_next.ensures.cause)

@@ -11,7 +11,7 @@ returns-clause-piece g c =
     let shown = c.in-Ok.shown.now in
     let feed = c.feed_at-feed in
     let cut : Cut shown feed.result c.if-feed-there.taken c.if-feed-there.end =
-        elim c.if-feed-there.branch [
+    elim c.if-feed-there.branch [
       | then-feed-there w ↦ cut_feed shown feed.result _ _ w.end-is w.taken-is w.if-feed-there.true
           feed.ensures.feed
       | else-feed-there+then-there-eq0 w ↦
@@ -22,9 +22,9 @@ returns-clause-piece g c =
     ] in
     let rested = c.fill_buf.follows.lender-at-none in
     let filled = subst (FillKeeps _ (g.R.Read.remaining rested) (g.R.BufRead.consumable_len rested))
-        c.in-Ok.is c.fill_buf.follows.holds-at-none in
+    c.in-Ok.is c.fill_buf.follows.holds-at-none in
     let moved = Consumes_shown _ _ _ _ shown c.if-feed-there.taken cut.0 c.in-Ok.ensures.front
-        c.in-Ok.ensures.end filled.0 filled.1 c.consume.ensures.bytes in
+    c.in-Ok.ensures.end filled.0 filled.1 c.consume.ensures.bytes in
     record {
       bytes = take feed.result shown;
       taken = subst (Consumes _ _) cut.1 moved.0;

@@ -22,13 +22,13 @@ returns-clause-served g c =
     let not_long : is_too_long c.args.line.now ≡ false = grind (arith, nat_tests) in
     let S = c.args.hub.now.book.museum in
     let said : List Entry → List Arrival → List ℕ =
-        λ O A. read_reply S c.args.hub.now.book.depth O A c.args.number
-        (line_in S c.args.line.now) in
+    λ O A. read_reply S c.args.hub.now.book.depth O A c.args.number
+    (line_in S c.args.line.now) in
     let served =
-        subst (λ (before : List ℕ). Serves g.S.Register.holding g.S.Register.refusals c.args.hub.now
-        c.read_reply.new.hub before (string_bytes c.read_reply.new.text) said
-        (sent (line_in S c.args.line.now)) c.read_reply.result) c.clear.ensures.bytes
-        c.read_reply.ensures.served in
+    subst (λ (before : List ℕ). Serves g.S.Register.holding g.S.Register.refusals c.args.hub.now
+    c.read_reply.new.hub before (string_bytes c.read_reply.new.text) said
+    (sent (line_in S c.args.line.now)) c.read_reply.result) c.clear.ensures.bytes
+    c.read_reply.ensures.served in
     rw (not_empty, not_long) served
 
 pub returns-clause-outcomes : goal.returns-clause-outcomes

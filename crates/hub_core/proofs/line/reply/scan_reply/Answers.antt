@@ -31,4 +31,4 @@ returns-in-Err-clause-served g c = record {
 pub returns-in_err-add_answer-in-Ok-clause-fails : goal.returns-in_err-add_answer-in-Ok-clause-fails
 returns-in_err-add_answer-in-Ok-clause-fails g c = on_err c.from_residual.result (λ O A st.
     subst (λ (answer : Answer). is_posted answer ≡ true) (c.in-Ok.ensures.headline O A st).0
-        (c.in_err-add_answer-in-Ok.ensures.fails c.requires.room))
+    (c.in_err-add_answer-in-Ok.ensures.fails c.requires.room))

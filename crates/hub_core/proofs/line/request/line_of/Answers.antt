@@ -10,5 +10,5 @@ returns-clause-exact g c =
     let holds = c.if-not-has_members.ensures in
     let object : is_some (as_object d) ≡ true = cc in
     rw c.station-station.ensures.found
-        (of_object c.args.setup.now d _ _ object c.in_ok-string_at.ensures.exact
-        c.in_ok-request.ensures.exact)
+    (of_object c.args.setup.now d _ _ object c.in_ok-string_at.ensures.exact
+    c.in_ok-request.ensures.exact)

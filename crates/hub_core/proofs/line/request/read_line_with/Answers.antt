@@ -6,7 +6,7 @@ use Rattle.hub_core.proofs.line.request.read_line_with.Goals as goal
 pub returns-in-Ok-clause-exact : goal.returns-in-Ok-clause-exact
 returns-in-Ok-clause-exact c =
     let same = of_value c.args.setup.now _ _ (is_utf8-from_IsUtf8 _ c.in-Ok.ensures.ok.0)
-        c.in-Ok.ensures.ok.1 in
+    c.in-Ok.ensures.ok.1 in
     rw same c.line_of.ensures.exact
 
 pub returns-in-Err-NotJson-clause-exact : goal.returns-in-Err-NotJson-clause-exact

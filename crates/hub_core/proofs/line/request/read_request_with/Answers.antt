@@ -6,7 +6,7 @@ use Rattle.hub_core.proofs.line.request.read_request_with.Goals as goal
 pub returns-in-Ok : goal.returns-in-Ok
 returns-in-Ok c =
     let same = request_of_value _ _ (is_utf8-from_IsUtf8 _ c.in-Ok.ensures.ok.0)
-        c.in-Ok.ensures.ok.1 in
+    c.in-Ok.ensures.ok.1 in
     record { exact = rw same c.object_of.ensures.exact }
 
 pub returns-in-Err-NotJson : goal.returns-in-Err-NotJson

@@ -8,8 +8,14 @@ returns-in_err-push_str c = record {
   room = λ fits.
       let within : c.loop-piece.piece-index < length c.args.pieces.now = omega arith in
       let there = length-flat_map-take (λ (piece : Bor (List ℕ)). piece.now) c.args.pieces.now
-          c.loop-piece.piece-index (record { ref_ptr = (0, 0); now = [] }) within in
-      absurd (omega (arith, there, c.in_err-push_str.ensures.full, c.loop-piece.invariant.len,
-          c.loop-piece.invariant.capacity, fits));
+      c.loop-piece.piece-index (record { ref_ptr = (0, 0); now = [] }) within in
+      absurd (omega (
+        arith,
+        there,
+        c.in_err-push_str.ensures.full,
+        c.loop-piece.invariant.len,
+        c.loop-piece.invariant.capacity,
+        fits,
+      ));
   capacity = omega arith;
 }

@@ -11,15 +11,24 @@ returns-in_err-add c = record {
       let i : ℕ = c.loop-container.container-index in
       let within : i < length c.args.chain.now = omega arith in
       let there = length-flat_map-take (container_text c.args.setup.now) c.args.chain.now
-          i 0 within in
+      i 0 within in
       let whole = chain_length c.args.setup.now c.args.chain.now i within in
       let own = container_length c.args.setup.now _ _ c.thing_code.ensures in
       let spelled = ap length c.as_str.ensures.text in
       let code = length-append c.as_str.result.now [] in
       let invariant = c.loop-container.invariant in
       absurd (true≢false
-          (sym (c.in_err-add.ensures.room
-          (omega (arith, fits, there, whole, own, spelled, code, invariant.len,
-          invariant.capacity)))));
+      (sym (c.in_err-add.ensures.room
+      (omega (
+        arith,
+        fits,
+        there,
+        whole,
+        own,
+        spelled,
+        code,
+        invariant.len,
+        invariant.capacity,
+      )))));
   capacity = search rules;
 }

@@ -10,8 +10,8 @@ pub loop-i-init : goal.loop-i-init
 loop-i-init c = record {
   text = sym (append-nil (string_bytes c.args.text.now))
       ∙ ap (λ (lines : List ℕ). string_bytes c.args.text.now ++ lines)
-          (sym (posted_start c.args.station.now c.args.first c.saturating_sub-start.result
-          c.args.entries.now c.saturating_sub-start.ensures));
+      (sym (posted_start c.args.station.now c.args.first c.saturating_sub-start.result
+      c.args.entries.now c.saturating_sub-start.ensures));
   capacity = omega arith;
 }
 
@@ -21,22 +21,31 @@ returns-in_err-add_posted c = record {
   room = λ fits.
       let so_far = ap length c.loop-i.invariant.text in
       let both = length-append (string_bytes c.args.text.now)
-          (posted_lines c.args.station.now c.args.first
-          (reverse (take c.loop-i.i c.args.entries.now))) in
+      (posted_lines c.args.station.now c.args.first
+      (reverse (take c.loop-i.i c.args.entries.now))) in
       let within = posted_within c.args.station.now c.args.first c.loop-i.i c.args.entries.now
-          c.index-entries-i.result c.name.result.now c.index-entries-i.is
-          (c.name.ensures ∙ ap verdict_name c.verdict-verdict.ensures) (omega arith)
-          (omega arith) in
+      c.index-entries-i.result c.name.result.now c.index-entries-i.is
+      (c.name.ensures ∙ ap verdict_name c.verdict-verdict.ensures) (omega arith)
+      (omega arith) in
       let line =
-          ap (λ (n : ℕ). length (posted_line c.args.station.now n (c.loop-i.i + 1)
-          c.name.result.now)) c.n.ensures in
+      ap (λ (n : ℕ). length (posted_line c.args.station.now n (c.loop-i.i + 1)
+      c.name.result.now)) c.n.ensures in
       let len = c.loop-i.text.bytes.ok.0 in
       let len_before = c.args.text.now.bytes.ok.0 in
       let room : string_len c.loop-i.text + length
-          (posted_line c.args.station.now c.n.result (c.loop-i.i + 1) c.name.result.now) ≤
-          string_capacity c.loop-i.text =
-      omega (arith, so_far, both, within, line, len, len_before, fits,
-          c.loop-i.invariant.capacity) in
+      (posted_line c.args.station.now c.n.result (c.loop-i.i + 1) c.name.result.now) ≤
+      string_capacity c.loop-i.text =
+      omega (
+        arith,
+        so_far,
+        both,
+        within,
+        line,
+        len,
+        len_before,
+        fits,
+        c.loop-i.invariant.capacity,
+      ) in
       absurd (true≢false (sym (c.in_err-add_posted.ensures.room room)));
   capacity = omega arith;
 }

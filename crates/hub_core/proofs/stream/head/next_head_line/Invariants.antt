@@ -8,8 +8,8 @@ abbrev pub invariant-loop-reads : goal.invariant-loop-reads
 invariant-loop-reads g l =
     (l.reads.left ≤ l.fn.reads.left)
     × ((bytes : List ℕ) × Consumes (g.R.Read.remaining l.fn.input) (g.R.Read.remaining l.input)
-        bytes × HasNoFeed bytes × (l.line.items ≡ take (l.room + 2) bytes)
-        × (length (head bytes) ≤ l.room))
+    bytes × HasNoFeed bytes × (l.line.items ≡ take (l.room + 2) bytes)
+    × (length (head bytes) ≤ l.room))
 
 abbrev pub decreases-loop-reads : goal.decreases-loop-reads
 decreases-loop-reads g l = l.reads.left

@@ -16,7 +16,7 @@ invariant-loop-number g l = record {
   reads : l.reads.left ≤ l.fn.reads.left;
   watched : (O : List Entry) (A : List Arrival) → StandsFor g.S.Register.holding l.fn.hub O A →
       UnderWatch l.fn.hub.book.museum l.fn.hub.book.depth O A (g.R.Read.remaining l.fn.input)
-          (g.R.Read.remaining l.input) (g.W.Write.contents l.fn.output)
-          (g.W.Write.contents l.output) g.S.Register.holding l.hub l.number
-          (g.V.Watch.has_seen l.fn.watch) (g.V.Watch.has_seen l.watch);
+      (g.R.Read.remaining l.input) (g.W.Write.contents l.fn.output)
+      (g.W.Write.contents l.output) g.S.Register.holding l.hub l.number
+      (g.V.Watch.has_seen l.fn.watch) (g.V.Watch.has_seen l.watch);
 }

@@ -11,4 +11,4 @@ returns-in_default-clause-ends g c =
     let hub = c.args.hub.now in
     ends_fault g.S.Register.holding g.S.Register.refusals i i o o hub hub refl refl NoMemory
     (λ O A st. fault_line (under_start hub.book.museum hub.book.depth O A i o g.S.Register.holding
-        hub st) i o ([], Consumes-nil i, tt) (Keeps-refl o) NoMemory) refl
+    hub st) i o ([], Consumes-nil i, tt) (Keeps-refl o) NoMemory) refl

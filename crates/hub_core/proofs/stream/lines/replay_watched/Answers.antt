@@ -12,8 +12,8 @@ returns-clause-bytes_to_bytes g c =
     let o2 = g.W.Write.contents c.replay_from.new.output in
     let hub = c.replay_from.new.hub in
     on_ok_weaker c.replay_from.result
-        (λ a O A st. whole_input S depth O A i i2 o o2 g.S.Register.holding hub (a O A st))
-        c.replay_from.ensures.answered
+    (λ a O A st. whole_input S depth O A i i2 o o2 g.S.Register.holding hub (a O A st))
+    c.replay_from.ensures.answered
 
 pub returns-clause-seen : goal.returns-clause-seen
 returns-clause-seen g c =
@@ -25,6 +25,6 @@ returns-clause-seen g c =
     let o2 = g.W.Write.contents c.replay_from.new.output in
     let hub = c.replay_from.new.hub in
     on_ok_weaker c.replay_from.result
-        (λ a O A st. whole_seen S depth O A i i2 o o2 g.S.Register.holding hub
-        (g.V.Watch.has_seen c.args.watch.now) (g.V.Watch.has_seen c.replay_from.new.watch)
-        (a O A st)) c.replay_from.ensures.watched
+    (λ a O A st. whole_seen S depth O A i i2 o o2 g.S.Register.holding hub
+    (g.V.Watch.has_seen c.args.watch.now) (g.V.Watch.has_seen c.replay_from.new.watch)
+    (a O A st)) c.replay_from.ensures.watched

@@ -5,10 +5,11 @@ use Rattle.hub_core.proofs.stream.lines.write_text.Goals.{in-Ok, in-Err+else-ne}
 use Rattle.hub_core.proofs.stream.lines.write_text.Goals as goal
 
 pub returns-in-Ok-eq0-clause-fault : goal.returns-in-Ok-eq0-clause-fault
-returns-in-Ok-eq0-clause-fault g c =
-    (c.loop.done + c.in-Ok-eq0.field-0,
-    more_taken _ _ _ c.args.text.now c.loop.done c.in-Ok-eq0.field-0 c.loop.invariant.1
-    c.in-Ok-eq0.ensures.bytes)
+returns-in-Ok-eq0-clause-fault g c = (
+  c.loop.done + c.in-Ok-eq0.field-0,
+  more_taken _ _ _ c.args.text.now c.loop.done c.in-Ok-eq0.field-0 c.loop.invariant.1
+      c.in-Ok-eq0.ensures.bytes,
+)
 
 pub returns-then-ne-clause-fault : goal.returns-then-ne-clause-fault
 returns-then-ne-clause-fault g c =
@@ -22,7 +23,7 @@ loop-preserved g c =
     elim c.match-write.branch [
       | in-Ok w ↦
           let within = rest_bound text c.loop.done w.in-Ok.count c.loop.invariant.0
-              w.in-Ok.ensures.bound in (
+          w.in-Ok.ensures.bound in (
             omega (arith, w.done-is, within),
             subst (λ n. Appends old new (take n text)) (sym w.done-is)
                 (more_taken _ _ _ text c.loop.done w.in-Ok.count c.loop.invariant.1

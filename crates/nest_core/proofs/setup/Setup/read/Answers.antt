@@ -11,7 +11,7 @@ pub returns-in_err-setup-clause-exact : goal.returns-in_err-setup-clause-exact
 returns-in_err-setup-clause-exact c =
     match_err c.from_residual.result _ _ _ c.from_residual.ensures.1 (λ fault gives. λ other.
     row_first c.args.bytes.now fault (is_text c.args.bytes.now c.in-Ok.ensures.cases.1)
-        (c.in_err-setup.ensures (λ e. other (gives ∙ e)) ∙ ap Some (sym gives)))
+    (c.in_err-setup.ensures (λ e. other (gives ∙ e)) ∙ ap Some (sym gives)))
 
 pub returns-in_err-setup-clause-not_csv : goal.returns-in_err-setup-clause-not_csv
 returns-in_err-setup-clause-not_csv c =
@@ -20,8 +20,8 @@ returns-in_err-setup-clause-not_csv c =
 pub returns-then-stations-eq0-clause-exact : goal.returns-then-stations-eq0-clause-exact
 returns-then-stations-eq0-clause-exact c = λ other.
     no_station c.args.bytes.now c.in_ok-setup.setup c.stations.result
-        (is_text c.args.bytes.now c.in-Ok.ensures.cases.1) c.in_ok-setup.ensures.0
-        c.in_ok-setup.ensures.1
+    (is_text c.args.bytes.now c.in-Ok.ensures.cases.1) c.in_ok-setup.ensures.0
+    c.in_ok-setup.ensures.1
     c.stations.ensures.count c.if-stations-eq0.true
 
 pub returns-then-stations-eq0-clause-not_csv : goal.returns-then-stations-eq0-clause-not_csv

@@ -5,7 +5,7 @@ use Rattle.nest_core.proofs.setup.Setup.thing_text.Goals as goal
 pub returns : goal.returns
 returns c =
     row_normal c.args.self.now c.args.thing c.thing_code.result c.kind.result c.normal.result
-        c.in-Some.normal c.place_code.result
+    c.in-Some.normal c.place_code.result
     c.thing_code.ensures c.kind.ensures c.normal.ensures.normal c.in-Some.is c.place_code.ensures
     ∙ ap Some (sym (c.in_ok-write-2.ensures.ok
     ∙ ap (λ (t : List ℕ). t ++ c.place_code.result) (c.in_ok-push_str-2.ensures.bytes

@@ -9,13 +9,15 @@ returns-in-Some-listed-clause-ok c =
     let row = fields_of c.args.row.now in
     let is : IsRead row c.in-Some.kind c.in-Some-listed.item =
     is_read row c.in-Some.kind c.in-Some-listed.item c.field_count-count.result
-        c.fields_of_kind.result c.has_word.result
+    c.fields_of_kind.result c.has_word.result
     c.field_count-count.ensures c.if-count-eq0.false
-        (ap row_kind (sym c.field.ensures) ∙ sym c.row_kind.ensures ∙ c.in-Some.is)
+    (ap row_kind (sym c.field.ensures) ∙ sym c.row_kind.ensures ∙ c.in-Some.is)
     c.fields_of_kind.ensures c.if-count-fields_of_kind.false c.has_word.ensures
-        c.if-not-has_word.false
+    c.if-not-has_word.false
     (sym c.listed.ensures ∙ c.in-Some-listed.is) in (
       rw is.item_is (listed_right c.in-Some.kind row is.codes),
-      λ S. (fault_read S c.args.number row c.in-Some.kind c.in-Some-listed.item is,
-          with_read S row c.in-Some.kind c.in-Some-listed.item is),
+      λ S. (
+        fault_read S c.args.number row c.in-Some.kind c.in-Some-listed.item is,
+        with_read S row c.in-Some.kind c.in-Some-listed.item is,
+      ),
     )

@@ -5,8 +5,11 @@ use Rattle.posting_core.proofs.kept_loan.KeptLoan.new.Goals as goal
 
 pub invariant_of-result : goal.invariant_of-result
 invariant_of-result c =
-    rw (c.in_ok-stages.ensures, c.in_ok-objects.ensures,
-        length-map c.args.lines.now (λ (l : NewLine). l.stage))
+    rw (
+      c.in_ok-stages.ensures,
+      c.in_ok-objects.ensures,
+      length-map c.args.lines.now (λ (l : NewLine). l.stage),
+    )
     (sym (length-map c.args.lines.now (λ (l : NewLine). l.object)))
 
 pub returns : goal.returns

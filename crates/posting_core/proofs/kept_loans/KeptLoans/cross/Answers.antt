@@ -6,9 +6,9 @@ use Rattle.posting_core.proofs.kept_loans.KeptLoans.cross.Goals as goal
 pub invariant_of-self : goal.invariant_of-self
 invariant_of-self c =
     same_codes c.self.inside.codes.keys c.self.inside.rows.items c.in-Some.i c.index_mut.result.now
-        c.cross.new.self c.self.invariant
-        (ap (λ (row : LoanRow). row.loan) c.cross.ensures ∙ lines_loan c.args.lines.now
-        c.index_mut.result.now) c.index_mut.ensures.value
+    c.cross.new.self c.self.invariant
+    (ap (λ (row : LoanRow). row.loan) c.cross.ensures ∙ lines_loan c.args.lines.now
+    c.index_mut.result.now) c.index_mut.ensures.value
 
 pub returns-in-Some : goal.returns-in-Some
 returns-in-Some c = changed_at (with_lines c.args.lines.now) c.self.view_is c.in-Some.is

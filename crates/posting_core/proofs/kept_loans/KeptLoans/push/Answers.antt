@@ -8,4 +8,4 @@ invariant_of-self-2 c =
     c.in_ok-insert.ensures.keys
     ∙ one_more_kept c.args.loan c.self.invariant c.self.view_is c.loan.ensures c.requires
     (c.push_reserved.ensures.items ∙ ap (λ (rows : List LoanRow). rows ++ c.args.loan ∷ [])
-        c.reserve.ensures.items)
+    c.reserve.ensures.items)

@@ -14,12 +14,18 @@ pub returns-in-Exit : goal.returns-in-Exit
 returns-in-Exit c = rw c.thing_of-in-Exit.ensures (ap said (sym c.in-Exit.is) ∙ c.self.view_is)
 
 pub returns-in-Return : goal.returns-in-Return
-returns-in-Return c = rw (c.thing_of-in-Return.ensures, c.loan_of.ensures,
-    c.place_of-in-Return.ensures) (ap said (sym c.in-Return.is) ∙ c.self.view_is)
+returns-in-Return c = rw (
+  c.thing_of-in-Return.ensures,
+  c.loan_of.ensures,
+  c.place_of-in-Return.ensures,
+) (ap said (sym c.in-Return.is) ∙ c.self.view_is)
 
 pub returns-in-Receive : goal.returns-in-Receive
-returns-in-Receive c = rw (c.thing_of-in-Receive.ensures, c.loan_of-in-Receive.ensures,
-    c.place_of-in-Receive.ensures) (ap said (sym c.in-Receive.is) ∙ c.self.view_is)
+returns-in-Receive c = rw (
+  c.thing_of-in-Receive.ensures,
+  c.loan_of-in-Receive.ensures,
+  c.place_of-in-Receive.ensures,
+) (ap said (sym c.in-Receive.is) ∙ c.self.view_is)
 
 pub returns-in-Whole : goal.returns-in-Whole
 returns-in-Whole c = rw (← c.self.view_is, c.in-Whole.is, ← c.deref.ensures) c.copy.ensures

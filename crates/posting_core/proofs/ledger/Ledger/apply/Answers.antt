@@ -10,55 +10,55 @@ use Rattle.posting_core.proofs.ledger.Ledger.apply.Goals as goal
 pub push_all-requires-clause-within : goal.push_all-requires-clause-within
 push_all-requires-clause-within c =
     let is = planned c.self.invariant c.self.view_is c.requires.follows c.requires.planned
-        c.as_slice-carried.ensures c.as_slice-spots.ensures c.as_slice-lines.ensures in
+    c.as_slice-carried.ensures c.as_slice-spots.ensures c.as_slice-lines.ensures in
     planned_within is _ c.reserve.ensures.rows
 
 pub place-requires-clause-may : goal.place-requires-clause-may
 place-requires-clause-may c =
     let is = planned c.self.invariant c.self.view_is c.requires.follows c.requires.planned
-        c.as_slice-carried.ensures c.as_slice-spots.ensures c.as_slice-lines.ensures in
+    c.as_slice-carried.ensures c.as_slice-spots.ensures c.as_slice-lines.ensures in
     planned_put is
 
 pub place-requires-clause-carried : goal.place-requires-clause-carried
 place-requires-clause-carried c =
     let is = planned c.self.invariant c.self.view_is c.requires.follows c.requires.planned
-        c.as_slice-carried.ensures c.as_slice-spots.ensures c.as_slice-lines.ensures in
+    c.as_slice-carried.ensures c.as_slice-spots.ensures c.as_slice-lines.ensures in
     planned_carried is
 
 pub record-requires-clause-agree : goal.record-requires-clause-agree
 record-requires-clause-agree c =
     planned_agree (planned c.self.invariant c.self.view_is c.requires.follows c.requires.planned
-        c.as_slice-carried.ensures c.as_slice-spots.ensures c.as_slice-lines.ensures)
+    c.as_slice-carried.ensures c.as_slice-spots.ensures c.as_slice-lines.ensures)
 
 pub record-requires-clause-number : goal.record-requires-clause-number
 record-requires-clause-number c =
     planned_loan (planned c.self.invariant c.self.view_is c.requires.follows c.requires.planned
-        c.as_slice-carried.ensures c.as_slice-spots.ensures c.as_slice-lines.ensures)
+    c.as_slice-carried.ensures c.as_slice-spots.ensures c.as_slice-lines.ensures)
 
 pub invariant_of-self-2 : goal.invariant_of-self-2
 invariant_of-self-2 c =
     let is = planned c.self.invariant c.self.view_is c.requires.follows c.requires.planned
-        c.as_slice-carried.ensures c.as_slice-spots.ensures c.as_slice-lines.ensures in
+    c.as_slice-carried.ensures c.as_slice-spots.ensures c.as_slice-lines.ensures in
     let pushed = c.push_reserved.ensures.items in
     kept_after is
     c.in_ok-place.ensures.stands c.in_ok-place.ensures.sized.0 c.in_ok-place.ensures.sized.1
-        c.in_ok-place.ensures.sized.2
+    c.in_ok-place.ensures.sized.2
     (ap reverse (pushed ∙ ap (λ (es : List Entry). es ++ c.in_ok-posted.posted ∷ [])
-        c.reserve-2.ensures.items ∙ ap (λ (e : Entry). c.self.inside.posted.items ++ e ∷ [])
-        c.in_ok-posted.ensures) ∙ reverse-append c.self.inside.posted.items (c.args.entry.now ∷ []))
+    c.reserve-2.ensures.items ∙ ap (λ (e : Entry). c.self.inside.posted.items ++ e ∷ [])
+    c.in_ok-posted.ensures) ∙ reverse-append c.self.inside.posted.items (c.args.entry.now ∷ []))
     (c.push_all.ensures ∙ ap (λ (rs : List (List Spot)). rows_after rs c.as_slice-spots.result.now)
-        c.reserve.ensures.rows)
+    c.reserve.ensures.rows)
     c.in_ok-record.ensures.ok
 
 pub invariant_of-self-in_err-record : goal.invariant_of-self-in_err-record
 invariant_of-self-in_err-record c =
     let is = planned c.self.invariant c.self.view_is c.requires.follows c.requires.planned
-        c.as_slice-carried.ensures c.as_slice-spots.ensures c.as_slice-lines.ensures in
+    c.as_slice-carried.ensures c.as_slice-spots.ensures c.as_slice-lines.ensures in
     kept_still is
     c.in_ok-place.ensures.stands c.in_ok-place.ensures.sized.0 c.in_ok-place.ensures.sized.1
-        c.in_ok-place.ensures.sized.2
+    c.in_ok-place.ensures.sized.2
     c.in_err-record.ensures.err.1 (ap reverse c.reserve-2.ensures.items) c.reserve.ensures.rows
-        c.in_err-record.ensures.err.0
+    c.in_err-record.ensures.err.0
 
 pub invariant_of-self : goal.invariant_of-self
 invariant_of-self c = rw c.reserve.ensures.rows c.self.invariant

@@ -14,11 +14,11 @@ judge_terms-requires c =
     let objects = c.args.objects.now in
     let same = ap (λ (B : Book). B.museum) c.self.view_is in
     let known = subst (λ (S : Museum). list_any (λ x. not (is_known S x)) objects ≡ false) same
-        (sym c.any_unknown.ensures.unknown ∙ c.if-any_unknown.false) in
+    (sym c.any_unknown.ensures.unknown ∙ c.if-any_unknown.false) in
     let numbers : take (length objects) c.any_unknown.new.numbers
-        ≡ map (thing_no c.args.self.now.museum) objects =
-        c.any_unknown.ensures.numbers c.if-any_unknown.false
-        ∙ ap (λ (S : Museum). map (thing_no S) objects) same in
+    ≡ map (thing_no c.args.self.now.museum) objects =
+    c.any_unknown.ensures.numbers c.if-any_unknown.false
+    ∙ ap (λ (S : Museum). map (thing_no S) objects) same in
     repeats_told c.args.self.now.museum objects c.are_once-repeated.result known
-        (subst (λ (ns : List ℕ). Decides c.are_once-repeated.result (AreOnce ns)) numbers
-        c.are_once-repeated.ensures)
+    (subst (λ (ns : List ℕ). Decides c.are_once-repeated.result (AreOnce ns)) numbers
+    c.are_once-repeated.ensures)

@@ -9,7 +9,7 @@ objects_among-requires c = subst (λ n. All (λ y. y < n) c.args.carried.now)
 pub returns-clause-verdict : goal.returns-clause-verdict
 returns-clause-verdict c =
     let crossing : c.deref.result.now ≡ filter (λ o. not (is_container c.args.self.now.museum o))
-        c.args.carried.now =
+    c.args.carried.now =
     c.deref.ensures ∙ c.in_ok-objects.ensures.objects
-        ∙ ap (λ B. filter (λ o. not (is_container B.museum o)) c.args.carried.now) c.self.view_is in
+    ∙ ap (λ B. filter (λ o. not (is_container B.museum o)) c.args.carried.now) c.self.view_is in
     rw (← crossing) c.judge_objects.ensures

@@ -15,5 +15,5 @@ returns-clause-verdict c =
     elim c.if-is_out.branch [ then-is_out w ↦ search rules | else-is_out w ↦ search rules ] in
     rw (← over, ← c.wanted_by_exit.ensures)
     (judged_by_row S P loan c.args.kept.now
-        (filter (λ o. not (is_container S o)) c.args.carried.now) c.wanted_by_exit.result
-        c.if-is_out.is_over c.judge_lines.result c.requires.lines c.judge_lines.ensures.verdict)
+    (filter (λ o. not (is_container S o)) c.args.carried.now) c.wanted_by_exit.result
+    c.if-is_out.is_over c.judge_lines.result c.requires.lines c.judge_lines.ensures.verdict)

@@ -15,15 +15,15 @@ returns-in_ok-verdict-in-Ok-clause-verdict c =
     let P = c.args.self.now.posted in
     let loan = c.args.loan.now in
     let crossing : filter (λ o. not (is_container S o)) c.as_slice.result.now ≡ objects_with S P
-        c.in-Ok.x = ap (filter (λ o. not (is_container S o)))
-        (c.as_slice.ensures ∙ c.in_ok-carried-in-Ok.ensures.carried) in
+    c.in-Ok.x = ap (filter (λ o. not (is_container S o)))
+    (c.as_slice.ensures ∙ c.in_ok-carried-in-Ok.ensures.carried) in
     let judged : c.in_ok-verdict-in-Ok.verdict
-        ≡ first_of (line_rows (line S P loan) Away (objects_with S P c.in-Ok.x) false) =
-        judged_by_row S P loan c.in-Ok.kept.now (objects_with S P c.in-Ok.x) Away false (Ok _)
-        c.in-Ok.ensures.0.lines (rw (← crossing) c.in_ok-verdict-in-Ok.ensures.verdict) in
+    ≡ first_of (line_rows (line S P loan) Away (objects_with S P c.in-Ok.x) false) =
+    judged_by_row S P loan c.in-Ok.kept.now (objects_with S P c.in-Ok.x) Away false (Ok _)
+    c.in-Ok.ensures.0.lines (rw (← crossing) c.in_ok-verdict-in-Ok.ensures.verdict) in
     c.putting.ensures.verdict ∙ judged
-        ∙ sym {b = first_of (line_rows (line S P loan) Away (objects_with S P c.in-Ok.x) false)}
-        c.in-Ok.ensures.2
+    ∙ sym {b = first_of (line_rows (line S P loan) Away (objects_with S P c.in-Ok.x) false)}
+    c.in-Ok.ensures.2
 
 pub returns-in_err-carried-in-Ok-clause-err : goal.returns-in_err-carried-in-Ok-clause-err
 returns-in_err-carried-in-Ok-clause-err c =
@@ -32,9 +32,9 @@ returns-in_err-carried-in-Ok-clause-err c =
     let loan = c.args.loan.now in
     let held = c.in_err-carried-in-Ok.ensures.gives_up in
     at_err c.from_residual.result _
-        (gives_up_on_lines S P c.args.thing.now c.in-Ok.x
-        (first_of (return_rows S P c.args.thing.now loan c.args.place.now)) (line S P loan) Away
-        (objects_with S P c.in-Ok.x) false c.in-Ok.ensures.0.thing c.in-Ok.ensures.2 held)
+    (gives_up_on_lines S P c.args.thing.now c.in-Ok.x
+    (first_of (return_rows S P c.args.thing.now loan c.args.place.now)) (line S P loan) Away
+    (objects_with S P c.in-Ok.x) false c.in-Ok.ensures.0.thing c.in-Ok.ensures.2 held)
 
 pub returns-in_err-verdict-in-Ok-clause-err : goal.returns-in_err-verdict-in-Ok-clause-err
 returns-in_err-verdict-in-Ok-clause-err c =
@@ -42,9 +42,9 @@ returns-in_err-verdict-in-Ok-clause-err c =
     let P = c.args.self.now.posted in
     let loan = c.args.loan.now in
     let held = more_held S P c.in-Ok.x c.as_slice.result.now
-        (c.as_slice.ensures ∙ c.in_ok-carried-in-Ok.ensures.carried)
-        c.in_err-verdict-in-Ok.ensures.gives_up in
+    (c.as_slice.ensures ∙ c.in_ok-carried-in-Ok.ensures.carried)
+    c.in_err-verdict-in-Ok.ensures.gives_up in
     at_err c.from_residual-in_err-verdict-in-Ok.result _
-        (gives_up_on_lines S P c.args.thing.now c.in-Ok.x
-        (first_of (return_rows S P c.args.thing.now loan c.args.place.now)) (line S P loan) Away
-        (objects_with S P c.in-Ok.x) false c.in-Ok.ensures.0.thing c.in-Ok.ensures.2 held)
+    (gives_up_on_lines S P c.args.thing.now c.in-Ok.x
+    (first_of (return_rows S P c.args.thing.now loan c.args.place.now)) (line S P loan) Away
+    (objects_with S P c.in-Ok.x) false c.in-Ok.ensures.0.thing c.in-Ok.ensures.2 held)

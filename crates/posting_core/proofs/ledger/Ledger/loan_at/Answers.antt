@@ -15,6 +15,6 @@ returns-clause-loan c = rw c.loan.ensures
 pub returns-clause-agreed : goal.returns-clause-agreed
 returns-clause-agreed c =
     let at : slice_get (loans_in c.args.self.now) c.args.i ≡ Some c.loan.result =
-        rw c.loan.ensures (code_kept c.self.invariant c.self.view_is c.args.i c.at.result.now
-        c.at.ensures) in
+    rw c.loan.ensures (code_kept c.self.invariant c.self.view_is c.args.i c.at.result.now
+    c.at.ensures) in
     told_agreed c.args.self.now.posted c.args.i c.loan.result at

@@ -18,19 +18,19 @@ pub lines_across-requires : goal.lines_across-requires
 lines_across-requires c =
     let B = c.args.self.now in
     subst (All (λ y. y < length B.museum.things)) (sym c.requires.carried)
-        (carried_within B.museum B.posted (put_in B.museum B.posted c.args.message.now))
+    (carried_within B.museum B.posted (put_in B.museum B.posted c.args.message.now))
 
 pub lines_across-requires-in-Return : goal.lines_across-requires-in-Return
 lines_across-requires-in-Return c =
     let B = c.args.self.now in
     subst (All (λ y. y < length B.museum.things)) (sym c.requires.carried)
-        (carried_within B.museum B.posted (put_in B.museum B.posted c.args.message.now))
+    (carried_within B.museum B.posted (put_in B.museum B.posted c.args.message.now))
 
 pub lines_across-requires-in-Receive : goal.lines_across-requires-in-Receive
 lines_across-requires-in-Receive c =
     let B = c.args.self.now in
     subst (All (λ y. y < length B.museum.things)) (sym c.requires.carried)
-        (carried_within B.museum B.posted (put_in B.museum B.posted c.args.message.now))
+    (carried_within B.museum B.posted (put_in B.museum B.posted c.args.message.now))
 
 pub returns-in-Exit-clause-err : goal.returns-in-Exit-clause-err
 returns-in-Exit-clause-err c = at_err c.lines_across.result _ (rw c.in-Exit.is refl)
@@ -39,8 +39,8 @@ pub returns-in-Return-clause-ok : goal.returns-in-Return-clause-ok
 returns-in-Return-clause-ok c =
     let B = c.args.self.now in
     let carried = c.requires.carried
-        ∙ ap (λ (m : Message). carried_with B.museum B.posted (put_in B.museum B.posted m))
-        c.in-Return.is in
+    ∙ ap (λ (m : Message). carried_with B.museum B.posted (put_in B.museum B.posted m))
+    c.in-Return.is in
     rw (c.in-Return.is, ← carried) c.lines_across-in-Return.ensures
 
 pub returns-in-Return-clause-err : goal.returns-in-Return-clause-err
@@ -50,8 +50,8 @@ pub returns-in-Receive-clause-ok : goal.returns-in-Receive-clause-ok
 returns-in-Receive-clause-ok c =
     let B = c.args.self.now in
     let carried = c.requires.carried
-        ∙ ap (λ (m : Message). carried_with B.museum B.posted (put_in B.museum B.posted m))
-        c.in-Receive.is in
+    ∙ ap (λ (m : Message). carried_with B.museum B.posted (put_in B.museum B.posted m))
+    c.in-Receive.is in
     rw (c.in-Receive.is, ← carried) c.lines_across-in-Receive.ensures
 
 pub returns-in-Receive-clause-err : goal.returns-in-Receive-clause-err

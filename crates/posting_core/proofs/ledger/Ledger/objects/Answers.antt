@@ -17,7 +17,7 @@ pub returns-clause-within : goal.returns-clause-within
 returns-clause-within c =
     let B = c.args.self.now in
     let at : option_map (objects_of_loan B) (slice_get (loans_in B) c.args.i)
-        ≡ Some c.objects.result.now = rw c.objects.ensures
-        (objects_kept c.self.invariant c.self.view_is c.args.i c.at.result.now c.at.ensures) in
+    ≡ Some c.objects.result.now = rw c.objects.ensures
+    (objects_kept c.self.invariant c.self.view_is c.args.i c.at.result.now c.at.ensures) in
     told_below B.museum B.depth B.posted (slice_get (loans_in B) c.args.i) c.objects.result.now
-        (lawful_kept c.self.invariant c.self.view_is) at
+    (lawful_kept c.self.invariant c.self.view_is) at

@@ -35,8 +35,15 @@ returns-in_err-verdict-clause-err c =
 pub returns-clause-ok : goal.returns-clause-ok
 returns-clause-ok c =
     let judged = c.in_ok-verdict.ensures in
-    rw (c.in_ok-lines.ensures.ok, c.in_ok-spots.ensures.ok, c.in_ok-carried.ensures.ok, judged.loan,
-        judged.put, judged.verdict, c.entry_count-entry.ensures.count) refl
+    rw (
+      c.in_ok-lines.ensures.ok,
+      c.in_ok-spots.ensures.ok,
+      c.in_ok-carried.ensures.ok,
+      judged.loan,
+      judged.put,
+      judged.verdict,
+      c.entry_count-entry.ensures.count,
+    ) refl
 
 pub returns-in_err-carried-clause-err : goal.returns-in_err-carried-clause-err
 returns-in_err-carried-clause-err c =
@@ -44,28 +51,28 @@ returns-in_err-carried-clause-err c =
     let m = c.args.message.now in
     let judged = c.in_ok-verdict.ensures in
     let put = judged.put ∙ ap (λ (v : Verdict). if is_applied v then put_in B.museum B.posted m else
-        None) judged.verdict in
+    None) judged.verdict in
     at_err c.from_residual-in_err-carried.result _
-        (asked (asks_lines B m) (is_applied (verdict_in B m)) (has_lines m)
-        (takes_along B.museum B.posted (put_in B.museum B.posted m))
+    (asked (asks_lines B m) (is_applied (verdict_in B m)) (has_lines m)
+    (takes_along B.museum B.posted (put_in B.museum B.posted m))
     (taken B.museum B.posted (is_applied (verdict_in B m)) (put_in B.museum B.posted m)
-        (subst (λ (p : Option Put). takes_along B.museum B.posted p ≡ true) put
-        c.in_err-carried.ensures.err)))
+    (subst (λ (p : Option Put). takes_along B.museum B.posted p ≡ true) put
+    c.in_err-carried.ensures.err)))
 
 pub returns-in_err-spots-clause-err : goal.returns-in_err-spots-clause-err
 returns-in_err-spots-clause-err c =
     let B = c.args.self.now in
     let m = c.args.message.now in
     at_err c.from_residual-in_err-spots.result _
-        (asked (asks_lines B m) (is_applied (verdict_in B m)) (has_lines m)
-        (takes_along B.museum B.posted (put_in B.museum B.posted m)) c.in_err-spots.ensures.err)
+    (asked (asks_lines B m) (is_applied (verdict_in B m)) (has_lines m)
+    (takes_along B.museum B.posted (put_in B.museum B.posted m)) c.in_err-spots.ensures.err)
 
 pub returns-in_err-lines-clause-err : goal.returns-in_err-lines-clause-err
 returns-in_err-lines-clause-err c =
     let B = c.args.self.now in
     let m = c.args.message.now in
     at_err c.from_residual-in_err-lines.result _
-        (asked_lines (asks_lines B m) (is_applied (verdict_in B m)) (has_lines m)
-        (takes_along B.museum B.posted (put_in B.museum B.posted m))
+    (asked_lines (asks_lines B m) (is_applied (verdict_in B m)) (has_lines m)
+    (takes_along B.museum B.posted (put_in B.museum B.posted m))
     (subst (λ (v : Verdict). (is_applied v && has_lines m) ≡ true) c.in_ok-verdict.ensures.verdict
-        c.in_err-lines.ensures.err))
+    c.in_err-lines.ensures.err))

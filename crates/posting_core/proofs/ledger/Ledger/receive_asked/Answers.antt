@@ -7,8 +7,8 @@ use Rattle.posting_core.proofs.ledger.Ledger.receive_asked.Goals as goal
 pub returns-in_err-x : goal.returns-in_err-x
 returns-in_err-x c = match_err c.from_residual.result _ _ _ c.from_residual.ensures.1
     (λ refusal gives. (
-  ap is_applied gives ∙ c.in_err-x.ensures.0,
-  λ day. c.in_err-x.ensures.1
-      (drop 4 (receive_rows c.args.self.now.museum c.args.self.now.posted c.args.thing.now
-      c.args.loan.now c.args.place.now day)) ∙ sym gives,
-))
+      ap is_applied gives ∙ c.in_err-x.ensures.0,
+      λ day. c.in_err-x.ensures.1
+          (drop 4 (receive_rows c.args.self.now.museum c.args.self.now.posted c.args.thing.now
+          c.args.loan.now c.args.place.now day)) ∙ sym gives,
+    ))

@@ -15,12 +15,12 @@ returns-clause-spots c = c.of.ensures ∙ spots_kept c.self.invariant c.self.vie
 pub returns-clause-within : goal.returns-clause-within
 returns-clause-within c =
     spots_there c.self.invariant c.self.view_is c.args.thing c.requires
-        (c.of.ensures ∙ spots_kept c.self.invariant c.self.view_is c.args.thing c.requires)
+    (c.of.ensures ∙ spots_kept c.self.invariant c.self.view_is c.args.thing c.requires)
 
 pub returns-clause-few : goal.returns-clause-few
 returns-clause-few c =
     let few = subst (λ (B : Book). length (spots_in B c.args.thing) ≤ MOST_ENTRIES) c.self.view_is
-        (few_spots_kept c.self.invariant c.is_museum.ensures c.args.thing) in
+    (few_spots_kept c.self.invariant c.is_museum.ensures c.args.thing) in
     let is : c.of.result ≡ spots_in c.args.self.now c.args.thing =
-        c.of.ensures ∙ spots_kept c.self.invariant c.self.view_is c.args.thing c.requires in
+    c.of.ensures ∙ spots_kept c.self.invariant c.self.view_is c.args.thing c.requires in
     subst (λ ss. length ss ≤ MOST_ENTRIES) (sym is) few

@@ -9,8 +9,8 @@ use Rattle.posting_core.proofs.ledger.Ledger.spots_of.Goals as goal
 pub loop-i-preserved : goal.loop-i-preserved
 loop-i-preserved c =
     let spot : ℕ → Option NewSpot =
-        λ y. new_spot c.args.entry (length (spots_in c.args.self.now y))
-        (place_in c.args.self.now y) (Some c.args.place) (Some c.args.day) y in
+    λ y. new_spot c.args.entry (length (spots_in c.args.self.now y))
+    (place_in c.args.self.now y) (Some c.args.place) (Some c.args.day) y in
     elim c.match-spot_at.branch [
       | in-Some+in_ok-push w ↦ one_more_spot spot c.args.things.now c.loop-i.i _ c.loop-i.spots _
           (Some w.in-Some.spot) c.loop-i-test.true c.loop-i.invariant

@@ -18,7 +18,7 @@ before kept at (suc left) d some (s, found, back) =
 last_left : (kept : List KeptSpot) (at left : ℕ) (d : KeptSpot) → (left ≡ 0 → ⊥)
     → LeadBack kept at left →
     spots_at kept at left ≡ spots_at kept (get_or kept at d).before (left - 1)
-        ++ (get_or kept at d).spot ∷ []
+    ++ (get_or kept at d).spot ∷ []
 last_left kept at zero d some back = absurd (some refl)
 last_left kept at (suc left) d some (s, found, back) =
     let fewer : suc left - 1 ≡ left = omega arith in

@@ -18,13 +18,17 @@ returns g c honest =
     let sure_now = subst (λ p. AreClean g.D.Disk p.0 p.1) c.close.ensures honest in
     let clean : IsClean (view last) = no_doubt _ (clean_is last.pool ∙ sure_now) in
     subst (λ h. IsLeft g.D.Disk (in_store (file_state h)) c.close.result)
-        c.into_connection.ensures.same
+    c.into_connection.ensures.same
     (record {
       was_quiet = omega (arith, c.into_store.ensures.quiet.clean, clean);
       left = λ image left. ∥∥₁_map (opens_again last (c.into_store.ensures.numbered clean)
           (c.into_store.ensures.sound clean) image
           (may_leave_is last.pool image sure_now
-              (subst (λ p. outcomes g.D.Disk p.0 p.1 image) c.close.ensures left)))
-          (λ it. (it.0, it.2, λ k stored.
-              (it.0, c.into_store.ensures.quiet.outcomes it.0 it.1, stored)));
+          (subst (λ p. outcomes g.D.Disk p.0 p.1 image) c.close.ensures left)))
+          (λ it. (
+            it.0,
+            it.2,
+            λ k stored.
+                (it.0, c.into_store.ensures.quiet.outcomes it.0 it.1, stored),
+          ));
     })

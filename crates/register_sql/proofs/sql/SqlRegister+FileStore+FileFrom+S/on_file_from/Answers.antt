@@ -10,6 +10,6 @@ use Rattle.register_sql.proofs.sql.SqlRegister+FileStore+FileFrom+S.on_file_from
 pub returns-in-Ok-clause-found : goal.returns-in-Ok-clause-found
 returns-in-Ok-clause-found g c =
     subst (λ h. HasCleanDisk (file_state h)
-        → IsFoundIn (image_at g.S.Start) (in_store (file_state h))) (sym c.adopt.ensures.same)
+    → IsFoundIn (image_at g.S.Start) (in_store (file_state h))) (sym c.adopt.ensures.same)
     (λ clean. found_in (image_at g.S.Start) (file_state c.in-Ok.conn) (c.in-Ok.ensures.found clean)
-        (c.adopt.ensures.shown clean))
+    (c.adopt.ensures.shown clean))

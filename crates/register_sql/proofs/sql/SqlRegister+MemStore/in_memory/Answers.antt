@@ -15,6 +15,6 @@ pub returns-in-Ok-clause-empty : goal.returns-in-Ok-clause-empty
 returns-in-Ok-clause-empty c =
     let it = c.in-Ok.ensures.empty in
     subst (λ conn. Has (in_store (state over_memory conn)) (λ k. k ≡ no_rows))
-        (sym c.adopt.ensures.same)
+    (sym c.adopt.ensures.same)
     (empty_has (state over_memory c.in-Ok.conn) (λ db left. left) refl it.0.clean
-        (it.1 it.0.is_open).0 it.2)
+    (it.1 it.0.is_open).0 it.2)

@@ -8,6 +8,9 @@ returns-clause-shown g c =
     let conn = c.args.self.conn in
     let store = conn.store in
     let laws : Laws (state g.S.Store conn) =
-        record { settled = g.met.S.Store.settled store; stays = g.met.S.Store.stays store;
-        survives = g.met.S.Store.survives store } in
+    record {
+      settled = g.met.S.Store.settled store;
+      stays = g.met.S.Store.stays store;
+      survives = g.met.S.Store.survives store;
+    } in
     shown_its (state g.S.Store conn) laws

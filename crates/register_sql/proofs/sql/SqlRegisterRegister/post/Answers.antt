@@ -9,7 +9,7 @@ pub returns-clause-failed : goal.returns-clause-failed
 returns-clause-failed g c =
     let is : c.self.inside.link.conn ≡ c.args.self.now.conn = search rules in
     subst (λ conn. OnErr c.post_to_store-answer.result
-        (Comes (in_store (state g.S.Store conn))
-        (in_store (state g.S.Store c.post_to_store-answer.new.link.conn))
+    (Comes (in_store (state g.S.Store conn))
+    (in_store (state g.S.Store c.post_to_store-answer.new.link.conn))
     (λ k d. AreSame k d ⊎ IsPosted c.args.entry.now c.args.changes.now k d))) is
-        c.post_to_store-answer.ensures.failed
+    c.post_to_store-answer.ensures.failed

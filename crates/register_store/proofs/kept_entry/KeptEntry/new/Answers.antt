@@ -8,8 +8,13 @@ use Rattle.register_store.proofs.kept_entry.KeptEntry.new.Goals as goal
 pub returns : goal.returns
 returns c =
     let e = c.args.entry.now in
-    let kept : KeptEntry = record { id = c.args.number; station = e.station; n = e.n;
-        message = c.in_ok-message.message; verdict = e.verdict } in
+    let kept : KeptEntry = record {
+      id = c.args.number;
+      station = e.station;
+      n = e.n;
+      message = c.in_ok-message.message;
+      verdict = e.verdict;
+    } in
     keeps c.args.number e kept refl
-        (ap (λ (m : Message). record e { message = m }) c.in_ok-message.ensures)
-        (subst IsSpelled (sym c.in_ok-message.ensures) c.message_is_spelled.ensures)
+    (ap (λ (m : Message). record e { message = m }) c.in_ok-message.ensures)
+    (subst IsSpelled (sym c.in_ok-message.ensures) c.message_is_spelled.ensures)

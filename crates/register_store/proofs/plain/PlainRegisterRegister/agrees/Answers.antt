@@ -16,49 +16,52 @@ by_thing : (a b : NewSpot) → a.thing < b.thing → (ghosts).cmp a b ≡ Less
 by_thing a b less = rw (sym (nat_cmp_is a.thing b.thing Less less)) refl
 
 by_k : (a b : NewSpot) → a.thing ≡ b.thing → a.k < b.k → (ghosts).cmp a b ≡ Less
-by_k a b same less = rw (same, sym (nat_cmp_is b.thing b.thing Equal refl),
-    sym (nat_cmp_is a.k b.k Less less)) refl
+by_k a b same less = rw (
+  same,
+  sym (nat_cmp_is b.thing b.thing Equal refl),
+  sym (nat_cmp_is a.k b.k Less less),
+) refl
 
 pub has_rows-same_spots-requires-clause-ascending :
     goal.has_rows-same_spots-requires-clause-ascending
 has_rows-same_spots-requires-clause-ascending c =
     let ledger = c.args.ledger.now in
     subst (λ l. IsAscending (λ (a b : NewSpot). (ghosts).cmp a b ≡ Less) l)
-        (sym (c.deref.ensures.value ∙ c.in_ok-spots.ensures))
-        (rows_ascend (ghosts).cmp by_thing by_k ledger.museum ledger.posted)
+    (sym (c.deref.ensures.value ∙ c.in_ok-spots.ensures))
+    (rows_ascend (ghosts).cmp by_thing by_k ledger.museum ledger.posted)
 
 pub returns-clause-told : goal.returns-clause-told
 returns-clause-told c quiet d h =
     subst (λ b. Decides b (HasRows c.args.ledger.now.museum c.args.ledger.now.posted d))
-        (sym c.are_all.ensures)
+    (sym c.are_all.ensures)
     (told_by c.has_rows-same_spots.result c.has_all-same_lines.result c.has_all-same_terms.result
-        c.args.ledger.now.museum c.args.ledger.now.posted c.deref.result.now
-        c.has_rows-same_spots.new.rows.items
+    c.args.ledger.now.museum c.args.ledger.now.posted c.deref.result.now
+    c.has_rows-same_spots.new.rows.items
     c.deref-2.result.now c.self.inside.lines.entries c.deref-3.result.now
-        c.self.inside.terms.entries c.self.inside.setup (reverse c.self.inside.postings.items) d
+    c.self.inside.terms.entries c.self.inside.setup (reverse c.self.inside.postings.items) d
     (c.deref.ensures.value ∙ c.in_ok-spots.ensures)
-        (ap held_lines c.deref-2.ensures.value ∙ c.in_ok-lines.ensures)
-        (ap term_rows c.deref-3.ensures.value ∙ c.in_ok-terms.ensures)
+    (ap held_lines c.deref-2.ensures.value ∙ c.in_ok-lines.ensures)
+    (ap term_rows c.deref-3.ensures.value ∙ c.in_ok-terms.ensures)
     c.has_rows-same_spots.ensures.told c.has_all-same_lines.ensures c.has_all-same_terms.ensures h)
 
 pub has_all-same_lines-requires-clause-distinct : goal.has_all-same_lines-requires-clause-distinct
 has_all-same_lines-requires-clause-distinct c =
     line_keys_differ c.args.ledger.now.museum c.args.ledger.now.depth c.args.ledger.now.posted
-        c.deref-2.result.now c.is_lawful.ensures
-        (ap held_lines c.deref-2.ensures.value ∙ c.in_ok-lines.ensures)
+    c.deref-2.result.now c.is_lawful.ensures
+    (ap held_lines c.deref-2.ensures.value ∙ c.in_ok-lines.ensures)
 
 pub has_all-same_terms-requires-clause-distinct : goal.has_all-same_terms-requires-clause-distinct
 has_all-same_terms-requires-clause-distinct c =
     term_keys_differ c.args.ledger.now.museum c.args.ledger.now.depth c.args.ledger.now.posted
-        c.deref-3.result.now c.is_lawful.ensures
-        (ap term_rows c.deref-3.ensures.value ∙ c.in_ok-terms.ensures)
+    c.deref-3.result.now c.is_lawful.ensures
+    (ap term_rows c.deref-3.ensures.value ∙ c.in_ok-terms.ensures)
 
 pub returns-clause-unchanged : goal.returns-clause-unchanged
 returns-clause-unchanged c =
     let K = c.args.self.now.content in
     comes_by K _ (λ k. k)
     ((reordered c.self.inside.setup c.self.inside.postings.items c.self.inside.postings.items
-        c.self.inside.spots.items c.has_rows-same_spots.new.rows.items
-        (held_lines c.self.inside.lines.entries) (term_rows c.self.inside.terms.entries) K K
+    c.self.inside.spots.items c.has_rows-same_spots.new.rows.items
+    (held_lines c.self.inside.lines.entries) (term_rows c.self.inside.terms.entries) K K
     (IsPermutation-refl _) c.has_rows-same_spots.ensures.same
-        (sym (ap (λ (k : Kept). k.content) c.self.view_is))).0 (same_itself K))
+    (sym (ap (λ (k : Kept). k.content) c.self.view_is))).0 (same_itself K))

@@ -15,7 +15,7 @@ returns-then-not-fits-clause-refused c =
           (held_lines c.self.inside.lines.entries) (term_rows c.self.inside.terms.entries) K K
           c.fits.result
           c.in_ok-texts.ensures c.deref.ensures.value c.fits.ensures (search rules)
-              (sym (ap (λ (k : Kept). k.content) c.self.view_is)) (same_itself K),
+          (sym (ap (λ (k : Kept). k.content) c.self.view_is)) (same_itself K),
       inl (search rules),
     ))
 
@@ -33,8 +33,8 @@ returns-clause-kept c =
     let K = c.args.self.now.content in
     comes_by K _ (bound_to c.args.setup.now)
     (bound_kept c.args.setup.now c.self.inside.setup c.in_ok-texts.texts
-        (reverse c.self.inside.postings.items) (reverse c.self.inside.spots.items)
-        (held_lines c.self.inside.lines.entries) (term_rows c.self.inside.terms.entries) K K
+    (reverse c.self.inside.postings.items) (reverse c.self.inside.spots.items)
+    (held_lines c.self.inside.lines.entries) (term_rows c.self.inside.terms.entries) K K
     c.in_ok-texts.ensures (fitted c.self.inside.setup c.in_ok-texts.texts c.deref.result.now
-        c.fits.result c.deref.ensures.value c.fits.ensures (search rules))
-        (sym (ap (λ (k : Kept). k.content) c.self.view_is)) (same_itself K))
+    c.fits.result c.deref.ensures.value c.fits.ensures (search rules))
+    (sym (ap (λ (k : Kept). k.content) c.self.view_is)) (same_itself K))

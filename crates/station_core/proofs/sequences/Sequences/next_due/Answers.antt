@@ -5,26 +5,26 @@ use Rattle.station_core.proofs.sequences.Sequences.next_due.Goals as goal
 pub returns-clause-none : goal.returns-clause-none
 returns-clause-none g c =
     let here = series_at_read c.args.self.now _ _ _ c.self.view_is c.index_mut.ensures.value
-        c.requires in
+    c.requires in
     unchanged_among _ _ _ _ _ _ c.self.view_is here c.index_mut.ensures.value
-        c.next_due.ensures.none
+    c.next_due.ensures.none
 
 pub returns-clause-message : goal.returns-clause-message
 returns-clause-message g c =
     let here = series_at_read c.args.self.now _ _ _ c.self.view_is c.index_mut.ensures.value
-        c.requires in
+    c.requires in
     rw here c.next_due.ensures.message
 
 pub returns-clause-number : goal.returns-clause-number
 returns-clause-number g c =
     let here = series_at_read c.args.self.now _ _ _ c.self.view_is c.index_mut.ensures.value
-        c.requires in
+    c.requires in
     rw here c.next_due.ensures.number
 
 pub returns-clause-counted : goal.returns-clause-counted
 returns-clause-counted g c =
     let here = series_at_read c.args.self.now _ _ _ c.self.view_is c.index_mut.ensures.value
-        c.requires in
+    c.requires in
     counted_among _ _ _ _ _ _ c.self.view_is here c.next_due.ensures.counted
 
 pub returns-clause-stays : goal.returns-clause-stays

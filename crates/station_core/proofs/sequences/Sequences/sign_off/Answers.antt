@@ -5,7 +5,7 @@ use Rattle.station_core.proofs.sequences.Sequences.sign_off.Goals as goal
 pub returns-clause-closed : goal.returns-clause-closed
 returns-clause-closed g c =
     let here = series_at_read c.args.self.now _ _ _ c.self.view_is c.index_mut.ensures.value
-        c.requires in
+    c.requires in
     rw (here, c.sign_off.ensures, c.self.view_is)
 
 pub returns-clause-taken : goal.returns-clause-taken

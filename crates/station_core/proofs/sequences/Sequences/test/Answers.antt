@@ -7,8 +7,8 @@ pub returns-in-Some-clause-table : goal.returns-in-Some-clause-table
 returns-in-Some-clause-table g c =
     let read = c.in-Some.ensures.lookup in
     let there : slice_get c.args.self.now c.args.s ≡ Some c.in-Some.station.now =
-        rw (← c.self.view_is, ← c.deref.ensures.value)
-        (slice_get_read _ _ _ _ refl read.3.0 read.1) in
+    rw (← c.self.view_is, ← c.deref.ensures.value)
+    (slice_get_read _ _ _ _ refl read.3.0 read.1) in
     rw there c.test.ensures
 
 pub returns-in-Some-clause-taken : goal.returns-in-Some-clause-taken
