@@ -45,7 +45,7 @@ kinds_taken : (app : App) (words : List Text) → fault_of app words ≡ []
     → report_kinds app words ≡ option_map_or (λ f. []) (format_in app words) (ArgumentConflict ∷ [])
 kinds_taken app words taken =
     ap (λ kinds. or_else kinds (option_map_or (λ f. []) (format_in app words)
-        (ArgumentConflict ∷ []))) taken
+    (ArgumentConflict ∷ []))) taken
 
 none_of_some : (format : Option Format) (kinds : Kinds) → is_some format ≡ true
     → kinds ≡ option_map_or (λ f. []) format (ArgumentConflict ∷ []) → kinds ≡ []
@@ -57,7 +57,7 @@ one_of_none : (k : ErrorKind) (format : Option Format) (kinds : Kinds) → forma
     → kinds ≡ option_map_or (λ f. []) format (ArgumentConflict ∷ []) → IsAmong k kinds
 one_of_none k format kinds none conflict is =
     subst (IsAmong k) (sym (is ∙ ap (λ o. option_map_or (λ f. []) o (ArgumentConflict ∷ [])) none))
-        (inl conflict)
+    (inl conflict)
 
 one_lacks : (a b : Bool) → (a && b) ≡ false → list_any not (a ∷ b ∷ []) ≡ true
 one_lacks false b e = refl
@@ -72,12 +72,13 @@ more_lacks true true c e = grind (arith, e)
 
 lost_by : (app : App) (words : List Text) (fault : WordsFault) → fault_of app words ≡ []
     → IsNoReport (matches_of app words) fault
-        → IsFaultBy (Some (report (both_needed app))) words fault
+    → IsFaultBy (Some (report (both_needed app))) words fault
 lost_by app words (Refused error) taken lost =
     one_of_none (kind_of error) (format_in app words) _ lost.0 lost.1 (kinds_taken app words taken)
-lost_by app words Missing taken lost =
-    (none_of_some (format_in app words) _ lost.0 (kinds_taken app words taken),
-        one_lacks _ _ lost.1)
+lost_by app words Missing taken lost = (
+  none_of_some (format_in app words) _ lost.0 (kinds_taken app words taken),
+  one_lacks _ _ lost.1,
+)
 lost_by app words NoMemory taken lost = tt
 
 -- what clap's matches hold of a report, or lack, is what the words give, or why they choose nothing
@@ -93,15 +94,17 @@ pub report_read : (app : App) (words : List Text) (rows : List Row)
     → MatchResult result (GivesReport app words) (IsFaultBy (Some (report (both_needed app))) words)
 report_read app words rows (Ok r) read held =
     let given : HoldsReport (matches_of app words) r =
-        subst (λ (rs : List Row). HoldsReport rs r) read.1 held in
-    (none_of_some (format_in app words) _ (ap is_some given.2)
-        (kinds_taken app words read.0), given)
+    subst (λ (rs : List Row). HoldsReport rs r) read.1 held in (
+      none_of_some (format_in app words) _ (ap is_some given.2)
+          (kinds_taken app words read.0),
+      given,
+    )
 report_read app words rows (Err fault) read lost = report_lost app words rows fault read lost
 
 -- with one value more that is needed, what was lacking is
 pub more_needed : (app : App) (words : List Text) (id : Text) (fault : WordsFault)
     → IsFaultBy (Some (report (both_needed app))) words fault
-        → IsFaultBy (Some (report (all_needed app id))) words fault
+    → IsFaultBy (Some (report (all_needed app id))) words fault
 more_needed app words id (Refused error) among = among
 more_needed app words id Missing lost = (lost.0, more_lacks _ _ _ lost.1)
 more_needed app words id NoMemory any = any

@@ -30,12 +30,12 @@ at_dashes option word words dashes = next option word words ∙ rw (dashes) refl
 
 at_once : (option : FileOption) (word : Text) (words : List Text)
     → bytes_eq word (codes "--") ≡ false → settles option word ≡ true
-        → is_settled option (word ∷ words) ≡ true
+    → is_settled option (word ∷ words) ≡ true
 at_once option word words dashes here = next option word words ∙ rw (dashes, here) refl
 
 later : (option : FileOption) (word : Text) (words : List Text)
     → bytes_eq word (codes "--") ≡ false → settles option word ≡ false
-        → is_settled option (word ∷ words) ≡ is_settled option words
+    → is_settled option (word ∷ words) ≡ is_settled option words
 later option word words dashes here = next option word words ∙ rw (dashes, here) refl
 
 -- what the words from the i-th on decide, if this one is --, gives the option, or neither

@@ -214,8 +214,12 @@ no_store_held = (refl, refl)
 
 -- the one argument of explain
 abbrev name_word : Argument
-name_word = record { kind = Word; id = word (codes "name"); value = word (codes "NAME");
-    help = word (codes "A word") }
+name_word = record {
+  kind = Word;
+  id = word (codes "name");
+  value = word (codes "NAME");
+  help = word (codes "A word");
+}
 
 pub explain_arguments : with_arguments (new_app (codes "explain")) (name_word ∷ []) ≡ explain.app
 explain_arguments = refl

@@ -19,8 +19,11 @@ postings_kept S c = elim (is_new c.meta) as (λ b. (bound_by b S c).postings ≡
 none_listed : (S : Museum) (c d : Content) → IsBound S c d → c.postings ≡ [] → HasList [] d
 none_listed S c d same empty =
     same_list (bound_to S c) d same []
-        (record { rows = []; each = tt;
-        all = subst (IsPermutation []) (sym (postings_kept S c ∙ empty)) (IsPermutation-refl []) })
+    (record {
+      rows = [];
+      each = tt;
+      all = subst (IsPermutation []) (sym (postings_kept S c ∙ empty)) (IsPermutation-refl []);
+    })
 
 -- one more posting is one more entry
 more_listed : (P : List Entry) (e : Entry) (changes : Changes) (c d : Content)
@@ -35,23 +38,23 @@ more_listed P e changes c d number (row, is, same) list = record {
 pub two_kept : (old bound one two new : Holding) (S : Museum) (first second : Entry) (a b : Changes)
     (O : List Entry) → a.entry ≡ 1 → b.entry ≡ 2
     → Comes old bound (IsBound S) → Comes bound one (IsPosted first a)
-        → Comes one two (IsPosted second b) → Comes two new AreSame → Each new (HasList O)
+    → Comes one two (IsPosted second b) → Comes two new AreSame → Each new (HasList O)
     → Comes old new (λ c d. c.postings ≡ [] → O ≡ second ∷ first ∷ [])
 two_kept old bound one two new S first second a b O is_one is_two binds posts then_posts
     still listed =
     let Had : List Entry → Content → Content → Type 0 = λ P c d. c.postings ≡ [] → HasList P d in
     let at_one : Comes old one (Had (first ∷ [])) =
-        comes_on old bound one (IsBound S) (IsPosted first a) (Had (first ∷ []))
-        (λ x y z was step empty. more_listed [] first a y z is_one step
-        (none_listed S x y was empty)) binds posts in
+    comes_on old bound one (IsBound S) (IsPosted first a) (Had (first ∷ []))
+    (λ x y z was step empty. more_listed [] first a y z is_one step
+    (none_listed S x y was empty)) binds posts in
     let at_two : Comes old two (Had (second ∷ first ∷ [])) =
-        comes_on old one two (Had (first ∷ [])) (IsPosted second b) (Had (second ∷ first ∷ []))
-        (λ x y z was step empty. more_listed (first ∷ []) second b y z is_two step (was empty))
-        at_one then_posts in
+    comes_on old one two (Had (first ∷ [])) (IsPosted second b) (Had (second ∷ first ∷ []))
+    (λ x y z was step empty. more_listed (first ∷ []) second b y z is_two step (was empty))
+    at_one then_posts in
     let now : Comes old new (Had (second ∷ first ∷ [])) =
-        comes_on old two new (Had (second ∷ first ∷ [])) AreSame (Had (second ∷ first ∷ []))
-        (λ x y z was same empty. same_list y z same (second ∷ first ∷ []) (was empty))
-        at_two still in
+    comes_on old two new (Had (second ∷ first ∷ [])) AreSame (Had (second ∷ first ∷ []))
+    (λ x y z was same empty. same_list y z same (second ∷ first ∷ []) (was empty))
+    at_two still in
     comes_so old new (Had (second ∷ first ∷ [])) (λ c d. c.postings ≡ [] → O ≡ second ∷ first ∷ [])
-        (HasList O) (λ c d was has empty. one_list O (second ∷ first ∷ []) d has
-        (was empty)) now listed
+    (HasList O) (λ c d was has empty. one_list O (second ∷ first ∷ []) d has
+    (was empty)) now listed

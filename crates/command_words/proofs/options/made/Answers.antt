@@ -23,17 +23,27 @@ returns-in-File-clause-rule c =
 
 pub returns-in-Valued-clause-rule : goal.returns-in-Valued-clause-rule
 returns-in-Valued-clause-rule c =
-    rw (c.action-in-Valued.ensures, c.value_name-in-Valued.ensures, c.long-in-Valued.ensures,
-        c.help-made.ensures, c.in-Valued.is)
-    (ap (λ (rule : Rule). record rule { long = Some c.args.argument.now.id.now; value_names = 1;
-        action = Some Set })
+    rw (
+      c.action-in-Valued.ensures,
+      c.value_name-in-Valued.ensures,
+      c.long-in-Valued.ensures,
+      c.help-made.ensures,
+      c.in-Valued.is,
+    )
+    (ap (λ (rule : Rule). record rule {
+      long = Some c.args.argument.now.id.now;
+      value_names = 1;
+      action = Some Set;
+    })
     c.new.ensures.rule)
 
 pub returns-in-Flag-clause-rule : goal.returns-in-Flag-clause-rule
 returns-in-Flag-clause-rule c =
     rw (c.action-in-Flag.ensures, c.long-in-Flag.ensures, c.help-made.ensures, c.in-Flag.is)
-    (ap (λ (rule : Rule). record rule { long = Some c.args.argument.now.id.now;
-        action = Some SetTrue }) c.new.ensures.rule)
+    (ap (λ (rule : Rule). record rule {
+      long = Some c.args.argument.now.id.now;
+      action = Some SetTrue;
+    }) c.new.ensures.rule)
 
 pub returns-in-Word-clause-rule : goal.returns-in-Word-clause-rule
 returns-in-Word-clause-rule c =
@@ -42,6 +52,10 @@ returns-in-Word-clause-rule c =
 
 pub returns-in-Words-clause-rule : goal.returns-in-Words-clause-rule
 returns-in-Words-clause-rule c =
-    rw (c.action-in-Words.ensures, c.value_name-in-Words.ensures, c.help-made.ensures,
-        c.in-Words.is)
+    rw (
+      c.action-in-Words.ensures,
+      c.value_name-in-Words.ensures,
+      c.help-made.ensures,
+      c.in-Words.is,
+    )
     (ap (λ (rule : Rule). record rule { value_names = 1; action = Some Append }) c.new.ensures.rule)

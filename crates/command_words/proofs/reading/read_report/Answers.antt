@@ -8,9 +8,9 @@ use Rattle.command_words.proofs.reading.read_report.Goals as goal
 pub returns-in_err-matches : goal.returns-in_err-matches
 returns-in_err-matches c =
     let fault : IsFaultBy (Some (report (both_needed (app_by c.args.name))))
-        (texts_of c.args.words.now) c.in_err-matches.field-0.0 =
+    (texts_of c.args.words.now) c.in_err-matches.field-0.0 =
     report_refused (app_by c.args.name) (texts_of c.args.words.now) c.in_err-matches.field-0.0
-        c.in_err-matches.ensures in
+    c.in_err-matches.ensures in
     search rules
 
 pub returns : goal.returns

@@ -8,7 +8,7 @@ use Rattle.command_words.proofs.reading.read_report_and.Goals as goal
 pub returns-in_err-report : goal.returns-in_err-report
 returns-in_err-report c =
     let fault : IsFaultBy (Some (report (all_needed (app_by c.args.name) c.args.id.now)))
-        (texts_of c.args.words.now) c.in_err-report.field-0.0 =
+    (texts_of c.args.words.now) c.in_err-report.field-0.0 =
     more_needed (app_by c.args.name) (texts_of c.args.words.now) c.args.id.now
-        c.in_err-report.field-0.0 c.in_err-report.ensures in
+    c.in_err-report.field-0.0 c.in_err-report.ensures in
     search rules

@@ -8,4 +8,4 @@ returns c =
     c.with_help.ensures
     ∙ (ap app_of_fields c.version-command.ensures
     ∙ ap (λ (app : App). record app { top = record app.top { has_version = true } })
-        c.new.ensures.app)
+    c.new.ensures.app)

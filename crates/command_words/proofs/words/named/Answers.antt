@@ -21,14 +21,14 @@ in_arm : (words : List Text) (name known : Text) (found : Option Form)
     → Chooses found words result → Chooses (form_named words) words result
 in_arm words name known found result named is by chosen =
     let form_is : form_named words ≡ found =
-        ap (λ first. option_and_then form_by first) (named ∙ ap Some is) ∙ by in
+    ap (λ first. option_and_then form_by first) (named ∙ ap Some is) ∙ by in
     subst (λ form. Chooses form words result) (sym form_is) chosen
 
 pub returns-in-replay : goal.returns-in-replay
 unfolding register_app report_app
 returns-in-replay c =
     in_arm (texts_of c.args.words.now) c.args.name.now (codes "replay") (Some replay)
-        c.replay.result
+    c.replay.result
     c.requires c.in-replay.is refl c.replay.ensures
 
 pub returns-in-serve : goal.returns-in-serve
@@ -47,7 +47,7 @@ pub returns-in-overdue : goal.returns-in-overdue
 unfolding register_app report_app
 returns-in-overdue c =
     in_arm (texts_of c.args.words.now) c.args.name.now (codes "overdue") (Some overdue)
-        c.overdue.result
+    c.overdue.result
     c.requires c.in-overdue.is refl c.overdue.ensures
 
 pub returns-in-away : goal.returns-in-away
@@ -60,14 +60,14 @@ pub returns-in-history : goal.returns-in-history
 unfolding register_app report_app
 returns-in-history c =
     in_arm (texts_of c.args.words.now) c.args.name.now (codes "history") (Some history)
-        c.history.result
+    c.history.result
     c.requires c.in-history.is refl c.history.ensures
 
 pub returns-in-migrate : goal.returns-in-migrate
 unfolding register_app report_app
 returns-in-migrate c =
     in_arm (texts_of c.args.words.now) c.args.name.now (codes "migrate") (Some migrate)
-        c.migrate.result
+    c.migrate.result
     c.requires c.in-migrate.is refl c.migrate.ensures
 
 pub returns-in-copy : goal.returns-in-copy
@@ -80,28 +80,28 @@ pub returns-in-explain : goal.returns-in-explain
 unfolding register_app report_app
 returns-in-explain c =
     in_arm (texts_of c.args.words.now) c.args.name.now (codes "explain") (Some explain)
-        c.explain.result
+    c.explain.result
     c.requires c.in-explain.is refl c.explain.ensures
 
 pub returns-in-stations : goal.returns-in-stations
 unfolding register_app report_app
 returns-in-stations c =
     in_arm (texts_of c.args.words.now) c.args.name.now (codes "stations") (Some stations)
-        c.stations.result
+    c.stations.result
     c.requires c.in-stations.is refl c.stations.ensures
 
 pub returns-in-where : goal.returns-in-where
 unfolding register_app report_app
 returns-in-where c =
     in_arm (texts_of c.args.words.now) c.args.name.now (codes "where") (Some where_is)
-        c.where_is.result
+    c.where_is.result
     c.requires c.in-where.is refl c.where_is.ensures
 
 pub returns-in-contents : goal.returns-in-contents
 unfolding register_app report_app
 returns-in-contents c =
     in_arm (texts_of c.args.words.now) c.args.name.now (codes "contents") (Some contents)
-        c.contents.result
+    c.contents.result
     c.requires c.in-contents.is refl c.contents.ensures
 
 pub returns-in-loan : goal.returns-in-loan
@@ -120,7 +120,7 @@ pub returns-in-posted : goal.returns-in-posted
 unfolding register_app report_app
 returns-in-posted c =
     in_arm (texts_of c.args.words.now) c.args.name.now (codes "posted") (Some posted)
-        c.posted.result
+    c.posted.result
     c.requires c.in-posted.is refl c.posted.ensures
 
 pub returns-in-help : goal.returns-in-help

@@ -14,7 +14,7 @@ returns-in_err-read_by c =
     ap texts_of c.as_slice.ensures.value ∙ c.in_ok-line.ensures in
     let refused = rw (c.in_ok-overview_command.ensures, line_is) at c.in_err-read_by.ensures in
     let fault : IsFaultBy None (texts_of c.args.words.now) c.in_err-read_by.field-0.0 =
-        refused_by_none _ _ refused in
+    refused_by_none _ _ refused in
     search rules
 
 pub returns : goal.returns

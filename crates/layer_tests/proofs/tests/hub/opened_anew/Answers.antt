@@ -11,8 +11,8 @@ returns g c =
     let old = g.R.Register.holding c.close.result in
     let S = c.args.setup in
     IfErr-weaker c.open.result (λ failed. Comes old (g.R.Register.holding failed.register)
-        (IsNotOpened S failed.fault)) (λ failed. S ≡ c.args.hub.book.museum
-        → (g.R.Register.holding failed.register).is_quiet → is_failure failed.fault ≡ true)
+    (IsNotOpened S failed.fault)) (λ failed. S ≡ c.args.hub.book.museum
+    → (g.R.Register.holding failed.register).is_quiet → is_failure failed.fault ≡ true)
     (λ failed refused same quiet. fails_so old (g.R.Register.holding failed.register) S
-        c.args.hub.book.museum failed.fault same c.close.ensures.opens_again refused quiet)
-        c.open.ensures.refused
+    c.args.hub.book.museum failed.fault same c.close.ensures.opens_again refused quiet)
+    c.open.ensures.refused

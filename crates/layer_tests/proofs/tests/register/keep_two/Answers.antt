@@ -12,12 +12,12 @@ returns g c =
     let first = c.args.first.now in
     let second = c.args.second.now in
     IfOk-weaker c.all.result (λ entries. Each new (HasList (reverse entries.items)))
-        (λ entries. Comes old new (λ d e. d.postings ≡ []
-        → reverse entries.items ≡ second ∷ first ∷ []))
+    (λ entries. Comes old new (λ d e. d.postings ≡ []
+    → reverse entries.items ≡ second ∷ first ∷ []))
     (λ entries listed. two_kept old (g.R.Register.holding c.bind.new.self)
-        (g.R.Register.holding c.post.new.self) (g.R.Register.holding c.post-2.new.self) new
-        c.args.setup.now first second c.args.first_changes.now c.args.second_changes.now
-        (reverse entries.items)
+    (g.R.Register.holding c.post.new.self) (g.R.Register.holding c.post-2.new.self) new
+    c.args.setup.now first second c.args.first_changes.now c.args.second_changes.now
+    (reverse entries.items)
     c.requires.first_number c.requires.second_number c.in_ok-bind.ensures.kept
-        c.in_ok-post.ensures.posted c.in_ok-post-2.ensures.posted c.all.ensures.unchanged listed)
-        c.all.ensures.listed
+    c.in_ok-post.ensures.posted c.in_ok-post-2.ensures.posted c.all.ensures.unchanged listed)
+    c.all.ensures.listed
