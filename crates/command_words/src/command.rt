@@ -1,4 +1,4 @@
-//! A command, and why there is none.
+//! The commands, and the faults of words that choose none.
 ghost use Rattle.std.specs.Prelude.{◌≡◌};
 ghost use Rattle.command_words.specs.Words.{status_of};
 
@@ -7,18 +7,19 @@ use clap::error::ErrorKind;
 use std::alloc::{AllocError, AllocFailed};
 use thiserror::Error as Fault;
 
-/// The form of a report's rows.
+/// The form in which a report is printed.
 #[derive(Clone, Copy, Debug, PartialEq, Eq)]
 pub enum Format {
-    /// Plain lines.
+    /// Plain text, one line for each row.
     Lines,
-    /// Comma-separated values, under a row of their names.
+    /// Comma-separated values, under a heading.
     Csv,
-    /// One JSON object a line.
+    /// One JSON object for each row.
     Json,
 }
 
-/// A command with its values, as they stand in the words. A store that isn't named stands in memory.
+/// A command with its values, as the words have them. If no store is named, the record is in
+/// memory.
 #[derive(Drop)]
 pub enum Chosen<'a> {
     /// Answers the lines of standard input. With `progress` it reports its progress on standard
@@ -29,13 +30,13 @@ pub enum Chosen<'a> {
         progress: bool,
         strict: bool,
     },
-    /// Takes one file of lines a station, in the setup's order.
+    /// Takes one file of lines for each station, in the setup's order.
     Serve {
         setup: &'a str,
         store: Option<&'a str>,
         feeds: Vec<&'a str>,
     },
-    /// Checks a count list.
+    /// Compares a count list with the record.
     Count {
         setup: &'a str,
         store: &'a str,
@@ -49,20 +50,20 @@ pub enum Chosen<'a> {
         on: &'a str,
         format: Format,
     },
-    /// Lists the own objects that aren't at their normal places.
+    /// Lists the museum's own objects that aren't at their normal locations.
     Away {
         setup: &'a str,
         store: &'a str,
         format: Format,
     },
-    /// Lists where a thing was.
+    /// Lists where a thing has been.
     History {
         setup: &'a str,
         store: &'a str,
         code: &'a str,
         format: Format,
     },
-    /// Makes a store of the version before one of this version.
+    /// Migrates a store of the previous version to this version.
     Migrate {
         setup: &'a str,
         store: &'a str,
@@ -73,21 +74,22 @@ pub enum Chosen<'a> {
         store: &'a str,
         to: &'a str,
     },
-    /// Tells what a word of a reply means.
+    /// Explains a word that the program prints.
     Explain {
         name: &'a str,
     },
-    /// Prints the page of a topic or the help of a command or, if neither is named, an overview.
+    /// Prints the page of a topic or the help of a command. If neither is named, prints an
+    /// overview.
     Help {
         topic: Option<&'a str>,
     },
-    /// Tells which number each station has to send next.
+    /// Prints the number that each station has to send next.
     Stations {
         setup: &'a str,
         store: &'a str,
         format: Format,
     },
-    /// Tells where a thing is.
+    /// Prints where a thing is.
     Where {
         setup: &'a str,
         store: &'a str,
@@ -101,21 +103,21 @@ pub enum Chosen<'a> {
         code: &'a str,
         format: Format,
     },
-    /// Tells how a loan stands.
+    /// Prints a loan's terms, its state, and the stage of each of its objects.
     Loan {
         setup: &'a str,
         store: &'a str,
         code: &'a str,
         format: Format,
     },
-    /// Lists all that is at a place.
+    /// Lists the things at a place.
     At {
         setup: &'a str,
         store: &'a str,
         place: &'a str,
         format: Format,
     },
-    /// Lists what is on record, from an entry on, if it is named.
+    /// Lists the entries, from a given entry on if there is one.
     Posted {
         setup: &'a str,
         store: &'a str,
@@ -124,23 +126,24 @@ pub enum Chosen<'a> {
     },
 }
 
-/// Why the words choose no command. Refused comes before Missing, and NoMemory may stand in place of either.
+/// Why the words choose no command. Refused comes before Missing, and NoMemory can come instead of
+/// either.
 #[derive(Debug, Drop, Fault)]
 pub enum WordsFault {
-    /// `clap` refuses the words, or they ask for help or for the version: its text, and its status.
+    /// `clap` rejects the words, or they ask for help or for the version. The error has the text.
     #[error("{0}")]
     Refused(Error),
-    /// `clap` refuses nothing, and there is no command, or a value that it needs isn't there.
+    /// Nothing is rejected, but no command is named, or a value that the command needs is missing.
     #[error("no command, or not everything that it needs")]
     Missing,
-    /// A growth was refused.
+    /// A request for memory was refused.
     #[error("out of memory")]
     NoMemory,
 }
 
 impl WordsFault {
-    /// The exit status: 0 where the words ask for help or for the version, whose text goes to standard output, 2 where
-    /// they aren't right, and 1 for want of memory.
+    /// Returns the exit status: 0 if the words ask for help or for the version, 2 for a usage
+    /// error, and 1 if memory ran out.
     pub fn status(&self) -> u8
         ensures { result ≡ status_of self.now }
     {

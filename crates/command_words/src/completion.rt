@@ -1,4 +1,4 @@
-//! The museum's own setup and store, filled in for words that name none.
+//! Fills in a default setup and store for words that name none.
 #![tactic(auto)]
 
 ghost use Rattle.std.specs.Prelude.{◌≡◌, ◌++◌, IfOk, OnOk};
@@ -11,7 +11,7 @@ ghost use Rattle.command_words.specs.Words.{text_of, texts_of};
 use crate::shapes::{Name, find_command};
 use std::alloc::{AllocError, Global};
 
-/// An option that names a file of the record.
+/// An option that names the setup or the store.
 #[derive(Clone, Copy, PartialEq, Eq)]
 pub enum FileOption {
     /// `--setup PATH` or `-s PATH`.
@@ -21,7 +21,7 @@ pub enum FileOption {
 }
 
 impl FileOption {
-    /// The option as it is written.
+    /// The option as a word: `--setup`.
     fn name(self) -> &'static str
         ensures { result.now ≡ completion.name_of self }
     {
@@ -32,7 +32,7 @@ impl FileOption {
     }
 }
 
-/// Whether a word gives the option, or asks for help.
+/// Whether the word gives the option, or asks for help.
 fn settles_option(word: &str, option: FileOption) -> bool
     ensures { result ≡ settles option word.now }
 {
@@ -47,7 +47,7 @@ fn settles_option(word: &str, option: FileOption) -> bool
     is_given || word == "--help" || word.starts_with("-h")
 }
 
-/// Whether one of the words gives the option, or asks for help.
+/// Whether any of the words gives the option, or asks for help. Words after `--` are no options.
 fn has_settled(words: &[&str], option: FileOption) -> bool
     ensures { result ≡ is_settled option (texts_of words.now) }
 {
@@ -62,7 +62,7 @@ fn has_settled(words: &[&str], option: FileOption) -> bool
     false
 }
 
-/// Whether a command has an option.
+/// Whether the command has the option.
 fn takes_option(name: Name, option: FileOption) -> bool
     ensures { result ≡ has_option option (form_by name) }
 {
@@ -73,8 +73,8 @@ fn takes_option(name: Name, option: FileOption) -> bool
     }
 }
 
-/// Whether the first word names a command that has the option, and the words neither give it nor
-/// ask for help.
+/// Returns whether the option can be filled in: the first word names a command that has it, and the
+/// words neither give it nor ask for help.
 pub fn lacks(words: &[&str], option: FileOption) -> bool
     ensures { result ≡ lacks_option option (texts_of words.now) }
 {
@@ -84,8 +84,7 @@ pub fn lacks(words: &[&str], option: FileOption) -> bool
     }
 }
 
-/// Appends the option and its value if the words lack it. A value that is not there, or is empty,
-/// appends nothing.
+/// Appends the option and its value if the words lack it and the value is not empty.
 fn fill_in<'a>(
     line: &mut Vec<&'a str>,
     words: &[&'a str],
@@ -105,9 +104,9 @@ fn fill_in<'a>(
     }
 }
 
-/// The words, with `--setup` and `--store` and these values right after the command's name if the
-/// command has the option and the words don't give it. A value that is not there, or is empty, adds
-/// nothing, and words that ask for help stay as they are. Fails only if memory runs out.
+/// Returns the words with `--setup` and `--store` and these values filled in, right after the
+/// command's name. Each is added only if [`lacks`] is true for it. A value that is missing or empty
+/// adds nothing. Fault: AllocError, if memory runs out.
 pub fn complete<'a>(
     alloc: Global,
     words: &[&'a str],

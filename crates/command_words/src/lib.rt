@@ -1,7 +1,27 @@
-//! The words of a command line, and the command that they choose.
+//! Reads the words of a command line, and returns the command that they choose.
 //!
-//! `clap` reads the words; what it makes of them is proved to be what it promises of the command that the first word
-//! names, value by value, and what it refuses.
+//! [`words::chosen`] returns a [`Chosen`]: one of sixteen commands with its values, among them the
+//! [`Format`] of a report. `clap` does the reading; a [`WordsFault`] carries its error and has the
+//! program's exit status. [`completion::complete`] adds a default setup and store to the words, and
+//! [`needs::list_missing`] lists the arguments that they lack.
+//!
+//! The contracts promise:
+//!
+//! - A chosen command is the one that the first word names, and each of its values is the one that
+//!   `clap` has for the words.
+//! - `clap` accepts the words of a chosen command, and a report has at most one of `--csv` and
+//!   `--json`.
+//! - The error in Refused is of a kind that `clap` can report for the words or, if they have both
+//!   `--csv` and `--json`, the one for options that exclude each other.
+//! - Missing is returned only if nothing is rejected. NoMemory can come instead of any result.
+//!
+//! ```text
+//! let words = complete(alloc, given, setup, store)?;
+//! match chosen(alloc, words.as_slice()) {
+//!     Ok(Chosen::Where { setup, store, code, format }) => ..,
+//!     Err(fault) => fault.status(),
+//! }
+//! ```
 #![tactic(auto)]
 
 mod command;

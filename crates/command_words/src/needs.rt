@@ -1,4 +1,4 @@
-//! What a command needs, and the words lack.
+//! Lists the arguments that a command needs and the words lack.
 #![tactic(auto)]
 
 ghost use Rattle.std.specs.Prelude.{◌≡◌, IfErr, IfOk};
@@ -12,9 +12,9 @@ use crate::shapes::{find_command, needs_of};
 use clap::ArgMatches;
 use std::alloc::{AllocError, Global};
 
-/// The arguments that the command needs and the words lack, in the order of the command's usage, as
-/// `setup` or `code`. None if the first word names no command. Faults: Refused, if `clap` rejects
-/// the words; NoMemory.
+/// Returns the ids of the arguments that the command needs and the words lack, for example `setup`
+/// or `code`, in the order of the command's usage. The list is empty if the first word names no
+/// command. Faults, only if it names one: Refused, if `clap` rejects the words; NoMemory.
 pub fn list_missing<'a>(
     alloc: Global,
     words: &'a [&'a str],
@@ -32,7 +32,7 @@ pub fn list_missing<'a>(
     Ok(missing?)
 }
 
-/// Those of the arguments that have no value.
+/// The arguments that have no value.
 fn list_without_value(
     alloc: Global,
     matches: &ArgMatches<'_>,

@@ -1,4 +1,4 @@
-//! The arguments of a command.
+//! The arguments of commands, and how they are built for `clap`.
 ghost use Rattle.std.specs.Prelude.{◌≡◌, false};
 ghost use Rattle.clap.specs.Words.{app_of, rule_of};
 ghost use Rattle.command_words.specs.Commands.{file_rule, flag_rule, option_rule};
@@ -12,19 +12,19 @@ use std::alloc::Global;
 /// How an argument takes its values.
 #[derive(Clone, Copy)]
 pub(crate) enum Kind {
-    /// One, behind its name or its letter: `--setup PATH`, `-s PATH`.
+    /// One value, after its name or its letter: `--setup PATH`, `-s PATH`.
     File(char),
-    /// One, behind its name: `--on DAY`.
+    /// One value, after its name: `--on DAY`.
     Valued,
-    /// None: its name is all, as `--csv`.
+    /// No value: `--csv`.
     Flag,
-    /// One, by its place, as LIST.
+    /// One value, by its position: LIST.
     Word,
-    /// Any number, by their place, as FEEDS.
+    /// Any number of values, from its position on: FEEDS.
     Words,
 }
 
-/// An argument, and what the help says of it.
+/// An argument, with its text in the help.
 #[derive(Clone, Copy)]
 pub(crate) struct Argument {
     pub kind: Kind,
@@ -61,7 +61,7 @@ pub(crate) const JSON: Argument = Argument {
     help: "Print one JSON object a line",
 };
 
-/// An argument as `clap` reads it.
+/// Returns the argument as `clap` takes it.
 pub(crate) fn made<'a>(alloc: Global, argument: &Argument) -> Arg<'a>
     ensures rule { rule_of result ≡ rule_by argument.now }
     ensures local { result.global ≡ false }
@@ -84,7 +84,7 @@ pub(crate) fn made<'a>(alloc: Global, argument: &Argument) -> Arg<'a>
     }
 }
 
-/// A command with its help.
+/// Returns the command with its help. Its arguments stay the same.
 pub(crate) fn with_help<'a>(command: Command<'a>, help: &Help) -> Command<'a>
     ensures { app_of result ≡ app_of command.entry }
 {

@@ -1,4 +1,4 @@
-//! The commands that ask a record one question.
+//! Reads the words of the commands that answer a question: `explain`, `help`, and reports.
 #![tactic(auto, unfolding(crate::specs::Tables::app_by))]
 
 ghost use Rattle.std.specs.Prelude.{Some, codes};

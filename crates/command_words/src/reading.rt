@@ -1,4 +1,4 @@
-//! What the words give a command's arguments.
+//! Reads the values of a command's arguments.
 ghost use Rattle.std.specs.Prelude.{◌≡◌, [], IfOk, MatchResult, None, Some, codes, true};
 ghost use Rattle.clap.specs.Faults.{fault_of, is_simple_and_free};
 ghost use Rattle.clap.specs.Words.{app_of, first_of, found_of, kind_of, rows_of};
@@ -15,21 +15,21 @@ use clap::error::ErrorKind;
 use clap::{ArgMatches, Command, Error};
 use std::alloc::{AllocError, Global};
 
-/// The setup and the store, where the words name them.
+/// The setup and the store, if the words name them.
 #[derive(Clone, Copy)]
 pub(crate) struct Files<'a> {
     pub setup: Option<&'a str>,
     pub store: Option<&'a str>,
 }
 
-/// The setup and the store of a record that is kept in a file.
+/// The setup and the store of a command that needs both.
 #[derive(Clone, Copy)]
 pub(crate) struct Record<'a> {
     pub setup: &'a str,
     pub store: &'a str,
 }
 
-/// A record that a report is of, and the form of the report's rows.
+/// The record that a report is about, and the form in which it is printed.
 #[derive(Clone, Copy)]
 pub(crate) struct Report<'a> {
     pub setup: &'a str,
@@ -37,7 +37,8 @@ pub(crate) struct Report<'a> {
     pub format: Format,
 }
 
-/// What `clap` makes of the words, or why it refuses them.
+/// Returns `clap`'s matches for the words. Faults: Refused, if `clap` rejects the words; NoMemory
+/// can come instead of any result.
 pub(crate) fn read_by<'a>(
     command: Command<'a>,
     words: &'a [&'a str],
@@ -50,7 +51,7 @@ pub(crate) fn read_by<'a>(
     Ok(command.try_get_matches_from(words)?)
 }
 
-/// What `clap` makes of the words of a command, or why it refuses them.
+/// Returns `clap`'s matches for the words of a command. Faults: as for [`read_by`].
 pub(crate) fn read<'a>(
     alloc: Global,
     name: Name,
@@ -63,14 +64,13 @@ pub(crate) fn read<'a>(
     read_by(command_of(alloc, name)?, words)
 }
 
-/// The value of an argument, if it is there.
+/// Returns the value of an argument, the first if there are several. None if it has none.
 pub(crate) fn one<'a, 'b>(matches: &'b ArgMatches<'a>, id: &'static str) -> Option<&'a str>
     ensures { text_of result ≡ first_of id.now (rows_of (found_of matches.now)) }
 {
     matches.get_str(id)
 }
 
-/// The setup and the store.
 fn files_of<'a, 'b>(found: &'b ArgMatches<'a>) -> Files<'a>
     ensures setup { text_of result.setup ≡ first_of (codes "setup") (rows_of (found_of found.now)) }
     ensures store { text_of result.store ≡ first_of (codes "store") (rows_of (found_of found.now)) }
@@ -95,7 +95,7 @@ fn all<'a, 'b>(
     }
 }
 
-/// Whether an option without a value is given.
+/// Whether a flag is given.
 fn is_set(matches: &ArgMatches<'_>, id: &'static str) -> bool
     ensures { result ≡ is_true (first_of id.now (rows_of (found_of matches.now))) }
 {
@@ -105,7 +105,7 @@ fn is_set(matches: &ArgMatches<'_>, id: &'static str) -> bool
     }
 }
 
-/// The form of a report's rows, by whether each of the two options is given, or none for both.
+/// The form of a report, by whether `--csv` and `--json` are given. None if both are.
 fn format_of(csv: bool, json: bool) -> Option<Format>
     ensures { result ≡ format_by csv json }
 {
@@ -117,7 +117,7 @@ fn format_of(csv: bool, json: bool) -> Option<Format>
     }
 }
 
-/// The files of a command over a register.
+/// The setup and the store, if the words name them.
 fn read_files<'a>(alloc: Global, name: Name, words: &'a [&'a str]) -> Result<Files<'a>, WordsFault>
     ensures { MatchResult result
         (GivesFiles (app_by name) (texts_of words.now))
@@ -129,7 +129,8 @@ fn read_files<'a>(alloc: Global, name: Name, words: &'a [&'a str]) -> Result<Fil
     Ok(files)
 }
 
-/// The files of a command over a register, and whether each of two flags is given.
+/// Returns the setup and the store, if the words name them, and whether each of two flags is given.
+/// Faults: as for [`read_by`].
 pub(crate) fn read_files_and_flags<'a>(
     alloc: Global,
     name: Name,
@@ -151,7 +152,8 @@ pub(crate) fn read_files_and_flags<'a>(
     Ok((files, has_first, has_second))
 }
 
-/// The files of a command over a register, and all values of one argument more.
+/// Returns the setup and the store, if the words name them, and all values of one more argument.
+/// Faults: as for [`read_by`].
 pub(crate) fn read_files_and_all<'a>(
     alloc: Global,
     name: Name,
@@ -170,7 +172,7 @@ pub(crate) fn read_files_and_all<'a>(
     Ok((files, given?))
 }
 
-/// A value that has to be there.
+/// Returns the value. Fault: Missing, exactly if there is none.
 pub(crate) fn needed(value: Option<&str>) -> Result<&str, WordsFault>
     ensures { MatchResult result
         (λ v. value.entry ≡ Some v)
@@ -182,7 +184,8 @@ pub(crate) fn needed(value: Option<&str>) -> Result<&str, WordsFault>
     }
 }
 
-/// The setup and the store of a command that needs both.
+/// Returns the setup and the store of a command that needs both. Faults: Refused, if `clap` rejects
+/// the words; Missing, if either is missing. NoMemory can come instead of any result.
 pub(crate) fn read_record<'a>(
     alloc: Global,
     name: Name,
@@ -199,7 +202,9 @@ pub(crate) fn read_record<'a>(
     })
 }
 
-/// The setup, the store and one value more of a command that needs all three.
+/// Returns the setup, the store and one more value of a command that needs all three. Faults:
+/// Refused, if `clap` rejects the words; Missing, if one of the three is missing. NoMemory can come
+/// instead of any result.
 pub(crate) fn read_record_and<'a>(
     alloc: Global,
     name: Name,
@@ -222,8 +227,8 @@ pub(crate) fn read_record_and<'a>(
     Ok((record, needed(own)?))
 }
 
-/// The setup and the store of a report, and the form of its rows. Two forms at once are refused as `clap` refuses two
-/// options that exclude each other.
+/// The setup, the store and the form of a report. `--csv` together with `--json` is rejected with
+/// the error that `clap` has for two options that exclude each other.
 fn report_in<'a, 'b>(
     alloc: Global,
     name: Name,
@@ -244,7 +249,7 @@ fn report_in<'a, 'b>(
     })
 }
 
-/// `clap`'s error for two options that exclude each other.
+/// `clap`'s error for `--csv` together with `--json`.
 fn both_formats(alloc: Global, name: Name) -> Result<Error, AllocError>
     ensures { IfOk result (λ e. kind_of e ≡ ErrorKind.ArgumentConflict) }
 {
@@ -255,7 +260,9 @@ fn both_formats(alloc: Global, name: Name) -> Result<Error, AllocError>
     )
 }
 
-/// The setup and the store of a report, and the form of its rows.
+/// Returns the setup, the store and the form of a report. Faults: Refused, if `clap` rejects the
+/// words, or if they have both `--csv` and `--json`; Missing, if the setup or the store is missing.
+/// NoMemory can come instead of any result.
 pub(crate) fn read_report<'a>(
     alloc: Global,
     name: Name,
@@ -269,7 +276,8 @@ pub(crate) fn read_report<'a>(
     report_in(alloc, name, &matches)
 }
 
-/// What a report needs, and the value of one argument more, if it is there.
+/// Returns what [`read_report`] returns, and the value of one more argument, None if it has none.
+/// Faults: as for [`read_report`].
 pub(crate) fn read_report_and_perhaps<'a>(
     alloc: Global,
     name: Name,
@@ -288,7 +296,8 @@ pub(crate) fn read_report_and_perhaps<'a>(
     Ok((report?, own))
 }
 
-/// What a report needs, and the value of one argument more, which it needs too.
+/// Returns what [`read_report`] returns, and the value of one more argument, which is needed.
+/// Faults: as for [`read_report`]; Missing also if this value is missing.
 pub(crate) fn read_report_and<'a>(
     alloc: Global,
     name: Name,
@@ -305,7 +314,8 @@ pub(crate) fn read_report_and<'a>(
     Ok((report, needed(own)?))
 }
 
-/// The value of the one argument of a command that needs no more.
+/// Returns the value of the only argument of a command, which is needed. Faults: Refused, if `clap`
+/// rejects the words; Missing, if there is no value. NoMemory can come instead of any result.
 pub(crate) fn read_word<'a>(
     alloc: Global,
     name: Name,
@@ -323,7 +333,8 @@ pub(crate) fn read_word<'a>(
     needed(own)
 }
 
-/// The value of the one argument of a command that needs nothing, if it is there.
+/// Returns the value of the only argument of a command, None if it has none. Faults: as for
+/// [`read_by`].
 pub(crate) fn read_word_if<'a>(
     alloc: Global,
     name: Name,

@@ -1,4 +1,4 @@
-//! The commands with their arguments, as `clap` reads them.
+//! The commands and their arguments, as `clap` takes them.
 ghost use Rattle.std.specs.Prelude.{◌≡◌, IfOk, option_map};
 ghost use Rattle.clap.specs.Words.{app_of, new_app};
 ghost use Rattle.command_words.specs.Commands.{overview, program_alone};
@@ -11,10 +11,10 @@ use crate::texts::{self, Help};
 use clap::Command;
 use std::alloc::{AllocError, Global};
 
-/// The name of the program in its help.
+/// The program's name in its help.
 pub(crate) const PROGRAM: &str = "pairsalder";
 
-/// Which command it is.
+/// The name of a command.
 #[derive(Clone, Copy)]
 pub(crate) enum Name {
     Replay,
@@ -35,7 +35,7 @@ pub(crate) enum Name {
     Help,
 }
 
-/// All commands but `help`, which `clap` adds, in the order in which the help lists them.
+/// The commands in the order of the help. `help` is left out, because `clap` adds it.
 const NAMES: [Name; 15] = [
     Name::Replay,
     Name::Serve,
@@ -145,7 +145,7 @@ const FROM: Argument = Argument {
     help: "The number of the first entry that is listed",
 };
 
-/// The word that names a command.
+/// The word that names the command.
 #[tactic(auto, unfolding(crate::specs::Tables::app_by, crate::specs::Commands::register_app, crate::specs::Commands::report_app))]
 fn word_of(name: Name) -> &'static str
     ensures { result.now ≡ (app_by name).top.name }
@@ -170,7 +170,7 @@ fn word_of(name: Name) -> &'static str
     }
 }
 
-/// The command that a word names.
+/// Returns the command that the word names. None if it names no command.
 #[tactic(auto, unfolding(crate::specs::Tables::form_by, crate::specs::Commands::register_app, crate::specs::Commands::report_app))]
 pub(crate) fn name_of(word: &str) -> Option<Name>
     ensures { option_map form_by result ≡ form_called word.now }
@@ -196,7 +196,7 @@ pub(crate) fn name_of(word: &str) -> Option<Name>
     }
 }
 
-/// The command that the first of the words names.
+/// Returns the command that the first word names. None if it names no command.
 pub(crate) fn find_command(words: &[&str]) -> Option<Name>
     ensures { option_map form_by result ≡ form_named (texts_of words.now) }
 {
@@ -206,7 +206,7 @@ pub(crate) fn find_command(words: &[&str]) -> Option<Name>
     }
 }
 
-/// The arguments that a command can't do without.
+/// Returns the ids of the arguments that the command needs, in the order of its usage.
 #[tactic(auto, unfolding(crate::specs::Tables::form_by))]
 pub(crate) fn needs_of(name: Name) -> &'static [&'static str]
     ensures { texts_of result.now ≡ (form_by name).needed }
@@ -224,7 +224,7 @@ pub(crate) fn needs_of(name: Name) -> &'static [&'static str]
     }
 }
 
-/// What the help says of a command.
+/// The command's help.
 fn help_of(name: Name) -> &'static Help {
     match name {
         Name::Replay => &texts::REPLAY,
@@ -246,7 +246,7 @@ fn help_of(name: Name) -> &'static Help {
     }
 }
 
-/// The arguments of a command, in their order.
+/// The command's arguments, in their order.
 #[tactic(auto, unfolding(crate::specs::Tables::app_by, crate::specs::Commands::register_app, crate::specs::Commands::report_app))]
 fn arguments_of(name: Name) -> &'static [Argument]
     ensures { with_arguments (new_app (app_by name).top.name) result.now ≡ app_by name }
@@ -271,7 +271,7 @@ fn arguments_of(name: Name) -> &'static [Argument]
     }
 }
 
-/// A command with its help, and none of its arguments yet.
+/// Returns the command with its help, but without its arguments.
 pub(crate) fn bare<'a>(alloc: Global, name: Name) -> Command<'a>
     ensures { app_of result ≡ new_app (app_by name).top.name }
 {
@@ -279,7 +279,7 @@ pub(crate) fn bare<'a>(alloc: Global, name: Name) -> Command<'a>
     with_help(Command::new(alloc, word), help_of(name))
 }
 
-/// The command of this name.
+/// Returns the command with its help and its arguments. Fault: AllocError, if memory runs out.
 pub(crate) fn command_of<'a>(alloc: Global, name: Name) -> Result<Command<'a>, AllocError>
     ensures { IfOk result (λ r. app_of r ≡ app_by name) }
 {
@@ -290,7 +290,7 @@ pub(crate) fn command_of<'a>(alloc: Global, name: Name) -> Result<Command<'a>, A
     Ok(command)
 }
 
-/// The program with none of its commands yet.
+/// The program without its commands.
 fn program<'a>(alloc: Global) -> Command<'a>
     ensures { app_of result ≡ program_alone }
 {
@@ -298,7 +298,8 @@ fn program<'a>(alloc: Global) -> Command<'a>
     with_help(command, &texts::PROGRAM)
 }
 
-/// All commands at once, for words that name none of them.
+/// Returns the program with all commands of [`NAMES`], which reads words that name no command.
+/// Fault: AllocError, if memory runs out.
 pub(crate) fn overview_command<'a>(alloc: Global) -> Result<Command<'a>, AllocError>
     ensures { IfOk result (λ r. app_of r ≡ overview) }
 {

@@ -1,6 +1,6 @@
-//! What the help says.
+//! The texts of `--help` and `--version`.
 
-/// What the help of a command says: what it is for, how it is called, and all else that there is to know of it.
+/// The help of a command: its purpose in one line, its usage, and the rest of its page.
 #[derive(Clone, Copy)]
 pub(crate) struct Help {
     pub about: &'static str,
@@ -8,7 +8,8 @@ pub(crate) struct Help {
     pub more: &'static str,
 }
 
-/// The version of the program, and by what it is proved.
+/// The text of `--version` after the program's name: the version, and the proof tools that checked
+/// it.
 pub(crate) const VERSION: &str = "0.1.0\n\
     Proved: written in Rattle, Rust with contracts, and checked with\n\
     rattle-kit-13f logic dac8208d650f15bf.";

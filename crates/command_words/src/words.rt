@@ -1,4 +1,4 @@
-//! The command that the words choose.
+//! Reads the words of a command line, and returns the command that they choose.
 #![tactic(auto, unfolding(crate::specs::Tables::app_by))]
 
 ghost use Rattle.std.specs.Prelude.{◌≡◌, ◌∷◌, [], IfErr, IfOk, None, OnOk, Some, codes};
@@ -14,10 +14,15 @@ use crate::shapes::{self, Name};
 use crate::{Chosen, WordsFault};
 use std::alloc::{AllocError, Global};
 
-/// The command that the words choose, which are those after the program's name. The first word names it, and each
-/// value is the one that `clap` reads for it. Faults, in their order: Refused, where `clap` refuses the words, also
-/// where they ask for help; Missing, where there is no command, or a value that it needs isn't there. NoMemory may
-/// stand in place of any answer.
+/// Returns the command that the words choose. They are the words after the program's name. The
+/// first one names the command, and each value is the one that `clap` has for it.
+///
+/// Faults, in this order:
+/// - Refused, if `clap` rejects the words, if they ask for help or the version, or if a report has
+///   both `--csv` and `--json`;
+/// - Missing, if no command is named, or if a value that the command needs is missing.
+///
+/// NoMemory can come instead of any result.
 pub fn chosen<'a>(alloc: Global, words: &'a [&'a str]) -> Result<Chosen<'a>, WordsFault>
     ensures chosen { IfOk result (IsChosen (texts_of words.now)) }
     ensures taken { OnOk result (refusals (texts_of words.now) ≡ []) }
@@ -29,7 +34,7 @@ pub fn chosen<'a>(alloc: Global, words: &'a [&'a str]) -> Result<Chosen<'a>, Wor
     named(alloc, name, words)
 }
 
-/// What the words come to, of which the first is this name.
+/// The command that the first word names, with its values. The name is this first word.
 #[tactic(auto, unfolding(crate::specs::Commands::register_app, crate::specs::Commands::report_app))]
 fn named<'a>(alloc: Global, name: &str, words: &'a [&'a str]) -> Result<Chosen<'a>, WordsFault>
     requires { IsNamed (texts_of words.now) name.now }
@@ -161,7 +166,8 @@ fn copy<'a>(alloc: Global, words: &'a [&'a str]) -> Result<Chosen<'a>, WordsFaul
     })
 }
 
-/// What comes of words that name no command: what `clap` refuses in them, help and the version among it, or Missing.
+/// The fault of words that name no command: `clap`'s error, or its text for help or the version;
+/// Missing if `clap` accepts the words.
 fn no_command<'a>(alloc: Global, words: &'a [&'a str]) -> Result<Chosen<'a>, WordsFault>
     ensures { Chooses None (texts_of words.now) result }
 {
@@ -170,7 +176,7 @@ fn no_command<'a>(alloc: Global, words: &'a [&'a str]) -> Result<Chosen<'a>, Wor
     Err(WordsFault::Missing)
 }
 
-/// The words after the program's name.
+/// The words with the program's name before them, as `clap` takes them.
 fn whole_line<'a>(alloc: Global, words: &[&'a str]) -> Result<Vec<&'a str>, AllocError>
     ensures { IfOk result (λ v. texts_of v.items ≡ codes "pairsalder" ∷ texts_of words.now) }
 {

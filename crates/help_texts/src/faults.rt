@@ -1,8 +1,8 @@
-//! The faults of lines, files and words, and why a command stopped.
+//! Explains the faults of input and arguments, and the reasons why a command stops.
 
 use crate::Meaning;
 
-/// What is wrong with a line, a row of a setup or a count list, a code or a day.
+/// The faults of a line, of a row of a setup or a count list, of a code, and of a day.
 pub(crate) const INPUT_FAULTS: &[Meaning] = &[
     Meaning {
         word: "bad",
@@ -98,7 +98,7 @@ pub(crate) const INPUT_FAULTS: &[Meaning] = &[
     },
 ];
 
-/// Why a command stopped: the words after `fault`.
+/// The reasons why a command stops: the words after `fault`.
 pub(crate) const RUN_FAULTS: &[Meaning] = &[
     Meaning {
         word: "fault",

@@ -1,5 +1,21 @@
-//! The texts of the program's help: what each word that it prints means, and the pages of
-//! `help TOPIC`.
+//! The texts of the help: a page for each topic, and an explanation of each word that is printed.
+//!
+//! [`page_of`] returns the page of a [`Topic`]. A [`Meaning`] explains a word: what it means, its
+//! usual cause, and what to do. [`TABLES`] has all of them, and [`VERDICTS`] those of the verdicts.
+//! [`nearest_word`] finds the word that is nearest to a text, for a user who mistypes one.
+//!
+//! The contracts promise:
+//!
+//! - `nearest_word` returns a word with its distance from the text, and no word of the tables is
+//!   nearer.
+//! - [`Topic::named`] returns the topic of that name, and None only if no topic has it.
+//!
+//! No contract covers the wording of the pages and explanations.
+//!
+//! ```text
+//! let page = page_of(Topic::Setup);
+//! let found = nearest_word(alloc, "notlisted", TABLES)?;
+//! ```
 #![tactic(auto)]
 
 mod faults;

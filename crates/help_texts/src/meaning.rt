@@ -1,12 +1,12 @@
-//! A word that the program prints, explained.
+//! The explanation of a word that the program prints.
 
-/// What a word means. Each text fits a terminal of 80 columns, and has a line feed where it goes on
-/// in a second line.
+/// The explanation of a word. Its lines fit a terminal of 80 columns. A longer text has a line feed
+/// at the break.
 #[derive(Clone, Copy)]
 pub struct Meaning {
     /// The word as it is printed.
     pub word: &'static str,
-    /// What it means, in half a line, without a full stop.
+    /// The meaning, in half a line and without a full stop.
     pub means: &'static str,
     /// Its usual cause.
     pub cause: &'static str,

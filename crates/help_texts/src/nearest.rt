@@ -1,4 +1,4 @@
-//! The explained word that is nearest to a text.
+//! Finds the explained word that is nearest to a text.
 ghost use Rattle.std.specs.Prelude.{◌≡◌, ◌≤◌, ◌⊎◌, All, IfOk, IfSome, Some};
 ghost use Rattle.help_texts.specs.Distances.{IsAsNear, IsFoundBy, IsNoNearer, edits_between};
 ghost use Rattle.help_texts.specs.Distances.{lowered};
@@ -7,15 +7,16 @@ use crate::Meaning;
 use std::alloc::{AllocError, Global};
 use strsim::generic_levenshtein;
 
-/// An explained word, and its distance from a text: how many letters have to be added, dropped or
-/// changed to make one of the other. The case of letters doesn't count.
+/// An explained word, and its distance from a text: the number of bytes to add, drop or change to
+/// turn one into the other. The case of letters is ignored.
 #[derive(Clone, Copy)]
 pub struct Nearest {
     pub meaning: &'static Meaning,
     pub edits: usize,
 }
 
-/// The word that is nearest to the text, of those in the tables. None if the tables have no word.
+/// Returns the word of the tables that is nearest to the text, and its distance. None only if the
+/// tables have no word. Fault: AllocError, if memory runs out.
 pub fn nearest_word(
     alloc: Global,
     text: &str,
@@ -32,7 +33,7 @@ pub fn nearest_word(
     Ok(best)
 }
 
-/// The nearest of the best so far and the words of a table.
+/// The nearest of the best word so far and the words of a table.
 fn nearest_in(
     alloc: Global,
     text: &str,
@@ -52,7 +53,7 @@ fn nearest_in(
     Ok(best)
 }
 
-/// The nearer of two.
+/// The nearer of two words.
 fn nearer(best: Option<Nearest>, next: Nearest) -> Nearest
     ensures one { (result ≡ next) ⊎ (Some result ≡ best) }
     ensures next { result.edits ≤ next.edits }
@@ -73,7 +74,7 @@ fn edits_between(alloc: Global, text: &str, word: &str) -> Result<usize, AllocEr
     generic_levenshtein(alloc, text.as_slice(), word.as_slice())
 }
 
-/// The bytes of a text, with small letters in place of the capitals A to Z.
+/// The bytes of a text, with A to Z in lower case.
 fn lowered(alloc: Global, text: &str) -> Result<Vec<u8>, AllocError>
     ensures { IfOk result (λ bytes. bytes.items ≡ lowered text.now) }
 {

@@ -2,7 +2,8 @@
 
 use crate::Topic;
 
-/// The page of a topic; that of the verdicts without the verdicts, which follow it.
+/// Returns a topic's page. For [`Topic::Verdicts`] this is only the introduction; the caller prints
+/// the verdicts after it.
 pub fn page_of(topic: Topic) -> &'static str {
     match topic {
         Topic::Setup => SETUP,

@@ -1,8 +1,8 @@
-//! The refusals, and what waits: why a message is not on record.
+//! Explains the refusals, and the replies `held`, `refused` and `posted`.
 
 use crate::Meaning;
 
-/// The refusals in the order in which they are checked, and the words of replies beside them.
+/// The refusals, in the order in which they are checked, and then the words of replies.
 pub(crate) const REFUSALS: &[Meaning] = &[
     Meaning {
         word: "UnknownStation",

@@ -1,9 +1,8 @@
-//! The words of answers and reports: where a thing is, how far a loan has come, and what a count
-//! found.
+//! Explains the words of answers and reports.
 
 use crate::Meaning;
 
-/// Where a thing is, and what a station sends next.
+/// The words of where a thing is, and of what a station sends next.
 pub(crate) const ANSWERS: &[Meaning] = &[
     Meaning {
         word: "at",
@@ -61,7 +60,7 @@ pub(crate) const ANSWERS: &[Meaning] = &[
     },
 ];
 
-/// How far a loan and its objects have come.
+/// The states of a loan, and the stages of its objects.
 pub(crate) const STAGES: &[Meaning] = &[
     Meaning {
         word: "Draft",
@@ -119,7 +118,8 @@ pub(crate) const STAGES: &[Meaning] = &[
     },
 ];
 
-/// What `count` answers to a row of a count list, beside UnknownPlace, Unplaced and Missing.
+/// The words that `count` prints, except UnknownPlace, Unplaced and Missing, which are in other
+/// tables.
 pub(crate) const COUNT_ANSWERS: &[Meaning] = &[
     Meaning {
         word: "row",

@@ -1,8 +1,8 @@
-//! The faults of a store, and the lines about one.
+//! Explains the faults of a store, and the lines that commands print about a store.
 
 use crate::Meaning;
 
-/// Why a store is not opened, and what is printed of one that is.
+/// The faults of a store, and the words `copied`, `migrated` and `note`.
 pub(crate) const STORE_FAULTS: &[Meaning] = &[
     Meaning {
         word: "Store",

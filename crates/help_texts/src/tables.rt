@@ -7,7 +7,7 @@ use crate::states::{ANSWERS, COUNT_ANSWERS, STAGES};
 use crate::store_faults::STORE_FAULTS;
 use crate::verdicts::VERDICTS;
 
-/// The tables of all words. No two words differ only in the case of their letters.
+/// All explained words. No two differ only in the case of their letters.
 pub const TABLES: &[&[Meaning]] = &[
     VERDICTS,
     REFUSALS,

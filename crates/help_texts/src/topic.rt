@@ -1,17 +1,17 @@
 //! The topics of the help.
 
-/// A subject with a page of its own.
+/// A subject that has its own page.
 #[derive(Clone, Copy, Debug, PartialEq, Eq)]
 pub enum Topic {
-    /// The rows of a setup, and the codes.
+    /// The rows of a setup, and the form of each code.
     Setup,
     /// The messages and questions of stations.
     Lines,
     /// Count lists, and the answers to them.
     Counts,
-    /// The verdicts of messages.
+    /// The verdicts.
     Verdicts,
-    /// How to keep the files of a record.
+    /// The files of a record: how to back them up, move them and restore them.
     Files,
 }
 
@@ -20,7 +20,7 @@ impl Topic {
     ghost use Rattle.help_texts.specs.declared.topic.Topic.{Topic};
     ghost use Rattle.help_texts.specs.Topics.{topic_name};
 
-    /// The topic of this name; none if no topic has it.
+    /// Returns the topic of this name. None if no topic has it.
     pub fn named(name: &str) -> Option<Topic>
         ensures some { IfSome result (λ topic. topic_name topic ≡ name.now) }
         ensures none { IfNone result ((topic : Topic) → topic_name topic ≢ name.now) }

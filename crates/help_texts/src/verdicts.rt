@@ -1,8 +1,9 @@
-//! The verdicts: how a message that is on record fared.
+//! Explains the verdicts of posted messages.
 
 use crate::Meaning;
 
-/// The verdicts, in the order of their numbers. A message with any but the first changed nothing.
+/// The verdicts, in the order of their numbers. A message changes the record only if its verdict is
+/// the first one, Applied.
 pub const VERDICTS: &[Meaning] = &[
     Meaning {
         word: "Applied",

@@ -1,5 +1,4 @@
-//! What is known about the cause of a fault, and what its user can do: the `help:` line behind the
-//! fault's line.
+//! The `help:` lines about files: the cause of a fault, and what the user can do.
 
 use crate::visible::add_quoted;
 use codes_core::{PlaceCode, ThingCode};
@@ -9,10 +8,11 @@ use nest_core::{SetupFault, field, field_count};
 use std::alloc::{AllocError, Global};
 use std::io::ErrorKind;
 
-/// The text of a `help:` line; none if nothing more is known, or if there is no memory for it.
+/// The text of a `help:` line. None if nothing more is known, or if there is no memory for the
+/// text.
 pub type Advice = Option<String>;
 
-/// On a file that cannot be read.
+/// Returns the advice on a file that cannot be read.
 pub fn on_file(alloc: Global, path: &str, kind: ErrorKind) -> Advice {
     match kind {
         ErrorKind::NotFound => format!(in alloc; "{path} does not exist").ok(),
@@ -22,7 +22,7 @@ pub fn on_file(alloc: Global, path: &str, kind: ErrorKind) -> Advice {
     }
 }
 
-/// On a file that cannot be written.
+/// Returns the advice on a file that cannot be written.
 pub fn on_target(alloc: Global, path: &str, kind: ErrorKind) -> Advice {
     match kind {
         ErrorKind::NotFound => {
@@ -38,7 +38,7 @@ pub fn on_target(alloc: Global, path: &str, kind: ErrorKind) -> Advice {
     }
 }
 
-/// The folder that a path names a file in.
+/// Returns the path of the file's folder.
 pub fn folder_of(path: &str) -> &str {
     match path.rsplit_once('/') {
         Some(("", _)) => "/",
@@ -47,7 +47,7 @@ pub fn folder_of(path: &str) -> &str {
     }
 }
 
-/// On a setup file: the field at fault, and what belongs there.
+/// Returns the advice on a faulty setup file: the field that is wrong, and what it has to be.
 pub fn on_setup(alloc: Global, path: &str, bytes: &[u8], fault: SetupFault) -> Advice {
     let Some(number) = fault.row() else {
         return match fault {
@@ -61,7 +61,7 @@ pub fn on_setup(alloc: Global, path: &str, bytes: &[u8], fault: SetupFault) -> A
     Some(text)
 }
 
-/// On a count list: the field at fault, and what belongs there.
+/// Returns the advice on a faulty count list: the field that is wrong, and what it has to be.
 pub fn on_counts(alloc: Global, path: &str, bytes: &[u8], fault: CountFault) -> Advice {
     let Some(number) = fault.row() else {
         return on_encoding(alloc, path);
@@ -72,13 +72,12 @@ pub fn on_counts(alloc: Global, path: &str, bytes: &[u8], fault: CountFault) -> 
     Some(text)
 }
 
-/// On a file that is not UTF-8.
+/// The advice on a file that is not UTF-8.
 fn on_encoding(alloc: Global, path: &str) -> Advice {
     format!(in alloc; "{path} is not UTF-8 text: save it as CSV in UTF-8").ok()
 }
 
-/// Row `number` of the bytes, from 1, as `csv` gives it; none if there is no such row, or no memory
-/// for it.
+/// Row `number` of the bytes, counted from 1. None if there is no such row, or if memory runs out.
 fn row(alloc: Global, bytes: &[u8], number: u64) -> Option<ByteRecord> {
     let mut reader = ReaderBuilder::new()
         .has_headers(false)
@@ -127,7 +126,7 @@ fn add_on_setup_row(
     }
 }
 
-/// The fields that a row of a kind has.
+/// The fields of a row of this kind.
 fn shape(kind: &[u8]) -> &'static str {
     match str::from_utf8(kind) {
         Ok("station") => "station,NAME",
@@ -138,7 +137,7 @@ fn shape(kind: &[u8]) -> &'static str {
     }
 }
 
-/// Appends which of a setup row's codes is wrong, and how one looks.
+/// Appends which code of a setup row is wrong, and the form that it has to have.
 fn add_bad_code(text: &mut String, row: &ByteRecord) -> Result<(), AllocError> {
     let (at, wanted) = match str::from_utf8(field(row, 0)) {
         Ok("station") => (1, "a station's name: 1 to 16 of A-Z, a-z, 0-9 and -"),
@@ -151,10 +150,10 @@ fn add_bad_code(text: &mut String, row: &ByteRecord) -> Result<(), AllocError> {
     add_unlike(text, row, at, wanted)
 }
 
-/// How a place's code looks.
+/// The form of a place's code.
 const PLACE: &str = "a place's code such as S1 or S1-A";
 
-/// Whether it is an own object's code.
+/// Whether this is an own object's code.
 fn is_own(code: ThingCode) -> bool {
     matches!(code.kind(), codes_core::ThingKind::Own)
 }
@@ -181,7 +180,7 @@ fn add_on_count_row(
     }
 }
 
-/// Appends that a field is not what it has to be.
+/// Appends a field, and what it has to be.
 fn add_unlike(
     text: &mut String,
     row: &ByteRecord,
@@ -209,7 +208,7 @@ fn add_fields(text: &mut String, row: &ByteRecord) -> Result<(), AllocError> {
     Ok(())
 }
 
-/// Appends which separator the file needs, if the row seems to have another one.
+/// Appends that the fields need commas, if the row seems to have semicolons or tabs.
 fn add_separator(text: &mut String, row: &ByteRecord) -> Result<(), AllocError> {
     if field(row, 0).contains(&b';') || field(row, 0).contains(&b'\t') {
         return text.push_str("; separate the fields by commas");

@@ -1,4 +1,4 @@
-//! What the program does with its words.
+//! Does the command that the words choose.
 
 use crate::copying::copied;
 use crate::explain::explain;
@@ -20,10 +20,12 @@ use std::io::{BufRead, Write};
 use std::sync::Wait;
 use std::thread::Threads;
 
-/// Does what the words after the program's name say or, if there are none, reads a setup and lines
-/// from the input and writes the replies to the output. Returns the exit status: 0 if it is done,
-/// or if help was asked for; 1 after a fault, whose line goes to the errors, and if a strict replay
-/// met a line that was not applied; 2 for a usage error.
+/// Does the command that the words choose. They are the words after the program's name. If there
+/// are none, reads a setup and lines from the input, and writes the replies to the output.
+///
+/// Returns the exit status: 0 if the command is done or help was printed; 1 after a fault, or if a
+/// strict replay met a line that was not applied; 2 for a usage error. A fault's line goes to
+/// `errors`. `S` and `U` stand for the contents of the files of the store, and of a copy.
 pub fn command<
     T: Threads + Wait + Sync + Copy + Send + 'static,
     S: Start,
@@ -58,17 +60,17 @@ pub fn command<
     }
 }
 
-/// How a command that met no fault ends.
+/// How a command without a fault ends.
 #[derive(Clone, Copy, PartialEq, Eq)]
 enum Ending {
-    /// It is done.
+    /// The command is done.
     Done,
-    /// It is done, and a strict replay met a line that was not applied.
+    /// The command is a strict replay. It is done, but a line was bad, refused or not applied.
     NotApplied,
 }
 
-/// Flushes the output, writes the fault's line or the notes of a command that met none, and returns
-/// the status.
+/// Flushes the output, writes the fault's line or, if there is no fault, the notes, and returns the
+/// exit status.
 fn noted_status<W: Write, E: Write>(
     ended: Result<Ending, CommandFault>,
     notes: &str,
@@ -89,7 +91,8 @@ fn noted_status<W: Write, E: Write>(
     }
 }
 
-/// Flushes the output, writes the fault's line, and returns the status.
+/// Flushes the output, writes the fault's line if there is a fault, and returns the exit status. An
+/// output that cannot be flushed is a fault, too.
 pub(crate) fn status<W: Write, E: Write>(
     ended: Result<(), CommandFault>,
     output: &mut W,
@@ -105,7 +108,8 @@ pub(crate) fn status<W: Write, E: Write>(
     fault.status()
 }
 
-/// Tells why the words choose no command: help goes to the output, all else to the errors.
+/// Prints why the words choose no command, and returns the exit status. Help and the version go to
+/// the output, everything else to `errors`.
 pub(crate) fn refuse<W: Write, E: Write>(
     alloc: Global,
     words: &[&str],
@@ -131,8 +135,12 @@ pub(crate) fn refuse<W: Write, E: Write>(
     }
 }
 
-/// Does the command. Faults are found in this order: a day, a code or a number among the words; the
-/// setup; the count list; the store and its opening; the command's own.
+/// Does the command. Faults, in this order:
+/// - Day, Code or Number, for an argument of a report;
+/// - those of the setup's file, and of the setup;
+/// - those of the count list, or of the stations' files;
+/// - those of opening the store;
+/// - those of the command itself.
 fn perform<
     T: Threads + Wait + Sync + Copy + Send + 'static,
     S: Start,
@@ -200,7 +208,7 @@ fn perform<
     Ok(Ending::Done)
 }
 
-/// A replay with its options.
+/// The arguments of a replay.
 #[derive(Clone, Copy)]
 struct Replay<'a> {
     setup: &'a str,
@@ -209,7 +217,7 @@ struct Replay<'a> {
     strict: bool,
 }
 
-/// Answers the lines of the input, and shows how far it has come if that is wanted.
+/// Answers the lines of the input. If `progress` is wanted, prints the progress to `errors`.
 fn replayed<
     T: Threads + Wait + Sync + Copy + Send + 'static,
     S: Start,
@@ -265,7 +273,7 @@ fn replayed<
     Ok(Ending::Done)
 }
 
-/// Prints the report that a command asks for, but a count.
+/// Prints the report that a command asks for, except a count.
 fn reported<T: Threads + Wait + Sync + Copy + Send + 'static, S: Start, R: BufRead, W: Write>(
     rt: &HostRuntime,
     threads: &T,
@@ -297,7 +305,7 @@ fn reported<T: Threads + Wait + Sync + Copy + Send + 'static, S: Start, R: BufRe
     }
 }
 
-/// Reads the setup and the count list, and checks the list.
+/// Reads the setup and the count list, and prints the report of the count.
 fn counted<T: Threads + Wait + Sync + Copy + Send + 'static, S: Start, R: BufRead, W: Write>(
     rt: &HostRuntime,
     threads: &T,
@@ -331,9 +339,10 @@ fn counted<T: Threads + Wait + Sync + Copy + Send + 'static, S: Start, R: BufRea
     }
 }
 
-/// Serves the files, the first as that of the setup's first station, and prints the log, after a
-/// fault the log up to it. The faults, in order: the setup's file, and the setup; how many files
-/// there are; the files; the store's file, and its opening; those of serving.
+/// Serves the files, one for each station in the setup's order, and prints the log. After a fault
+/// it prints the log up to the fault. Faults, in this order: those of the setup's file, and of the
+/// setup; Feeds, if there are more or fewer files than stations; those of the files; those of
+/// opening the store; those of serving.
 fn served<T: Threads + Wait + Sync + Copy + Send + 'static, S: Start, R: BufRead, W: Write>(
     rt: &HostRuntime,
     threads: &T,
@@ -366,8 +375,8 @@ fn served<T: Threads + Wait + Sync + Copy + Send + 'static, S: Start, R: BufRead
     }
 }
 
-/// Migrates the store, and says so. The faults, in order: the setup's file, and the setup; the
-/// store's file; those of migrating it.
+/// Migrates the store, and prints `migrated`. Faults, in this order: those of the setup's file, and
+/// of the setup; those of opening the store; those of migrating it.
 fn migrated<T: Threads + Wait + Sync + Copy + Send + 'static, S: Start, R: BufRead, W: Write>(
     rt: &HostRuntime,
     threads: &T,

@@ -1,4 +1,4 @@
-//! A backup of a store in one file.
+//! Copies a store to one new file, and checks the copy.
 ghost use Rattle.std.specs.Prelude.{◌≡◌, IfOk, IsTrue};
 ghost use Rattle.sqlite_std_file.specs.File.{file_is_usable};
 ghost use Rattle.nest_core.specs.SetupRows.{museum_of, rows_of};
@@ -18,13 +18,23 @@ use std::io::{ErrorKind, Write};
 use std::os::unix::fs::OpenOptionsExt;
 use std::{fs, io};
 
-/// Copies the record of a store to a new file, and prints how many entries it has. The store is
-/// opened, so that the whole record is checked, and closed, so that its database file alone has the
-/// record. The bytes of that file are written beside the target, synced, opened again and compared;
-/// only then does the copy get the target's name. The faults, in order: the setup's file, and the
-/// setup; File, if the target or a log beside it exists; those of opening the store; File, if the
-/// copy cannot be written or is not the same. `S` and `U` stand for what the files of the store,
-/// and of the copy, hold.
+/// Copies the record of a store to a new file, and prints how many entries it has.
+///
+/// Opening the store checks the whole record. Closing it brings the whole record into the database
+/// file. The bytes of that file are written to a part file beside the target, and synced. The part
+/// file is opened as a store and compared with the record. Only then is it renamed to the target.
+///
+/// Faults, in this order:
+/// - those of the setup's file, and of the setup;
+/// - File, if the target exists, or a log beside it;
+/// - those of opening the store, of checking its record, and of closing it;
+/// - File, if the part file cannot be written; Store, if the store cannot be read;
+/// - those of opening the part file as a store; File, if its record differs;
+/// - File, if the part file cannot be renamed;
+/// - WriteFailed, if the number of entries cannot be printed. The copy is complete then.
+///
+/// NoMemory can come instead of any of them. `S` and `U` stand for the contents of the files of the
+/// store, and of the copy.
 pub fn copied<S: Start, U: Start, W: Write>(
     rt: &HostRuntime,
     setup: &str,
@@ -52,8 +62,8 @@ pub fn copied<S: Start, U: Start, W: Write>(
     writeln!(output, "copied {count} {noun}").map_err(|_| CommandFault::WriteFailed)
 }
 
-/// Opens a hub over the register, closes it again, and returns its ledger with the store's two
-/// files, which stay locked.
+/// Opens a hub over the register, and closes it. Returns its ledger and the store's two files,
+/// which stay locked.
 fn closed<S: Start>(
     rt: &HostRuntime,
     path: &str,
@@ -76,7 +86,7 @@ fn closed<S: Start>(
     }
 }
 
-/// Fails if the target exists, or a log beside it, which would be taken for the copy's.
+/// Fails if the target exists, or a log beside it. The log would be taken for the copy's.
 fn refuse_target(rt: &HostRuntime, to: &str) -> Result<(), CommandFault> {
     let alloc = rt.alloc();
     let log = format!(in alloc; "{to}-wal")?;
@@ -92,8 +102,8 @@ fn refuse_target(rt: &HostRuntime, to: &str) -> Result<(), CommandFault> {
     Ok(())
 }
 
-/// Writes the database file's bytes to the part file and syncs it. The returned file is locked, so
-/// that no other copy writes it.
+/// Writes the bytes of the database file to the part file, and syncs it. The returned file is
+/// locked, so that no other copy writes to it.
 fn write_part<S: Start>(
     rt: &HostRuntime,
     store: &str,
@@ -115,8 +125,8 @@ fn write_part<S: Start>(
     }
 }
 
-/// Opens an empty part file, which only those can read who can read the store. One that a copy left
-/// which was cut short is taken, and its log removed.
+/// Opens an empty part file, with the store's permissions if they can be set. A part file that an
+/// interrupted copy left behind is reused, and its log is removed.
 fn open_part(rt: &HostRuntime, store: &str, part: &str) -> Result<File, CommandFault> {
     let alloc = rt.alloc();
     let opened = OpenOptions::new()
@@ -140,8 +150,8 @@ fn open_part(rt: &HostRuntime, store: &str, part: &str) -> Result<File, CommandF
     }
 }
 
-/// Empties a part file, and gives it the store's permissions. A file system without permissions, as on
-/// a memory stick, refuses them: then only the owner may read the copy, or whoever may read the stick.
+/// Empties the part file, and gives it the store's permissions. A file system without permissions,
+/// for example on a memory stick, cannot set them. The copy then keeps the permissions that it has.
 fn emptied(rt: &HostRuntime, store: &str, file: &File) -> io::Result<()> {
     file.set_len(0)?;
     if let Ok(found) = fs::metadata(rt, store) {
@@ -150,7 +160,7 @@ fn emptied(rt: &HostRuntime, store: &str, file: &File) -> io::Result<()> {
     Ok(())
 }
 
-/// Opens the copy and compares its record with the ledger.
+/// Opens the part file as a store, and compares its record with the ledger.
 fn compare<U: Start>(
     rt: &HostRuntime,
     part: &str,
@@ -177,12 +187,12 @@ fn compare<U: Start>(
     }
 }
 
-/// On a copy that does not have the same record.
+/// The advice on a copy that differs from the record.
 fn on_difference(rt: &HostRuntime, part: &str) -> Advice {
     format!(in rt.alloc(); "{part} is not what was written: its disk cannot be trusted").ok()
 }
 
-/// Gives the copy its name, and syncs the folder.
+/// Renames the part file to the target, and syncs the folder.
 fn publish(rt: &HostRuntime, part: &str, to: &str) -> Result<(), CommandFault> {
     refuse_target(rt, to)?;
     match renamed(rt, part, to) {

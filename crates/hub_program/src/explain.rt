@@ -1,4 +1,4 @@
-//! What a word that the program prints means, and what to do about it.
+//! Explains a word that the program prints.
 
 use crate::advice::Advice;
 use crate::fault::CommandFault;
@@ -7,10 +7,12 @@ use std::alloc::Global;
 use std::io;
 use std::io::Write;
 
-/// How many bytes a text may have to be compared with the words. No word is as long.
+/// The longest text in bytes that is compared with the words. Every word is shorter.
 const LONGEST: usize = 100;
 
-/// Writes what a word means, its usual cause, and what to do. The case of letters doesn't count.
+/// Prints what the word means, its usual cause, and what to do. The case of letters is ignored.
+/// Faults: Name, if the word is not explained; WriteFailed. NoMemory can come instead of any
+/// result.
 pub fn explain<W: Write>(alloc: Global, word: &str, output: &mut W) -> Result<(), CommandFault> {
     let found = if word.len() <= LONGEST {
         nearest_word(alloc, word, TABLES)?
@@ -31,7 +33,7 @@ fn write_meaning<W: Write>(meaning: &Meaning, output: &mut W) -> io::Result<()> 
     writeln!(output, "Do: {}", meaning.action)
 }
 
-/// On a word that isn't explained: the nearest one, if at most half of the letters differ.
+/// The advice on an unknown word: the nearest word, if its distance is at most half of the length.
 fn on_word(alloc: Global, word: &str, nearest: Option<Nearest>) -> Advice {
     match nearest {
         Some(found) if found.edits <= word.len() / 2 => {

@@ -1,4 +1,4 @@
-//! Why a command stopped: a line on standard error, and an exit status.
+//! Why a command stops: a line on standard error, and an exit status.
 
 use crate::advice::Advice;
 use crate::visible::write_on_one_line;
@@ -11,16 +11,16 @@ use std::alloc::{AllocError, AllocFailed};
 use std::io;
 use std::io::Write;
 
-/// Why a command stopped.
+/// Why a command stops.
 #[derive(Drop)]
 pub enum CommandFault {
-    /// A growth was refused.
+    /// A request for memory was refused.
     NoMemory,
     /// The input could not be read.
     ReadFailed,
     /// The output could not be written.
     WriteFailed,
-    /// A named file can't be read, or a target exists already.
+    /// A named file cannot be read, or a copy cannot be written.
     File(Advice),
     /// The setup at the head of the input is too long.
     HeadTooLong,
@@ -28,21 +28,22 @@ pub enum CommandFault {
     Setup(SetupFault, Advice),
     /// The first fault of the count list.
     Counts(CountFault, Advice),
-    /// The store refused, or isn't that of this setup and its list.
+    /// The store failed, or cannot be used with this setup.
     Store(StoreFault, Advice),
-    /// The text after `--on` is no day.
+    /// The text after `--on` is not a day.
     Day(CodeFault),
-    /// A text is no code of a thing, a loan or a place.
+    /// The text is not the code of a thing, a loan or a place.
     Code(CodeFault),
-    /// The text after `--from` is no number.
+    /// The text after `--from` is not a number.
     Number,
-    /// The program prints no word like this.
+    /// The word is not explained.
     Name(Advice),
-    /// The lane of the station of this name gave no end.
+    /// The lines of the station of this name did not come to their end.
     Unfinished(String),
-    /// There are more or fewer feeds than stations.
+    /// There are more or fewer files than stations.
     Feeds,
-    /// There is no command, or not all that it needs, or a text is not UTF-8.
+    /// No command is named, an argument that it needs is missing, or an argument or a variable is
+    /// not UTF-8.
     Words(Advice),
 }
 
@@ -107,7 +108,7 @@ impl From<RunFault> for CommandFault {
 }
 
 impl CommandFault {
-    /// The exit status: 2 where the words aren't right, else 1.
+    /// Returns the exit status: 2 for a usage error, otherwise 1.
     pub fn status(&self) -> u8 {
         match self {
             CommandFault::Day(_)
@@ -120,7 +121,7 @@ impl CommandFault {
         }
     }
 
-    /// Writes the fault's line, and a line of help behind it if more is known.
+    /// Writes the fault's line and, if there is advice, a `help:` line.
     pub fn write<W: Write>(&self, errors: &mut W) -> io::Result<()> {
         self.write_line(errors)?;
         match self.advice() {
@@ -133,7 +134,7 @@ impl CommandFault {
         }
     }
 
-    /// What is known about the cause.
+    /// The text of the `help:` line.
     fn advice(&self) -> Option<&str> {
         match self {
             CommandFault::File(advice)
@@ -173,7 +174,7 @@ impl CommandFault {
     }
 }
 
-/// Writes the line of a fault of a file's row, or of all of it.
+/// Writes the line of a faulty file, with the row if the fault is in one.
 fn write_row<W: Write>(errors: &mut W, what: &str, name: &str, row: Option<u64>) -> io::Result<()> {
     match row {
         Some(row) => writeln!(errors, "fault {what} {name} row {row}"),
@@ -192,7 +193,7 @@ fn write_store<W: Write>(errors: &mut W, fault: StoreFault) -> io::Result<()> {
     }
 }
 
-/// Writes the line of a text that is no code.
+/// Writes the line of a faulty code or day.
 fn write_code<W: Write>(errors: &mut W, what: &str, fault: CodeFault) -> io::Result<()> {
     let name = match fault {
         CodeFault::Empty => "Empty",

@@ -1,4 +1,4 @@
-//! The files that a command names, each read whole.
+//! Reads the files that a command names.
 ghost use Rattle.std.specs.Prelude.{◌≡◌, vec_len, IfOk};
 ghost use Rattle.nest_core.specs.SetupRows.{museum_of, rows_of};
 
@@ -11,13 +11,15 @@ use std::alloc::Global;
 use std::fs;
 use std::io::ErrorKind;
 
-/// The setup in a file.
+/// Returns the setup in a file. Faults, in this order: those of [`read_file`]; Setup, for the
+/// setup's first fault. NoMemory can come instead of any result.
 pub fn read_setup(rt: &HostRuntime, alloc: Global, path: &str) -> Result<Setup, CommandFault> {
     let bytes = read_file(rt, path)?;
     setup_in(alloc, path, bytes.as_slice())
 }
 
-/// The setup in the bytes of a file.
+/// Returns the setup in the bytes of a file. Faults: Setup, for the setup's first fault; NoMemory.
+/// The path is used only for the advice.
 pub fn setup_in(alloc: Global, path: &str, bytes: &[u8]) -> Result<Setup, CommandFault>
     ensures { IfOk result (λ setup. setup ≡ museum_of (rows_of bytes.now)) }
 {
@@ -28,7 +30,8 @@ pub fn setup_in(alloc: Global, path: &str, bytes: &[u8]) -> Result<Setup, Comman
     }
 }
 
-/// The count list in a file.
+/// Returns the rows of the count list in a file. Faults, in this order: those of [`read_file`];
+/// Counts, for the list's first fault. NoMemory can come instead of any result.
 pub fn read_list(
     rt: &HostRuntime,
     alloc: Global,
@@ -45,7 +48,9 @@ pub fn read_list(
     }
 }
 
-/// The feed of each of so many stations, from the files.
+/// Returns a feed for each station, in the order of the files. Faults, in this order: Feeds, if
+/// there are more or fewer files than stations; those of [`read_file`]. NoMemory can come instead
+/// of any result.
 pub fn read_feeds(
     rt: &HostRuntime,
     stations: u32,
@@ -63,7 +68,7 @@ pub fn read_feeds(
     Ok(feeds)
 }
 
-/// The bytes of a file.
+/// Returns the bytes of a file. Faults: File, if it cannot be read; NoMemory.
 pub fn read_file(rt: &HostRuntime, path: &str) -> Result<Vec<u8>, CommandFault> {
     match fs::read(rt, path) {
         Ok(bytes) => Ok(bytes),

@@ -1,4 +1,4 @@
-//! The page of a topic, and the help of a command.
+//! Prints the page of a topic, or the help of a command.
 
 use crate::command::{refuse, status};
 use crate::fault::CommandFault;
@@ -8,8 +8,8 @@ use help_texts::{Topic, VERDICTS, page_of};
 use std::alloc::Global;
 use std::io::Write;
 
-/// Prints the page of a topic. For the name of a command it does what that command does with
-/// `--help`, and without any name what the program does with `--help`. Returns the exit status.
+/// Prints the page of a topic. For the name of a command this is the same as the command with
+/// `--help`, and without a name the same as the program with `--help`. Returns the exit status.
 pub fn help<W: Write, E: Write>(
     alloc: Global,
     name: Option<&str>,
@@ -25,7 +25,7 @@ pub fn help<W: Write, E: Write>(
     }
 }
 
-/// Prints the help that the words ask for.
+/// Prints the help that the words ask for, and returns the exit status.
 fn help_by<W: Write, E: Write>(
     alloc: Global,
     words: &[&str],

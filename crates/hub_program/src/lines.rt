@@ -1,4 +1,4 @@
-//! Codes, days and lines as text.
+//! Turns codes and days into text, and writes lines.
 ghost use Rattle.std.specs.Prelude.{◌<◌, length, IfSome};
 
 use crate::fault::CommandFault;
@@ -7,7 +7,7 @@ use nest_core::{PlaceNo, Setup, ThingNo};
 use std::alloc::Global;
 use std::io::Write;
 
-/// A place's code, where there is a place.
+/// Returns the place's code, None if there is no place.
 pub fn place_text_if(
     alloc: Global,
     setup: &Setup,
@@ -21,26 +21,26 @@ pub fn place_text_if(
     }
 }
 
-/// A place's code.
+/// Returns the place's code.
 pub fn place_text(alloc: Global, setup: &Setup, place: PlaceNo) -> Result<String, NoMemory>
     requires { place < length setup.now.places }
 {
     Ok(String::from_str(alloc, setup.place_code(place).as_str())?)
 }
 
-/// A partner's code.
+/// Returns the code of the partner's place.
 pub fn partner_text(alloc: Global, partner: &PlaceCode) -> Result<String, NoMemory> {
     Ok(String::from_str(alloc, partner.as_str())?)
 }
 
-/// A thing's code.
+/// Returns the thing's code.
 pub fn thing_text(alloc: Global, setup: &Setup, thing: ThingNo) -> Result<String, NoMemory>
     requires { thing < length setup.now.things }
 {
     Ok(String::from_str(alloc, setup.thing_code(thing).as_str())?)
 }
 
-/// Writes a line.
+/// Writes the text as it is. Fault: WriteFailed.
 pub fn write_line<W: Write>(output: &mut W, line: &str) -> Result<(), CommandFault> {
     match output.write_all(line.as_bytes()) {
         Ok(()) => Ok(()),
@@ -48,12 +48,12 @@ pub fn write_line<W: Write>(output: &mut W, line: &str) -> Result<(), CommandFau
     }
 }
 
-/// A loan's code.
+/// Returns the loan's number.
 pub fn loan_text(alloc: Global, loan: &LoanCode) -> Result<String, NoMemory> {
     Ok(String::from_str(alloc, loan.as_str())?)
 }
 
-/// A day.
+/// Returns the day as text: `2024-06-01`.
 pub fn day_text(alloc: Global, day: &Day) -> Result<String, NoMemory> {
     let mut text = String::new(alloc);
     day.write(alloc, &mut text)?;

@@ -1,5 +1,21 @@
-//! The program: it does what its words say, and with none takes a setup and lines from standard
-//! input.
+//! The program `pairsalder`: reads its arguments, does the command that they choose, and exits with
+//! its status.
+//!
+//! `main` reads the arguments with `command_words`, fills in `PAIRSALDER_SETUP` and
+//! `PAIRSALDER_STORE`, and calls [`command`](command::command). This reads the files that the
+//! command names, opens a hub over the store, and does the [`Work`](work::Work). A
+//! [`Report`](report::Report) is printed through a [`Sheet`](sheet::Sheet). A
+//! [`CommandFault`](fault::CommandFault) becomes a line `fault ..`, a line `help: ..` and an exit
+//! status.
+//!
+//! The promises are those of the crates below. The contracts here connect them: `serve` gets one
+//! feed for each station, the hub is up when it starts to work, a copy is compared under the setup
+//! of the record, and every number of a place or a thing that becomes text is one of the setup.
+//!
+//! ```text
+//! $ pairsalder where --setup museum.csv --store museum.db 2001.4.1
+//! 2001.4.1 at S1-A
+//! ```
 #![tactic(auto)]
 
 mod advice;
@@ -37,7 +53,7 @@ use std::sync::Wait;
 use std::thread::Threads;
 use std::{env, io};
 
-/// How many bytes are read of standard input at once, and written to standard output, at most.
+/// The size in bytes of the buffers for standard input and standard output.
 const AT_ONCE: usize = 65_536;
 
 fn main(rt: HostRuntime) -> ExitCode {
@@ -50,7 +66,7 @@ fn main(rt: HostRuntime) -> ExitCode {
     }
 }
 
-/// Why the words can't be had: there is no memory for them, or one isn't UTF-8.
+/// The fault of arguments that cannot be read: out of memory, or one is not UTF-8.
 fn fault_of_words(alloc: Global, error: io::Error) -> CommandFault {
     match error.kind() {
         ErrorKind::OutOfMemory => CommandFault::NoMemory,
@@ -58,7 +74,7 @@ fn fault_of_words(alloc: Global, error: io::Error) -> CommandFault {
     }
 }
 
-/// Does the command between standard input and standard output.
+/// Runs the program on standard input and standard output, and returns the exit status.
 fn on_standard_streams<T: Threads + Wait + Sync + Copy + Send + 'static, S: Start, U: Start>(
     rt: &HostRuntime,
     threads: &T,
@@ -74,7 +90,7 @@ fn on_standard_streams<T: Threads + Wait + Sync + Copy + Send + 'static, S: Star
     between(rt, threads, start, again, &mut input, &mut output)
 }
 
-/// Does what the program's words say, between an input and an output.
+/// Runs the program on an input and an output, and returns the exit status.
 fn between<
     T: Threads + Wait + Sync + Copy + Send + 'static,
     S: Start,
@@ -111,7 +127,7 @@ fn between<
     ))
 }
 
-/// The texts after the program's name.
+/// The arguments after the program's name.
 fn texts_given(rt: &HostRuntime) -> Result<Vec<String>, CommandFault> {
     let given = env::args(rt).map_err(|error| fault_of_words(rt.alloc(), error))?;
     let mut texts = Vec::new(rt.alloc());
@@ -121,7 +137,7 @@ fn texts_given(rt: &HostRuntime) -> Result<Vec<String>, CommandFault> {
     Ok(texts)
 }
 
-/// The words that the texts are.
+/// The same arguments, borrowed.
 fn words_of(alloc: Global, texts: &[String]) -> Result<Vec<&str>, CommandFault> {
     let mut words = Vec::new(alloc);
     for text in texts {

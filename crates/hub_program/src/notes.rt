@@ -1,20 +1,19 @@
-//! What the user should know of a command that is done: lines for standard error, each of which
-//! begins with `note: `.
+//! The `note:` lines on standard error after a command that is done.
 
 use crate::visible::add_on_one_line;
 use hub_core::Hub;
 use register_store::Register;
 use std::alloc::AllocError;
 
-/// Appends that a new store was created.
+/// Appends the note about a new store.
 pub fn add_new_store(notes: &mut String, path: &str) -> Result<(), AllocError> {
     notes.push_str("note: new store ")?;
     add_on_one_line(notes, path)?;
     notes.push_str("\n")
 }
 
-/// Appends a line for each station of which messages are still held. Such messages are on no
-/// record.
+/// Appends a note for each station that still has held messages. Held messages are not in the
+/// record, so the user has to send them again.
 pub fn add_held<S: Register>(notes: &mut String, hub: &Hub<S>) -> Result<(), AllocError> {
     for station in 0..hub.ledger().setup().stations() {
         let held = hub.held_count(station);

@@ -1,4 +1,4 @@
-//! How far a replay has come, shown while it runs.
+//! Prints the progress of a replay while it runs.
 ghost use Rattle.std.specs.Prelude.{◌≡◌};
 
 use hub_core::{Outcome, Tally, VERDICTS, Watch};
@@ -8,7 +8,8 @@ use std::io;
 use std::io::Write;
 use std::time::{Clock, Duration, Instant};
 
-/// What a replay has done so far, printed once a second.
+/// A watch that counts the outcomes of a replay. It prints the counts at most once a second, and at
+/// the end.
 #[derive(Drop)]
 pub struct Progress<'a, C, E> {
     clock: &'a C,
@@ -18,10 +19,10 @@ pub struct Progress<'a, C, E> {
     tally: Tally,
 }
 
-/// How many milliseconds go by between two lines.
+/// The least time between two lines, in milliseconds.
 const PAUSE: u128 = 1000;
 
-/// Why a message is not taken, besides that its station is unknown.
+/// The refusals that are counted by name. Messages of an unknown station have a count of their own.
 const REFUSALS: [Refusal; 4] = [
     Refusal::BadNumber,
     Refusal::Double,
@@ -30,7 +31,7 @@ const REFUSALS: [Refusal; 4] = [
 ];
 
 impl<'a, C: Clock, E: Write> Progress<'a, C, E> {
-    /// Nothing is done yet.
+    /// Returns a progress with all counts at 0, which starts its clock now.
     pub fn new(clock: &'a C, errors: E) -> Progress<'a, C, E> {
         let now = Instant::now(clock).ok();
         Progress {
@@ -42,14 +43,14 @@ impl<'a, C: Clock, E: Write> Progress<'a, C, E> {
         }
     }
 
-    /// Prints a last line, and returns whether every line was applied or answered.
+    /// Prints a last line. Returns whether nothing went wrong, as [`Tally::is_clean`] does.
     pub fn end(&mut self) -> bool {
         let now = Instant::now(self.clock).ok();
         let _ = self.print(now);
         self.tally.is_clean()
     }
 
-    /// Prints a line if a second has gone by since the last one.
+    /// Prints a line if a second has passed since the last one.
     fn print_if_due(&mut self)
         ensures { self.new.tally ≡ self.old.tally }
     {
@@ -66,8 +67,8 @@ impl<'a, C: Clock, E: Write> Progress<'a, C, E> {
         }
     }
 
-    /// `12000 lines, 11000 posted, 700 not applied (NotHere 400, TooDeep 300), 20 held, 3 refused
-    /// (Double 3), 5 bad, 7 questions, 24000 lines a second`.
+    /// Prints `12000 lines, 11000 posted, 700 not applied (NotHere 400, TooDeep 300), 20 held, 3
+    /// refused (Double 3), 5 bad, 7 questions, 24000 lines a second`.
     fn print(&mut self, now: Option<Instant>) -> io::Result<()>
         ensures { self.new.tally ≡ self.old.tally }
     {
@@ -85,13 +86,13 @@ impl<'a, C: Clock, E: Write> Progress<'a, C, E> {
     }
 }
 
-/// So many in this time, by the second.
+/// The count for each second of this time.
 fn a_second(count: u64, time: Duration) -> u64 {
     let millis = u64::try_from(time.as_millis()).unwrap_or(u64::MAX).max(1);
     count.saturating_mul(1000) / millis
 }
 
-/// Writes how many entries are posted, and how many of them were not applied, by verdict.
+/// Writes how many entries were posted, and how many of them were not applied, by verdict.
 fn write_verdicts<E: Write>(errors: &mut E, tally: &Tally) -> io::Result<()> {
     let applied = tally.posted(Verdict::Applied);
     let mut others: u64 = 0;
@@ -111,7 +112,7 @@ fn write_verdicts<E: Write>(errors: &mut E, tally: &Tally) -> io::Result<()> {
     close(errors, others)
 }
 
-/// Writes how many messages are refused, by refusal.
+/// Writes how many messages were refused, by reason.
 fn write_refusals<E: Write>(errors: &mut E, tally: &Tally) -> io::Result<()> {
     let mut refused = tally.unknown_station();
     for refusal in &REFUSALS {
@@ -125,7 +126,8 @@ fn write_refusals<E: Write>(errors: &mut E, tally: &Tally) -> io::Result<()> {
     close(errors, refused)
 }
 
-/// Writes a name with its count if that is above 0. Returns what stands before the next one.
+/// Writes a name with its count, unless the count is 0. Returns the text that goes before the next
+/// name.
 fn write_count<E: Write>(
     errors: &mut E,
     before: &'static str,
@@ -139,7 +141,7 @@ fn write_count<E: Write>(
     Ok(", ")
 }
 
-/// Closes the names, if there are any.
+/// Closes the parenthesis, if one was opened.
 fn close<E: Write>(errors: &mut E, count: u64) -> io::Result<()> {
     if count > 0 {
         write!(errors, ")")

@@ -1,5 +1,4 @@
-//! What a record is asked: of a thing, of a container, of a loan, of a place, of the stations, of
-//! all entries.
+//! Prints the reports on one thing, container, loan or place, on the stations, and on all entries.
 ghost use Rattle.std.specs.Prelude.{◌<◌, length, All};
 
 use crate::fault::CommandFault;
@@ -14,7 +13,7 @@ use report_rows::{AtRow, ContentRow, LoanRow, PostedRow, StationRow, WhereRow};
 use std::alloc::Global;
 use std::io::Write;
 
-/// Prints a row for each station, with the number that it sends next.
+/// Prints a row for each station, with the number that it has to send next.
 pub fn stations<W: Write>(ledger: &Ledger, sheet: &mut Sheet<'_, W>) -> Result<(), CommandFault> {
     sheet.head::<StationRow>()?;
     for station in 0..ledger.setup().stations() {
@@ -45,12 +44,13 @@ fn last_entry(posted: &[PostedEntry], station: StationNo) -> Option<&PostedEntry
     posted.iter().rev().find(|entry| entry.station() == station)
 }
 
-/// Whether an entry is its station's sign-off.
+/// Whether the entry is a sign-off.
 fn signs_off(entry: &PostedEntry) -> bool {
     matches!(entry.message().as_message(), Some(Message::SignOff { .. }))
 }
 
-/// The place of a thing, and the containers that it is in.
+/// Prints a row with the place of a thing and the containers that it is in. The row has the state
+/// `unknown` if the setup does not have the thing, and `unplaced` if the thing has no place.
 pub fn whereabouts<W: Write>(
     ledger: &Ledger,
     code: &ThingCode,
@@ -94,7 +94,7 @@ fn chain_texts(alloc: Global, ledger: &Ledger, thing: ThingNo) -> Result<Vec<Str
     thing_texts(alloc, ledger.setup(), chain.as_slice())
 }
 
-/// The codes of things, in their order.
+/// The codes of the things, in the same order.
 fn thing_texts(alloc: Global, setup: &Setup, things: &[ThingNo]) -> Result<Vec<String>, NoMemory>
     requires { All (λ t. t < length setup.now.things) things.now }
 {
@@ -105,8 +105,9 @@ fn thing_texts(alloc: Global, setup: &Setup, things: &[ThingNo]) -> Result<Vec<S
     Ok(texts)
 }
 
-/// A row for each thing in a container, through all levels, ascending, with the containers that it
-/// is in; one that says so where the setup doesn't have the container.
+/// Prints a row for each thing in a container, at any depth, in the setup's order, with the
+/// containers that it is in. If the setup does not have the container, prints one row with the
+/// state `unknown`.
 pub fn contents<W: Write>(
     ledger: &Ledger,
     code: &ThingCode,
@@ -150,6 +151,7 @@ fn content_row(alloc: Global, ledger: &Ledger, thing: ThingNo) -> Result<Content
     })
 }
 
+/// Whether a thing is in a container, at any depth.
 fn is_in(
     alloc: Global,
     ledger: &Ledger,
@@ -161,7 +163,8 @@ fn is_in(
     Ok(ledger.chain(alloc, thing)?.as_slice().contains(&container))
 }
 
-/// A row for each thing whose place is the one with the code, or lies in it, ascending.
+/// Prints a row for each thing at the place with the code, or at a place in it, in the setup's
+/// order.
 pub fn at<W: Write>(
     ledger: &Ledger,
     place: &PlaceCode,
@@ -195,8 +198,8 @@ fn at_row(alloc: Global, ledger: &Ledger, thing: ThingNo) -> Result<AtRow, NoMem
     })
 }
 
-/// How a loan stands, and a row for each of its objects with its stage; one that says so where it
-/// isn't agreed.
+/// Prints the terms of a loan, and a row for each of its objects with its stage. If the loan is not
+/// agreed, prints one row with the state `unknown`.
 pub fn loan<W: Write>(
     ledger: &Ledger,
     loan: &LoanCode,
@@ -211,7 +214,7 @@ pub fn loan<W: Write>(
     sheet.put(&unknown_loan(sheet.alloc, loan)?)
 }
 
-/// The message of an entry that agrees the loan.
+/// The entry's message, if it is the applied agreement of this loan.
 fn agreement_in<'a>(entry: &'a PostedEntry, sought: &LoanCode) -> Option<&'a Message> {
     let message = entry.message().as_message()?;
     match message {
@@ -266,7 +269,7 @@ fn put_loan<W: Write>(
     Ok(())
 }
 
-/// How a loan stands.
+/// The terms of a loan, and its state.
 #[derive(Clone, Copy)]
 struct Terms {
     loan: LoanCode,
@@ -276,7 +279,7 @@ struct Terms {
     last: Day,
 }
 
-/// The line of a loan's terms, which its rows tell in the other forms.
+/// Prints the line of the terms in the plain form. In the other forms each row has the terms.
 fn put_terms<W: Write>(terms: &Terms, sheet: &mut Sheet<'_, W>) -> Result<(), CommandFault> {
     let loan = loan_text(sheet.alloc, &terms.loan)?;
     let state = state_word(terms.state);
@@ -325,7 +328,7 @@ fn stage_word(stage: LineStage) -> &'static str {
     }
 }
 
-/// A row for each entry from this number on.
+/// Prints a row for each entry, from number `from` on.
 pub fn posted<W: Write>(
     ledger: &Ledger,
     from: u64,

@@ -1,4 +1,4 @@
-//! What can be asked of a record.
+//! The reports on a record.
 
 use crate::fault::CommandFault;
 use crate::sheet::Sheet;
@@ -9,32 +9,32 @@ use posting_core::Ledger;
 use std::io::Write;
 use std::thread::Threads;
 
-/// What is asked of a record.
+/// A report on a record.
 #[derive(Drop)]
 pub enum Report {
-    /// How a count list compares with it.
+    /// A count list, compared with the record.
     Count(Vec<CountRow>),
     /// The loans that are overdue on a day.
     Overdue(Day),
-    /// The own objects that aren't at their normal places.
+    /// The own objects that aren't at their normal locations.
     Away,
-    /// A thing's spots.
+    /// The places where a thing has been.
     History(ThingCode),
     /// The number that each station has to send next.
     Stations,
-    /// A thing's place and containers.
+    /// A thing's place, and the containers that it is in.
     Where(ThingCode),
-    /// What is in a container.
+    /// The things in a container.
     Contents(ThingCode),
     /// A loan's terms, its state and the stages of its objects.
     Loan(LoanCode),
-    /// What is at a place.
+    /// The things at a place.
     At(PlaceCode),
     /// The entries from this number on.
     Posted(u64),
 }
 
-/// Prints the report.
+/// Prints the report on the record of this ledger.
 pub fn print<T: Threads + Sync, W: Write>(
     threads: &T,
     ledger: &Ledger,

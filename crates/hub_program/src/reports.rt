@@ -1,4 +1,5 @@
-//! The reports: of a count list, of overdue loans, of what is away, and of where a thing was.
+//! Prints the reports on a count list, on overdue loans, on objects that are away, and on where a
+//! thing has been.
 ghost use Rattle.std.specs.Prelude.{◌<◌, All, length};
 ghost use Rattle.count_core.specs.Counts.{IsAnswerIn, IsMissingIn};
 ghost use Rattle.count_core.specs.Reports.{IsAwayIn};
@@ -15,8 +16,8 @@ use std::alloc::Global;
 use std::io::Write;
 use std::thread::Threads;
 
-/// A row for each row of the count list with its answer, then one for each object that the list
-/// misses.
+/// Prints a row with an answer for each row of the count list, and then a row for each object that
+/// is missing from it.
 pub fn count<T: Threads + Sync, W: Write>(
     threads: &T,
     ledger: &Ledger,
@@ -67,7 +68,7 @@ fn counted_row(
     })
 }
 
-/// A thing's code, where there is one.
+/// A thing's code, None if there is no thing.
 fn code_if(alloc: Global, code: Option<ThingCode>) -> Result<Option<String>, NoMemory> {
     match code {
         Some(code) => Ok(Some(String::from_str(alloc, code.as_str())?)),
@@ -75,7 +76,7 @@ fn code_if(alloc: Global, code: Option<ThingCode>) -> Result<Option<String>, NoM
     }
 }
 
-/// What is said to a row of a count list.
+/// The word for an answer to a row of a count list.
 fn answer_word(answer: CountAnswer) -> &'static str {
     match answer {
         CountAnswer::UnknownPlace => "UnknownPlace",
@@ -113,7 +114,7 @@ fn missing_row(alloc: Global, setup: &Setup, missing: MissingObject) -> Result<C
     })
 }
 
-/// A row for each overdue loan, with its last day.
+/// Prints a row for each loan that is overdue on the day, with its last day.
 pub fn overdue<W: Write>(
     ledger: &Ledger,
     on: Day,
@@ -144,7 +145,7 @@ fn overdue_row(alloc: Global, loan: &LoanCode, last: &Day) -> Result<OverdueRow,
     })
 }
 
-/// A row for each own object that isn't at its normal place.
+/// Prints a row for each own object that isn't at its normal location.
 pub fn away<W: Write>(ledger: &Ledger, sheet: &mut Sheet<'_, W>) -> Result<(), CommandFault> {
     sheet.head::<AwayRow>()?;
     let objects = count_core::away(sheet.alloc, ledger)?;
@@ -174,7 +175,8 @@ fn away_row(alloc: Global, setup: &Setup, away: AwayObject) -> Result<AwayRow, N
     })
 }
 
-/// A row for each spot of a thing; none for a thing that the setup doesn't have.
+/// Prints a row for each place where a thing has been. Prints none if the setup does not have the
+/// thing.
 pub fn history<W: Write>(
     ledger: &Ledger,
     code: &ThingCode,

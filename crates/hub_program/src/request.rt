@@ -1,11 +1,11 @@
-//! The report that the words ask for.
+//! Makes a report of the command that asks for it.
 
 use crate::fault::CommandFault;
 use crate::report::Report;
 use codes_core::{Day, LoanCode, PlaceCode, ThingCode};
 use command_words::{Chosen, Format};
 
-/// The record that a report is wanted of, and the form of its rows.
+/// The record that a report is about, and the form in which it is printed.
 #[derive(Clone, Copy)]
 pub struct Asked<'a> {
     pub setup: &'a str,
@@ -13,7 +13,8 @@ pub struct Asked<'a> {
     pub format: Format,
 }
 
-/// The record that a command wants a report of, other than a count.
+/// Returns the record that the command's report is about, and the report's form. Fault: Words, if
+/// the command asks for no report, or for a count.
 pub fn asked_of<'a>(chosen: &Chosen<'a>) -> Result<Asked<'a>, CommandFault> {
     match chosen {
         Chosen::Overdue {
@@ -76,8 +77,8 @@ pub fn asked_of<'a>(chosen: &Chosen<'a>) -> Result<Asked<'a>, CommandFault> {
     }
 }
 
-/// The report that a command wants, other than a count. The faults are those of a day, a code or a
-/// number.
+/// Returns the report that the command asks for. Faults: Day, Code or Number, if the argument is
+/// not in its form; Words, if the command asks for no report, or for a count.
 pub fn report(chosen: &Chosen<'_>) -> Result<Report, CommandFault> {
     Ok(match chosen {
         Chosen::Overdue { on, .. } => Report::Overdue(day(on)?),
@@ -109,7 +110,7 @@ fn place(text: &str) -> Result<PlaceCode, CommandFault> {
     PlaceCode::parse(text.as_bytes()).map_err(CommandFault::Code)
 }
 
-/// The number of an entry, 1 if none is named.
+/// The number of the first entry to list: 1 if none is named.
 fn number(text: Option<&str>) -> Result<u64, CommandFault> {
     match text {
         None => Ok(1),

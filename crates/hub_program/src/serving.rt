@@ -1,4 +1,4 @@
-//! All stations served at once over one record, and the log that is printed of it.
+//! Serves all stations at once, and prints the log.
 ghost use Rattle.std.specs.Prelude.{◌≡◌, false, length, vec_len, All};
 ghost use Rattle.serve_core.specs.Logs.{AreOfStations, IsPlacedReply};
 ghost use Rattle.serve_core.specs.Sending.{IsOneOf};
@@ -16,8 +16,9 @@ use std::io::Write;
 use std::sync::Wait;
 use std::thread::Threads;
 
-/// Serves with a hub, prints the log, after a fault the log up to it, and returns the hub's
-/// register. Messages that are still held at the end are added to the notes.
+/// Serves the feeds with the hub, and prints the log. After a fault it prints the log up to the
+/// fault. Messages that are still held at the end are added to the notes. Returns the hub's
+/// register, and the fault if there is one.
 pub fn served<T: Threads + Wait + Copy + Send + 'static, S: Register, W: Write>(
     alloc: Global,
     threads: &T,
@@ -46,8 +47,8 @@ pub fn served<T: Threads + Wait + Copy + Send + 'static, S: Register, W: Write>(
     }
 }
 
-/// The reply to each line of a log, in its order, as a replay prints it; `STATION line K bad FAULT`
-/// for a faulty line. The ledger is that after the log.
+/// Writes the reply to each line of the log, in its order, as a replay prints it. A faulty line is
+/// written as `STATION line K bad FAULT`. The ledger is the one after the log.
 fn write_log<W: Write>(
     alloc: Global,
     ledger: &Ledger,
@@ -66,7 +67,7 @@ fn write_log<W: Write>(
     Ok(())
 }
 
-/// Why a serving stopped, with the station's name where its lane gave no end.
+/// The command's fault for a fault of serving.
 fn told_fault(alloc: Global, setup: &Setup, fault: ServeFault) -> CommandFault
     requires { IsOneOf (length setup.now.stations) fault }
 {

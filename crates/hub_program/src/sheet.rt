@@ -1,4 +1,4 @@
-//! Where a report is printed, and in which form.
+//! Writes the rows of a report, in the form that is asked for.
 
 use crate::fault::CommandFault;
 use crate::lines::write_line;
@@ -7,7 +7,7 @@ use report_rows::{Row, csv_heading, csv_line, json_line, plain_line};
 use std::alloc::Global;
 use std::io::Write;
 
-/// An output that takes a report's rows, each in the form that was asked for.
+/// An output for the rows of a report, and the form in which they are written.
 #[derive(Drop)]
 pub struct Sheet<'a, W> {
     pub alloc: Global,
@@ -16,6 +16,7 @@ pub struct Sheet<'a, W> {
 }
 
 impl<'a, W: Write> Sheet<'a, W> {
+    /// Returns a sheet for this form and output. Nothing is written yet.
     pub fn new(alloc: Global, format: Format, output: &'a mut W) -> Sheet<'a, W> {
         Sheet {
             alloc,
@@ -24,7 +25,7 @@ impl<'a, W: Write> Sheet<'a, W> {
         }
     }
 
-    /// Writes the names of the rows' fields, where the form has them.
+    /// Writes the heading, if the form has one.
     pub fn head<R: Row>(&mut self) -> Result<(), CommandFault> {
         match self.format {
             Format::Csv => write_line(self.output, &csv_heading::<R>(self.alloc)?),
@@ -42,7 +43,7 @@ impl<'a, W: Write> Sheet<'a, W> {
         write_line(self.output, &text?)
     }
 
-    /// Writes a line that the plain form has alone.
+    /// Writes a line that only the plain form has.
     pub fn plain(&mut self, line: &str) -> Result<(), CommandFault> {
         match self.format {
             Format::Lines => write_line(self.output, line),

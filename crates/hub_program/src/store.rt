@@ -1,5 +1,4 @@
-//! The two files of a store: what is there before it is opened, how it is closed, and why it cannot
-//! be used.
+//! Opens and closes the two files of a store, and explains why a store cannot be used.
 ghost use Rattle.std.specs.Prelude.{IfOk, IsTrue};
 ghost use Rattle.sqlite_std_file.specs.File.{file_is_usable};
 
@@ -17,19 +16,20 @@ use std::os::unix::fs::MetadataExt;
 /// A register over a store in a file.
 pub type FileRegister<S> = SqlRegister<FileStore<FileFrom<S>>>;
 
-/// What a command does with a path that has no store yet.
+/// What a command does if the path has no store yet.
 #[derive(Clone, Copy, PartialEq, Eq)]
 pub enum Begins {
-    /// It starts a new record there.
+    /// Starts a new record.
     Record,
-    /// It answers Store, and creates nothing.
+    /// Fails with Store, and creates nothing.
     Nothing,
-    /// It answers OtherVersion, and creates nothing: a new store is of no version yet.
+    /// Fails with OtherVersion, and creates nothing. A store that does not exist has no version to
+    /// migrate.
     NoVersion,
 }
 
 impl Begins {
-    /// The fault of a path that has no store.
+    /// The fault for a path that has no store.
     fn fault(self) -> StoreFault {
         match self {
             Begins::NoVersion => StoreFault::OtherVersion,
@@ -38,10 +38,16 @@ impl Begins {
     }
 }
 
-/// Opens the store in a file, and says whether it is new. The faults, first that holds: Store, if
-/// the database file is missing and its log is there; for a command that begins no record, Store or
-/// OtherVersion, if the file is missing or empty; that of the opening; for such a command Store, if
-/// the database has no record. No file is created or changed for a command that begins no record.
+/// Opens the store in a file. Returns its register, and whether the store is new.
+///
+/// Faults, in this order:
+/// - Store, if the database file is missing but its log is there;
+/// - Store or OtherVersion, for a command that begins no record, if the database file is missing or
+///   empty, and there is no log with entries;
+/// - those of opening the database, and of reading whether it has a record;
+/// - Store, for [`Begins::Nothing`], if it has none.
+///
+/// NoMemory can come instead of any result. A command that begins no record creates no store.
 pub fn open<S: Start>(
     rt: &HostRuntime,
     path: &str,
@@ -68,7 +74,7 @@ pub fn open<S: Start>(
     }
 }
 
-/// The fault with which a command ends once it has closed the store.
+/// Closes the store after a fault, and returns the fault with which the command ends.
 pub fn closed_with<S: Start>(
     rt: &HostRuntime,
     path: &str,
@@ -81,7 +87,7 @@ pub fn closed_with<S: Start>(
     }
 }
 
-/// Looks at the two files of a store before they are opened, and refuses those that are not to be
+/// Checks the two files of a store before they are opened, and rejects those that must not be
 /// touched. Returns whether there is a log.
 fn look(rt: &HostRuntime, path: &str, begins: Begins) -> Result<bool, CommandFault> {
     let alloc = rt.alloc();
@@ -105,24 +111,25 @@ fn look(rt: &HostRuntime, path: &str, begins: Begins) -> Result<bool, CommandFau
     Err(CommandFault::Store(begins.fault(), advice))
 }
 
-/// On a database without a record.
+/// The advice on a database without a record.
 fn on_no_record(alloc: Global, path: &str) -> Advice {
     format!(in alloc; "{path} has no record yet: replay and serve start one").ok()
 }
 
-/// The length of a file in bytes; none if there is no such file.
+/// The length of a file in bytes. None if there is no such file.
 fn length(rt: &HostRuntime, path: &str) -> Option<u64> {
     match fs::metadata(rt, path) {
         Ok(found) => Some(found.len()),
         Err(error) if error.kind() == ErrorKind::NotFound => None,
-        // something is there: opening it says what
+        // Something is there, and opening it reports the cause.
         Err(_) => Some(u64::MAX),
     }
 }
 
-/// Closes a store, after which its database file alone has the record, and removes the empty log.
-/// Returns how the command ended; a command that met no fault ends with the fault of closing, if
-/// there is one.
+/// Closes the store, and removes its log. If this succeeds, the database file has the whole record.
+/// Returns `ended`, with two exceptions: if it has no fault and closing fails, returns the fault of
+/// closing; if it is Store without advice, returns Store with the cause as advice, if that is
+/// known.
 pub fn close<S: Start>(
     rt: &HostRuntime,
     path: &str,
@@ -147,8 +154,9 @@ pub fn close<S: Start>(
     }
 }
 
-/// Closes a store, and returns its two files. Its database file alone has the record, and stays
-/// locked until it is dropped; its log is empty, and has no name any more.
+/// Closes the store, removes the name of its log, and returns its two files. The database file has
+/// the whole record, and stays locked until it is dropped. The log is empty. Faults: NoMemory, or
+/// that of closing.
 pub fn files<S: Start>(
     rt: &HostRuntime,
     path: &str,
@@ -168,7 +176,7 @@ pub fn files<S: Start>(
     }
 }
 
-/// Closes a store that refused, and says why it did.
+/// Closes a store that failed, and returns its fault with the cause as advice.
 fn close_refused<S: Start>(
     rt: &HostRuntime,
     path: &str,
@@ -190,7 +198,7 @@ fn close_refused<S: Start>(
     Err(CommandFault::Store(StoreFault::Store, advice))
 }
 
-/// Whether a file is refused because it is no database that can be opened, by whoever tries.
+/// Whether the file cannot be opened because it is not a database, or a damaged one.
 fn is_no_database(error: Error) -> bool {
     matches!(
         error,
@@ -198,8 +206,8 @@ fn is_no_database(error: Error) -> bool {
     )
 }
 
-/// Removes the log of a store that was closed, or the one that was made for a file which is no
-/// database. It is empty, so a log that stays does no harm.
+/// Removes the log of a closed store, or the log that opening created beside a file that is not a
+/// database. The log is empty, so it does no harm if it cannot be removed.
 fn remove_log(rt: &HostRuntime, path: &str) {
     if let Ok(real) = fs::canonicalize(rt, path) {
         if let Ok(log) = format!(in rt.alloc(); "{}-wal", real.as_str()) {
@@ -208,7 +216,7 @@ fn remove_log(rt: &HostRuntime, path: &str) {
     }
 }
 
-/// The fault of a database's error.
+/// The fault for an error of the database.
 fn store_fault(error: Error, advice: Advice) -> CommandFault {
     match fault_of(error) {
         StoreFault::NoMemory => CommandFault::NoMemory,
@@ -216,7 +224,7 @@ fn store_fault(error: Error, advice: Advice) -> CommandFault {
     }
 }
 
-/// Why a database cannot be opened.
+/// The advice on a database that cannot be opened.
 fn on_opening(rt: &HostRuntime, path: &str, error: Error) -> Advice {
     let alloc = rt.alloc();
     match error {
@@ -226,7 +234,7 @@ fn on_opening(rt: &HostRuntime, path: &str, error: Error) -> Advice {
     }
 }
 
-/// On a file that is no database, or one that no store can be.
+/// The advice on a file that is not a database, or that cannot be a store.
 fn on_database(rt: &HostRuntime, path: &str) -> Advice {
     let alloc = rt.alloc();
     if begins_as_database(rt, path) {
@@ -236,7 +244,7 @@ fn on_database(rt: &HostRuntime, path: &str) -> Advice {
     format!(in alloc; "{path} is not an SQLite database").ok()
 }
 
-/// Whether a file begins as a database does.
+/// Whether the file begins like an SQLite database.
 fn begins_as_database(rt: &HostRuntime, path: &str) -> bool {
     let mut first = [0; 16];
     match fs::open(rt, path) {
@@ -245,7 +253,7 @@ fn begins_as_database(rt: &HostRuntime, path: &str) -> bool {
     }
 }
 
-/// Why a path cannot be opened as a database, by what is found there.
+/// The advice on a path that cannot be opened, by what is found there.
 fn on_path(rt: &HostRuntime, path: &str) -> Advice {
     let alloc = rt.alloc();
     let found = match fs::metadata(rt, path) {
@@ -270,7 +278,7 @@ fn on_path(rt: &HostRuntime, path: &str) -> Advice {
     }
 }
 
-/// Why a database cannot be created.
+/// The advice on a database that cannot be created.
 fn on_missing(rt: &HostRuntime, path: &str) -> Advice {
     let alloc = rt.alloc();
     let folder = folder_of(path);
@@ -283,7 +291,7 @@ fn on_missing(rt: &HostRuntime, path: &str) -> Advice {
     }
 }
 
-/// Why a statement failed.
+/// The advice on a statement that failed.
 fn on_statement(alloc: Global, path: &str, error: Error) -> Advice {
     match error {
         Error::SqliteFailure(ErrorCode::DatabaseBusy) => {
@@ -303,7 +311,8 @@ fn on_statement(alloc: Global, path: &str, error: Error) -> Advice {
     }
 }
 
-/// Which table or view of a database is no store's, if one of them is why it is refused.
+/// The advice on a database with a wrong schema: a table or view that no store has, if there is
+/// one.
 fn on_tables<S: Start>(
     alloc: Global,
     path: &str,

@@ -1,10 +1,11 @@
-//! What is wrong with the words of a command line: the `help:` line behind `fault words`.
+//! The `help:` lines about arguments, after `fault words`.
 
 use crate::advice::Advice;
 use command_words::needs::list_missing;
 use std::alloc::{AllocError, Global};
 
-/// On words that name no command, or lack a part of what their command needs.
+/// Returns the advice on words that name no command, or that lack arguments of their command. None
+/// if there are no words.
 pub fn on_missing(alloc: Global, words: &[&str]) -> Advice {
     let command = words.first()?;
     let missing = list_missing(alloc, words).ok()?;
@@ -16,7 +17,7 @@ pub fn on_missing(alloc: Global, words: &[&str]) -> Advice {
     Some(text)
 }
 
-/// On a text that is not UTF-8: an argument, or the value of a variable.
+/// Returns the advice on an argument or a variable that is not UTF-8.
 pub fn on_encoding(alloc: Global, what: &str) -> Advice {
     format!(in alloc; "{what} is not UTF-8 text").ok()
 }
@@ -32,7 +33,7 @@ fn add_needs(text: &mut String, needs: &[&str]) -> Result<(), AllocError> {
     Ok(())
 }
 
-/// How the usage shows an argument.
+/// The argument as the usage shows it.
 fn label(id: &str) -> &'static str {
     match id {
         "setup" => "--setup",

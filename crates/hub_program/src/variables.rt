@@ -1,4 +1,4 @@
-//! The environment variables that stand in for `--setup` and `--store`.
+//! Reads the environment variables that replace a missing `--setup` or `--store`.
 
 use crate::fault::CommandFault;
 use crate::usage::on_encoding;
@@ -6,7 +6,7 @@ use command_words::completion::{FileOption, lacks};
 use std::env;
 use std::env::VarError;
 
-/// The variable that stands in for an option.
+/// The name of the option's variable.
 fn name_of(option: FileOption) -> &'static str {
     match option {
         FileOption::Setup => "PAIRSALDER_SETUP",
@@ -14,8 +14,9 @@ fn name_of(option: FileOption) -> &'static str {
     }
 }
 
-/// The value of the option's variable; none if it is not set. The variable is read only if the
-/// command has the option and the words lack it, so it cannot make any other command fail.
+/// Returns the value of the option's variable, None if it is not set. The variable is read only if
+/// the command has the option and the words lack it, so it cannot make any other command fail.
+/// Faults: Words, if the value is not UTF-8; NoMemory.
 pub fn value_of(
     rt: &HostRuntime,
     words: &[&str],

@@ -1,12 +1,12 @@
-//! Text shown so that no character of it stays invisible, or breaks a line.
+//! Writes text so that every character is visible, or so that it stays on one line.
 
 use std::alloc::AllocError;
 use std::io;
 use std::io::Write;
 
-/// Appends a text in quotes. Printable ASCII and Latin letters are shown as they are. Every other
-/// character is written as `\u{a0}`: blanks that are not the ordinary one, control characters, and
-/// letters of other scripts that look like Latin ones.
+/// Appends the text in quotes. Printable ASCII and Latin letters are kept. Every other character is
+/// written like `\u{a0}`: unusual blanks, control characters, and letters of other scripts, which
+/// may look like Latin ones.
 pub fn add_quoted(text: &mut String, shown: &str) -> Result<(), AllocError> {
     text.push_str("'")?;
     for c in shown.chars() {
@@ -15,7 +15,7 @@ pub fn add_quoted(text: &mut String, shown: &str) -> Result<(), AllocError> {
     text.push_str("'")
 }
 
-/// Appends a text with its control characters written as `\u{a}`.
+/// Appends the text, with control characters written like `\u{a}`.
 pub fn add_on_one_line(text: &mut String, shown: &str) -> Result<(), AllocError> {
     for c in shown.chars() {
         add_char(text, c, !c.is_control())?;
@@ -23,7 +23,7 @@ pub fn add_on_one_line(text: &mut String, shown: &str) -> Result<(), AllocError>
     Ok(())
 }
 
-/// Writes a text with its control characters as `\u{a}`.
+/// Writes the text, with control characters written like `\u{a}`. Fault: that of the writer.
 pub fn write_on_one_line<W: Write>(output: &mut W, shown: &str) -> io::Result<()> {
     for c in shown.chars() {
         if c.is_control() {
@@ -35,7 +35,7 @@ pub fn write_on_one_line<W: Write>(output: &mut W, shown: &str) -> io::Result<()
     Ok(())
 }
 
-/// Appends a character as it is, or by its number.
+/// Appends the character as it is if it is plain, otherwise by its number.
 fn add_char(text: &mut String, c: char, is_plain: bool) -> Result<(), AllocError> {
     if is_plain {
         text.push(c)
@@ -44,7 +44,7 @@ fn add_char(text: &mut String, c: char, is_plain: bool) -> Result<(), AllocError
     }
 }
 
-/// Whether a reader can tell the character from every other.
+/// Whether a reader can tell the character from all others.
 fn is_plain(c: char) -> bool {
     matches!(c, ' '..='~' | 'À'..='Ö' | 'Ø'..='ö' | 'ø'..='ɏ')
 }

@@ -1,4 +1,4 @@
-//! What a command does once its files are read: it opens a hub, does its work, and shuts the store.
+//! Opens a hub over a store, does the work of a command, and closes the store.
 ghost use Rattle.std.specs.Prelude.{◌≡◌, false, length};
 ghost use Rattle.hub_program.specs.Works.{HasFeeds};
 
@@ -20,21 +20,21 @@ use std::io::{BufRead, Write};
 use std::sync::Wait;
 use std::thread::Threads;
 
-/// What is done over a store.
+/// The work of a command on a store.
 #[derive(Drop)]
 pub enum Work {
-    /// Lines are read from the input, and answered.
+    /// Answers the lines of the input.
     Replay,
-    /// A report is printed, its rows in this form.
+    /// Prints a report in this form.
     Print(Report, Format),
-    /// All stations are served, each from its feed, and the log is printed.
+    /// Serves all stations, each from its feed, and prints the log.
     Serve(Vec<TextFeed>),
-    /// The store becomes one of this version.
+    /// Migrates the store to this version.
     Migrate,
 }
 
 impl Work {
-    /// What it does with a path that has no store yet.
+    /// What the work does if the path has no store yet.
     fn begins(&self) -> Begins {
         match self {
             Work::Replay | Work::Serve(_) => Begins::Record,
@@ -44,9 +44,10 @@ impl Work {
     }
 }
 
-/// Does the work over the record in the store, or over an empty register in memory if none is
-/// named. `S` stands for what the store's files hold. What the user should know of work that is
-/// done is added to the notes; they say nothing of work that met a fault.
+/// Does the work on the record in the store. If no store is named, the record is empty, and in
+/// memory. Notes for the user are appended to `notes`; print them only if there is no fault.
+/// Faults, in this order: those of opening the store; those of opening the hub, or of migrating;
+/// those of the work; those of closing the store. `S` stands for the contents of the store's files.
 pub fn over_store<
     T: Threads + Wait + Sync + Copy + Send + 'static,
     S: Start,
@@ -151,7 +152,8 @@ fn in_file<
     }
 }
 
-/// The same over a register of a database, which it gives back.
+/// Does the work on the register of a database. Returns the register, and the fault if there is
+/// one.
 fn connected<
     T: Threads + Wait + Sync + Copy + Send + 'static,
     S: Alter,
@@ -179,7 +181,7 @@ fn connected<
     }
 }
 
-/// Migrates the register's store, and gives the register back.
+/// Migrates the register's store. Returns the register, and the fault if there is one.
 fn migrated<S: Alter>(
     alloc: Global,
     setup: Setup,
@@ -189,7 +191,8 @@ fn migrated<S: Alter>(
     (register, ended.map_err(CommandFault::from))
 }
 
-/// Opens a hub over the register, does the work with it, and gives the register back.
+/// Opens a hub over the register, and does the work. Returns the register, and the fault if there
+/// is one.
 fn over<
     T: Threads + Wait + Sync + Copy + Send + 'static,
     S: Register,
@@ -215,7 +218,7 @@ fn over<
     }
 }
 
-/// Does the work with a hub, and gives the hub's register back.
+/// Does the work with the hub. Returns the hub's register, and the fault if there is one.
 fn done<
     T: Threads + Wait + Sync + Copy + Send + 'static,
     S: Register,
@@ -239,7 +242,7 @@ fn done<
         Work::Replay => replayed(alloc, hub, watch, input, output, notes),
         Work::Print(report, format) => printed(alloc, threads, hub, &report, format, output),
         Work::Serve(feeds) => served(alloc, threads, hub, feeds, output, notes),
-        // what a hub is opened over is of this version
+        // A hub opens only over a store of this version.
         Work::Migrate => (hub.close(), Ok(())),
     }
 }
