@@ -110,7 +110,7 @@ def log_without_its_database(room):
     os.rename(room.store, room.path("kept"))
     run(room, "stations", "museum.db")
     before = names(room)
-    help_line = " is missing and its log museum.db-wal is there: put museum.db back beside it"
+    help_line = " is missing, but its log museum.db-wal exists: restore museum.db"
     commands = {**ASKING, "replay": [], "migrate": [], "copy": ["--to", "to.db"], "serve": ["setup.csv", "setup.csv"]}
     good = len(before["museum.db-wal"]) > 4096
     for command, more in commands.items():
@@ -233,14 +233,14 @@ def foreign_tables(room):
         conn.execute(statement)
         conn.commit()
         conn.close()
-        wanted = refused("museum.db", f" has the {what}, which is not a store's: delete it")
+        wanted = refused("museum.db", f" has the {what}, which does not belong in a store: delete it")
         good &= same(run(room, "stations", "museum.db"), wanted)
     room.made(CRATES)
     conn = sqlite3.connect(room.store)
     conn.execute("DROP TABLE term")
     conn.commit()
     conn.close()
-    return good and same(run(room, "stations", "museum.db"), refused("museum.db", " has other tables than a store, or lacks one"))
+    return good and same(run(room, "stations", "museum.db"), refused("museum.db", " has unexpected or missing tables"))
 
 
 def causes(room):
@@ -266,8 +266,8 @@ def causes(room):
             for capability in (CAP_DAC_OVERRIDE, CAP_DAC_READ_SEARCH):
                 ctypes.CDLL(None).prctl(PR_CAPBSET_DROP, capability, 0, 0, 0)
 
-    rights = " may not be written by you: it has to be writable for questions too"
-    return good and same(run(room, "stations", "museum.db", preexec_fn=bound_by_rights), refused("museum.db", rights))
+    rights = refused("you have no permission to write museum.db", "; reports need it too")
+    return good and same(run(room, "stations", "museum.db", preexec_fn=bound_by_rights), rights)
 
 
 def bounded(limit):
@@ -350,8 +350,8 @@ def setup_and_list(room):
         ("lent,2001.1", "BadCode", "'2001.1' is not the number of a borrowed object such as L1999.7"),
         ("station,MAIN DESK", "BadCode", "'MAIN DESK' is not a station's name: 1 to 16 of A-Z, a-z, 0-9 and -"),
         ("place,B\u00dcRO,inside", "BadCode", "'B\u00dcRO' is not a place's code such as S1 or S1-A"),
-        ("own,1987.12.1,S9", "UnknownNormal", "'S9' is in no row above: list a place before its objects"),
-        ("station,A", "Repeated", "'A' is in a row above too: delete one of them"),
+        ("own,1987.12.1,S9", "UnknownNormal", "'S9' is not listed above: list a place before its objects"),
+        ("station,A", "Repeated", "'A' is listed twice: delete one row"),
     ]
     good = True
     for row, name, help_line in rows:
@@ -387,7 +387,7 @@ def copy(room):
     good &= same(os.listdir(room.path("usb")), ["m.db"]) and same(read(room.path("usb/m.db")), before)
     good &= same(os.stat(room.path("usb/m.db")).st_mode & 0o777, 0o640)
     good &= same(run(room, "stations", "usb/m.db")[0], 0)
-    exists = " exists already: name a file that does not"
+    exists = " already exists: choose another name"
     good &= same(run(room, "copy", "museum.db", "--to", "usb/m.db"), refused("usb/m.db", exists, "file"))
     good &= same(run(room, "copy", "museum.db", "--to", "museum.db"), refused("museum.db", exists, "file"))
     good &= same(run(room, "copy", "museum.db", "--to", "usb"), refused("usb", exists, "file"))

@@ -134,7 +134,7 @@ pub enum WordsFault {
     #[error("{0}")]
     Refused(Error),
     /// Nothing is rejected, but no command is named, or a value that the command needs is missing.
-    #[error("no command, or not everything that it needs")]
+    #[error("no command, or a missing argument")]
     Missing,
     /// A request for memory was refused.
     #[error("out of memory")]

@@ -51,14 +51,14 @@ pub(crate) const CSV: Argument = Argument {
     kind: Kind::Flag,
     id: "csv",
     value: "",
-    help: "Print comma-separated values, under a row of their names",
+    help: "Print comma-separated values with a header",
 };
 
 pub(crate) const JSON: Argument = Argument {
     kind: Kind::Flag,
     id: "json",
     value: "",
-    help: "Print one JSON object a line",
+    help: "Print one JSON object per line",
 };
 
 /// Returns the argument as `clap` takes it.

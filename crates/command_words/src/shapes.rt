@@ -58,7 +58,7 @@ const PROGRESS: Argument = Argument {
     kind: Kind::Flag,
     id: "progress",
     value: "",
-    help: "Tell on standard error, once a second, how far it has come",
+    help: "Print progress on standard error, once a second",
 };
 
 const STRICT: Argument = Argument {
@@ -86,7 +86,7 @@ const DAY: Argument = Argument {
     kind: Kind::Valued,
     id: "on",
     value: "DAY",
-    help: "The day that is asked about, as 2024-06-01",
+    help: "The day to check, for example 2024-06-01",
 };
 
 const TO: Argument = Argument {
@@ -100,7 +100,7 @@ const WORD: Argument = Argument {
     kind: Kind::Word,
     id: "name",
     value: "NAME",
-    help: "A verdict, a refusal or a fault, as NotListed",
+    help: "A word that the program prints, for example NotListed",
 };
 
 const TOPIC: Argument = Argument {
@@ -114,35 +114,35 @@ const THING: Argument = Argument {
     kind: Kind::Word,
     id: "code",
     value: "CODE",
-    help: "A thing's code, as 2001.4.1 or C17",
+    help: "A thing's code, for example 2001.4.1 or C17",
 };
 
 const CONTAINER: Argument = Argument {
     kind: Kind::Word,
     id: "code",
     value: "CODE",
-    help: "A container's code, as C17",
+    help: "A container's code, for example C17",
 };
 
 const LOAN: Argument = Argument {
     kind: Kind::Word,
     id: "code",
     value: "CODE",
-    help: "A loan's code, as LO2024.1",
+    help: "A loan's code, for example LO2024.1",
 };
 
 const PLACE: Argument = Argument {
     kind: Kind::Word,
     id: "place",
     value: "PLACE",
-    help: "A place's code, as S1 or S1-A",
+    help: "A place's code, for example S1 or S1-A",
 };
 
 const FROM: Argument = Argument {
     kind: Kind::Valued,
     id: "from",
     value: "N",
-    help: "The number of the first entry that is listed",
+    help: "The first entry to list",
 };
 
 /// The word that names the command.

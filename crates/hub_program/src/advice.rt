@@ -16,7 +16,7 @@ pub type Advice = Option<String>;
 pub fn on_file(alloc: Global, path: &str, kind: ErrorKind) -> Advice {
     match kind {
         ErrorKind::NotFound => format!(in alloc; "{path} does not exist").ok(),
-        ErrorKind::PermissionDenied => format!(in alloc; "{path} may not be read by you").ok(),
+        ErrorKind::PermissionDenied => format!(in alloc; "you have no permission to read {path}").ok(),
         ErrorKind::IsADirectory => format!(in alloc; "{path} is a folder").ok(),
         _ => format!(in alloc; "{path} cannot be read").ok(),
     }
@@ -32,7 +32,7 @@ pub fn on_target(alloc: Global, path: &str, kind: ErrorKind) -> Advice {
             format!(in alloc; "{path} cannot be written: the disk is full").ok()
         }
         ErrorKind::PermissionDenied | ErrorKind::ReadOnlyFilesystem => {
-            format!(in alloc; "{path} may not be written by you").ok()
+            format!(in alloc; "you have no permission to write {path}").ok()
         }
         _ => format!(in alloc; "{path} cannot be written").ok(),
     }
@@ -113,15 +113,15 @@ fn add_on_setup_row(
         SetupFault::BadCode(_) => add_bad_code(text, row),
         SetupFault::UnknownNormal(_) => {
             add_field(text, row, 2)?;
-            text.push_str(" is in no row above: list a place before its objects")
+            text.push_str(" is not listed above: list a place before its objects")
         }
         SetupFault::Repeated(_) => {
             add_field(text, row, 1)?;
-            text.push_str(" is in a row above too: delete one of them")
+            text.push_str(" is listed twice: delete one row")
         }
         _ => {
             add_field(text, row, 1)?;
-            text.push_str(" is one too many: 64 stations, 10000 places and 100000 things fit")
+            text.push_str(" exceeds the limit of 64 stations, 10000 places and 100000 things")
         }
     }
 }

@@ -94,7 +94,7 @@ fn refuse_target(rt: &HostRuntime, to: &str) -> Result<(), CommandFault> {
         match fs::symlink_metadata(rt, path) {
             Err(error) if error.kind() == ErrorKind::NotFound => {}
             _ => {
-                let advice = format!(in alloc; "{path} exists already: name a file that does not");
+                let advice = format!(in alloc; "{path} already exists: choose another name");
                 return Err(CommandFault::File(advice.ok()));
             }
         }
@@ -189,7 +189,7 @@ fn compare<U: Start>(
 
 /// The advice on a copy that differs from the record.
 fn on_difference(rt: &HostRuntime, part: &str) -> Advice {
-    format!(in rt.alloc(); "{part} is not what was written: its disk cannot be trusted").ok()
+    format!(in rt.alloc(); "{part} differs from the record: the disk may be failing").ok()
 }
 
 /// Renames the part file to the target, and syncs the folder.

@@ -95,7 +95,7 @@ fn look(rt: &HostRuntime, path: &str, begins: Begins) -> Result<bool, CommandFau
     let (database, log) = (length(rt, path), length(rt, &log));
     if database.is_none() && log.is_some() {
         let advice = format!(in alloc;
-            "{path} is missing and its log {path}-wal is there: put {path} back beside it"
+            "{path} is missing, but its log {path}-wal exists: restore {path}"
         );
         return Err(CommandFault::Store(StoreFault::Store, advice.ok()));
     }
@@ -259,7 +259,7 @@ fn on_path(rt: &HostRuntime, path: &str) -> Advice {
     let found = match fs::metadata(rt, path) {
         Ok(found) => found,
         Err(error) if error.kind() == ErrorKind::NotFound => return on_missing(rt, path),
-        Err(_) => return format!(in alloc; "{path} cannot be reached").ok(),
+        Err(_) => return format!(in alloc; "{path} cannot be accessed").ok(),
     };
     if !found.is_file() {
         return format!(in alloc; "{path} is not a file").ok();
@@ -270,10 +270,10 @@ fn on_path(rt: &HostRuntime, path: &str) -> Advice {
     let opened = OpenOptions::new().read(true).write(true).open(rt, path);
     match opened {
         Ok(_) => format!(in alloc;
-            "{path} or its folder cannot be used: look at the files that begin with its name"
+            "{path} cannot be opened: check the permissions of its folder and of {path}*"
         ).ok(),
         Err(_) => format!(in alloc;
-            "{path} may not be written by you: it has to be writable for questions too"
+            "you have no permission to write {path}; reports need it too"
         ).ok(),
     }
 }
@@ -284,7 +284,7 @@ fn on_missing(rt: &HostRuntime, path: &str) -> Advice {
     let folder = folder_of(path);
     match fs::metadata(rt, folder) {
         Ok(found) if found.is_dir() => {
-            format!(in alloc; "{path} cannot be created: its folder may not be written by you").ok()
+            format!(in alloc; "{path} cannot be created: you have no permission to write its folder").ok()
         }
         Ok(_) => format!(in alloc; "{folder} is not a folder").ok(),
         Err(_) => format!(in alloc; "the folder {folder} does not exist").ok(),
@@ -325,11 +325,11 @@ fn on_tables<S: Start>(
         let kind: String = row.get(0).ok()?;
         let name: String = row.get(1).ok()?;
         if !is_ours(&name) {
-            let what = "which is not a store's: delete it";
+            let what = "which does not belong in a store: delete it";
             return format!(in alloc; "{path} has the {kind} {name}, {what}").ok();
         }
     }
-    format!(in alloc; "{path} has other tables than a store, or lacks one").ok()
+    format!(in alloc; "{path} has unexpected or missing tables").ok()
 }
 
 /// Whether a store has a table or an index of this name.
