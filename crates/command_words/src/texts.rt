@@ -19,8 +19,10 @@ pub(crate) const PROGRAM: Help = Help {
         loans.",
     usage: "pairsalder COMMAND [OPTIONS]\n       pairsalder < SESSION",
     more: "\
-'pairsalder help COMMAND' explains a command, with an example. 'pairsalder help
-TOPIC' prints a page on a topic: setup, lines, counts, verdicts or files.
+'pairsalder help COMMAND' explains a command, with an example.
+'pairsalder help TOPIC' prints a page on a topic: setup, lines, counts, verdicts
+or files.
+
 Without arguments, the program reads a session from standard input: a setup, an
 empty line, and then lines. It answers the lines, and keeps nothing.
 
@@ -165,8 +167,8 @@ Prints 'migrated'. A store of version 2 doesn't change.
 Example:
   pairsalder migrate --setup museum.csv --store museum.db
 
-Exit status: 0 the store has version 2; 1 a fault, and the store is unchanged; 2
-a usage error.",
+Exit status: 0 the store has version 2; 1 a fault, and the store is unchanged;
+2 a usage error.",
 };
 
 pub(crate) const COPY: Help = Help {
@@ -228,10 +230,9 @@ pub(crate) const STATIONS: Help = Help {
 For the morning after an import: which station's messages are still missing.
 
 Prints a line for each station: its name, and the number of the message that it
-has to send next. After a signoff the line has 'signed off' instead of the
-number, and after the last number, 999999, it has 'full'. With --csv or --json
-the fields are station, next and signed_off. A station that is signed off or
-full has no next number.
+has to send next. After a signoff it prints 'signed off' instead, and after the
+last number, 999999, 'full'. With --csv or --json the fields are station, next
+and signed_off. A station that is signed off or full has no next number.
 
 Example:
   pairsalder stations --setup museum.csv --store museum.db

@@ -73,7 +73,7 @@ The messages, each with all its keys:
    \"day\":\"2024-05-01\"}
       takes a borrowed object in, under a loan in
   {\"kind\":\"signoff\",\"by\":\"Ann\"}
-      ends the station for ever; a shift ends without a message
+      signs the station off for good. Don't send it at the end of a shift.
 
 A number is lost? Send under it a message about a thing that the setup does not
 list: a move, pack, exit, return or receive. It is recorded as UnknownThing,
@@ -88,8 +88,8 @@ shelves, and writes a row for each thing and each place:
 
   S1-A,2001.4.1     the object was seen at S1-A
   S1-A,C1           a container was seen there
-  S2                the place was looked at, and is empty or has only what
-                    other rows name
+  S2                the place was looked at, and is empty, or holds only
+                    things in other rows
 
 'pairsalder count' answers each row with the first of these that applies:
 

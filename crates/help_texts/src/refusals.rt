@@ -12,9 +12,9 @@ pub(crate) const REFUSALS: &[Meaning] = &[
     },
     Meaning {
         word: "BadNumber",
-        means: "a number is 0, too large, or has a 0 before it",
+        means: "a number is 0, too large, or has a leading 0",
         cause: "a station's n of 0 or above 999999, or a code such as C01 or 2001.04.",
-        action: "write 1 to 999999, without a 0 before it.",
+        action: "write 1 to 999999, without a leading 0.",
     },
     Meaning {
         word: "Double",
@@ -25,7 +25,7 @@ pub(crate) const REFUSALS: &[Meaning] = &[
     },
     Meaning {
         word: "SignedOff",
-        means: "the station has signed off, for ever",
+        means: "the station has signed off for good",
         cause: "a signoff, perhaps at the end of a shift. It is a station's last message.",
         action: "send the message from another station of the setup, under that station's\n\
             next number. A shift ends without a message.",
@@ -34,15 +34,15 @@ pub(crate) const REFUSALS: &[Meaning] = &[
         word: "TooEarly",
         means: "the number is more than 256 above the last one on record",
         cause: "earlier numbers are missing, or the number is mistyped.",
-        action: "send the number that 'pairsalder stations' prints, then this line again. If\n\
-            it is lost, send in its place a move of a thing that the setup does not list.",
+        action: "send the number that 'pairsalder stations' prints, then this line again. If it is\n\
+            lost, send a move of a thing that is not in the setup, under that number.",
     },
     Meaning {
         word: "held",
         means: "the message waits for an earlier number of its station",
         cause: "an earlier line is missing, or could not be read.",
-        action: "send the number that 'pairsalder stations' prints, then this line again. If\n\
-            it is lost, send in its place a move of a thing that the setup does not list.",
+        action: "send the number that 'pairsalder stations' prints, then this line again. If it is\n\
+            lost, send a move of a thing that is not in the setup, under that number.",
     },
     Meaning {
         word: "refused",

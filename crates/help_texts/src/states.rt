@@ -55,7 +55,7 @@ pub(crate) const ANSWERS: &[Meaning] = &[
     Meaning {
         word: "signed off",
         means: "the station has sent its last message",
-        cause: "a signoff, which is for ever and not for the end of a shift.",
+        cause: "a signoff, which is final. It is not for the end of a shift.",
         action: "send from another station of the setup.",
     },
 ];
@@ -124,7 +124,7 @@ pub(crate) const COUNT_ANSWERS: &[Meaning] = &[
     Meaning {
         word: "row",
         means: "the answer to the row of this number in the count list",
-        cause: "each row gets one answer, in the order of the list. Empty rows get none.",
+        cause: "each row gets one answer, in the order of the list. Empty rows get no answer.",
         action: "nothing.",
     },
     Meaning {

@@ -51,7 +51,7 @@ pub const VERDICTS: &[Meaning] = &[
     },
     Meaning {
         word: "InsidePartner",
-        means: "the partner's place is one of the museum's own",
+        means: "the loan's partner is a place of the museum's own",
         cause: "the agree names a place that the setup lists as inside.",
         action: "name a place that the setup lists as elsewhere.",
     },
@@ -128,8 +128,8 @@ pub const VERDICTS: &[Meaning] = &[
         word: "TooDeep",
         means: "a thing would be in more than 12 containers at once",
         cause: "crates in crates, down to the thing or to what is in it.",
-        action: "use fewer crates in one another. A record that was migrated from version 1\n\
-            takes 8.",
+        action: "use fewer crates in one another. The limit is 8 in a record migrated from\n\
+            version 1.",
     },
     Meaning {
         word: "NotWithPartner",
@@ -145,17 +145,17 @@ pub const VERDICTS: &[Meaning] = &[
     },
     Meaning {
         word: "NotListed",
-        means: "an object that would cross is not on the loan",
+        means: "an object that would leave or arrive is not on the loan",
         cause: "it is in the crate, or it is the thing itself, but not in the agree.",
         action: "compare 'pairsalder contents' with 'pairsalder loan'. Move the object out\n\
             of the crate, or agree a loan for it.",
     },
     Meaning {
         word: "WrongStage",
-        means: "an object that would cross has crossed, or cannot yet",
+        means: "an object that would leave or arrive already did, or cannot yet",
         cause: "it left or came back under this loan before, or it has not come yet.",
-        action: "'pairsalder loan' prints each object's stage. Each crosses once each way:\n\
-            for a second journey agree another loan.",
+        action: "'pairsalder loan' prints each object's stage. Each object leaves and returns\n\
+            once per loan: for a second journey agree another loan.",
     },
     Meaning {
         word: "TermOver",
