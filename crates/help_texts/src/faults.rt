@@ -51,7 +51,7 @@ pub(crate) const INPUT_FAULTS: &[Meaning] = &[
     Meaning {
         word: "BadFields",
         means: "the row has too few or too many fields, or a wrong word",
-        cause: "a missing or extra comma, or a place that is neither inside nor elsewhere.",
+        cause: "a missing or extra comma, or a place is neither inside nor elsewhere.",
         action: "correct the row. 'pairsalder help setup' and 'help counts' show each kind.",
     },
     Meaning {
@@ -128,7 +128,7 @@ pub(crate) const RUN_FAULTS: &[Meaning] = &[
     Meaning {
         word: "file",
         means: "a named file cannot be read, or a copy cannot be written",
-        cause: "a mistyped path, missing permission, a full disk, or the copy already exists.",
+        cause: "a mistyped path, missing permission, a full disk, or the copy exists.",
         action: "do what the help: line says. It names the file.",
     },
     Meaning {
@@ -164,7 +164,7 @@ pub(crate) const RUN_FAULTS: &[Meaning] = &[
     Meaning {
         word: "number",
         means: "the text after --from is not a number",
-        cause: "a typing error.",
+        cause: "a typing error, or the number of a message instead of an entry.",
         action: "write the number of an entry, for example --from 100.",
     },
     Meaning {

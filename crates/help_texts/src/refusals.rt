@@ -34,15 +34,15 @@ pub(crate) const REFUSALS: &[Meaning] = &[
         word: "TooEarly",
         means: "the number is more than 256 above the last one on record",
         cause: "earlier numbers are missing, or the number is mistyped.",
-        action: "send the number that 'pairsalder stations' prints, then this line again. If it is\n\
-            lost, send a move of a thing that is not in the setup, under that number.",
+        action: "send the number that 'pairsalder stations' prints, then this line again. If\n\
+            it is lost, send a move of a thing that is not in the setup, under that number.",
     },
     Meaning {
         word: "held",
         means: "the message waits for an earlier number of its station",
         cause: "an earlier line is missing, or could not be read.",
-        action: "send the number that 'pairsalder stations' prints, then this line again. If it is\n\
-            lost, send a move of a thing that is not in the setup, under that number.",
+        action: "send the number that 'pairsalder stations' prints, then this line again. If\n\
+            it is lost, send a move of a thing that is not in the setup, under that number.",
     },
     Meaning {
         word: "refused",

@@ -66,17 +66,17 @@ pub(crate) const STAGES: &[Meaning] = &[
         word: "Draft",
         means: "the loan is agreed, but not authorised",
         cause: "its agree was applied.",
-        action: "send the authorise. Until then nothing can cross.",
+        action: "send the authorise. Until then no object can leave or arrive.",
     },
     Meaning {
         word: "Authorised",
-        means: "the loan may begin; no object has crossed yet",
+        means: "the loan may begin; no object has left or arrived yet",
         cause: "its authorise was applied.",
         action: "send an exit (loan out) or a receive (loan in) for each crate or object.",
     },
     Meaning {
         word: "Running",
-        means: "an object has crossed, and not all are back yet",
+        means: "an object has left or arrived, and not all are back yet",
         cause: "an exit or a receive was applied.",
         action: "watch the last day with 'pairsalder overdue'.",
     },
@@ -88,7 +88,7 @@ pub(crate) const STAGES: &[Meaning] = &[
     },
     Meaning {
         word: "Awaiting",
-        means: "the object has not crossed under this loan yet",
+        means: "the object has not left or arrived under this loan yet",
         cause: "the loan is agreed, and the object is on its list.",
         action: "send its exit (loan out) or its receive (loan in).",
     },
@@ -124,7 +124,7 @@ pub(crate) const COUNT_ANSWERS: &[Meaning] = &[
     Meaning {
         word: "row",
         means: "the answer to the row of this number in the count list",
-        cause: "each row gets one answer, in the order of the list. Empty rows get no answer.",
+        cause: "each row gets one answer, in order. Empty rows get no answer.",
         action: "nothing.",
     },
     Meaning {

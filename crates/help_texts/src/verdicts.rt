@@ -152,7 +152,7 @@ pub const VERDICTS: &[Meaning] = &[
     },
     Meaning {
         word: "WrongStage",
-        means: "an object that would leave or arrive already did, or cannot yet",
+        means: "an object has already left or arrived, or cannot yet",
         cause: "it left or came back under this loan before, or it has not come yet.",
         action: "'pairsalder loan' prints each object's stage. Each object leaves and returns\n\
             once per loan: for a second journey agree another loan.",

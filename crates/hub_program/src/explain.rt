@@ -40,7 +40,7 @@ fn on_word(alloc: Global, word: &str, nearest: Option<Nearest>) -> Advice {
             format!(in alloc; "did you mean {}?", found.meaning.word).ok()
         }
         _ => format!(in alloc;
-            "copy a word of the output, as in 'pairsalder explain NotListed'"
+            "copy a word of the output, for example 'pairsalder explain NotListed'"
         ).ok(),
     }
 }
