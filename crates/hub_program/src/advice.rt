@@ -16,7 +16,9 @@ pub type Advice = Option<String>;
 pub fn on_file(alloc: Global, path: &str, kind: ErrorKind) -> Advice {
     match kind {
         ErrorKind::NotFound => format!(in alloc; "{path} does not exist").ok(),
-        ErrorKind::PermissionDenied => format!(in alloc; "you have no permission to read {path}").ok(),
+        ErrorKind::PermissionDenied => format!(in alloc;
+            "you have no permission to read {path}"
+        ).ok(),
         ErrorKind::IsADirectory => format!(in alloc; "{path} is a folder").ok(),
         _ => format!(in alloc; "{path} cannot be read").ok(),
     }

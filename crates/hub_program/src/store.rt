@@ -284,7 +284,9 @@ fn on_missing(rt: &HostRuntime, path: &str) -> Advice {
     let folder = folder_of(path);
     match fs::metadata(rt, folder) {
         Ok(found) if found.is_dir() => {
-            format!(in alloc; "{path} cannot be created: you have no permission to write its folder").ok()
+            format!(in alloc;
+                "{path} cannot be created: you have no permission to write its folder"
+            ).ok()
         }
         Ok(_) => format!(in alloc; "{folder} is not a folder").ok(),
         Err(_) => format!(in alloc; "the folder {folder} does not exist").ok(),
