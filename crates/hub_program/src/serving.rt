@@ -16,9 +16,13 @@ use std::io::Write;
 use std::sync::Wait;
 use std::thread::Threads;
 
+/// The longest line of a log, an answer with twelve containers, has fewer bytes.
+const LINE_ROOM: usize = 256;
+
 /// Serves the feeds with the hub, and prints the log. After a fault it prints the log up to the
 /// fault. Messages that are still held at the end are added to the notes. Returns the hub's
-/// register, and the fault if there is one.
+/// register, and the fault if there is one. The room for a line is made before the first message is
+/// taken: so printing needs no memory, and what was posted is printed.
 pub fn served<T: Threads + Wait + Copy + Send + 'static, S: Register, W: Write>(
     alloc: Global,
     threads: &T,
@@ -30,9 +34,12 @@ pub fn served<T: Threads + Wait + Copy + Send + 'static, S: Register, W: Write>(
     requires feeds { vec_len feeds ≡ length hub.book.museum.stations }
     requires up { hub.down ≡ false }
 {
+    let Ok(mut text) = String::with_capacity(alloc, LINE_ROOM) else {
+        return (hub.close(), Err(CommandFault::NoMemory));
+    };
     match serve(threads, alloc, hub, feeds) {
         Ok(Served { hub, log }) => {
-            let told = write_log(alloc, hub.ledger(), log.lines(), output);
+            let told = write_log(&mut text, hub.ledger(), log.lines(), output);
             let ended = match told {
                 Ok(()) => add_held(notes, &hub).map_err(CommandFault::from),
                 Err(fault) => Err(fault),
@@ -40,7 +47,7 @@ pub fn served<T: Threads + Wait + Copy + Send + 'static, S: Register, W: Write>(
             (hub.close(), ended)
         }
         Err(ServeFailed { fault, hub, log }) => {
-            let _ = write_log(alloc, hub.ledger(), log.lines(), output);
+            let _ = write_log(&mut text, hub.ledger(), log.lines(), output);
             let fault = told_fault(alloc, hub.ledger().setup(), fault);
             (hub.close(), Err(fault))
         }
@@ -48,9 +55,10 @@ pub fn served<T: Threads + Wait + Copy + Send + 'static, S: Register, W: Write>(
 }
 
 /// Writes the reply to each line of the log, in its order, as a replay prints it. A faulty line is
-/// written as `STATION line K bad FAULT`. The ledger is the one after the log.
+/// written as `STATION line K bad FAULT`. The ledger is the one after the log. The text is used for
+/// each line in turn.
 fn write_log<W: Write>(
-    alloc: Global,
+    text: &mut String,
     ledger: &Ledger,
     lines: &[LogLine],
     output: &mut W,
@@ -58,11 +66,10 @@ fn write_log<W: Write>(
     requires stations { AreOfStations (length ledger.now.museum.stations) lines.now }
     requires placed { All (λ l. IsPlacedReply ledger.now.museum l.reply) lines.now }
 {
-    let mut text = String::new(alloc);
     for line in lines {
         text.clear();
-        add_logged(&mut text, ledger, line)?;
-        write_line(output, &text)?;
+        add_logged(text, ledger, line)?;
+        write_line(output, text)?;
     }
     Ok(())
 }

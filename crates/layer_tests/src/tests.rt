@@ -5,6 +5,7 @@
 //! them is alive. If one ended with its scope, the prover would need 2 to 17 seconds for each
 //! return.
 
+mod agreeing;
 mod codes;
 mod counts;
 mod disks;
@@ -17,6 +18,7 @@ mod migrations;
 mod nest;
 mod objects;
 mod register;
+mod reopening;
 mod sending;
 mod serving;
 mod serving_faults;

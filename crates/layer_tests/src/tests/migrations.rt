@@ -2,7 +2,7 @@
 //! `checks/migrate.py` shows which stores are migrated, and why others aren't.
 
 use super::disks::{Pair, Stops, copied, left_after, new_files};
-use super::sending::{Ended, SETUP, Sent, Task, over_files, run};
+use super::sending::{COUNT, Ended, SETUP, Sent, Task, over_files, run};
 use nest_core::Setup;
 use register_sql::SqlRegister;
 use sqlite::{Alter, Files};
@@ -10,7 +10,7 @@ use sqlite_disk::Disk;
 use std::alloc::Global;
 use std::process::Abort;
 
-/// The tables of a store of version 1 in which the first two of the three messages are posted.
+/// The tables of a store of version 1 in which the first two of the six messages are posted.
 const FIRST: &str = r#"
 CREATE TABLE meta (name TEXT PRIMARY KEY, val INTEGER NOT NULL) STRICT;
 CREATE TABLE setup (id INTEGER PRIMARY KEY, txt TEXT NOT NULL) STRICT;
@@ -72,7 +72,7 @@ fn is_whole_of_first(alloc: Global, files: Pair, setup: &Setup) -> bool {
     }
 }
 
-/// Whether a hub opens over the files, finds the first two messages and posts the third.
+/// Whether a hub opens over the files, finds the first two messages and posts the others.
 fn goes_on(alloc: Global, files: Pair) -> bool {
     match run(alloc, files) {
         Some(ended) => went_on(ended.given),
@@ -80,9 +80,9 @@ fn goes_on(alloc: Global, files: Pair) -> bool {
     }
 }
 
-/// Whether a run found the first two messages and posted the third.
+/// Whether a run found the first two messages and posted the others.
 fn went_on(sent: Sent) -> bool {
-    !sent.stopped && sent.doubles == 2 && sent.posted == 1
+    !sent.stopped && sent.doubles == 2 && sent.posted == COUNT - 2
 }
 
 /// Runs the statements of a text on the store in the files. Returns the files, or None if that

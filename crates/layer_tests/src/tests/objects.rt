@@ -1,5 +1,6 @@
-//! Copies an agreement, with the list of its objects.
-use posting_core::Message;
+//! Copies an agreement, with the list of its objects, and makes the longest list.
+use codes_core::ThingCode;
+use posting_core::{Message, Objects};
 use register_store::{message_text, read_message};
 use std::alloc::Global;
 use std::test::Fail;
@@ -17,5 +18,31 @@ fn copies_and_lists(rt: HostRuntime) -> Result<(), Fail> {
     let copy = copied(rt.alloc())?;
     let text = message_text(rt.alloc(), &copy)?;
     assert!(rt; text.as_str() == AGREEMENT);
+    Ok(())
+}
+
+/// So many codes, from 2000.1 on.
+fn codes(alloc: Global, count: u32) -> Result<Vec<ThingCode>, Fail> {
+    let mut codes = Vec::new(alloc);
+    for k in 1..=count {
+        let text = format!(in alloc; "2000.{k}")?;
+        codes.push(ThingCode::parse(text.as_bytes())?)?;
+    }
+    Ok(codes)
+}
+
+/// Whether so many codes make a list, and whether that, or what is handed back, has each of them.
+fn listed(alloc: Global, count: u32) -> Result<(bool, bool), Fail> {
+    let wanted = codes(alloc, count)?;
+    match Objects::new(codes(alloc, count)?) {
+        Ok(objects) => Ok((true, objects.as_slice() == wanted.as_slice())),
+        Err(back) => Ok((false, back.as_slice() == wanted.as_slice())),
+    }
+}
+
+#[test]
+fn longest_list(rt: HostRuntime) -> Result<(), Fail> {
+    assert!(rt; listed(rt.alloc(), 256)? == (true, true));
+    assert!(rt; listed(rt.alloc(), 257)? == (false, true));
     Ok(())
 }

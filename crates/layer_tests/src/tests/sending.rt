@@ -1,9 +1,10 @@
-//! Sends three messages to a hub over a store.
+//! Sends six messages to a hub over a store.
 
 use hub_core::{Answer, Arrival, Hub, HubFault};
 use nest_core::Setup;
+use posting_core::Verdict;
 use register_sql::SqlRegister;
-use register_store::{Register, read_message};
+use register_store::{PlainRegister, Register, read_message};
 use sqlite::{Alter, Connection, Files, Options};
 use sqlite_disk::Disk;
 use station_core::Refusal;
@@ -19,8 +20,25 @@ const MOVED: &str = r#"{"kind":"move","thing":"C1","place":"S1","day":"2024-05-0
 
 const PACKED: &str = r#"{"kind":"pack","thing":"2001.4.1","container":"C1","day":"2024-05-01"}"#;
 
-/// The three messages, each with its number.
-const MESSAGES: &[(u64, &str)] = &[(1, AGREED), (2, MOVED), (3, PACKED)];
+const AUTHORISED: &str = r#"{"kind":"authorise","loan":"LO2024.1","by":"A. Keeper"}"#;
+
+const EXTENDED: &str = r#"{"kind":"extend","loan":"LO2024.1","last":"2024-06-30"}"#;
+
+/// The crate crosses with the object in it, on a day of the extended term.
+const EXITED: &str = r#"{"kind":"exit","thing":"C1","loan":"LO2024.1","day":"2024-06-15"}"#;
+
+/// The six messages, each with its number. Each is applied.
+const MESSAGES: &[(u64, &str)] = &[
+    (1, AGREED),
+    (2, MOVED),
+    (3, PACKED),
+    (4, AUTHORISED),
+    (5, EXTENDED),
+    (6, EXITED),
+];
+
+/// How many messages there are.
+pub(crate) const COUNT: u64 = 6;
 
 /// The result of a run: how many of the messages it posted, how many had been posted before, and
 /// whether it was stopped.
@@ -92,12 +110,12 @@ fn judged<T: Drop, D: Disk + Drop>(files: Files<D>, given: Option<T>) -> Option<
     }
 }
 
-/// Opens a hub over the files, and sends it the three messages.
+/// Opens a hub over the files, and sends it the six messages.
 pub(crate) fn run<D: Disk + Drop>(alloc: Global, files: Files<D>) -> Option<Ended<Sent, D>> {
     over_files(alloc, files, Sending)
 }
 
-/// Opens a hub over the files, sends it the three messages, and closes the store. A run whose store
+/// Opens a hub over the files, sends it the six messages, and closes the store. A run whose store
 /// can't be closed counts as stopped.
 pub(crate) fn run_and_close<D: Disk + Drop>(
     alloc: Global,
@@ -127,7 +145,7 @@ fn unclosed(sent: Sent) -> Sent {
     }
 }
 
-/// Sends the three messages to a hub over the store.
+/// Sends the six messages to a hub over the store.
 #[derive(Clone, Copy)]
 struct Sending;
 
@@ -144,8 +162,8 @@ impl Task for Sending {
     }
 }
 
-/// Opens a hub over the register, sends it the three messages, and returns the register.
-fn over<R: Register>(alloc: Global, register: R) -> (R, Option<Sent>) {
+/// Opens a hub over the register, sends it the six messages, and returns the register.
+pub(crate) fn over<R: Register>(alloc: Global, register: R) -> (R, Option<Sent>) {
     let Ok(setup) = Setup::read(alloc, SETUP.as_bytes()) else {
         return (register, None);
     };
@@ -158,7 +176,15 @@ fn over<R: Register>(alloc: Global, register: R) -> (R, Option<Sent>) {
     }
 }
 
-/// Sends the three messages. After a fault the hub must be down and return Down. None if anything
+/// Whether the last entry is applied.
+fn is_last_applied<S: Register>(hub: &Hub<S>) -> bool {
+    match hub.posted().last() {
+        Some(entry) => entry.verdict() == Verdict::Applied,
+        None => false,
+    }
+}
+
+/// Sends the six messages. After a fault the hub must be down and return Down. None if anything
 /// else happens.
 fn send_all<S: Register>(alloc: Global, hub: &mut Hub<S>) -> Option<Sent> {
     let mut sent = Sent {
@@ -174,7 +200,9 @@ fn send_all<S: Register>(alloc: Global, hub: &mut Hub<S>) -> Option<Sent> {
             message,
         };
         match hub.arrive(alloc, arrival) {
-            Ok(Answer::Posted { .. }) => sent.posted = sent.posted.saturating_add(1),
+            Ok(Answer::Posted { .. }) if is_last_applied(hub) => {
+                sent.posted = sent.posted.saturating_add(1)
+            }
             Ok(Answer::Refused(Refusal::Double)) => sent.doubles = sent.doubles.saturating_add(1),
             Ok(_) => return None,
             Err(HubFault::Store) if hub.is_down() => sent.stopped = true,
@@ -183,4 +211,17 @@ fn send_all<S: Register>(alloc: Global, hub: &mut Hub<S>) -> Option<Sent> {
         }
     }
     Some(sent)
+}
+
+/// A hub in memory that has the six messages.
+pub(crate) fn sent_in_memory(alloc: Global) -> Option<Hub<PlainRegister>> {
+    let setup = Setup::read(alloc, SETUP.as_bytes()).ok()?;
+    let mut hub = Hub::open(alloc, setup, PlainRegister::new(alloc)).ok()?;
+    let sent = send_all(alloc, &mut hub);
+    if sent.is_some_and(|sent| sent.posted == COUNT) {
+        Some(hub)
+    } else {
+        drop(hub);
+        None
+    }
 }

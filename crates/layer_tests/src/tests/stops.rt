@@ -2,7 +2,7 @@
 //! The store is then opened again, as the program left it and as a crash of the machine leaves it.
 
 use super::disks::{Pair, Stops, left_after, new_files};
-use super::sending::{Sent, run, run_and_close};
+use super::sending::{COUNT, Sent, run, run_and_close};
 use std::alloc::Global;
 use std::process::Abort;
 
@@ -40,7 +40,7 @@ fn goes_on(first: Sent, second: Sent) -> bool {
     !second.stopped
         && second.doubles >= first.posted
         && more <= 1
-        && second.posted.saturating_add(second.doubles) == 3
+        && second.posted.saturating_add(second.doubles) == COUNT
 }
 
 /// Asserts that each posting is there whole, or not at all, after each stop of the log, or of the
