@@ -38,7 +38,7 @@ impl Task for Comparing<'_> {
         alloc: Global,
         mut register: SqlRegister<S>,
     ) -> (S, Option<Compared>) {
-        let compared = compared(alloc, &mut register, self.ledger);
+        let compared = compare(alloc, &mut register, self.ledger);
         (register.into_connection().into_store(), compared)
     }
 
@@ -49,7 +49,7 @@ impl Task for Comparing<'_> {
 
 /// How a register compares with a ledger that has its entries. None if it finds a difference, or
 /// answers again after it has stopped.
-fn compared<R: Register>(alloc: Global, register: &mut R, ledger: &Ledger) -> Option<Compared> {
+fn compare<R: Register>(alloc: Global, register: &mut R, ledger: &Ledger) -> Option<Compared> {
     match register.bind(alloc, ledger.setup()) {
         Ok(_) => {}
         Err(StoreFault::Store) => return Some(Compared::Unbound),
@@ -65,7 +65,7 @@ fn compared<R: Register>(alloc: Global, register: &mut R, ledger: &Ledger) -> Op
 }
 
 /// The comparison over copies of these files, which stop so.
-fn ended(
+fn compare_after(
     alloc: Global,
     files: &Pair,
     ledger: &Ledger,
@@ -84,7 +84,9 @@ fn calls_before(alloc: Global, files: &Pair, ledger: &Ledger, in_log: bool) -> O
     let mut before = 0u64;
     for _ in 0..1_000 {
         let calls = before.saturating_add(STRIDE);
-        if ended(alloc, files, ledger, Stops { in_log, calls })?.given != Compared::Unbound {
+        if compare_after(alloc, files, ledger, Stops { in_log, calls })?.given
+            != Compared::Unbound
+        {
             return Some(before);
         }
         before = calls;
@@ -99,7 +101,7 @@ fn count_stops(alloc: Global, files: &Pair, ledger: &Ledger, in_log: bool) -> Op
     let mut stopped = 0u64;
     for more in 0..10_000u64 {
         let calls = before.saturating_add(more);
-        let Ended { files, given } = ended(alloc, files, ledger, Stops { in_log, calls })?;
+        let Ended { files, given } = compare_after(alloc, files, ledger, Stops { in_log, calls })?;
         if given != Compared::Unbound && !is_kept(alloc, files) {
             return None;
         }
