@@ -35,6 +35,7 @@ mod request;
 mod serving;
 mod sheet;
 mod store;
+mod terminal;
 mod usage;
 mod variables;
 mod visible;
@@ -42,12 +43,13 @@ mod work;
 
 use crate::command::command;
 use crate::fault::CommandFault;
+use crate::terminal::Prompting;
 use crate::usage::on_encoding;
 use crate::variables::value_of;
 use command_words::completion::{FileOption, complete};
 use sqlite::{Start, Unknown};
 use std::alloc::Global;
-use std::io::{BufRead, BufReader, BufWriter, ErrorKind, Write};
+use std::io::{BufRead, BufReader, BufWriter, ErrorKind, IsTerminal, Write};
 use std::process::ExitCode;
 use std::sync::Wait;
 use std::thread::Threads;
@@ -81,7 +83,10 @@ fn on_standard_streams<T: Threads + Wait + Sync + Copy + Send + 'static, S: Star
     start: S,
     again: U,
 ) -> Result<u8, CommandFault> {
-    let mut input = BufReader::with_capacity(rt.alloc(), AT_ONCE, rt.reader()).map_err(
+    let reader = rt.reader();
+    let is_terminal = reader.is_terminal();
+    let prompting = Prompting::new(reader, rt.stderr(), is_terminal);
+    let mut input = BufReader::with_capacity(rt.alloc(), AT_ONCE, prompting).map_err(
         |_| CommandFault::NoMemory,
     )?;
     let mut output = BufWriter::with_capacity(rt.alloc(), AT_ONCE, io::writer(rt)).map_err(
