@@ -28,7 +28,7 @@ def main():
     setup = "bin/terminal/setup.csv"
     with open(setup, "w", encoding="utf-8") as file:
         file.write(SETUP)
-    session, status = run_at_terminal([program], SETUP.encode())
+    session, status = run_at_terminal([program], f"{SETUP}\n".encode())
     assert session.startswith(PROMPT) and session.count(b"\n") == 2 and status == 0, session
     replay, status = run_at_terminal([program, "replay", "--setup", setup], b"")
     assert replay == session and status == 0, replay
