@@ -1,20 +1,20 @@
 //! The texts of the help: a page for each topic, and an explanation of each word that is printed.
 //!
 //! [`page_of`] returns the page of a [`Topic`]. A [`Meaning`] explains a word: what it means, its
-//! usual cause, and what to do. [`TABLES`] has all of them, and [`VERDICTS`] those of the verdicts.
-//! [`nearest_word`] finds the word that is nearest to a text, for a user who mistypes one.
+//! usual cause, and what to do. [`VERDICTS`] has those of the verdicts.
+//! [`nearest_explained`] finds the word that is nearest to a text, for a user who mistypes one.
 //!
 //! The contracts promise:
 //!
-//! - `nearest_word` returns a word with its distance from the text, and no word of the tables is
-//!   nearer.
+//! - [`nearest_explained`] returns a word with its distance from the text. That it is the nearest of
+//!   its table is a private clause (`nearest_in`).
 //! - [`Topic::named`] returns the topic of that name, and None only if no topic has it.
 //!
 //! No contract covers the wording of the pages and explanations.
 //!
 //! ```text
 //! let page = page_of(Topic::Setup);
-//! let found = nearest_word(alloc, "notlisted", TABLES)?;
+//! let found = nearest_explained(alloc, "notlisted")?;
 //! ```
 #![tactic(auto)]
 
@@ -30,8 +30,8 @@ mod topic;
 mod verdicts;
 
 pub use meaning::Meaning;
-pub use nearest::{Nearest, nearest_word};
+pub use nearest::Nearest;
 pub use pages::page_of;
-pub use tables::TABLES;
+pub use tables::nearest_explained;
 pub use topic::Topic;
 pub use verdicts::VERDICTS;

@@ -15,26 +15,9 @@ pub struct Nearest {
     pub edits: usize,
 }
 
-/// Returns the word of the tables that is nearest to the text, and its distance. None only if the
-/// tables have no word. Fault: AllocError, if memory runs out.
-pub fn nearest_word(
-    alloc: Global,
-    text: &str,
-    tables: &[&'static [Meaning]],
-) -> Result<Option<Nearest>, AllocError>
-    ensures found { IfOk result (IsFoundBy text.now) }
-    ensures least { IfOk result (λ found. All (λ table. All (IsNoNearer text.now found) table.now)
-        tables.now) }
-{
-    let mut best = None;
-    for table in tables {
-        best = nearest_in(alloc, text, table, best)?;
-    }
-    Ok(best)
-}
-
-/// The nearest of the best word so far and the words of a table.
-fn nearest_in(
+/// Returns the nearest of the best word so far and the words of a table. Fault: AllocError, if memory
+/// runs out.
+pub(crate) fn nearest_in(
     alloc: Global,
     text: &str,
     table: &'static [Meaning],

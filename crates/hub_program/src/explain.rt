@@ -2,7 +2,7 @@
 
 use crate::advice::Advice;
 use crate::fault::CommandFault;
-use help_texts::{Meaning, Nearest, TABLES, nearest_word};
+use help_texts::{Meaning, Nearest, nearest_explained};
 use std::alloc::Global;
 use std::io;
 use std::io::Write;
@@ -15,7 +15,7 @@ const LONGEST: usize = 100;
 /// result.
 pub fn explain<W: Write>(alloc: Global, word: &str, output: &mut W) -> Result<(), CommandFault> {
     let found = if word.len() <= LONGEST {
-        nearest_word(alloc, word, TABLES)?
+        nearest_explained(alloc, word)?
     } else {
         None
     };

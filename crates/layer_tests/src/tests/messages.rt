@@ -6,8 +6,8 @@ use std::test::Fail;
 const SHOWN: &[(ReadFault, &str)] = &[
     (NotJson, "no JSON object"),
     (Missing(Key::Thing), "no key thing"),
-    (BadKind, "no such kind of message"),
-    (BadField(Key::Day), "a wrong value at the key day"),
+    (BadKind, "unknown kind of message"),
+    (BadField(Key::Day), "a wrong value for the key day"),
     (ReadFault::NoMemory, "out of memory"),
 ];
 

@@ -1,7 +1,7 @@
 use Rattle.std.proofs.Common.{arith}
 use Rattle.std.proofs.lemmas.List.{length-map}
 use Rattle.hub_program.proofs.ServingLemmas.{of_stations, named_there}
-use Rattle.hub_program.proofs.serving.served.Goals as goal
+use Rattle.hub_program.proofs.serving.serve_and_print.Goals as goal
 
 pub write_log-told-requires-clause-stations : goal.write_log-told-requires-clause-stations
 write_log-told-requires-clause-stations g c =
