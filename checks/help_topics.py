@@ -73,7 +73,7 @@ class Pages:
         status, overview, errors = self.run("--help")
         if self.run("help") != (status, overview, errors):
             yield "help isn't --help"
-        if "setup, lines, counts, verdicts, files" not in " ".join(overview.split()):
+        if "setup, lines, counts, verdicts or files" not in " ".join(overview.split()):
             yield "--help doesn't list the topics"
         commands = re.findall(r"^  (\w+)  +\w", overview.partition("Commands:")[2].partition("Options:")[0], re.M)
         for command in commands:
