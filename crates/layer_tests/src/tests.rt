@@ -5,7 +5,6 @@
 //! them is alive. If one ended with its scope, the prover would need 2 to 17 seconds for each
 //! return.
 
-mod agreeing;
 mod codes;
 mod counts;
 mod disks;
