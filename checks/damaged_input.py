@@ -151,7 +151,9 @@ def main():
                 files = shutil.copytree(case, pathlib.Path(room) / "case")
                 for step in sorted(int(path.stem) for path in case.glob("*.args")):
                     runs = Runs(case, step, files)
-                    count["files and words"] += tried(program, runs, each, seed, pool)
+                    # a run whose words are wrong from the start reads no file
+                    if not runs.data(f"{step}.stderr").startswith(b"error: "):
+                        count["files and words"] += tried(program, runs, each, seed, pool)
                     runs.run(program, files)
     print(", ".join(f"{number:,} damages of {kind}" for kind, number in count.items()) + f": all was right, in {time.monotonic() - began:.0f} s")
 
