@@ -20,7 +20,7 @@ endef
 
 all: bin/pairsalder
 
-# Proves the program and all that it stands on, and builds it. What was proved before on this machine is not proved again.
+# Proves and builds the program. Results are cached on each machine.
 bin/pairsalder: $(SOURCES)
 	@mkdir -p bin
 	@RT="$(RT)" packaging/prove.py $@
