@@ -7,13 +7,13 @@ use crate::files::{read_feeds, read_list, read_setup};
 use crate::help::help;
 use crate::lines::write_line;
 use crate::progress::Progress;
-use crate::report::Report;
-use crate::request::{asked_of, report};
+use crate::request::{asked_of, form_of, question_of};
 use crate::usage::on_missing;
 use crate::work::{Work, over_store};
 use command_words::words::chosen;
 use command_words::{Chosen, Format, WordsFault};
 use hub_core::{Tally, run};
+use reports::Question;
 use sqlite::Start;
 use std::alloc::Global;
 use std::io::{BufRead, Write};
@@ -284,7 +284,7 @@ fn reported<T: Threads + Wait + Sync + Copy + Send + 'static, S: Start, R: BufRe
     notes: &mut String,
 ) -> Result<(), CommandFault> {
     let asked = asked_of(chosen)?;
-    let report = report(chosen)?;
+    let question = question_of(chosen)?;
     match read_setup(rt, rt.alloc(), asked.setup) {
         Ok(setup) => over_store(
             rt,
@@ -292,14 +292,14 @@ fn reported<T: Threads + Wait + Sync + Copy + Send + 'static, S: Start, R: BufRe
             setup,
             Some(asked.store),
             start,
-            Work::Print(report, asked.format),
+            Work::Print(question, asked.form),
             &mut Tally::new(),
             input,
             output,
             notes,
         ),
         Err(fault) => {
-            drop(report);
+            drop(question);
             Err(fault)
         }
     }
@@ -326,7 +326,7 @@ fn counted<T: Threads + Wait + Sync + Copy + Send + 'static, S: Start, R: BufRea
             setup,
             Some(store),
             start,
-            Work::Print(Report::Count(rows), format),
+            Work::Print(Question::Count(rows), form_of(format)),
             &mut Tally::new(),
             input,
             output,

@@ -7,6 +7,7 @@ use count_core::CountFault;
 use hub_core::{ReplayFault, RunFault};
 use nest_core::SetupFault;
 use register_store::StoreFault;
+use reports::PrintFault;
 use std::alloc::{AllocError, AllocFailed};
 use std::io;
 use std::io::Write;
@@ -90,6 +91,15 @@ impl From<ReplayFault> for CommandFault {
             ReplayFault::Store => CommandFault::Store(StoreFault::Store, None),
             ReplayFault::ReadFailed => CommandFault::ReadFailed,
             ReplayFault::WriteFailed => CommandFault::WriteFailed,
+        }
+    }
+}
+
+impl From<PrintFault> for CommandFault {
+    fn from(fault: PrintFault) -> CommandFault {
+        match fault {
+            PrintFault::NoMemory => CommandFault::NoMemory,
+            PrintFault::WriteFailed => CommandFault::WriteFailed,
         }
     }
 }

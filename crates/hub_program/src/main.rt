@@ -3,14 +3,13 @@
 //!
 //! `main` reads the arguments with `command_words`, fills in `PAIRSALDER_SETUP` and
 //! `PAIRSALDER_STORE`, and calls [`command`](command::command). This reads the files that the
-//! command names, opens a hub over the store, and does the [`Work`](work::Work). A
-//! [`Report`](report::Report) is printed through a [`Sheet`](sheet::Sheet). A
-//! [`CommandFault`](fault::CommandFault) becomes a line `fault ..`, a line `help: ..` and an exit
-//! status.
+//! command names, opens a hub over the store, and does the [`Work`](work::Work). Reports
+//! are printed by the crate `reports`. A [`CommandFault`](fault::CommandFault) becomes a line
+//! `fault ..`, a line `help: ..` and an exit status.
 //!
 //! The promises are those of the crates below. The contracts here connect them: `serve` gets one
 //! feed for each station, the hub is up when it starts to work, a copy is compared under the setup
-//! of the record, and every number of a place or a thing that becomes text is one of the setup.
+//! of the record, and the output of a report is exactly its text.
 //!
 //! ```text
 //! $ pairsalder where --setup museum.csv --store museum.db 2001.4.1
@@ -28,12 +27,8 @@ mod help;
 mod lines;
 mod notes;
 mod progress;
-mod questions;
-mod report;
-mod reports;
 mod request;
 mod serving;
-mod sheet;
 mod store;
 mod terminal;
 mod usage;

@@ -1,16 +1,16 @@
-//! Makes a report of the command that asks for it.
+//! Turns a command into the question that its report answers.
 
 use crate::fault::CommandFault;
-use crate::report::Report;
 use codes_core::{Day, LoanCode, PlaceCode, ThingCode};
 use command_words::{Chosen, Format};
+use reports::{Form, Question};
 
 /// The record that a report is about, and the form in which it is printed.
 #[derive(Clone, Copy)]
 pub struct Asked<'a> {
     pub setup: &'a str,
     pub store: &'a str,
-    pub format: Format,
+    pub form: Form,
 }
 
 /// Returns the record that the command's report is about, and the report's form. Fault: Words, if
@@ -71,25 +71,34 @@ pub fn asked_of<'a>(chosen: &Chosen<'a>) -> Result<Asked<'a>, CommandFault> {
         } => Ok(Asked {
             setup,
             store,
-            format: *format,
+            form: form_of(*format),
         }),
         _ => Err(CommandFault::Words(None)),
     }
 }
 
-/// Returns the report that the command asks for. Faults: Day, Code or Number, if the argument is
+/// The form of a report.
+pub fn form_of(format: Format) -> Form {
+    match format {
+        Format::Lines => Form::Plain,
+        Format::Csv => Form::Csv,
+        Format::Json => Form::Json,
+    }
+}
+
+/// Returns the question that the command's report answers. Faults: Day, Code or Number, if the argument is
 /// not in its form; Words, if the command asks for no report, or for a count.
-pub fn report(chosen: &Chosen<'_>) -> Result<Report, CommandFault> {
+pub fn question_of(chosen: &Chosen<'_>) -> Result<Question, CommandFault> {
     Ok(match chosen {
-        Chosen::Overdue { on, .. } => Report::Overdue(day(on)?),
-        Chosen::Away { .. } => Report::Away,
-        Chosen::History { code, .. } => Report::History(thing(code)?),
-        Chosen::Stations { .. } => Report::Stations,
-        Chosen::Where { code, .. } => Report::Where(thing(code)?),
-        Chosen::Contents { code, .. } => Report::Contents(thing(code)?),
-        Chosen::Loan { code, .. } => Report::Loan(loan(code)?),
-        Chosen::At { place: code, .. } => Report::At(place(code)?),
-        Chosen::Posted { from, .. } => Report::Posted(number(*from)?),
+        Chosen::Overdue { on, .. } => Question::Overdue(day(on)?),
+        Chosen::Away { .. } => Question::Away,
+        Chosen::History { code, .. } => Question::History(thing(code)?),
+        Chosen::Stations { .. } => Question::Stations,
+        Chosen::Where { code, .. } => Question::Where(thing(code)?),
+        Chosen::Contents { code, .. } => Question::Contents(thing(code)?),
+        Chosen::Loan { code, .. } => Question::Loan(loan(code)?),
+        Chosen::At { place: code, .. } => Question::At(place(code)?),
+        Chosen::Posted { from, .. } => Question::Posted(number(*from)?),
         _ => return Err(CommandFault::Words(None)),
     })
 }

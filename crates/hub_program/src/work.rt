@@ -1,18 +1,18 @@
 //! Opens a hub over a store, does the work of a command, and closes the store.
 ghost use Rattle.std.specs.Prelude.{◌≡◌, false, length};
 ghost use Rattle.hub_program.specs.Works.{HasFeeds};
+ghost use Rattle.reports.specs.Forms.{Prints};
+ghost use Rattle.reports.specs.Reports.{report_text};
 
 use crate::fault::CommandFault;
 use crate::notes::{add_held, add_new_store};
-use crate::report::{Report, print};
 use crate::serving::served;
-use crate::sheet::Sheet;
 use crate::store::{self, Begins};
-use command_words::Format;
 use hub_core::{Hub, Watch, replay_watched};
 use nest_core::Setup;
 use register_sql::SqlRegister;
 use register_store::{PlainRegister, Register};
+use reports::{Form, Question, print};
 use serve_core::TextFeed;
 use sqlite::{Alter, Start};
 use std::alloc::Global;
@@ -25,8 +25,8 @@ use std::thread::Threads;
 pub enum Work {
     /// Answers the lines of the input.
     Replay,
-    /// Prints a report in this form.
-    Print(Report, Format),
+    /// Prints the answer to a question in this form.
+    Print(Question, Form),
     /// Serves all stations, each from its feed, and prints the log.
     Serve(Vec<TextFeed>),
     /// Migrates the store to this version.
@@ -240,7 +240,7 @@ fn done<
 {
     match work {
         Work::Replay => replayed(alloc, hub, watch, input, output, notes),
-        Work::Print(report, format) => printed(alloc, threads, hub, &report, format, output),
+        Work::Print(question, form) => printed(alloc, threads, hub, &question, form, output),
         Work::Serve(feeds) => served(alloc, threads, hub, feeds, output, notes),
         // A hub opens only over a store of this version.
         Work::Migrate => (hub.close(), Ok(())),
@@ -264,19 +264,18 @@ fn replayed<S: Register, V: Watch, R: BufRead, W: Write>(
     (hub.close(), ended)
 }
 
+/// Prints the answer to the question. Nothing else is written to the output.
 fn printed<T: Threads + Sync, S: Register, W: Write>(
     alloc: Global,
     threads: &T,
     hub: Hub<S>,
-    report: &Report,
-    format: Format,
+    question: &Question,
+    form: Form,
     output: &mut W,
-) -> (S, Result<(), CommandFault>) {
-    let ended = print(
-        threads,
-        hub.ledger(),
-        report,
-        &mut Sheet::new(alloc, format, output),
-    );
-    (hub.close(), ended)
+) -> (S, Result<(), CommandFault>)
+    ensures { Prints (W.contents output.old) (W.contents output.new) result.1
+        (report_text form hub.book question.now) }
+{
+    let ended = print(threads, alloc, hub.ledger(), question, form, output);
+    (hub.close(), ended.map_err(CommandFault::from))
 }

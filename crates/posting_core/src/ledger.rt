@@ -4,7 +4,7 @@ ghost use Rattle.std.specs.Option.{option_map};
 ghost use Rattle.nest_core.specs.Puts.{is_among};
 ghost use Rattle.posting_core.specs.Lawful.{Follows, IsLawful};
 ghost use Rattle.posting_core.specs.Messages.{place_no};
-ghost use Rattle.posting_core.specs.History.{put_by, carried_with};
+ghost use Rattle.posting_core.specs.History.{put_by, carried_at, carried_with, holds_at};
 ghost use Rattle.posting_core.specs.Agreements.{agreement, loan_no, loan_by, is_agreed, is_authorised, last_day};
 ghost use Rattle.posting_core.specs.Loans.{line, loan_state};
 ghost use Rattle.posting_core.specs.LoanRows.{line_of, state_of};
@@ -146,6 +146,19 @@ impl Ledger {
         ensures err { OnErr result (0 < length (chain_in self.now thing)) }
     {
         self.nest.chain(alloc, thing)
+    }
+
+    /// A thing and everything in it, in ascending order. Fails with `NoMemory`, but only if
+    /// something is in it. The thing must be in the setup.
+    pub fn carried(&self, alloc: Global, thing: ThingNo) -> Result<ThingNos, NoMemory>
+        requires { thing < length self.now.museum.things }
+        ensures carried { IfOk result
+            (λ carried. carried ≡ carried_at self.now.museum self.now.posted thing) }
+        ensures within { IfOk result (All (λ y. y < length self.now.museum.things)) }
+        ensures gives_up { OnErr result
+            (holds_at self.now.museum self.now.posted thing ≡ true) }
+    {
+        self.nest.carried(alloc, thing)
     }
 
     /// A thing's spots, oldest first. The last is its current location; the others are its former

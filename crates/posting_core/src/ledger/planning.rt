@@ -6,7 +6,7 @@ ghost use Rattle.posting_core.specs.declared.stage.LineStage.TheVariants.{Awaiti
 ghost use Rattle.posting_core.specs.declared.verdict.Verdict.TheVariants.{Applied};
 ghost use Rattle.nest_core.specs.Museum.{is_container};
 ghost use Rattle.posting_core.specs.Messages.{thing_no, day_of};
-ghost use Rattle.posting_core.specs.History.{put_in, put_by, carried_at, carried_with, holds_at, takes_along};
+ghost use Rattle.posting_core.specs.History.{put_in, put_by, carried_with, takes_along};
 ghost use Rattle.posting_core.specs.Loans.{exit_stage};
 ghost use Rattle.posting_core.specs.VerdictNames.{is_applied};
 ghost use Rattle.posting_core.specs.Book.{place_in, spots_in, verdict_in, new_spot, new_spots, new_lines, has_lines};
@@ -23,19 +23,6 @@ use smallvec::SmallVec;
 use std::alloc::Global;
 
 impl Ledger {
-    /// A thing and everything in it, in ascending order. Fails with `NoMemory`, but only if
-    /// something is in it.
-    pub(crate) fn carried(&self, alloc: Global, thing: ThingNo) -> Result<ThingNos, NoMemory>
-        requires { thing < length self.now.museum.things }
-        ensures carried { IfOk result
-            (λ carried. carried ≡ carried_at self.now.museum self.now.posted thing) }
-        ensures within { IfOk result (All (λ y. y < length self.now.museum.things)) }
-        ensures gives_up { OnErr result
-            (holds_at self.now.museum self.now.posted thing ≡ true) }
-    {
-        self.nest.carried(alloc, thing)
-    }
-
     /// Everything that moves with a put, or nothing without a put. `found` is this list, if it was
     /// already gathered. Fails with `NoMemory`, but only if something is in the thing that is put.
     pub(crate) fn carried_with(

@@ -1,3 +1,0 @@
-mod Joining
-mod Pairing
-mod WorkedRows

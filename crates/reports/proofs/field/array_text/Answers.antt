@@ -1,0 +1,13 @@
+use Rattle.std.proofs.Common.{rules, ◌∙◌, ap, map, arith}
+use Rattle.std.proofs.lemmas.List.{take_all}
+use Rattle.std.specs.Prelude.{codes, string_bytes}
+use Rattle.reports.specs.Cells.{quoted}
+use Rattle.reports.proofs.Joins.{joined_alike}
+use Rattle.reports.proofs.field.array_text.Goals as goal
+
+pub returns : goal.returns
+returns c =
+    let xs = c.args.codes.now in
+    let all = c.loop-i.invariant ∙ ap (map quoted) (take_all c.loop-i.i xs (omega arith)) in
+    let joined = joined_alike string_bytes quoted (codes ",") c.loop-i.items.items xs all in
+    search rules

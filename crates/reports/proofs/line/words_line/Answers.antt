@@ -1,0 +1,12 @@
+use Rattle.std.proofs.Common.{rules, map}
+use Rattle.std.specs.List.{filter}
+use Rattle.std.specs.Prelude.{codes, string_bytes}
+use Rattle.reports.specs.Cells.{is_shown, plain_text, cell_of}
+use Rattle.reports.proofs.Joins.{joined_alike}
+use Rattle.reports.proofs.line.words_line.Goals as goal
+
+pub returns : goal.returns
+returns c =
+    let told_words = filter is_shown (map cell_of c.args.words.now) in
+    let joined = joined_alike string_bytes plain_text (codes " ") _ told_words c.in_ok-texts.ensures in
+    search rules

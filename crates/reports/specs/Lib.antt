@@ -1,0 +1,10 @@
+pub mod CountRows
+pub mod Forms
+pub mod Loans
+pub mod Names
+pub mod Reports
+pub mod Stations
+pub mod Terms
+pub mod Texts
+pub mod Things
+pub mod Cells

@@ -1,0 +1,20 @@
+-- Defines the names of each report's columns, in their order.
+use Rattle.std.specs.Prelude.{◌∷◌, [], ℕ, List, codes}
+use Rattle.reports.specs.declared.question.Question.{Question}
+use Rattle.reports.specs.declared.question.Question.TheVariants.{Count, Overdue, Away, History, Stations, Where, Contents, Loan, At, Posted}
+
+abbrev pub names : Question → List (List ℕ)
+names (Count rows) =
+    codes "row" ∷ codes "place" ∷ codes "thing" ∷ codes "answer" ∷ codes "on_record" ∷ []
+names (Overdue day) = codes "loan" ∷ codes "last" ∷ []
+names Away = codes "object" ∷ codes "place" ∷ codes "normal" ∷ []
+names (History code) = codes "entry" ∷ codes "day" ∷ codes "place" ∷ []
+names Stations = codes "station" ∷ codes "next" ∷ codes "signed_off" ∷ []
+names (Where code) = codes "thing" ∷ codes "state" ∷ codes "place" ∷ codes "containers" ∷ []
+names (Contents code) = codes "thing" ∷ codes "state" ∷ codes "containers" ∷ []
+names (Loan code) =
+    codes "loan" ∷ codes "state" ∷ codes "partner" ∷ codes "first" ∷ codes "last"
+    ∷ codes "object" ∷ codes "stage" ∷ []
+names (At place) = codes "thing" ∷ codes "place" ∷ []
+names (Posted from) =
+    codes "entry" ∷ codes "station" ∷ codes "n" ∷ codes "verdict" ∷ codes "message" ∷ []

@@ -1,0 +1,34 @@
+//! Why printing a report stopped.
+
+use codes_core::NoMemory;
+use std::alloc::{AllocError, AllocFailed};
+use thiserror::Error;
+
+/// Why printing a report stopped.
+#[derive(Clone, Copy, Debug, PartialEq, Eq, Error)]
+pub enum PrintFault {
+    /// Out of memory.
+    #[error("out of memory")]
+    NoMemory,
+    /// The writer failed, accepted no byte, or did not accept a line in 4,294,967,295 writes.
+    #[error("the output could not be written")]
+    WriteFailed,
+}
+
+impl From<NoMemory> for PrintFault {
+    fn from(_fault: NoMemory) -> PrintFault {
+        PrintFault::NoMemory
+    }
+}
+
+impl From<AllocError> for PrintFault {
+    fn from(_error: AllocError) -> PrintFault {
+        PrintFault::NoMemory
+    }
+}
+
+impl<T: Drop> From<AllocFailed<T>> for PrintFault {
+    fn from(_error: AllocFailed<T>) -> PrintFault {
+        PrintFault::NoMemory
+    }
+}

@@ -1,0 +1,33 @@
+//! The reports on a record, printed as plain lines, comma-separated values or JSON.
+//!
+//! A [`Question`] is what a report answers, such as the location of a thing or the entries from a
+//! number on. [`print`] writes the answer in a [`Form`]. A [`PrintFault`] says why it stopped.
+//!
+//! The contract of [`print`] promises each byte: what is written is the text that `specs/Reports`
+//! defines for the ledger, the question and the form, and after a fault a front of it. The rows
+//! are made one at a time, as they are printed.
+//!
+//! ```text
+//! print(&rt, alloc, hub.ledger(), &Question::Where(code), Form::Plain, &mut out)?;
+//! // 2001.4.1 at S2 in C2 C1
+//! ```
+//!
+//! A new report takes a variant of [`Question`], the names of its columns, a definition of its
+//! rows in `specs/`, a file in `reports/` that builds them, and an arm in [`print`].
+#![tactic(auto)]
+
+mod fault;
+mod field;
+mod form;
+mod line;
+mod optional_fields;
+mod printing;
+mod question;
+mod reports;
+mod rows;
+mod writing;
+
+pub use fault::PrintFault;
+pub use form::Form;
+pub use printing::print;
+pub use question::{Question, names_of};

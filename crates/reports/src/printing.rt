@@ -1,0 +1,132 @@
+//! Prints a report.
+ghost use Rattle.std.specs.Prelude.{map};
+ghost use Rattle.reports.specs.Forms.{Prints, rows_text};
+ghost use Rattle.reports.specs.Loans.{loan_rows};
+ghost use Rattle.reports.specs.Things.{content_rows};
+ghost use Rattle.reports.specs.Reports.{report_text};
+
+use crate::reports::at::At;
+use crate::reports::away::Away;
+use crate::reports::contents::{Contents, NoContainer};
+use crate::reports::counted::Counted;
+use crate::reports::history::History;
+use crate::reports::loan::{Loan, NoLoan, agreed_terms};
+use crate::reports::overdue::Overdue;
+use crate::reports::posted::Posted;
+use crate::reports::stations::Stations;
+use crate::reports::whereabouts::Whereabouts;
+use crate::rows::print_rows;
+use crate::{Form, PrintFault, Question, names_of};
+use codes_core::{LoanCode, ThingCode};
+use posting_core::Ledger;
+use std::alloc::Global;
+use std::io::Write;
+use std::thread::Threads;
+
+/// Prints the answer to a question about the record in this ledger. `threads` runs the workers that
+/// check a count list.
+///
+/// Fails with `NoMemory` or `WriteFailed`; then a front of the report is written. It takes memory
+/// for one row at a time, and a number for each thing, loan or row of a count list that the report
+/// lists.
+pub fn print<T: Threads + Sync, W: Write>(
+    threads: &T,
+    alloc: Global,
+    ledger: &Ledger,
+    question: &Question,
+    form: Form,
+    out: &mut W,
+) -> Result<(), PrintFault>
+    ensures { Prints (W.contents out.old) (W.contents out.new) result
+        (report_text form ledger.now question.now) }
+{
+    let names = names_of(question);
+    match question {
+        Question::Stations => print_rows(alloc, form, names, &Stations { ledger }, out),
+        Question::Where(code) => {
+            print_rows(
+                alloc,
+                form,
+                names,
+                &Whereabouts {
+                    ledger,
+                    code: *code,
+                },
+                out,
+            )
+        }
+        Question::Posted(from) => {
+            print_rows(
+                alloc,
+                form,
+                names,
+                &Posted {
+                    ledger,
+                    from: *from,
+                },
+                out,
+            )
+        }
+        Question::History(code) => {
+            let rows = History::find(alloc, ledger, code)?;
+            print_rows(alloc, form, names, &rows, out)
+        }
+        Question::Overdue(day) => {
+            let rows = Overdue::find(alloc, ledger, *day)?;
+            print_rows(alloc, form, names, &rows, out)
+        }
+        Question::Away => {
+            let rows = Away::find(alloc, ledger)?;
+            print_rows(alloc, form, names, &rows, out)
+        }
+        Question::At(place) => {
+            let rows = At::find(alloc, ledger, place)?;
+            print_rows(alloc, form, names, &rows, out)
+        }
+        Question::Contents(code) => print_contents(alloc, ledger, code, form, names, out),
+        Question::Count(list) => {
+            let rows = Counted::find(threads, alloc, ledger, list.as_slice())?;
+            print_rows(alloc, form, names, &rows, out)
+        }
+        Question::Loan(code) => print_loan(alloc, ledger, code, form, names, out),
+    }
+}
+
+/// Prints the things in a container, or that the setup doesn't have it.
+fn print_contents<W: Write>(
+    alloc: Global,
+    ledger: &Ledger,
+    code: &ThingCode,
+    form: Form,
+    names: &[&str],
+    out: &mut W,
+) -> Result<(), PrintFault>
+    ensures { Prints (W.contents out.old) (W.contents out.new) result
+        (rows_text form (map (λ n. n.now) names.now) (content_rows ledger.now code.now)) }
+{
+    match ledger.setup().thing(code) {
+        None => print_rows(alloc, form, names, &NoContainer { code: *code }, out),
+        Some(container) => {
+            let rows = Contents::find(alloc, ledger, container)?;
+            print_rows(alloc, form, names, &rows, out)
+        }
+    }
+}
+
+/// Prints a loan, or that it isn't agreed.
+fn print_loan<W: Write>(
+    alloc: Global,
+    ledger: &Ledger,
+    code: &LoanCode,
+    form: Form,
+    names: &[&str],
+    out: &mut W,
+) -> Result<(), PrintFault>
+    ensures { Prints (W.contents out.old) (W.contents out.new) result
+        (rows_text form (map (λ n. n.now) names.now) (loan_rows ledger.now form code.now)) }
+{
+    match agreed_terms(ledger.posted(), code) {
+        None => print_rows(alloc, form, names, &NoLoan { code: *code }, out),
+        Some(terms) => print_rows(alloc, form, names, &Loan { ledger, terms }, out),
+    }
+}
