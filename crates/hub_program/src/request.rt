@@ -1,4 +1,4 @@
-//! Makes a report of the command that asks for it.
+//! Makes a report from the command for it.
 
 use crate::fault::CommandFault;
 use crate::report::Report;
@@ -14,7 +14,7 @@ pub struct Asked<'a> {
 }
 
 /// Returns the record that the command's report is about, and the report's form. Fault: Words, if
-/// the command asks for no report, or for a count.
+/// the command has no report, or is a count.
 pub fn asked_of<'a>(chosen: &Chosen<'a>) -> Result<Asked<'a>, CommandFault> {
     match chosen {
         Chosen::Overdue {
@@ -77,8 +77,8 @@ pub fn asked_of<'a>(chosen: &Chosen<'a>) -> Result<Asked<'a>, CommandFault> {
     }
 }
 
-/// Returns the report that the command asks for. Faults: Day, Code or Number, if the argument is
-/// not in its form; Words, if the command asks for no report, or for a count.
+/// Returns the command's report. Faults: Day, Code or Number, if the argument is not in its form;
+/// Words, if the command has no report, or is a count.
 pub fn report(chosen: &Chosen<'_>) -> Result<Report, CommandFault> {
     Ok(match chosen {
         Chosen::Overdue { on, .. } => Report::Overdue(day(on)?),

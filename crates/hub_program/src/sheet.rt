@@ -1,4 +1,4 @@
-//! Writes the rows of a report, in the form that is asked for.
+//! Writes the rows of a report, in the form that the user chose.
 
 use crate::fault::CommandFault;
 use crate::lines::write_line;

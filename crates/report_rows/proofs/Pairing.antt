@@ -14,7 +14,7 @@ members-append (x ∷ names) [] name value same = absurd (omega (arith, same))
 members-append (x ∷ names) (v ∷ values) name value same =
     ap (λ rest. member x v ∷ rest) (members-append names values name value (omega (arith, same)))
 
--- as many of each in front
+-- as many of each at the front
 alike : {X Y : Type 0} (f : X → List ℕ) (g : Y → Told) (xs : List X) (ys : List Y) (i : ℕ)
     → i < length xs → i < length ys
     → length (map f (take i xs)) ≡ length (map g (take i ys))

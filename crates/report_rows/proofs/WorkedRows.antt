@@ -69,7 +69,7 @@ chain-json = refl
 no_chain-json : json_text (texts []) ≡ codes "[]"
 no_chain-json = refl
 
--- what isn't there is no word; an empty text is one
+-- a missing value is no word; an empty text is one
 nothing-no_word : is_told nothing ≡ false
 nothing-no_word = refl
 
@@ -140,7 +140,7 @@ full-json : object_line station_names full_values
 unfolding serde_json_on_literals
 full-json = refl
 
--- a message is an object in an object, and in comma-separated values a text with quotes
+-- a message is an object inside the object; among comma-separated values it is a text with quotes
 
 abbrev posted_names : List (List ℕ)
 posted_names = codes "entry" ∷ codes "message" ∷ []

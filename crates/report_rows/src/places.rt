@@ -1,4 +1,4 @@
-//! The rows of `count` and `at`: what is in a place, by a count list and on record.
+//! The rows of `count` and `at`: the things in a place, by a count list and on record.
 ghost use Rattle.std.specs.Prelude.{◌∷◌, [], codes, option_map, refl, string_bytes};
 ghost use Rattle.report_rows.specs.Fields.{number_if, text, text_if};
 ghost use Rattle.report_rows.specs.Lines.{at_words, counted_words};
