@@ -1,4 +1,4 @@
--- A text of digits alone, as a number is read from it.
+-- How a number is read from a text of digits alone.
 use Rattle.std.specs.Prelude.{◌≡◌, ℕ, ◌<◌, ◌^◌, ◌==◌, nat_lt, if◌then◌else◌, false, true, List, [], ◌∷◌, ◌++◌, length, Some, None, refl, slice_index}
 use Rattle.std.specs.Str.Parse.{IsNumeral, digits_value}
 use Rattle.std.proofs.Common.{ap, ◌∙◌, sym, arith, append-nil}

@@ -43,7 +43,7 @@ spread_is t ten = text_from_reads t (spread t) ten
 is_digit : (b : ℕ) → is_ascii_digit b ≡ true → (48 ≤ b) × (b ≤ 57)
 is_digit b h = grind (arith, nat_tests)
 
--- four digits, or two, come back from the number that they spell
+-- four digits, or two, follow from the number that they spell
 pair_back : (a b : ℕ) → (48 ≤ a) × (a ≤ 57) → (48 ≤ b) × (b ≤ 57)
     → two_digits (10 * (10 * 0 + (a - 48)) + (b - 48)) ≡ a ∷ b ∷ []
 pair_back a b ha hb =
@@ -80,7 +80,7 @@ two_parts a b h =
     let hb = and_parts _ _ ha.1 in
     (is_digit a ha.0, is_digit b hb.0)
 
--- what the shape of a day says
+-- the parts of a text with the shape of a day
 pub record DayParts (t : List ℕ) : Type 0 where
   pub ten : length t ≡ 10
   pub year : list_all is_ascii_digit (take 4 t) ≡ true
@@ -121,7 +121,7 @@ four_parts a b c d h =
     let cd = two_parts c d hb.1 in
     (is_digit a ha.0, is_digit b hb.0, cd.0, cd.1)
 
--- a text with the shape of a day is that of its parts
+-- a text with the shape of a day is the text of its parts
 bytes_back : (a b c d h e f i g j : ℕ) → DayParts (day_bytes a b c d h e f i g j)
     → day_bytes a b c d h e f i g j ≡ text_at (day_bytes a b c d h e f i g j)
 bytes_back a b c d h e f i g j parts =

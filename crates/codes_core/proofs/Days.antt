@@ -1,4 +1,4 @@
--- A day of the calendar and its number determine each other, and so its text and its number.
+-- A day of the calendar and its number determine each other, and so do its text and its number.
 use Rattle.std.specs.Prelude.{◌≡◌, ℕ, ◌<◌, ◌≤◌, ◌&&◌, true, nat_lt, nat_le, List, refl, ℤ, pos, negsuc, ◌≤ℤ◌, unsigned_abs}
 use Rattle.std.proofs.Common.{arith, rules, subst, sym, ◌∙◌, to_z, w8, w16}
 use Rattle.std.proofs.lemmas.Bool.Decides.{nat_tests}
@@ -19,7 +19,7 @@ use Rattle.codes_core.proofs.DayTexts.{text_shape, year_back, month_back, date_b
 pub year_one : day_count (pos 1) 1 1 ≡ 3652791
 year_one = day_count-early (pos 1) 10000 1 1 refl (omega arith) (omega arith) (omega arith)
 
--- a day from 0001-01-01 on is of the year 1 or a later one
+-- a day from 0001-01-01 on is in year 1 or a later year
 pub year_positive : (d : Date) → first_number ≤ℤ epoch_day d → pos 1 ≤ℤ d.year
 year_positive d h =
     by_lt_z d.year (pos 1)
@@ -32,7 +32,7 @@ year_positive d h =
     )))
     (λ le. le)
 
--- and the other way round
+-- and a day in year 1 or later isn't before 0001-01-01
 pub number_low : (d : Date) → pos 1 ≤ℤ d.year → first_number ≤ℤ epoch_day d
 number_low d h =
     by_lt_z (pos 1) d.year

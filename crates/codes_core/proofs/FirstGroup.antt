@@ -1,4 +1,4 @@
--- What the first group of a code's text says of all of them.
+-- How the first group of a code's text decides the result for the whole text.
 use Rattle.std.specs.Prelude.{◌≡◌, ℕ, ◌-◌, ◌<◌, ◌≤◌, ◌&&◌, Bool, true, false, nat_lt, List, suc, length, take, drop, refl, Option, Some}
 use Rattle.std.specs.Option.{option_map}
 use Rattle.std.specs.List.{list_all}
@@ -23,7 +23,7 @@ some_groups : (text : List ℕ) → nat_lt 0 (length (groups text)) ≡ true
 some_groups text = let some : (n : ℕ) → nat_lt 0 (suc n) ≡ true = λ n. grind (arith, nat_tests) in
     rw (parts-front 46 text) (some (length (following 46 (rest 46 text))))
 
--- a text with one
+-- a text with a dot
 pub more_groups : (n count : ℕ) (text first behind : List ℕ) (is_one : Bool)
     → count ≡ length (front 46 text) → first ≡ take count text → behind ≡ drop count text
     → 1 ≤ length behind → is_year first ≡ is_one
@@ -36,7 +36,7 @@ more_groups n count text first behind is_one at cut rest_is some told =
       told,
     ) refl
 
--- the same of right numbers
+-- the same for valid numbers
 right_first : (count : ℕ) (text first behind : List ℕ) (is_one : Bool)
     → count ≡ length (front 46 text) → first ≡ take count text → behind ≡ drop count text
     → is_right_number first ≡ is_one
@@ -51,7 +51,7 @@ right_behind : (count : ℕ) (text behind : List ℕ) → count ≡ length (fron
 right_behind count text behind at rest_is =
     rw (cut_by 46 count text (take count text) behind at refl rest_is) refl
 
--- what is told of the numbers of a text of at most n groups
+-- the result of `numbers_of` for a text of at most n groups
 abbrev pub told : ℕ → List ℕ → Option Bool
 told n text = numbers_of (are_few is_digits n (groups text))
     (list_all is_right_number (groups text))
@@ -79,7 +79,7 @@ told_alone n count text first behind is_right some at cut rest_is digits right n
       following-nil 46 behind none,
     ) (alone is_right)
 
--- a group with others behind it
+-- a group with others after it
 pub told_more : (n count : ℕ) (text first behind : List ℕ) (is_right : Bool) → (n ≡ 0 → ⊥)
     → count ≡ length (front 46 text) → first ≡ take count text → behind ≡ drop count text
     → is_digits first ≡ true → is_right_number first ≡ is_right → 1 ≤ length behind
@@ -94,7 +94,7 @@ told_more n count text first behind is_right some at cut rest_is digits right mo
     (with_one (are_few is_digits (n - 1) (groups (drop 1 behind)))
     (list_all is_right_number (groups (drop 1 behind))) is_right)
 
--- what is told behind four digits
+-- the result for the text after four digits
 pub told_behind : (n count : ℕ) (text first behind : List ℕ) → count ≡ length (front 46 text)
     → first ≡ take count text → behind ≡ drop count text → 1 ≤ length behind → is_year first ≡ true
     → told n (drop 1 behind) ≡ numbers_of (are_groups n (groups text))

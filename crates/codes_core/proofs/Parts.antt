@@ -1,4 +1,4 @@
--- A text from part to part.
+-- A text, part by part.
 use Rattle.std.specs.Prelude.{◌≡◌, ℕ, ◌+◌, ◌-◌, ◌<◌, ◌≤◌, ◌==◌, ◌&&◌, Bool, true, false, nat_le, not, cond, List, [], ◌∷◌, length, suc, zero, take, drop, take_while, refl}
 use Rattle.std.specs.List.{list_all}
 use Rattle.std.specs.Str.{IsAscii}
@@ -21,7 +21,7 @@ front mark text = take_while (is_plain mark) text
 abbrev pub rest : ℕ → List ℕ → List ℕ
 rest mark text = drop (length (front mark text)) text
 
--- the parts behind the first
+-- the parts after the first
 abbrev pub following : ℕ → List ℕ → List (List ℕ)
 following mark [] = []
 following mark (b ∷ bs) = parts mark bs
@@ -38,7 +38,7 @@ parts-front mark (b ∷ bs) =
       | false ↦ ap (in_first b) (parts-front mark bs)
     ])
 
--- what may stand behind the first part
+-- a text that may follow the first part
 abbrev pub goes_on : (List ℕ → Bool) → ℕ → ℕ → List ℕ → Bool
 goes_on p mark n [] = true
 goes_on p mark n (b ∷ bs) = are_few p n (parts mark bs)
@@ -59,7 +59,7 @@ tail_few : (p : List ℕ → Bool) (mark n : ℕ) (bs : List ℕ)
 tail_few p mark n [] = let none : nat_le 0 n ≡ true = grind (arith, nat_tests) in rw none refl
 tail_few p mark n (b ∷ bs) = refl
 
--- a text has a part at least
+-- a text has at least one part
 pub are_few-zero : (p : List ℕ → Bool) (mark n : ℕ) (text : List ℕ) → n ≡ 0
     → are_few p n (parts mark text) ≡ false
 are_few-zero p mark n text none =
@@ -77,7 +77,7 @@ pub front_taken : (mark : ℕ) (text : List ℕ)
     → take (length (front mark text)) text ≡ front mark text
 front_taken mark text = rw (length-prefix_len (is_plain mark) text) refl
 
--- a text that is cut before its first mark: its first part is one or not, and then the rest goes on
+-- A text cut before its first mark: whether the first part passes, and then the rest.
 pub few_by : (p : List ℕ → Bool) (mark n count : ℕ) (text first behind : List ℕ) (is_one : Bool)
     → (n ≡ 0 → ⊥) → count ≡ length (front mark text) → first ≡ take count text
     → behind ≡ drop count text → p first ≡ is_one
@@ -97,7 +97,7 @@ pub goes_on-cons : (p : List ℕ → Bool) (mark n : ℕ) (bs : List ℕ) → 1 
 goes_on-cons p mark n [] some = absurd (omega arith)
 goes_on-cons p mark n (b ∷ bs) some = refl
 
--- what stands behind the first part, by what is cut off before the first mark
+-- the text after the first part, by the bytes from the first mark on
 pub following-nil : (mark : ℕ) (bs : List ℕ) → length bs < 1 → following mark bs ≡ []
 following-nil mark [] none = refl
 following-nil mark (b ∷ bs) none = absurd (omega arith)
@@ -113,7 +113,7 @@ pub cut_by : (mark count : ℕ) (text first behind : List ℕ) → count ≡ len
 cut_by mark count text first behind at cut rest_is =
     rw (cut, rest_is, at, front_taken mark text) (parts-front mark text)
 
--- a slice from n on is all that follows
+-- a slice from n on is the whole rest
 pub all_taken : (n : ℕ) (bs : List ℕ) → take (length bs - n) (drop n bs) ≡ drop n bs
 all_taken n bs = rw (← length-drop n bs) (take-length (drop n bs))
 

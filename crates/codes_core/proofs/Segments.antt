@@ -1,4 +1,4 @@
--- A place's text from segment to segment.
+-- A place's text, segment by segment.
 use Rattle.std.specs.Prelude.{◌≡◌, ℕ, ◌+◌, ◌*◌, ◌<◌, ◌≤◌, ◌==◌, ◌&&◌, Bool, true, false, nat_le, nat_lt, nat_eq, cond, List, [], ◌∷◌, length, suc, zero, take, drop, Option, None, refl}
 use Rattle.std.specs.List.{list_all}
 use Rattle.std.specs.Bool.{then_some}
@@ -24,7 +24,7 @@ empty-lies_in b bs =
       | false ↦ rw (parts-front 45 bs) refl
     ]
 
--- the other is in front, up to the end of a segment
+-- the text begins with the other, up to the end of a segment
 abbrev pub is_front : List ℕ → List ℕ → Bool
 is_front place other = pointwise nat_eq (take (length other) place) other && ends_segment
     (drop (length other) place)
@@ -42,7 +42,7 @@ both_in : (a b : ℕ) (s t : List ℕ) (ss ts : List (List ℕ)) (r : Bool) → 
 both_in a b s t ss ts r h = and_assoc (b == a) (bytes_eq t s) (from ts ss) ∙ ap (λ u. (b == a) && u)
     h ∙ ap (λ u. u && r) (eq_turned a b)
 
--- segments are the first of others where the text is in front, up to the end of a segment
+-- a place lies in another exactly if its text begins with the other's, up to the end of a segment
 pub lies_in_front : (place other : List ℕ) → lies_in place other ≡ is_front place other
 lies_in_front [] [] = refl
 lies_in_front (a ∷ place) [] =
@@ -79,7 +79,7 @@ lies_in_front (a ∷ place) (b ∷ other) =
           ] refl
     ] refl
 
--- the same by what follows the other's text
+-- the same, by the text after the other's
 pub lies_in_behind : (place other behind : List ℕ)
     → pointwise nat_eq (take (length other) place) other ≡ true → behind ≡ drop (length other) place
     → lies_in place other ≡ ends_segment behind
@@ -98,7 +98,7 @@ segment_more : (n : ℕ) → ((bs : List ℕ) → is_place_shape n bs ≡ true �
 segment_more n shorter [] h = omega arith
 segment_more n shorter (b ∷ bs) h = omega (arith, shorter bs h)
 
--- so many segments are a short text
+-- a text of so few segments is short
 place_length : (n : ℕ) (text : List ℕ) → is_place_shape n text ≡ true → length text + 1 ≤ 9 * n
 place_length zero text h = absurd (false≢true (sym (are_few-zero is_segment 45 zero text refl) ∙ h))
 place_length (suc n) text h =

@@ -13,7 +13,7 @@ use Rattle.jiff_core.proofs.DateLemmas.{days_from_civil-day, days_from_civil-nex
 use Rattle.codes_core.specs.Day.{first_number, last_number, IsOnlySpelling, two_digits, date_text, CivilDay, day_after, day_from_first, day_text}
 use Rattle.codes_core.proofs.Days.{year_one, only_spelling}
 
--- the calendar has the day, so many days after 0001-01-01
+-- the calendar has the day that is this many days after 0001-01-01
 record IsFromFirst (n : ℕ) (day : CivilDay) (d : Date) : Type 0 where
   year : d.year ≡ pos day.year
   month : d.month ≡ day.month

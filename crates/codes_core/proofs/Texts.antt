@@ -1,4 +1,4 @@
--- What a code's shape says of its text: it is ASCII, and not long.
+-- The texts of codes are short and ASCII.
 use Rattle.std.specs.Prelude.{◌≡◌, ℕ, ◌+◌, ◌-◌, ◌*◌, ◌<◌, ◌≤◌, ◌==◌, ◌&&◌, Bool, true, false, nat_lt, nat_le, not, cond, List, [], ◌∷◌, length, suc, nat_eq, take, drop, slice_index, refl, None, ◌||◌, codes}
 use Rattle.std.proofs.Common.{arith, inl, inr, length-drop, subst, sym}
 use Rattle.std.proofs.lemmas.Bool.{and_parts, or_cases, eqb-true, leb-true, false≢true}
@@ -61,7 +61,7 @@ digit_groups (g ∷ gs) h =
     let digits : list_all is_ascii_digit g ≡ true = (and_parts _ _ both.0).1 in
     rw (digits, digit_groups gs both.1) refl
 
--- right numbers behind the first group make the text no longer than so
+-- valid numbers after the first group keep the text short
 groups_length : (bs : List ℕ) → list_all is_right_number (following 46 (rest 46 bs)) ≡ true
     → length bs ≤ length (front 46 bs) + 7 * length (following 46 (rest 46 bs))
 groups_length [] h = omega arith
@@ -84,7 +84,7 @@ groups_length (b ∷ bs) h =
       | false ↦ λ r. omega (arith, groups_length bs r)
     ] (rw (take_while-cons (is_plain 46) b bs) at h))
 
--- four digits and at most n right numbers
+-- four digits and at most n valid numbers
 groups_short : (n : ℕ) (bs : List ℕ) → are_groups n (groups bs) ≡ true
     → has_right_groups (groups bs) ≡ true → IsShort (4 + 7 * n) bs
 groups_short n bs shape right =
@@ -168,7 +168,7 @@ thing_short (b ∷ bs) shape right =
           ] refl s r
     ] refl shape right
 
--- a text without a fault has its code's shape and right numbers
+-- a text without a fault has its code's shape and valid numbers
 pub no_fault : (last : CodeFault) (shape right : Bool) (bs : List ℕ)
     → code_fault last shape right bs ≡ None → (shape ≡ true) × (right ≡ true)
 no_fault last true true bs h = (refl, refl)
@@ -177,7 +177,7 @@ no_fault last true false (b ∷ bs) h = absurd (cc)
 no_fault last false right [] h = absurd (cc)
 no_fault last false right (b ∷ bs) h = absurd (cc)
 
--- LO or LI in front
+-- LO or LI at the front
 front_two : (bs : List ℕ) (b c : ℕ) → b < 128 → c < 128 → starts_with nat_eq bs (b ∷ c ∷ []) ≡ true
     → IsShort 11 (drop 2 bs) → IsShort 13 bs
 front_two [] b c hb hc h rest = absurd (cc)

@@ -13,7 +13,7 @@ use Rattle.codes_core.specs.Day.{day_fault}
 own_groups : groups (without_letter (codes "2001.4.2a")) ≡ codes "2001" ∷ codes "4" ∷ codes "2" ∷ []
 own_groups = refl
 
--- numbers are told where the shape is there
+-- without the shape there is no result for the numbers
 wrong_number : numbers_of true false ≡ Some false
 wrong_number = refl
 

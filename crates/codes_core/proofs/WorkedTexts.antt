@@ -1,4 +1,4 @@
--- Tables of texts: right ones, and those next to them that have each fault.
+-- Tables of valid texts, and of texts next to them that have each fault.
 use Rattle.std.specs.Prelude.{◌≡◌, ◌<◌, ◌≤◌, true, false, Some, None, [], ◌∷◌, refl, codes, map, replicate, pos, negsuc}
 use Rattle.std.proofs.Common.{arith}
 use Rattle.std.specs.Str.{chars, is_utf8}
@@ -14,14 +14,14 @@ use Rattle.codes_core.specs.Place.{place_fault, lies_in}
 use Rattle.codes_core.specs.Day.{day_fault, day_number}
 use Rattle.codes_core.specs.Name.{is_name_byte, IsName}
 
--- right things
+-- valid things
 right_things : map thing_fault
     (codes "2001.4.2a" ∷ codes "L1999.7" ∷ codes "C1" ∷ codes "0000.1" ∷ codes "2001.999999"
     ∷ codes "L2001.999999.999999.999999z" ∷ codes "C999999" ∷ [])
     ≡ replicate 7 None
 right_things = refl
 
--- things of another shape
+-- things of the wrong shape
 things_of_no_shape : map thing_fault
     (codes "2001" ∷ codes "LO2024.1" ∷ codes "200.1" ∷ codes "20011.1" ∷ codes "2001."
     ∷ codes "2001.a" ∷ codes "2001.4..2" ∷ codes "2001.4.2.7.1" ∷ codes "2001.4.2ab"
@@ -37,13 +37,13 @@ things_of_no_number : map thing_fault
     ≡ replicate 7 (Some BadNumber)
 things_of_no_number = refl
 
--- right loans
+-- valid loans
 right_loans : map loan_fault
     (codes "LO2024.1" ∷ codes "LI2024.1" ∷ codes "LO0000.999999" ∷ [])
     ≡ replicate 3 None
 right_loans = refl
 
--- loans of another shape
+-- loans of the wrong shape
 loans_of_no_shape : map loan_fault
     (codes "L" ∷ codes "L2024.1" ∷ codes "LX2024.1" ∷ codes "Li2024.1" ∷ codes "LO202.1"
     ∷ codes "LO20241.1" ∷ codes "LO2024" ∷ codes "LO2024." ∷ codes "LO2024.1a"
@@ -57,21 +57,21 @@ loans_of_no_number : map loan_fault
     ≡ replicate 3 (Some BadNumber)
 loans_of_no_number = refl
 
--- right places
+-- valid places
 right_places : map place_fault
     (codes "S1" ∷ codes "A-B-C-D" ∷ codes "MUSEUM-X"
     ∷ codes "ABCDEFGH-12345678-A0Z9A0Z9-ABCDEFGH" ∷ [])
     ≡ replicate 4 None
 right_places = refl
 
--- places of another shape
+-- places of the wrong shape
 places_of_no_shape : map place_fault
     (codes "s1" ∷ codes "A-B-C-D-E" ∷ codes "123456789" ∷ codes "A-123456789" ∷ codes "-"
     ∷ codes "-A" ∷ codes "A-" ∷ codes "A--B" ∷ codes "S 1" ∷ codes "S1\n" ∷ (195 ∷ 137 ∷ []) ∷ [])
     ≡ replicate 11 (Some BadShape)
 places_of_no_shape = refl
 
--- right days
+-- valid days
 right_days : map day_fault
     (codes "2024-05-01" ∷ codes "2024-02-29" ∷ codes "1970-01-01" ∷ codes "1969-12-31"
     ∷ codes "0001-01-01" ∷ codes "9999-12-31" ∷ codes "2000-02-29" ∷ codes "1900-02-28"
@@ -79,7 +79,7 @@ right_days : map day_fault
     ≡ replicate 9 None
 right_days = refl
 
--- days of another shape
+-- days of the wrong shape
 days_of_no_shape : map day_fault
     (codes "2024-5-01" ∷ codes "2024-05-1" ∷ codes "20240-05-01" ∷ codes "2024/05-01"
     ∷ codes "2024-05/01" ∷ codes "-024-05-01" ∷ codes "2024-05-0a" ∷ codes "2024-13-0a"
@@ -94,7 +94,7 @@ days_of_no_day : map day_fault
     ≡ replicate 7 (Some NoSuchDay)
 days_of_no_day = refl
 
--- the numbers of the right days, as Python's datetime tells them
+-- the numbers of the valid days, as computed by Python's datetime
 day_numbers : map day_number
     (codes "2024-05-01" ∷ codes "2024-02-29" ∷ codes "1970-01-01" ∷ codes "1969-12-31"
     ∷ codes "0001-01-01" ∷ codes "9999-12-31" ∷ codes "2000-02-29" ∷ codes "1900-02-28"
@@ -104,7 +104,7 @@ day_numbers : map day_number
 unfolding days_from_civil day_count days_of_years days_of_months
 day_numbers = refl
 
--- what lies in S1, in this order: S1-A, S1, S10, S2-A, A-S1
+-- the places in S1, of S1-A, S1, S10, S2-A and A-S1
 in_a_room : map (λ place. lies_in place (codes "S1"))
     (codes "S1-A" ∷ codes "S1" ∷ codes "S10" ∷ codes "S2-A" ∷ codes "A-S1" ∷ [])
     ≡ true ∷ true ∷ false ∷ false ∷ false ∷ []
@@ -121,7 +121,7 @@ name_bytes : map is_name_byte (31 ∷ 32 ∷ 126 ∷ 127 ∷ 195 ∷ [])
     ≡ false ∷ true ∷ true ∷ false ∷ true ∷ []
 name_bytes = refl
 
--- no bytes are no code and no day
+-- the empty text is no code and no day
 no_bytes : thing_fault [] ∷ loan_fault [] ∷ place_fault [] ∷ day_fault [] ∷ []
     ≡ replicate 4 (Some Empty)
 no_bytes = refl
@@ -149,7 +149,7 @@ too_long_a_name name = let few : 61 ≤ 60 = name.few in omega arith
 empty_name : ¬ IsName []
 empty_name name = let some : 0 < 0 = name.some in omega arith
 
--- the bytes of no characters
+-- bytes that are not UTF-8
 name_of_no_text : ¬ IsName (255 ∷ [])
 unfolding is_utf8 chars
 name_of_no_text name = let text : is_utf8 (255 ∷ []) ≡ true =

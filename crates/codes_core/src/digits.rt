@@ -4,7 +4,7 @@ ghost use Rattle.std.specs.Char.{is_ascii_digit};
 ghost use Rattle.std.specs.List.{list_all};
 ghost use Rattle.codes_core.specs.Grammar.{is_digits, is_right_number, number_of};
 
-/// Whether the text is one or more digits and nothing else.
+/// Whether the text is one or more digits and nothing more.
 pub(crate) fn is_digits(text: &[u8]) -> bool
     ensures { result ≡ is_digits text.now }
 {

@@ -11,7 +11,7 @@ use crate::{CodeFault, NoMemory};
 use std::alloc::Global;
 use std::marker::Model;
 
-/// What a thing is.
+/// The kinds of things.
 #[derive(Clone, Copy, Debug, PartialEq, Eq)]
 pub enum ThingKind {
     /// An object that the museum owns.
@@ -97,7 +97,7 @@ impl ThingCode {
         self.spelling.write(out)
     }
 
-    /// What the thing is, by the first letter of its code.
+    /// The kind of the thing, by the first letter of its code.
     pub fn kind(&self) -> ThingKind
         ensures { result ≡ thing_kind self.now }
     {

@@ -51,7 +51,7 @@ unfolding form_by
 has_none Setup = refl
 has_none Store = refl
 
--- nor has help
+-- and neither does help
 pub help_has_none : (option : FileOption) → false ≡ has_option option (form_by name.Help)
 unfolding form_by
 help_has_none Setup = refl

@@ -10,7 +10,7 @@ use Rattle.command_words.specs.declared.command.WordsFault.{WordsFault}
 use Rattle.command_words.specs.declared.shapes.Name.{Name}
 use Rattle.command_words.proofs.Tables.{app_is}
 
--- of the command that the words name
+-- for the command that the words name
 module _ (n : Name) (words : List Text) (named : Some (form_by n) ≡ form_named words) where
   pub missing_by : (rows : List Row) (ids : List Text) → rows ≡ matches_of (app_by n) words
       → ids ≡ (form_by n).needed → without_value rows ids ≡ missing_values words

@@ -14,20 +14,20 @@ use Rattle.command_words.specs.declared.reading.Report.{Report}
 use Rattle.command_words.specs.declared.command.WordsFault.{WordsFault}
 use Rattle.command_words.specs.declared.command.WordsFault.TheVariants.{Missing, NoMemory, Refused}
 
--- what clap refuses in words that name no command
+-- `clap`'s errors for words that name no command
 pub refused_by_none : (words : List Text) (fault : WordsFault)
     → IsRefused overview (codes "pairsalder" ∷ words) fault → IsFaultBy None words fault
 refused_by_none words (Refused error) among = among
 refused_by_none words Missing never = absurd never
 refused_by_none words NoMemory any = any
 
--- what clap takes where no command is named
+-- words that `clap` accepts although no command is named
 pub taken_by_none : (app : App) (line words : List Text) → app ≡ overview
     → line ≡ codes "pairsalder" ∷ words
     → fault_of app line ≡ [] → kinds_by None words ≡ []
 taken_by_none app line words is_app is_line taken = sym (ap₂ fault_of is_app is_line) ∙ taken
 
--- what clap refuses comes first among what is refused in a report
+-- `clap`'s errors come first among a report's errors
 among_first : (k : ErrorKind) (kinds next : Kinds) → IsAmong k kinds
     → IsAmong k (or_else kinds next)
 among_first k [] next never = absurd never
@@ -40,7 +40,7 @@ report_refused app words (Refused error) among =
 report_refused app words Missing never = absurd never
 report_refused app words NoMemory any = any
 
--- where clap takes the words of a report, both forms at once are refused in them, and nothing else
+-- if `clap` accepts a report's words, the only possible error is that both forms are given
 kinds_taken : (app : App) (words : List Text) → fault_of app words ≡ []
     → report_kinds app words ≡ option_map_or (λ f. []) (format_in app words) (ArgumentConflict ∷ [])
 kinds_taken app words taken =
@@ -81,7 +81,7 @@ lost_by app words Missing taken lost = (
 )
 lost_by app words NoMemory taken lost = tt
 
--- what clap's matches hold of a report, or lack, is what the words give, or why they choose nothing
+-- the values of a report, or its fault, by `clap`'s matches are those by its words
 pub report_lost : (app : App) (words : List Text) (rows : List Row) (fault : WordsFault)
     → IsRead app words rows
     → IsNoReport rows fault → IsFaultBy (Some (report (both_needed app))) words fault
@@ -101,7 +101,7 @@ report_read app words rows (Ok r) read held =
     )
 report_read app words rows (Err fault) read lost = report_lost app words rows fault read lost
 
--- with one value more that is needed, what was lacking is
+-- one more value is needed: any value that was missing before is still missing
 pub more_needed : (app : App) (words : List Text) (id : Text) (fault : WordsFault)
     → IsFaultBy (Some (report (both_needed app))) words fault
     → IsFaultBy (Some (report (all_needed app id))) words fault

@@ -1,4 +1,4 @@
--- One word more settles whether an option is filled in, or leaves it to the words behind it.
+-- One more word decides whether an option is filled in, or leaves that to the words after it.
 use Rattle.std.proofs.Common.{◌≡◌, ◌<◌, ◌≤◌, ◌+◌, ◌∷◌, ◌∙◌, Bool, List, ap, codes, drop, false}
 use Rattle.std.proofs.Common.{get_or, length, not, refl, sym, take, true, ℕ}
 use Rattle.std.proofs.Math.Numerals.{one-add}
@@ -38,7 +38,8 @@ later : (option : FileOption) (word : Text) (words : List Text)
     → is_settled option (word ∷ words) ≡ is_settled option words
 later option word words dashes here = next option word words ∙ rw (dashes, here) refl
 
--- what the words from the i-th on decide, if this one is --, gives the option, or neither
+-- the result for the words from the i-th on, by whether this one is --, is the option, or is
+-- neither
 module _ (option : FileOption) (words : List (Bor Text)) (i : ℕ) (d : Bor Text)
     (below : i < length words)
     (so_far : is_settled option (texts_of (drop i words)) ≡ is_settled option (texts_of words))

@@ -1,4 +1,4 @@
--- The commands of the table are of those that clap's clauses speak of.
+-- The commands of the table are among those of `clap`'s clauses.
 use Rattle.std.proofs.Common.{◌≡◌, ◌<◌, ◌+◌, ◌∙◌, ◌∷◌, List, [], ap, drop, get_or, length, refl, sym, true, ℕ}
 use Rattle.std.proofs.lemmas.List.{at_drop_more}
 use Rattle.clap.specs.Words.{App, app_of, is_simple_and_free, shape_of, with_rule, with_subcommand}
@@ -74,7 +74,7 @@ all_is_overview = refl
 pub whole : (app : App) → app ≡ program_alone → with_commands app all ≡ overview
 whole app e = ap (λ a. with_commands a all) e ∙ all_is_overview
 
--- with one command more, less is left
+-- one more command is added, and one fewer is left
 pub one_more : (above next : App) (names : List Name) (i : ℕ) (d : Name) → i < length names
     → with_commands above (drop i names) ≡ overview
     → next ≡ with_subcommand above (app_by (get_or names i d)).top
@@ -83,7 +83,7 @@ one_more above next names i d below so_far next_is =
     ap (λ a. with_commands a (drop (i + 1) names)) next_is
     ∙ (sym (at_drop_more (with_commands above) names i d below) ∙ so_far)
 
--- with one argument more, less is left
+-- one more argument is added, and one fewer is left
 pub one_argument_more : (app next whole_app : App) (arguments : List Argument) (i : ℕ)
     (d : Argument) → i < length arguments
     → with_arguments app (drop i arguments) ≡ whole_app

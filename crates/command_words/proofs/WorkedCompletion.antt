@@ -1,4 +1,4 @@
--- The filling in computed on worked words.
+-- The filling in of the options, computed on worked words.
 use Rattle.std.specs.Prelude.{◌≡◌, ◌∷◌, [], List, None, Option, Some, codes, false, refl, true}
 use Rattle.clap.specs.Words.{Text}
 use Rattle.clap.proofs.OnLiterals.{clap_on_literals}
@@ -56,7 +56,7 @@ pub empty_as_none : completed where_words (Some []) (Some []) ≡ where_words
 unfolding register_app report_app
 empty_as_none = refl
 
--- the words give an option: by its name, with =, by its letter, with the value behind that
+-- the words have the option: by its name, with =, by its letter, with the value attached
 abbrev given : Text → Text → List Text
 given setup store = codes "where" ∷ setup ∷ codes "C1" ∷ store ∷ codes "b" ∷ []
 
@@ -70,12 +70,12 @@ pub both_given_by_letter : completed (given (codes "-sa") (codes "-d")) own_setu
 unfolding register_app report_app
 both_given_by_letter = refl
 
--- a value that looks like the name of an option without its hyphens gives none
+-- a value that looks like an option's name without its hyphens is not the option
 pub value_gives_none : lacks_option Store (codes "copy" ∷ codes "--to" ∷ codes "store" ∷ []) ≡ true
 unfolding register_app report_app
 value_gives_none = refl
 
--- behind -- there are no options
+-- after -- there are no options
 pub behind_dashes : completed (codes "where" ∷ codes "--" ∷ codes "--store" ∷ []) None own_store
     ≡ codes "where" ∷ codes "--store" ∷ codes "m.db" ∷ codes "--" ∷ codes "--store" ∷ []
 unfolding register_app report_app
@@ -100,7 +100,7 @@ pub help_asked : completed (codes "where" ∷ codes "--help" ∷ []) own_setup o
 unfolding register_app report_app
 help_asked = refl
 
--- the letters are read like the names, and count with them
+-- letters are read like names, and count together with them
 abbrev letter_words : List Text
 letter_words = codes "replay" ∷ codes "-s" ∷ codes "a" ∷ codes "-db" ∷ []
 
@@ -117,7 +117,7 @@ pub setup_twice : refusals (codes "replay" ∷ codes "-s" ∷ codes "a" ∷ code
 unfolding clap_on_literals register_app report_app
 setup_twice = refl
 
--- an option without its value stays the error that it is
+-- an option without its value remains an error
 pub value_missing : refusals (completed (codes "replay" ∷ codes "-s" ∷ []) own_setup own_store)
     ≡ InvalidValue ∷ []
 unfolding clap_on_literals register_app report_app

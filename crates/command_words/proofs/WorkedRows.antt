@@ -60,7 +60,7 @@ pub serve_no_feed : values serve.app (codes "serve" ∷ codes "--setup=a" ∷ []
 unfolding clap_on_literals register_app report_app
 serve_no_feed = refl
 
--- overdue --setup a --store b: the day is missing, and nothing is refused
+-- overdue --setup a --store b: the day is missing, but there is no error
 abbrev no_day : List Text
 no_day = codes "overdue" ∷ codes "--setup" ∷ codes "a" ∷ codes "--store" ∷ codes "b" ∷ []
 
@@ -89,7 +89,7 @@ pub no_progress_asked : is_given replay.app replay_words (codes "progress") ≡ 
 unfolding clap_on_literals register_app report_app
 no_progress_asked = refl
 
--- replay --setup a --strict asks for no progress
+-- replay --setup a --strict doesn't print progress
 abbrev strict_words : List Text
 strict_words = codes "replay" ∷ codes "--setup=a" ∷ codes "--strict" ∷ []
 
@@ -133,7 +133,7 @@ pub away_csv_taken : report_kinds away.app (away_words ++ codes "--csv" ∷ []) 
 unfolding clap_on_literals register_app report_app
 away_csv_taken = refl
 
--- both forms at once are none, and refused, after what clap refuses
+-- both forms together are an error, which comes after `clap`'s own
 abbrev both_forms : List Text
 both_forms = away_words ++ codes "--csv" ∷ codes "--json" ∷ []
 
@@ -149,8 +149,8 @@ pub word_refused_first : report_kinds away.app (both_forms ++ codes "x" ∷ []) 
 unfolding clap_on_literals register_app report_app
 word_refused_first = refl
 
--- what is refused comes before what is missing: an option without its value, one given twice, a
--- word too many
+-- An error comes before a missing value: an option without its value, an option given twice, a word
+-- too many.
 pub value_missing : refusals (codes "replay" ∷ codes "--setup" ∷ []) ≡ InvalidValue ∷ []
 unfolding clap_on_literals register_app report_app
 value_missing = refl
@@ -164,7 +164,7 @@ pub word_too_many : refusals (codes "away" ∷ codes "a" ∷ []) ≡ UnknownArgu
 unfolding clap_on_literals register_app report_app
 word_too_many = refl
 
--- help is asked for, which is no mistake
+-- asking for help is not a usage error
 pub helped : map status_of_kind (refusals (codes "count" ∷ codes "--help" ∷ [])) ≡ 0 ∷ []
 unfolding clap_on_literals register_app report_app
 helped = refl
@@ -199,7 +199,7 @@ pub help_lacks_nothing : lacks (form_named (codes "help" ∷ [])) (codes "help" 
 unfolding register_app report_app
 help_lacks_nothing = refl
 
--- what clap's matches have for a report, and that they lack the store
+-- the matches of a report, which lack the store
 abbrev word : List ℕ → Bor (List ℕ)
 word t = record { ref_ptr = (0, 0); now = t }
 

@@ -55,8 +55,8 @@ has_option option form = list_any (λ rule. bytes_eq rule.id (id_of option)) for
 abbrev pub form_called : Text → Option Form
 form_called name = find (λ form. bytes_eq name form.app.top.name) commands
 
--- The first word names a command that has the option, and the words neither give it nor ask for
--- help.
+-- The first word names a command that has the option, and the words have neither the option nor a
+-- request for help.
 abbrev pub lacks_option : FileOption → List Text → Bool
 lacks_option option words =
     option_map_or (has_option option) (form_named words) false && not (is_settled option words)
@@ -67,11 +67,11 @@ option_with option None = []
 option_with option (Some []) = []
 option_with option (Some (c ∷ cs)) = name_of option ∷ (c ∷ cs) ∷ []
 
--- What is filled in: the option and its value, if the words lack it.
+-- The words that are filled in: the option and its value, if the words lack it.
 abbrev pub filled_in : FileOption → Option Text → List Text → List Text
 filled_in option value words = if lacks_option option words then option_with option value else []
 
--- The words, with what is filled in right after the command's name.
+-- The words, with those filled in right after the command's name.
 abbrev pub completed : List Text → Option Text → Option Text → List Text
 completed words setup store =
     take 1 words ++ (filled_in Setup setup words ++ (filled_in Store store words ++ drop 1 words))

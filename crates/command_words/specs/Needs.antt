@@ -1,4 +1,4 @@
--- Defines what a command needs and its words lack.
+-- Defines the arguments that a command needs and its words lack.
 use Rattle.std.specs.Prelude.{[], List, MatchOption, filter, is_some, not}
 use Rattle.std.specs.Option.{option_map_or}
 use Rattle.clap.specs.Words.{Row, Text, first_of, matches_of}

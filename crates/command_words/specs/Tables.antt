@@ -48,7 +48,7 @@ app_by name.At = at.app
 app_by name.Posted = posted.app
 app_by name.Help = help.app
 
--- The command of this name, with what it needs.
+-- The command of this name, with the arguments that it needs.
 unfoldable pub form_by : Name → Form
 form_by name.Replay = replay
 form_by name.Serve = serve

@@ -57,7 +57,7 @@ value app words id = first_of id (matches_of app words)
 abbrev pub values : App → List Text → Text → List Text
 values app words id = all_in id (matches_of app words)
 
--- An option without a value is given: `clap` then has the value true.
+-- An option without a value is in the words: `clap` then has the value true.
 abbrev pub is_true : Option Text → Bool
 is_true text = option_map_or (λ t. bytes_eq t (codes "true")) text false
 
@@ -170,7 +170,7 @@ abbrev pub lacks : Option Form → List Text → Bool
 lacks (Some form) words = list_any (λ id. not (is_some (value form.app words id))) form.needed
 lacks None words = true
 
--- 0 for help and the version, which were asked for; 2 for a usage error.
+-- 0 for help and the version, which the user wanted; 2 for a usage error.
 abbrev pub status_of_kind : ErrorKind → ℕ
 status_of_kind DisplayHelp = 0
 status_of_kind DisplayVersion = 0

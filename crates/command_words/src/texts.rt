@@ -278,7 +278,7 @@ pub(crate) const LOAN: Help = Help {
     about: "Prints a loan: its partner, its dates, and each object's stage",
     usage: "pairsalder loan --setup PATH --store PATH CODE [--csv | --json]",
     more: "\
-For a call from the partner: what was agreed, and which objects are still
+For a call from the partner: the loan's dates, and which objects are still
 expected, out, here or back.
 
 Prints the partner's place, the first and the last day, the loan's state, and a

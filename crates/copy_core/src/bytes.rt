@@ -22,7 +22,8 @@ pub enum PourFault {
 /// WriteFailed.
 pub fn pour<D: Disk, W: Write>(alloc: Global, file: &mut D, output: &mut W) -> Result<(), PourFault>
     requires { IsTrue (D.Disk.is_usable file.old) }
-    // If the disk returned what was written, the output has grown by exactly the file's bytes.
+    // If the disk returned the bytes written to it, the output has grown by exactly the file's
+    // bytes.
     ensures whole { OnOk result (IsTrue (D.Disk.is_clean file.new)
         → Appends (W.contents output.old) (W.contents output.new) (D.Disk.seen file.old)) }
     ensures same { D.Disk.seen file.new ≡ D.Disk.seen file.old }

@@ -5,9 +5,9 @@
 //! made of them, judges all its entries again, and compares it with a ledger.
 //!
 //! The contracts promise: after an Ok of `pour`, the output has grown by exactly the file's bytes,
-//! if the disk returns what was written. If `opens_to` returns true, the store has the rows of the
-//! ledger's entries, and can have no others. A store that isn't a copy may also fail to open, with
-//! the faults of `Hub::open`.
+//! if the disk returns the bytes written to it. If `opens_to` returns true, the store has the rows
+//! of the ledger's entries, and can have no others. A store that isn't a copy may also fail to
+//! open, with the faults of `Hub::open`.
 //!
 //! ```text
 //! pour(alloc, &mut files.db, &mut output)?;

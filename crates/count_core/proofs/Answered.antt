@@ -1,4 +1,4 @@
--- An answer that tells a place tells one of the setup.
+-- A place in an answer is a place of the setup.
 use Rattle.std.specs.Prelude.{[], ◌∷◌, option_map, ℕ, ◌<◌, Bool, true, false, All, IfSome, List, length, take, Option, Some, None, is_none, if◌then◌else◌, slice_get}
 use Rattle.std.proofs.lemmas.List.Elements.{All-head, All-map, All-tail}
 use Rattle.std.proofs.Common.{subst}
@@ -17,7 +17,7 @@ use Rattle.count_core.specs.declared.answer.CountAnswer.TheVariants.{UnknownPlac
 use Rattle.count_core.specs.Counts.{answer, answer_at, answers, found_from, is_again, look, look_object, IsAnswerIn}
 use Rattle.count_core.specs.Reports.{lies_at}
 
--- the last of spots at places of the setup
+-- the last of spots that are at places of the setup
 last_known : (n : ℕ) (o : Option Spot) (row : List Spot) → IfSome o (λ s. s.place < n)
     → All (λ s. s.place < n) row → IfSome (option_map (λ s. s.place) (last_or o row)) (λ p. p < n)
 last_known n None [] h all = tt

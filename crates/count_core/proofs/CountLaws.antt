@@ -1,4 +1,4 @@
--- What a count comes to, in the words of those who ask for it.
+-- The laws of counts.
 use Rattle.std.specs.Prelude.{ℕ, ◌≡◌, ◌≢◌, ◌<◌, ◌==◌, ◌&&◌, ◌||◌, not, Bool, true, false, Contains, List, [], ◌∷◌, filter, map, length, take, Option, Some, None, is_none, if◌then◌else◌, slice_get, zero, suc, refl}
 use Rattle.std.proofs.Common.{arith, ap, sym, ◌∙◌}
 use Rattle.std.proofs.lemmas.Bool.{and_parts}
@@ -21,7 +21,7 @@ use Rattle.count_core.proofs.Membership.{any_of, filter_none, flat_map_none, fro
 pub each_answered : (B : Book) (rows : List CountRow) → length (answers B rows) ≡ length rows
 each_answered B rows = length-map-range_with_len (answer_at B rows) 0 (length rows)
 
--- a row before row j names what passes
+-- a row before row j names something that passes
 before_passes : (p : CountRow → Bool) (rows : List CountRow) (i j : ℕ) (r : CountRow) → i < j
     → slice_get rows i ≡ Some r → p r ≡ true → list_any p (take j rows) ≡ true
 before_passes p [] i j r lt at e = absurd (cc)
@@ -35,7 +35,7 @@ before_passes p (x ∷ rows) (suc i) (suc j) r lt at e =
     later true h = refl
     later false h = h
 
--- a row that names a thing, which is there
+-- the row names a thing
 row_there : {X : Type 0} (f : CountRow → Option X) (o : Option CountRow) (x : X)
     → option_and_then f o ≡ Some x → (r : CountRow) × (o ≡ Some r) × (f r ≡ Some x)
 row_there f None x e = absurd (cc)
@@ -89,7 +89,7 @@ unnamed B rows m r h there is =
     let no : false ≡ true = sym (ap not (ap (names B.museum rows) same ∙ by_row)) ∙ missed.0 in
     absurd (cc)
 
--- an object of which a row has the name isn't missing
+-- an object that a row names isn't missing
 not_missing : (named_by within : Bool) (other : Bool) → (within ≡ true → named_by ≡ true)
     → ((not named_by && other) && within) ≡ false
 not_missing true within other all = refl

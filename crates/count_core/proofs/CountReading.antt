@@ -17,8 +17,7 @@ use Rattle.count_core.specs.declared.count_fault.CountFault.{CountFault}
 use Rattle.count_core.specs.declared.count_fault.CountFault.TheVariants.{BadFields, BadCode}
 use Rattle.count_core.specs.CountRows.{count_row, counted, counts_of, first_fault, has_codes, own_fault, row_fault}
 
--- the rows before row n of the text are kept and have no fault, and what is left is read from this
--- state
+-- The rows before row n are kept and have no fault, and the rest is read from this state.
 pub record IsUpTo (text : List ℕ) (kept : List CountRow) (n : ℕ) (s : State) (xs : List ℕ) :
     Type 0 where
   pub before : List Fields
@@ -38,7 +37,7 @@ at_start text = record {
   rests = refl;
 }
 
--- the fault of the next row, as the definition has it
+-- the fault of the next row, by the definition
 here_is : (kept : List CountRow) (n : ℕ) (before : List Fields) (row : Fields)
     (o : Option CountFault) → kept ≡ counts_of before → n ≡ length before + 1
     → row_fault (length kept) n row ≡ o
@@ -86,7 +85,7 @@ fault_here text kept n s xs row t ys f up next some =
     ∙ ap (λ o. option_or o (first_fault (up.before ++ row ∷ []) (rows_left t ys)))
     (here_is kept n up.before row (Some f) up.counts up.number some)
 
--- no more row
+-- no more rows
 pub at_end : (text : List ℕ) (kept : List CountRow) (n : ℕ) (s : State) (xs : List ℕ)
     → IsUpTo text kept n s xs → next_record default_config s [] [] xs ≡ None
     → (first_fault [] (records default_config text) ≡ None)
@@ -129,7 +128,7 @@ not_chosen : (b : Bool) (x : CountRow) (o : Option CountRow) → o ≡ (if b the
 not_chosen true x o is none = absurd (let no : Some x ≡ None = sym is ∙ none in cc)
 not_chosen false x o is none = refl
 
--- a row with right codes
+-- a row with valid codes
 pub reads : (n : ℕ) (row : Fields) (count : ℕ) (r : CountRow) → count ≡ field_count row
     → (count ≡ 0 → ⊥) → count ≤ 2
     → Some r ≡ (if has_codes row then Some (count_row row) else None) → (own_fault n row ≡ None)
@@ -142,7 +141,7 @@ reads n row count r is some few codes =
           (not_zero count (field_count row) is some)),
     )
 
--- one with a wrong one
+-- a row with an invalid code
 pub refuses : (n : ℕ) (row : Fields) (count : ℕ) → count ≡ field_count row
     → (count ≡ 0 → ⊥) → count ≤ 2
     → None ≡ (if has_codes row then Some (count_row row) else None)

@@ -1,4 +1,4 @@
--- Which things were named, by a flag for each.
+-- For each thing a flag, set if a row names the thing.
 use Rattle.std.proofs.Common.{◌≡◌, ℕ, zero, suc, ◌<◌, ◌==◌, ◌||◌, Bool, true, false, List, [], ◌∷◌, ◌++◌, length, Option, Some, None, refl, ap, ◌∙◌, sym, subst, arith, replicate}
 use Rattle.std.proofs.lemmas.Bool.Decides.{nat_tests}
 use Rattle.std.proofs.Math.Bool.{or-false, or-true}
@@ -41,9 +41,9 @@ replicate_length : (n : ℕ) → length (replicate n false) ≡ n
 replicate_length zero = refl
 replicate_length (suc n) = ap suc (replicate_length n)
 
--- of rows of any kind, each naming a thing or none
+-- for rows of any kind, each naming a thing or none
 module _ {X : Type 0} (thing : X → Option ℕ) where
-  -- at first nothing is named
+  -- at first no thing is named
   pub names_none : (n : ℕ) (flags : List Bool) → flags ≡ replicate n false
       → AreNames thing n [] flags
   names_none n flags is = subst (AreNames thing n []) (sym is)
@@ -68,7 +68,7 @@ module _ {X : Type 0} (thing : X → Option ℕ) where
       here ∙ sym (rw e (or-true (names_by thing before x))))
       (λ n. flag_other flags y x n ∙ (is ∙ sym (rw n (or-false (names_by thing before x)))))
 
-  -- one row more
+  -- one more row
   pub names_then : (things : ℕ) (before : List X) (r : X) (flags : List Bool)
       → AreNames thing things before flags
       → AreNames thing things (before ++ r ∷ []) (with_flag flags (thing r))

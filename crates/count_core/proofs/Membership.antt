@@ -1,4 +1,4 @@
--- What a list contains.
+-- The members of a list.
 use Rattle.std.specs.Prelude.{ℕ, ◌≡◌, ◌<◌, ◌||◌, ◌⊎◌, Bool, true, false, cond, Contains, List, [], ◌∷◌, ◌++◌, filter, map, flat_map, get_or, length, zero, suc, refl}
 use Rattle.std.proofs.Common.{arith, ap, sym, ◌∙◌, subst, inl, inr}
 use Rattle.std.proofs.lemmas.List.Concat.{flat_map-cons}
@@ -23,7 +23,7 @@ module _ {X : Type 0} where
       by zero lt at = inl at
       by (suc k) lt at = inr (k, omega (arith, lt), at)
 
-  -- of two lists behind one another
+  -- a member of one of two joined lists
   pub front_or_back : (y : X) (xs ys : List X) → Contains (xs ++ ys) y
       → Contains xs y ⊎ Contains ys y
   front_or_back y [] ys h = inr h
@@ -38,7 +38,7 @@ module _ {X : Type 0} where
           more (inl k) = inl (there x y xs k)
           more (inr k) = inr k
 
-  -- what a filter lets through
+  -- the members that pass a filter
   pub let_through : (p : X → Bool) (xs : List X) (y : X) → Contains (filter p xs) y
       → Contains xs y × (p y ≡ true)
   let_through p [] y h = absurd (none_in y h)
@@ -129,7 +129,7 @@ module _ {X Y : Type 0} where
       by (inl first) rec = (x, here x xs, first)
       by (inr rest) rec = let r = rec rest in (r.0, there x r.0 xs r.1, r.2)
 
-  -- nothing comes of any
+  -- no element adds anything
   pub flat_map_none : (f : X → List Y) (xs : List X) → ((x : X) → Contains xs x → f x ≡ [])
       → flat_map f xs ≡ []
   flat_map_none f [] none = refl

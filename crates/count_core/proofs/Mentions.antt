@@ -24,7 +24,7 @@ kept_last q x true false e = refl
 kept_last q x false true e = ap (λ t. cond (not t) (q ∷ []) []) (both_ways q x ∙ e)
 kept_last q x false false e = ap (λ t. cond (not t) (q ∷ []) []) (both_ways q x ∙ e)
 
--- one number more goes last, if it is new
+-- one more number goes last, if it is new
 first_more : (xs : List ℕ) (q : ℕ)
     → first_mentions (xs ++ q ∷ []) ≡ first_mentions xs ++ cond (is_among q xs) [] (q ∷ [])
 first_more [] q = refl
@@ -92,7 +92,7 @@ mention_new S rows r places flags q are found lt new = record {
       found (names_then (place_of_row S) (length S.places) rows r flags are.marked);
 }
 
--- a row of a place that one before it has
+-- a row whose place an earlier row has
 pub mention_old : (S : Museum) (rows : List CountRow) (r : CountRow) (places : List ℕ)
     (flags : List Bool) (q : ℕ) → AreMentioned S rows places flags
     → find_place S r.place ≡ Some q → q < length S.places → flagged flags (Some q) ≡ true

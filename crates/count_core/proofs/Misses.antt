@@ -1,4 +1,4 @@
--- The objects that a list misses in a place, by the flags of the things that it names.
+-- The objects that a list misses in a place, by the flags of the named things.
 use Rattle.std.specs.Prelude.{ℕ, ◌≡◌, ◌&&◌, not, Bool, List, filter, length}
 use Rattle.std.proofs.Common.{ap}
 use Rattle.std.specs.List.{range_with_len}

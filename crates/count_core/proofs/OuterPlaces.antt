@@ -1,5 +1,4 @@
--- The places in which a place lies: each that its code lies in stands once among them, and no
--- other.
+-- The places that a place lies in: each is in the list once, and the list has no others.
 use Rattle.std.specs.Prelude.{All, is_none, ℕ, ◌≡◌, ◌+◌, ◌<◌, ◌≤◌, ◌==◌, ◌&&◌, ◌||◌, Bool, true, false, cond, nat_lt, List, [], ◌∷◌, ◌++◌, length, drop, take, map, filter, Option, Some, None, if◌then◌else◌, zero, suc, refl}
 use Rattle.std.proofs.Common.{arith, ap, sym, subst, ◌∙◌}
 use Rattle.std.proofs.Math.Seq.{drop-length, take-length}
@@ -22,7 +21,7 @@ use Rattle.nest_core.proofs.Positions.{position_unlike}
 use Rattle.count_core.specs.Inside.{outer_place, outer_places, outer_of}
 use Rattle.count_core.proofs.Flags.{by_bool}
 
--- what is found has the code that was sought
+-- the place that is found has the wanted code
 find_is : (S : Museum) (text code : List ℕ) (q : ℕ) → find_place S text ≡ Some q
     → place_code_of S q ≡ Some code → text ≡ code
 find_is S text code q found at =
@@ -43,7 +42,7 @@ hit_is (Some k) q e = ap Some (same_number k q e)
 itself : (q : ℕ) → (q == q) ≡ true
 itself q = grind (arith, nat_tests)
 
--- place q is found by its own code, and by no other text
+-- place q is found by its own code alone
 found_by : (S : Museum) (text code : List ℕ) (q : ℕ) → IsMuseum S → place_code_of S q ≡ Some code
     → hits (find_place S text) q ≡ bytes_eq text code
 found_by S text code q is at = by_bool (bytes_eq text code)
@@ -57,7 +56,7 @@ and_false : (b : Bool) → (b && false) ≡ false
 and_false true = refl
 and_false false = refl
 
--- so it is among the outer ones at the end of its own code, where the other lies in it
+-- So it is found at the end of its own code, if the other place lies in it.
 hit_at : (S : Museum) (text code : List ℕ) (q end : ℕ) → IsMuseum S → place_code_of S q ≡ Some code
     → hits (outer_place S text end) q
     ≡ (bytes_eq (take end text) code && ends_segment (drop end text))
@@ -96,7 +95,7 @@ range_more n =
     ∙ (map-range_with_len_more (λ k. k) 0 n n (omega arith) ∙ ap (λ xs. xs ++ n ∷ [])
     (map-id (range_with_len 0 n)))
 
--- one that is found, or none
+-- a place that is found, or none
 picked : (o : Option ℕ) (q : ℕ)
     → filter (λ k. k == q) (cons_option o []) ≡ cond (hits o q) (q ∷ []) []
 picked None q = refl
@@ -138,7 +137,7 @@ not_both m n = by_bool (nat_lt m n)
     ∙ (let other : (n == m) ≡ false = grind (arith, nat_tests) in other))
     (λ e. ap (λ b. b && (n == m)) e)
 
--- the fronts, one further
+-- one more first part of the code
 pub fronts_more : (S : Museum) (text : List ℕ) (n : ℕ)
     → filter_map (outer_place S text) (range_with_len 0 (n + 1)) ≡ filter_map (outer_place S text)
     (range_with_len 0 n) ++ cons_option (outer_place S text n) []
@@ -158,7 +157,7 @@ itself_last S text q is at =
     sym (ap (λ o. option_map_or (outer_places S) o []) at
     ∙ (fronts_more S text (length text) ∙ ap (λ o. fronts ++ cons_option o []) whole))
 
--- of the fronts up to n, place q is one at most
+-- place q is found at most once among the first parts up to n
 once : (S : Museum) (text code : List ℕ) (q : ℕ) → IsMuseum S → place_code_of S q ≡ Some code
     → (n : ℕ) → n ≤ length text + 1
     → filter (λ k. k == q) (filter_map (outer_place S text) (range_with_len 0 n))
@@ -193,7 +192,7 @@ once S text code q is at (suc n) lt =
     (below_more (length code) n)) in
     subst (λ k. mine (fronts k) ≡ some (nat_lt (length code) k && inner)) (sym next) now
 
--- a place is no shorter than one that it lies in
+-- a place's code is no shorter than that of a place it lies in
 front_short : (text code : List ℕ) → (nat_lt (length code) (length text + 1) && lies_in text code)
     ≡ lies_in text code
 front_short text code = by_bool (lies_in text code)
@@ -262,7 +261,7 @@ codes_pass (row ∷ rows) h = let both =
     and_parts (is_place_row row) (list_all is_place_row rows) h in
     rw (both.0, codes_pass rows both.1) refl
 
--- no place has a text that is no code
+-- no place has a text that isn't a code
 pub none_spelled : (S : Museum) (text : List ℕ) (fault : CodeFault) → IsMuseum S
     → place_fault text ≡ Some fault → find_place S text ≡ None
 none_spelled S text fault is e =

@@ -13,7 +13,7 @@ Segments = List (List ℕ)
 same_bytes : (xs : List ℕ) → bytes_eq xs xs ≡ true
 same_bytes xs = (bytes_eq-Decides xs xs).1 refl
 
--- the one begins with the other
+-- one text begins with the other
 front : (xs ys : Segments) → starts_with bytes_eq xs ys ≡ true → (rest : Segments)
     × (xs ≡ ys ++ rest)
 front xs [] e = (xs, refl)
@@ -28,7 +28,7 @@ begins [] rest = refl
 begins (y ∷ ys) rest = ap (λ b. b && starts_with bytes_eq (ys ++ rest) ys) (same_bytes y)
     ∙ begins ys rest
 
--- two fronts of one list
+-- two first parts of one list
 either_front : (xs ys r s : Segments) → xs ++ r ≡ ys ++ s → (starts_with bytes_eq xs ys ≡ true)
     ⊎ (starts_with bytes_eq ys xs ≡ true)
 either_front xs [] r s e = inl refl

@@ -1,4 +1,4 @@
--- Lists that are gone through one element at a time.
+-- Lists that a loop goes through, one element at a time.
 use Rattle.std.specs.Prelude.{ℕ, ◌≡◌, ◌+◌, ◌<◌, ◌&&◌, Bool, true, false, cond, All, List, [], ◌∷◌, ◌++◌, filter, length, take, flat_map, Some, slice_get, zero, suc, refl}
 use Rattle.std.proofs.Common.{arith, get_or, ap, sym, ◌∙◌}
 use Rattle.std.proofs.lemmas.List.{append-nil, map-id, take_more}
@@ -8,7 +8,7 @@ use Rattle.std.proofs.lemmas.Grind.{flat_map-append}
 use Rattle.std.proofs.lemmas.Option.{get_or_from_slice_get}
 use Rattle.std.specs.List.{range_with_len}
 
--- the numbers that pass a test, one number further
+-- the numbers that pass a test, with one more number tested
 pub filter_more : (p : ℕ → Bool) (n : ℕ)
     → filter p (range_with_len 0 (n + 1)) ≡ filter p (range_with_len 0 n) ++ cond (p n) (n ∷ []) []
 filter_more p n =
@@ -42,7 +42,7 @@ filter_alike p q (suc n) alike =
     ∙ (ap (λ b. filter q (range_with_len 0 n) ++ cond b (n ∷ []) []) (alike n (omega arith))
     ∙ (sym (filter_more q n) ∙ ap (λ k. filter q (range_with_len 0 k)) (sym next)))))
 
--- whatever passes is below n
+-- every number that passes is below n
 pub filter_below : (p : ℕ → Bool) (n : ℕ) → All (λ x. x < n) (filter p (range_with_len 0 n))
 filter_below p n = All-filter p (λ x. x < n) (range_with_len 0 n)
     (λ k d lt. let less : k < n = omega (arith, length-range_with_len 0 n, lt) in omega
@@ -63,7 +63,7 @@ filter_both p q (x ∷ xs) = filter_step x q (p x) (q x) (filter p xs) (filter (
     refl (filter_both p q xs)
 
 module _ {X : Type 0} where
-  -- the first elements, one further
+  -- the first elements, with one more
   pub take_with : (xs : List X) (i : ℕ) (x : X) → i < length xs → slice_get xs i ≡ Some x
       → take (i + 1) xs ≡ take i xs ++ x ∷ []
   take_with xs i x lt at = take_more xs i x lt ∙ ap (λ y. take i xs ++ y ∷ [])

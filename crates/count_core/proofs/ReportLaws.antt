@@ -1,4 +1,4 @@
--- What the reports say, in the words of those who ask for them.
+-- The laws of reports.
 use Rattle.std.specs.Prelude.{ℕ, ℤ, ◌≡◌, ◌≢◌, ◌<◌, ◌==◌, ◌&&◌, ◌⊎◌, not, Bool, true, false, Contains, List, filter, length, Option, Some, None, option_map, int_lt, if◌then◌else◌, refl}
 use Rattle.std.proofs.Common.{arith, ap, sym, ◌∙◌, subst, inl, inr}
 use Rattle.std.proofs.lemmas.Bool.{and_parts}
@@ -23,7 +23,7 @@ use Rattle.count_core.specs.Reports.{away, away_object, in_place, is_away, is_in
 use Rattle.count_core.proofs.Membership.{any_of, from_map, in_map, in_range, kept, let_through, range_below, some_of}
 use Rattle.count_core.proofs.PlaceNesting.{lies_in_itself, lies_through, one_in_other}
 
--- what a test of a value says, where there is one
+-- the test of a value, if there is one
 some_value : {X : Type 0} (p : X → Bool) (o : Option X) → option_map_or p o false ≡ true
     → (x : X) × (o ≡ Some x) × (p x ≡ true)
 some_value p None e = absurd (cc)

@@ -1,4 +1,4 @@
--- What marking says of each row.
+-- The effect of marking on each row.
 use Rattle.std.proofs.Common.{◌≡◌, ℕ, zero, suc, ◌+◌, ◌<◌, Bool, true, false, List, [], ◌∷◌, ◌++◌, length, take, map, Option, Some, None, if◌then◌else◌, refl, ap, ◌∙◌, sym, subst, arith, get_or}
 use Rattle.std.specs.Prelude.{slice_get, is_none}
 use Rattle.std.specs.List.{range_with_len}
@@ -64,7 +64,7 @@ marks true false a is = refl
 marks false true a is = is
 marks false false a is = refl
 
--- what is said to a row, by the flags
+-- the answer to a row, by the flags
 said : (B : Book) (before : List CountRow) (r : CountRow) (flags : List Bool)
     → AreNames (named B.museum) (length B.museum.things) before flags
     → mark (flagged flags (named B.museum r)) (look B r) ≡ answer B before r
@@ -74,7 +74,7 @@ said B before r flags are =
     ∙ marks (is_none (find_place B.museum r.place)) (is_again B.museum before r)
     (option_map_or (look_object B r.place) r.object Counted) (row_again B r.place r.object)
 
--- what the workers found for row i
+-- the result that the workers found for row i
 first_is : (B : Book) (rows : List CountRow) (looked : List Looked) (i : ℕ) (first : Looked)
     → looked ≡ map (look_at B rows) (range_with_len 0 (length rows)) → i < length rows
     → slice_get looked i ≡ Some first → first ≡ look_at B rows i
@@ -102,7 +102,7 @@ place_below S code q found =
       length-map S.places (λ (row : List ℕ × Bool). row.0),
     )
 
--- row i, and the number that was found of its place
+-- row i, and the number of its place
 pub found_at : (B : Book) (rows : List CountRow) (looked : List Looked) (i : ℕ) (first : Looked)
     → i < length rows → looked ≡ map (look_at B rows) (range_with_len 0 (length rows))
     → slice_get looked i ≡ Some first

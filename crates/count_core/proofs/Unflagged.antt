@@ -1,4 +1,4 @@
--- The lists of the objects that have no flag, place by place, thing by thing.
+-- The lists of the objects without a flag, place by place and thing by thing.
 use Rattle.std.specs.Prelude.{ℕ, zero, suc, ◌≡◌, ◌+◌, ◌<◌, ◌==◌, ◌&&◌, Bool, true, false, cond, List, [], ◌∷◌, ◌++◌, length, map, filter, Option, Some, None, option_map, slice_get, slice_set, unwrap_or, Vec, refl}
 use Rattle.std.proofs.Common.{arith, ap, sym, subst, ◌∙◌, get_or, append_assoc, replicate}
 use Rattle.std.proofs.lemmas.Bool.Decides.{nat_tests}
@@ -20,7 +20,7 @@ use Rattle.count_core.proofs.Flags.{by_bool}
 use Rattle.count_core.proofs.OuterPlaces.{outer_once}
 use Rattle.count_core.proofs.Ranges.{filter_more, filter_without}
 
--- a list that stands there
+-- the list at an index
 pub at_of : (vs : List (Vec ℕ Global)) (q : ℕ) (v : Vec ℕ Global) → slice_get vs q ≡ Some v
     → list_at (lists vs) q ≡ v.items
 at_of vs q v e = ap (λ o. unwrap_or o [])
@@ -56,7 +56,7 @@ as_often : (x q : ℕ) (b : Bool) → map (λ (k : ℕ). x) (cond b (q ∷ []) [
 as_often x q true = refl
 as_often x q false = refl
 
--- a place more among those whose lists grow
+-- one more place whose list grows
 pub pushed_more : (x p q : ℕ) (ps : List ℕ) (old now new : List ℕ)
     → now ≡ old ++ map (λ k. x) (filter (λ k. k == q) ps) → new ≡ now ++ cond (p == q) (x ∷ []) []
     → new ≡ old ++ map (λ k. x) (filter (λ k. k == q) (ps ++ p ∷ []))
@@ -69,7 +69,7 @@ pushed_more x p q ps old now new was is =
     ∙ (map-append (λ k. x) (filter (λ k. k == q) ps) (cond (p == q) (p ∷ []) [])
     ∙ ap (λ xs. map (λ k. x) (filter (λ k. k == q) ps) ++ xs) (as_often x p (p == q)))))))
 
--- the thing is in place q where its own place lies there
+-- the thing is in place q if its own place lies there
 within_is : (B : Book) (x p q : ℕ) (text code : List ℕ) → place_in B x ≡ Some p
     → place_code_of B.museum p ≡ Some text → place_code_of B.museum q ≡ Some code
     → is_within B q x ≡ lies_in text code
@@ -118,7 +118,7 @@ without_unflagged B flags x xss before none = record {
   each = λ q lt. before.each q lt ∙ sym (filter_without (is_unflagged_in B flags q) x (none q));
 }
 
--- the table of outer places, of which nobody asked for any
+-- the table of outer places, with all lists still empty
 none_at : (n p : ℕ) → list_at (replicate n []) p ≡ []
 none_at zero p = refl
 none_at (suc n) zero = refl
@@ -131,7 +131,7 @@ none_asked S xss is = record {
   each = λ p some. absurd (some (ap (λ yss. list_at yss p) is ∙ none_at (length S.places) p));
 }
 
--- and one that somebody asked for
+-- and with one list filled
 pub asked : (S : Museum) (vs : List (Vec ℕ Global)) (p : ℕ) (new : Vec ℕ Global) → p < length vs
     → list_at (lists (slice_set vs p new)) p ≡ new.items
 asked S vs p new lt = at_of (slice_set vs p new) p new (get_set_same vs p new lt)
@@ -161,7 +161,7 @@ outer_at S vs p v text table is lt at own =
     sym (at_of vs p v (slice_get_read vs (length S.places) p v count lt at))
     ∙ (is ∙ ap (λ (o : Option (List ℕ)). option_map_or (outer_places S) o []) own)
 
--- before any thing
+-- before the first thing
 pub none_yet : (B : Book) (flags : List Bool) (xss : List (List ℕ))
     → xss ≡ replicate (length B.museum.places) [] → AreUnflaggedIn B flags 0 xss
 none_yet B flags xss is = record {

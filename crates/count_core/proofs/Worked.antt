@@ -45,7 +45,7 @@ count_list = refl
 count_list-missing : missing (book placed) rows ≡ record { place = s1; object = object_3 } ∷ []
 count_list-missing = refl
 
--- a place that is mentioned twice is told once, and a row of an unknown place names its thing too
+-- A place that is named twice is reported once, and a row of an unknown place names its thing too.
 count_list-once : missing (book placed)
     (counted_alone (codes "S1") ∷ row (codes "S9") (codes "2001.4.1") ∷ counted_alone
     (codes "S1") ∷ [])
@@ -59,7 +59,7 @@ count_list-in_place = refl
 count_list-outer : outer_places (book placed).museum (codes "S1-A") ≡ s1 ∷ s1_a ∷ []
 count_list-outer = refl
 
--- only known places are told; a segment counts whole
+-- only known places are listed; segments count whole
 count_list-outer_known : outer_places (book placed).museum (codes "S1-B") ≡ s1 ∷ []
 count_list-outer_known = refl
 
@@ -73,7 +73,7 @@ count_list-outer_each = refl
 count_list-outer_none : outer_of (book placed).museum 5 ≡ []
 count_list-outer_none = refl
 
--- S1-A was asked for, and no other place
+-- the list of S1-A was needed, and no other
 abbrev one_asked : List (List ℕ)
 one_asked = [] ∷ (s1 ∷ s1_a ∷ []) ∷ [] ∷ [] ∷ [] ∷ []
 
@@ -101,7 +101,7 @@ count_list-unflagged : map (is_unflagged_in (book placed) first_flagged s1)
     (object_1 ∷ object_2 ∷ object_3 ∷ []) ≡ false ∷ false ∷ true ∷ []
 count_list-unflagged = refl
 
--- all three are where they belong, or not
+-- all three are at their normal places, or not
 count_list-away : away (book placed) ≡ record { object = object_2; place = Some s2 } ∷ []
 count_list-away = refl
 
@@ -134,7 +134,7 @@ taken_out_of_a_crate-missing = refl
 taken_out_of_a_crate-unflagged : is_unflagged_in (book taken_out) [] s1 crate_1 ≡ false
 taken_out_of_a_crate-unflagged = refl
 
--- loan_out: an object left on the last day of its loan, the day after which the loan is overdue
+-- loan_out: an object leaves on the last day of its loan, which is overdue on the next day
 
 abbrev may_31 : ℤ
 may_31 = pos 19874
@@ -168,7 +168,7 @@ loan_out-away : away (book lent) ≡ record { object = object_1; place = Some mu
     ∷ record { object = object_2; place = Some s2 } ∷ []
 loan_out-away = refl
 
--- a loan that is back is not overdue
+-- a loan whose objects are back is not overdue
 loan_out-returned : overdue
     (book (run lent ((gal, Return june_1 (codes "2001.4.1") loan (codes "S1")) ∷ []))) june_1 ≡ []
 loan_out-returned = refl
@@ -203,8 +203,7 @@ loan_in-given_back : overdue (book (run here ((gal, Exit june_1 (codes "L1999.7"
     june_1 ≡ []
 loan_in-given_back = refl
 
--- count_faults: of rows that are read, empty fields at the end don't count, and a row without a
--- field is skipped
+-- count_faults: empty fields at the end of a row don't count, and a row without a field is skipped
 
 abbrev read : List Fields
 read =

@@ -29,7 +29,7 @@ pub fn away_is_not_at_the_normal_place()
         → Contains (away B) (away_object B x) }
 {}
 
-/// What is in a place is in every place that this one lies in.
+/// A thing in a place is in every place that this one lies in.
 pub fn places_hold_what_lies_in_them()
     ensures { (B : Book) (inner outer : List ℕ) (x : ℕ) → lies_in inner outer ≡ true
         → Contains (in_place B inner) x → Contains (in_place B outer) x }
@@ -55,7 +55,7 @@ pub fn rows_are_answered_once()
         → answer_of_row B rows j ≢ Some Found }
 {}
 
-/// No row of the list names what is missing. If the rows name all that is in their places, nothing
+/// No row of the list names a missing object. If the rows name all that is in their places, nothing
 /// is missing.
 pub fn missing_is_what_no_row_names()
     ensures unnamed { (B : Book) (rows : List CountRow) (m : MissingObject) (r : CountRow)

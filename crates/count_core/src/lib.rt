@@ -1,5 +1,5 @@
-//! Checks count lists against the ledger, and reports on the ledger: what is overdue, what is away,
-//! what is in a place.
+//! Checks count lists against the ledger, and reports on the ledger: overdue loans, own objects
+//! away from their normal place, and the things in a place.
 //!
 //! [`read_counts`] reads a list of [`CountRow`]s, and [`check`] compares it with the ledger. Its
 //! [`CountReport`] has an answer for each row, and the objects that the list misses. [`overdue`],
@@ -9,7 +9,7 @@
 //!
 //! - A list is read exactly, or rejected with its first fault.
 //! - The report is the one that the definitions give, whatever the number of workers.
-//! - All places and things in a report are in the setup. `laws` has what follows from the
+//! - All places and things in a report are in the setup. `laws` has facts that follow from the
 //!   definitions, such as that no thing is Found twice.
 //!
 //! The only fault of a report is NoMemory.

@@ -1,5 +1,5 @@
-//! Reports on the ledger: what is overdue, what is away from its normal place, and what is in a
-//! place.
+//! Reports on the ledger: the overdue loans, the own objects away from their normal place, and the
+//! things in a place.
 ghost use Rattle.std.specs.Prelude.{◌≡◌, ◌<◌, All, IfOk, length, slice_get, Some, false};
 ghost use Rattle.std.specs.List.{list_any};
 ghost use Rattle.std.specs.Option.{option_map_or};

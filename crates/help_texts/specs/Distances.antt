@@ -25,7 +25,7 @@ abbrev pub IsNoNearer : List ℕ → Option Nearest → Meaning → Type 0
 IsNoNearer text None word = ⊥
 IsNoNearer text (Some found) word = found.edits ≤ edits_between text word.word.now
 
--- What is found is as near as the best before.
+-- The result is as near as the best before it.
 abbrev pub IsAsNear : Option Nearest → Option Nearest → Type 0
 IsAsNear None found = ⊤
 IsAsNear (Some best) None = ⊥

@@ -11,7 +11,7 @@ use crate::verdicts::VERDICTS;
 use crate::{Meaning, Nearest};
 use std::alloc::{AllocError, Global};
 
-/// What a table of words is about.
+/// The subject of a table of words.
 #[derive(Clone, Copy)]
 enum Subject {
     Verdicts,

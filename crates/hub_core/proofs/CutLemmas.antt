@@ -93,7 +93,7 @@ module _ (S : Museum) (depth : ℕ) where
   runs_all p [] runs = runs
   runs_all p (r ∷ A) runs = runs_all (point_after S depth p r) A (runs_after p r runs)
 
-  -- what is due of one number
+  -- the message that is due under one number
   due_one : (taken : List (Arrived Message)) (s k n : ℕ) (m : Message) → n ≡ k + 1
       → message_at taken s n ≡ Some m → due taken s k 1 ≡ arrived s n m ∷ []
   due_one taken s k n m e at = let q : k + 1 ≡ n = sym e in rw (q, at) refl
@@ -126,7 +126,7 @@ module _ (S : Museum) (depth : ℕ) where
       (ap (due taken s (ready is_sign_off (sent P) s)) one ∙ due_one taken s
       (ready is_sign_off (sent P) s) e.n e.message next at)
 
-  -- a lawful list, taken as what arrived, is ready to its end
+  -- a lawful list, taken as arrivals, is ready to its end
   pub lawful_run : (P : List Entry) (s : ℕ) → IsLawful S depth P
       → cut s P ≡ run is_sign_off (sent P) s
   lawful_run [] s law = refl
@@ -141,7 +141,7 @@ module _ (S : Museum) (depth : ℕ) where
       (cases_eq e.station s))
       ∙ ap (λ (taken : List (Arrived Message)). run is_sign_off taken s) (sym (sent_next e P))
 
-  -- a lawful list was lawful before
+  -- a lawful list stays lawful without its last entries
   posts_lawful : (P : List Entry) (xs : List (Arrived Message))
       → IsLawful S depth (fold (post S depth) P xs) → IsLawful S depth P
   posts_lawful P [] law = law

@@ -1,4 +1,4 @@
--- Pieces of a line.
+-- The pieces of a line.
 use Rattle.std.proofs.Common.{◌≡◌, ◌≢◌, ℕ, zero, suc, ◌+◌, ◌-◌, ◌<◌, ◌≤◌, min, List, [], ◌∷◌, ◌++◌, length, take, get_or, Option, None, Some, refl, ap, ◌∙◌, sym, subst, arith, append-nil}
 use Rattle.std.specs.Prelude.{OnSome, unwrap_or}
 use Rattle.std.specs.Io.KnownBytes.{Consumes, IsAtEnd}
@@ -12,14 +12,14 @@ pub no_feed_join : (p q : List ℕ) → HasNoFeed p → HasNoFeed q → HasNoFee
 no_feed_join [] q h k = k
 no_feed_join (x ∷ p) q h k = (h.0, no_feed_join p q h.1 k)
 
--- one more byte that is no line feed
+-- one more byte that isn't a line feed
 pub no_feed_more : (bytes : List ℕ) (i d : ℕ) → i < length bytes → HasNoFeed (take i bytes)
     → get_or bytes i d ≢ 10 → HasNoFeed (take (i + 1) bytes)
 no_feed_more bytes i d less h ne =
     subst HasNoFeed (sym (take_more bytes i d less))
     (no_feed_join (take i bytes) (get_or bytes i d ∷ []) h (ne, tt))
 
--- no line feed among the bytes that a search passed over
+-- no line feed among the bytes before the result of a search
 none_fed : (bytes : List ℕ) (n : ℕ) → n ≤ length bytes → Nowhere (Passes (is_byte 10) bytes) 0 n
     → HasNoFeed (take n bytes)
 none_fed bytes zero within none = tt
@@ -31,7 +31,7 @@ none_fed bytes (suc n) within none =
     (no_feed_more bytes n 0 (omega arith) first
     (λ e. none n (omega arith) (omega arith) (rw e refl)))
 
--- none before the place that it found, or among all bytes
+-- no line feed before the position found, or in any byte
 pub none_before : (bytes : List ℕ) (found : Option ℕ) (n : ℕ) → IsFirstByte (is_byte 10) bytes found
     → n ≡ unwrap_or found (length bytes) → HasNoFeed (take n bytes)
 none_before bytes None n first e =
@@ -95,7 +95,7 @@ cut_input shown feed taken end e t less none = (
   λ i. none,
 )
 
--- what ends a read later ends it from the start
+-- a reader that is at its end after a later read is so after both reads
 pub end_after : (a b c : Option (List ℕ)) (bytes : List ℕ) → Consumes a b bytes
     → OnSome b (IsAtEnd c) → OnSome a (IsAtEnd c)
 end_after None b c bytes p e = tt

@@ -68,7 +68,7 @@ module _ {X : Type 0} (test : X → Bool) where
       let both = or_parts (test x) (list_any test xs) h in
       after_failed x (xs ++ ys) both.0 ∙ after_none xs ys both.1
 
--- whole lines of which none is empty
+-- whole lines, none of which is empty
 pub record IsFull (c : List ℕ) : Type 0 where
   pub whole : IsWhole c
   pub none : list_any is_blank (pieces c) ≡ false
@@ -76,7 +76,7 @@ pub record IsFull (c : List ℕ) : Type 0 where
 pub full_none : IsFull []
 full_none = record { whole = whole_none; none = refl }
 
--- what comes behind them
+-- the head, with bytes after them
 pub head_behind : (c x : List ℕ) → IsFull c → head (c ++ x) ≡ c ++ head x
 head_behind c x f =
     ap (λ (ps : List (List ℕ)). concat (before_first is_blank ps)) (f.whole.cut x)
@@ -89,7 +89,7 @@ after_behind c x f =
     ap (λ (ps : List (List ℕ)). concat (after_first is_blank ps)) (f.whole.cut x)
     ∙ ap concat (after_none is_blank (pieces c) (pieces x) f.none)
 
--- a line with its line feed, and what comes behind it
+-- a line with its line feed, and the bytes after it
 blank_fed : (p : List ℕ) → HasNoFeed p → is_blank (p ++ 10 ∷ []) ≡ is_empty (without_return p)
 blank_fed p one = ap is_empty (line_fed p one)
 
@@ -119,7 +119,7 @@ full_more c p f one e = record {
       ∙ ap (λ t. t || false) (blank_fed p one ∙ e);
 }
 
--- a line that no line feed ends
+-- a line without a line feed at its end
 pub head_blank : (p : List ℕ) → HasNoFeed p → is_empty (without_return p) ≡ true → head p ≡ []
 head_blank [] one e = refl
 head_blank (x ∷ p) one e =
@@ -142,7 +142,7 @@ after_last (x ∷ p) one = ap (λ (ps : List (List ℕ)). concat (after_first is
     by_test true e = ap concat (after_passed is_blank (x ∷ p) [] e)
     by_test false e = ap concat (after_failed is_blank (x ∷ p) [] e)
 
--- the lines through the last line feed
+-- the lines up to the last line feed
 pub part_of : (c p : List ℕ) → IsFull c → HasNoFeed p → has_empty_line (c ++ p) ≡ false
 part_of c p f one = ap (λ (b : List ℕ). list_any is_blank (pieces b))
     (ended_whole c p f.whole one) ∙ f.none
@@ -165,7 +165,7 @@ still_full (x ∷ []) [] e = e
 still_full (x ∷ []) (y ∷ q) e = two x y q
 still_full (x ∷ y ∷ p) q e = two x y (p ++ q)
 
--- its first bytes tell
+-- the first bytes of a line decide whether it is empty
 pub kept_blank : (n : ℕ) (p : List ℕ)
     → is_empty (without_return (take (n + 2) p)) ≡ is_empty (without_return p)
 kept_blank n p = let more : n + 2 ≡ suc (suc n) = omega arith in
@@ -195,13 +195,13 @@ first_feed (b ∷ bs) = cut (eqb_tells b 10) (first_feed bs)
         further (inl e) = inl (ap (λ (l : List ℕ). b ∷ l) e)
         further (inr e) = inr (e.0, ap (λ (l : List ℕ). b ∷ l) e.1)
 
--- a line that isn't empty stands in the head
+-- a line that isn't empty is in the head
 pub head_goes_on : (p x : List ℕ) → HasNoFeed p → is_empty (without_return p) ≡ false
     → head (p ++ 10 ∷ x) ≡ (p ++ 10 ∷ []) ++ head x
 head_goes_on p x one e = ap head (sym (append_assoc p (10 ∷ []) x)) ∙ head_behind (p ++ 10 ∷ []) x
     (full_more [] p full_none one e)
 
--- what has begun with so many bytes has no shorter head
+-- if the head of the first bytes is longer than n, the head of all bytes is too
 pub head_grows : (n : ℕ) (p x : List ℕ) → HasNoFeed p → n < length (head p)
     → n < length (head (p ++ x))
 head_grows n p x one long = by_test (is_empty (without_return p)) refl
@@ -233,7 +233,7 @@ head_grows n p x one long = by_test (is_empty (without_return p)) refl
         let same = ap length (head_last p one e) in
         omega arith
 
--- the first bytes of a line tell whether it fits
+-- the first bytes of a line decide whether it fits
 pub line_too_long : (room : ℕ) (kept p : List ℕ) → HasNoFeed p → kept ≡ take (room + 2) p
     → room < length kept → is_empty (without_return kept) ≡ false → room < length (head p)
 line_too_long room kept p one is long full =

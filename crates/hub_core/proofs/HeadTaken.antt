@@ -1,4 +1,4 @@
--- A head taken line by line. `i` is what the reader has left before, `i1` before the line, `i2`
+-- Takes a head, line by line. The reader has `i` left at first, `i1` before the line, and `i2`
 -- after it.
 use Rattle.std.proofs.Common.{◌≡◌, ℕ, ◌+◌, ◌<◌, ◌≤◌, inl, ◌∷◌, ◌++◌, Bool, true, false, true≢false, if◌then◌else◌, List, [], length, length-append, length-take, take_all, Option, None, Some, refl, ap, ◌∙◌, sym, subst, arith, append_assoc, append-nil}
 use Rattle.std.specs.Prelude.{IfSome, OnSome}
@@ -16,14 +16,14 @@ use Rattle.hub_core.specs.WholeRun.{head_fault, InHead, TakesHead, StopsInLine, 
 use Rattle.hub_core.proofs.FeedLemmas.{end_after}
 use Rattle.hub_core.proofs.HeadLemmas.{IsFull, full_more, head_behind, after_behind, head_ends, after_ends, head_blank, head_last, after_last, head_goes_on, head_grows, kept_blank, part_of}
 
--- what holds of the bytes read, whatever comes behind them, holds of all bytes
+-- whatever is true of the bytes read, with any bytes after them, is true of all bytes
 of_all : (i i' : Option (List ℕ)) (bytes : List ℕ) (P : List ℕ → Type 0) → Consumes i i' bytes
     → ((x : List ℕ) → i' ≡ Some x → P (bytes ++ x)) → IfSome i P
 of_all None i' bytes P read f = tt
 of_all (Some xs) None bytes P read f = absurd read
 of_all (Some xs) (Some ys) bytes P read f = subst P (sym read) (f ys refl)
 
--- at the end nothing comes behind them
+-- at the end of the input, no bytes come after them
 of_ended : (i i' : Option (List ℕ)) (bytes : List ℕ) (P : List ℕ → Type 0) → Consumes i i' bytes
     → OnSome i (IsAtEnd i') → (i' ≡ Some [] → P bytes) → IfSome i P
 of_ended None i' bytes P read end f = tt
@@ -47,7 +47,7 @@ stops_between i i' c read full few = record {
       omega (arith, same, length-append c (head []));
 }
 
--- the line that comes next, of which so many bytes fit
+-- the next line, with room for this many of its bytes
 module _ (i i1 i2 : Option (List ℕ)) (c : List ℕ) (read : Consumes i i1 c) (full : IsFull c)
     (room : ℕ) (fits : length c + room ≡ LONGEST_HEAD) where
   in_line : (p : List ℕ) → Consumes i1 i2 p → HasNoFeed p → length (head p) ≤ room → InHead i i2

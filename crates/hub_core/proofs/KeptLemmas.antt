@@ -1,4 +1,4 @@
--- A line of which the first bytes are kept.
+-- A line whose first bytes are kept.
 use Rattle.std.proofs.Common.{◌≡◌, ℕ, ◌+◌, ◌-◌, ◌<◌, ◌≤◌, Bool, true, false, if◌then◌else◌, List, [], ◌∷◌, length, take, refl, ap, ◌∙◌, sym, arith, take_all, length-take-le, codes}
 use Rattle.std.specs.Prelude.{nat_eq, nat_le}
 use Rattle.std.specs.List.{ends_with}

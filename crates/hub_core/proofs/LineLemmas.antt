@@ -1,11 +1,11 @@
--- Bytes as lines.
+-- Bytes and their lines.
 use Rattle.std.proofs.Common.{◌≡◌, ℕ, ◌==◌, if◌then◌else◌, List, [], ◌∷◌, ◌++◌, refl, ap, ◌∙◌, sym, append_assoc, append-nil, ne_eqb, not, cond}
 use Rattle.std.specs.Prelude.{take_while}
 use Rattle.std.proofs.lemmas.List.Sums.{take_while-cons}
 use Rattle.hub_core.specs.Reading.{HasNoFeed}
 use Rattle.hub_core.specs.Lines.{before, pieces, line_of, ended, is_empty, without_return}
 
--- what stands before the line feed
+-- the bytes before the line feed
 before_feed : (p rest : List ℕ) → HasNoFeed p → take_while (λ b. not (b == 10)) (p ++ 10 ∷ rest) ≡ p
 before_feed [] rest h = take_while-cons (λ b. not (b == 10)) 10 rest
 before_feed (x ∷ p) rest h =
@@ -64,7 +64,7 @@ ended_none (x ∷ p) h =
     (ne_eqb x 10 h.0)
     ∙ ap (λ (xs : List ℕ). if is_empty xs then [] else x ∷ xs) (ended_none p h.1)
 
--- whole lines: what comes behind them is cut apart
+-- whole lines: the bytes after them are cut separately
 pub record IsWhole (c : List ℕ) : Type 0 where
   pub cut : (x : List ℕ) → pieces (c ++ x) ≡ pieces c ++ pieces x
   pub through : (x : List ℕ) → ended (c ++ x) ≡ c ++ ended x
@@ -91,6 +91,6 @@ whole_more c p w h = record {
       ∙ sym (append_assoc c (p ++ 10 ∷ []) (ended x));
 }
 
--- the start of a line behind whole lines isn't ended
+-- a line that begins after whole lines has not ended
 pub ended_whole : (c p : List ℕ) → IsWhole c → HasNoFeed p → ended (c ++ p) ≡ c
 ended_whole c p w h = w.through p ∙ ap (λ (q : List ℕ). c ++ q) (ended_none p h) ∙ append-nil c

@@ -1,4 +1,4 @@
--- A hub over a list of entries that it finds.
+-- A hub over the entries of a store.
 use Rattle.std.proofs.Common.{◌≡◌, ℕ, zero, suc, ◌+◌, ◌<◌, ◌≤◌, ◌==◌, ◌&&◌, not, Bool, true, false, List, [], ◌∷◌, ◌++◌, length, Option, Some, None, inl, inr, get_or, refl, ap, ◌∙◌, sym, subst, arith, append_assoc}
 use Rattle.std.specs.Prelude.{map, reverse, replicate, slice_get, slice_set, nat_le, All}
 use Rattle.std.proofs.lemmas.List.Elements.{All-from_get_or}
@@ -67,7 +67,7 @@ opened_set (x ∷ starts) zero start = refl
 opened_set (x ∷ starts) (suc s) start =
     ap (λ (xs : List (Series Message)). opened x ∷ xs) (opened_set starts s start)
 
--- what the start of a station says of the entries
+-- the start of a station, by the entries
 pub record IsStart (S : Museum) (P : List Entry) (s : ℕ) (start : Start) : Type 0 where
   pub known : s < length S.stations
   pub count : start.posted ≡ count_at s P
@@ -86,7 +86,7 @@ is_start S P starts s start step e =
       sign = sym (ap (λ (x : Series Message). x.signed) here) ∙ step.sign s within;
     }
 
--- an entry follows where its station may send its number, and its verdict is the rules'
+-- an entry may follow if its station may send its number, and its verdict is the rules'
 follows_some : (S : Museum) (depth : ℕ) (P : List Entry) (e : Entry) (starts : List Start)
     (o : Option Start) → slice_get starts e.station ≡ o → InStep (map opened starts) S P
     → may_send o e.n ≡ true → verdict S depth P e.message ≡ e.verdict → Follows S depth P e
@@ -115,7 +115,7 @@ pub follows_next : (S : Museum) (depth : ℕ) (P : List Entry) (e : Entry) (star
 follows_next S depth P e starts step h judged =
     follows_some S depth P e starts (slice_get starts e.station) refl step h judged
 
--- and only there
+-- and only then
 sends_some : (S : Museum) (depth : ℕ) (P : List Entry) (e : Entry) (starts : List Start)
     (o : Option Start) → slice_get starts e.station ≡ o → InStep (map opened starts) S P
     → Follows S depth P e → may_send o e.n ≡ true
@@ -174,7 +174,7 @@ all_few S depth P starts law step =
     let low : count_at s P ≤ 999999 = count_few S depth P s law in
     omega (arith, is.count, low))
 
--- a lawful list, as what was taken
+-- a lawful list, as arrivals
 abbrev pub sent : List Entry → List (Arrived Message)
 sent P = map arrival_of (reverse P)
 
@@ -182,7 +182,7 @@ pub sent_next : (e : Entry) (P : List Entry) → sent (e ∷ P) ≡ sent P ++ ar
 sent_next e P = ap (map arrival_of) (reverse-append (e ∷ []) P) ∙ map-append arrival_of
     (reverse P) (e ∷ [])
 
--- each station may start from it
+-- each station may start from that list
 pub lawful_start : (S : Museum) (depth : ℕ) (P : List Entry) (s : ℕ) → IsLawful S depth P
     → StartsFrom is_sign_off (sent P) s
     (record { posted = count_at s P; signed = is_signed_off s P })
@@ -217,7 +217,7 @@ all_start S depth P starts law step = record {
       (lawful_start S depth P s law);
 }
 
--- the stations that are made from the starts go on from the list
+-- the stations made from the starts go on from the list
 pub goes_on : (L : Book) (starts now : List Start) (all : List (Series Message))
     → IsLawful L.museum L.depth L.posted → InStep (map opened starts) L.museum L.posted
     → now ≡ starts
@@ -231,7 +231,7 @@ goes_on L starts now all law step is made matches = record {
       (all_start L.museum L.depth L.posted starts law step));
 }
 
--- an entry whose station may send its number may follow with the verdict of the rules
+-- an entry may follow with the rules' verdict, if its station may send its number
 pub sends_follows : (L : Book) (e : Entry) (starts now : List Start) (sends : Bool)
     → InStep (map opened starts) L.museum L.posted → now ≡ starts
     → sends ≡ may_send (slice_get now e.station) e.n → sends ≡ true
@@ -241,7 +241,7 @@ sends_follows L e starts now sends step is told on =
     starts step (ap (λ (xs : List Start). may_send (slice_get xs e.station) e.n) (sym is)
     ∙ (sym told ∙ on)) refl
 
--- and so it may with its own, where that is the same
+-- and with its own verdict, if that is the same
 pub judged_follows : (L : Book) (e : Entry) (changes : Changes)
     → Follows L.museum L.depth L.posted (entry_of L.museum L.depth L.posted (arrival_of e))
     → changes ≡ changes_of L e.message → changes.verdict ≡ e.verdict

@@ -7,7 +7,7 @@ use Rattle.hub_core.specs.declared.outcome.Outcome.{Outcome}
 use Rattle.hub_core.specs.declared.outcome.Outcome.TheVariants as outcome
 use Rattle.hub_core.specs.Outcomes.{posted_outcomes}
 
--- those of these entries, which stand oldest first, from number `first` on
+-- the outcomes of these entries, listed oldest first, from number `first` on
 abbrev pub from_first : ℕ → List Entry → List Outcome
 from_first first es = map (λ (e : Entry). outcome.Posted e.verdict) (drop (first - 1) es)
 
@@ -28,7 +28,7 @@ take_whole (suc n) [] h = refl
 take_whole zero (e ∷ es) h = absurd (omega arith)
 take_whole (suc n) (e ∷ es) h = ap (λ (xs : List Entry). e ∷ xs) (take_whole n es (omega arith))
 
--- none of those below
+-- none before that number
 pub from_start : (first start : ℕ) (es : List Entry) → start ≡ first - 1
     → from_first first (take start es) ≡ []
 from_start first start es e =

@@ -1,4 +1,4 @@
--- The posting of what is due.
+-- The posting of due messages.
 use Rattle.std.proofs.Common.{◌≡◌, ◌≢◌, ℕ, suc, ◌+◌, ◌-◌, ◌<◌, ◌≤◌, ◌==◌, ◌||◌, inl, inr, Bool, true, false, List, [], ◌∷◌, length, Some, None, refl, ap, ◌∙◌, sym, subst, arith, length-set, if◌then◌else◌}
 use Rattle.std.specs.Prelude.{fold, slice_set}
 use Rattle.std.proofs.Math.Bool.{or-false}
@@ -25,7 +25,7 @@ use Rattle.station_core.proofs.StationLemmas.{series_at_set_same, series_at_set_
 use Rattle.hub_core.specs.Points.{entry_of, post}
 use Rattle.hub_core.specs.StandsFor.{InStep, Done}
 
--- how far the posting of what is due at station s has come: k of its messages were posted before
+-- The progress of posting the due messages of station s: k of its messages were posted before.
 pub record Caught (S : Museum) (depth : ℕ) (taken : List (Arrived Message)) (s k : ℕ)
     (before : List Entry) (sequences : List (Series Message)) (now : List Entry) : Type 0 where
   pub posting : IsPosting is_sign_off taken s sequences
@@ -103,7 +103,7 @@ done_sign S depth taken s k n before now now' all mid all' m c e d close on step
           c.forward e d.message c.list);
     }
 
--- the next message of a station that is in step may follow what is posted
+-- the next message of a station in step may follow the posted list
 pub next_follows : (S : Museum) (depth : ℕ) (P : List Entry) (all : List (Series Message)) (s n : ℕ)
     (m : Message) (v : Verdict) → InStep all S P → s < length all
     → (series_at all s).signed ≡ false →
@@ -160,7 +160,7 @@ written_again all mid all' s q q' first second = record {
   others = λ t n. second.others t n ∙ first.others t n;
 }
 
--- the stations stay in step where an entry of the next number is posted
+-- the stations stay in step when an entry with the next number is posted
 pub step_written : (S : Museum) (P : List Entry) (all all' : List (Series Message))
     (q : Series Message) (e : Entry) → InStep all S P → e.station < length all
     → IsWritten all all' e.station q →
@@ -208,7 +208,7 @@ posted_step L L' r all all' q is step within written posted sign unsigned =
     (step_written L.museum L.posted all all' q (entry_of L.museum L.depth L.posted r) step within
     written posted sign unsigned)
 
--- and where a message is held
+-- and when a message is held
 pub step_held : (S : Museum) (P : List Entry) (all all' : List (Series Message)) (s : ℕ)
     (q : Series Message) → InStep all S P → s < length all → IsWritten all all' s q →
     q.posted ≡ (series_at all s).posted → q.signed ≡ (series_at all s).signed → InStep all' S P
@@ -237,7 +237,7 @@ unsigned_if false true c d h = absurd (none-some _ (sym h))
 unsigned_if false false true d h = absurd (none-some _ (sym h))
 unsigned_if false false false d h = refl
 
--- a station whose message is taken isn't signed off
+-- a station whose message is taken hasn't signed off
 pub taken_unsigned : (all : List (Series Message)) (s n : ℕ) → refusal_of all s n ≡ None
     → (series_at all s).signed ≡ false
 taken_unsigned all s n = elim (slice_get all s) as (λ o. refusal_in o n ≡ None

@@ -8,7 +8,7 @@ use Rattle.posting_core.specs.VerdictNames.{verdict_name}
 use Rattle.hub_core.specs.Replies.{posted_line}
 use Rattle.hub_core.specs.LineText.{posted_lines}
 
--- too few entries have no line
+-- entries before the number have no line
 pub posted_none : (station : List ℕ) (first : ℕ) (P : List Entry) → length P < first
     → posted_lines station first P ≡ []
 posted_none station first [] h = refl
@@ -47,7 +47,7 @@ take_few zero es = omega arith
 take_few (suc n) [] = omega arith
 take_few (suc n) (e ∷ es) = let few = take_few n es in omega arith
 
--- no line for those below
+-- no lines for entries before the number
 pub posted_start : (station : List ℕ) (first start : ℕ) (es : List Entry) → start ≡ first - 1
     → posted_lines station first (reverse (take start es)) ≡ []
 posted_start station zero start es e =
@@ -57,7 +57,7 @@ posted_start station (suc n) start es e =
     posted_none station (suc n) (reverse (take start es))
     (let back = length-reverse (take start es) in omega (arith, few, back))
 
--- more entries on top take no line away
+-- more entries remove no line
 posted_longer : (station : List ℕ) (first : ℕ) (P Q : List Entry)
     → length (posted_lines station first P) ≤ length (posted_lines station first (Q ++ P))
 posted_longer station first P [] = omega arith

@@ -26,7 +26,7 @@ comes_more old new F G more comes = record {
   from = λ quiet d held. let (c, was, step) = comes.from quiet d held in (c, was, more c d step);
 }
 
--- why it isn't bound is why it isn't opened
+-- a cause for which a store isn't bound is one for which it isn't opened
 bind_fault : (S : Museum) (c : Content) (fault : StoreFault) → IsBindFault S c fault
     → IsOpenFault S c fault
 bind_fault S c NoMemory h = tt
@@ -120,7 +120,7 @@ not_judged store S depth P fault listed of wrong =
     λ quiet c held. judge_fault S depth c P fault (listed.bound.each quiet c held)
     (listed.list quiet c held) of wrong
 
--- what a ledger with the list shows
+-- facts about a ledger with the list
 module _ (L : Book) (P : List Entry) (starts : List Start) (L' : Book)
     (judged : IsJudged L P starts L') where
   rows_fault : (c : Content) (fault : StoreFault) → IsBoundTo L.museum L.depth c → HasList P c
@@ -218,7 +218,7 @@ not_restored old mid new S fault bound still each =
     ))
     (bound_on old mid new S bound still) each
 
--- what is left of the list by binding
+-- the list before the store was bound
 list_before : (S : Museum) (c : Content) (P : List Entry) → HasList P (bound_to S c) → HasList P c
 list_before S c P has = by (is_new c.meta) has
   where
@@ -239,7 +239,7 @@ restored_from old mid new S L bound still stored =
     ))
     (bound_on old mid new S bound still) (λ quiet c held. (stored.each quiet c held).list)
 
--- a call counted no refusal, and the next one met a fault
+-- one call counts no Store fault, and the next call fails
 pub counts_err : (T U : Type 0) (old mid new : ℕ) (x : StoreFault) (r : Result U StoreFault)
     → mid ≡ old → CountsRefusal {T = T} mid new (Err x) → IsErrAnd r (λ y. y ≡ x)
     → CountsRefusal old new r

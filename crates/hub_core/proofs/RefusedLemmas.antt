@@ -1,4 +1,4 @@
--- What is posted with refused verdicts alone changes no answer.
+-- Refused entries change no answer.
 use Rattle.std.specs.Prelude.{ℕ, ◌≡◌, true, List, ◌++◌, Option, Some, None, refl}
 use Rattle.std.specs.Option.{option_map_or}
 use Rattle.std.proofs.Common.{ap, ◌∙◌, sym, subst}

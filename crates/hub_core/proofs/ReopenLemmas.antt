@@ -50,7 +50,7 @@ module _ (S : Museum) (depth : ℕ) (P : List Entry) (c : Content) (law : IsLawf
       by [] same = absurd (omega (arith, length_permutation (rows_of_meta depth) [] same))
       by (row ∷ rows) same = refl
 
-  -- it stays as it is
+  -- a bound store stays as it is
   stays : bound_to S c ≡ c
   stays = ap (λ b. bound_by b S c) is_old
 
@@ -108,7 +108,7 @@ module _ (store : Holding) where
       × IsLawful book.museum book.depth P × IsStoreOf book.museum book.depth P c)
       (λ c is. (book.posted, law, is)) has
 
-  -- a store with a book's list, or that with one entry that may follow
+  -- a store with a ledger's list, or with that list and one entry that may follow
   some_of_either : (L L' : Book) (next : Arrived Message) → IsLawful L.museum L.depth L.posted
       → Follows L.museum L.depth L.posted (entry_of L.museum L.depth L.posted next)
       → L' ≡ L → HasEither store L.museum L.depth L.posted next → HasSomeStore store L'
@@ -144,11 +144,11 @@ unposted old new L L' next law follows same left =
 abbrev with_verdict : Entry → Verdict → Entry
 with_verdict e v = record { station = e.station; n = e.n; message = e.message; verdict = v }
 
--- what the posting of an entry that may follow leaves
+-- the store after an entry that may follow
 module _ (old new : Holding) (L L' : Book) (e : Entry) (changes : Changes)
     (lawful : IsLawful L.museum L.depth L.posted) (follows : Follows L.museum L.depth L.posted e)
     (planned : changes ≡ changes_of L e.message) where
-  -- it has the verdict of its changes, which is that of the rules
+  -- The entry has the verdict of its changes, which is that of the rules.
   own : e ≡ entry_with (arrival_of e) changes
   own = ap (with_verdict e) (follows.judged ∙ ap (λ (x : Changes). x.verdict) (sym planned))
 
@@ -174,7 +174,7 @@ module _ (old new : Holding) (L L' : Book) (e : Entry) (changes : Changes)
   unapplied same comes = unposted old new L L' (arrival_of e) lawful next same
       (λ had. either_in old new L (arrival_of e) changes lawful next planned had (posting comes))
 
-  -- neither did
+  -- neither failed
   pub posts : L' ≡ record L { posted = e ∷ L.posted } → Comes old new (IsPosted e changes)
       → Posts old new L L' (arrival_of e)
   posts is comes =
@@ -186,7 +186,7 @@ module _ (old new : Holding) (L L' : Book) (e : Entry) (changes : Changes)
             (posting comes);
       }
 
--- an opening of such a store fails for nothing else
+-- opening the store fails for no other reason
 pub fails_so : (old new : Holding) (S T : Museum) (fault : StoreFault) → S ≡ T → OpensAgain old T
     → Comes old new (IsNotOpened S fault) → new.is_quiet → is_failure fault ≡ true
 fails_so old new S T fault same again comes quiet = by (is_failure fault) refl

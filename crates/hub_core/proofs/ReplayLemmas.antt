@@ -54,7 +54,7 @@ under_start S depth O A i o holding hub st = record {
   number = refl;
 }
 
--- a watch has seen what comes of them, too
+-- and a watch has seen their outcomes
 pub record UnderWatch {Q : Type 0} (S : Museum) (depth : ℕ) (O : List Entry) (A : List Arrival)
     (i i' o o' : Option (List ℕ)) (holding : Q → Holding) (hub : State Q) (next : ℕ)
     (had_seen has_seen : List Outcome → Type 0) : Type 0 where
@@ -80,7 +80,7 @@ lines_now : (c p : List ℕ) (fed : Bool) → IsWhole c → HasNoFeed p
 lines_now c p true w h = whole_is_ended (c ++ (p ++ 10 ∷ [])) (whole_more c p w h)
 lines_now c p false w h = refl
 
--- whole lines behind whole lines
+-- whole lines after whole lines
 more_whole : (c p : List ℕ) (fed : Bool) → IsWhole c → HasNoFeed p → fed ≡ true
     → IsWhole (c ++ (p ++ feed_if fed))
 more_whole c p true w h e = whole_more c p w h
@@ -91,7 +91,7 @@ more_lines : (c p : List ℕ) (fed : Bool) → IsWhole c → HasNoFeed p → fed
 more_lines c p true w h e = count_more c p w h
 more_lines c p false w h e = absurd (true≢false (sym e))
 
--- what stands after a fault of the hub
+-- the state after a fault of the hub
 pub after_hub_fault : {Q : Type 0} (S : Museum) (depth : ℕ) (O : List Entry) (A : List Arrival)
     (i i' o o' : Option (List ℕ)) (holding : Q → Holding) (hub : State Q) (fault : HubFault)
     → BrokenOff S depth O A i i' o o' holding hub
@@ -112,21 +112,21 @@ pub line_read : (i i' o o' : Option (List ℕ)) (held : List ℕ) (fed : Bool)
 line_read i i' o o' held fed takes keeps =
     record { most = MOST_KEPT; enough = omega arith; takes = takes; keeps = keeps }
 
--- it is taken, with this reply
+-- the line is taken, with this reply
 pub record LineTold {Q : Type 0} (S : Museum) (depth : ℕ) (O : List Entry) (A : List Arrival)
     (number : ℕ) (line : List ℕ) (holding : Q → Holding) (new : State Q) (reply : List ℕ) :
     Type 0 where
   pub told : reply ≡ line_reply S depth O A number line
   pub stands : StandsFor holding new O (A ++ line_arrivals S line)
 
--- the line that comes next, with its reply
+-- the next line, with its reply
 module _ {Q : Type 0} {S : Museum} {depth : ℕ} {O : List Entry} {A : List Arrival}
     {i i1 o o1 : Option (List ℕ)} {holding : Q → Holding} {hub : State Q} {number : ℕ}
     (u : Underway S depth O A i i1 o o1 holding hub number) where
   whole_ended : ended u.bytes ≡ u.bytes
   whole_ended = whole_is_ended u.bytes u.whole
 
-  -- all that was read is answered, and no more is read
+  -- all lines read are answered, and no more is read
   pub read_out : Answered S depth O A i i1 o o1 holding hub false
   read_out =
       let same : u.bytes ≡ ended u.bytes = sym whole_ended in
@@ -235,7 +235,7 @@ module _ {Q : Type 0} {S : Museum} {depth : ℕ} {O : List Entry} {A : List Arri
         ∙ ap (λ (q : List ℕ). outcomes S depth O A u.bytes ++ line_outcomes S depth O
         (A ++ arrivals S u.bytes) (without_return q)) (sym l.takes.kept))
 
-    -- a fault before the reply is whole
+    -- a fault before the reply is complete
     pub fault_memory : (new : State Q) (fault : HubFault)
         → TakesSome holding new O (A ++ arrivals S u.bytes) (line_arrivals S (without_return held))
         → AfterFault S depth O A i i2 o o2 holding new (replay_fault fault)
@@ -267,7 +267,7 @@ module _ {Q : Type 0} {S : Museum} {depth : ℕ} {O : List Entry} {A : List Arri
       front_now j = sym (ap (take (length (text S depth O A u.bytes) + j)) (sym text_told)
           ∙ take-append-add (text S depth O A u.bytes) reply j)
 
-      -- a fault in the writing of the reply
+      -- a fault while the reply is written
       pub fault_write : (o3 : Option (List ℕ)) → (j : ℕ) × Appends o2 o3 (take j reply)
           → CutShort S depth O A i i2 o o3 holding new
       fault_write o3 w =
@@ -317,7 +317,7 @@ module _ {Q : Type 0} {S : Museum} {depth : ℕ} {O : List Entry} {A : List Arri
           stands = stands_now;
         }
 
-        -- all is answered, and what was written can't be handed on
+        -- all lines are answered, but the final flush fails
         pub fault_flush : CutShort S depth O A i i2 o o4 holding new
         fault_flush = record {
           bytes = now;
@@ -332,7 +332,7 @@ module _ {Q : Type 0} {S : Museum} {depth : ℕ} {O : List Entry} {A : List Arri
           stands = stands_now;
         }
 
-      -- a watch was shown what came of the line
+      -- a watch has seen the outcomes of the line
       module _ (had_seen saw has_seen : List Outcome → Type 0) (seen : (before : List Outcome)
           → had_seen before → saw (before ++ outcomes S depth O A u.bytes)) (came : List Outcome)
           (shown : (before : List Outcome) → saw before → has_seen (before ++ came))
@@ -376,7 +376,7 @@ whole_input S depth O A (Some xs) (Some ys) o o' holding hub a =
       subst (λ (c : List ℕ). StandsFor holding hub O (A ++ arrivals S c)) same a.stands,
     )
 
--- what a watch has seen of it
+-- the outcomes of the whole input that a watch has seen
 pub whole_seen : {Q : Type 0} (S : Museum) (depth : ℕ) (O : List Entry) (A : List Arrival)
     (i i' o o' : Option (List ℕ)) (holding : Q → Holding) (hub : State Q)
     (had_seen has_seen : List Outcome → Type 0)
@@ -392,7 +392,7 @@ whole_seen S depth O A (Some xs) (Some ys) o o' holding hub had_seen has_seen w 
     λ before h. subst (λ (c : List ℕ). has_seen (before ++ outcomes S depth O A c)) same
     (w.seen before h)
 
--- what came of this line at a hub with this museum and depth
+-- the outcomes of this line at a hub with this museum and depth
 pub came_at : {S S' : Museum} {depth depth' : ℕ} {line line' : List ℕ} {P P' : List Entry} → S' ≡ S
     → depth' ≡ depth → line' ≡ line → P' ≡ P → (said : Reply) (O : List Entry) (A : List Arrival)
     → reply_outcomes P said ≡ line_outcomes S' depth' O A line'
@@ -404,7 +404,7 @@ came_at {S} {S'} {depth} {depth'} {line} {line'} {P} {P'} s d l p said O A h =
     ∙ (ap (λ n. line_outcomes S n O A line') d
     ∙ ap (λ (q : List ℕ). line_outcomes S depth O A q) l)))
 
--- what a hub with this museum and depth said to this line
+-- the reply to this line at a hub with this museum and depth
 pub told_at : {Q : Type 0} {S S' : Museum} {depth depth' : ℕ} {line line' reply reply' : List ℕ}
     → S' ≡ S → depth' ≡ depth → line' ≡ line → reply' ≡ reply
     → (holding : Q → Holding) (new : State Q) (O : List Entry) (A : List Arrival) (number : ℕ)
@@ -428,7 +428,7 @@ some_at S S' line line' holding new O A s l h =
     subst (λ (M : Museum). TakesSome holding new O A (line_arrivals M line)) s
     (subst (λ (q : List ℕ). TakesSome holding new O A (line_arrivals S' q)) l h)
 
--- how often the store has refused after a fault
+-- the count of Store faults after a fault
 abbrev pub count_after : ℕ → ReplayFault → ℕ
 count_after old NoMemory = old
 count_after old Store = min (old + 1) (2 ^ 64 - 1)
@@ -489,7 +489,7 @@ module _ {Q T : Type 0} (holding : Q → Holding) (refusals : Q → ℕ) (i i' o
       subst (λ f. EndsReplay {T = T} holding refusals i i' o o' old new (Err f)) (sym is)
       (ends_fault fault after count)
 
-  -- or the last flush meets one
+  -- or at the final flush
   pub ends_flush : (r : Result T ReplayFault) → IfErr r (λ y. y ≡ WriteFailed) → new.down ≡ false
       → refusals new.register ≡ refusals old.register
       → ((O : List Entry) (A : List Arrival) → StandsFor holding old O A

@@ -74,7 +74,7 @@ lines_last c x p w h =
     ∙ ap (λ (l : List ℕ). lines c ++ l ∷ []) (line_last (x ∷ p) h)
 
 module _ (S : Museum) (depth : ℕ) (O : List Entry) (A : List Arrival) where
-  -- one more line, which a line feed ends or the input
+  -- one more line, ended by a line feed or by the input
   pub text_more : (c p : List ℕ) (fed : Bool) → IsWhole c → HasNoFeed p
       → text S depth O A (c ++ (p ++ feed_if fed)) ≡ text S depth O A c ++ line_reply S depth O
       (A ++ arrivals S c) (length (lines c) + 1) (without_return p)
@@ -87,7 +87,7 @@ module _ (S : Museum) (depth : ℕ) (O : List Entry) (A : List Arrival) where
       ∙ ap (replies S depth O A 1) (lines_last c x p w h)
       ∙ replies_more S depth O A 1 (lines c) (without_return (x ∷ p))
 
-  -- what comes of it
+  -- the outcomes with one more line
   pub outcomes_more : (c p : List ℕ) (fed : Bool) → IsWhole c → HasNoFeed p
       → outcomes S depth O A (c ++ (p ++ feed_if fed)) ≡ outcomes S depth O A c ++ line_outcomes S
       depth O (A ++ arrivals S c) (without_return p)
@@ -110,7 +110,7 @@ arrivals_more S c (x ∷ p) false w h =
     ∙ ap (flat_map (line_arrivals S)) (lines_last c x p w h)
     ∙ sent_more S (lines c) (without_return (x ∷ p))
 
--- one line more is one line
+-- one more line counts one
 pub count_more : (c p : List ℕ) → IsWhole c → HasNoFeed p
     → length (lines (c ++ (p ++ 10 ∷ []))) ≡ length (lines c) + 1
 count_more c p w h = ap length (lines_fed c p w h) ∙ length-append (lines c) (without_return p ∷ [])
@@ -119,7 +119,7 @@ pub one_arrivals : (S : Museum) (p : List ℕ) (fed : Bool) → HasNoFeed p
     → arrivals S (p ++ feed_if fed) ≡ line_arrivals S (without_return p)
 one_arrivals S p fed h = arrivals_more S [] p fed whole_none h
 
--- one line is no more than one
+-- the start of a line counts one at most
 pub one_start : (p : List ℕ) → HasNoFeed p → length (lines p) ≤ 1
 one_start [] h = omega arith
 one_start (x ∷ p) h = let e = ap length (lines_last [] x p whole_none h) in omega (arith, e)

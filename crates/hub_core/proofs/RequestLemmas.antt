@@ -1,4 +1,4 @@
--- What lines ask.
+-- The requests of lines.
 use Rattle.std.proofs.Common.{◌≡◌, ℕ, Bool, true, false, List, Some, None, option_and_then, is_some, Ok, Err, if◌then◌else◌, refl, ap}
 use Rattle.std.specs.Str.{is_utf8, IsUtf8}
 use Rattle.std.proofs.lemmas.Str.{IsUtf8-from_is_utf8}
@@ -14,12 +14,12 @@ use Rattle.register_store.proofs.Fields.{text_fault}
 use Rattle.hub_core.specs.declared.line.request.Request.{Request}
 use Rattle.hub_core.specs.Requests.{request_of, object_of, request_read, request_in, line_of, line_read, line_in}
 
--- UTF-8 that is JSON asks what its value asks
+-- UTF-8 that is JSON has the request of its value
 pub of_value : (S : Museum) (bytes : List ℕ) (d : Data) → is_utf8 bytes ≡ true → read bytes ≡ Some d
     → line_in S bytes ≡ line_of S d
 of_value S bytes d utf8 value = rw (utf8, value) refl
 
--- what isn't UTF-8 or isn't JSON is refused
+-- bytes that aren't UTF-8 or JSON are rejected
 pub of_none : (S : Museum) (bytes : List ℕ) → (IsUtf8 bytes → read bytes ≡ None)
     → line_in S bytes ≡ Err NotJson
 of_none S bytes none = refused (is_utf8 bytes) (λ utf8. none (IsUtf8-from_is_utf8 bytes utf8))
@@ -29,7 +29,7 @@ of_none S bytes none = refused (is_utf8 bytes) (λ utf8. none (IsUtf8-from_is_ut
     refused true unread = ap (line_read S) (unread refl)
     refused false unread = refl
 
--- an object with a station's text asks what it asks, of that station
+-- an object with a station's text has its own request, of that station
 pub of_object : (S : Museum) (d : Data) (text : List ℕ) (request : Request)
     → is_some (as_object d) ≡ true → option_and_then as_str (get (key_name Station) d) ≡ Some text
     → request_of d ≡ Ok request

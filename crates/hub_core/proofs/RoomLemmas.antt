@@ -32,7 +32,7 @@ pub name_short : (S : Museum) (s : ℕ) (name : List ℕ) → list_all is_statio
 name_short S s name names is =
     short_by_test name (passes_at is_station_name S.stations s name names is)
 
--- and so is a refusal's
+-- and so is the name of a refusal
 pub word_short : (refusal : Refusal) (word : List ℕ) → word ≡ refusal_name refusal
     → length word ≤ 14
 word_short refusal word is = subst (λ (w : List ℕ). length w ≤ 14) (sym is) (by refusal)
@@ -61,12 +61,12 @@ module _ (used room : ℕ) (has : used + REPLY_ROOM ≤ room) (n : ℕ) (small :
   pub too_long_fits : used + length (bad_line n (codes "TooLong")) ≤ room
   too_long_fits = let digits = digits_few n small in simp length-append (omega (arith, has, digits))
 
--- what succeeds has no fault
+-- a call that succeeds has no fault
 pub no_fault : {T E : Type 0} (r : Result T E) (P : Type 0) → IsOk r → OnErr r P
 no_fault (Ok x) P is = tt
 no_fault (Err e) P is = absurd (true≢false (sym is))
 
--- the text of containers, where there are any
+-- the text of containers, if there are any
 pub chain_length : (S : Museum) (cs : List ℕ) (i : ℕ) → i < length cs
     → length (chain_text S cs) ≡ suc (suc (suc (length (flat_map (container_text S) cs))))
 chain_length S [] i within = absurd (omega arith)

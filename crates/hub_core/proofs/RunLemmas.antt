@@ -34,11 +34,11 @@ use Rattle.hub_core.proofs.StoreLemmas.{one_depth}
 use Rattle.hub_core.proofs.Written.{if_err}
 use Rattle.hub_core.proofs.ReplayLemmas.{whole_input}
 
--- nothing kept
+-- a content without rows
 abbrev pub nothing : Content
 nothing = record { setup = []; meta = []; postings = []; spots = []; lines = []; terms = [] }
 
--- a list of nothing is empty
+-- a store without rows has no entries
 no_entries : (P : List Entry) (c : Content) → c.postings ≡ [] → HasList P c → length P ≡ 0
 no_entries P c none list =
     let many = as_many P list.rows list.each in
@@ -46,7 +46,7 @@ no_entries P c none list =
     let zero = ap length none in
     omega arith
 
--- a register with nothing lacks nothing but memory
+-- opening a register without rows can fail only for lack of memory
 only_memory : (S : Museum) (fault : StoreFault) → IsOpenFault S nothing fault
     → CountsFault 0 0 fault → fault ≡ store.NoMemory
 only_memory S store.NoMemory cause count = refl
@@ -85,7 +85,7 @@ only_nothing c same =
     let terms = nil_from_length c.terms (length_permutation _ _ same.terms) in
     rw (setup, meta, postings, spots, lines, terms) refl
 
--- what a hub that was opened over nothing is
+-- a hub opened over a register without rows
 pub opened_fresh : (S : Museum) (register : Kept) (hub : State Kept) → register.content ≡ nothing
     → Opened in_memory S register hub → IsFresh hub S
 opened_fresh S register hub new opened =
@@ -106,7 +106,7 @@ opened_fresh S register hub new opened =
       stands = subst (λ (P : List Entry). StandsFor in_memory hub P []) empty opened.stands;
     }
 
--- one that was not
+-- a hub that could not be opened over it
 pub only_memory_lacks : (S : Museum) (register left : Kept) (fault : StoreFault)
     → register.content ≡ nothing → Comes (in_memory register) (in_memory left) (IsNotOpened S fault)
     → CountsFault 0 0 fault → fault ≡ store.NoMemory
@@ -115,7 +115,7 @@ only_memory_lacks S register left fault new comes count =
     let is : c ≡ nothing = only_nothing c (subst (λ (k : Content). AreSame k c) new was) in
     only_memory S fault (subst (λ (k : Content). IsOpenFault S k fault) is cause.0) count
 
--- over the head that was read
+-- opened with the head that was read
 pub opens_hub : (i i1 : Option (List ℕ)) (taken given : List ℕ) (setup : Museum) (hub : State Kept)
     → given ≡ taken → TakesHead i i1 taken → setup_fault given ≡ None
     → setup ≡ museum_of (rows_of given) → IsFresh hub setup → OpensHub i i1 hub
@@ -155,7 +155,7 @@ lines_answered (Some bytes) i1 i2 o o' hub new opens answered =
     in_memory new all in
     (opens.0, whole.0, whole.1)
 
--- a fault in them
+-- a fault in the lines
 pub lines_fault : (i i1 i2 o o' : Option (List ℕ)) (hub new : State Kept) (fault : ReplayFault)
     → OpensHub i i1 hub
     → ((O : List Entry) (A : List Arrival) → StandsFor in_memory hub O A
@@ -176,7 +176,7 @@ lines_fault (Some bytes) i1 i2 o o' hub new fault opens after =
       ),
     )
 
--- a register that never refused makes no fault of the store
+-- a register that never returned Store causes no Store fault
 pub no_store : {U : Type 0} (r : Result U RunFault) (met : ReplayFault)
     → IsErrAnd r (λ fault. fault ≡ run_fault met) → CountsReplay {T = U} 0 0 (Err met)
     → IfErr r (λ fault. fault ≢ Store)

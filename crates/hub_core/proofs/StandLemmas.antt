@@ -1,4 +1,4 @@
--- What a hub stands for, after one more arrival.
+-- The arrivals that a hub stands for, after one more.
 use Rattle.std.proofs.Common.{◌≡◌, ℕ, ◌+◌, ◌-◌, ◌<◌, ◌==◌, true, false, List, [], ◌∷◌, ◌++◌, length, Option, Some, None, inl, inr, append-nil, refl, ap, ◌∙◌, sym, subst, arith}
 use Rattle.std.proofs.lemmas.Bool.Decides.{nat_tests}
 use Rattle.std.specs.Prelude.{slice_set, map, reverse}
@@ -125,7 +125,7 @@ module _ {R : Type 0} (holding : R → Holding) where
         },
       )
 
-  -- an arrival that is taken, where a fault stops the posting
+  -- a taken arrival, with a fault that stops the posting
   pub stands_stopped : (hub : State R) (store : Holding) (mid : List (Series Message))
       (now : List Entry) (O : List Entry) (A : List Arrival) (r : Arrival)
       → StandsFor holding hub O A
@@ -176,7 +176,7 @@ length_posts S depth P [] = omega arith
 length_posts S depth P (x ∷ xs) = let h = length_posts S depth (post S depth P x) xs in
     omega (arith, h)
 
--- where something is due, the reply is Posted
+-- if a message is due, the reply is Posted
 pub reply_due : (S : Museum) (depth : ℕ) (O : List Entry) (A : List Arrival) (r : Arrival)
     (done : List (Arrived Message)) (next : Arrived Message) (rest : List (Arrived Message))
     → refused_at S (point S depth O A) r ≡ None → due_with S depth O A r ≡ done ++ next ∷ rest
@@ -200,7 +200,7 @@ pub reply_counted : (before now x y : ℕ) → x ≡ before → y ≡ now
     → reply_from None x y ≡ reply_from None before now
 reply_counted before now x y p q = rw (p, q) refl
 
--- what the stations refuse is what looking back refuses
+-- the stations refuse the same arrivals as looking back does
 pub refused_by : {R : Type 0} (hub : State R) (O : List Entry) (A : List Arrival) (r : Arrival)
     (o X : Option Refusal) → InStep hub.sequences hub.book.museum hub.book.posted →
     o ≡ refusal is_sign_off (length hub.sequences) (point hub.book.museum hub.book.depth O A).taken
@@ -214,12 +214,12 @@ pub length_back : (es P : List Entry) → reverse es ≡ P → length es ≡ len
 length_back es P back = sym (length-reverse es) ∙ ap length back
 
 module _ {R : Type 0} (holding : R → Holding) where
-  -- nothing that was sent is taken
+  -- none of the arrivals is taken
   pub takes_none : (hub : State R) (O : List Entry) (A sent : List Arrival)
       → StandsFor holding hub O A → TakesSome holding hub O A sent
   takes_none hub O A sent st = inl (0, subst (StandsFor holding hub O) (sym (append-nil A)) st)
 
-  -- the hub was stopped in the one arrival that was sent
+  -- the hub stopped at the only arrival
   pub stops_in : (old new : State R) (O : List Entry) (A : List Arrival) (r : Arrival)
       → StandsFor holding old O A → new.down ≡ true → new.book.museum ≡ old.book.museum
       → new.book.depth ≡ old.book.depth

@@ -1,4 +1,4 @@
--- A fault in the middle of what is due.
+-- A fault in the middle of the due messages.
 use Rattle.std.proofs.Common.{◌≡◌, ℕ, suc, ◌+◌, ◌-◌, ◌≤◌, true, false, List, [], ◌∷◌, ◌++◌, Some, ap, ◌∙◌, sym, subst, arith, ⊎_elim, append_assoc}
 use Rattle.std.proofs.lemmas.Bool.{cases_Bool, cases_lt}
 use Rattle.nest_core.specs.Museum.{Museum}
@@ -15,7 +15,7 @@ use Rattle.register_store.specs.Holdings.{Holding}
 use Rattle.hub_core.specs.StandsFor.{HasEither, Stopped}
 use Rattle.hub_core.proofs.PostLemmas.{Caught}
 
--- what is unbroken is ready
+-- an unbroken run is ready
 pub unbroken_ready : (taken : List (Arrived Message)) (s n : ℕ)
     → unbroken is_sign_off taken s n ≡ true → n ≤ ready is_sign_off taken s
 unbroken_ready taken s n h =
@@ -40,7 +40,7 @@ due_ready taken s n m all' d is = unbroken_ready taken s n
     (λ off. ap (unbroken is_sign_off taken s) (sym is) ∙ (d.goes_on off).here.whole)
     (cases_Bool (is_sign_off m)))
 
--- what is due, with the message at which it stops
+-- the due messages, with the one at which posting stops
 due_parts : (taken : List (Arrived Message)) (s k j z : ℕ) (m : Message) → k ≤ j → suc j ≤ z
     → message_at taken s (suc j) ≡ Some m
     → due taken s k (z - k) ≡ due taken s k (j - k) ++ arrived s (suc j) m ∷ due taken s

@@ -1,4 +1,4 @@
--- What a register has of a posted list, after one more posting.
+-- The rows of a register for a posted list, after one more posting.
 use Rattle.std.proofs.Common.{◌≡◌, ℕ, nat_abs, map, ◌+◌, if◌then◌else◌, List, [], ◌∷◌, ◌++◌, length, Result, Ok, ◌⊎◌, inl, inr, ap, ◌∙◌, sym, subst, arith}
 use Rattle.std.specs.Prelude.{reverse}
 use Rattle.std.specs.List.Sorted.{IsPermutation}
@@ -49,7 +49,7 @@ store_next S depth P e row changes c lawful follows is wrote lined store = recor
   };
 }
 
--- where the changes are those of the message
+-- if the changes are those of the message
 pub store_posted : (L : Book) (r : Arrived Message) (changes : Changes) (row : PostingRow)
     (c : Content) → IsLawful L.museum L.depth L.posted
     → Follows L.museum L.depth L.posted (entry_of L.museum L.depth L.posted r)
@@ -79,7 +79,7 @@ store_posted L r changes row c lawful follows planned is store =
     (ap (λ (x : Changes). x.spots) (sym planned))
     (ap (λ (x : Changes). x.lines) (sym planned)) store)
 
--- a store says one depth limit
+-- a store has only one depth limit
 pub one_depth : (d e : ℕ) → IsPermutation (rows_of_meta d) (rows_of_meta e) → d ≡ e
 one_depth d e same = let sums = sum_by-IsPermutation (λ (row : MetaRow). nat_abs row.val) _ _ same
     in omega arith
@@ -93,7 +93,7 @@ entry_with r changes = record {
   verdict = changes.verdict;
 }
 
--- the ledger with the entry that the changes tell
+-- the ledger with the entry of the changes
 pub posted_book : (L : Book) (r : Arrived Message) (changes : Changes)
     → changes ≡ changes_of L r.message → (L' : Book)
     → L' ≡ record L { posted = entry_with r changes ∷ L.posted }
@@ -112,7 +112,7 @@ module _ (old new : Holding) (L : Book) (r : Arrived Message) (changes : Changes
     (lawful : IsLawful L.museum L.depth L.posted)
     (follows : Follows L.museum L.depth L.posted (entry_of L.museum L.depth L.posted r))
     (planned : changes ≡ changes_of L r.message) (has : HasStore old L) where
-  -- one posting more
+  -- one more posting
   step_posted : (c d : Content) → IsStoreOf L.museum L.depth L.posted c
       → IsPosted (entry_with r changes) changes c d
       → IsStoreOf L.museum L.depth (post L.museum L.depth L.posted r) d
@@ -121,7 +121,7 @@ module _ (old new : Holding) (L : Book) (r : Arrived Message) (changes : Changes
       (post L.museum L.depth L.posted r)
       (store_posted L r changes step.0 c lawful follows planned step.1 store)
 
-  -- what the store has after the posting
+  -- the store after the posting
   pub stored_in : Comes old new (IsPosted (entry_with r changes) changes)
       → Has new (IsStoreOf L.museum L.depth (post L.museum L.depth L.posted r))
   stored_in comes = comes_has old new (IsPosted (entry_with r changes) changes)
@@ -147,13 +147,13 @@ module _ (old new : Holding) (L : Book) (r : Arrived Message) (changes : Changes
       ⊎ IsStoreOf L.museum L.depth (post L.museum L.depth L.posted r) c) (λ c is. inr is)
       (stored_in comes)
 
-  -- the same, of the ledger after it
+  -- the same, for the ledger after it
   pub stored_book : (L' : Book) → L' ≡ record L { posted = entry_with r changes ∷ L.posted }
       → Comes old new (IsPosted (entry_with r changes) changes) → HasStore new L'
   stored_book L' is comes = subst (λ (b : Book). HasStore new b)
       (sym (posted_book L r changes planned L' is)) (stored_in comes)
 
--- a call that succeeded counts no refusal
+-- a call that succeeds counts no Store fault
 pub counts_ok : {T : Type 0} (old new : ℕ) (r : Result T HubFault) (x : T) → r ≡ Ok x
     → CountsStore old new r → new ≡ old
 counts_ok {T} old new r x is = subst (λ (q : Result T HubFault). CountsStore old new q → new ≡ old)

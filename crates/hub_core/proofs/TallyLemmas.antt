@@ -79,7 +79,7 @@ some_not_0_of_all (n ∷ counts) (suc place) x within not =
     ap (λ b. (n == 0) && b) (some_not_0_of_all counts place x (omega arith) not)
     ∙ and_false (n == 0)
 
--- the counts but the first
+-- the counts without the first
 behind_first : (counts : List ℕ) (x : ℕ) → drop 1 (slice_set counts 0 x) ≡ drop 1 counts
 behind_first [] x = refl
 behind_first (n ∷ counts) x = refl
@@ -89,7 +89,7 @@ behind : (counts : List ℕ) (place x : ℕ)
 behind [] place x = refl
 behind (n ∷ counts) place x = refl
 
--- there is a count for each refusal and for each verdict
+-- there is a count for each refusal and each verdict
 record IsWide (t : Tally) : Type 0 where
   pub refused : length t.refused ≡ REFUSALS
   pub posted : length t.posted ≡ VERDICTS
@@ -192,7 +192,7 @@ clean_from t (o ∷ outcomes) w =
     ∙ (ap (λ b. b && list_all is_fine outcomes) (clean_after t o w)
     ∙ and_assoc (is_clean t) (is_fine o) (list_all is_fine outcomes))
 
--- the tally of outcomes is clean where each of them is fine
+-- the tally is clean if each outcome is fine
 pub clean_of : (t : Tally) (outcomes : List Outcome) → t ≡ tally_of outcomes
     → is_clean t ≡ list_all is_fine outcomes
 clean_of t outcomes is = ap is_clean is ∙ clean_from nothing_seen outcomes wide_start

@@ -64,7 +64,7 @@ pub no_number : reply museum 12 [] [] (moved 0) ≡ Refused BadNumber
 unfolding window
 no_number = refl
 
--- in whatever order they come, GAL's messages are posted in theirs
+-- GAL's messages may come in any order, and are posted in theirs
 pub one_station : cut 0 (posted museum 12 [] (moved 2 ∷ moved 1 ∷ [])) ≡ arrived 0 1
     (moved 1).message ∷ arrived 0 2 (moved 2).message ∷ []
 unfolding window
@@ -84,7 +84,7 @@ not_in_the_setup = refl
 pub returned : without_return (codes "a\r") ≡ codes "a"
 returned = refl
 
--- a line of GAL with these members beside
+-- a line of GAL with these other members
 abbrev of_gal : Members → Data
 of_gal members = object (put (codes "station") (string (codes "GAL")) members)
 
@@ -109,7 +109,7 @@ no_station = refl
 pub a_list : line_of museum (array no_items) ≡ Err NotJson
 a_list = refl
 
--- a line of a feed, whatever its station: none is looked for, and none is known
+-- a line of a feed: its station is ignored
 pub question_of_any : object_of (object (put (codes "ask") (string (codes "2001.4.1")) no_members))
     ≡ Ok (Ask (codes "2001.4.1"))
 question_of_any = refl
@@ -123,7 +123,7 @@ a_list_of_any = refl
 pub no_json_of_any : request_read None ≡ Err NotJson
 no_json_of_any = refl
 
--- as it stands in the file
+-- the same, read from a file
 pub question_of_none : request_read (read (codes "{\"station\":\"NONE\",\"ask\":\"2001.4.1\"}"))
     ≡ Ok (Ask (codes "2001.4.1"))
 unfolding serde_json_on_literals
@@ -158,7 +158,7 @@ pub bad_text : bad_line 4 (codes "Missing n") ≡ codes "line 4 bad Missing n\n"
 unfolding digits
 bad_text = refl
 
--- what GAL is told, line by line
+-- the replies to GAL, line by line
 pub first_run_move : station_reply museum 12 [] [] 0 (Scan 1 (moved 1).message)
     ≡ codes "GAL 1 posted 1 Applied\n"
 unfolding window digits
@@ -179,7 +179,7 @@ pub posted_texts : station_reply museum 12 [] (moved 2 ∷ []) 0 (Scan 1 (moved 
 unfolding window digits
 posted_texts = refl
 
--- what a watch sees of them
+-- their outcomes, as a watch sees them
 pub held_outcome : station_outcomes museum 12 [] [] 0 (Scan 2 (moved 2).message) ≡ outcome.Answered
     ∷ outcome.Held ∷ []
 unfolding window
@@ -203,7 +203,7 @@ pub unknown_outcome : request_outcomes museum 12 [] [] None (Ask (codes "2001.4.
     ≡ outcome.Answered ∷ outcome.UnknownStation ∷ []
 unknown_outcome = refl
 
--- two entries of one line
+-- two entries from one line
 pub two_posted : slice_index
     (tally_of (outcome.Answered ∷ outcome.Posted verdict.Applied ∷ outcome.Posted verdict.Applied
     ∷ [])).posted 0 ≡ 2

@@ -1,4 +1,4 @@
--- What was written so far.
+-- The bytes written so far.
 use Rattle.std.proofs.Common.{◌≡◌, ℕ, ◌+◌, ◌-◌, ◌≤◌, List, ◌++◌, length, take, drop, Option, None, Some, Result, arith, ap, ◌∙◌, sym, subst}
 use Rattle.std.proofs.Math.Seq.{take-add}
 use Rattle.std.proofs.lemmas.List.{length-drop}
@@ -12,7 +12,7 @@ pub on_err : {T E P : Type 0} (r : Result T E) → P → OnErr r P
 on_err (Ok x) p = tt
 on_err (Err e) p = p
 
--- the one error that a call hands on
+-- the only error, passed on by a call
 pub if_err : {T E : Type 0} → (r : Result T E) (P : E → Type 0) (x : E) → IsErrAnd r (λ y. y ≡ x)
     → P x → IfErr r P
 if_err (Ok v) P x is p = tt

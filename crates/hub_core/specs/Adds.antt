@@ -2,7 +2,7 @@
 use Rattle.std.specs.Prelude.{ℕ, ◌≡◌, ◌+◌, ◌≤◌, ◌++◌, List, length, Result, String, string_bytes, string_len, string_capacity, IsOk, OnOk}
 use Rattle.std.specs.declared.alloc.Global.{Global}
 
--- The bytes are appended. That can fail only if the text has no room for them; the room never
+-- The bytes are appended. That can fail only if the text has no room for them. The room never
 -- shrinks.
 pub record Adds {T E : Type 0} (old new : String Global) (bytes : List ℕ)
     (result : Result T E) : Type 0 where

@@ -1,4 +1,4 @@
--- Defines why a store can't be opened with a setup, and what an opened hub stands for.
+-- Defines why a store can't be opened with a setup, and the arrivals that an opened hub stands for.
 use Rattle.std.specs.Prelude.{ℕ, ◌≡◌, ◌⊎◌, ◌+◌, ◌==◌, ◌&&◌, nat_le, not, All, Bool, true, false, List, [], ◌∷◌, ◌++◌, length, map, reverse, Option, Some, None, Err}
 use Rattle.nest_core.specs.Museum.{Museum}
 use Rattle.posting_core.specs.declared.entry.Entry.{Entry}
@@ -129,7 +129,7 @@ pub record IsJudged (old : Book) (P : List Entry) (starts : List Start) (new : B
   pub lawful : IsLawful new.museum new.depth new.posted
   pub in_step : InStep (map opened starts) new.museum new.posted
 
--- The stations go on from what the ledger has posted.
+-- The stations go on from the ledger's posted list.
 pub record GoesOn (sequences : List (Series Message)) (book : Book) : Type 0 where
   pub in_step : InStep sequences book.museum book.posted
   pub series : AllMatch is_sign_off (map arrival_of (reverse book.posted)) sequences

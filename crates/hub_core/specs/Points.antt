@@ -43,8 +43,8 @@ pub record Point : Type 0 where
   pub posted : List Entry
   pub taken : List (Arrived Message)
 
--- The point once `taken` is the list of messages taken: what comes due at station s is posted in
--- its order.
+-- The point once `taken` is the list of messages taken: the due messages of station s are posted,
+-- in order.
 abbrev pub point_with : Museum → ℕ → Point → ℕ → List (Arrived Message) → Point
 point_with S depth p s taken = record {
   posted = fold (post S depth) p.posted
@@ -63,7 +63,7 @@ abbrev pub point : Museum → ℕ → List Entry → List Arrival → Point
 point S depth O A =
     fold (point_after S depth) (record { posted = O; taken = map arrival_of (reverse O) }) A
 
--- The messages that come due with one more arrival.
+-- The messages that are due after one more arrival.
 abbrev pub due_with : Museum → ℕ → List Entry → List Arrival → Arrival → List (Arrived Message)
 due_with S depth O A r =
     let before = (point S depth O A).taken in

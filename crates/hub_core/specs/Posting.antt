@@ -24,7 +24,7 @@ pub record LeavesUnposted (old new : Holding) (before after : Book)
   pub left : HasStore old before → HasEither new before.museum before.depth before.posted next
   pub lawful : HasStore old before → HasSomeStore new after
 
--- All that is due at station s is posted.
+-- All due messages of station s are posted.
 pub record PostsDue (old new : Holding) (s : ℕ) (sequences sequences' : List (Series Message))
     (before after : Book) : Type 0 where
   pub in_step : InStep sequences' after.museum after.posted
@@ -33,7 +33,7 @@ pub record PostsDue (old new : Holding) (s : ℕ) (sequences sequences' : List (
       (series_at sequences s).posted before.posted sequences' after.posted
   pub stored : HasStore old before → HasStore new after
 
--- A fault stopped the posting of what is due at station s.
+-- A fault stopped the posting of the due messages of station s.
 pub record StopsDue (old new : Holding) (s : ℕ) (sequences : List (Series Message))
     (before after : Book) : Type 0 where
   pub stopped : (taken : List (Arrived Message)) → IsPosting is_sign_off taken s sequences

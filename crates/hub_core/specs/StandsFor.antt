@@ -37,8 +37,9 @@ abbrev pub HasEither : Holding → Museum → ℕ → List Entry → Arrived Mes
 HasEither store S depth P next =
     Has store (λ c. IsStoreOf S depth P c ⊎ IsStoreOf S depth (post S depth P next) c)
 
--- A hub stands for the arrivals A, from the posted list O, if it isn't down, its posted list is
--- where they lead, its stations hold what was taken above that, and its store has the posted list.
+-- A hub stands for the arrivals A, from the posted list O, if it isn't down, the arrivals lead to
+-- its posted list, its stations hold the messages that were taken and are still to be posted, and
+-- its store has the posted list.
 pub record StandsFor {R : Type 0} (holding : R → Holding) (hub : State R) (O : List Entry)
     (A : List Arrival) : Type 0 where
   pub up : hub.down ≡ false
@@ -63,14 +64,14 @@ pub record InStep (sequences : List (Series Message)) (S : Museum) (P : List Ent
   pub count : (s : ℕ) → s < length sequences → (series_at sequences s).posted ≡ count_at s P
   pub sign : (s : ℕ) → s < length sequences → (series_at sequences s).signed ≡ is_signed_off s P
 
--- All that is due at station s is posted. k of its messages were posted before.
+-- All due messages of station s are posted. k of its messages were posted before.
 pub record Done (S : Museum) (depth : ℕ) (taken : List (Arrived Message)) (s k : ℕ)
     (before : List Entry) (sequences : List (Series Message)) (now : List Entry) : Type 0 where
   pub matches : AllMatch is_sign_off taken sequences
   pub list : now ≡ fold (post S depth) before (due taken s k (ready is_sign_off taken s - k))
 
--- A fault stopped the hub at one of the arrivals. Those before it are taken; some of what came due
--- with it is posted, and the store has that list, with or without the next message.
+-- A fault stopped the hub at one of the arrivals. Those before it are taken. Some of the messages
+-- that it made due are posted, and the store has that list, with or without the next message.
 pub record StopsIn {R : Type 0} (holding : R → Holding) (hub : State R) (O : List Entry)
     (A sent : List Arrival) : Type 0 where
   pub down : hub.down ≡ true

@@ -77,9 +77,9 @@ pub struct OpenFault<R> {
 impl<R: Register> Hub<R> {
     ghost use Rattle.hub_core.specs.StandsFor.{State, StandsFor, Stopped};
 
-    /// Opens a hub with this setup over what the register has. It binds the register, reads all its
-    /// entries, judges them again in their order, and compares the register's rows of spots, loan
-    /// lines and last days with the entries'.
+    /// Opens a hub with this setup over the entries of the register. It binds the register, reads
+    /// all its entries, judges them again in their order, and compares the register's rows of
+    /// spots, loan lines and last days with the entries'.
     ///
     /// Faults, in this order:
     /// - those of [`Register::bind`] and then of [`Register::all`];
@@ -113,8 +113,8 @@ impl<R: Register> Hub<R> {
         }
     }
 
-    /// Takes an arrival, and posts what comes due with it. Faults: Down, exactly if the hub is
-    /// down; NoMemory and Store, after which the hub is down. A message that is refused or held
+    /// Takes an arrival, and posts the messages that are then due. Faults: Down, exactly if the hub
+    /// is down; NoMemory and Store, after which the hub is down. A message that is refused or held
     /// meets neither of these two (clause `answers`).
     pub fn arrive(&mut self, alloc: Global, arrival: Arrival) -> Result<Answer, HubFault>
         // For every list of arrivals that the hub stands for: the reply is that of looking back,
@@ -217,8 +217,8 @@ impl<R: Register> Hub<R> {
     /// 1 if there is no such station.
     pub fn awaited(&self, station: StationNo) -> u64
         ensures count { result ≡ (series_at self.now.sequences station).posted + 1 }
-        // Whatever the hub stands for: it is the first number after the run of what the station
-        // sent.
+        // Whatever the hub stands for: it is the first number after the unbroken run of those the
+        // station sent.
         ensures next { (O : List Entry) (A : List Arrival) → StandsFor R.holding self.now O A
             → station < length self.now.sequences →
             result ≡ ready is_sign_off (point self.now.book.museum self.now.book.depth O A).taken

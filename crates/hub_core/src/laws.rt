@@ -1,4 +1,4 @@
-//! Laws about what is posted. Each is stated on a function that does nothing.
+//! Laws about posted messages. Each is stated on a function that does nothing.
 ghost use Rattle.std.specs.Prelude.{◌≡◌, ℕ, ◌+◌, ◌<◌, ◌≤◌, true, List, [], ◌∷◌, ◌++◌, length, Some};
 ghost use Rattle.std.specs.List.{slice_get};
 ghost use Rattle.nest_core.specs.Museum.{Museum};
@@ -30,7 +30,7 @@ pub fn numbers_without_gap()
         → IsLawful S depth P → slice_get (cut s P) i ≡ Some r → r.n ≡ i + 1 }
 {}
 
-/// A refused arrival leaves what is posted, and what is held, as it was.
+/// A refused arrival leaves the posted and the held messages as they were.
 pub fn refused_changes_nothing()
     ensures { (S : Museum) (depth : ℕ) (O : List Entry) (A : List Arrival) (r : Arrival)
         (why : Refusal) →

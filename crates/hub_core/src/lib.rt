@@ -1,7 +1,7 @@
 //! The hub: takes messages from all stations, holds back those that come early, and posts the rest.
 //!
 //! [`Hub`] brings together the hold-back of `station_core`, the ledger of `posting_core` and a
-//! register of `register_store`. [`Hub::open`] checks what the register has, [`Hub::arrive`] takes
+//! register of `register_store`. [`Hub::open`] checks the register's entries, [`Hub::arrive`] takes
 //! a message, and [`Hub::ask`] returns where a thing is. [`replay`] reads lines and writes the
 //! replies, and [`run`] does so with a setup at the head of its input and a register in memory. A
 //! [`Watch`], such as [`Tally`], sees the outcomes of the lines.
@@ -11,7 +11,7 @@
 //! - The reply to an arrival is the one that follows from all arrivals before it. Of each station,
 //!   the longest unbroken run of its messages is posted, in order, up to its sign-off.
 //! - A refused arrival changes nothing. After a fault the hub is down; its register opens again,
-//!   with what was posted and perhaps the next message.
+//!   with the posted messages and perhaps the next one.
 //! - If `replay` returns Ok, it has read all bytes and written exactly their replies.
 //!
 //! ```text

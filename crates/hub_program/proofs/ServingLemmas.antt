@@ -1,4 +1,4 @@
--- What a serving leaves, told of the ledger that prints it.
+-- A serving, and the ledger from which its log is printed.
 use Rattle.std.proofs.Common.{◌≡◌, ℕ, List, length, sym, ap, ◌∙◌, subst}
 use Rattle.nest_core.specs.Museum.{Museum}
 use Rattle.serve_core.specs.declared.item.LogLine.{LogLine}
@@ -6,8 +6,8 @@ use Rattle.serve_core.specs.declared.serve_fault.ServeFault.{ServeFault}
 use Rattle.serve_core.specs.Logs.{AreOfStations}
 use Rattle.serve_core.specs.Sending.{IsOneOf}
 
--- the museum before, the one after, and that of the ledger are one; of so many stations are so many
--- feeds
+-- The museum before, the one after and the ledger's are the same, and there are as many feeds as
+-- stations.
 module _ (S T U : Museum) (after : T ≡ S) (told : U ≡ T) (k n : ℕ) (feeds : k ≡ n)
     (count : n ≡ length S.stations) where
   as_many : k ≡ length U.stations

@@ -5,8 +5,7 @@ use Rattle.serve_core.specs.declared.text_feed.TextFeed.{TextFeed}
 use Rattle.hub_program.specs.Works.{HasFeeds}
 use Rattle.hub_program.specs.declared.work.Work.TheVariants.{Replay, Serve, Migrate}
 
--- two feeds are those of two stations, and not of three; a replay and a migration have none, of any
--- number
+-- two feeds are those of two stations, not of three; a replay and a migration have no feeds
 two_feeds : (feeds : Vec TextFeed Global) → vec_len feeds ≡ 2 → HasFeeds 2 (Serve feeds)
 two_feeds feeds two = two
 

@@ -94,7 +94,7 @@ fn row(alloc: Global, bytes: &[u8], number: u64) -> Option<ByteRecord> {
     Some(row)
 }
 
-/// Appends what is wrong with a row of a setup.
+/// Appends the error in a row of a setup.
 fn add_on_setup_row(
     text: &mut String,
     row: &ByteRecord,
@@ -160,7 +160,7 @@ fn is_own(code: ThingCode) -> bool {
     matches!(code.kind(), codes_core::ThingKind::Own)
 }
 
-/// Appends what is wrong with a row of a count list.
+/// Appends the error in a row of a count list.
 fn add_on_count_row(
     text: &mut String,
     row: &ByteRecord,

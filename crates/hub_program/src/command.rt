@@ -109,7 +109,7 @@ pub(crate) fn status<W: Write, E: Write>(
 }
 
 /// Prints why the words choose no command, and returns the exit status. Help and the version go to
-/// the output, everything else to `errors`.
+/// the output, usage errors to `errors`.
 pub(crate) fn refuse<W: Write, E: Write>(
     alloc: Global,
     words: &[&str],
@@ -273,7 +273,7 @@ fn replayed<
     Ok(Ending::Done)
 }
 
-/// Prints the report that a command asks for, except a count.
+/// Prints the command's report, unless it is a count.
 fn reported<T: Threads + Wait + Sync + Copy + Send + 'static, S: Start, R: BufRead, W: Write>(
     rt: &HostRuntime,
     threads: &T,

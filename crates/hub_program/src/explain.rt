@@ -10,9 +10,9 @@ use std::io::Write;
 /// The longest text in bytes that is compared with the words. Every word is shorter.
 const LONGEST: usize = 100;
 
-/// Prints what the word means, its usual cause, and what to do. The case of letters is ignored.
-/// Faults: Name, if the word is not explained; WriteFailed. NoMemory can come instead of any
-/// result.
+/// Prints the word's meaning, its usual cause, and the action to take. The case of letters is
+/// ignored. Faults: Name, if the word is not explained; WriteFailed. NoMemory can come instead of
+/// any result.
 pub fn explain<W: Write>(alloc: Global, word: &str, output: &mut W) -> Result<(), CommandFault> {
     let found = if word.len() <= LONGEST {
         nearest_explained(alloc, word)?

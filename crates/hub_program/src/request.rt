@@ -14,7 +14,7 @@ pub struct Asked<'a> {
 }
 
 /// Returns the record that the command's report is about, and the report's form. Fault: Words, if
-/// the command asks for no report, or for a count.
+/// the command has no report, or is a count.
 pub fn asked_of<'a>(chosen: &Chosen<'a>) -> Result<Asked<'a>, CommandFault> {
     match chosen {
         Chosen::Overdue {
@@ -86,8 +86,8 @@ pub fn form_of(format: Format) -> Form {
     }
 }
 
-/// Returns the question that the command's report answers. Faults: Day, Code or Number, if the argument is
-/// not in its form; Words, if the command asks for no report, or for a count.
+/// Returns the question that the command's report answers. Faults: Day, Code or Number, if the
+/// argument is not in its form; Words, if the command has no report, or is a count.
 pub fn question_of(chosen: &Chosen<'_>) -> Result<Question, CommandFault> {
     Ok(match chosen {
         Chosen::Overdue { on, .. } => Question::Overdue(day(on)?),

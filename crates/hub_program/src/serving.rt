@@ -22,7 +22,7 @@ const LINE_ROOM: usize = 256;
 /// Serves the feeds with the hub, and prints the log. After a fault it prints the log up to the
 /// fault. Messages that are still held at the end are added to the notes. Returns the hub's
 /// register, and the fault if there is one. The room for a line is made before the first message is
-/// taken: so printing needs no memory, and what was posted is printed.
+/// taken, so that printing needs no memory and every posted entry is printed.
 pub fn served<T: Threads + Wait + Copy + Send + 'static, S: Register, W: Write>(
     alloc: Global,
     threads: &T,

@@ -16,7 +16,7 @@ use std::os::unix::fs::MetadataExt;
 /// A register over a store in a file.
 pub type FileRegister<S> = SqlRegister<FileStore<FileFrom<S>>>;
 
-/// What a command does if the path has no store yet.
+/// How a command treats a path that has no store yet.
 #[derive(Clone, Copy, PartialEq, Eq)]
 pub enum Begins {
     /// Starts a new record.
@@ -253,7 +253,7 @@ fn begins_as_database(rt: &HostRuntime, path: &str) -> bool {
     }
 }
 
-/// The advice on a path that cannot be opened, by what is found there.
+/// The advice on a path that cannot be opened, by the kind of file there.
 fn on_path(rt: &HostRuntime, path: &str) -> Advice {
     let alloc = rt.alloc();
     let found = match fs::metadata(rt, path) {

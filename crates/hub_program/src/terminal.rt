@@ -3,11 +3,11 @@
 use std::io;
 use std::io::{Read, Write};
 
-/// What a person at a terminal reads while the program waits for lines.
+/// The prompt at a terminal while the program waits for lines.
 const PROMPT: &str = "note: waiting for lines from the terminal; end them with Ctrl-D\n\
 note: 'pairsalder help lines' shows them; without arguments the setup and an empty line come first\n";
 
-/// An input that prints what it waits for, before its first read from a terminal.
+/// An input that prints a prompt before its first read from a terminal.
 #[derive(Drop)]
 pub struct Prompting<R, E> {
     input: R,

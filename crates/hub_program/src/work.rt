@@ -34,7 +34,7 @@ pub enum Work {
 }
 
 impl Work {
-    /// What the work does if the path has no store yet.
+    /// How the work treats a path that has no store yet.
     fn begins(&self) -> Begins {
         match self {
             Work::Replay | Work::Serve(_) => Begins::Record,

@@ -1,4 +1,4 @@
--- What a caller knows of any register that had no posting.
+-- Facts about any register without postings.
 use Rattle.std.proofs.Common.{◌≡◌, ◌∙◌, ℕ, ◌+◌, List, [], ◌∷◌, length, true, false, refl, sym, subst}
 use Rattle.std.specs.List.Sorted.{IsPermutation}
 use Rattle.std.proofs.lemmas.List.Sorted.{IsPermutation-refl, IsPermutation-cons, IsPermutation-trans}
@@ -11,7 +11,7 @@ use Rattle.register_store.specs.Holdings.{Holding, Each, Comes, IsPosted, IsBoun
 use Rattle.register_store.proofs.HoldingLemmas.{comes_on, comes_so, same_list}
 use Rattle.register_store.proofs.OneList.{one_list}
 
--- binding leaves the postings
+-- binding keeps the postings
 postings_kept : (S : Museum) (c : Content) → (bound_to S c).postings ≡ c.postings
 postings_kept S c = elim (is_new c.meta) as (λ b. (bound_by b S c).postings ≡ c.postings)
     [ true ↦ refl | false ↦ refl ]
@@ -25,7 +25,7 @@ none_listed S c d same empty =
       all = subst (IsPermutation []) (sym (postings_kept S c ∙ empty)) (IsPermutation-refl []);
     })
 
--- one more posting is one more entry
+-- one more posting adds one entry
 more_listed : (P : List Entry) (e : Entry) (changes : Changes) (c d : Content)
     → changes.entry ≡ length P + 1 → IsPosted e changes c d → HasList P c → HasList (e ∷ P) d
 more_listed P e changes c d number (row, is, same) list = record {
@@ -34,7 +34,7 @@ more_listed P e changes c d number (row, is, same) list = record {
   all = IsPermutation-trans _ _ _ (IsPermutation-cons row _ _ list.all) same.postings;
 }
 
--- what is listed after two postings
+-- the list after two postings
 pub two_kept : (old bound one two new : Holding) (S : Museum) (first second : Entry) (a b : Changes)
     (O : List Entry) → a.entry ≡ 1 → b.entry ≡ 2
     → Comes old bound (IsBound S) → Comes bound one (IsPosted first a)

@@ -1,4 +1,4 @@
--- A value that is there where a test passes.
+-- A value that is present if a test passes.
 use Rattle.std.specs.Prelude.{◌≡◌, ◌&&◌, Bool, true, false, cond, Option, Some, None, refl}
 use Rattle.std.proofs.Common.{ap, ◌∙◌}
 

@@ -12,7 +12,7 @@ use Rattle.csv.specs.declared.parser.State.TheVariants as st
 use Rattle.csv.specs.declared.parser.Terminator.{Terminator}
 use Rattle.csv.specs.declared.parser.Terminator.TheVariants as term
 
--- behind a row's end no row has begun
+-- after the end of a row, no row has begun
 abbrev RestsAtEnd : State × Action → Type 0
 RestsAtEnd q = is_end q.1 ≡ true → ends_at_end q.0 ≡ false
 
@@ -70,7 +70,7 @@ step_rests cfg st.InComment c =
 step_rests cfg st.AfterCr c = either (c == line_feed) (st.StartRecord, act.Skip)
     (start_record cfg c) (goes_on st.StartRecord act.Skip refl) (start_record_rests cfg c)
 
--- what a read leaves: no more than it had, and no row begun
+-- a read leaves at most the bytes that it had, and no row begun
 pub record Leaves (xs : List ℕ) (p : Read) : Type 0 where
   pub rests : ends_at_end p.1 ≡ false
   pub most : length p.2 ≤ length xs
@@ -105,7 +105,7 @@ next_leaves cfg s fields field (c ∷ rest) p e =
         subst (Leaves (c ∷ rest)) is (record { rests = step_rests cfg s c h; most = omega arith })
     by false h e more = leaves_rest c rest p (more e)
 
--- from between two rows each read takes a byte at least
+-- each read from between two rows takes at least one byte
 pub next_shorter : (cfg : Config) (s : State) (xs : List ℕ) (p : Read) → ends_at_end s ≡ false
     → next_record cfg s [] [] xs ≡ Some p → length p.2 < length xs
 unfolding next_record
@@ -126,7 +126,7 @@ next_shorter cfg s (c ∷ rest) p rests e =
     by true e = let is : rest ≡ p.2 = cc in omega (arith, ap length is)
     by false e = omega (arith, (next_leaves cfg (step cfg s c).0 _ _ rest p e).most)
 
--- the rows that are left of a text
+-- the remaining rows of a text
 abbrev pub rows_left : State → List ℕ → List (List (List ℕ))
 rows_left s xs = records_from default_config (suc (length xs)) s xs
 
@@ -134,7 +134,7 @@ pub left_at_start : (xs : List ℕ) → records default_config xs ≡ rows_left 
 left_at_start xs = let more : length xs + 1 ≡ suc (length xs) = omega arith in
     ap (λ n. records_from default_config n st.StartRecord xs) more
 
--- as many turns as there are bytes are enough
+-- as many turns as bytes are enough
 enough : (n m : ℕ) (s : State) (xs : List ℕ) → ends_at_end s ≡ false → length xs < n → length xs < m
     → records_from default_config n s xs ≡ records_from default_config m s xs
 unfolding records_from

@@ -7,14 +7,14 @@ use Rattle.std.proofs.lemmas.List.{take_more, length-take-le}
 use Rattle.csv.specs.Records.{field_at}
 use Rattle.nest_core.specs.SetupRows.{Fields, field, field_count}
 
--- `csv` finds a field where a list has it
+-- `csv` returns the field that the list has at this index
 field_at-is : (row : Fields) (i : ℕ) → field_at row i ≡ slice_get row i
 unfolding field_at
 field_at-is [] i = refl
 field_at-is (f ∷ fs) zero = refl
 field_at-is (f ∷ fs) (suc i) = field_at-is fs i
 
--- a field, or an empty one in its place
+-- a field, or an empty one if the row is shorter
 pub field_found : (row : Fields) (i : ℕ) (found : Option (Bor (List ℕ))) (none : Bor (List ℕ))
     → none.now ≡ [] → option_map (λ f. f.now) found ≡ field_at row i
     → (unwrap_or found none).now ≡ field row i
@@ -26,7 +26,7 @@ field_found row i found none empty at =
     by None e = empty ∙ ap (λ o. unwrap_or o []) e
     by (Some f) e = ap (λ o. unwrap_or o []) e
 
--- one more field counts where it isn't empty
+-- one more field counts if it isn't empty
 pub field_count-push : (row : Fields) (f : List ℕ)
     → field_count (row ++ f ∷ []) ≡ cond (length f == 0) (field_count row) (length row + 1)
 field_count-push [] f = refl

@@ -1,4 +1,4 @@
--- What a row lists, and the fault of a row, from what was read of it.
+-- The item that a row lists, and the fault of a row, from the values read.
 use Rattle.std.specs.Prelude.{◌≡◌, ℕ, ◌==◌, ◌&&◌, Bool, true, false, not, cond, List, [], ◌∷◌, Option, Some, None, refl}
 use Rattle.std.proofs.lemmas.Bool.Decides.{nat_tests}
 use Rattle.std.proofs.Common.{arith, ap, sym, ◌∙◌}
@@ -37,7 +37,7 @@ own_right true u Borrowed place e = absurd (cc)
 own_right true u Container place e = absurd (cc)
 own_right false u k place e = absurd (cc)
 
--- what a row with right codes lists can be listed
+-- the item of a row with valid codes can be listed
 pub listed_right : (k : RowKind) (row : Fields) → has_codes k row ≡ true
     → is_right (listed k row) ≡ true
 listed_right kind.Station row h = h
@@ -65,7 +65,7 @@ faults_over : (n : ℕ) (a b : Bool) (o : Option SetupFault) → a ≡ true → 
     → first_or o ((Some (BadFields n) if not a) ∷ (Some (BadCode n) if not b) ∷ []) ≡ o
 faults_over n a b o e f = rw (e, f) refl
 
--- what was read of a row that lists something
+-- the values read from a row that lists an item
 pub record IsRead (row : Fields) (k : RowKind) (item : SetupRow) : Type 0 where
   pub some : (field_count row == 0) ≡ false
   pub kind_is : row_kind (field row 0) ≡ Some k
@@ -83,7 +83,7 @@ chosen_is : {A : Type 0} (t : Bool) (x y : A) → cond t (Some x) None ≡ Some 
 chosen_is true x y e = (refl, cc)
 chosen_is false x y e = absurd (cc)
 
--- what the tests of a row tell
+-- the results of a row's tests
 pub is_read : (row : Fields) (k : RowKind) (item : SetupRow) (count wanted : ℕ) (word : Bool)
     → count ≡ field_count row → (count ≡ 0 → ⊥)
     → row_kind (field row 0) ≡ Some k → wanted ≡ fields_of_kind k → count ≡ wanted
@@ -114,11 +114,11 @@ pub with_read : (S : Museum) (row : Fields) (k : RowKind) (item : SetupRow) → 
 with_read S row k item is = row_of S row false (Some k) is.some is.kind_is ∙ ap (with_listed S)
     (sym is.item_is)
 
--- what a row of the kind lists, if its codes are right
+-- the item that a row of this kind lists, if its codes are valid
 abbrev chosen : RowKind → Fields → Option SetupRow
 chosen k row = cond (has_codes k row) (Some (listed k row)) None
 
--- a code that was read of the bytes, if it is one
+-- the code that the bytes spell, if they spell one
 abbrev thing_read : ThingKind → List ℕ → Option (List ℕ)
 thing_read wanted code = cond (is_thing_code wanted code) (Some code) None
 

@@ -1,4 +1,4 @@
--- What follows of a museum.
+-- Facts about a museum.
 use Rattle.std.specs.Prelude.{◌≡◌, ℕ, ◌<◌, ◌≤◌, Bool, true, false, nat_le, nat_lt, List, [], ◌∷◌, ◌++◌, length, map, Option, Some, None, IfSome, is_none, is_some, refl}
 use Rattle.std.specs.List.{slice_get}
 use Rattle.std.specs.Option.{option_map_or, option_and_then}
@@ -145,7 +145,7 @@ normal_found S Borrowed (Some place) h e = absurd (cc)
 normal_found S Container None h e = refl
 normal_found S Container (Some place) h e = absurd (cc)
 
--- a thing's row is right where its normal place was found
+-- a thing's row is valid if its normal place was found
 pub thing_row_right : (S : Museum) (code : List ℕ) (normal : Option (List ℕ))
     → is_right (lists.Thing code normal) ≡ true → lacks_normal S (lists.Thing code normal) ≡ false
     → is_thing_row (length S.places) (code, option_and_then (find_place S) normal) ≡ true
@@ -167,7 +167,7 @@ thing_fits : (S : Museum) (n : ℕ) (code : List ℕ) (normal : Option (List ℕ
 thing_fits S n code normal none found few =
     rw (none, found, few_left (length S.things) MOST_THINGS few) refl
 
--- what has no fault goes last
+-- an item without a fault is added last
 pub place_added : (S B : Museum) (n : ℕ) (code : List ℕ) (inside : Bool) → S ≡ B
     → find_place S code ≡ None → length S.places < MOST_PLACES
     → (listing_fault B n (lists.Place code inside) ≡ None)
@@ -191,7 +191,7 @@ thing_added S B n code normal is none found few =
     ≡ with_listed m (lists.Thing code normal))) is
     (thing_fits S n code normal none found few, refl)
 
--- a normal place that was found, or that nobody asked for
+-- a normal place that was found, or none was needed
 pub normal_there : (S : Museum) (code : List ℕ) (normal : Option (List ℕ)) (number : Option ℕ)
     → number ≡ option_and_then (find_place S) normal → is_none number ≡ false
     → lacks_normal S (lists.Thing code normal) ≡ false

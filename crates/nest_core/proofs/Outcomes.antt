@@ -1,4 +1,4 @@
--- What the way out of a failed call says.
+-- Lemmas about failed calls.
 use Rattle.std.specs.Prelude.{Result, Ok, Err, OnErr, IsErrAnd, MatchResult}
 
 pub match_err : {A E : Type 0} (r : Result A E) (G : E → Type 0) (P : A → Type 0) (Q : E → Type 0)

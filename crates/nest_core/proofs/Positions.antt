@@ -1,4 +1,4 @@
--- Where a text stands in a list.
+-- The position of a text in a list.
 use Rattle.std.specs.Prelude.{◌≡◌, ℕ, ◌+◌, ◌<◌, ◌≤◌, ◌||◌, ◌⊎◌, Bool, true, false, cond, not, List, [], ◌∷◌, ◌++◌, length, map, Option, Some, None, nat_lt, is_some, refl, zero, suc, eqb}
 use Rattle.std.specs.List.{position, position_or_len, list_all, list_any, slice_get}
 use Rattle.std.specs.Str.{bytes_eq}
@@ -12,7 +12,7 @@ use Rattle.std.proofs.lemmas.List.Sums.{prefix_len-le-length}
 use Rattle.indexmap.specs.IndexMap.{insert_entry}
 use Rattle.indexmap.specs.IndexSet.{insert_key}
 
--- a test that nothing in the list passes runs to its end
+-- a search for a test that no element passes runs to the end of the list
 or_len_none : {X : Type 0} (p q : X → Bool) (xs : List X) → list_all q xs ≡ true
     → ((x : X) → q x ≡ true → p x ≡ false) → position_or_len p xs ≡ length xs
 or_len_none p q [] h only = refl
@@ -26,7 +26,7 @@ position_none p q xs h only =
     let n : nat_lt (length xs) (length xs) ≡ false = grind (arith, nat_tests) in
     rw (or_len_none p q xs h only, n) refl
 
--- what passes for all passes for one
+-- a property of all elements is true of one
 pub passes_at : {X : Type 0} (q : X → Bool) (xs : List X) (i : ℕ) (x : X) → list_all q xs ≡ true
     → slice_get xs i ≡ Some x → q x ≡ true
 passes_at q [] i x h e = absurd (cc)
@@ -34,7 +34,7 @@ passes_at q (y ∷ ys) zero x h e = let same : y ≡ x = cc in
     subst (λ z. q z ≡ true) same (and_parts (q y) (list_all q ys) h).0
 passes_at q (y ∷ ys) (suc i) x h e = passes_at q ys i x (and_parts (q y) (list_all q ys) h).1 e
 
--- only a text that passes stands among those that do
+-- only a text that passes is among those that pass
 pub position_unlike : (q : List ℕ → Bool) (texts : List (List ℕ)) (text : List ℕ)
     → list_all q texts ≡ true → q text ≡ false → position (bytes_eq text) texts ≡ None
 position_unlike q texts text h no_pass =
@@ -66,13 +66,13 @@ none_is n len most = elim (nat_lt n len) as (λ t. nat_lt n len ≡ t → cond t
       | false ↦ λ t e. (grind (arith, nat_tests))
     ] refl
 
--- a test that finds nothing runs to the end
+-- a search without a result runs to the end
 pub absent : {X : Type 0} (p : X → Bool) (xs : List X) → position p xs ≡ None
     → position_or_len p xs ≡ length xs
 absent p xs none = none_is (position_or_len p xs) (length xs)
     (prefix_len-le-length (λ x. not (p x)) xs) none
 
--- what is found is found where one more stands behind it
+-- an element is still found after another is added at the end
 pub position_push-found : {X : Type 0} (p : X → Bool) (xs : List X) (y : X) (i : ℕ)
     → position p xs ≡ Some i → position p (xs ++ y ∷ []) ≡ Some i
 position_push-found p xs y i found =
@@ -83,7 +83,7 @@ position_push-found p xs y i found =
     omega (arith, length-append xs (y ∷ [])) in
     rw (stays, test_true _ _ more) (ap Some at.1)
 
--- what was not there is found where it is put
+-- a new element is found at the end, where it was added
 pub position_push-new : {X : Type 0} (p : X → Bool) (xs : List X) (y : X) → position p xs ≡ None
     → p y ≡ true → position p (xs ++ y ∷ []) ≡ Some (length xs)
 position_push-new p xs y none passes =
@@ -103,12 +103,12 @@ slice_get-push (z ∷ zs) y (suc i) x e = elim (slice_get-push zs y i x e) [
   | inr last ↦ inr (omega arith, last.1)
 ]
 
--- each text of the list is found where it stands
+-- each text of the list is found at its own position
 abbrev pub EachFound : List (List ℕ) → Type 0
 EachFound texts = (i : ℕ) (text : List ℕ) → slice_get texts i ≡ Some text
     → position (bytes_eq text) texts ≡ Some i
 
--- and so it is with a new one behind them
+-- and still is after a new text is added at the end
 pub EachFound-push : (texts : List (List ℕ)) (new : List ℕ) → EachFound texts
     → position (bytes_eq new) texts ≡ None → EachFound (texts ++ new ∷ [])
 EachFound-push texts new each none i text at = elim (slice_get-push texts new i text at) [
@@ -118,7 +118,7 @@ EachFound-push texts new each none i text at = elim (slice_get-push texts new i 
       ∙ ap Some (sym last.0))
 ]
 
--- a key that is not there is inserted behind the others
+-- a new key is inserted after the others
 pub insert_new : {Y : Type 0} (entries : List (List ℕ × Y)) (code : List ℕ) (value : Y)
     → position (bytes_eq code) (map (λ e. e.0) entries) ≡ None
     → insert_entry bytes_eq entries code value ≡ entries ++ (code, value) ∷ []
@@ -138,7 +138,7 @@ insert_new {Y = Y} entries code value none =
           | false ↦ λ k. ap (λ rest. e ∷ rest) (by es (omega arith))
         ] h
 
--- and so is a name
+-- and so is a new name
 pub insert_key_new : (names : List (List ℕ)) (name : List ℕ) → position (bytes_eq name) names ≡ None
     → insert_key bytes_eq names name ≡ names ++ name ∷ []
 insert_key_new names name none = rw (by names (absent (bytes_eq name) names none)) refl
@@ -153,7 +153,7 @@ insert_key_new names name none = rw (by names (absent (bytes_eq name) names none
           | false ↦ λ k. by xs (omega arith)
         ] h
 
--- what a look-up did not find is not there
+-- an element that a look-up did not find is not in the list
 pub not_found : (o : Option ℕ) (found : Bool) → found ≡ is_some o → found ≡ false → o ≡ None
 not_found None found e h = refl
 not_found (Some i) found e h = absurd (cc)

@@ -13,8 +13,7 @@ use Rattle.nest_core.specs.SetupRows.{Fields, first_fault, museum_of, row_fault,
 use Rattle.nest_core.specs.declared.setup_fault.SetupFault.{SetupFault}
 use Rattle.nest_core.proofs.CsvRows.{left_at_start, left_none, left_some, next_leaves, rows_left}
 
--- the rows before row n of the text are listed in S and have no fault, and what is left is read
--- from this state
+-- The rows before row n are listed in S and have no fault, and the rest is read from this state.
 pub record IsUpTo (text : List ℕ) (S : Museum) (n : ℕ) (s : State) (xs : List ℕ) : Type 0 where
   pub before : List Fields
   pub rows : records default_config text ≡ before ++ rows_left s xs
@@ -39,7 +38,7 @@ none_first o q e = ap (λ f. option_or f q) e
 some_first : (o q : Option SetupFault) (f : SetupFault) → o ≡ Some f → option_or o q ≡ Some f
 some_first o q f e = ap (λ g. option_or g q) e
 
--- the fault of the next row, as the definition has it
+-- the fault of the next row, by the definition
 here_is : (S : Museum) (n : ℕ) (before : List Fields) (row : Fields) (o : Option SetupFault)
     → S ≡ museum_of before → n ≡ length before + 1 → row_fault S n row ≡ o
     → row_fault (museum_of before) (length before + 1) row ≡ o
@@ -80,7 +79,7 @@ fault_here text S n s xs row t ys f up next some =
     (first_fault (up.before ++ row ∷ []) (rows_left t ys)) f
     (here_is S n up.before row (Some f) up.museum up.number some)
 
--- no more row
+-- no more rows
 pub at_end : (text : List ℕ) (S : Museum) (n : ℕ) (s : State) (xs : List ℕ) → IsUpTo text S n s xs
     → next_record default_config s [] [] xs ≡ None
     → (first_fault [] (records default_config text) ≡ None)
@@ -92,7 +91,7 @@ at_end text S n s xs up next =
           (sym (up.rows ∙ ap (λ rows. up.before ++ rows) left ∙ append-nil up.before)),
     )
 
--- without a mark a text is no longer
+-- without the byte order mark a text is no longer
 strip_most : (b : Bool) (a c d : ℕ) (rest : List ℕ)
     → length (cond b rest (a ∷ c ∷ d ∷ rest)) ≤ length (a ∷ c ∷ d ∷ rest)
 strip_most true a c d rest = omega arith

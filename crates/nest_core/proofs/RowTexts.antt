@@ -8,7 +8,7 @@ use Rattle.codes_core.specs.declared.thing.ThingKind.{ThingKind}
 use Rattle.nest_core.specs.Museum.{Museum, kind_of, normal_of, place_code_of, thing_code_of}
 use Rattle.nest_core.specs.SetupTexts.{joined, kind_word, normal_fields, thing_fields}
 
--- a thing's row, by what its number has
+-- a thing's row, by the setup's entry for its number
 row_at : (S : Museum) (x : ℕ) (code : List ℕ) (kind : ThingKind) (normal : Option ℕ)
     → thing_code_of S x ≡ Some code → kind_of S x ≡ Some kind → normal ≡ normal_of S x
     → slice_get (map (λ row. joined (thing_fields S row)) S.things) x

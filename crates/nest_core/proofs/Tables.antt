@@ -11,7 +11,7 @@ use Rattle.nest_core.specs.SetupRows.{first_fault, museum_of, rows_of, setup_fau
 use Rattle.nest_core.specs.declared.setup_fault.SetupFault.{SetupFault}
 use Rattle.nest_core.specs.declared.setup_fault.SetupFault.TheVariants.{NoStation, NotCsv}
 
--- the table, by what each of its rows says
+-- the table, by whether each of its rows holds
 table : (t u : Bool) (o q : Option SetupFault) (last : Option SetupFault) → t ≡ u → o ≡ q
     → (if t then option_or o last else Some NotCsv) ≡ (if u then option_or q last else Some NotCsv)
 table t u o q last e f =
@@ -42,7 +42,7 @@ no_rows n m e some = grind (arith, nat_tests)
 zero_rows : (n m : ℕ) → n ≡ m → n ≡ 0 → (m == 0) ≡ true
 zero_rows n m e none = grind (arith, nat_tests)
 
--- how many stations the museum has, counted on the setup that was read
+-- the number of stations, counted in the setup that was read
 pub no_station : (bytes : List ℕ) (S : Museum) (n : ℕ) → is_utf8 bytes ≡ true
     → first_fault [] (rows_of bytes) ≡ None → S ≡ museum_of (rows_of bytes)
     → n ≡ length S.stations → n ≡ 0

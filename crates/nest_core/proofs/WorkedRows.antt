@@ -1,4 +1,4 @@
--- The definitions computed on worked rows: setup files read row by row, and what is put where.
+-- The definitions computed on worked rows: setup files read row by row, and puts.
 use Rattle.std.specs.Prelude.{◌≡◌, ◌≤◌, ◌+◌, ◌*◌, List, ℕ, [], ◌∷◌, length, map, true, false, None, Some, codes, refl}
 use Rattle.std.proofs.Common.{arith}
 use Rattle.csv.specs.Machine.{next_record}
@@ -69,12 +69,12 @@ pub own_alone : first_fault [] (rows_of (codes "own,2001.4.1,S1")) ≡ Some (Unk
 unfolding next_record records_from strip_bom
 own_alone = refl
 
--- a skipped row counts
+-- a skipped row is counted too
 pub skipped : first_fault [] (rows_of (codes "station,GAL\n,,\nbox,C01")) ≡ Some (BadCode 3)
 unfolding next_record records_from strip_bom
 skipped = refl
 
--- one byte order mark goes, and empty fields at a row's end don't count
+-- one byte order mark is dropped, and empty fields at a row's end don't count
 pub marked : first_fault [] (rows_of (0xEF ∷ 0xBB ∷ 0xBF ∷ codes "station,GAL,,\r\nbox,C1,,\r\n"))
     ≡ None
 unfolding next_record records_from strip_bom
@@ -85,19 +85,19 @@ pub marked_twice : first_fault []
 unfolding next_record records_from strip_bom
 marked_twice = refl
 
--- a museum needs a station, and no more
+-- a museum needs a station, and nothing more
 pub no_station : station_fault no_museum ≡ Some NoStation
 no_station = refl
 
 pub station_alone : station_fault (record no_museum { stations = codes "GAL" ∷ [] }) ≡ None
 station_alone = refl
 
--- an empty file lists none
+-- an empty file lists no station
 pub empty_file : station_fault (museum_of (rows_of [])) ≡ Some NoStation
 unfolding next_record records_from strip_bom
 empty_file = refl
 
--- of several rows that hold the first one speaks; where none holds, the other does
+-- the first row that holds has the result; if none holds, it is `other`
 first_of_two : first_or (codes "other")
     ((codes "one" if false) ∷ (codes "two" if true) ∷ (codes "three" if true) ∷ []) ≡ codes "two"
 first_of_two = refl
@@ -106,8 +106,7 @@ none_holds : first_or (codes "other") ((codes "one" if false) ∷ (codes "two" i
     ≡ codes "other"
 none_holds = refl
 
--- What is put where, by puts alone: each list stands newest first. Six things, of which 0 and 1 are
--- crates.
+-- Puts alone; each list has the newest first. There are six things; 0 and 1 are crates.
 
 abbrev at : ℕ → ℕ → Put
 at x p = record { thing = x; to = At p }
@@ -139,21 +138,21 @@ contents_in_order-3 : (moved_by 6 two_puts (into 3 0) ≡ 3 ∷ [])
     × (contents three_puts 0 ≡ 2 ∷ 3 ∷ [])
 contents_in_order-3 = (refl, refl)
 
--- packed again, a thing goes to the end and doesn't move
+-- packed again, a thing goes to the end of the list and doesn't move
 abbrev four_puts : List Put
 four_puts = into 2 0 ∷ three_puts
 
 contents_in_order-4 : (moved_by 6 three_puts (into 2 0) ≡ []) × (contents four_puts 0 ≡ 3 ∷ 2 ∷ [])
 contents_in_order-4 = (refl, refl)
 
--- taken out at the place where the crate is, it doesn't move either
+-- taken out at the place of the crate, it doesn't move either
 abbrev five_puts : List Put
 five_puts = at 3 0 ∷ four_puts
 
 contents_in_order-5 : (moved_by 6 four_puts (at 3 0) ≡ []) × (contents five_puts 0 ≡ 2 ∷ [])
 contents_in_order-5 = (refl, refl)
 
--- the crate takes along what is in it, and not what was taken out
+-- the crate's contents move with it; a thing taken out of it stays
 abbrev six_puts : List Put
 six_puts = at 0 2 ∷ five_puts
 
@@ -199,14 +198,14 @@ cycle-itself = refl
 cycle-moved : moved_by 6 cycle (at 0 0) ≡ []
 cycle-moved = refl
 
--- too_deep: crates 0 to 8, each in the one before, thing 9 in the last but one; crate 11 stands
+-- too_deep: crates 0 to 8, each in the one before, and thing 9 in the last but one; crate 11 is
 -- elsewhere
 
 abbrev eight_crates : List Put
 eight_crates = into 9 7 ∷ into 7 6 ∷ into 6 5 ∷ into 5 4 ∷ into 4 3 ∷ into 3 2 ∷ into 2 1 ∷ into 1 0
     ∷ at 0 0 ∷ []
 
--- eight containers above it are as many as may be
+-- eight containers above a thing are allowed
 too_deep-last : pack_bar (last eight_crates) 12 8 8 7 ≡ None
 too_deep-last = refl
 
@@ -219,17 +218,17 @@ too_deep-chain = refl
 too_deep-thing : pack_bar (last nine_crates) 12 8 10 8 ≡ Some TooDeep
 too_deep-thing = refl
 
--- what lies deep inside the packed crate counts too
+-- the things deep inside the packed crate count too
 too_deep-inside : pack_bar (last nine_crates) 12 8 0 11 ≡ Some TooDeep
 too_deep-inside = refl
 
--- under the limit of new stores both may be packed
+-- under the limit of new stores both packs are allowed
 too_deep-limit : (pack_bar (last nine_crates) 12 12 10 8 ≡ None)
     × (pack_bar (last nine_crates) 12 12 0 11 ≡ None)
 too_deep-limit = (refl, refl)
 
--- the bound on a put alone refuses a put that writes every place anew, a step each: of seventeen
--- things that stand nowhere
+-- The bound alone rules out a put that rewrites every place, one step each: for seventeen things
+-- without a place.
 bound-alone : (before : ℕ) → before + 17 ≤ before + 8 *
     (length (carried 17 [] 0) + length (leaves [] 0) + 1) → ⊥
 bound-alone before h = let low : before + 17 ≤ before + 16 = h in omega arith

@@ -36,7 +36,8 @@ field_count (f ∷ fs) = if (field_count fs == 0) && (length f == 0) then 0 else
 abbrev pub field : Fields → ℕ → List ℕ
 field row i = unwrap_or (slice_get row i) []
 
--- What a row lists, by the word in its first field: `box` is a container, `lent` a borrowed object.
+-- The kind of item that a row lists, by the word in its first field: `box` is a container, `lent` a
+-- borrowed object.
 abbrev pub row_kind : List ℕ → Option RowKind
 row_kind word =
     if bytes_eq word (codes "station") then Some kind.Station
@@ -157,7 +158,7 @@ abbrev pub with_row : Museum → Fields → Museum
 with_row S row = if field_count row == 0 then S else with_kind S row (row_kind (field row 0))
 
 -- The row isn't skipped, and has no fault after the rows of S. A reader that runs out of memory may
--- stop only before a row like this one, or where `csv` itself stopped.
+-- stop only before a row like this one, or at the point where `csv` stopped.
 abbrev pub CanBeListed : Museum → Fields → Type 0
 CanBeListed S row = (field_count row ≢ 0) × (n : ℕ) × (row_fault S n row ≡ None)
 

@@ -1,14 +1,15 @@
 //! The museum's setup, and the nest: which thing is in which container, and at which place.
 //!
-//! [`Setup`] lists the stations, places and things of the museum and gives each a number. It is
-//! read from a CSV file (or rejected with a [`SetupFault`]) and doesn't change afterwards. [`Nest`]
-//! keeps where each thing was last put: directly at a place, or directly in a container. It returns
-//! a thing's place through all its containers, these containers, and what a thing carries.
+//! [`Setup`] lists the stations, places and things of the museum and numbers them. It is read from
+//! a CSV file (or rejected with a [`SetupFault`]) and doesn't change afterwards. [`Nest`] keeps
+//! where each thing was last put: directly at a place, or directly in a container. It returns a
+//! thing's place through all its containers, these containers, and the things that it carries.
 //!
 //! The answers of a nest are those of looking back through the list of all puts. No thing is ever
-//! in itself, no thing has more containers above it than the depth limit, and what a thing carries
-//! moves with it (see [`laws`]). The cost of a put depends only on what the thing carries and on
-//! the contents that it leaves, not on the size of the museum (see [`Nest::put`]).
+//! in itself, no thing has more containers above it than the depth limit, and everything that a
+//! thing carries moves with it (see [`laws`]). The cost of a put depends only on the things that
+//! the thing carries and on the contents that it leaves, not on the size of the museum (see
+//! [`Nest::put`]).
 //!
 //! ```text
 //! let rows = b"station,desk\nplace,S1,inside\nbox,C1\nown,2001.1,S1\n";

@@ -1,4 +1,4 @@
-//! The setup: what the museum lists, and the lookups in it.
+//! The setup: the museum's lists, and the lookups in them.
 ghost use Rattle.std.specs.Prelude.{◌≡◌, ◌≢◌, ◌<◌, ◌≤◌, ◌+◌, true, length, None, Some, IfSome, OnOk, OnErr, IfErr};
 ghost use Rattle.std.specs.Option.{option_and_then};
 ghost use Rattle.nest_core.specs.Museum.{IsMuseum, find_station, find_place, find_thing, station_name_of, place_code_of, thing_code_of, is_inside, kind_of, normal_of, row_count, no_museum};
@@ -157,7 +157,7 @@ impl Setup {
         *self.things.get_index(thing as usize).unwrap().0
     }
 
-    /// What a thing of the setup is.
+    /// The kind of a thing of the setup.
     pub fn kind(&self, thing: ThingNo) -> ThingKind
         requires { thing < length self.now.things }
         ensures { kind_of self.now thing ≡ Some result }
@@ -193,8 +193,9 @@ impl Setup {
         }
     }
 
-    /// Adds what row `number` lists at the end of its list. Fails with the first of `Repeated`,
-    /// `UnknownNormal`, `TooMany` and `NoMemory` that applies, and then nothing is added.
+    /// Adds the item that row `number` lists at the end of its list. Fails with the first of
+    /// `Repeated`, `UnknownNormal`, `TooMany` and `NoMemory` that applies, and then nothing is
+    /// added.
     pub(crate) fn add(&mut self, number: u64, row: SetupRow) -> Result<(), SetupFault>
         requires { is_right row ≡ true }
         ensures ok { OnOk result

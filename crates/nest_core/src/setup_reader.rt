@@ -57,9 +57,9 @@ fn read_rows(alloc: Global, bytes: &[u8]) -> Result<Setup, SetupFault>
     Ok(setup)
 }
 
-/// Adds what the rows list to an empty setup, and reads each row into `row`. Fails with the fault
-/// of the first row that has one. Fails with `NoMemory` if the reader ran out of memory, or if a
-/// row without a fault couldn't be added.
+/// Adds the items that the rows list to an empty setup, and reads each row into `row`. Fails with
+/// the fault of the first row that has one. Fails with `NoMemory` if the reader ran out of memory,
+/// or if a row without a fault couldn't be added.
 fn add_rows(
     setup: &mut Setup,
     reader: &mut Reader<&[u8]>,
@@ -86,8 +86,8 @@ fn add_rows(
     Ok(())
 }
 
-/// Adds what row `number` lists, unless the row is skipped. Fails with the row's first fault, or
-/// with `NoMemory` if it has none.
+/// Adds the item that row `number` lists, unless the row is skipped. Fails with the row's first
+/// fault, or with `NoMemory` if it has none.
 fn add_row(setup: &mut Setup, number: u64, row: &ByteRecord) -> Result<(), SetupFault>
     ensures ok { OnOk result
         ((row_fault setup.old number (fields_of row.now) ≡ None)

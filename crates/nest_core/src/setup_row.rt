@@ -1,4 +1,4 @@
-//! One row of a setup file: its fields, and what it lists.
+//! One row of a setup file: its fields, and the item that it lists.
 ghost use Rattle.std.specs.Prelude.{◌≡◌, ◌≢◌, ◌==◌, is_none, true, None, Some, IfOk, IfErr, MatchOption, if◌then◌else◌};
 ghost use Rattle.csv.specs.Records.{fields_of};
 ghost use Rattle.nest_core.specs.Museum.{Museum};
@@ -9,8 +9,8 @@ use crate::station_name::StationName;
 use codes_core::{PlaceCode, ThingCode, ThingKind};
 use csv::ByteRecord;
 
-/// What a row lists, by the word in its first field. `box` is a container, `own` an own object, and
-/// `lent` a borrowed one.
+/// The kind of item that a row lists, by the word in its first field. `box` is a container, `own`
+/// an own object, and `lent` a borrowed one.
 #[derive(Clone, Copy, Debug, PartialEq, Eq)]
 pub(crate) enum RowKind {
     Station,
@@ -20,8 +20,8 @@ pub(crate) enum RowKind {
     Lent,
 }
 
-/// What a row lists: a station; a place, and whether it is inside the museum; or a thing, with its
-/// normal location if it is an own object.
+/// The item that a row lists: a station; a place, and whether it is inside the museum; or a thing,
+/// with its normal location if it is an own object.
 #[derive(Clone, Copy, Debug)]
 pub(crate) enum SetupRow {
     Station(StationName),
@@ -49,7 +49,7 @@ pub fn field_count(row: &ByteRecord) -> usize
     count
 }
 
-/// What a row lists, by its first field. `None` for any other word.
+/// The kind of item that a row lists, by its first field. `None` for any other word.
 fn row_kind(word: &[u8]) -> Option<RowKind>
     ensures { result ≡ row_kind word.now }
 {
@@ -109,8 +109,8 @@ fn place_code(bytes: &[u8]) -> Option<PlaceCode>
     PlaceCode::parse(bytes).ok()
 }
 
-/// What a row of this kind lists. `None` if its name, or one of its codes, isn't valid for this
-/// kind.
+/// The item that a row of this kind lists. `None` if its name, or one of its codes, isn't valid for
+/// this kind.
 fn listed(kind: RowKind, row: &ByteRecord) -> Option<SetupRow>
     ensures { result
         ≡ (if has_codes kind (fields_of row.now) then Some (listed kind (fields_of row.now))
@@ -141,8 +141,8 @@ fn listed(kind: RowKind, row: &ByteRecord) -> Option<SetupRow>
 }
 
 impl SetupRow {
-    /// Returns what row `number` lists, or `None` if the row has no fields and is skipped. Fails
-    /// with the first of `BadKind`, `BadFields` and `BadCode` that applies.
+    /// Returns the item that row `number` lists, or `None` if the row has no fields and is skipped.
+    /// Fails with the first of `BadKind`, `BadFields` and `BadCode` that applies.
     pub fn read(number: u64, row: &ByteRecord) -> Result<Option<SetupRow>, SetupFault>
         // S is the setup that the rows before this one list, whatever they are.
         ensures ok { IfOk result (λ read. MatchOption read

@@ -1,4 +1,4 @@
--- What an applied entry does to an object: where it is afterwards, and its stages.
+-- The effect of an applied entry on an object: where it is afterwards, and its stages.
 use Rattle.std.specs.Prelude.{ℕ, ◌≡◌, ◌≢◌, ◌<◌, ◌==◌, ◌&&◌, ◌||◌, Bool, true, false, not, if◌then◌else◌, List, ◌∷◌, length, Option, None, Some, refl}
 use Rattle.std.specs.List.{find, range_with_len}
 use Rattle.std.specs.Option.{option_map_or, option_or, option_to_list, option_and_then}
@@ -69,7 +69,7 @@ by_verdict {X} {S} {P} {e} o follows lawful applied refused =
       })
     ] refl
 
--- a put leaves the targets of others
+-- a put leaves the targets of other things as they were
 other_target : (Q : List Put) (put : Put) (n o : ℕ) → is_carried n Q put.thing o ≡ false
     → last (put ∷ Q) o ≡ last Q o
 other_target Q put n o apart =
@@ -81,13 +81,13 @@ other_target Q put n o apart =
       | false ↦ λ e. refl
     ] refl
 
--- it goes with a thing, to the place of the target
+-- it moves along with a thing, to the place of the target
 pub record GoesWith (S : Museum) (P : List Entry) (e : Entry) (put : Put) (o : ℕ) : Type 0 where
   pub carried : is_carried (length S.things) (puts S P) put.thing o ≡ true
   pub after : place_at S (e ∷ P) o ≡ place_to S P put.to
   pub before : place_at S P o ≡ place_at S P put.thing
 
--- the objects among what a thing carries
+-- the objects among the things that a thing carries
 
 pub carried_among : (S : Museum) (P : List Entry) (x : List ℕ) (o : ℕ) → o < length S.things
     → is_container S o ≡ false → is_carried (length S.things) (puts S P) (thing_no S x) o ≡ true
@@ -119,7 +119,7 @@ crossed S P c loan o = option_map_or (λ s. s)
     (option_and_then (λ x. if bytes_eq x.loan loan && is_among o (objects_in S P x.thing) then Some
     x.stage else None) c) (stage S P loan o)
 
--- what an applied entry does to the object
+-- the effect of an applied entry on the object
 module _ {S : Museum} {depth : ℕ} {P : List Entry} {e : Entry} (a : IsApplied S depth P e)
     (o : ℕ) where
   place_applied : place_at S (e ∷ P) o ≡ place_after S P e.message o
@@ -139,7 +139,7 @@ module _ {S : Museum} {depth : ℕ} {P : List Entry} {e : Entry} (a : IsApplied 
     target = target_applied None none;
   }
 
-  -- by whether what is put carries it
+  -- by whether the thing that is put carries it
   pub by_carried : {X : Type 0} (put : Put) → put_in S P e.message ≡ Some put
       → (GoesWith S P e put o → X) → (is_carried (length S.things) (puts S P) put.thing o ≡ false
       → Stays S P e o → X) → X
@@ -222,7 +222,7 @@ by_loan X a b same other = elim (bytes_eq a b) as (λ t. bytes_eq a b ≡ t → 
   | false ↦ λ e. other e
 ] refl
 
--- what was at the stage under no loan, and gets to it under this one
+-- an object that was at the stage under no loan, and gets to it under this one
 pub went : {S : Museum} {P : List Entry} {e : Entry} {c : Crossing} {o : ℕ} → HasCrossed S P e c o
     → AtNone S P o c.stage → AtOne S (e ∷ P) o c.stage c.loan
 went {c} has none = (
@@ -231,7 +231,7 @@ went {c} has none = (
       (λ apart. absurd (none other (sym (has.others other apart) ∙ at))),
 )
 
--- what was at the stage under this loan alone, and leaves it
+-- an object that was at the stage under this loan alone, and leaves that stage
 pub came : {S : Museum} {P : List Entry} {e : Entry} {c : Crossing} {o : ℕ} (s : LineStage)
     → HasCrossed S P e c o → AtOne S P o s c.loan → c.stage ≢ s → AtNone S (e ∷ P) o s
 came {S} {P} {e} {c} {o} s has one leaves = λ loan at. by_loan _ c.loan loan
@@ -239,7 +239,7 @@ came {S} {P} {e} {c} {o} s has one leaves = λ loan at. by_loan _ c.loan loan
     (λ apart. let same : loan ≡ c.loan = one.1 loan (sym (has.others loan apart) ∙ at) in
     absurd (false≢true (sym apart ∙ (bytes_eq-Decides c.loan loan).1 (sym same))))
 
--- what crosses is listed, at the stage wanted
+-- the objects that cross are listed, at the stage needed
 pub record IsReady (S : Museum) (P : List Entry) (c : Crossing) (o : ℕ) : Type 0 where
   pub listed : is_among o (objects S P c.loan) ≡ true
   pub wanted : stage S P c.loan o ≡ c.wanted

@@ -1,5 +1,5 @@
--- What was agreed over a lawful list: each loan once, of known objects, with a known partner; and
--- what no entry touches.
+-- The agreements of a lawful list: each loan once, of known objects, with a known partner; and
+-- entries that change nothing of a loan.
 use Rattle.std.specs.Prelude.{ℕ, ℤ, ◌≡◌, Bool, true, false, not, cond, List, [], ◌∷◌, ◌++◌, Option, None, Some, refl, is_some, if◌then◌else◌}
 use Rattle.std.specs.List.{find, list_any, AllByRecursion}
 use Rattle.std.specs.Option.{option_or, option_to_list}
@@ -37,7 +37,7 @@ bytes_eq-sym a b =
 pub apart_sym : (a b : List ℕ) → bytes_eq a b ≡ false → bytes_eq b a ≡ false
 apart_sym a b apart = bytes_eq-sym b a ∙ apart
 
--- what is agreed of a loan keeps to the rules
+-- an agreement of a loan keeps to the rules
 pub record IsSound (S : Museum) (t : Agreement) : Type 0 where
   pub known : list_any (λ x. not (is_known S x)) t.objects ≡ false
   pub partner : is_known_place S t.partner ≡ true
@@ -104,7 +104,7 @@ agreements_sound S depth (e ∷ P) (follows, lawful) =
     new None sound = tt
     new (Some t) sound = (sound t refl, tt)
 
--- what is found is agreed of the loan, and keeps to the rules
+-- the agreement that is found is the loan's, and keeps to the rules
 pub found_is : (loan : List ℕ) (ts : List Agreement) (t : Agreement)
     → find (λ u. bytes_eq loan u.loan) ts ≡ Some t → loan ≡ t.loan
 found_is loan [] t e = absurd (none-some _ e)
@@ -175,7 +175,7 @@ agreements_apart S depth (e ∷ P) (follows, lawful) =
     new before None unknown = subst AreApart (sym (append-nil (agreements P))) before
     new before (Some t) unknown = apart_append (agreements P) t before (unknown t refl)
 
--- the message is about the loan, which must be agreed before
+-- the message is about the loan, which must already be agreed
 abbrev pub names : Message → List ℕ → Bool
 names (Authorise name l) loan = bytes_eq l loan
 names (Exit day x l) loan = bytes_eq l loan
@@ -211,7 +211,7 @@ named_agreed S depth P (Pack day x c) loan applied none = refl
 named_agreed S depth P (Agree first last l partner objects) loan applied none = refl
 named_agreed S depth P (SignOff name) loan applied none = refl
 
--- a message leaves a loan that it doesn't name
+-- a message changes nothing of a loan that it doesn't name
 unnamed : (S : Museum) (P : List Entry) (m : Message) (loan : List ℕ) → names m loan ≡ false
     → ((o : ℕ) → stage_by S P m loan o ≡ None) × (extension_in m loan ≡ None)
     × (authorises m loan ≡ false)
@@ -225,7 +225,7 @@ unnamed S P (Receive day x l p) loan other = (λ o. rw other refl, refl, refl)
 unnamed S P (SignOff name) loan other = (λ o. refl, refl, refl)
 unnamed S P (Extend last l) loan other = (λ o. refl, rw other refl, refl)
 
--- what isn't agreed is awaited, not authorised, and not extended
+-- a loan that isn't agreed has no crossing, no authorisation and no extension
 pub record IsUntouched (S : Museum) (P : List Entry) (loan : List ℕ) : Type 0 where
   pub awaited : (o : ℕ) → stage S P loan o ≡ Awaiting
   pub ends : (day : ℤ) → last_from P loan day ≡ day

@@ -1,4 +1,4 @@
--- What is carried along, where a call gives up.
+-- The things that a put carries, when a call fails.
 use Rattle.std.specs.Prelude.{ℕ, ◌≡◌, ◌<◌, ◌&&◌, Bool, true, false, List, Option, Some, None, Result, OnErr, if◌then◌else◌, length}
 use Rattle.std.proofs.Common.{ap, ◌∙◌, arith}
 use Rattle.std.proofs.lemmas.Result.{on_err_weaker}
@@ -11,7 +11,7 @@ use Rattle.posting_core.specs.declared.entry.Entry.{Entry}
 use Rattle.posting_core.specs.History.{puts, put_in, put_by, carried_at, carried_with, holds_at, takes_along}
 use Rattle.posting_core.specs.VerdictNames.{is_applied}
 
--- what carries more than one thing has something in it
+-- a thing that carries more than itself has something in it
 pub more_held : (S : Museum) (P : List Entry) (x : ℕ) (ys : List ℕ) → ys ≡ carried_at S P x
     → 1 < length ys → holds_at S P x ≡ true
 more_held S P x ys is more = more_hold (length S.things) (puts S P) x
@@ -22,8 +22,8 @@ pub more_along : (S : Museum) (P : List Entry) (put : Option Put) (ys : List ℕ
 more_along S P None ys is more = absurd (omega (arith, more, ap length is))
 more_along S P (Some p) ys is more = more_held S P p.thing ys is more
 
--- where a put under a verdict carries more than one thing, the message is applied and takes
--- something along
+-- If a put under a verdict carries more than one thing, the message is applied, and its thing has
+-- something in it.
 pub asked_along : {X Y : Type 0} (S : Museum) (P : List Entry) (verdict : Verdict) (m : Message)
     (put : Option Put) (ys : List ℕ) (r : Result X Y) →
     put ≡ put_by S P verdict m → ys ≡ carried_with S P put → OnErr r (1 < length ys)

@@ -1,4 +1,4 @@
--- What stands in lists of numbers and of codes, and where.
+-- Members of lists of numbers and of codes, and their positions.
 use Rattle.std.specs.Prelude.{ℕ, ◌≡◌, ◌+◌, ◌<◌, ◌≤◌, ◌==◌, ◌||◌, Bool, true, false, not, cond, filter, List, [], ◌∷◌, length, map, None, Some, refl, zero, suc, is_some, unwrap_or, nat_eq, nat_lt, if◌then◌else◌}
 use Rattle.std.specs.List.{range_with_len, list_any, position, position_or_len}
 use Rattle.std.specs.Option.{option_map}
@@ -15,7 +15,7 @@ use Rattle.nest_core.proofs.Moves.{by_eq}
 use Rattle.posting_core.specs.Messages.{thing_no}
 use Rattle.posting_core.specs.Verdicts.{is_known}
 
--- what stands among those that pass stands among all
+-- a number among those that pass is among all
 pub among_passing : (p : ℕ → Bool) (xs : List ℕ) (o : ℕ) → p o ≡ true
     → is_among o (filter p xs) ≡ is_among o xs
 among_passing p [] o pass = refl
@@ -27,7 +27,7 @@ among_passing p (x ∷ xs) o pass = by_eq _ x o
       | false ↦ among_passing p xs o pass ∙ sym (ap (λ b. b || is_among o xs) f)
     ])
 
--- what doesn't pass doesn't
+-- a number that doesn't pass is not among those that pass
 pub not_among_passing : (p : ℕ → Bool) (xs : List ℕ) (o : ℕ) → p o ≡ false
     → is_among o (filter p xs) ≡ false
 not_among_passing p [] o fails = refl
@@ -38,7 +38,7 @@ not_among_passing p (x ∷ xs) o fails = by_eq _ x o
       | false ↦ not_among_passing p xs o fails
     ])
 
--- the first of a list stands in it, and what stands in the rest
+-- the first of a list is in it, and so are those in the rest
 pub first_among : (o : ℕ) (os : List ℕ) → is_among o (o ∷ os) ≡ true
 first_among o os = let same : (o == o) ≡ true = grind (arith, nat_tests) in
     ap (λ b. b || is_among o os) same
@@ -50,7 +50,7 @@ later_among o x os among = ap (λ b. (x == o) || b) among ∙ always (x == o)
     always true = refl
     always false = refl
 
--- each number from a on, below the end
+-- each number from a on, below the end, is in the range
 pub among_range : (a n o : ℕ) → a ≤ o → o < a + n → is_among o (range_with_len a n) ≡ true
 among_range a zero o low less = absurd (omega arith)
 among_range a (suc n) o low less = by_eq _ a o
@@ -58,7 +58,7 @@ among_range a (suc n) o low less = by_eq _ a o
     (λ f. ap (λ b. b || is_among o (range_with_len (a + 1) n)) f ∙ among_range (a + 1) n o
     (grind (arith, nat_tests)) (omega arith))
 
--- where none fails, what stands among them passes
+-- if none fails, each of them passes
 pub none_fails : (p : ℕ → Bool) (xs : List ℕ) (o : ℕ) → list_any (λ x. not (p x)) xs ≡ false
     → is_among o xs ≡ true → p o ≡ true
 none_fails p [] o none h = absurd (false≢true h)
@@ -68,7 +68,7 @@ none_fails p (x ∷ xs) o none h =
     (λ t same. ap p (sym same) ∙ not-false (p x) parts.0)
     (λ f. none_fails p xs o parts.1 (sym (ap (λ b. b || is_among o xs) f) ∙ h))
 
--- where a test first passes in a list of one more
+-- the position where a test first passes, in a list with one more at the front
 pub position_cons : {X : Type 0} (p : X → Bool) (x : X) (xs : List X)
     → position p (x ∷ xs) ≡ (if p x then Some zero else option_map suc (position p xs))
 position_cons p x xs = elim (p x) as (λ b. p x ≡ b
@@ -94,7 +94,7 @@ position_cons p x xs = elim (p x) as (λ b. p x ≡ b
 pub eq_sym : (a b : ℕ) → nat_eq a b ≡ (b == a)
 eq_sym a b = grind (arith, nat_tests)
 
--- the code of a known thing is the one that it is found by
+-- a known thing is found by its own code
 pub code_found : (S : Museum) (x : List ℕ) → is_known S x ≡ true
     → thing_code_of S (thing_no S x) ≡ Some x
 code_found S x known = elim (find_thing S x) as (λ o. find_thing S x ≡ o → is_some o ≡ true
@@ -106,7 +106,7 @@ code_found S x known = elim (find_thing S x) as (λ o. find_thing S x ≡ o → 
           ∙ ap Some (sym ((bytes_eq-Decides x (get_or (thing_codes S) i x)).0 found.1))
     ] refl known
 
--- what stands among the numbers of known codes has one of these codes
+-- a number among those of known codes has one of these codes
 pub among_codes : (S : Museum) (bad : List ℕ → Bool) (xs : List (List ℕ)) (o : ℕ)
     → list_any (λ x. not (is_known S x)) xs ≡ false → list_any bad xs ≡ false
     → is_among o (map (thing_no S) xs) ≡ true →

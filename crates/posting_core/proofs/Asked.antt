@@ -1,4 +1,4 @@
--- Where a verdict of what crosses hangs on its lines.
+-- Verdicts of crossings that depend on the loan lines.
 use Rattle.std.specs.Prelude.{ℕ, ◌≡◌, ◌&&◌, Bool, true, false, not, List, [], ◌∷◌, Option, None, Some, is_some, refl, if◌then◌else◌, length, unwrap_or}
 use Rattle.std.specs.Option.{option_map_or}
 use Rattle.std.proofs.Common.{ap, ◌∙◌}
@@ -25,13 +25,13 @@ lines_hang : (lines : ℕ → Option LineStage) (wanted : LineStage) (objects : 
 lines_hang lines wanted objects late =
     by_rows (any_unlisted lines objects) (any_not_at lines wanted objects) late
 
--- what isn't listed is at no stage
+-- an object that isn't listed is at no stage
 no_line : (wanted : LineStage) (line : Option LineStage)
     → (not (option_map_or (stage_eq wanted) line false)) ≡ false → (not (is_some line)) ≡ false
 no_line wanted None h = h
 no_line wanted (Some stage) h = refl
 
--- where all are at the stage wanted, all are listed
+-- if all are at the stage needed, all are listed
 pub all_listed : (lines : ℕ → Option LineStage) (wanted : LineStage) (objects : List ℕ)
     → any_not_at lines wanted objects ≡ false → any_unlisted lines objects ≡ false
 all_listed lines wanted [] h = refl
@@ -39,8 +39,8 @@ all_listed lines wanted (o ∷ os) h =
     let both = or_parts _ _ h in
     rw (no_line wanted (lines o) both.0, all_listed lines wanted os both.1) refl
 
--- where a call gives up on what crosses, since something is in it, and no row is left but those of
--- its lines
+-- If the thing has something in it, and only the rows of its loan lines are left to check, judging
+-- may run out of memory.
 pub gives_up_on_lines : (S : Museum) (P : List Entry) (thing : List ℕ) (x : ℕ) (verdict : Verdict)
     (lines : ℕ → Option LineStage) (wanted : LineStage) (objects : List ℕ) (late : Bool) →
     find_thing S thing ≡ Some x → verdict ≡ first_of (line_rows lines wanted objects late)

@@ -1,4 +1,5 @@
--- What a thing carries: it is where the thing is, and a thing that has no place was never put.
+-- The things that a thing carries: they are where it is, and a thing without a place was never put
+-- anywhere.
 use Rattle.std.specs.Prelude.{ℕ, ◌≡◌, ◌≤◌, ◌==◌, ◌||◌, true, false, List, length, Option, None, refl, zero, suc}
 use Rattle.std.proofs.Common.{ap, ◌∙◌, sym, arith}
 use Rattle.std.proofs.lemmas.Bool.{false≢true}
@@ -14,7 +15,7 @@ use Rattle.posting_core.specs.History.{puts, place_at}
 use Rattle.posting_core.specs.Lawful.{IsLawful}
 use Rattle.posting_core.proofs.Placed.{lawful_sound}
 
--- the chain of what stands below x ends where a chain of x does
+-- the chain of a thing below x ends where the chain of x does
 record EndsWith (at : ℕ → Option Target) (steps y x : ℕ) : Type 0 where
   less : ℕ
   few : less ≤ steps
@@ -46,7 +47,7 @@ ends_with at (suc steps) y x h = by_container _ at y
           }
     ] refl h')
 
--- what stands below x is where x is
+-- a thing below x is where x is
 same_place_below : (n d : ℕ) (at : ℕ → Option Target) (y x : ℕ) → IsSound n d at
     → is_among x (above at n y) ≡ true → place_by at n y ≡ place_by at n x
 same_place_below n d at y x sound h =
@@ -57,7 +58,7 @@ same_place_below n d at y x sound h =
     ∙ sym (ap (λ cs. place_of (at (outermost x cs)))
     (same_chain at e.less n x ended (omega (arith, length_above at e.less x, e.few))))
 
--- what a thing carries is where it is
+-- the things that a thing carries are where it is
 pub carried_place : (S : Museum) (depth : ℕ) (P : List Entry) (x y : ℕ) → IsLawful S depth P
     → is_carried (length S.things) (puts S P) x y ≡ true → place_at S P y ≡ place_at S P x
 carried_place S depth P x y lawful h =
@@ -69,7 +70,7 @@ carried_place S depth P x y lawful h =
           (lawful_sound S depth P lawful) k
     ] refl h
 
--- a thing that was never put is carried by itself alone
+-- a thing that was never put anywhere is carried by itself alone
 pub carried_alone : (S : Museum) (P : List Entry) (x y : ℕ) → last (puts S P) y ≡ None
     → is_carried (length S.things) (puts S P) x y ≡ true → y ≡ x
 carried_alone S P x y never h =

@@ -1,4 +1,4 @@
--- What an applied entry writes of the lines: which get a stage, and that all others stay.
+-- The loan lines that an applied entry writes: these get a stage, and all others stay.
 use Rattle.std.specs.Prelude.{ℕ, ◌≡◌, ◌≢◌, ◌↔◌, ◌&&◌, ◌||◌, ◌==◌, Bool, true, false, cond, List, [], ◌∷◌, ◌++◌, Option, None, Some, refl, if◌then◌else◌, All}
 use Rattle.std.specs.List.{find, list_any}
 use Rattle.std.specs.Option.{option_map_or, option_or, option_to_list}
@@ -33,7 +33,8 @@ use Rattle.posting_core.proofs.AppliedRows.{none_holds, applied_is}
 use Rattle.posting_core.proofs.Lined.{lines_at}
 use Rattle.posting_core.proofs.Refused.{unchanged}
 
--- the steps of a line: it begins awaited, goes away and comes back, or comes here and is given back
+-- the steps of a line: it is awaited at first, goes away and comes back, or comes here and is given
+-- back
 abbrev pub is_step : Option LineStage → LineStage → Bool
 is_step None Awaiting = true
 is_step (Some Awaiting) Away = true
@@ -54,7 +55,7 @@ step_differs : (before : Option LineStage) (s : LineStage) → is_step before s 
 step_differs before s step same =
     absurd (false≢true (sym (no_step s) ∙ ap (λ b. is_step b s) (sym same) ∙ step))
 
--- what an entry writes of the lines: these objects' under this loan get the stage
+-- the entry writes these lines: under this loan, these objects get the stage
 pub record Writes (S : Museum) (P : List Entry) (e : Entry) (loan : List ℕ) (os : List ℕ)
     (s : LineStage) : Type 0 where
   pub lines : new_lines S P e.message ≡ lines_at loan os s
@@ -69,7 +70,7 @@ pub record Written (S : Museum) (P : List Entry) (e : Entry) : Type 0 where
   pub stage : LineStage
   pub writes : Writes S P e loan objects stage
 
--- a message agrees a loan, or something crosses by it, or neither
+-- a message agrees a loan, or is a crossing, or is neither
 
 agrees_alone : (m : Message) (t : Agreement) → agreement_in m ≡ Some t → crossing_in m ≡ None
 agrees_alone (Agree first last loan partner objects) t is = refl
@@ -81,7 +82,7 @@ crosses_alone (Return day x loan p) c is = refl
 crosses_alone (Receive day x loan p) c is = refl
 crosses_alone _ c is = absurd (none-some _ is)
 
--- what crosses is listed, at the stage before the next
+-- the objects that cross are listed, at the stage before the next
 record IsReadyAll (S : Museum) (P : List Entry) (c : Crossing) : Type 0 where
   listed : carries_unlisted S P c ≡ false
   wanted : carries_wrong_stage S P c ≡ false
@@ -108,7 +109,7 @@ all_ready S depth P (Receive day x loan p) c applied is =
     (record { listed = none.1.1.1.1.1.1.1.1.0; wanted = none.1.1.1.1.1.1.1.1.1.0; step = refl })
 all_ready S depth P _ c applied is = absurd (none-some _ is)
 
--- a line is its loan's objects and its stage
+-- a line depends on its loan's objects and its stage
 same_line : (S : Museum) (P : List Entry) (e : Entry) (l : List ℕ) (o : ℕ)
     → agreement (e ∷ P) l ≡ agreement P l → stage S (e ∷ P) l o ≡ stage S P l o
     → line S (e ∷ P) l o ≡ line S P l o
@@ -117,7 +118,7 @@ same_line S P e l o agreed staged =
     None) agreed
     ∙ ap (λ s. if is_among o (objects S P l) then Some s else None) staged
 
--- of an applied entry
+-- for an applied entry
 module _ {S : Museum} {depth : ℕ} {P : List Entry} {e : Entry} (a : IsApplied S depth P e) where
   agreements_after : (o : Option Agreement) → agreement_in e.message ≡ o
       → agreements (e ∷ P) ≡ agreements P ++ option_to_list o
@@ -135,7 +136,7 @@ module _ {S : Museum} {depth : ℕ} {P : List Entry} {e : Entry} (a : IsApplied 
   same_agreement none l = ap (find (λ u. bytes_eq l u.loan))
       (agreements_after None none ∙ append-nil (agreements P))
 
-  -- an agreement's lines
+  -- the lines of an agreement
   module _ (t : Agreement) (is : agreement_in e.message ≡ Some t) where
     unagreed : agreement P t.loan ≡ None
     unagreed = (agree_applied S depth P e.message t a.judged is).0
@@ -187,7 +188,7 @@ module _ {S : Museum} {depth : ℕ} {P : List Entry} {e : Entry} (a : IsApplied 
       others = agreed_others;
     }
 
-  -- a crossing's
+  -- the lines of a crossing
   module _ (c : Crossing) (is : crossing_in e.message ≡ Some c) where
     crossed_ready : IsReadyAll S P c
     crossed_ready = all_ready S depth P e.message c a.judged is
@@ -239,7 +240,7 @@ module _ {S : Museum} {depth : ℕ} {P : List Entry} {e : Entry} (a : IsApplied 
           (stage_stays l o apart);
     }
 
-  -- and of what neither agrees nor crosses
+  -- a message that is neither writes none
   nothing_written : agreement_in e.message ≡ None → crossing_in e.message ≡ None
       → Writes S P e [] [] Awaiting
   nothing_written unagreed uncrossed = record {
@@ -277,7 +278,7 @@ module _ {S : Museum} {depth : ℕ} {P : List Entry} {e : Entry} (a : IsApplied 
         ] refl
   ] refl
 
--- the lines that are written are those of these objects
+-- the written lines are those of these objects
 
 pub named : (loan os : List ℕ) (s : LineStage) (l : List ℕ) (o : ℕ)
     → list_any (λ n. bytes_eq n.loan l && (n.object == o)) (lines_at loan os s)
@@ -304,7 +305,7 @@ all_named Q loan (x ∷ os) s each =
     (each x (first_among x os)) (all_named Q loan os s
     (λ o among. each o (later_among o x os among)))
 
--- what an entry changes of a ledger's lines
+-- the changes that an entry makes in a ledger's lines
 module _ (B : Book) (e : Entry) (lawful : GoesOn B (e ∷ [])) where
   applied_in : is_applied e.verdict ≡ true → IsApplied B.museum B.depth B.posted e
   applied_in h = record {
@@ -318,7 +319,7 @@ module _ (B : Book) (e : Entry) (lawful : GoesOn B (e ∷ [])) where
   changed_lines b h = ap (λ v. if is_applied v then new_lines B.museum B.posted e.message else [])
       (sym lawful.0.judged) ∙ ap (λ c. if c then new_lines B.museum B.posted e.message else []) h
 
-  -- each line that is written is so afterwards
+  -- each written line has its new stage afterwards
   pub stages_told : All (λ l. line_in (later B (e ∷ [])) l.loan l.object ≡ Some l.stage)
       (changes_of B e.message).lines
   stages_told = elim (is_applied e.verdict) as (λ b. is_applied e.verdict ≡ b
@@ -332,7 +333,7 @@ module _ (B : Book) (e : Entry) (lawful : GoesOn B (e ∷ [])) where
       Q : NewLine → Type 0
       Q l = line_in (later B (e ∷ [])) l.loan l.object ≡ Some l.stage
 
-  -- and they are those that differ
+  -- and these are the lines that differ
   pub lines_differ : (loan : List ℕ) (o : ℕ)
       → (line_in (later B (e ∷ [])) loan o ≢ line_in B loan o) ↔
       (names_line (changes_of B e.message) loan o ≡ true)

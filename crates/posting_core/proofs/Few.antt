@@ -101,7 +101,7 @@ the_spot number p day = record { entry = number; place = p; day = day }
 one_is_one : (s : Spot) → length (option_to_list (Some s)) ≤ 1
 one_is_one s = omega arith
 
--- at most one spot comes of an entry
+-- an entry adds at most one spot
 one_spot : (number : ℕ) (before after : Option ℕ) (day : Option ℤ)
     → length (option_to_list (spot_from number before after day)) ≤ 1
 one_spot number before None day = omega arith
@@ -123,7 +123,7 @@ few_spots S (e ∷ P) x =
     (day_of e.message))) in
     omega (arith, rest, one, all)
 
--- what a ledger keeps
+-- the size of a ledger's fields
 module _ {S : Museum} {P : List Entry} {N : Nested} {R : List (List Spot)} {L : List LoanRow}
     (kept : IsKept S P N R L) (museum : IsMuseum S) where
   pub few_kept : length P ≤ MOST_ENTRIES

@@ -20,7 +20,7 @@ use Rattle.posting_core.proofs.Carried.{carried_alone}
 use Rattle.posting_core.proofs.Owners.{IsListed, listed_is, listed_stays, line_listed, line_stage, borrowed_object, borrowed_listed, partner_elsewhere}
 use Rattle.posting_core.proofs.Turns.{IsInside, IsObject, HasMoved, HasExited, HasReceived, Turn, Left, Moved, Exited, Returned, Received, turn}
 
--- an object without a place was never put
+-- an object without a place was never put anywhere
 unplaced : {S : Museum} {P : List Entry} {e : Entry} {o : ℕ} → place_at S (e ∷ P) o ≡ None
     → (place_at S P o ≡ None → last (puts S P) o ≡ None) → Turn S P e o
     → last (puts S (e ∷ P)) o ≡ None
@@ -38,7 +38,7 @@ never_put S depth (e ∷ P) o (follows, lawful) object none =
     by_verdict o follows lawful (λ a. unplaced none before (turn a object))
     (λ same. unplaced none before (Left same))
 
--- with its lender and a guest, by the stages
+-- with its lender, and a guest, by the stages
 record WithLender (S : Museum) (P : List Entry) (o : ℕ) : Type 0 where
   place : IfSome (place_at S P o) (λ p. is_elsewhere S p ≡ true)
   loans : AtNone S P o Here
@@ -88,9 +88,9 @@ received {S} {P} {o} r (inr guest) =
     ap (λ q. option_map_or (is_inside S) q false) guest.place.is ∙ guest.place.inside in
     absurd (false≢true (sym r.before ∙ inside))
 
--- of a borrowed object, entry by entry
+-- for a borrowed object, entry by entry
 module _ (S : Museum) (depth : ℕ) (o : ℕ) (borrowed : is_borrowed S o ≡ true) where
-  -- what is with its lender goes with no thing that may be moved
+  -- an object with its lender is in no thing that may be moved
   not_moved : {P : List Entry} {e : Entry} → IsLawful S depth P → HasMoved S P e o
       → IfSome (place_at S P o) (λ p. is_elsewhere S p ≡ true) → ⊥
   not_moved {P} lawful m = elim (place_at S P o) as (λ q. place_at S P o ≡ q

@@ -19,7 +19,7 @@ use Rattle.posting_core.proofs.Accounted.{IsLeft, AtNone, AtOne, by_verdict, non
 use Rattle.posting_core.proofs.Owners.{IsListed, listed_stays, line_listed, line_stage, own_object, own_listed, partner_elsewhere}
 use Rattle.posting_core.proofs.Turns.{IsInside, HasMoved, HasExited, HasReturned, Turn, Left, Moved, Exited, Returned, Received, turn, not_elsewhere_inside}
 
--- home and lent, by the stages
+-- home, and lent, by the stages
 record Home (S : Museum) (P : List Entry) (o : ℕ) : Type 0 where
   place : IfSome (place_at S P o) (λ p. is_inside S p ≡ true)
   loans : AtNone S P o Away
@@ -69,9 +69,9 @@ returned {S} {P} {o} r (inr lent) =
           (λ back. let q : Back ≡ Away = back in cc);
     })
 
--- of an own object, entry by entry
+-- for an own object, entry by entry
 module _ (S : Museum) (depth : ℕ) (o : ℕ) (own : is_own S o ≡ true) where
-  -- what isn't elsewhere is home
+  -- an object that isn't elsewhere is home
   not_lent : {P : List Entry} → IsLawful S depth P
       → IfSome (place_at S P o) (λ p. is_elsewhere S p ≡ false) → Account S P o → Home S P o
   not_lent lawful here (inl home) = home

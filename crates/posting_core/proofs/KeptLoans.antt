@@ -1,4 +1,4 @@
--- Loans that are kept, found by their codes.
+-- The loans that a ledger keeps, found by their codes.
 use Rattle.std.specs.Prelude.{◌≡◌, ℕ, ◌+◌, ◌<◌, true, false, cond, not, List, [], ◌∷◌, ◌++◌, length, map, Option, Some, None, IfSome, nat_lt, slice_get, slice_set, refl, zero, suc}
 use Rattle.std.specs.List.{find, position, position_or_len}
 use Rattle.std.specs.Str.{bytes_eq}
@@ -44,13 +44,13 @@ unchanged f loan (row ∷ rows) =
       | false ↦ λ none. ap (λ rest. row ∷ rest) (unchanged f loan rows (omega arith))
     ]
 
--- no row is changed where the code doesn't stand
+-- no row is changed if the code isn't found
 changed_none : (f : LoanRow → LoanRow) (loan : List ℕ) (rows : List LoanRow)
     → position (bytes_eq loan) (loan_codes rows) ≡ None → rows ≡ changed f loan rows
 changed_none f loan rows none =
     unchanged f loan rows (absent (bytes_eq loan) (loan_codes rows) none)
 
--- a loan's row is changed where its code was found
+-- a loan's row is changed at the position of its code
 pub changed_kept : (f : LoanRow → LoanRow) (loan : List ℕ) {codes : List (List ℕ)}
     {rows seen : List LoanRow} {i : ℕ} {row new : LoanRow} → codes ≡ loan_codes rows → rows ≡ seen
     → Some i ≡ position (bytes_eq loan) codes →
@@ -60,7 +60,7 @@ changed_kept f loan {rows} {i} {row} {new} same view at is there =
     (ap (position (bytes_eq loan)) (sym same) ∙ sym at) in
     changed_first f loan rows i row new first.1 first.2 (is ∙ ap f there) ∙ ap (changed f loan) view
 
--- and where its number is told
+-- and by its number
 pub changed_at : (f : LoanRow → LoanRow) {rows seen : List LoanRow} {number : Option ℕ} {i : ℕ}
     {row new : LoanRow} → rows ≡ seen → number ≡ Some i → new ≡ f row → row ≡ get_or rows i row →
     (loan : List ℕ) → number ≡ position (bytes_eq loan) (loan_codes seen)
@@ -74,7 +74,7 @@ pub unchanged_at : (f : LoanRow → LoanRow) {rows seen : List LoanRow} {number 
     → number ≡ position (bytes_eq loan) (loan_codes seen) → seen ≡ changed f loan seen
 unchanged_at f {seen} view is loan at = changed_none f loan seen (sym at ∙ is)
 
--- a number that is told is a row's
+-- a number that is found is a row's
 pub number_within : (rows : List LoanRow) (loan : List ℕ) {number : Option ℕ}
     → number ≡ position (bytes_eq loan) (loan_codes rows) → IfSome number (λ i. i < length rows)
 number_within rows loan at = subst (λ o. IfSome o (λ i. i < length rows)) (sym at)
@@ -107,7 +107,7 @@ first_row loan [] = refl
 first_row loan (row ∷ rows) = ap (λ n. cond (not (bytes_eq loan row.loan)) (1 + n) 0)
     (first_row loan rows)
 
--- where a code stands
+-- the position of a code
 found : (loan : List ℕ) (codes : List (List ℕ)) (i : ℕ) → position (bytes_eq loan) codes ≡ Some i
     → (i < length codes) × (position_or_len (bytes_eq loan) codes ≡ i)
 found loan codes i at =
@@ -115,14 +115,14 @@ found loan codes i at =
     let less : i < length codes = first.0 in
     (less, position_or_len_is (bytes_eq loan) codes i [] (omega arith) first.2 (λ within. first.1))
 
--- the row of a loan stands where its code does
+-- a loan's row is at the position of its code
 row_at : (loan : List ℕ) (rows : List LoanRow) (i : ℕ)
     → position (bytes_eq loan) (loan_codes rows) ≡ Some i
     → find (λ row. bytes_eq loan row.loan) rows ≡ slice_get rows i
 row_at loan rows i at = find_at (λ row. bytes_eq loan row.loan) rows ∙ ap (slice_get rows)
     (first_row loan rows ∙ (found loan (loan_codes rows) i at).1)
 
--- and so it is found in what is seen of the rows
+-- and so it is found in the view of the rows
 pub row_kept : (loan : List ℕ) {codes : List (List ℕ)} {rows seen : List LoanRow} {i : ℕ}
     {row : LoanRow} → codes ≡ loan_codes rows → rows ≡ seen
     → Some i ≡ position (bytes_eq loan) codes → row ≡ get_or rows i row →
@@ -162,7 +162,7 @@ no_row_kept loan {rows} same view none =
     sym (ap (find (λ r. bytes_eq loan r.loan)) (sym view) ∙ row_none loan rows
     (ap (position (bytes_eq loan)) (sym same) ∙ sym none))
 
--- a loan that has no row has no code
+-- a loan without a row is not among the codes
 code_none : (loan : List ℕ) (rows : List LoanRow) → find (λ row. bytes_eq loan row.loan) rows ≡ None
     → position (bytes_eq loan) (loan_codes rows) ≡ None
 code_none loan rows none =

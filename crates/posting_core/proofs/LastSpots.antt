@@ -29,7 +29,7 @@ use Rattle.posting_core.specs.Rows.{place_to}
 use Rattle.posting_core.proofs.AppliedRows.{none_holds}
 use Rattle.posting_core.proofs.Accounted.{IsApplied, by_verdict, nothing_put, by_carried}
 
--- what places a thing bears a day
+-- a message that places a thing has a day
 placed_by_day : (S : Museum) (P : List Entry) (m : Message) → day_of m ≡ None → put_in S P m ≡ None
 placed_by_day S P (SignOff name) e = refl
 placed_by_day S P (Agree first last loan partner objects) e = refl
@@ -37,7 +37,7 @@ placed_by_day S P (Authorise name loan) e = refl
 placed_by_day S P (Extend last loan) e = refl
 placed_by_day S P _ e = cc
 
--- what an applied message puts its thing at, or into, has a place
+-- a target of an applied message has a place
 target_placed : (S : Museum) (depth : ℕ) (P : List Entry) (m : Message)
     → verdict S depth P m ≡ Applied → IfSome (put_in S P m) (λ put. place_to S P put.to ≢ None)
 target_placed S depth P (Move day x p) h = λ e. none-some _ (sym e)
@@ -57,7 +57,7 @@ target_placed S depth P (Receive day x loan p) h = λ e. none-some _ (sym e)
 target_placed S depth P (SignOff name) h = tt
 target_placed S depth P (Extend last loan) h = tt
 
--- a thing that has a place keeps having one
+-- a thing with a place always keeps one
 entry_keeps_place : (S : Museum) (depth : ℕ) (P : List Entry) (e : Entry) → Follows S depth P e
     → IsLawful S depth P → (x : ℕ) → place_at S (e ∷ P) x ≡ None → place_at S P x ≡ None
 entry_keeps_place S depth P e follows lawful x gone =
@@ -80,7 +80,7 @@ entry_without_day S P e x undated =
     none true = placed_by_day S P e.message undated
     none false = refl
 
--- the place of the last of some spots
+-- the place of the last spot
 abbrev current : List Spot → Option ℕ
 current row = option_map (λ s. s.place) (last_or None row)
 
@@ -92,7 +92,7 @@ same_is : (before : Option ℕ) (p : ℕ) → is_same_place before (Some p) ≡ 
 same_is None p e = cc
 same_is (Some a) p e = ap Some (let same : a ≡ p = grind (arith, nat_tests) in same)
 
--- an entry's spot is where the thing then is
+-- an entry's spot has the thing's place after it
 current_after : (row : List Spot) (number : ℕ) (before after : Option ℕ) (day : Option ℤ)
     → current row ≡ before → (after ≡ None → before ≡ None) → (day ≡ None → after ≡ before) →
     current (row ++ option_to_list (spot_from number before after day)) ≡ after

@@ -1,4 +1,4 @@
--- What an entry writes in the rows of the loans is what looking back gives after it.
+-- The rows of loans after an entry are those of looking back after it.
 use Rattle.std.specs.Prelude.{ℕ, ℤ, ◌≡◌, ◌&&◌, ◌||◌, ◌==◌, Bool, true, false, cond, zero, suc, List, [], ◌∷◌, ◌++◌, Option, None, Some, map, refl, if◌then◌else◌, unwrap_or, slice_set, nat_eq}
 use Rattle.std.specs.List.{find, position, AllByRecursion}
 use Rattle.std.specs.Option.{option_map, option_map_or, option_to_list}
@@ -32,7 +32,7 @@ use Rattle.posting_core.proofs.Among.{position_cons}
 use Rattle.posting_core.proofs.Agreed.{IsSound, AreApart, IsUntouched, agreements_apart, agreements_sound, agree_applied, untouched}
 use Rattle.posting_core.proofs.ObjectNumbers.{numbers_once}
 
--- the stages of lines, after those of these objects were set
+-- the stages of lines, after those of these objects are set
 abbrev reset : (ℕ → LineStage) → List ℕ → LineStage → ℕ → LineStage
 reset f os s o = option_map_or (λ t. t) (if is_among o os then Some s else None) (f o)
 
@@ -97,7 +97,7 @@ lines_set row loan f (o ∷ os) s once =
     ∙ lines_set row loan (λ y. if o == y then s else f y) os s once
     ∙ ap (row_with row) (fun_ext (reset_more f o os s))
 
--- a change of one loan's row is that of the row with its code, where each loan stands once
+-- If each loan has one row, changing one loan's row changes the row with its code.
 others_stay : (f g : Agreement → LoanRow) (loan : List ℕ) (ts : List Agreement)
     → ((t : Agreement) → bytes_eq loan t.loan ≡ false → g t ≡ f t)
     → find (λ u. bytes_eq loan u.loan) ts ≡ None → map g ts ≡ map f ts
@@ -130,7 +130,7 @@ changed_row Q f g change loan (t ∷ ts) (q, all) (other, apart) named same new 
           ∙ ap (λ rs. f t ∷ rs) (changed_row Q f g change loan ts all apart named same new)
     ] refl
 
--- a loan's row after a message under a verdict that lets it stand or not
+-- a loan's row after a message; the flag is whether the message is applied
 abbrev row_by : Museum → List Entry → Bool → Message → Agreement → LoanRow
 row_by S P b m t = record {
   loan = t.loan;
@@ -154,7 +154,7 @@ same_loans : (S : Museum) (P : List Entry) (m : Message) → agreement_in m ≡ 
 same_loans S P m none rows is = ap (λ o. map (row_by S P true m) (agreements P ++ option_to_list o))
     none ∙ ap (map (row_by S P true m)) (append-nil (agreements P)) ∙ is
 
--- what crosses gets its stage
+-- the objects that cross get their stage
 crossed : (S : Museum) (depth : ℕ) (P : List Entry) (m : Message) (c : Crossing)
     → IsLawful S depth P → crossing_in m ≡ Some c → agreement_in m ≡ None
     → ((t : Agreement) → extension_in m t.loan ≡ None)
@@ -194,7 +194,7 @@ stages_told : (loan : List ℕ) (s : LineStage) (os : List ℕ)
 stages_told loan s [] = refl
 stages_told loan s (o ∷ os) = ap (λ rest. s ∷ rest) (stages_told loan s os)
 
--- an agreement adds a row, in which all is awaited
+-- an agreement adds a row, in which all objects are awaited
 agreed : (S : Museum) (depth : ℕ) (P : List Entry) (m : Message) (t : Agreement)
     → IsLawful S depth P → verdict S depth P m ≡ Applied → agreement_in m ≡ Some t
     → crossing_in m ≡ None → ((u : Agreement) → extension_in m u.loan ≡ None)

@@ -1,4 +1,4 @@
--- What is kept of a loan answers by looking back.
+-- The row that is kept of a loan answers as looking back does.
 use Rattle.std.specs.Prelude.{ℕ, ◌≡◌, ◌==◌, ◌||◌, Bool, true, false, cond, zero, suc, List, [], ◌∷◌, Option, None, Some, map, refl, is_some, if◌then◌else◌, slice_get, nat_eq, IfSome, IfOk, Result}
 use Rattle.std.specs.List.{find, position}
 use Rattle.std.specs.Option.{option_map, option_map_or, option_and_then}
@@ -38,7 +38,7 @@ find_map f loan (t ∷ ts) named =
       | false ↦ find_map f loan ts named
     ])
 
--- what stands at an object's place in a list made from the objects is made from it
+-- the member at an object's position, in a list made from the objects, is made from that object
 line_found : (f : ℕ → LineStage) (o : ℕ) (os : List ℕ)
     → option_and_then (slice_get (map f os)) (position (nat_eq o) os)
     ≡ (if is_among o os then Some (f o) else None)
@@ -57,7 +57,7 @@ line_found f o (y ∷ os) = rw (position_cons (nat_eq o) y os, eq_sym o y)
     later None = refl
     later (Some k) = refl
 
--- what is kept of a loan is its row by looking back
+-- the kept row of a loan is its row by looking back
 pub record IsRowOf (S : Museum) (P : List Entry) (loan : List ℕ) (row : LoanRow) : Type 0 where
   pub authorised : row.authorised ≡ is_authorised P loan
   pub last : last_day P loan ≡ Some row.last
@@ -94,7 +94,7 @@ row_is S P loan rows r kept is =
           },
         )
 
--- what crosses is judged by the loan's row as by looking back
+-- a crossing is judged by the loan's row as by looking back
 pub judged_by_row : (S : Museum) (P : List Entry) (loan : List ℕ) (row : LoanRow) (os : List ℕ)
     (wanted : LineStage) (late : Bool) (r : Result Verdict NoMemory)
     → ((o : ℕ) → line_of row o ≡ line S P loan o) →

@@ -1,5 +1,5 @@
--- The numbers of a loan's objects: different codes have different numbers, so that no number stands
--- twice where no code does.
+-- The numbers of a loan's objects: different codes have different numbers, so no number is repeated
+-- if no code is.
 use Rattle.std.specs.Prelude.{◌≡◌, ℕ, ◌+◌, ◌<◌, ◌==◌, ◌||◌, Bool, true, false, not, List, [], ◌∷◌, ◌++◌, length, map, Some, nat_eq, refl, zero, suc}
 use Rattle.std.specs.Bool.{Decides}
 use Rattle.std.specs.List.{list_any}
@@ -19,14 +19,14 @@ use Rattle.posting_core.specs.Messages.{thing_no}
 use Rattle.posting_core.specs.Verdicts.{is_known, repeats}
 use Rattle.posting_core.proofs.Among.{code_found}
 
--- things of the setup with one number are one
+-- two things of the setup with the same number are the same
 same_thing : (S : Museum) (x y : List ℕ) → not (is_known S x) ≡ false → not (is_known S y) ≡ false
     → thing_no S x ≡ thing_no S y → x ≡ y
 same_thing S x y known_x known_y same =
     let codes : Some x ≡ Some y = sym (code_found S x (not-false (is_known S x) known_x))
     ∙ ap (thing_code_of S) same ∙ code_found S y (not-false (is_known S y) known_y) in cc
 
--- a number stands among others only where its code does
+-- a number is among others only if its code is
 unlike : (S : Museum) (x : List ℕ) (ys : List (List ℕ)) → not (is_known S x) ≡ false
     → list_any (λ y. not (is_known S y)) ys ≡ false → list_any (bytes_eq x) ys ≡ false
     → is_among (thing_no S x) (map (thing_no S) ys) ≡ false
@@ -50,7 +50,7 @@ numbers_once S (x ∷ xs) known once =
     let two = or_parts (list_any (bytes_eq x) xs) (repeats xs) once in
     (unlike S x xs both.0 both.1 two.0, numbers_once S xs both.1 two.1)
 
--- and a code only where its number does
+-- and a code only if its number is
 other_code : (S : Museum) (x : List ℕ) (ys : List (List ℕ))
     → is_among (thing_no S x) (map (thing_no S) ys) ≡ false → list_any (bytes_eq x) ys ≡ false
 other_code S x [] apart = refl
@@ -67,7 +67,7 @@ codes_once : (S : Museum) (xs : List (List ℕ)) → AreOnce (map (thing_no S) x
 codes_once S [] once = refl
 codes_once S (x ∷ xs) (apart, once) = rw (other_code S x xs apart) (codes_once S xs once)
 
--- so the numbers tell whether some code stands twice
+-- so the numbers show whether a code is repeated
 pub repeats_told : (S : Museum) (xs : List (List ℕ)) (once : Bool)
     → list_any (λ x. not (is_known S x)) xs ≡ false → Decides once (AreOnce (map (thing_no S) xs))
     → not once ≡ repeats xs
@@ -78,7 +78,7 @@ repeats_told S xs once known told = elim (repeats xs) as (λ r. repeats xs ≡ r
   | false ↦ λ e. ap not (told.1 (numbers_once S xs known e))
 ] refl
 
--- one more number that stands in none of the places before it
+-- one more number, which is not among those before it
 pub once_more : (ns : List ℕ) (n : ℕ) → AreOnce ns → is_among n ns ≡ false → AreOnce (ns ++ n ∷ [])
 once_more [] n once new = (refl, tt)
 once_more (o ∷ os) n (apart, once) new =
@@ -87,13 +87,13 @@ once_more (o ∷ os) n (apart, once) new =
     let other : (n == o) ≡ false = grind (arith, nat_tests) in
     (rw (list_any-append (λ y. y == o) os (n ∷ []), apart, other) refl, once_more os n once both.1)
 
--- what passes for none doesn't for one
+-- a test that fails for all fails for one
 none_at : {X : Type 0} (p : X → Bool) (xs : List X) (i : ℕ) (d : X) → i < length xs
     → list_any p xs ≡ false → p (get_or xs i d) ≡ false
 none_at p xs i d less none = false_from_ne_true (p (get_or xs i d))
     (λ passes. false≢true (sym none ∙ list_any_at p xs i d less passes))
 
--- where each stands once, each stands in none of the places before it
+-- if no number is repeated, none is among those before it
 pub once_among : (ns : List ℕ) (i d : ℕ) → i < length ns → AreOnce ns
     → is_among (get_or ns i d) (take i ns) ≡ false
 once_among [] i d less once = absurd (omega arith)
@@ -111,13 +111,13 @@ among_turned n (o ∷ os) apart =
     let other : nat_eq n o ≡ false = grind (arith, nat_tests) in
     rw other (among_turned n os both.1)
 
--- one more of a list that is gone through
+-- one more element of a list
 pub one_more_of : {X Y : Type 0} (f : X → Y) (xs : List X) (i : ℕ) (d : X) → i < length xs
     → map f (take i xs) ++ f (get_or xs i d) ∷ [] ≡ map f (take (i + 1) xs)
 one_more_of f xs i d less =
     sym (ap (map f) (take_more xs i d less) ∙ map-append f (take i xs) (get_or xs i d ∷ []))
 
--- and one more line's object, where no object has two lines
+-- and the object of one more line, if no object has two lines
 pub one_more_object : (lines : List NewLine) (i : ℕ) (d : NewLine) → i < length lines
     → AreOnce (map (λ l. l.object) lines) →
     insert_key nat_eq (map (λ l. l.object) (take i lines)) (get_or lines i d).object

@@ -1,5 +1,5 @@
--- What stays of a ledger whatever is posted later: lines only go forward, closed loans stay closed,
--- last days only move on.
+-- Facts about a ledger that stay true whatever is posted later: lines only go forward, closed loans
+-- stay closed, last days only become later.
 use Rattle.std.specs.Prelude.{ℕ, ℤ, ◌≡◌, ◌≤ℤ◌, ◌&&◌, ◌||◌, Bool, true, false, not, if◌then◌else◌, List, [], ◌∷◌, ◌++◌, Option, None, Some, map, refl, unwrap_or, int_le}
 use Rattle.std.specs.List.{list_all}
 use Rattle.std.specs.Option.{option_map, option_map_or}
@@ -82,11 +82,11 @@ forward_on (Some s) None c first next = absurd (false≢true first)
 forward_on (Some s) (Some t) None first next = absurd (false≢true next)
 forward_on (Some s) (Some t) (Some u) first next = onward_on s t u first next
 
--- by one entry a line goes forward
+-- one entry moves a line only forward
 
 module _ (S : Museum) (depth : ℕ) (P : List Entry) (e : Entry) (lawful : IsLawful S depth (e ∷ P))
     (loan : List ℕ) where
-  -- this ledger, of which `unchanged` speaks
+  -- the ledger that `unchanged` is about
   abbrev B : Book
   B = record { museum = S; depth = depth; posted = P }
 
@@ -120,7 +120,7 @@ module _ (S : Museum) (depth : ℕ) (P : List Entry) (e : Entry) (lawful : IsLaw
             ∙ forward_itself (line S P loan o)
       ] refl
 
-  -- an agreed loan's stages too
+  -- and the stages of an agreed loan
   step_stage : (t : Agreement) → agreement P loan ≡ Some t → (o : ℕ)
       → is_among o (objects_of S t) ≡ true
       → is_onward (stage S P loan o) (stage S (e ∷ P) loan o) ≡ true
@@ -190,7 +190,7 @@ step_closed S depth P e loan lawful closed = by (agreement P loan) refl closed
         (map (stage S (e ∷ P) loan) (objects_of S u)))) (agreement_stays P e loan t is)
         ∙ rw (authorised, done) refl
 
--- a last day only moves on
+-- a last day only becomes later
 
 same_day : (d : ℤ) → d ≤ℤ d
 same_day d = grind (arith, ints)
@@ -244,7 +244,7 @@ day_on (Some d) (Some n) c (m, is, le) (k, at, on) =
     let first : d ≤ℤ n = subst (λ x. d ≤ℤ x) (sym same) le in
     (k, at, grind (arith, ints))
 
--- what is posted later, entry by entry
+-- later entries, one by one
 
 pub lines_forward : (B : Book) (L : List Entry) → GoesOn B L → (loan : List ℕ) (o : ℕ)
     → goes_forward (line_in B loan o) (line_in (later B L) loan o) ≡ true

@@ -56,7 +56,7 @@ borrowed_object S o borrowed = object_by S o is_borrowed_kind kinds borrowed
     kinds Borrowed h = refl
     kinds Container h = absurd (false≢true h)
 
--- what a loan lists, its agreement does
+-- the objects that a loan lists are those of its agreement
 pub record IsListed (S : Museum) (P : List Entry) (loan : List ℕ) (o : ℕ) : Type 0 where
   pub agreed : Agreement
   pub found : agreement P loan ≡ Some agreed
@@ -75,7 +75,7 @@ abbrev pub listed_stays : (S : Museum) (P : List Entry) (e : Entry) (loan : List
 listed_stays S P e loan o l =
     record { agreed = l.agreed; found = agreement_stays P e loan l.agreed l.found; among = l.among }
 
--- so it has a line there, at its stage
+-- so the object has a line there, at its stage
 pub line_listed : (S : Museum) (P : List Entry) (loan : List ℕ) (o : ℕ) (s : LineStage)
     → IsListed S P loan o → stage S P loan o ≡ s → line S P loan o ≡ Some s
 line_listed S P loan o s l at =
@@ -92,7 +92,7 @@ line_stage S P loan o s = elim (is_among o (objects S P loan)) as
       | false ↦ λ h. absurd (let q : None ≡ Some s = h in cc)
     ]
 
--- a listed object has a code that its loan may list
+-- a listed object has a code that is allowed on its loan
 listed_code : (S : Museum) (depth : ℕ) (P : List Entry) (loan : List ℕ) (o : ℕ) → IsLawful S depth P
     → is_among o (objects S P loan) ≡ true →
     (x : List ℕ) × (thing_code_of S o ≡ Some x) × (is_of_wrong_owner loan x ≡ false)

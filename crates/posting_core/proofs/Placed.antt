@@ -1,4 +1,4 @@
--- What an applied message puts where, and the places after it.
+-- The puts of applied messages, and the places after them.
 use Rattle.std.specs.Prelude.{ℕ, ℤ, zero, suc, ◌≡◌, ◌<◌, true, false, All, List, [], ◌∷◌, Option, None, Some, length, refl, IfSome, is_some, unwrap_or, if◌then◌else◌}
 use Rattle.std.specs.List.{position}
 use Rattle.std.specs.Option.{option_map, option_map_or}
@@ -55,14 +55,14 @@ container_known : (S : Museum) (c : List ℕ) → is_known_container S c ≡ tru
 container_known S c = elim (find_thing S c) as (λ o. option_map_or (is_container S) o false ≡ true
     → is_some o ≡ true) [ None ↦ λ h. h | Some i ↦ λ h. refl ]
 
--- a put of an applied message: of a known thing, to a known place or into a container that has room
--- for it
+-- The put of an applied message: a known thing, to a known place or into a container that has room
+-- for it.
 pub record IsAllowedPut (S : Museum) (depth : ℕ) (P : List Entry) (put : Put) : Type 0 where
   pub thing : put.thing < length S.things
   pub place : IfSome (place_of (Some put.to)) (λ p. p < length S.places)
   pub room : IsAllowed (last (puts S P)) (length S.things) depth put.thing put.to
 
--- what leaves under a loan goes to a place of the setup
+-- an object that leaves under a loan goes to a place of the setup
 leaves_to : (S : Museum) (depth : ℕ) (P : List Entry) (x loan : List ℕ) (day : ℤ)
     → IsLawful S depth P → thing_no S x < length S.things
     → IfSome (put_in S P (Exit day x loan)) (IsAllowedPut S depth P)
@@ -133,7 +133,7 @@ put_allowed S depth P v m lawful judged =
       | false ↦ λ e. tt
     ] refl
 
--- that of a ledger's applied message
+-- the same for an applied message of a ledger
 pub allowed_in : (B : Book) (m : Message) {put : Put} → IsLawful B.museum B.depth B.posted
     → verdict_in B m ≡ Applied → put_in B.museum B.posted m ≡ Some put
     → IsAllowedPut B.museum B.depth B.posted put
@@ -141,7 +141,7 @@ allowed_in B m lawful applied is =
     subst (λ p. IfSome p (IsAllowedPut B.museum B.depth B.posted)) is
     (put_applied B.museum B.depth B.posted m lawful applied)
 
--- what puts a thing is applied
+-- a message that puts a thing is applied
 pub by_applied : (S : Museum) (P : List Entry) (v : Verdict) (m : Message) {put : Put}
     → put_by S P v m ≡ Some put → (is_applied v ≡ true) × (put_in S P m ≡ Some put)
 by_applied S P v m {put} = elim (is_applied v) as
@@ -184,11 +184,11 @@ lawful_sound S depth (e ∷ P) (follows, lawful) =
     (put_allowed S depth P e.verdict e.message lawful follows.judged)
     (lawful_sound S depth P lawful)
 
--- what the put of an applied message does to a thing
+-- the effect of an applied message's put on a thing
 module _ {S : Museum} {depth : ℕ} {P : List Entry} (m : Message) {put : Put}
     (lawful : IsLawful S depth P) (is : put_in S P m ≡ Some put)
     (allowed : IsAllowedPut S depth P put) (y : ℕ) where
-  -- what its thing carries comes to the place of its target
+  -- a thing that the put carries comes to the place of its target
   pub comes_along : is_carried (length S.things) (puts S P) put.thing y ≡ true
       → place_after S P m y ≡ place_to S P put.to
   comes_along carried = ap (λ o. place_by (last (with_put o (puts S P))) (length S.things) y) is
@@ -201,7 +201,7 @@ module _ {S : Museum} {depth : ℕ} {P : List Entry} (m : Message) {put : Put}
       to (Within c) room = place_packed (length S.things) depth (last (puts S P)) put.thing c y
           (lawful_sound S depth P lawful) allowed.thing room carried
 
-  -- what it doesn't carry stays where it is
+  -- a thing that it doesn't carry stays where it is
   pub stays : is_carried (length S.things) (puts S P) put.thing y ≡ false
       → place_after S P m y ≡ place_at S P y
   stays apart =

@@ -21,7 +21,7 @@ use Rattle.posting_core.specs.Rows.{place_to}
 use Rattle.posting_core.proofs.Accounted.{IsApplied, Stays, by_verdict, by_carried, nothing_put}
 use Rattle.posting_core.proofs.AppliedRows.{none_holds}
 
--- it comes to a place: a container that something is packed into has one
+-- it comes to a place: a container that accepts a thing has one
 inside_placed : (S : Museum) (place : Option ℕ) → option_map_or (is_inside S) place false ≡ true
     → is_some place ≡ true
 inside_placed S None h = h

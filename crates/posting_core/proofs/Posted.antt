@@ -1,4 +1,4 @@
--- What a ledger's fields keep, before and after an entry.
+-- The invariant of a ledger's fields, before and after an entry.
 use Rattle.std.specs.Prelude.{ℕ, ◌≡◌, ◌+◌, ◌<◌, ◌≤◌, Bool, true, false, if◌then◌else◌, List, [], ◌∷◌, ◌++◌, Option, None, Some, length, All, Result, Ok, Err, IfOk, OnErr, map, replicate, zero, suc, refl, IfSome, slice_get, is_some}
 use Rattle.std.specs.Borrow.{Bor}
 use Rattle.std.specs.List.{find, position}
@@ -43,11 +43,11 @@ use Rattle.posting_core.proofs.Placed.{put_allowed, may_go, chain_below}
 use Rattle.posting_core.proofs.Spotted.{carried_below}
 use Rattle.posting_core.proofs.Written.{rows_written, chosen_spot, own_spot, same_place, rows_length, own_within}
 
--- the book that a ledger's fields make
+-- the ledger's view, by its fields
 abbrev pub book_of : Museum → List Entry → Nested → Book
 book_of S P N = record { museum = S; depth = N.depth; posted = P }
 
--- what is kept is what looking back through the entries of the ledger's book gives
+-- the fields agree with looking back through the ledger's entries
 module _ {S : Museum} {P : List Entry} {N : Nested} {R : List (List Spot)} {L : List LoanRow}
     {B : Book} (kept : IsKept S P N R L) (same : book_of S P N ≡ B) where
   pub lawful_kept : IsLawful B.museum B.depth B.posted
@@ -73,7 +73,7 @@ module _ {S : Museum} {P : List Entry} {N : Nested} {R : List (List Spot)} {L : 
       (carried_below (length B.museum.things) (puts B.museum B.posted) x)
   carried_there x (Err fault) from = tt
 
-  -- where it isn't told, something is in the thing
+  -- if the call fails, something is in the thing
   pub carried_held : (x : ℕ) (r : Result (List ℕ) NoMemory)
       → OnErr r ((Q : List Put) → StandsFor N Q → holds_things Q x ≡ true)
       → OnErr r (holds_at B.museum B.posted x ≡ true)
@@ -87,7 +87,7 @@ module _ {S : Museum} {P : List Entry} {N : Nested} {R : List (List Spot)} {L : 
   chain_kept x cs from = subst (λ (C : Book). cs ≡ chain_in C x) same
       (from (puts S P) kept.nest ∙ ap (λ n. chain n (puts S P) x) kept.things)
 
-  -- it is of the setup's things
+  -- its members are things of the setup
   pub chain_within : (x : ℕ) (r : Result (List ℕ) NoMemory)
       → IfOk r (λ cs. (Q : List Put) → StandsFor N Q → cs ≡ chain N.things Q x)
       → IfOk r (All (λ c. c < length B.museum.things))
@@ -103,7 +103,7 @@ module _ {S : Museum} {P : List Entry} {N : Nested} {R : List (List Spot)} {L : 
       (sym (chain_kept x cs from)) (short B.museum B.depth B.posted x lawful_kept)
   chain_short x (Err fault) from = tt
 
-  -- where it isn't told, something stands above
+  -- if the call fails, something is above the thing
   pub chain_some : (x : ℕ) (r : Result (List ℕ) NoMemory)
       → OnErr r ((Q : List Put) → StandsFor N Q → 0 < length (chain N.things Q x))
       → OnErr r (0 < length (chain_in B x))
@@ -119,26 +119,26 @@ module _ {S : Museum} {P : List Entry} {N : Nested} {R : List (List Spot)} {L : 
       subst (λ (C : Book). x < length C.museum.things) (sym same) within in
       omega (arith, kept.rowed)
 
-  -- of its spots
+  -- the row has the thing's spots
   pub spots_kept : (x : ℕ) → x < length B.museum.things → row_of R x ≡ spots_in B x
   spots_kept x within =
       subst (λ (C : Book). row_of R x ≡ spots_in C x) same
       (kept.row x (subst (λ (C : Book). x < length C.museum.things) (sym same) within))
 
-  -- they are at places of the setup
+  -- the spots are at places of the setup
   pub spots_there : (x : ℕ) {found : List Spot} → x < length B.museum.things → found ≡ spots_in B x
       → All (λ s. s.place < length B.museum.places) found
   spots_there x within is = subst (All (λ s. s.place < length B.museum.places)) (sym is)
       (spots_within B.museum B.depth B.posted x lawful_kept)
 
-  -- a loan's row stands under its number
+  -- a loan's row is at its number
   pub number_kept : (loan : List ℕ)
       → position (bytes_eq loan) (map (λ row. row.loan) L) ≡ loan_no B.posted loan
   number_kept loan = subst (λ (C : Book). position (bytes_eq loan) (map (λ row. row.loan) L)
       ≡ loan_no C.posted loan) same (ap (position (bytes_eq loan))
       (ap (map (λ row. row.loan)) kept.loans ∙ codes_told S P))
 
-  -- what is kept of a loan is its row by looking back
+  -- the kept row of a loan is its row by looking back
   pub loan_kept : (loan : List ℕ) (r : Option (ℕ × Bor LoanRow))
       → option_map (λ found. found.1.now) r ≡ find (λ row. bytes_eq loan row.loan) L →
       (is_some r ≡ is_agreed B.posted loan)
@@ -171,7 +171,7 @@ module _ {S : Museum} {P : List Entry} {N : Nested} {R : List (List Spot)} {L : 
       (ap length kept.loans ∙ length-map (agreements P) (loan_row S P)
       ∙ sym (length-map (agreements P) (λ t. t.loan)))
 
--- what an entry writes
+-- the spots and the loan lines that an entry writes
 
 abbrev news_under : Museum → List Entry → Verdict → Message → List NewSpot
 news_under S P v m = if is_applied v then new_spots S P m else []
@@ -183,7 +183,7 @@ abbrev spot_for : Museum → List Entry → Message → ℕ → Option NewSpot
 spot_for S P m x = new_spot (length P + 1) (length (spots S P x)) (place_at S P x)
     (place_after S P m x) (day_of m) x
 
--- the kept rows after the spots of an entry
+-- the rows of spots after the spots of an entry
 spots_after_entry : (S : Museum) (P : List Entry) (N : Nested) (R : List (List Spot))
     (L : List LoanRow) (e : Entry) → IsKept S P N R L →
     (x : ℕ) → x < length S.things → row_of (rows_after R (news_under S P e.verdict e.message)) x
@@ -231,7 +231,7 @@ unplaced S P v (Agree first final loan partner objects) agrees =
     put_of b = if b then None else None
 unplaced S P v _ agrees = absurd (false≢true agrees)
 
--- what `apply` is told of its entry and its changes, over the ledger's fields
+-- the entry and the changes that `apply` gets, over the ledger's fields
 pub record IsPlanned (S : Museum) (P : List Entry) (N : Nested) (R : List (List Spot))
     (L : List LoanRow) (e : Entry) (put : Option Put) (along : List ℕ) (news : List NewSpot)
     (loan : Option ℕ) (lines : List NewLine) : Type 0 where
@@ -243,7 +243,7 @@ pub record IsPlanned (S : Museum) (P : List Entry) (N : Nested) (R : List (List 
   pub loan_is : loan ≡ loan_by P e.verdict e.message
   pub lines_is : lines ≡ lines_under S P e.verdict e.message
 
--- what the changes of an entry that follows put, carry and write
+-- the put, the carried things, the spots and the lines in the changes of an entry that may follow
 written : (B : Book) (e : Entry) (changes : Changes) → Follows B.museum B.depth B.posted e
     → changes ≡ changes_of B e.message →
     (changes.put ≡ put_by B.museum B.posted e.verdict e.message)
@@ -286,7 +286,7 @@ planned {S} {P} {N} {B} {e} {changes} kept same follows plan same_carried same_s
       lines_is = same_lines ∙ lines_is;
     }
 
--- what follows of it
+-- for an entry with its planned changes
 module _ {S : Museum} {P : List Entry} {N : Nested} {R : List (List Spot)} {L : List LoanRow}
     {e : Entry} {put : Option Put} {along : List ℕ} {news : List NewSpot} {loan : Option ℕ}
     {lines : List NewLine} (is : IsPlanned S P N R L e put along news loan lines) where
@@ -331,7 +331,7 @@ module _ {S : Museum} {P : List Entry} {N : Nested} {R : List (List Spot)} {L : 
                 row_missing S P L t.loan is.kept.loans agreed.0;
           }
 
-  -- the loan that goes on by it is found by that number among the rows
+  -- the loan that the message continues has this number among the rows
   pub planned_loan : loan ≡ row_by L e.verdict e.message
   planned_loan =
       is.loan_is ∙ ap (λ codes. option_and_then
@@ -354,7 +354,7 @@ module _ {S : Museum} {P : List Entry} {N : Nested} {R : List (List Spot)} {L : 
           ≡ (if b then rows_with S (loan_rows S P) e.message (new_lines S P e.message) else
           loan_rows S P)) [ true ↦ refl | false ↦ refl ])
 
-  -- where the entry puts its thing, the nest lets it go
+  -- the nest accepts the entry's put
   pub planned_put : IfSome put (λ p. (p.thing < N.things) × MayGo N p.thing p.to)
   planned_put =
       subst (λ o. IfSome o (λ p. (p.thing < N.things) × MayGo N p.thing p.to)) (sym is.put_is)
@@ -362,7 +362,7 @@ module _ {S : Museum} {P : List Entry} {N : Nested} {R : List (List Spot)} {L : 
       (put_allowed S N.depth P e.verdict e.message is.kept.lawful is.follows.judged)
       (λ p allowed. may_go N S P p is.kept.things is.kept.places is.kept.nest allowed))
 
-  -- and what that carries is what the nest keeps of it
+  -- and the carried things are those of the nest
   pub planned_carried : IfSome put
       (λ p. along ≡ carried_by (target_kept N.targets) N.things p.thing)
   planned_carried = kept_of put is.along_is
@@ -377,7 +377,7 @@ module _ {S : Museum} {P : List Entry} {N : Nested} {R : List (List Spot)} {L : 
   module _ {M : Nested} (stands : (Q : List Put) → StandsFor N Q → StandsFor M (with_put put Q))
       (things : M.things ≡ N.things) (places : M.places ≡ N.places)
       (depth : M.depth ≡ N.depth) where
-    -- what is kept after the entry
+    -- the fields after the entry
     pub kept_after : {P' : List Entry} {R' : List (List Spot)} {L' : List LoanRow} → P' ≡ e ∷ P
         → R' ≡ rows_after R news
         → L' ≡ (if is_applied e.verdict then rows_with S L e.message lines else L)
@@ -395,7 +395,7 @@ module _ {S : Museum} {P : List Entry} {N : Nested} {R : List (List Spot)} {L : 
           loans = loans_after L' l;
         })
 
-    -- where an agreement finds no memory all is kept as it was
+    -- after an agreement that failed for lack of memory, the fields are as before
     pub kept_still : {P' : List Entry} {R' : List (List Spot)} {L' : List LoanRow}
         → is_some (agreement_in e.message) ≡ true → P' ≡ P → R' ≡ R → L' ≡ L → IsKept S P' M R' L'
     kept_still {R'} {L'} agrees p r l =
@@ -416,7 +416,7 @@ row_none zero x = refl
 row_none (suc n) zero = refl
 row_none (suc n) (suc x) = row_none n x
 
--- what is kept of nothing
+-- the fields of a ledger with nothing posted
 pub kept_new : {S : Museum} {n : ℕ} {P : List Entry} {N : Nested} {R : List (List Spot)}
     {L : List LoanRow} → n ≡ length S.things → P ≡ [] → StandsFor N [] → N.things ≡ length S.things
     → N.places ≡ length S.places → R ≡ replicate n [] → L ≡ [] → IsKept S P N R L

@@ -1,4 +1,4 @@
--- What is refused changes no answer.
+-- Refused messages change no answer.
 use Rattle.std.specs.Prelude.{ℕ, ℤ, ◌≡◌, ◌+◌, false, List, [], ◌∷◌, ◌++◌, Option, None, Some, length, map, refl, if◌then◌else◌, Bool, true, not}
 use Rattle.std.specs.List.{find}
 use Rattle.std.specs.Option.{option_map, option_map_or, option_to_list}
@@ -115,7 +115,7 @@ unchanged B e refused = record {
   days = λ loan. same_day B.posted e loan refused;
 }
 
--- nor do several
+-- nor do several of them
 alike_on : {A B C : Book} → AnswerAlike A B → AnswerAlike B C → AnswerAlike A C
 alike_on first next = record {
   places = λ x. first.places x ∙ next.places x;

@@ -1,4 +1,4 @@
--- What one list of all things' spots gives of each thing, and what one more spot leaves of it.
+-- The spots of each thing in the one list of all spots, and the effect of one more spot.
 use Rattle.std.specs.Prelude.{ℕ, ◌≡◌, ◌+◌, ◌<◌, ◌≤◌, Some, List, [], ◌∷◌, ◌++◌, length, map, zero, suc, refl, slice_set, slice_get, replicate, All}
 use Rattle.std.specs.Option.{option_map, option_map_or}
 use Rattle.std.proofs.Common.{ap, ◌∙◌, sym, subst, arith, get_or, length-append}
@@ -17,13 +17,13 @@ use Rattle.posting_core.specs.SpotRows.{spots_at, LeadBack, IsLast}
 abbrev pub rows_of : List KeptSpot → List LastSpot → List (List Spot)
 rows_of spots lasts = map (λ l. spots_at spots l.at l.count) lasts
 
--- the spot at an index comes after those of its thing before it
+-- the spot at an index comes after the thing's earlier spots
 last_at : (spots : List KeptSpot) (at count : ℕ) (s : KeptSpot) → slice_get spots at ≡ Some s
     → spots_at spots at (suc count) ≡ spots_at spots s.before count ++ s.spot ∷ []
 last_at spots at count s is =
     ap (λ o. option_map_or (λ (t : KeptSpot). spots_at spots t.before count ++ t.spot ∷ []) o []) is
 
--- a thing has as many as lead back
+-- a thing has as many spots as the links lead to
 counted : (spots : List KeptSpot) (at count : ℕ) → LeadBack spots at count
     → length (spots_at spots at count) ≡ count
 counted spots at zero back = refl
@@ -31,7 +31,7 @@ counted spots at (suc count) (s, is, back) =
     ap length (last_at spots at count s is) ∙ length-append (spots_at spots s.before count)
     (s.spot ∷ []) ∙ ap (λ n. n + 1) (counted spots s.before count back) ∙ omega arith
 
--- more spots leave what stands before them
+-- more spots change none of those before them
 module _ (spots more : List KeptSpot) where
   read_on : (at : ℕ) (s : KeptSpot) → slice_get spots at ≡ Some s
       → slice_get (spots ++ more) at ≡ Some s
@@ -68,7 +68,7 @@ module _ (spots more : List KeptSpot) where
       ∙ ap (λ (rs : List (List Spot)). spots_at spots l.at l.count ∷ rs)
       (rows_on ls (All-tail (IsLast spots) l ls h))
 
--- what the view tells of a thing's last
+-- the view of a thing's last spot
 module _ {spots : List KeptSpot} (lasts : List LastSpot) {R : List (List Spot)}
     (kept : All (IsLast spots) lasts) (same : rows_of spots lasts ≡ R) (x : ℕ) (last : LastSpot)
     (within : x < length R) (at : last ≡ get_or lasts x last) where
@@ -89,7 +89,7 @@ module _ {spots : List KeptSpot} (lasts : List LastSpot) {R : List (List Spot)}
   pub row_counted : last.count ≡ length (row_of R x)
   row_counted = sym (ap length row_at ∙ counted spots last.at last.count is_last.back)
 
--- nothing is kept of things without spots
+-- the last spot of a thing without spots
 abbrev none : LastSpot
 none = record { at = 0; count = 0 }
 
@@ -102,7 +102,7 @@ pub new_rows : {spots : List KeptSpot} {lasts : List LastSpot} (n : ℕ) → spo
 new_rows {spots} {lasts} n empty nones =
     ap (λ (ss : List KeptSpot). rows_of ss lasts) empty ∙ ap (rows_of []) nones ∙ no_rows n
 
--- one more spot of a thing, which is its last from then on
+-- one more spot of a thing, which is now its last
 module _ {spots : List KeptSpot} {old : LastSpot} (was : IsLast spots old) (spot : Spot) where
   abbrev pushed : KeptSpot
   pushed = record { spot = spot; before = old.at }

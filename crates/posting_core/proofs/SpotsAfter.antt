@@ -1,4 +1,4 @@
--- What an entry adds to the spots of each thing.
+-- The spots that an entry adds for each thing.
 use Rattle.std.specs.Prelude.{ℕ, zero, suc, ◌≡◌, ◌+◌, ◌<◌, ◌≤◌, ◌==◌, Bool, true, false, filter, map, [], ◌∷◌, ◌++◌, Option, None, Some, length, refl, if◌then◌else◌}
 use Rattle.std.specs.List.{filter_map, range_with_len, cons_option}
 use Rattle.std.specs.Option.{option_map, option_to_list}
@@ -17,7 +17,7 @@ use Rattle.posting_core.specs.Onward.{later, GoesOn, spots_for}
 use Rattle.posting_core.proofs.Refused.{unchanged}
 use Rattle.posting_core.proofs.Written.{IsOwn, chosen_spot, own_spot}
 
--- the spots of one thing among those of a range of things are its own
+-- the spots of one thing, among those of a range of things, are its own
 
 none_before : (f : ℕ → Option NewSpot) (a n x : ℕ) → IsOwn f → x < a
     → filter (λ s. s.thing == x) (filter_map f (range_with_len a n)) ≡ []
@@ -56,7 +56,7 @@ listed_spot : (o : Option NewSpot)
 listed_spot None = refl
 listed_spot (Some s) = refl
 
--- the spots of a thing afterwards are those before, with the change's
+-- a thing's spots afterwards are those before, and then those of the changes
 pub spots_added : (B : Book) (e : Entry) → GoesOn B (e ∷ []) → (x : ℕ) → x < length B.museum.things
     → spots_in (later B (e ∷ [])) x ≡ spots_in B x ++ spots_for (changes_of B e.message) x
 spots_added B e (follows, lawful) x less =

@@ -1,4 +1,5 @@
--- The spots that an applied message writes are those of what its thing carries, and what that is.
+-- The spots that an applied message writes are those of the things carried, and which things these
+-- are.
 use Rattle.std.specs.Prelude.{ℕ, ℤ, zero, suc, ◌≡◌, ◌+◌, ◌<◌, ◌≤◌, Bool, true, false, cond, if◌then◌else◌, List, [], ◌∷◌, ◌++◌, Option, None, Some, length, filter, refl, All}
 use Rattle.std.specs.List.{filter_map, range_with_len, cons_option}
 use Rattle.std.proofs.Common.{ap, ◌∙◌, sym, arith, get_or, take}
@@ -22,7 +23,7 @@ use Rattle.posting_core.proofs.AppliedRows.{applied_is}
 use Rattle.posting_core.proofs.Placed.{IsAllowedPut, allowed_in, by_applied, comes_along, stays}
 use Rattle.posting_core.proofs.Written.{same_place}
 
--- what only some of a list have is what these have
+-- a list's members with a spot are all among these
 of_some : (c : ℕ → Bool) (f g : ℕ → Option NewSpot) (xs : List ℕ)
     → ((y : ℕ) → c y ≡ true → f y ≡ g y) → ((y : ℕ) → c y ≡ false → g y ≡ None)
     → filter_map f (filter c xs) ≡ filter_map g xs
@@ -40,7 +41,7 @@ unmoved : (number count : ℕ) (o : Option ℕ) (day : Option ℤ) (y : ℕ)
     → new_spot number count o o day y ≡ None
 unmoved number count o day y = rw (same_place number o day) refl
 
--- a thing's spot where it comes to this place
+-- a thing's spot if it comes to this place
 abbrev spot_at : Museum → List Entry → Message → Option ℕ → ℕ → Option NewSpot
 spot_at S P m after y = new_spot (length P + 1) (length (spots S P y)) (place_at S P y) after
     (day_of m) y
@@ -56,12 +57,12 @@ carried_spots {S} {P} m {put} lawful is allowed =
     (λ y apart. ap (λ o. spot_at S P m o y) (stays m lawful is allowed y apart)
     ∙ unmoved (length P + 1) (length (spots S P y)) (place_at S P y) (day_of m) y)
 
--- what gives nothing of each gives nothing of all
+-- if no member has a spot, the list has none
 none_of : (f : ℕ → Option NewSpot) (xs : List ℕ) → ((y : ℕ) → f y ≡ None) → filter_map f xs ≡ []
 none_of f [] none = refl
 none_of f (x ∷ xs) none = ap (λ o. cons_option o (filter_map f xs)) (none x) ∙ none_of f xs none
 
--- a message that places nothing writes none
+-- a message that places nothing writes no spot
 unplaced : (S : Museum) (P : List Entry) (m : Message) → put_in S P m ≡ None → [] ≡ new_spots S P m
 unplaced S P m is =
     sym (none_of (λ y. spot_at S P m (place_after S P m y) y) (range_with_len 0 (length S.things))
@@ -75,7 +76,7 @@ unplaced_spots S P v m = elim (is_applied v) as (λ b. (if b then put_in S P m e
       | false ↦ λ is. refl
     ]
 
--- one more of a list that is gone through
+-- one more member of a list
 one_more : (f : ℕ → Option NewSpot) (xs : List ℕ) (i d : ℕ) → i < length xs
     → filter_map f (take (i + 1) xs) ≡ filter_map f (take i xs) ++ option_to_list
     (f (get_or xs i d))
@@ -94,7 +95,7 @@ one_more_spot f xs i d before after o less done one more =
     more ∙ ap (λ zs. zs ++ option_to_list o) done
     ∙ ap (λ p. filter_map f (take i xs) ++ option_to_list p) one ∙ sym (one_more f xs i d less)
 
--- the spots that a ledger finds are those of the message
+-- the spots that a ledger computes are those of the message
 pub found_spots : (B : Book) (m : Message) {put : Put} {place number : ℕ} {day : ℤ} {xs : List ℕ}
     → IsLawful B.museum B.depth B.posted → put_by B.museum B.posted (verdict_in B m) m ≡ Some put →
     number ≡ length B.posted + 1 → day_of m ≡ Some day
@@ -120,7 +121,7 @@ range_below a zero k few = All-nil (λ (y : ℕ). y < k)
 range_below a (suc n) k few = All-cons (λ (y : ℕ). y < k) a (range_with_len (a + 1) n) (omega arith)
     (range_below (a + 1) n k (omega arith))
 
--- what is carried are things
+-- everything carried is a thing
 pub carried_below : (things : ℕ) (Q : List Put) (x : ℕ) → All (λ y. y < things) (carried things Q x)
 carried_below things Q x = All-filter (is_carried things Q x) (λ y. y < things)
     (range_with_len 0 things) (range_below 0 things things (omega arith))

@@ -1,4 +1,4 @@
--- What an applied entry of each kind means for an object that it places.
+-- The effect of an applied entry of each kind on an object that it places.
 use Rattle.std.specs.Prelude.{ℕ, ℤ, ◌≡◌, ◌<◌, true, false, not, List, [], ◌∷◌, length, Option, None, Some, refl, is_some, slice_get}
 use Rattle.std.specs.Option.{option_map, option_map_or}
 use Rattle.std.proofs.Common.{ap, ◌∙◌, sym, subst}
@@ -44,7 +44,7 @@ not_elsewhere_inside S p = elim (slice_get S.places p) as
     (λ o. option_map_or (λ r. r.1) o false ≡ true → option_map_or (λ r. not r.1) o false ≡ false)
     [ None ↦ λ h. refl | Some row ↦ λ h. ap not h ]
 
--- a place inside that a thing has
+-- a thing's place is one inside the museum
 pub record IsInside (S : Museum) (place : Option ℕ) : Type 0 where
   pub at : ℕ
   pub is : place ≡ Some at
@@ -55,7 +55,7 @@ inside_is : (S : Museum) (place : Option ℕ) → option_map_or (is_inside S) pl
 inside_is S None h = absurd (false≢true h)
 inside_is S (Some p) h = record { at = p; is = refl; inside = h }
 
--- the place of a message is a known one that isn't elsewhere
+-- the place of a message is known and isn't elsewhere
 comes_inside : (S : Museum) (p : List ℕ) → not (is_known_place S p) ≡ false
     → is_elsewhere S (place_no S p) ≡ false → IsInside S (Some (place_no S p))
 comes_inside S p known there =
@@ -111,7 +111,7 @@ pub record HasReceived (S : Museum) (P : List Entry) (e : Entry) (o : ℕ) : Typ
       (record { thing = x; loan = loan; wanted = Awaiting; stage = Here }) o
   pub ready : IsReady S P (record { thing = x; loan = loan; wanted = Awaiting; stage = Here }) o
 
--- what happens to an object
+-- the possible effects on an object
 pub data Turn (S : Museum) (P : List Entry) (e : Entry) (o : ℕ) : Type 0 where
   Left : IsLeft S P e o → Turn S P e o
   Moved : HasMoved S P e o → Turn S P e o
@@ -119,15 +119,15 @@ pub data Turn (S : Museum) (P : List Entry) (e : Entry) (o : ℕ) : Type 0 where
   Returned : HasReturned S P e o → Turn S P e o
   Received : HasReceived S P e o → Turn S P e o
 
--- what an applied entry means for an object
+-- the effect of an applied entry on an object
 module _ {S : Museum} {depth : ℕ} {P : List Entry} {e : Entry} {o : ℕ} (a : IsApplied S depth P e)
     (object : IsObject S o) where
-  -- by a message that nothing crosses by, and that puts nothing
+  -- of a message that is no crossing and puts nothing
   nothing : put_in S P e.message ≡ None → crossing_in e.message ≡ None → Turn S P e o
   nothing unput uncrossed =
       Left (record { stays = nothing_put a o unput; stages = nothing_crosses a o uncrossed })
 
-  -- by one that nothing crosses by
+  -- of one that is no crossing
   moves : (put : Put) → put_in S P e.message ≡ Some put → crossing_in e.message ≡ None →
       is_away S put.thing (place_at S P put.thing) ≡ false → IsInside S (place_to S P put.to)
       → Turn S P e o

@@ -1,4 +1,4 @@
--- What the loans say of where objects are, and how a ledger goes on, on worked rows.
+-- Where objects are according to the loans, and how a ledger goes on, on worked rows.
 use Rattle.std.specs.Prelude.{ℕ, ◌≡◌, ◌≢◌, true, false, cond, Bool, List, [], ◌∷◌, Some, None, map, refl, codes, if◌then◌else◌}
 use Rattle.std.specs.Option.{option_map_or}
 use Rattle.std.specs.Str.{bytes_eq}
@@ -22,13 +22,12 @@ use Rattle.posting_core.proofs.WorkedRows.{museum, museum_x, s2, object_1, objec
 use Rattle.posting_core.proofs.WorkedLoansOut.{may_31, june_30, loan_1, leaves, spot_on, two_agreed, three_packed, refused_unauthorised, ready, loan_out, both_back, extend_tour}
 use Rattle.posting_core.proofs.WorkedLoansIn.{loan_in_1, june_5, awaited, here}
 
--- loan_out: before anything is agreed each object is home; the crate takes two along, and the third
--- stays home
+-- loan_out: at first each object is home; then two leave in the crate, and the third stays home
 
 three_packed-home : IsHome (book three_packed) object_1
 three_packed-home = record { place = refl; loans = λ loan at. absurd (none-some _ at) }
 
--- another loan than the one agreed has no line
+-- a loan that isn't agreed has no line
 other_loan : (P : List Entry) (agreed : List ℕ) (t : Agreement) (o : ℕ)
     → ((loan : List ℕ) → agreement P loan ≡ cond (bytes_eq loan agreed) (Some t) None)
     → (loan : List ℕ) → bytes_eq loan agreed ≡ false → line_in (book P) loan o ≡ None
@@ -73,7 +72,7 @@ loan_out-lent = record {
   elsewhere = refl;
 }
 
--- what leaves does so under an authorised loan, and by its last day
+-- things leave under an authorised loan, by its last day
 loan_out-authorised : IsAuthorised ready (leaves (codes "C1") loan_1 may_31)
 loan_out-authorised = refl
 
@@ -83,7 +82,7 @@ loan_out-within = (may_31, refl, grind (arith, ints))
 loan_out-in_term : IsInTerm ready (leaves (codes "C1") loan_1 may_31)
 loan_out-in_term = λ out. loan_out-within
 
--- of each applied entry, as here of a thing that is moved
+-- the same for each applied entry, here the move of a thing
 three_packed-each : AtEachApplied IsAuthorised three_packed
 three_packed-each = (λ h. tt, (λ h. tt, (λ h. tt, (λ h. tt, tt))))
 
@@ -103,11 +102,11 @@ refused = record {
 refused_unauthorised-alike : AnswerAlike (book refused_unauthorised) (book drafted)
 refused_unauthorised-alike = unchanged (book drafted) refused refl
 
--- returned_piece_by_piece: a line that is back is over
+-- returned_piece_by_piece: nothing more is owed for a line that is back
 both_back-over : IsOver Back
 both_back-over = inl refl
 
--- loan_in: the object is with its lender until it comes, and then a guest
+-- loan_in: the object is with its lender until it arrives, and then a guest
 
 awaited-with_lender : IsWithLender (book awaited) borrowed
 awaited-with_lender =
@@ -157,7 +156,7 @@ loan_out-names_line : map (names_line (changes_of (book ready) (leaves (codes "C
     loan_1) (object_1 ∷ object_2 ∷ object_3 ∷ []) ≡ true ∷ true ∷ false ∷ []
 loan_out-names_line = refl
 
--- a line goes on from awaited to away to back, and never the other way
+-- a line goes from awaited to away to back, and never the other way
 loan_out-forward : map (λ P. goes_forward (line_in (book ready) loan_1 object_1)
     (line_in (book P) loan_1 object_1)) (ready ∷ loan_out ∷ both_back ∷ three_packed ∷ []) ≡ true
     ∷ true ∷ true ∷ false ∷ []
@@ -167,12 +166,12 @@ loan_out-onward : map (is_onward Away) (Awaiting ∷ Away ∷ Back ∷ Here ∷ 
     ∷ true ∷ true ∷ false ∷ false ∷ []
 loan_out-onward = refl
 
--- extend_tour: the last day moves on
+-- extend_tour: the last day becomes later
 extend_tour-moves_on : MovesOn (last_day_in (book loan_out) loan_1)
     (last_day_in (book extend_tour) loan_1)
 extend_tour-moves_on = (june_30, refl, grind (arith, ints))
 
--- what leaves under the loan in is an object, and C1 is none
+-- under the loan in an object leaves; C1 is none
 loan_in-uncrated : LeavesUncrated here (leaves (codes "L1999.7") loan_in_1 june_5)
 loan_in-uncrated = λ loan_in. refl
 

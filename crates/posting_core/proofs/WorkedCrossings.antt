@@ -1,6 +1,6 @@
--- What is asked before the lines of what crosses, and the loan that goes on, computed on worked
--- rows: after two agreements, of
--- which the first is authorised, the crate C1, which holds objects of both, is asked about.
+-- The rows that come before the loan lines of a crossing, and the loan that a message continues,
+-- computed on worked rows. Two loans are agreed, and the first is authorised; crate C1 holds
+-- objects of both.
 use Rattle.std.specs.Prelude.{ℕ, ◌≡◌, true, false, List, [], ◌∷◌, Some, None, map, refl, codes}
 use Rattle.std.proofs.Common.{arith, sym}
 use Rattle.nest_core.specs.Museum.{find_thing}
@@ -17,14 +17,14 @@ use Rattle.posting_core.proofs.LoanAnswers.{IsRowOf, row_is}
 use Rattle.posting_core.proofs.WorkedRows.{museum, museum_x, pack, crate_1, object_1, object_2, object_3, may, run}
 use Rattle.posting_core.proofs.WorkedLoansOut.{agreed, loan_1, may_31, june_1, now_authorised}
 
--- the loan that is agreed last, of the object that was left out
+-- the loan that is agreed last, for the object that was left out
 abbrev loan_2 : List ℕ
 loan_2 = codes "LO2024.2"
 
 abbrev two_loans : List Entry
 two_loans = run now_authorised ((pack, agreed loan_2 (codes "2001.4.3" ∷ [])) ∷ [])
 
--- the numbers of loans are those of the order in which they were agreed
+-- loans are numbered in the order in which they were agreed
 numbers : map (loan_no two_loans) (loan_1 ∷ loan_2 ∷ codes "LO2024.3" ∷ []) ≡ Some 0
     ∷ Some 1 ∷ None ∷ []
 numbers = refl
@@ -32,7 +32,7 @@ numbers = refl
 abbrev extended : Message
 extended = Extend june_1 loan_2
 
--- a loan goes on by a message that is applied, and by none that is refused, nor by one of no loan
+-- A loan is continued by an applied message about it, not by a refused one or one about no loan.
 goes_on : loan_by two_loans Applied extended ∷ loan_by two_loans NotAuthorised extended
     ∷ loan_by two_loans Applied (Move may (codes "C1") (codes "S2")) ∷ [] ≡ Some 1
     ∷ None ∷ None ∷ []
@@ -48,7 +48,7 @@ three_once = (refl, (refl, (refl, tt)))
 one_twice : AreOnce (2 ∷ 1 ∷ 2 ∷ []) → false ≡ true
 one_twice once = sym once.0
 
--- what is found of C1 and the first loan
+-- facts about C1 and the first loan
 found : find_thing museum (codes "C1") ≡ Some crate_1
 found = refl
 
@@ -96,7 +96,7 @@ is_found = record {
     of_row : IsRowOf museum two_loans loan_1 row_1
     of_row = (row_is museum two_loans loan_1 (loan_rows museum two_loans) (Some row_1) refl refl).1
 
--- the second loan's row is none of the first
+-- the second loan's row is not the first's
 is_not_found : ¬ IsFound museum two_loans (codes "C1") loan_1 crate_1 1 row_1
 is_not_found h = let number : Some 0 ≡ Some 1 = h.number in cc
 

@@ -1,4 +1,4 @@
--- What is kept of messages, computed on worked rows.
+-- The forms in which messages are kept, computed on worked rows.
 use Rattle.std.specs.Prelude.{◌≡◌, refl, codes}
 use Rattle.posting_core.specs.declared.kept_message.Form.TheVariants as form
 use Rattle.posting_core.specs.declared.message.Message.TheVariants.{Move, Pack, Exit, Return, Receive}
@@ -25,6 +25,6 @@ kept_receive : said (form.Receive may (codes "L1999.7") (codes "LI2024.1") (code
     ≡ Receive may (codes "L1999.7") (codes "LI2024.1") (codes "S1")
 kept_receive = refl
 
--- what is kept in short is codes
+-- the short forms have codes
 kept_codes : HasCodes (form.Return may (codes "C1") loan_1 (codes "S1"))
 kept_codes = (refl, refl, refl)

@@ -1,5 +1,5 @@
--- The order of the verdicts on loans computed on worked rows: where two neighbouring causes hold,
--- the first is told.
+-- The order of the verdicts on loans, computed on worked rows: if two neighbouring causes hold, the
+-- verdict is the first.
 use Rattle.std.specs.Prelude.{ℕ, ◌≡◌, List, [], ◌∷◌, map, refl, codes}
 use Rattle.posting_core.specs.declared.message.Message.{Message}
 use Rattle.posting_core.specs.declared.message.Message.TheVariants.{Agree, Return, Receive, Extend}
@@ -40,8 +40,8 @@ given_back = run both_authorised (
 abbrev told_after : List Entry → List Message → List Verdict
 told_after P ms = map (verdict museum 8 P) ms
 
--- the last three list a container twice, a borrowed object twice, and a borrowed object for a term
--- that ends before it begins
+-- the last three list a container twice, a borrowed object twice, and a borrowed object with its
+-- last day before its first
 agree : told_after drafts (
     Agree may may_31 (codes "LO2024.9") (codes "S9") (codes "2009.1" ∷ [])
     ∷ Agree may may_31 loan_1 (codes "S9") (first_object ∷ [])
@@ -68,7 +68,7 @@ exit-authorised : told_after both_authorised (leaves (codes "2001.4.2") loan_1 m
     ≡ NotHere ∷ []
 exit-authorised = refl
 
--- what is not listed has no stage wanted either; the line of what came back isn't awaited, and the
+-- an object that isn't listed is at no stage either; a line that is back isn't awaited, and the
 -- term is over
 exit-here : told_after came_back (leaves (codes "2001.4.2") loan_1 may ∷ leaves first_object loan_1
     june_1 ∷ []) ≡ NotListed ∷ WrongStage ∷ []

@@ -28,7 +28,8 @@ borrowing = Agree may may_31 loan_in_1 (codes "LENDER-Y") (codes "L1999.7" ∷ [
 abbrev pub received : ℤ → Message
 received day = Receive day (codes "L1999.7") loan_in_1 (codes "S1")
 
--- loan_in: an object comes on the last day, is moved as any other, and is given back after the term
+-- loan_in: an object arrives on the last day, is moved like any other, and is given back after the
+-- term
 
 abbrev pub awaited : List Entry
 awaited = run [] (
@@ -127,7 +128,7 @@ tour_of_verdicts-verdicts : verdicts tour_of_verdicts ≡
     ∷ NotObject ∷ []
 tour_of_verdicts-verdicts = refl
 
--- what is refused agrees nothing and places nothing
+-- refused messages agree nothing and place nothing
 tour_of_verdicts-loans : map (λ P. loans_in (book P))
     (tour_agreements ∷ tour_loans ∷ tour_of_verdicts ∷ []) ≡ [] ∷ (loan_1 ∷ [])
     ∷ (loan_1 ∷ loan_in_1 ∷ []) ∷ []

@@ -1,4 +1,4 @@
--- Loans out computed on worked rows: what leaves in a crate, and how it comes back.
+-- Loans out computed on worked rows: objects leave in a crate, and come back.
 use Rattle.std.specs.Prelude.{ℕ, ℤ, pos, ◌≡◌, true, false, List, [], ◌∷◌, ◌++◌, Some, None, map, refl, codes}
 use Rattle.posting_core.specs.declared.message.Message.{Message}
 use Rattle.posting_core.specs.declared.message.Message.TheVariants.{Move, Pack, Agree, Authorise, Exit, Return, Extend}
@@ -105,7 +105,7 @@ loan_out-lines : map (line_in (book loan_out) loan_1)
     (object_1 ∷ object_2 ∷ object_3 ∷ crate_1 ∷ []) ≡ Some Away ∷ Some Away ∷ None ∷ None ∷ []
 loan_out-lines = refl
 
--- before it leaves, each line awaits its crossing
+-- before the crate leaves, each line is awaited
 loan_out-lines_before : map (line_in (book ready) loan_1) (object_1 ∷ object_2 ∷ object_3 ∷ [])
     ≡ Some Awaiting ∷ Some Awaiting ∷ None ∷ []
 loan_out-lines_before = refl
@@ -125,7 +125,7 @@ loan_out-last_day : map (last_day_in (book loan_out)) (loan_1 ∷ loan_2 ∷ [])
     ≡ Some may_31 ∷ None ∷ []
 loan_out-last_day = refl
 
--- what left is at the partner's, in its crate; what was taken out is here
+-- the objects that left are at the partner's place, in their crate; the one taken out is here
 loan_out-places : map (place_in (book loan_out)) (crate_1 ∷ object_1 ∷ object_2 ∷ object_3 ∷ [])
     ≡ Some museum_x ∷ Some museum_x ∷ Some museum_x ∷ Some s2 ∷ []
 loan_out-places = refl
@@ -152,7 +152,8 @@ loan_out-agreeing : changes_of (book three_packed)
     }
 loan_out-agreeing = refl
 
--- an exit changes the lines of all objects that cross, ascending, and writes a spot of each thing
+-- an exit changes the lines of all objects that cross, in ascending order, and writes a spot for
+-- each thing
 loan_out-leaving : changes_of (book ready) (leaves (codes "C1") loan_1 may_31) ≡ record {
   entry = 11;
   verdict = Applied;
@@ -191,21 +192,21 @@ loan_out-authorising : changes_of (book refused_unauthorised) (authorised loan_1
     }
 loan_out-authorising = refl
 
--- something crosses with what is in it where a crate crosses by a loan
+-- a thing crosses with other things in it if a crate crosses
 loan_out-crosses_with : map (crosses_with (book ready))
     (leaves (codes "C1") loan_1 may_31 ∷ leaves (codes "2001.4.3") loan_1 may_31
     ∷ moved (codes "C1") (codes "S1") ∷ authorised loan_1 ∷ []) ≡ true ∷ false ∷ false ∷ false ∷ []
 loan_out-crosses_with = refl
 
--- the lines are asked where the crate leaves in time or late, and not where it isn't with the
--- partner, or is an object alone
+-- the verdict depends on the lines if the crate leaves, in time or late, but not if it isn't with
+-- the partner, nor for an object alone
 loan_out-asks_lines : map (asks_lines (book ready))
     (leaves (codes "C1") loan_1 may_31 ∷ leaves (codes "C1") loan_1 june_1 ∷ returned (codes "C1")
     loan_1 (codes "S1") may_31 ∷ leaves (codes "2001.4.3") loan_1 may_31 ∷ []) ≡ true ∷ true ∷ false
     ∷ false ∷ []
 loan_out-asks_lines = refl
 
--- memory is asked too where lines are made, and not where an object alone is refused, or nothing is
+-- planning also needs memory if lines are made, but not if an object alone is refused or nothing is
 -- put
 loan_out-asks_memory : map (asks_memory (book ready))
     (leaves (codes "C1") loan_1 may_31 ∷ agreed loan_2 (codes "2001.4.1" ∷ [])
@@ -213,7 +214,7 @@ loan_out-asks_memory : map (asks_memory (book ready))
     ∷ false ∷ []
 loan_out-asks_memory = refl
 
--- a crate takes along what is in it, an object nothing
+-- a crate's contents move with it; an object has none
 loan_out-takes_along : map (takes_along museum ready)
     (put_at crate_1 s2 ∷ put_at object_3 s1 ∷ None ∷ []) ≡ true ∷ false ∷ false ∷ []
 loan_out-takes_along = refl
@@ -256,7 +257,7 @@ returned_piece_by_piece-places = refl
 returned_piece_by_piece-chain : chain_in (book returned_piece_by_piece) object_1 ≡ []
 returned_piece_by_piece-chain = refl
 
--- return_under_another_loan: a second agreement of an object that is away doesn't bring it back
+-- return_under_another_loan: a second agreement doesn't bring back an object that is away
 
 abbrev return_under_another_loan : List Entry
 return_under_another_loan = run loan_out (
@@ -299,7 +300,7 @@ crate_returns-spots = refl
 crate_returns-chain : chain_in (book crate_returns) object_1 ≡ crate_1 ∷ []
 crate_returns-chain = refl
 
--- extend_tour: a loan's last day only ever moves on
+-- extend_tour: a loan's last day only becomes later
 
 abbrev pub extend_tour : List Entry
 extend_tour = run loan_out (
@@ -343,7 +344,7 @@ extend_unauthorised-verdicts = refl
 extend_unauthorised-last_day : last_day_in (book extend_unauthorised) loan_1 ≡ Some may_31
 extend_unauthorised-last_day = refl
 
--- extend_then_exit: what was refused after the term leaves once the term is longer
+-- extend_then_exit: an exit that was refused after the term is applied once the term is longer
 
 abbrev extend_then_exit : List Entry
 extend_then_exit = run [] (

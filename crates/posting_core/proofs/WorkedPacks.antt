@@ -61,7 +61,7 @@ crate_in_crate-carried : map (carried_at museum crate_in_crate) (crate_1 ∷ cra
     ≡ (crate_1 ∷ crate_2 ∷ object_1 ∷ []) ∷ (crate_2 ∷ object_1 ∷ []) ∷ (object_1 ∷ []) ∷ []
 crate_in_crate-carried = refl
 
--- a crate that holds things takes memory to carry them; an empty one, or an object, takes none
+-- carrying the things in a crate takes memory; an empty crate or an object takes none
 crate_in_crate-holds : map (holds_at museum crate_in_crate) (crate_1 ∷ crate_2 ∷ object_1 ∷ [])
     ≡ true ∷ true ∷ false ∷ []
 crate_in_crate-holds = refl
@@ -71,7 +71,7 @@ crate_in_crate-asks : map (asks_memory (book crate_in_crate))
     (codes "S1") ∷ []) ≡ true ∷ false ∷ false ∷ []
 crate_in_crate-asks = refl
 
--- what was put straight into each
+-- the things put directly into each
 crate_in_crate-contents : map (contents (puts museum crate_in_crate)) (crate_1 ∷ crate_2 ∷ [])
     ≡ (crate_2 ∷ []) ∷ (object_1 ∷ []) ∷ []
 crate_in_crate-contents = refl
@@ -82,7 +82,7 @@ crate_in_crate-puts : puts museum filled ≡
     ∷ record { thing = crate_1; to = At s1 } ∷ []
 crate_in_crate-puts = refl
 
--- a Pack writes the spot of what comes to another place with it, here the first of the object
+-- a Pack writes a spot for each thing that comes to another place with it, here the object's first
 crate_in_crate-packing : changes_of (book nested) (packed (codes "2001.4.1") (codes "C2")) ≡
     record {
       entry = 4;
@@ -95,7 +95,7 @@ crate_in_crate-packing : changes_of (book nested) (packed (codes "2001.4.1") (co
     }
 crate_in_crate-packing = refl
 
--- and none where the container stands in the same place
+-- and none if the container is at the same place
 crate_in_crate-repacking : changes_of (book filled) (packed (codes "2001.4.1") (codes "C1")) ≡
     record {
       entry = 5;
@@ -108,7 +108,7 @@ crate_in_crate-repacking : changes_of (book filled) (packed (codes "2001.4.1") (
     }
 crate_in_crate-repacking = refl
 
--- a crate's Move writes a spot of each thing that it carries, with the next number of that thing's
+-- a crate's Move writes a spot for each thing that it carries, with the next number in that thing's
 -- list
 crate_in_crate-moving : changes_of (book filled) (moved (codes "C1") (codes "S2")) ≡
     record {
@@ -124,7 +124,7 @@ crate_in_crate-moving : changes_of (book filled) (moved (codes "C1") (codes "S2"
     }
 crate_in_crate-moving = refl
 
--- packed again, each thing that comes along has the next number of its own list
+-- packed again, each thing that moves with it has the next number in its own list
 abbrev taken_apart : List Entry
 taken_apart = run crate_in_crate
     ((pack, packed (codes "2001.4.2") (codes "C2")) ∷ (pack, moved (codes "C2") (codes "S1")) ∷ [])
@@ -143,7 +143,7 @@ taken_apart-packing : changes_of (book taken_apart) (packed (codes "C2") (codes 
     }
 taken_apart-packing = refl
 
--- taken_out_of_a_crate: what was taken out stays where it was put when the crate moves on
+-- taken_out_of_a_crate: a thing that was taken out stays where it was put when the crate moves on
 
 abbrev taken_out_of_a_crate : List Entry
 taken_out_of_a_crate = run crate_in_crate (
@@ -172,7 +172,7 @@ taken_out_of_a_crate-contents : map (contents (puts museum taken_out_of_a_crate)
     (crate_1 ∷ crate_2 ∷ []) ≡ (crate_2 ∷ []) ∷ [] ∷ []
 taken_out_of_a_crate-contents = refl
 
--- cycle: no crate goes into itself, nor into what is in it
+-- cycle: no crate goes into itself or into its contents
 
 abbrev cycle : List Entry
 cycle = run nested (
@@ -187,7 +187,7 @@ cycle-verdicts = refl
 cycle-numbers : reverse (map (λ e. e.n) cycle) ≡ 1 ∷ 2 ∷ 3 ∷ 4 ∷ 5 ∷ 6 ∷ []
 cycle-numbers = refl
 
--- the refused Packs put nothing anywhere, and the Move to where the crate is writes no spot
+-- the refused Packs put nothing anywhere, and a Move to the crate's own place writes no spot
 cycle-spots : map (spots museum cycle) (crate_1 ∷ crate_2 ∷ []) ≡ (spot 1 s1 ∷ [])
     ∷ (spot 2 s1 ∷ []) ∷ []
 cycle-spots = refl
@@ -209,7 +209,7 @@ cycle-change = refl
 
 -- too_deep: eight containers above a thing, under a limit of eight
 
--- eight crates more, at the end
+-- eight more crates, at the end
 abbrev crates : Museum
 crates = record museum {
   things = museum.things
@@ -255,13 +255,13 @@ too_deep-carried : carried_at crates too_deep crate_1 ≡ crate_1 ∷ crate_2 �
     ∷ 10 ∷ 11 ∷ 12 ∷ []
 too_deep-carried = refl
 
--- the first row of a Pack that holds: the thing, the container, where the thing is, where the
--- container is, the cycle, the depth
+-- the first row of a Pack that holds: the thing, the container, the thing's place, the container's
+-- place, the cycle, the depth
 
 order-thing : verdict museum 8 [] (packed (codes "2009.1") (codes "2001.4.2")) ≡ UnknownThing
 order-thing = refl
 
--- an object is no container, nor is a code that the setup doesn't have
+-- an object is not a container, and neither is a code that the setup doesn't have
 order-container : map (λ c. verdict museum 8 [] (packed (codes "L1999.7") c))
     (codes "2001.4.2" ∷ codes "C9" ∷ []) ≡ UnknownContainer ∷ UnknownContainer ∷ []
 order-container = refl
@@ -274,7 +274,7 @@ order-container_not_here : map (λ x. verdict museum 8 [] (packed x (codes "C1")
     (codes "2001.4.1" ∷ codes "C1" ∷ []) ≡ ContainerNotHere ∷ ContainerNotHere ∷ []
 order-container_not_here = refl
 
--- where both the cycle and the depth bar it, the cycle is told
+-- if both the cycle and the depth rule it out, the verdict is the cycle
 order-cycle : verdict crates 8 eight_deep (packed (codes "C1") (codes "C8")) ≡ Cycle
 order-cycle = refl
 

@@ -1,4 +1,4 @@
--- The definitions computed on worked rows: what a reader can follow by hand, each proved by
+-- The definitions computed on worked rows that a reader can follow by hand. Each is proved by
 -- computing.
 use Rattle.std.specs.Prelude.{ℕ, ℤ, pos, ◌+◌, ◌*◌, ◌≡◌, ◌<◌, ◌≤◌, true, false, List, [], ◌∷◌, Option, Some, None, map, reverse, refl, codes}
 use Rattle.std.proofs.Common.{arith, sym}
@@ -17,8 +17,8 @@ use Rattle.posting_core.specs.Verdicts.{verdict}
 use Rattle.posting_core.specs.Lawful.{Follows, IsLawful, count_at, is_signed_off}
 use Rattle.posting_core.specs.Book.{Book, place_in, changes_of}
 
--- two stations, three places of the museum's own and two partners', two crates, three own objects
--- and a borrowed one
+-- two stations, three places of the museum's own and two partners' places, two crates, three own
+-- objects and a borrowed one
 abbrev pub museum : Museum
 museum = record {
   stations = codes "PACK" ∷ codes "GAL" ∷ [];
@@ -87,7 +87,7 @@ entry_in S P station m = record {
   verdict = verdict S 8 P m;
 }
 
--- the entries of what these stations told, in this order, after P
+-- the entries of these stations' messages, in this order, after P
 abbrev pub run_in : Museum → List Entry → List (ℕ × Message) → List Entry
 run_in S P [] = P
 run_in S P ((station, m) ∷ told) = run_in S (entry_in S P station m ∷ P) told
@@ -112,7 +112,7 @@ spot number p = record { entry = number; place = p; day = may }
 abbrev pub put_at : ℕ → ℕ → Option Put
 put_at x p = Some (record { thing = x; to = At p })
 
--- held_then_posted: what GAL told, in the order of its numbers
+-- held_then_posted: GAL's messages, in the order of their numbers
 
 abbrev held_then_posted : List Entry
 held_then_posted = run [] (
@@ -142,7 +142,7 @@ held_then_posted-puts : puts museum held_then_posted ≡
     ∷ record { thing = object_1; to = At s1 } ∷ []
 held_then_posted-puts = refl
 
--- what one more message would change: a spot with the next number of its thing's list
+-- the changes that one more message would make: a spot with the next number in its thing's list
 held_then_posted-change : changes_of (book held_then_posted)
     (moved (codes "2001.4.1") (codes "S2")) ≡
     record {
@@ -170,8 +170,7 @@ held_then_posted-first : changes_of (book held_then_posted)
     }
 held_then_posted-first = refl
 
--- a Move to the place where the thing is puts it there again, and writes nothing but the posted
--- list
+-- a Move to the thing's own place puts it there again, and writes nothing but the entry
 held_then_posted-same : changes_of (book held_then_posted)
     (moved (codes "2001.4.1") (codes "S1-A")) ≡
     record {
@@ -235,7 +234,7 @@ tour-spots = refl
 tour-borrowed : spots museum tour borrowed ≡ []
 tour-borrowed = refl
 
--- the first row that holds: the thing, then the place, then what the place is, then where the thing
+-- the first row that holds: the thing, then the place, then the kind of place, then where the thing
 -- is
 
 order-thing : verdict museum 8 [] (moved (codes "2009.1") (codes "S9")) ≡ UnknownThing
@@ -254,7 +253,7 @@ not_here = refl
 here-own : verdict museum 8 [] (moved (codes "2001.4.1") (codes "S1")) ≡ Applied
 here-own = refl
 
--- crates are moved as any other thing
+-- crates are moved like any other thing
 
 abbrev crates : List Entry
 crates = run [] (
@@ -278,7 +277,7 @@ crates-chain = refl
 crates-carried : carried_at museum crates crate_1 ≡ crate_1 ∷ []
 crates-carried = refl
 
--- sign_off: what GAL told up to its sign-off, and then PACK
+-- sign_off: GAL's messages up to its sign-off, and then PACK's
 
 abbrev sign_off : List Entry
 sign_off = run [] (
@@ -308,7 +307,7 @@ most_objects = refl
 most_entries : MOST_ENTRIES ≡ 64 * LAST_NUMBER
 most_entries = refl
 
--- which lists the rules let stand
+-- the lists that the rules allow
 
 -- the next entry of a station that has not signed off may follow
 follows : (P : List Entry) (station : ℕ) (m : Message) → station < 2 → count_at station P < 999999
@@ -341,11 +340,11 @@ told station n v = record { station = station; n = n; message = signed_off; verd
 differ : (a b : ℕ) → a < b → a ≡ b → ⊥
 differ a b less same = omega arith
 
--- a lawful list has no entry of a station that the setup doesn't list
+-- a lawful list has no entry of a station that the setup doesn't have
 unlawful-station : IsLawful museum 8 (told 2 1 Applied ∷ []) → ⊥
 unlawful-station h = let known : 2 < 2 = h.0.known in omega arith
 
--- nor one that passes over a number
+-- nor one that skips a number
 unlawful-passed : IsLawful museum 8 (told gal 2 Applied ∷ []) → ⊥
 unlawful-passed h = differ 1 2 (omega arith) (sym h.0.next)
 
@@ -353,7 +352,7 @@ unlawful-passed h = differ 1 2 (omega arith) (sym h.0.next)
 unlawful-double : IsLawful museum 8 (told pack 1 Applied ∷ told pack 1 Applied ∷ []) → ⊥
 unlawful-double h = differ 1 2 (omega arith) h.0.next
 
--- nor a number above 999,999, whatever stands before it
+-- nor a number above 999,999, whatever comes before it
 unlawful-number : (P : List Entry) → IsLawful museum 8 (told gal 1000000 Applied ∷ P) → ⊥
 unlawful-number P h = let few : 1000000 ≤ 999999 = h.0.few in omega arith
 

@@ -1,4 +1,4 @@
--- The one list of all things' spots, computed on two things with three spots: what a reader can
+-- The one list of all things' spots, computed on two things with three spots, which a reader can
 -- follow by hand.
 use Rattle.std.specs.Prelude.{ℕ, ◌≡◌, ◌<◌, List, [], ◌∷◌, refl, All}
 use Rattle.std.proofs.Common.{arith}
@@ -26,14 +26,14 @@ three-first = refl
 three-second : spots_at three 1 1 ≡ spot 6 5 ∷ []
 three-second = refl
 
--- what thing 0 had before its last
+-- the spots of thing 0 before its last
 three-before : spots_at three 0 1 ≡ spot 4 5 ∷ []
 three-before = refl
 
 three-none : spots_at three 0 0 ≡ []
 three-none = refl
 
--- the last of each, and how many it has
+-- the last spot of each, and how many it has
 abbrev first : LastSpot
 first = record { at = 2; count = 2 }
 
@@ -53,7 +53,7 @@ three-lasts = All-cons (IsLast three) first (second ∷ [])
     (All-cons (IsLast three) second []
     (record { back = (kept_spot 6 5 0, refl, tt); few = omega arith }) (All-nil (IsLast three)))
 
--- a spot that isn't there leads back to none
+-- a missing spot leads back to none
 unled : LeadBack (kept_spot 4 5 0 ∷ []) 1 1 → ⊥
 unled (s, is, back) = let less : 1 < 1 =
     slice_get_within (kept_spot 4 5 0 ∷ []) 1 s is in omega arith

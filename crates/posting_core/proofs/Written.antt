@@ -1,4 +1,4 @@
--- What writing the new spots of an entry leaves in the rows.
+-- The rows after an entry's new spots are written.
 use Rattle.std.specs.Prelude.{ℕ, ℤ, ◌≡◌, ◌+◌, ◌<◌, ◌≤◌, ◌==◌, true, List, [], ◌∷◌, ◌++◌, Option, None, Some, length, zero, suc, refl, slice_set, All}
 use Rattle.std.specs.List.{filter_map, range_with_len, cons_option}
 use Rattle.std.specs.Option.{option_map, option_map_or, option_to_list}
@@ -15,7 +15,7 @@ use Rattle.posting_core.specs.History.{spot_from}
 use Rattle.posting_core.specs.Book.{new_spot}
 use Rattle.posting_core.specs.Rows.{row_of, rows_after}
 
--- each spot of f is of its own thing
+-- each spot that f returns is of its own thing
 abbrev pub IsOwn : (ℕ → Option NewSpot) → Type 0
 IsOwn f = (y : ℕ) (s : NewSpot) → f y ≡ Some s → s.thing ≡ y
 
@@ -29,7 +29,7 @@ row_same : (R : List (List Spot)) (i : ℕ) (row : List Spot) → i < length R
 row_same R i row less = ap (λ (o : Option (List Spot)). option_map_or (λ spots. spots) o [])
     (get_set_same R i row less)
 
--- spots of later things leave a row as it is
+-- spots of later things leave a row as it was
 rows_before : (R : List (List Spot)) (f : ℕ → Option NewSpot) (a n x : ℕ) → IsOwn f → x < a
     → row_of (rows_after R (filter_map f (range_with_len a n))) x ≡ row_of R x
 rows_before R f a zero x own less = refl
@@ -44,7 +44,7 @@ rows_before R f a (suc n) x own less =
           (λ h. absurd (omega arith))
     ] refl
 
--- as many rows stand after what is written
+-- writing changes no number of rows
 pub rows_length : (R : List (List Spot)) (ss : List NewSpot) → length (rows_after R ss) ≡ length R
 rows_length R [] = refl
 rows_length R (s ∷ ss) = rows_length (slice_set R s.thing (row_of R s.thing ++ s.spot ∷ [])) ss
@@ -100,14 +100,14 @@ own_spot number count before after day x s =
           let same : made ≡ s = cc in sym (ap (λ (t : NewSpot). t.thing) same)
     ]
 
--- an entry that leaves the place writes no spot
+-- an entry that doesn't change the place writes no spot
 pub same_place : (number : ℕ) (p : Option ℕ) (day : Option ℤ) → spot_from number p p day ≡ None
 same_place number None day = refl
 same_place number (Some p) None = refl
 same_place number (Some p) (Some day) = let same : (p == p) ≡ true = grind (arith, nat_tests) in
     rw same refl
 
--- spots of a range of things are of things in it
+-- spots of a range of things are of things in the range
 pub own_within : (f : ℕ → Option NewSpot) (a n things : ℕ) → IsOwn f → a + n ≤ things
     → All (λ s. s.thing < things) (filter_map f (range_with_len a n))
 own_within f a zero things own high = All-nil (λ (s : NewSpot). s.thing < things)

@@ -1,5 +1,5 @@
--- Defines what the loans account for: where own and borrowed objects are, when a loan is over, and
--- how things may leave and arrive. The laws of `posting_core` prove these of every ledger.
+-- Defines how the loans account for the objects: where own and borrowed objects are, when a loan is
+-- over, and how things may leave and arrive. The laws of `posting_core` prove this of every ledger.
 use Rattle.std.specs.Prelude.{ℕ, ℤ, ◌≡◌, ◌≢◌, ◌⊎◌, ◌≤ℤ◌, true, false, List, [], ◌∷◌, Option, Some, IfSome}
 use Rattle.std.specs.Option.{option_map}
 use Rattle.codes_core.specs.Loan.{is_out}

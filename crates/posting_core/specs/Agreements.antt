@@ -1,4 +1,4 @@
--- Defines what was agreed of loans, by looking back through the posted entries: a loan's terms,
+-- Defines the agreements of loans, by looking back through the posted entries: a loan's terms,
 -- whether it is authorised, and its last day. The newest entry comes first, and only applied
 -- entries count.
 use Rattle.std.specs.Prelude.{ℕ, ℤ, ◌&&◌, Bool, false, List, [], ◌∷◌, ◌++◌, Option, Some, None, map, is_some, unwrap_or, if◌then◌else◌}

@@ -1,4 +1,4 @@
--- Defines a ledger's view, its answers, and what posting a message changes in it.
+-- Defines a ledger's view, its answers, and the changes that posting a message makes in it.
 use Rattle.std.specs.Prelude.{ℕ, ℤ, ◌+◌, ◌&&◌, ◌||◌, Bool, false, List, [], length, map, Option, is_some, if◌then◌else◌}
 use Rattle.std.specs.List.{range_with_len, filter_map}
 use Rattle.std.specs.Option.{option_map, option_map_or}
@@ -88,9 +88,9 @@ new_lines S P m =
     option_map_or (lines_of_agreement S) (agreement_in m)
     (option_map_or (lines_of_crossing S P) (crossing_in m) [])
 
--- Everything that posting the message changes: the number of its entry, its verdict, its put, what
--- that moves, the new spots, the loan that it continues, and the loan lines. A refused message
--- changes nothing but the list of entries.
+-- Everything that posting the message changes: the number of its entry, its verdict, its put, the
+-- things that the put moves, the new spots, the loan that it continues, and the loan lines. A
+-- refused message changes nothing but the list of entries.
 abbrev pub changes_of : Book → Message → Changes
 changes_of B m =
     let v = verdict_in B m in record {

@@ -1,5 +1,4 @@
--- Defines what is established about a message that crosses under a loan before its lines are looked
--- at.
+-- Defines the facts about a crossing that are established before its loan lines are checked.
 use Rattle.std.specs.Prelude.{ℕ, ◌≡◌, ◌<◌, true, not, List, ◌∷◌, length, Some}
 use Rattle.std.specs.Option.{option_map}
 use Rattle.nest_core.specs.Museum.{Museum, find_thing, is_elsewhere}

@@ -49,7 +49,7 @@ place_at S P x = place (length S.things) (puts S P) x
 abbrev pub carried_at : Museum → List Entry → ℕ → List ℕ
 carried_at S P x = carried (length S.things) (puts S P) x
 
--- Everything that moves with a put: its thing and what is in it. Empty if there is no put.
+-- Everything that moves with a put: its thing and the things in it. Empty if there is no put.
 abbrev pub carried_with : Museum → List Entry → Option Put → List ℕ
 carried_with S P put = option_map_or (λ p. carried_at S P p.thing) put []
 

@@ -18,7 +18,7 @@ said (Return day thing loan place) = says.Return day thing loan place
 said (Receive day thing loan place) = says.Receive day thing loan place
 said (Whole m) = m.value
 
--- The short texts are codes, so that they give back the message.
+-- The short texts are codes, so that they determine the message.
 abbrev pub HasCodes : Form → Type 0
 HasCodes (Move day thing place) = (thing_fault thing ≡ None) × (place_fault place ≡ None)
 HasCodes (Pack day thing container) = (thing_fault thing ≡ None) × (thing_fault container ≡ None)

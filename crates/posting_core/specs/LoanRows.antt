@@ -1,4 +1,4 @@
--- Defines what a ledger keeps of each loan, and what a message changes there.
+-- Defines the row that a ledger keeps of each loan, and how a message changes it.
 use Rattle.std.specs.Prelude.{ℕ, ℤ, ◌≡◌, Bool, true, false, List, [], ◌∷◌, ◌++◌, Option, None, map, slice_get, slice_set, nat_eq, if◌then◌else◌}
 use Rattle.std.specs.List.{position, find}
 use Rattle.std.specs.Option.{option_map_or, option_and_then}

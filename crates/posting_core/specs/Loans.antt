@@ -39,7 +39,7 @@ abbrev pub exit_of : List ℕ → List ℕ → Crossing
 exit_of x loan =
     record { thing = x; loan = loan; wanted = wanted_by_exit loan; stage = exit_stage loan }
 
--- A return brings back what a loan out took away.
+-- A return brings back objects that a loan out took away.
 abbrev pub return_of : List ℕ → List ℕ → Crossing
 return_of x loan = record { thing = x; loan = loan; wanted = Away; stage = Back }
 

@@ -1,5 +1,5 @@
--- Defines how a ledger grows: what an entry changes in it, and what stays true whatever is posted
--- later.
+-- Defines how a ledger grows: the changes that an entry makes in it, and the facts that stay true
+-- whatever is posted later.
 use Rattle.std.specs.Prelude.{ℕ, ℤ, ◌≡◌, ◌≤ℤ◌, ◌&&◌, ◌==◌, ◌++◌, Bool, true, false, not, List, Option, Some, None, IfSome, filter, map}
 use Rattle.std.specs.List.{list_all, list_any}
 use Rattle.std.specs.Option.{option_map_or}

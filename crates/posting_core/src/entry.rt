@@ -1,4 +1,4 @@
-//! Posted entries, and what posting an entry changes.
+//! Posted entries, and the changes that posting an entry makes.
 
 use crate::{LineStage, Message, Verdict};
 use codes_core::{Day, LoanCode, NoMemory};
@@ -167,8 +167,8 @@ impl NewLines {
     }
 }
 
-/// What posting a message changes. For a refused message there is no put and no loan, and the lists
-/// are empty.
+/// The changes that posting a message makes. For a refused message there is no put and no loan, and
+/// the lists are empty.
 #[derive(Debug, Drop)]
 pub struct Changes {
     /// The number that the entry gets, from 1.

@@ -1,4 +1,4 @@
-//! Laws of what a ledger has posted. The functions do nothing: their contracts are the laws.
+//! Laws of a ledger's entries. The functions do nothing: their contracts are the laws.
 ghost use Rattle.std.specs.Prelude.{◌≡◌, ◌≢◌, ◌⊎◌, ◌↔◌, ◌<◌, ◌∷◌, ◌++◌, ℕ, List, [], length, None, Some, true, false, IfSome, All, is_some};
 ghost use Rattle.std.specs.List.{last_or, AllAdjacentBelow};
 ghost use Rattle.std.specs.Option.{option_map};
@@ -82,9 +82,9 @@ pub fn all_refused_change_no_answer()
     ensures { (B : Book) (L : List Entry) → are_refused L ≡ true → AnswerAlike (later B L) B }
 {}
 
-/// Posting an entry that the rules allow changes what its plan has, and no more. A thing's spots
-/// afterwards are those before, followed by the new ones. A loan line changes exactly if a new line
-/// names it, and then it has that new line's stage.
+/// Posting an entry that the rules allow makes the changes of its plan, and no others. A thing's
+/// spots afterwards are those before, followed by the new ones. A loan line changes exactly if a
+/// new line names it, and then it has that new line's stage.
 pub fn changes_are_the_difference()
     ensures spots { (B : Book) (e : Entry) → GoesOn B (e ∷ []) → (x : ℕ)
         → x < length B.museum.things →

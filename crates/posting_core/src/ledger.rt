@@ -227,7 +227,7 @@ impl Ledger {
 
     /// Returns the verdict that the message would get if it were posted now. Fails with `NoMemory`,
     /// but only if a thing with something in it crosses under a loan, and the verdict depends on
-    /// the loan lines of what crosses.
+    /// the loan lines of the objects that cross.
     pub fn judge(&self, alloc: Global, message: &Message) -> Result<Verdict, NoMemory>
         ensures ok { IfOk result (λ verdict. verdict ≡ verdict_in self.now message.now) }
         ensures err { OnErr result (asks_lines self.now message.now ≡ true) }
@@ -235,8 +235,8 @@ impl Ledger {
         Ok(self.judged(alloc, message)?.verdict)
     }
 
-    /// Returns what posting the message now would change. Fails with `NoMemory`, but only if
-    /// [`judge`](Self::judge) can, or if the message is applied and either makes or changes loan
+    /// Returns the changes that posting the message now would make. Fails with `NoMemory`, but only
+    /// if [`judge`](Self::judge) can, or if the message is applied and either makes or changes loan
     /// lines or puts a thing that has something in it.
     pub fn plan(&self, alloc: Global, message: &Message) -> Result<Changes, NoMemory>
         ensures ok { IfOk result (λ changes. changes ≡ changes_of self.now message.now) }
@@ -299,9 +299,9 @@ impl Ledger {
 }
 
 impl Ledger {
-    /// Judges a message as `judge` does, and returns what that has found: where the message puts
-    /// its thing, what the thing carries if it was already gathered, and the number of the loan
-    /// that the message continues.
+    /// Judges a message as `judge` does, and also returns where the message puts its thing, the
+    /// things that it carries if they were already gathered, and the number of the loan that the
+    /// message continues.
     fn judged(&self, alloc: Global, message: &Message) -> Result<Judged, NoMemory>
         ensures verdict { IfOk result (λ judged. judged.verdict ≡ verdict_in self.now message.now) }
         ensures put { IfOk result (λ judged. judged.put

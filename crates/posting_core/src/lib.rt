@@ -7,9 +7,9 @@
 //! [`Spot`] is one location of a thing, current or former. A *loan line* is an object on a loan,
 //! with the [`LineStage`] that it has reached.
 //!
-//! Each answer of a ledger is that of looking back through its entries. [`Changes`] has exactly
-//! what posting a message changes. [`laws`] has what is true of every ledger: for example, each own
-//! object is home, or away under exactly one loan out.
+//! Each answer of a ledger is that of looking back through its entries. [`Changes`] has exactly the
+//! changes that posting a message makes. [`laws`] has facts that are true of every ledger: for
+//! example, each own object is home, or away under exactly one loan out.
 //!
 //! ```text
 //! let changes = ledger.plan(alloc, &message)?;

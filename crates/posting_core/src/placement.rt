@@ -34,8 +34,8 @@ fn put_over<L: Ledger>(
     nest.put_with(put.thing, put.to, carried, &mut steps)
 }
 
-/// Carries out a put, if there is one. `carried` is what the thing carries. Fails with `NoMemory`,
-/// and then the nest is unchanged.
+/// Carries out a put, if there is one. `carried` has the things that its thing carries. Fails with
+/// `NoMemory`, and then the nest is unchanged.
 pub(crate) fn place(nest: &mut Nest, put: Option<Put>, carried: &[ThingNo]) -> Result<(), NoMemory>
     requires may { IfSome put (λ p. (p.thing < nest.old.things) × MayGo nest.old p.thing p.to) }
     requires carried { IfSome put (λ p. carried.now

@@ -7,7 +7,7 @@ use nest_core::StationNo;
 use std::alloc::Global;
 use std::marker::Model;
 
-/// A posted entry as it is kept: in 56 bytes, where an entry takes 104. Contracts see it as the
+/// A posted entry as it is kept: in 56 bytes, instead of an entry's 104. Contracts see it as the
 /// entry.
 #[derive(Drop)]
 pub struct PostedEntry {

@@ -1,4 +1,4 @@
-//! What an entry changes in the loans.
+//! Records the changes that an entry makes in the loans.
 ghost use Rattle.std.specs.Prelude.{◌≡◌, true, is_some, if◌then◌else◌, IfSome, OnOk, OnErr};
 ghost use Rattle.posting_core.specs.declared.verdict.Verdict.TheVariants.{Applied};
 ghost use Rattle.posting_core.specs.VerdictNames.{is_applied};

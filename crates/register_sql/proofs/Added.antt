@@ -1,4 +1,4 @@
--- What an INSERT of one row does to a whole store.
+-- The effect of an INSERT of one row on a whole store.
 use Rattle.std.proofs.Common.{◌≡◌, ◌≢◌, ◌⊎◌, inl, inr, ℕ, ◌/◌, ℤ, List, [], ◌∷◌, ◌++◌, length, slice_get, Bool, true, false, cond, Option, Some, None, Ok, Err, Result, refl, sym, ap, subst, ◌∙◌, not, ◌&&◌}
 use Rattle.std.specs.List.{AllByRecursion}
 use Rattle.std.specs.List.Sorted.{IsPermutation}
@@ -45,7 +45,7 @@ pub cast_null : cast Integer Null ≡ Null
 unfolding unary
 cast_null = either _ Null
 
--- a part of a statement that gave a value did not stop on the way
+-- a part of a statement that returned a value did not stop on the way
 pub went : {B E R : Type 0} {b : B} {Stops : E → Type 0}
     → ((stop : E) × Stops stop × (Ok b ≡ Err stop)) ⊎ R → R
 went (inl stopped) = absurd (let e = stopped.2 in cc)
@@ -54,7 +54,7 @@ went (inr on) = on
 pub same_value : {B E : Type 0} {a b : B} → ◌≡◌ {A = Result B E} (Ok a) (Ok b) → a ≡ b
 same_value e = cc
 
--- a row with a rowid of its own comes among the others
+-- a row with a new rowid is added to the others
 put_fresh : (new : Row) (rows : List Row) → is_taken rows new ≡ false
     → IsPermutation (new ∷ rows) (put_row new rows)
 put_fresh new [] free = IsPermutation-refl _
@@ -102,7 +102,7 @@ spares t db next all = record {
 abbrev uncounted : Table → Table
 uncounted t = record t { is_counted = false }
 
--- what an INSERT of given values goes through, in any schema, into a table that keeps no count
+-- the result of a successful INSERT of these values, in any schema, into a table without a count
 goes_through : (t : Table) (at : ℕ) (terms : List Term) (width : ℕ) (params : Row)
     (limit : Option ℕ) (mode : Mode) (schema : Schema) (db : Trees) (tally : Tally)
     (after : Database)
@@ -131,7 +131,7 @@ goes_through t at terms width params limit mode schema db tally after does =
       now ∙ ap (λ (k : Trees). let d : Database = record { schema = schema; trees = k } in d) trees,
     )
 
--- an INSERT of what the parameters say into a table of the store
+-- an INSERT of the parameters into a table of the store
 module _ (text : List ℕ) (params : Row) (at : ℕ) (terms : List Term) (width : ℕ)
     (name : List ℕ) (tree : ℕ) (columns : List Column) (key : Option ℕ) (primary : List ℕ)
     (uniques : List (List ℕ))

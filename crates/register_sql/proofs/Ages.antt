@@ -1,4 +1,4 @@
--- The rows of a store of version 1, in either order, and rows of which none says a version.
+-- The rows of a store of version 1, in either order, and rows without a version.
 use Rattle.std.proofs.Common.{zero, suc, Bool, true, false, ltb, ltb-true, ltb-false, ◌≤◌, slice_index_or, ◌≡◌, ◌≢◌, ◌⊎◌, inl, inr, ◌<◌, ◌+◌, ℕ, pos, List, [], ◌∷◌, length, codes, refl, sym, ap, subst, ◌∙◌, arith}
 use Rattle.std.specs.Bool.{Decides}
 use Rattle.std.specs.List.{AllByRecursion}
@@ -78,7 +78,7 @@ no_pair rows other = (
   λ h. absurd (other (length_permutation _ _ h)),
 )
 
--- ---- none says the version
+-- ---- no row has the version
 
 pub none_next : (version : ℕ) (rows : List Row) (at : ℕ) (row : Row) → at < length rows
     → row ≡ slice_index_or rows at row → row ≢ meta_cells (version_row version)

@@ -1,4 +1,4 @@
--- The rows that were read, and those of a ledger.
+-- The rows that were read, and those of the ledger.
 use Rattle.std.proofs.Common.{◌≡◌, ◌&&◌, ℕ, ℤ, Bool, List, [], ◌∷◌, ◌++◌, map, drop, reverse, None, refl, ap, subst, ◌∙◌}
 use Rattle.std.specs.Bool.{Decides}
 use Rattle.std.specs.List.Sorted.{IsPermutation}
@@ -26,7 +26,7 @@ use Rattle.register_sql.specs.Shown.{shown_spot, shown_line, shown_term}
 use Rattle.register_sql.specs.declared.queries.Query.TheVariants.{Spots, Lines, Terms}
 use Rattle.register_sql.proofs.Contents.{unmapped}
 
--- ---- one row more
+-- ---- one more row
 
 pub more_spots : (spots : List NewSpot) (s : NewSpot) (row : Row) → spot_cells (spot_row s) ≡ row
     → spots_shown (spots ++ s ∷ []) ≡ spots_shown spots ++ row ∷ []
@@ -49,7 +49,7 @@ more_terms [] loan day row is = ap (λ r. r ∷ []) is
 more_terms (k ∷ kept) loan day row is =
     ap (λ l. term_cells (record { loan = k.0; day = k.1 }) ∷ l) (more_terms kept loan day row is)
 
--- ... under a key that was not there
+-- ... under a new key
 pub keeps_line : (eq : LineKey → LineKey → Bool) (old new : List (LineKey × LineStage))
     (key : LineKey) (stage : LineStage) (row : Row) → lookup (eq key) old ≡ None
     → new ≡ insert_entry eq old key stage
@@ -144,7 +144,7 @@ found_terms kept rows held is h =
     unmapped term_cells term_back (λ x. refl) (term_rows kept) held rows
     (subst (IsPermutation (terms_shown kept)) is (IsPermutation-refl _)) h
 
--- ---- what is shown of a table
+-- ---- the columns that a query of a table returns
 
 module _ {X : Type 0} (cells : X → Row) (shown pick : Row → Row) (shows : (r : Row)
     → pick (drop 1 r) ≡ shown r) (same : (x : X) → pick (cells x) ≡ cells x) where

@@ -1,4 +1,4 @@
--- Rows whose rowids differ, and what taking some of them out leaves.
+-- Rows with different rowids, and the rest after some of them are removed.
 use Rattle.std.proofs.Common.{◌≡◌, inl, inr, ℤ, List, [], ◌∷◌, map, filter, Bool, true, false, not, ◌||◌, cond, IsTrue, refl, sym, ap, subst, ◌∙◌}
 use Rattle.std.specs.List.{AllByRecursion, IsDistinct, list_any}
 use Rattle.std.specs.Ordering.{is_eq}
@@ -130,7 +130,7 @@ any_false : {X : Type 0} (q : X → Bool) (xs : List X) → ((x : X) → Has xs 
 any_false q [] none = refl
 any_false q (y ∷ ys) none = rw (none y (inl refl), any_false q ys (λ x h. none x (inr h)))
 
--- the rows with any of these rowids go
+-- the rows with any of these rowids are removed
 abbrev gone_by : List ℤ → Row → Bool
 gone_by ids r = list_any (λ id. has_rowid id r) ids
 
@@ -188,7 +188,7 @@ same_self v = go (value_cmp v v) (value_cmp_total.antisymm v v)
     go Equal e = refl
     go Greater e = absurd (let f = e in cc)
 
--- a row is taken out where it passes the test
+-- a row is removed if it passes the test
 taken : (p : Row → Bool) (rows : List Row) → Apart rows → (r : Row) → Has rows r
     → gone_by (ids_of (filter p rows)) r ≡ p r
 taken p rows h r there = go (p r) refl
@@ -211,7 +211,7 @@ taken p rows h r there = go (p r) refl
                 ∙ ap p (sym (one_row rows h.differ r x there has same)) ∙ is in cc)
             other false same = refl
 
--- Taking out the rowids of the rows that pass, in any order, leaves those that do not.
+-- Removing the rowids of the rows that pass, in any order, leaves those that don't.
 pub left_over : (p : Row → Bool) (rows : List Row) (ids : List ℤ) → Apart rows
     → IsPermutation (ids_of (filter p rows)) ids
     → without_all rows ids ≡ filter (λ r. not (p r)) rows

@@ -1,5 +1,5 @@
--- Sorted rows whose rowids differ rise, so that what is read tells exactly whether the rowids of a
--- table differ.
+-- Sorted rows with different rowids rise, so the rows that were read show exactly whether a table's
+-- rowids differ.
 use Rattle.std.proofs.Common.{Result, Ok, Err, IfOk, zero, suc, ◌-◌, ◌≤◌, length, slice_index_or, ◌≡◌, ◌<◌, ◌+◌, ℕ, List, [], ◌∷◌, map, Bool, true, false, IsTrue, refl, sym, ap, subst, ◌∙◌, arith}
 use Rattle.std.specs.Bool.{Decides}
 use Rattle.std.specs.List.{AllByRecursion, IsDistinct}
@@ -30,7 +30,7 @@ use Rattle.register_sql.proofs.Rising.{here, apart_read, apart_unmade, shows_fir
 pub never : {P : Type 0} → ¬ P → Decides false P
 never not = ((λ f. absurd (let e : false ≡ true = f in cc)), λ p. absurd (not p))
 
--- of two rows whose rowids differ the one that isn't above is below
+-- of two rows whose rowids differ, the one that isn't greater is smaller
 below : (a b : Row) → HasNumber a → HasNumber b → same_id a b ≡ false → is_lt (id_cmp b a) ≡ false
     → IsBelow a b
 below a b one two differ up = (
@@ -83,7 +83,7 @@ sorted_rise rows up apart k d low =
     (subst (λ i. same_id (slice_index_or rows k d) (slice_index_or rows i d) ≡ false) next
     (next_differs rows k d apart.differ (omega (arith, low)))) (up k d (omega arith) low)
 
--- a row that isn't below the next one
+-- a row that isn't smaller than the next one
 default_free : (rows : List Row) (i : ℕ) (d e : Row) → i < length rows
     → slice_index_or rows i d ≡ slice_index_or rows i e
 default_free [] i d e low = absurd (omega (arith, low))
@@ -107,7 +107,7 @@ first_has_id [] first low is apart = absurd (omega (arith, low))
 first_has_id (x ∷ xs) first low is apart =
     subst HasId (sym is) (id_in (rowid x), int_is (rowid x) apart.ints.0)
 
--- ---- and so of the store's queries
+-- ---- the same for the store's queries
 
 ints_shown : (shown : Row → Row) → ((r : Row) → rowid (shown r) ≡ rowid r) → (rows : List Row)
     → AreNumbered rows → AreNumbered (map shown rows)

@@ -1,4 +1,4 @@
--- What each query of the store means, and shows.
+-- The meaning of each query of the store, and the columns that it returns.
 use Rattle.std.proofs.Common.{◌≡◌, ◌≤◌, ℕ, zero, suc, List, [], ◌∷◌, codes, map, true, false, Ok, Err, Result, IfOk, OnOk, Vec, refl, sym, subst, ◌∙◌, arith}
 use Rattle.std.specs.List.Sorted.{IsPermutation}
 use Rattle.std.specs.declared.alloc.Global.{Global}
@@ -228,7 +228,7 @@ shows_is PostingIds = refl
 shows_is LineIds = refl
 shows_is TermIds = refl
 
--- what is read is what the table shows
+-- the rows that are read are those that the table shows
 pub rows_read : (query : Query) (made : ℕ) → least_of query ≤ made → made ≤ 6
     → (old new : State) (r : Result (Vec Row Global) Error) → old.now.schema ≡ prefix made
     → IfOk r (λ rows. Shown (text_of query) [] old new rows.items)

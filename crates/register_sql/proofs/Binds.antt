@@ -1,4 +1,4 @@
--- What a store says of itself is what its rows say, and being bound changes these as a register
+-- The store's information about itself is that of its rows, and binding changes these as a register
 -- promises.
 use Rattle.std.proofs.Common.{◌≡◌, ◌≢◌, ◌≤◌, ℕ, zero, suc, pos, List, [], ◌∷◌, ◌++◌, length, map, drop, reverse, slice_index_or, codes, Bool, true, false, not, ◌&&◌, ◌||◌, Ok, Err, Result, IfOk, IfErr, refl, sym, ap, subst, ◌∙◌, arith, append-nil}
 use Rattle.std.specs.Bool.{Decides}
@@ -42,7 +42,7 @@ use Rattle.register_sql.proofs.Removed.{map_twice}
 use Rattle.register_sql.proofs.Rising.{here, part_same}
 use Rattle.register_sql.proofs.Setups.{numbered_are}
 
--- ---- what is read of `meta`
+-- ---- reading `meta`
 
 pick : Row → Row
 pick r = column r 0 ∷ column r 1 ∷ []
@@ -133,7 +133,7 @@ any_at (r ∷ rows) (suc k) row low is fit =
     last true h = refl
     last false h = h
 
--- and back, of rows that have the cells of `meta`
+-- and the other way round, for rows that have the cells of `meta`
 other_at : (m : MetaRow) → other (meta_cells m) ≡ true → IsOther (meta_cells m)
 unfolding other
 other_at m fit =
@@ -175,7 +175,7 @@ none_other rows ms held none = go (list_any other rows) refl
     go true is = absurd (none (found_in rows (all-permutation _ _ _ held (each ms)) is))
     go false is = sym (others_are ms) ∙ list_any-IsPermutation other _ rows held ∙ is
 
--- the store is refused for what it says
+-- the store is rejected because of its rows about itself
 pub told_other : (S : Museum) (made : ℕ) → 1 ≤ made → (db : Trees) (rows : List Row)
     → IsPermutation (shown_in Metas db) rows → IsIdentity rows told.OtherVersion → (c : Content)
     → HasPart made db c → IsBindFault S c OtherVersion
@@ -196,7 +196,7 @@ told_damaged S made some db rows read is c held =
           (IsPermutation-map meta_cells _ _ whole.2) metas),
     )
 
--- a store that says nothing of itself
+-- a store without rows about itself
 pub told_new : (db : Trees) (rows : List Row) → IsPermutation (shown_in Metas db) rows
     → IsIdentity rows told.New → db 0 ≡ []
 told_new db rows read is = none (db 0) (subst (IsPermutation (shown_in Metas db)) is read)
@@ -248,7 +248,7 @@ other_setup S made some db rows depth read is differs c held = (
 
 -- ---- bound
 
--- what a database is known to hold it holds as a store of so many tables
+-- a database that is known to hold these rows holds them as a store of this many tables
 pub part_of : (made : ℕ) → made ≤ 6 → (db : Trees) → IsSound (prefix made) db → (c : Content)
     → IsStored db c → HasPart made db c
 part_of made few db sound c q =
@@ -330,7 +330,7 @@ bound_old S depth old new rows part read is has apart same =
       };
     }
 
--- the rows that a new store then holds
+-- the rows of a new store after binding
 made_rows : (S : Museum) (made : ℕ) (db next : Trees) (c : Content) → had 1 made (db 0) ≡ []
     → HasPart made db c → MakesWhole made (setup_from 1 (setup_rows S)) (rows_of_meta 12) db next
     → AreRows next (record c { setup = rows_of_setup S; meta = rows_of_meta 12 })
@@ -351,7 +351,7 @@ new_takes : (S : Museum) (c : Content) → c.meta ≡ []
     → bound_to S c ≡ record c { setup = rows_of_setup S; meta = rows_of_meta 12 }
 new_takes S c none = ap (λ ms. bound_by (is_new ms) S c) none
 
--- what comes of a store that says nothing of itself
+-- binding a store without rows about itself
 module _ (S : Museum) (made : ℕ) (few : made ≤ 6) (old : State) (part : IsPart made old)
     (none : had 1 made (old.now.trees 0) ≡ []) (apart : AreApart made old.now.trees)
     (next : Trees) (makes : MakesWhole made (setup_from 1 (setup_rows S)) (rows_of_meta 12)
@@ -505,7 +505,7 @@ module _ (S : Museum) (made : ℕ) (few : made ≤ 6) (old mid new : State) (tex
 pub is_six : (made : ℕ) (s : State) → made ≤ 6 → 6 ≤ made → IsPart made s → IsPart 6 s
 is_six made s few many part = let six : made ≡ 6 = omega arith in subst (λ k. IsPart k s) six part
 
--- ---- what was told of the store decides
+-- ---- the rows about the store decide
 
 pub new_there : (made : ℕ) → 1 ≤ made → (old mid : State) → IsSame old mid → (rows : List Row)
     → IsPermutation (shown_in Metas old.now.trees) rows → IsIdentity rows told.New

@@ -1,4 +1,4 @@
--- A store may begin as a file of one page that lists no table.
+-- A new store may be a file of one page, without a table.
 use Rattle.std.proofs.Common.{◌≡◌, ℕ, List, [], Some, true, length, take, inl, inr, refl, sym, ap, subst, ◌∙◌, arith, ne_eqb, take_all}
 use Rattle.std.proofs.Math.Path.{fun_ext}
 use Rattle.std.proofs.lemmas.Bool.{cases_eq}
@@ -29,7 +29,7 @@ use Rattle.register_sql.specs.Runs.{IsFoundIn}
 use Rattle.register_sql.specs.Stores.{no_rows}
 use Rattle.register_sql.proofs.Runs.{empty_rows}
 
--- a page as the kit lays out the first one, 512 bytes long, and a log with no header
+-- a page as `sqlite_pool` lays out the first one, 512 bytes long, and a log without a header
 module _ (page header log : List ℕ) (len : length page ≡ 512) (first : IsFirstPage page header)
     (ignored : IsIgnored log) where
   as_stored : raw.Recovers 512 (record { log = log; db = page }) (only_page page)
@@ -119,13 +119,13 @@ module _ (page header log : List ℕ) (len : length page ≡ 512) (first : IsFir
         ),
       )
 
-  -- a store that is opened on them has no row
+  -- a store opened on these files has no rows
   pub blank_has : (store : Holding) → IsFoundIn (record { log = log; db = page }) store
       → Has store (λ c. c ≡ no_rows)
   blank_has store found = empty_rows blank_holds.0 store blank_holds.2
       (found.held blank_holds.0 blank_holds.1)
 
--- the page that the kit itself lays out for a new file, at this size
+-- the page that `sqlite_pool` lays out for a new file, at this size
 pub new_page : List ℕ
 new_page = first_page 512
 
@@ -158,7 +158,7 @@ new_first =
       empty = leaf.1;
     }
 
--- a store whose files were that page and a log with no header, as it is where the log is missing
+-- a store whose files were that page and a log without a header, as when the log is missing
 pub new_page_has : (log : List ℕ) → IsIgnored log → (store : Holding)
     → IsFoundIn (record { log = log; db = new_page }) store → Has store (λ c. c ≡ no_rows)
 new_page_has log ignored = blank_has new_page (take 100 new_page) log new_long new_first ignored

@@ -52,7 +52,7 @@ few_values key at [] (v ∷ vs) h = absurd (let e : false ≡ true = h in cc)
 few_values key at (c ∷ cs) (v ∷ vs) h =
     omega (arith, few_values key (at + 1) cs vs (and_parts _ (are_typed key (at + 1) cs vs) h).1)
 
--- a column that isn't NULL is there
+-- a column that isn't NULL exists
 reaches : (r : Row) (n : ℕ) → not (is_null (column r n)) ≡ true → n < length r
 reaches [] n there = absurd (let e : false ≡ true = there in cc)
 reaches (v ∷ r) zero there = omega arith
@@ -90,7 +90,7 @@ row_is (v ∷ r) key cs n len typed last =
 same_cells : {a b : Value} {r t : Row} → a ≡ b → r ≡ t → a ∷ r ≡ b ∷ t
 same_cells p q = cc
 
--- the cells that the rules of a table want
+-- the cells that the rules of a table need
 pub record IsRight (table : Table) (r : Row) : Type 0 where
   pub typed : are_typed table.key 0 table.columns (drop 1 r) ≡ true
   pub present : are_present table.key 0 table.columns r ≡ true

@@ -1,4 +1,4 @@
--- A sound store holds some rows, and no others but for their order.
+-- A sound store holds exactly one set of rows, in some order.
 use Rattle.std.proofs.Common.{zero, suc, ◌≡◌, ◌≤◌, ℕ, List, [], ◌∷◌, length, map, drop, true, refl, sym, ap, subst, ◌∙◌, arith}
 use Rattle.std.specs.List.{AllByRecursion}
 use Rattle.std.specs.List.Sorted.{IsPermutation}
@@ -19,7 +19,7 @@ use Rattle.register_sql.specs.Rows.{setup_cells, meta_cells, posting_cells, spot
 use Rattle.register_sql.specs.Tables.{meta, setup, posting, spot, line, term, prefix}
 use Rattle.register_sql.proofs.Cells.{IsRight, meta_read, setup_read, posting_read, spot_read, line_read, term_read}
 
--- each row of a table is read, if the rules of a database hold of it
+-- each row of a table can be read, if the rules of a database hold for it
 module _ (schema : Schema) (db : Trees) (table : Table) {X : Type 0} (part : Row → Row) (cells : X
     → Row) (Known : Row → Type 0)
     (reads : (r : Row) → Known r → IsRight table r → (x : X) × (part r ≡ cells x)) where
@@ -43,7 +43,7 @@ all_known : (rows : List Row) → AllByRecursion (λ _. Unit {0}) rows
 all_known [] = tt
 all_known (r ∷ rows) = (tt, all_known rows)
 
--- the rows of a store of the first so many tables, each in the order of its table
+-- the rows of a store of the first `made` tables, each in the order of its table
 record AreRead (made : ℕ) (db : Trees) : Type 0 where
   meta : (xs : List MetaRow) × (map meta_cells xs ≡ map (drop 1) (had 1 made (db 0)))
   setup : (xs : List SetupRow) × (map setup_cells xs ≡ had 2 made (db 2))
@@ -187,14 +187,14 @@ are_read (suc (suc (suc (suc (suc (suc zero)))))) few db sound ids numbers =
 are_read (suc (suc (suc (suc (suc (suc (suc made))))))) few db sound ids numbers =
     absurd (omega (arith, few))
 
--- a sound store whose setup and postings are numbered holds some rows
+-- a sound store holds some rows if its setup and its postings are numbered
 pub content_in : (made : ℕ) → made ≤ 6 → (db : Trees) → IsSound (prefix made) db
     → AreNumbered (had 2 made (db 2)) → AreNumbered (had 3 made (db 3))
     → (c : Content) × HasPart made db c
 content_in made few db sound ids numbers =
     read_content made db (are_read made few db sound ids numbers)
 
--- ---- no others
+-- ---- and no others
 
 pub unmapped : {X : Type 0} (cells : X → Row) (back : Row → X) → ((x : X) → back (cells x) ≡ x)
     → (xs ys : List X) (rows : List Row) → IsPermutation (map cells xs) rows
@@ -258,7 +258,7 @@ pub one_prefix : (j k : ℕ) → j ≤ 6 → k ≤ 6 → (db : Trees) → IsSoun
 one_prefix j k few less db p q = sym (count_is j few) ∙ AllZip-long _ _ _ p.lists.listed.tables
     ∙ sym (AllZip-long _ _ _ q.lists.listed.tables) ∙ count_is k less
 
--- so what a database is known to hold it holds as a store
+-- so a database that is known to hold these rows holds them as a store
 pub same_stored : (made : ℕ) → made ≤ 6 → (db : Trees) → IsSound (prefix made) db → (c d : Content)
     → HasPart made db c → IsStored db d → AreSame c d
 same_stored made few db sound c d p q =

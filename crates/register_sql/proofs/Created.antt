@@ -1,4 +1,4 @@
--- The tables are made in turn, each empty, and those before are left alone.
+-- The tables are created in turn, each empty, and those before stay as they were.
 use Rattle.std.proofs.Common.{◌≡◌, ◌<◌, ◌+◌, ℕ, zero, suc, List, [], Ok, Err, Result, None, OnOk, refl, sym, ap, subst, ◌∙◌, arith}
 use Rattle.sqlite.proofs.Callers.{statement_of, runs_as}
 use Rattle.sqlite.specs.Change.{next_tree, created, KeepsRows}

@@ -1,4 +1,4 @@
--- What the texts mean that make the tables one after another.
+-- The meaning of the statements that create the tables, one after another.
 use Rattle.std.proofs.Common.{◌≡◌, List, ℕ, false, Ok, refl}
 use Rattle.sqlite.specs.Table.{Table}
 use Rattle.sqlite.specs.Schema.{Schema}
@@ -13,7 +13,7 @@ use Rattle.std.specs.Fmt.{digits}
 use Rattle.register_sql.specs.Making.{create_of}
 use Rattle.register_sql.specs.Tables.{meta, setup, posting, spot, line, term, prefix}
 
--- a text that makes a table where there is none of that name
+-- a statement that creates a table if there is none of that name
 pub record IsCreate (text : List ℕ) (schema after : Schema) (table : Table) : Type 0 where
   pub command : command_of (understood schema text) ≡ CreateTable
   pub plain : IsPlain (understood schema text)

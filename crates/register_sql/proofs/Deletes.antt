@@ -1,4 +1,4 @@
--- What each DELETE of the store takes out.
+-- The rows that each DELETE of the store removes.
 use Rattle.std.proofs.Common.{◌≡◌, ℕ, ℤ, List, [], ◌∷◌, map, filter, drop, Bool, true, false, not, ◌&&◌, unwrap_or, Some, Ok, refl, sym, ap, ◌∙◌}
 use Rattle.std.specs.Bool.{Decides}
 use Rattle.std.specs.List.Sorted.{IsPermutation}
@@ -26,7 +26,7 @@ use Rattle.register_sql.proofs.Apart.{filter_same}
 use Rattle.register_sql.proofs.Removed.{removed, has_key}
 use Rattle.register_sql.proofs.Texts.{delete_setup, setup_key, delete_setup_is, delete_setup_plain, delete_line, line_key, delete_line_is, delete_line_plain, delete_term, term_key, delete_term_is, delete_term_plain}
 
--- as SQL compares two texts, and two numbers
+-- comparing two texts, and two numbers, as SQL does
 either_way : (b : Bool) → unwrap_or (truth (from_truth (Some b))) false ≡ b
 either_way true = refl
 either_way false = refl
@@ -62,7 +62,7 @@ text_test a l = ap is_eq (value_cmp-Text a l) ∙ is_eq-slice_cmp a l ∙ mirror
 number_test : (a l : ℤ) → is_eq (value_cmp (Int a) (Int l)) ≡ int_eq l a
 number_test a l = ap is_eq (value_cmp-Int a l) ∙ mirrored int_eq Decides-int_eq a l
 
--- the key of a row, whose rowid it does not read
+-- whether a row has the key, by its cells without the rowid
 abbrev pub tail_key : List Term → Row → Row → Bool
 tail_key key params t = has_key key params (Null ∷ t)
 
@@ -98,7 +98,7 @@ term_test t u = rw (
   true_last (bytes_eq t.loan u.loan),
 )
 
--- what is left of the rows of a table is what is left of the rows that it holds
+-- removing rows from a table removes the same rows from the content
 fewer : {X : Type 0} (cells : X → Row) (test : X → Bool) (goes tail : Row → Bool)
     → ((x : X) → tail (cells x) ≡ test x) → ((r : Row) → goes r ≡ tail (drop 1 r))
     → (xs : List X) (rows : List Row) → IsPermutation (map cells xs) (map (drop 1) rows)

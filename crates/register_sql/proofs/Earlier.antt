@@ -1,4 +1,4 @@
--- The first entry that version 1 doesn't know, and why the entries of such a store can't be listed.
+-- The first entry that version 1 can't have, and why the entries of such a store can't be listed.
 use Rattle.std.proofs.Common.{◌<◌, ◌+◌, ◌≡◌, ◌≢◌, ℕ, List, length, map, reverse, take, drop, get_or, true, false, sym, ap, subst, ◌∙◌, arith, All}
 use Rattle.std.specs.List.Sorted.{IsPermutation, IsSorted}
 use Rattle.std.proofs.lemmas.List.{length-take-le}
@@ -21,12 +21,12 @@ use Rattle.register_sql.specs.declared.queries.Query.TheVariants.{Postings}
 use Rattle.register_sql.proofs.Postings.{back, taken_shown, default_free, same_length, in_order}
 use Rattle.register_sql.proofs.Removed.{map_twice}
 
--- a row that keeps no entry at all keeps none of version 1
+-- a row that is no entry at all is no entry of version 1
 pub wrong_early : (stations number : ℕ) (p : PostingRow) → IsWrongRow stations number p
     → IsWrongEarly stations number p
 wrong_early stations number p wrong e keeps known = wrong e keeps known.stationed
 
--- the one entry that the row keeps isn't of version 1
+-- a row is wrong if its only entry isn't of version 1
 pub late_is_wrong : (stations number : ℕ) (e : Entry) (p : PostingRow) → IsPostingRow number e p
     → is_early e ≡ false → IsWrongEarly stations number p
 late_is_wrong stations number e p keeps late f other known =

@@ -20,7 +20,7 @@ kept_then a b c p q = record {
   committed = λ up. q.committed up ∙ p.committed (q.was_open up);
 }
 
--- `transaction` does nothing to the store
+-- `transaction` itself does nothing to the store
 pub kept_begin : {S : Type 0} (g : Ghosts S) (old : Held S) (new : State)
     → KeepsCommit (state g (record old { in_transaction = true })) new
     → KeepsCommit (state g old) new
@@ -114,7 +114,7 @@ drop_next l j d low = let one : suc j ≡ j + 1 = omega arith in
 
 -- ---- the end
 
--- the commit is made
+-- the commit succeeds
 pub done_by_commit : {T : Type 0} (old mid new : State) (change : Content → Content)
     (r : Result T Error) → KeepsCommit old mid → Makes old mid change
     → OnOk r (IsTrue mid.in_transaction × Shows mid new mid.now mid.now false × KeepsCounts mid new
@@ -131,7 +131,7 @@ done_by_commit old mid new change (Ok x) kept makes ok =
       committed = shown.committed_is ∙ sym shown.now_is;
     }
 
--- a crash leaves what it could leave before, or what the transaction held as it was committed
+-- a crash leaves either what it could leave before, or the rows that were committed
 pub survives_whole : {S : Type 0} (g : Ghosts S) (old : Held S) (mid new : State) (Posted : Trees
     → Type 0) → Survives (state g (record old { in_transaction = true })) mid (λ _. ⊥)
     → Survives mid new (λ db. db ≡ mid.now.trees) → (HasCleanDisk mid → Posted mid.now.trees)

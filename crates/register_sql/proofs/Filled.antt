@@ -1,4 +1,4 @@
--- What emptying and filling the setup, and what the store says of itself, does to the tables.
+-- The effect on the tables of emptying and filling the setup and the rows about the store.
 use Rattle.std.proofs.Common.{◌≡◌, ℕ, List, [], ◌∷◌, ◌++◌, map, filter, drop, true, false, Ok, Err, Result, OnOk, IsTrue, refl, sym, ap, subst, ◌∙◌, arith, append-nil}
 use Rattle.std.specs.List.Sorted.{IsPermutation}
 use Rattle.std.proofs.lemmas.List.Sorted.{IsPermutation-refl, IsPermutation-sym, IsPermutation-trans, IsPermutation-append, IsPermutation-map, IsPermutation-middle, IsPermutation-cons}
@@ -21,7 +21,7 @@ use Rattle.register_sql.proofs.Ends.{on_ok, survives_whole}
 use Rattle.register_sql.proofs.Inserts.{adds_meta, adds_setup, meta_params, setup_params}
 use Rattle.register_sql.proofs.Texts.{insert_meta, insert_setup, delete_setup}
 
--- a statement that goes well keeps the transaction going over all tables
+-- a statement that succeeds keeps the transaction going over all tables
 module _ (text : List ℕ) (given params : Row) (Step : Trees → Trees → Type 0) (old new : State)
     (made : IsMade 6 old) (is : given ≡ params)
     (step : (count : ℕ) → IsTrue old.is_open → Executes text params old new (Ok count)

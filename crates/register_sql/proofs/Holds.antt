@@ -1,4 +1,4 @@
--- What a register over a connection may hold comes from what it may have held.
+-- The rows that a register over a connection may hold come from those that it may have held.
 use Rattle.std.proofs.Common.{◌≡◌, ◌⊎◌, inl, inr, ℕ, true, false, IsTrue, refl, sym, ap, subst, ◌∙◌, arith, Err, List, [], ◌∷◌, map}
 use Rattle.std.proofs.Math.Logic.{∥∥₁_elim}
 use Rattle.std.specs.List.Sorted.{IsPermutation}
@@ -24,7 +24,7 @@ use Rattle.register_sql.specs.Tables.{hub_schema, prefix}
 use Rattle.register_sql.proofs.Binds.{part_of, same_all}
 use Rattle.register_sql.proofs.Contents.{same_part}
 
--- what a store promises of what a crash leaves
+-- the promises of a store about the rows after a crash
 pub record Laws (s : State) : Type 0 where
   pub settled : (db : Trees) → IsTrue s.is_open → s.may_leave db → db ≡ s.committed.trees
   pub stays : IsTrue s.is_open → s.may_leave s.committed.trees
@@ -33,7 +33,7 @@ pub record Laws (s : State) : Type 0 where
 abbrev pub Holds : State → Content → Type 0
 Holds s c = (db : Trees) × s.may_leave db × IsStored db c
 
--- an open store may hold what it shows, and nothing else
+-- an open store may hold the rows that it shows, and no others
 pub shown_held : (s : State) → Laws s → IsSettled s → (c : Content)
     → IsStored s.now.trees c → Holds s c
 shown_held s laws up c stored = (
@@ -64,7 +64,7 @@ held_rows s laws ready c held =
     part_of 6 (omega arith) s.now.trees (whole_sound s ready) c
     (held_shown s laws (open_ready s ready) c held)
 
--- what a later opening of it may find has all six tables
+-- every database that a later opening may find has all six tables
 pub ready_left : (s : State) → Laws s → IsReady s → (db : Trees) → s.may_leave db
     → IsSound hub_schema db
 ready_left s laws ready db left =
@@ -108,7 +108,7 @@ still_comes s = record {
   from = λ clean d held. (d, held, same_all d);
 }
 
--- what is read of the shown rows is true of each content that the store may hold
+-- a fact read from the shown rows is true of each content that the store may hold
 pub each_read : (old new : State) (Q : Content → Type 0) → Laws new
     → (HasCleanDisk new → HasCleanDisk old) → (HasCleanDisk old → IsReady old)
     → (HasCleanDisk new → IsSame old new)
@@ -324,7 +324,7 @@ still_unbound S fault s fails =
       from = λ clean d held. (d, held, (failure_cause S d fault fails, inl (same_all d)));
     }
 
--- ---- the count of refusals
+-- ---- the count of Store faults
 
 pub counts : (T : Type 0) (refusals : ℕ) (fault : StoreFault)
     → CountsRefusal {T = T} refusals (counted refusals fault) (Err fault)

@@ -1,4 +1,4 @@
--- What each INSERT of the store adds.
+-- The row that each INSERT of the store adds.
 use Rattle.std.proofs.Common.{◌≡◌, ℕ, [], ◌∷◌, Ok, refl}
 use Rattle.sqlite.specs.Edit.{next_rowid}
 use Rattle.sqlite.specs.Order.{Row}

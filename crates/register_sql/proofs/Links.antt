@@ -1,4 +1,4 @@
--- What is true of a register's connection after a call.
+-- Facts about a register's connection after a call.
 use Rattle.std.proofs.Common.{◌≡◌, ℕ, Bool, true, false, Option, None, Some, IfSome, refl, sym, subst, ◌∙◌, arith, Ok, Err, Result, IfOk, IfErr}
 use Rattle.std.proofs.lemmas.Option.{none-some}
 use Rattle.nest_core.specs.Museum.{Museum}
@@ -18,7 +18,7 @@ use Rattle.register_sql.specs.Rows.{AreRows}
 use Rattle.register_sql.specs.Stores.{in_store, IsKept}
 use Rattle.register_sql.proofs.Holds.{Laws, each_read}
 
--- ---- it goes on being kept
+-- ---- the connection's invariant stays true
 
 pub stopped_kept : (s : State) (bound : Bool) (stopped : Option Error) (error : Error)
     → s.in_transaction ≡ false → stopped ≡ Some error → IsKept s bound stopped
@@ -88,7 +88,7 @@ ready_part s ready = record {
   sound = ready.whole.sound;
 }
 
--- ---- what was read is so of each content that the store may hold
+-- ---- the rows that were read are those of each content that the store may hold
 
 module _ (old new : State) (stopped : Option Error) (kept : IsKept old true stopped)
     (none : stopped ≡ None) (survives : Survives old new (λ _. ⊥)) (same : HasCleanDisk new

@@ -1,4 +1,4 @@
--- What a SELECT of a table in the order of its rowids answers.
+-- The result of a SELECT of a table in the order of its rowids.
 use Rattle.std.proofs.Common.{◌≡◌, ◌<◌, ◌+◌, ℕ, List, [], ◌∷◌, length, get_or, map, false, Ok, Err, Result, IfOk, OnOk, Vec, arith, is_lt, refl, sym, ap, subst, ◌∙◌}
 use Rattle.std.specs.List.{AllByRecursion, flat_map}
 use Rattle.std.specs.List.Sorted.{IsPermutation, IsSorted}
@@ -30,7 +30,7 @@ singles : {A B : Type 0} (f : A → B) (rows : List A) → flat_map (λ r. f r �
 singles f [] = refl
 singles f (r ∷ rows) = ap (λ l. f r ∷ l) (singles f rows)
 
--- what a query shows of one row
+-- the columns that a query returns of one row
 abbrev pub shows_of : Query → Row → Row
 shows_of q r = (output q ([] ∷ r ∷ [])).1
 
@@ -53,7 +53,7 @@ all_answered t project db rows a =
 abbrev IsKeyed : Output → Type 0
 IsKeyed o = column o.0 0 ≡ column o.1 0
 
--- where the rowid is shown first, the rows come in its order
+-- if the rowid is the first column, the rows come in its order
 module _ (t : ℕ) (project : List Term) where
   rows_sorted : (outs : List Output) → AllByRecursion IsKeyed outs
       → IsSorted (output_cmp (ordered_by_rowid t (col 1 0 ∷ project))) outs

@@ -1,4 +1,4 @@
--- What a store says of its version decides whether it is migrated, and what it then holds.
+-- The version of a store decides whether it is migrated, and which rows it then has.
 use Rattle.std.proofs.Common.{◌≡◌, ◌≢◌, inl, inr, ◌≤◌, ℕ, zero, suc, List, [], ◌∷◌, length, map, reverse, Bool, true, false, All, Ok, Err, Result, IfOk, OnOk, refl, sym, ap, subst, ◌∙◌, arith}
 use Rattle.std.specs.Bool.{Decides}
 use Rattle.std.specs.List.{AllByRecursion}
@@ -48,7 +48,7 @@ given_are_of_looking_back S depth (e ∷ P) lawful =
     next_terms S depth P e (days_given P) lawful.0 lawful.1
     (given_are_of_looking_back S depth P lawful.1)
 
--- ---- no row says a version
+-- ---- no row has a version
 
 all_lack : (v : ℕ) (rows : List Row) → LacksRow v rows
     → AllByRecursion (λ r. r ≢ meta_cells (version_row v)) rows
@@ -88,7 +88,7 @@ lacks_out : (v : ℕ) (ms : List MetaRow) (rows : List Row) → IsPermutation (m
     → Lacks v ms → LacksRow v rows
 lacks_out v ms rows held h = each_lacks v rows (all-permutation _ _ _ held (rows_lack v ms h))
 
--- ---- what is said decides
+-- ---- the version decides
 
 no_table : (S : Museum) (db : Trees) (c : Content) → HasPart 0 db c
     → IsMigrateFault S c OtherVersion
@@ -224,7 +224,7 @@ second_as made some few old new rows part same read is S =
           c (part_of made few old.now.trees (sound_in made old part) c held);
     })
 
--- ---- what the transaction made
+-- ---- the rows that the transaction writes
 
 module _ (S : Museum) (entries : List Entry) (old : State) (is : IsRaisable S old)
     (listed : (c : Content) → HasPart 5 old.now.trees c → HasList (reverse entries) c)

@@ -1,4 +1,4 @@
--- A migration changes what a store may hold as a register promises.
+-- A migration changes the content of a store as a register promises.
 use Rattle.std.proofs.Common.{◌≡◌, inl, inr, Bool, true, false, Option, None, Ok, Err, Result, IfErr, OnOk, sym, subst, ◌∙◌, arith}
 use Rattle.std.proofs.Math.Logic.{∥∥₁_elim}
 use Rattle.nest_core.specs.Museum.{Museum}
@@ -143,7 +143,7 @@ still_unmoved S fault s fails =
       from = λ clean d held. (d, held, (failure_cause S d fault fails, inl (same_all d)));
     }
 
--- ---- what is true of the connection after a migration
+-- ---- facts about the connection after a migration
 
 -- an answer, whether the store is of version 2 now or nothing was changed
 pub answer_kept : {X : Type 0} (S : Museum) (old new : State) (P : Trees → Type 0) (bound : Bool)

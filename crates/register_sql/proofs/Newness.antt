@@ -1,4 +1,4 @@
--- Whether a store is new is what its rows of `meta` say.
+-- Whether a store is new depends on its rows of `meta`.
 use Rattle.std.proofs.Common.{◌≡◌, ◌≢◌, ◌≤◌, ◌<◌, ℕ, List, [], length, map, true, false, Bool, refl, ap, subst, sym, ◌∙◌, arith}
 use Rattle.std.specs.Bool.{Decides}
 use Rattle.std.specs.List.Sorted.{IsPermutation}
@@ -23,7 +23,7 @@ new_without_tables old part c stored =
     part_of 0 (omega arith) old.now.trees (sound_in 0 old part) c stored in
     (λ _. ap is_new (none_new c.meta held.meta), λ _. refl)
 
--- one that says nothing
+-- a store without rows about itself
 pub new_by : (made : ℕ) → 1 ≤ made → made ≤ 6 → (old : State) (rows : List Row) → IsPart made old
     → IsPermutation (shown_in Metas old.now.trees) rows → rows ≡ []
     → (c : Content) → IsStored old.now.trees c → Decides true (is_new c.meta ≡ true)
@@ -36,7 +36,7 @@ new_by made some few old rows part read none c stored =
       λ _. refl,
     )
 
--- one that says something
+-- a store with rows about itself
 pub old_by : (made : ℕ) → 1 ≤ made → made ≤ 6 → (old : State) (rows : List Row) → IsPart made old
     → IsPermutation (shown_in Metas old.now.trees) rows → rows ≢ []
     → (c : Content) → IsStored old.now.trees c → Decides false (is_new c.meta ≡ true)
@@ -47,7 +47,7 @@ old_by made some few old rows part read other c stored =
     some_old c.meta rows other (metas_read made some old.now.trees c rows held read) in
     (λ is. absurd (let e = is in cc), λ is. sym no ∙ is)
 
--- what says something has a row
+-- a store with rows about itself has a row
 pub says_some : (rows : List Row) (t : Identity) → IsIdentity rows t → t ≢ told.New → rows ≢ []
 says_some rows told.New is other none = other refl
 says_some rows told.OtherVersion is other none =

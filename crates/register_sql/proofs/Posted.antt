@@ -1,4 +1,4 @@
--- What the statements of a posting do to the rows that a store holds.
+-- The effect of a posting's statements on the rows that a store holds.
 use Rattle.std.proofs.Common.{◌≡◌, ℕ, List, ◌∷◌, map, drop, false, Ok, Err, Result, OnOk, refl, sym, subst, ◌∙◌, arith}
 use Rattle.std.specs.List.Sorted.{IsPermutation}
 use Rattle.std.proofs.lemmas.List.Sorted.{IsPermutation-trans, IsPermutation-cons, IsPermutation-map}
@@ -17,7 +17,7 @@ use Rattle.register_sql.proofs.Deletes.{removes_line, removes_term, fewer_lines,
 use Rattle.register_sql.proofs.Inserts.{adds_posting, adds_spot, adds_line, adds_term, posting_params, spot_params, line_params, term_params}
 use Rattle.register_sql.proofs.Texts.{insert_posting, insert_spot, insert_line, insert_term, delete_line, delete_term}
 
--- a row more in one table, of which the others see nothing
+-- one more row in one table, which the others don't have
 more : {X : Type 0} (cells : X → Row) (x : X) (xs : List X) (id : Value) (rows next : List Row)
     → IsPermutation ((id ∷ cells x) ∷ rows) next
     → IsPermutation (map cells xs) (map (drop 1) rows)
@@ -76,7 +76,7 @@ spot_added r id db next whole it =
       },
     )
 
--- what is left of a whole store where its lines alone change
+-- the rest of a whole store if only its lines change
 lines_changed : (change : List LineRow → List LineRow) (db next : Database) → IsWhole db
     → next.schema ≡ db.schema → IsDatabase next → Spares 7 db.trees next.trees
     → Apart (next.trees 7) → ((ls : List LineRow)
@@ -101,7 +101,7 @@ lines_changed change db next whole schema sound same apart held =
       },
     )
 
--- and where its last days alone change
+-- and if only its last days change
 terms_changed : (change : List TermRow → List TermRow) (db next : Database) → IsWhole db
     → next.schema ≡ db.schema → IsDatabase next → Spares 9 db.trees next.trees
     → Apart (next.trees 9) → ((ts : List TermRow)
@@ -126,7 +126,7 @@ terms_changed change db next whole schema sound same apart held =
       },
     )
 
--- a statement that goes well inside the transaction keeps it going
+-- a statement that succeeds inside the transaction keeps it going
 module _ (text : List ℕ) (given params : Row) (change : Content → Content) (old new : State)
     (within : Within old)
     (is : given ≡ params) (step : (count : ℕ) → IsWhole old.now

@@ -1,4 +1,4 @@
--- What is read of the entries' rows is what a content has of them.
+-- The entries read from the rows are those that a content has.
 use Rattle.std.proofs.Common.{◌<◌, ◌≤◌, ◌+◌, ◌^◌, ◌≡◌, ◌≢◌, ℕ, zero, suc, List, [], ◌∷◌, ◌++◌, length, map, reverse, take, drop, get_or, Bool, true, false, cond, refl, sym, ap, subst, ◌∙◌, arith, is_lt, Ok, Err, Result, IfOk, IfErr, All}
 use Rattle.std.specs.List.Sorted.{IsPermutation, IsSorted, IsSortedByKey}
 use Rattle.std.specs.Ordering.{int_cmp}
@@ -78,7 +78,7 @@ unread_is_wrong stations number p few unfit e is of = unfit (record {
   body = IsUtf8-from_is_utf8 p.body (reads_utf8 p.body e.message is.reads_back);
 })
 
--- a row is shown of one posting alone
+-- a returned row is that of one posting alone
 pub one_shown : (p q : PostingRow) → posting_shown p ≡ posting_shown q → p ≡ q
 one_shown p q same =
     ap (λ (r : Row). let back : PostingRow = record {
@@ -110,7 +110,7 @@ in_order ps sorted k d low high =
     ap is_lt (sym (value_cmp-Int (get_or ps (k + 1) d).id (get_or ps k d).id)) ∙ rw (first, second)
     at (sorted k (posting_shown d) (omega (arith, low, many)) (omega (arith, high, many)))
 
--- ---- one entry more
+-- ---- one more entry
 
 pub taken_shown : (ps : List PostingRow) (rows : List Row) (i : ℕ) (row : Row) (d : PostingRow)
     → map posting_shown ps ≡ rows → i < length rows → row ≡ get_or rows i row
@@ -141,7 +141,7 @@ default_free [] i d e low = absurd (omega (arith, low))
 default_free (x ∷ xs) zero d e low = refl
 default_free (x ∷ xs) (suc i) d e low = default_free xs i d e (omega (arith, low))
 
--- the posting that the row is shown of
+-- the posting that the row is returned for
 abbrev pub back : Row → PostingRow
 back r = record {
   id = id_in (column r 0);
@@ -199,7 +199,7 @@ pub listed_all : (entries : List Entry) (rows : List Row) (ps : List PostingRow)
 listed_all entries rows ps i are high kept =
     subst (λ l. ArePostings (reverse entries) (reverse l)) (all_taken ps rows i are high) kept
 
--- ---- of a content
+-- ---- the same for a content
 
 pub listed_of : (db : Trees) (rows : List Row) (entries : List Entry)
     → IsPermutation (shown_in Postings db) rows

@@ -1,4 +1,4 @@
--- A schema of so many tables can be that prefix alone.
+-- A schema with this many tables can only be that prefix.
 use Rattle.std.proofs.Common.{◌≡◌, ◌≤◌, ℕ, zero, suc, length, refl, sym, ap, ◌∙◌, arith}
 use Rattle.sqlite.specs.Schema.{Schema}
 use Rattle.register_sql.specs.Tables.{prefix}

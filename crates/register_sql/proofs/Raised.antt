@@ -1,4 +1,4 @@
--- What the steps of a migration do to the tables, one after another.
+-- The effect of a migration's steps on the tables, one after another.
 use Rattle.std.proofs.Common.{◌≡◌, ℕ, List, [], ◌∷◌, ◌++◌, map, filter, drop, reverse, codes, true, false, Option, None, Some, Ok, Err, Result, OnOk, IsTrue, refl, sym, ap, subst, ◌∙◌, arith, append-nil}
 use Rattle.std.specs.List.Sorted.{IsPermutation}
 use Rattle.std.specs.Option.{option_map_or}
@@ -111,7 +111,7 @@ pub apart_grown : (old mid : State) → KeepsCommit old mid → Grown 5 6 old.no
     → (IsTrue old.is_open → Apart (old.now.trees 0)) → IsTrue mid.is_open → Apart (mid.now.trees 0)
 apart_grown old mid kept grown apart up = subst Apart (sym grown.meta) (apart (kept.was_open up))
 
--- the rows of a store that was raised
+-- the rows of a store after the migration
 raised_rows : (db next : Trees) → Raises db next → (c : Content) → HasPart 5 db c
     → AreRows next (record c { meta = rows_of_meta 8; terms = [] })
 raised_rows db next it c held = record {
@@ -192,9 +192,9 @@ survives_lifted g entries old mid new up first second did =
     (λ clean. leaves_lifted entries (state g old) mid (up (omega (arith, first.clean, clean)))
     (lifting_begin g entries old mid (did clean)))
 
--- ---- the last days that are given one after another
+-- ---- the last days that the entries set, one after another
 
--- those of these entries, the newest first, after others
+-- those of these entries, newest first, after others
 days_after : List Entry → List TermRow → List TermRow
 days_after [] ts = ts
 days_after (e ∷ P) ts = option_map_or (λ t. put is_same_loan t (days_after P ts)) (term_of e)
@@ -233,7 +233,7 @@ each_given (e ∷ es) c =
     ap (with_each (λ x. with_some_term (term_of x)) es) (one_given (term_of e) c) ∙ each_given es
     next ∙ ap (λ ts. let d : Content = record c { terms = ts } in d) (sym joined)
 
--- what the transaction makes is what a migration makes
+-- the change of the transaction is that of a migration
 pub lifted_is : (entries : List Entry) (c : Content)
     → lifted entries c ≡ migrated (reverse entries) c
 lifted_is entries c =

@@ -1,4 +1,4 @@
--- What a DELETE of the rows with a key does to a whole store.
+-- The effect on a whole store of a DELETE of the rows with a key.
 use Rattle.std.proofs.Common.{◌≡◌, ℕ, List, [], ◌∷◌, ◌++◌, map, filter, slice_get, Bool, true, false, not, cond, Option, Some, None, Ok, refl, sym, ap, subst, ◌∙◌}
 use Rattle.std.specs.List.{flat_map, list_all}
 use Rattle.std.specs.List.Sorted.{IsPermutation}
@@ -47,7 +47,7 @@ filtered {A} {B} p f (r ∷ rows) = go (p r) (filtered p f rows)
     go true h = ap (λ l. f r ∷ l) h
     go false h = h
 
--- the row has the key that the parameters say
+-- the row has the key in the parameters
 abbrev pub has_key : List Term → Row → Row → Bool
 has_key key params row = list_all (holds (params ∷ row ∷ [])) key
 
@@ -97,7 +97,7 @@ module _ (text : List ℕ) (params : Row) (at : ℕ) (wanted : List Term)
   abbrev command : Command
   command = Delete at (record { lets = []; body = deletes tree wanted })
 
-  -- what it goes through, in any schema
+  -- the result of a successful DELETE, in any schema
   goes_through : (limit : Option ℕ) (mode : Mode) (schema : Schema) (db : Trees) (tally : Tally)
       (after : Database)
       → OnRows (record {

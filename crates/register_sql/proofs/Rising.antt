@@ -1,5 +1,5 @@
--- Rows whose rowids rise have rowids that differ, and so do those of the tables of which they were
--- read.
+-- Rows whose rowids rise have rowids that differ, and so do those of the tables that they were read
+-- from.
 use Rattle.std.proofs.Common.{Result, Ok, Err, OnOk, zero, ◌-◌, cond, nat_lt, ltb, ltb-true, ltb-false, ◌≤◌, length, slice_index_or, ◌≡◌, ◌<◌, ◌+◌, ℕ, suc, add-one, ℤ, List, [], ◌∷◌, map, Bool, true, false, IsTrue, refl, sym, ap, subst, ◌∙◌, arith}
 use Rattle.std.specs.List.{AllByRecursion, IsDistinct}
 use Rattle.std.specs.Ordering.{is_eq}
@@ -75,7 +75,7 @@ rises x n xs is up = record {
   differ = all_differ (x ∷ xs) (all_rise (x ∷ xs) up);
 }
 
--- what a query shows with the rowids first tells that those of the table differ
+-- if a query returns the rowids first, its rows show that the table's rowids differ
 shown_ints : (shown : Row → Row) → ((r : Row) → rowid (shown r) ≡ rowid r) → (rows : List Row)
     → AllByRecursion (λ r. IsTrue (is_int (rowid r))) (map shown rows)
     → AllByRecursion (λ r. IsTrue (is_int (rowid r))) rows
@@ -143,7 +143,7 @@ next_rises rows at a b inside a_is b_is last before k d low = go (ltb (k + 1) at
         subst (λ y. IsBelow (slice_index_or rows k d) y) second
         (subst (λ x. IsBelow x b) first last)
 
--- ---- of the store's queries
+-- ---- the same for the store's queries
 
 pub shows_first : (query : Query) → shows_id query ≡ true → (r : Row)
     → rowid (shown_by query r) ≡ rowid r
@@ -173,7 +173,7 @@ gone place made rows high = go (nat_lt made place) refl
     go true is = refl
     go false is = absurd (omega (arith, ltb-false made place is, high))
 
--- what was read tells that the table's rowids differ
+-- the rows that were read show that the table's rowids differ
 pub apart_read : (query : Query) (made : ℕ) (db : Trees) (rows : List Row) → shows_id query ≡ true
     → least_of query ≤ made → IsPermutation (shown_in query db) rows → Apart rows
     → IsApartIn query made db
@@ -183,7 +183,7 @@ apart_read query made db rows first low same apart =
     (apart_moved rows (shown_in query db) (IsPermutation-sym _ _ same) apart) in
     subst Apart (sym (here (least_of query) made table low)) all
 
--- and so does a table that isn't there
+-- and so do those of a missing table
 pub apart_unmade : (query : Query) (made : ℕ) (db : Trees) → made < least_of query
     → IsApartIn query made db
 apart_unmade query made db high =

@@ -1,4 +1,4 @@
--- What a store that is opened on files has of them, and what one that is closed leaves in them.
+-- The rows of a store opened on files, and the files after a store is closed.
 use Rattle.std.proofs.Common.{◌≡◌, inl, inr, ℕ, ◌<◌, List, Option, Some, unwrap_or, length, take, slice_index, get_or-take, length-take, ◌≤◌, false, true, IsTrue, sym, ap, subst, ◌∙◌, arith, []}
 use Rattle.std.proofs.Math.Logic.{∥∥₁_elim, ∥∥₁_map}
 use Rattle.sqlite.specs.Files.{HoldsDatabase, AreFoundIn, IsNothing, IsEmpty}
@@ -28,7 +28,7 @@ use Rattle.sqlite_store.specs.declared.catalog.Wanted.{Wanted}
 use Rattle.sqlite_wal.proofs.AppendLemmas.{some_value}
 use Rattle.sqlite_wal.proofs.CreateLemmas.{begun_is_not_blank}
 
--- an open store may hold what is committed, and nothing else
+-- an open store may hold the committed rows, and no others
 pub shown_its : (s : State) → Laws s → IsTrue s.is_open → HasIts (in_store s) s.committed.trees
 shown_its s laws up = record {
   all = λ c stored. (s.committed.trees, laws.stays up, stored);
@@ -43,7 +43,7 @@ rows_alone image db store its held = record {
   alone = ∥∥₁_map held.alone (λ alone. (db, alone, its));
 }
 
--- files that read as a database aren't those in which none was made
+-- files that read as a database aren't those without one
 reads_something : (size : ℕ) (image : Image) (pages : PageMap) (wanted : List Wanted)
     → Adopts size image pages → IsOurs size true wanted pages → IsNothing image → ⊥
 reads_something size image pages wanted found ours nothing =
@@ -105,7 +105,7 @@ empty_rows db store empty its =
           (no_row _ _ part.spots) (no_row _ _ part.lines) (no_row _ _ part.terms);
     }
 
--- what an opening on the files finds, where the open store has the rows of what is committed
+-- the store is the one found in the files, if it has the committed rows
 pub found_in : (image : Image) (s : State) → FindsIn image s → HasIts (in_store s) s.committed.trees
     → IsFoundIn image (in_store s)
 found_in image s found its = record {
@@ -122,13 +122,13 @@ alike db old new was is = record {
   none_added = λ c held. was.all c (is.only c held);
 }
 
--- what was copied, opened again
+-- a store that was closed, opened again
 pub alike_again : (image : Image) (old new : Holding) → HoldsRowsOf image old → IsFoundIn image new
     → ∥ AreAlike old new ∥₁
 alike_again image old new held found =
     ∥∥₁_map held (λ it. alike it.0 old new it.2 (found.held it.0 it.1))
 
--- what was left, opened again
+-- a store that was not closed, opened again
 pub lasts_again : (image : Image) (old new : Holding)
     → ∥ ((db : Trees) × HoldsDatabase image db × ((c : Content) → IsStored db c → old.holds c)) ∥₁
     → IsFoundIn image new → Lasts old new

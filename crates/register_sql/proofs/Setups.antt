@@ -39,7 +39,7 @@ rising : (n : ℕ) (texts : List (List ℕ))
 rising n [] = tt
 rising n (t ∷ texts) = (above n (n + 1) texts _ t (omega arith) refl, rising (n + 1) texts)
 
--- so rows that are read in their order are these, or the table has others
+-- so rows read in their order are these, or the table has others
 pub setup_told : (same : Bool) (texts : List (List ℕ)) (db : Trees) (rows : List Row)
     → Decides same (rows ≡ setup_rows_shown texts) → IsPermutation (shown_in Setups db) rows
     → IsSorted id_cmp rows
@@ -51,7 +51,7 @@ setup_told same texts db rows told read sorted = (
       (setup_rows_shown texts) rows (rising 1 texts) (IsPermutation-trans _ _ _ alike read) sorted),
 )
 
--- ... in a store of the first so many tables
+-- ... in a store of the first `made` tables
 pub setup_part : (same : Bool) (texts : List (List ℕ)) (made : ℕ) (db : Trees) → 2 ≤ made
     → Decides same (IsPermutation (setup_rows_shown texts) (shown_in Setups db))
     → Decides same (IsPermutation (setup_rows_shown texts) (setup_in made db))
@@ -142,7 +142,7 @@ one_further rows texts i row text low less is text_is here before =
     (here ∙ ap (λ n. setup_shown (record { id = pos n; text = text })) (sym many)) ∙ sym last
     ∙ ap setup_rows_shown (sym (taken_next texts i text less text_is))
 
--- ---- the same rows as a register numbers them, the last first
+-- ---- the same rows as a register numbers them, last first
 
 pub numbered_are : (texts : List (List ℕ))
     → IsPermutation (numbered texts) (setup_from 1 (reverse texts))

@@ -1,4 +1,4 @@
--- Where a row is none of those that are wanted, the rows aren't these.
+-- If a row is none of the wanted ones, the rows aren't the wanted ones.
 use Rattle.std.proofs.Common.{inl, inr, ◌≡◌, ◌≢◌, ◌<◌, ◌≤◌, ◌+◌, ℕ, zero, suc, ℤ, List, [], ◌∷◌, length, map, slice_index_or, Bool, true, false, refl, sym, ap, subst, ◌∙◌, arith, ltb, ltb-true, ltb-false}
 use Rattle.std.specs.Bool.{Decides}
 use Rattle.std.specs.List.{AllByRecursion}
@@ -161,7 +161,7 @@ strange_terms S P wanted ss ls ts is strange d found has =
     (subst (λ l. IsPermutation l (map term_cells d.terms)) (terms_twice wanted)
     (IsPermutation-map term_cells _ _ dated)) found.terms)
 
--- what is told of one table after another
+-- the result for one table after another
 pub spots_told : (S : Museum) (P : List Entry) (wanted : List NewSpot) (ss ls ts : List Row)
     → wanted ≡ spots_by_thing S P → HasStranger IsNoSpot (map cells_of_spot wanted) ss
     → Decides true (AreStrange S P ss ls ts)

@@ -1,5 +1,5 @@
--- What the statements mean that write a whole store, and what a query of a table in the order of
--- its rowids is.
+-- The meaning of the statements that write a whole store, and of a query of a table in the order of
+-- its rowids.
 use Rattle.std.proofs.Common.{◌≡◌, ℕ, pos, negsuc, List, [], ◌∷◌, codes, false, None, refl}
 use Rattle.sqlite.specs.declared.types.Value.TheVariants.{Null, Int}
 use Rattle.sqlite.specs.Term.{Term, lit, col, op2}
@@ -102,7 +102,7 @@ pub insert_term_plain : IsPlain (understood hub_schema insert_term)
 unfolding understood everything
 insert_term_plain = (refl, refl)
 
--- rows of a table, all columns that are shown, without an order
+-- rows of a table, with all returned columns, in no order
 abbrev pub query_of : ℕ → List Term → List Term → Query
 query_of tree filter project = record {
   from = inner tree end;

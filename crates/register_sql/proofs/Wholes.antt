@@ -1,4 +1,4 @@
--- The steps of a posting make what a register promises of it.
+-- The steps of a posting make the change that a register promises.
 use Rattle.std.proofs.Common.{◌≡◌, List, [], ◌∷◌, ◌++◌, map, reverse, Option, Some, None, refl, sym, ap, ◌∙◌, append_assoc}
 use Rattle.std.specs.Option.{option_map_or}
 use Rattle.std.proofs.lemmas.Grind.{reverse_onto}

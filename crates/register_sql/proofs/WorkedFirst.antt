@@ -1,5 +1,5 @@
--- A store of version 1 computed on a worked list, what a migration makes of it, and why an
--- extension is no entry of it.
+-- A store of version 1 computed on a worked list, the result of its migration, and why an extension
+-- is no entry of it.
 use lib.Ieee.{is_nan, lt}
 use Rattle.std.specs.Prelude.{◌≡◌, ℕ, pos, true, false, List, [], ◌∷◌, Some, slice_index_or, codes, refl}
 use Rattle.std.specs.List.{IsDistinct}
@@ -139,7 +139,7 @@ is_first = record {
   known = All-from_recursion (IsEarlyOf 1) entries (moved_known, (agreed_known, tt));
 }
 
--- ---- in its five tables, as a store of version 1 that was made by another program has them
+-- ---- in its five tables, as in a store of version 1 from another program
 
 abbrev says : ℕ → List ℕ → ℕ → Row
 says rowid name val = Int (pos rowid) ∷ Text name ∷ Int (pos val) ∷ []
@@ -184,7 +184,7 @@ held = record {
 stored : IsSound (prefix 5) tables → IsStored tables first
 stored sound = record { made = 5; few = omega arith; sound = sound; rows = held }
 
--- ---- fit to be migrated: the rowids of its tables are numbers that differ
+-- ---- fit to be migrated: the rowids of its tables are distinct numbers
 
 abbrev database : Database
 database = record { schema = prefix 5; trees = tables }
@@ -211,7 +211,7 @@ fit : IsUnfit museum database → ⊥
 fit (inl h) = is_store h
 fit (inr h) = ⊎_elim (λ other. other refl) (λ not. not apart) h.unfit
 
--- ---- unfit: two rows of what it says under one rowid, or a table that no store has
+-- ---- unfit: two rows about the store with the same rowid, or a table that no store has
 
 abbrev doubled : Trees
 doubled t = slice_index_or ((says 1 (codes "version") 1 ∷ says 1 (codes "depth") 8 ∷ []) ∷ []) t []

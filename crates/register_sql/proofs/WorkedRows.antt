@@ -1,4 +1,4 @@
--- The definitions computed on a worked store, and on what isn't one.
+-- The definitions computed on a worked store, and on other databases.
 use lib.Ieee.{is_nan, lt}
 use Rattle.std.specs.Prelude.{◌≡◌, ◌-◌, ◌^◌, ℕ, pos, negsuc, List, [], ◌∷◌, map, codes, slice_index_or, true, false, Some, None, refl}
 use Rattle.std.proofs.Common.{arith, inl, inr, lit<, ⊎_elim}
@@ -73,7 +73,7 @@ worked = record {
   terms = last ∷ [];
 }
 
--- its tables' rows, at their trees: a rowid of their own first, where no column is it
+-- the rows of its tables, in their trees: a rowid comes first if no column is it
 abbrev meta_table : List Row
 meta_table = (Int (pos 1) ∷ Text (codes "depth") ∷ Int (pos 12) ∷ [])
     ∷ (Int (pos 2) ∷ Text (codes "version") ∷ Int (pos 2) ∷ []) ∷ []
@@ -106,7 +106,7 @@ tables t = slice_index_or (meta_table ∷ [] ∷ setup_table ∷ posting_table �
 abbrev says : List ℕ → ℕ → Row
 says name val = Text name ∷ Int (pos val) ∷ []
 
--- the tables hold these rows, of which `meta` has the depth limit first
+-- the tables hold these rows; those of `meta` have the depth limit first
 held : AreRows tables worked
 held = record {
   meta = IsPermutation-middle (says (codes "version") 2 ∷ []) (says (codes "depth") 12) [];
@@ -117,11 +117,11 @@ held = record {
   terms = IsPermutation-refl _;
 }
 
--- and not the same but for one row
+-- and no content that differs in one row
 spot_missing : AreRows tables (record worked { spots = [] }) → ⊥
 spot_missing h = absurd (omega (arith, length_permutation _ _ h.spots))
 
--- of a store of the first two tables the others hold nothing
+-- in a store of the first two tables, the other tables hold nothing
 first_two : HasPart 2 tables (record worked { postings = []; spots = []; lines = []; terms = [] })
 first_two = record {
   meta = held.meta;
@@ -176,7 +176,7 @@ counts = refl
 counts-most : counted (2 ^ 64 - 1) Store ≡ 2 ^ 64 - 1
 counts-most = refl
 
--- ---- what is shown of it
+-- ---- the columns that the queries return of it
 
 shown-metas : shown_in Metas tables ≡ (Text (codes "depth") ∷ Int (pos 12) ∷ [])
     ∷ (Text (codes "version") ∷ Int (pos 2) ∷ []) ∷ []
@@ -239,7 +239,7 @@ taken : map (λ id. is_taken line_table (Int (pos id) ∷ [])) (4 ∷ 5 ∷ 7 �
 unfolding value_cmp is_nan lt
 taken = refl
 
--- ---- what it says of itself
+-- ---- its rows about itself
 
 says_whole : IsIdentity (shown_in Metas tables) (told.Bound 12)
 says_whole = (refl, held.meta)
@@ -253,7 +253,7 @@ version_one = (pos 1, refl, λ is. cc)
 version_two : IsOther (Text (codes "version") ∷ Int (pos 2) ∷ []) → ⊥
 version_two h = h.2 (let e = h.1 in cc)
 
--- ---- made of nothing
+-- ---- making the store
 
 new_setup : setup_from 1 texts ≡ setup
 new_setup = refl
@@ -277,7 +277,7 @@ posted : with_posting entry (with_spot (spot_row spot) no_rows) ≡ record no_ro
     { postings = entry ∷ []; spots = spot_row spot ∷ [] }
 posted = refl
 
--- a line takes the place of that of its object, and of no other
+-- a line replaces that of its object, and no other
 back : (with_line (line_row (record away { stage = Back })) worked).lines
     ≡ line_row (record away { stage = Back }) ∷ line_row awaited ∷ []
 back = refl
@@ -296,7 +296,7 @@ later = refl
 no_later : (with_some_term None worked).terms ≡ last ∷ []
 no_later = refl
 
--- ---- what can be a spot
+-- ---- the rows that can be those of a spot
 
 fits : FitsSpot spot
 fits = record {
@@ -307,7 +307,7 @@ fits = record {
   day = record { from = record { le = tt }; to = record { le = tt } };
 }
 
--- a text in place of a number, a row of four cells, and a number that is none
+-- a text in place of a number, a row of four cells, and a number out of range
 no_spot-text : IsNoSpot (Text loan ∷ Int (pos 1) ∷ Int (pos 1) ∷ Int (pos 0) ∷ Int (pos 19844) ∷ [])
 no_spot-text s fit is = cc
 
@@ -324,7 +324,7 @@ no_line-null l fit is = cc
 no_term-null : IsNoTerm (Text loan ∷ Null ∷ [])
 no_term-null t fit is = cc
 
--- ---- the tables by their numbers, and how many indexes so many have
+-- ---- the tables by their numbers, and how many indexes the first of them have
 
 tables_in_turn : map table_at (0 ∷ 1 ∷ 2 ∷ 3 ∷ 4 ∷ 5 ∷ []) ≡ all_tables
 tables_in_turn = refl

@@ -39,11 +39,11 @@ pub record Goes (made : ℕ) (Step : Trees → Trees → Type 0) (old new : Stat
   pub stays : IsTrue old.is_open → IsTrue new.is_open
   pub rows : Step old.now.trees new.now.trees
 
--- Inside that transaction, as long as the disk returns what was written.
+-- Inside that transaction, as long as the disk returns the bytes written to it.
 abbrev pub IsMaking : ℕ → State → Type 0
 IsMaking made s = HasCleanDisk s → IsMade made s
 
--- A step that succeeds makes the change, as long as the disk returns what was written.
+-- A step that succeeds makes the change, as long as the disk returns the bytes written to it.
 abbrev pub Went : {T : Type 0} → State → State → Result T Error → ℕ → (Trees → Trees → Type 0)
     → Type 0
 Went old new r made Step = HasCleanDisk new → OnOk r (Goes made Step old new)

@@ -33,11 +33,11 @@ pub record Makes (old new : State) (change : Content → Content) : Type 0 where
   pub stays : IsTrue old.is_open → IsTrue new.is_open
   pub rows : Turns change old.now.trees new.now.trees
 
--- Inside a transaction, as long as the disk returns what was written.
+-- Inside a transaction, as long as the disk returns the bytes written to it.
 abbrev pub IsWithin : State → Type 0
 IsWithin s = HasCleanDisk s → Within s
 
--- A step that succeeds makes the change, as long as the disk returns what was written.
+-- A step that succeeds makes the change, as long as the disk returns the bytes written to it.
 abbrev pub Wrote : {T : Type 0} → State → State → Result T Error → (Content → Content) → Type 0
 Wrote old new r change = HasCleanDisk new → OnOk r (Makes old new change)
 

@@ -1,4 +1,4 @@
--- Defines what one run of the program leaves for the next in the two files of a store.
+-- Defines how one run of the program leaves a store's two files for the next.
 use Rattle.std.specs.Prelude.{◌≡◌, []}
 use Rattle.sqlite.specs.Files.{HoldsDatabase, AreFoundIn, IsNothing, image_of}
 use Rattle.sqlite.specs.Recovery.{Image}
@@ -17,8 +17,8 @@ pub record HasIts (store : Holding) (db : Trees) : Type 0 where
   pub only : (c : Content) → store.holds c → IsStored db c
 
 -- The store is the one that the files held when they were opened. If they held a database, it has
--- the rows of that database. Otherwise it has what the files can be read as; if there was no
--- database yet, it has no rows.
+-- the rows of that database. Otherwise it has the rows of a database that the files can be read as.
+-- If there was no database yet, it has no rows.
 pub record IsFoundIn (image : Image) (store : Holding) : Type 0 where
   pub held : (db : Trees) → HoldsDatabase image db → HasIts store db
   pub read : (db : Trees) × AreFoundIn image db × HasIts store db

@@ -1,5 +1,5 @@
--- Defines what the rows of `meta` and `setup` say about a store, in the order in which they are
--- checked.
+-- Defines the information about a store in the rows of `meta` and `setup`, in the order in which it
+-- is checked.
 use Rattle.std.specs.Prelude.{◌≡◌, ◌≢◌, ◌<◌, ℕ, ℤ, pos, true, List, [], ◌∷◌, length, slice_index_or, map, codes}
 use Rattle.std.specs.List.Sorted.{IsPermutation}
 use Rattle.sqlite.specs.Order.{Row}

@@ -1,4 +1,4 @@
--- Defines what a register over a connection keeps, and which rows its store may hold.
+-- Defines the fields of a register over a connection, and the rows that its store may hold.
 use Rattle.std.specs.Prelude.{◌≡◌, ℕ, ◌+◌, ◌-◌, ◌^◌, min, Bool, true, false, [], Option, None, refl}
 use Rattle.std.specs.Coded.{Coded, code_by, coded×, coded_ℕ, coded_bool}
 use Rattle.sqlite.specs.Held.{Held, held_code}
@@ -36,9 +36,9 @@ kept_code {S} store =
       refusals = p.1.1.1.1;
     }) (λ _. refl)
 
--- The store is quiet if the disk has returned what was written. It may hold the content of each
--- database that a later opening may find: one while the connection is open and has no transaction,
--- one of two after a disk fault during a posting.
+-- The store is quiet if the disk has returned the bytes written to it. It may hold the content of
+-- each database that a later opening may find: one while the connection is open and has no
+-- transaction, one of two after a disk fault during a posting.
 abbrev pub in_store : State → Holding
 in_store s =
     record { is_quiet = HasCleanDisk s; holds = λ c. (db : Trees) × s.may_leave db × IsStored db c }

@@ -14,8 +14,7 @@ use sqlite_disk::Disk;
 use std::alloc::Global;
 
 /// Closes a register and opens the next run's files. The two stores may hold the same rows if the
-/// next run's files hold what the closed ones hold, or what a crash after the close may leave of
-/// them.
+/// next run's files are as the closed ones, or as a crash after the close may leave those.
 ///
 /// Returns the closed files and the next register, or the first error: that of closing, then that
 /// of opening.

@@ -184,7 +184,7 @@ fn compare_unread(
 }
 
 /// Returns whether these are the rows of the ledger. Store means that two rows have the same key,
-/// though no clause says so.
+/// though no clause promises that.
 fn compare(
     alloc: Global,
     spots: &[Row],

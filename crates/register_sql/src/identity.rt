@@ -1,5 +1,5 @@
-//! Reads what a store's tables `meta` and `setup` say about it: its version, its depth limit and
-//! its setup.
+//! Reads the information about a store in its tables `meta` and `setup`: its version, its depth
+//! limit and its setup.
 ghost use Rattle.std.specs.Prelude.{◌≡◌, ◌<◌, ◌≤◌, ◌+◌, ◌∷◌, [], pos, ℕ, ℤ, true, false, map, codes, length, IfOk, IfSome, IfNone, OnOk, string_bytes};
 ghost use Rattle.std.specs.Bool.{Decides};
 ghost use Rattle.std.specs.List.Sorted.{IsPermutation};

@@ -5,8 +5,8 @@
 //! fills a new store, or compares an old one with the setup. [`fault_of`] turns an error of the
 //! connection into the fault that a register returns.
 //!
-//! The contracts promise, as long as the disk returns what was written and no other program writes
-//! the file:
+//! The contracts promise, as long as the disk returns the bytes written to it and no other program
+//! writes the file:
 //!
 //! - A posting is one transaction. Once the call has returned, a crash leaves the entry with all
 //!   its changes, or nothing of it; after an Ok, the former. The binding of a new store and a

@@ -80,8 +80,8 @@ impl SqlRegister<MemStore> {
 }
 
 impl SqlRegister<FileStore<File>> {
-    /// Opens a register on the database in a file, whatever the file holds: no clause says which
-    /// rows the store has. Faults: NoMemory or Store, as by [`fault_of`].
+    /// Opens a register on the database in a file, whatever the file holds: no clause promises
+    /// which rows the store has. Faults: NoMemory or Store, as by [`fault_of`].
     pub fn on_file(
         rt: &HostRuntime,
         alloc: Global,
@@ -138,7 +138,7 @@ impl<D: Disk + Drop> SqlRegister<FileStore<D>> {
 
     /// Copies every row from the log into the database file, and returns the two files. From then
     /// on the database file alone has all rows, and the log is empty. Returns the error of the
-    /// copying with the two files, about which no clause says more.
+    /// copying with the two files, for which no clause promises more.
     pub fn close(self) -> Result<Files<D>, (Error, Files<D>)>
         ensures copied { IfOk result (λ files. AreClean D.Disk files.log files.db
             → IsCopied D.Disk (in_store (file_state self.conn)) files) }

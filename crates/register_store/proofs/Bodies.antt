@@ -101,7 +101,7 @@ mutual
       (then 58 rest refl (IsUtf8-append (compact_text d) (members_text true ms) (utf8 d h.1)
       (members_utf8 true ms h.2))))
 
--- what is spelled is UTF-8
+-- the texts of a message are UTF-8
 
 of_thing : (x : List ℕ) → thing_fault x ≡ None → IsUtf8 x
 of_thing x h = IsUtf8-from_ascii x (thing_text x h).ascii
@@ -200,7 +200,7 @@ texts (Extend last loan) h = (
   (refl, of_day last, (refl, of_loan loan h.0, tt)),
 )
 
--- the value that is read of the text
+-- the value that is read from the text
 
 items_back : (objects : List (List ℕ))
     → serde.of_items (items_outline (items_of (map string objects)))
@@ -250,7 +250,7 @@ read_text m has =
     [] (shallow m))
     ∙ outline_back m
 
--- the message of that value
+-- the message that the value spells
 
 json_back : (m : message.Message) → IsSpelled m → of_json (json m) ≡ Ok m
 json_back (Move day x p) h = rw (h.0, h.1, h.2.spells.0, h.2.spells.1) refl

@@ -1,4 +1,4 @@
--- What the texts at an object's keys spell.
+-- The values that the texts at an object's keys spell.
 use Rattle.std.proofs.Common.{◌≡◌, ℕ, Bool, true, List, [], Option, Some, None, option_and_then, unwrap_or, if◌then◌else◌, Result, Ok, Err, MatchResult, ok_or, is_none, refl, sym, ap, ◌∙◌, lt-ltb, le-leb}
 use Rattle.std.specs.Str.{is_utf8}
 use Rattle.std.specs.Result.{result_ok}
@@ -22,7 +22,7 @@ pub text_fault : (key : Key) (test : List ℕ → Bool) (o : Option Data) (text 
 text_fault key test None text e = cc
 text_fault key test (Some value) text e = rw e
 
--- the day of the text that is there
+-- the day that a text spells
 pub day_there : (o : Option (List ℕ)) (text : List ℕ) → o ≡ Some text
     → day_number (unwrap_or o []) ≡ day_number text
 day_there o text e = ap (λ (found : Option (List ℕ)). day_number (unwrap_or found [])) e
@@ -33,7 +33,7 @@ name_passes text h =
     and_from _ _ (and_from _ _ (and_from _ _ (is_utf8-from_IsUtf8 text h.utf8) (lt-ltb _ _ h.some))
     (le-leb _ _ h.few)) h.plain
 
--- what was read of the text at a key, by a reader that tells by a test whether it gives a value
+-- the value read from the text at a key, by a reader with a test for whether there is one
 pub read_there : {T : Type 0} (key : Key) (fault_of : List ℕ → Option CodeFault) (Is : T → Type 0)
     (read : Result T CodeFault) (o : Option Data) (text : List ℕ)
     → option_and_then as_str o ≡ Some text
@@ -46,7 +46,7 @@ read_there key fault_of Is (Ok x) o text e h =
 read_there key fault_of Is (Err fault) o text e h =
     text_fault key (λ t. is_none (fault_of t)) o text e ∙ rw h
 
--- the same of a reader that gives the text itself
+-- the same for a reader that returns the text itself
 pub read_text_there : (key : Key) (fault_of : List ℕ → Option CodeFault)
     (read : Result (List ℕ) CodeFault) (o : Option Data) (text : List ℕ)
     → option_and_then as_str o ≡ Some text
@@ -62,7 +62,7 @@ read_text_there key fault_of (Ok x) o text e h = (
 read_text_there key fault_of (Err fault) o text e h =
     text_fault key (λ t. is_none (fault_of t)) o text e ∙ rw h
 
--- UTF-8 that is JSON says what its value says
+-- UTF-8 that is JSON spells what its value spells
 pub of_value : (bytes : List ℕ) (d : Data) → is_utf8 bytes ≡ true → read bytes ≡ Some d
     → of_bytes bytes ≡ of_json d
 of_value bytes d utf8 value = rw (utf8, value) refl

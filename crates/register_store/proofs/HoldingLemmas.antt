@@ -1,4 +1,4 @@
--- What a store may hold, after one call and after another.
+-- The contents that a store may have, after one call and after the next.
 use Rattle.std.proofs.Common.{ℕ, List}
 use Rattle.std.proofs.lemmas.List.Sorted.{IsPermutation-trans}
 use Rattle.nest_core.specs.Museum.{Museum}
@@ -7,7 +7,7 @@ use Rattle.register_store.specs.StoredRows.{Content, AreSame, IsBoundTo, HasList
 use Rattle.register_store.specs.Registers.{IsFirstWrong}
 use Rattle.register_store.specs.Holdings.{Holding, Each, Has, Comes}
 
--- what the change carries on
+-- the change keeps the property
 pub comes_has : (old new : Holding) (Change : Content → Content → Type 0) (P Q : Content → Type 0)
     → ((c d : Content) → P c → Change c d → Q d) → Comes old new Change → Has old P → Has new Q
 comes_has old new Change P Q carries comes has = record {
@@ -16,7 +16,7 @@ comes_has old new Change P Q carries comes has = record {
       carries was.0 d (has.each (comes.quiet quiet) was.0 was.1) was.2;
 }
 
--- two changes
+-- two changes, one after the other
 pub comes_on : (a b c : Holding) (F G H : Content → Content → Type 0)
     → ((x y z : Content) → F x y → G y z → H x z) → Comes a b F → Comes b c G → Comes a c H
 comes_on a b c F G H both first next = record {
@@ -28,7 +28,7 @@ comes_on a b c F G H both first next = record {
       (x, was, both x y z step last);
 }
 
--- a change to which more is known of what is held now
+-- a change with more known about the contents now
 pub comes_so : (old new : Holding) (F G : Content → Content → Type 0) (Q : Content → Type 0)
     → ((c d : Content) → F c d → Q d → G c d) → Comes old new F → Each new Q → Comes old new G
 comes_so old new F G Q more comes each = record {

@@ -1,4 +1,4 @@
--- What the rows of a register in memory keep of what was there.
+-- How the rows of a register in memory change.
 use Rattle.std.proofs.Common.{◌≡◌, ◌≢◌, ◌↔◌, ◌&&◌, ℕ, ℤ, nat_abs, Bool, true, false, true≢false, List, [], ◌∷◌, ◌++◌, map, reverse, get_or, Option, Some, None, Vec, String, string_bytes, MatchOption, Result, Ok, Err, IfErr, OnErr, ◌⊎◌, inl, refl, sym, subst, ap, ◌∙◌, arith}
 use Rattle.std.specs.declared.alloc.Global.{Global}
 use Rattle.std.specs.Bool.{Decides}
@@ -65,7 +65,7 @@ same_then c d e h k = record {
   terms = IsPermutation-trans _ _ _ h.terms k.terms;
 }
 
--- what memory may hold comes from what it held
+-- the contents that memory may have come from those that it had
 pub comes_from : (K L : Content) (Change : Content → Content → Type 0)
     → ((d : Content) → AreSame L d → Change K d)
     → Comes (rows_in_memory K) (rows_in_memory L) Change
@@ -92,7 +92,7 @@ same_posted c d row e changes h = record {
   terms = with_term_same (term_of e) c.terms d.terms h.terms;
 }
 
--- lists in another order, and turned round
+-- a list in another order, and reversed
 pub turned_same : {X : Type 0} (xs ys : List X) → IsPermutation xs ys
     → IsPermutation (reverse xs) (reverse ys)
 turned_same xs ys h = IsPermutation-trans _ _ _ (IsPermutation-sym _ _ (IsPermutation-reverse xs))
@@ -118,7 +118,7 @@ content_of texts postings spots lines terms = record {
   terms = terms;
 }
 
--- it takes a setup where it is new, or has this one
+-- it accepts a setup if it is new or has this one
 pub bound_kept : (S : Museum) (o : Option (Vec (String Global) Global))
     (texts : Vec (String Global) Global) (postings : List KeptEntry) (spots : List NewSpot)
     (lines : List NewLine) (terms : List TermRow) (K d : Content)
@@ -181,7 +181,7 @@ other_setup S old texts postings spots lines terms K d rows differ is h =
           (IsPermutation-trans _ _ _ alike (IsPermutation-sym _ _ same.setup))) ∙ sym rows),
     )
 
--- what `bind` finds out of its texts
+-- the comparison of the setups in `bind`
 pub refused_setup : (S : Museum) (o : Option (Vec (String Global) Global))
     (texts : Vec (String Global) Global) (items : List (String Global)) (postings : List KeptEntry)
     (spots : List NewSpot) (lines : List NewLine) (terms : List TermRow)
@@ -204,7 +204,7 @@ pub fitted : (o : Option (Vec (String Global) Global)) (texts : Vec (String Glob
 fitted None texts items r at told fits = tt
 fitted (Some old) texts items r at told fits = told.0 fits ∙ ap (map string_bytes) at
 
--- one more posting at the end of the kept rows
+-- one more posting at the end of the rows
 pub posted_same : (o : Option (Vec (String Global) Global)) (ps more : List KeptEntry)
     (ss longer : List NewSpot) (ls new_ls : List NewLine) (ts new_ts : List TermRow)
     (row : KeptEntry) (e : Entry) (changes : Changes) (K d : Content)
@@ -238,7 +238,7 @@ posted_same o ps more ss longer ls new_ls ts new_ts row e changes K d pushed ext
       terms = IsPermutation-trans _ _ _ dated (with_term_same (term_of e) ts d.terms same.terms);
     }
 
--- growths alone leave what is held
+-- more room alone leaves the content as it was
 pub left_as_was : {T E : Type 0} (r : Result T E) (Q : Content → Content → Type 0)
     (o : Option (Vec (String Global) Global)) (ps ps' : List KeptEntry) (ss ss' : List NewSpot)
     (ks ks' : List (LineKey × LineStage)) (ts ts' : List (List ℕ × ℤ)) (K L : Content)
@@ -252,7 +252,7 @@ left_as_was (Err e) Q o ps ps' ss ss' ks ks' ts ts' K L is now p s k t =
     comes_from K L (λ c d. AreSame c d ⊎ Q c d)
     (λ d h. inl (subst (λ (c : Content). AreSame c d) same h))
 
--- the same rows in another order are held as before
+-- the same rows in another order are the same content
 pub reordered : (o : Option (Vec (String Global) Global)) (ps ps' : List KeptEntry)
     (ss ss' : List NewSpot) (lines : List NewLine) (terms : List TermRow) (K d : Content)
     → IsPermutation ps ps' → IsPermutation ss ss'
@@ -272,7 +272,7 @@ reordered o ps ps' ss ss' lines terms K d p s is =
       λ h. subst (λ (c : Content). AreSame c d) (sym is) (same_then _ _ _ now h),
     )
 
--- why its rows are no list
+-- why its rows are no list of entries
 pub listed_fault : (r : Result (Vec Entry Global) StoreFault) (stations stations' : ℕ)
     (rows items : List KeptEntry) (o : Option (Vec (String Global) Global)) (spots : List NewSpot)
     (lines : List NewLine) (terms : List TermRow) → stations' ≡ stations → items ≡ rows
@@ -308,7 +308,7 @@ listed_fault (Err (Damaged i)) stations stations' rows items o spots lines terms
       first = first;
     }
 
--- whether what is wanted is kept, by the rows that stand for it
+-- whether all wanted values are kept, by their rows
 pairs_told : {A R : Type 0} (row : A → R) (pair : R → A) → ((a : A) → pair (row a) ≡ a)
     → (r : Bool) (wanted kept : List A) (rows held : List R) → map row wanted ≡ rows
     → Decides r (IsPermutation wanted kept)
@@ -325,7 +325,7 @@ pairs_told row pair back r wanted kept rows held is told same = (
       (map-IsPermutation pair _ _ rowed))),
 )
 
--- what a row of a spot, and one of a line, stands for
+-- the spot of a row, and the line of a row
 abbrev spot_in : SpotRow → NewSpot
 spot_in r = record {
   thing = nat_abs r.thing;

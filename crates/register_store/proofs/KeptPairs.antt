@@ -1,4 +1,5 @@
--- Pairs that a map keeps are the wanted ones where each wanted one is kept, and there are as many.
+-- If each wanted pair is kept, and there are as many, the pairs that a map keeps are the wanted
+-- ones.
 use Rattle.std.specs.Prelude.{◌≡◌, zero, suc, Bool, true, false, cond, List, [], ◌∷◌, length, Some, refl}
 use Rattle.std.proofs.Common.{ap, sym, ◌∙◌, arith, remove}
 use Rattle.std.specs.Bool.{Decides}
@@ -21,7 +22,7 @@ module _ {K V : Type 0} (same : K → K → Bool) (alike : V → V → Bool) (ke
       by true h = absurd (not_from_Decides (same a b) (keys a b) apart (sym ((keys b a).0 h)))
       by false h = refl
 
-  -- what is kept is found
+  -- a kept pair is found
   from_lookup : (kept : List (K × V)) (p : K × V) → is_kept same alike kept p ≡ true
       → Contains kept p
   from_lookup [] p there = absurd (let both : true ≡ false = sym there in cc)
@@ -38,7 +39,7 @@ module _ {K V : Type 0} (same : K → K → Bool) (alike : V → V → Bool) (ke
             (suc more.0, omega (arith, more.1), more.2)
       ] refl there
 
-  -- each that a map keeps is kept
+  -- each pair of a map is kept in it
   all_kept : (kept : List (K × V)) → IsDistinct same (keys_of kept)
       → AllByRecursion (λ p. is_kept same alike kept p ≡ true) kept
   unfolding IsDistinct
@@ -66,14 +67,14 @@ module _ {K V : Type 0} (same : K → K → Bool) (alike : V → V → Bool) (ke
   all_true test [] h = refl
   all_true test (p ∷ ps) (h, more) = rw h (all_true test ps more)
 
-  -- what is in a list is among those after the first, where it is another
+  -- a member of a list is among those after the first, if it is another
   after_first : (p : K × V) (rest : List (K × V)) (q : K × V) → same p.0 q.0 ≡ false
       → Contains (p ∷ rest) q → Contains rest q
   after_first p rest q apart (zero, less, is) =
       absurd (not_from_Decides (same p.0 q.0) (keys p.0 q.0) apart (ap (λ z. z.0) is))
   after_first p rest q apart (suc k, less, is) = (k, omega (arith, less), is)
 
-  -- as many different pairs of a list are all of it
+  -- as many different pairs of a list are the whole list
   are_all : (wanted kept : List (K × V)) → length kept ≡ length wanted
       → IsDistinct same (keys_of wanted) → AllByRecursion (λ p. Contains kept p) wanted
       → IsPermutation wanted kept

@@ -8,7 +8,7 @@ use Rattle.register_store.specs.StoredRows.{IsPostingRow}
 use Rattle.register_store.specs.Plain.{kept_row}
 use Rattle.register_store.proofs.Bodies.{reads_back}
 
--- the entry that it keeps
+-- the entry that the register keeps
 abbrev pub entry_in : KeptEntry → Entry
 entry_in k = record { station = k.station; n = k.n; message = k.message; verdict = k.verdict }
 

@@ -1,4 +1,4 @@
--- The rows of lines and of last days, loan by loan as a ledger tells them.
+-- The rows of lines and of last days, loan by loan, as a ledger lists them.
 use Rattle.std.specs.Prelude.{ℕ, ℤ, ◌≡◌, ◌||◌, ◌==◌, ◌+◌, zero, suc, Bool, true, false, cond, List, [], ◌∷◌, ◌++◌, map, drop, slice_get, Option, None, Some, if◌then◌else◌, refl}
 use Rattle.std.proofs.Common.{ap, sym, subst, ◌∙◌, arith, add-one}
 use Rattle.std.specs.List.{find, flat_map, AllByRecursion, IsDistinct}
@@ -44,7 +44,7 @@ module _ {X : Type 0} where
       old (F loan) (flat_map F (drop (i + 1) ls)) ∙ ap (λ l. old ++ flat_map F l)
       (sym rest) ∙ before
 
--- the objects that a ledger tells of its loan
+-- the objects of a loan, as the ledger lists them
 pub told_objects : (B : Book) (ls : List (List ℕ)) (i : ℕ) (loan os : List ℕ)
     → slice_get ls i ≡ Some loan → option_map (objects_of_loan B) (slice_get ls i) ≡ Some os
     → lines_of_loan B loan os ≡ lines_of_loan B loan (objects_of_loan B loan)
@@ -76,7 +76,7 @@ own_agreement (t ∷ ts) (new, apart) = (
           | false ↦ λ e h. ((rw (apart_sym t.loan u.loan e) one), later us h more)
         ] refl none
 
--- each number is among its list's
+-- each number is in its own list
 among_own : (os : List ℕ) → AllByRecursion (λ o. is_among o os ≡ true) os
 among_own [] = tt
 among_own (o ∷ os) = (
@@ -148,7 +148,7 @@ module _ (B : Book) where
   days_told lawful = all_days (agreements P)
       (own_agreement (agreements P) (agreements_apart S B.depth P lawful))
 
--- keys of rows that stand once are distinct
+-- if no row is repeated, the keys are distinct
 line_keys : (kept : List (LineKey × LineStage)) → AreOnce has_same_key (held_lines kept)
     → IsDistinct (ghosts).eq (keys_of kept)
 unfolding IsDistinct

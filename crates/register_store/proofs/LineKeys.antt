@@ -1,4 +1,4 @@
--- Keys of lines that are equal are the same.
+-- Line keys that compare equal are the same.
 use Rattle.std.specs.Prelude.{◌≡◌, ◌&&◌, ◌==◌, ℕ, Bool, true, false, List, refl}
 use Rattle.std.proofs.Common.{ap, ◌∙◌, arith}
 use Rattle.std.specs.Bool.{Decides}

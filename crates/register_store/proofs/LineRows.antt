@@ -47,7 +47,7 @@ lines_at S f t = map (λ o. row t.loan o (f t.loan o)) (objects_of S t)
 abbrev all_at : Museum → (List ℕ → ℕ → LineStage) → List Agreement → List NewLine
 all_at S f ts = flat_map (lines_at S f) ts
 
--- these stages, where one line has got another
+-- these stages, with one line at another stage
 abbrev set : (List ℕ → ℕ → LineStage) → List ℕ → ℕ → LineStage → List ℕ → ℕ → LineStage
 set f loan o s l y = if bytes_eq loan l && (o == y) then s else f l y
 
@@ -57,7 +57,7 @@ equal_is a b e = (bytes_eq-Decides a b).0 e
 number_is : (a b : ℕ) → (a == b) ≡ true → a ≡ b
 number_is a b e = grind (arith, nat_tests)
 
--- what is the same as one that is the same as a third is the same as that
+-- if r and q have the same key and s has another, the keys of r and s differ
 pub same_apart : (r q s : NewLine) → has_same_key r q ≡ true → has_same_key q s ≡ false
     → has_same_key r s ≡ false
 same_apart r q s = λ same. by (bytes_eq r.loan q.loan) (r.object == q.object) refl refl same
@@ -85,7 +85,7 @@ same_turned r q = by (bytes_eq r.loan q.loan) refl
     by false h apart = rw (apart_sym r.loan q.loan h) refl
 
 module _ (S : Museum) where
-  -- a line's row replaced is its stage set
+  -- replacing a line's row sets its stage
   one_set : (f : List ℕ → ℕ → LineStage) (loan : List ℕ) (o : ℕ) (s : LineStage) (l : List ℕ)
       (y : ℕ) → replaced has_same_key (row loan o s) (row l y (f l y))
       ≡ row l y (set f loan o s l y)
@@ -108,7 +108,7 @@ module _ (S : Museum) where
       (λ y. row t.loan y (f t.loan y)) (objects_of S t) ∙ map_same _ _
       (one_set f loan o s t.loan) (objects_of S t)) ts
 
-  -- no line of other loans is of this one
+  -- no line of another loan is a line of this one
   other_loans : (loan : List ℕ) (ts : List Agreement) → find (λ u. bytes_eq loan u.loan) ts ≡ None
       → AllByRecursion (λ u. bytes_eq loan u.loan ≡ false) ts
   other_loans loan [] none = tt
@@ -195,7 +195,7 @@ module _ (S : Museum) where
       right true b h = refl
       right false b h = h
 
--- lines of objects that are listed get their stage
+-- the lines of listed objects get their stage
 pub put_crossed : (S : Museum) (ts : List Agreement) (loan : List ℕ) (s : LineStage) (f g : List ℕ
     → ℕ → LineStage) (os : List ℕ) → AreApart ts
     → AllByRecursion (λ t. numbers.AreOnce (objects_of S t)) ts
@@ -230,7 +230,7 @@ put_crossed S ts loan s f g (o ∷ os) apart once (here, listed) is =
     later true false false x y = refl
     later false b c x y = refl
 
--- lines that are new are added
+-- new lines are added
 put_agreed : (ls rows : List NewLine) → AreOnce has_same_key ls
     → AllByRecursion (λ l. IsFree has_same_key l rows) ls
     → IsPermutation (rows ++ ls) (put_each has_same_key ls rows)
@@ -255,13 +255,13 @@ objects_once S depth P lawful =
     (λ t sound. numbers_once S t.objects sound.known sound.once) (agreements P)
     (agreements_sound S depth P lawful)
 
--- each line stands once
+-- no line is repeated
 pub lines_once : (S : Museum) (depth : ℕ) (P : List Entry) → IsLawful S depth P
     → AreOnce has_same_key (lines_by_loan S P)
 lines_once S depth P lawful = once_at S (stage S P) (agreements P)
     (agreements_apart S depth P lawful) (objects_once S depth P lawful)
 
--- the stages after a message, under a verdict that lets it stand or not
+-- the stages after a message; the flag is whether the message is applied
 abbrev stage_after : Museum → List Entry → Bool → Message → List ℕ → ℕ → LineStage
 stage_after S P b m l o = option_map_or (λ s. s) (if b then stage_by S P m l o else None)
     (stage S P l o)
@@ -270,7 +270,7 @@ abbrev lines_after : Museum → List Entry → Bool → Message → List NewLine
 lines_after S P b m = all_at S (stage_after S P b m)
     (agreements P ++ option_to_list (if b then agreement_in m else None))
 
--- what crosses is listed
+-- the objects that cross are listed
 all_listed : (S : Museum) (P : List Entry) (loan : List ℕ) (os : List ℕ)
     → list_any (λ o. not (is_listed S P loan o)) os ≡ false
     → AllByRecursion (λ o. is_among o (objects S P loan) ≡ true) os
@@ -346,7 +346,7 @@ agreed S depth P m t lawful applied is none =
         ∙ sym (append_assoc (lines_at S (stage S P) u) (all_at S (stage S P) ts)
         (lines_at S (stage S P) t))
 
--- any other message leaves the lines
+-- any other message leaves the lines as they were
 other : (S : Museum) (P : List Entry) (b : Bool) (m : Message)
     → (if b then agreement_in m else None) ≡ None → (if b then crossing_in m else None) ≡ None
     → lines_after S P b m ≡ lines_by_loan S P
@@ -401,14 +401,14 @@ next_lines S depth P e follows lawful =
       | false ↦ λ h. IsPermutation-same _ _ (other S P false e.message refl refl)
     ] refl
 
--- a line's row has the key of the line
+-- the row of a line has the line's key
 pub keyed_rows : (l k : NewLine) → is_same_line (line_row l) (line_row k) ≡ has_same_key l k
 keyed_rows l k = ap (λ b. bytes_eq l.loan k.loan && b) (same_number l.object k.object)
   where
     same_number : (a b : ℕ) → int_eq (pos a) (pos b) ≡ (a == b)
     same_number a b = grind (arith, nat_tests)
 
--- and their rows
+-- and the rows of the lines
 pub next_line_rows : (S : Museum) (depth : ℕ) (P : List Entry) (e : Entry) (rows : List LineRow)
     → Follows S depth P e → IsLawful S depth P → IsPermutation (rows_of_lines S P) rows
     → IsPermutation (rows_of_lines S (e ∷ P))

@@ -1,4 +1,4 @@
--- Lists that a loop has walked so far.
+-- Lists that a loop has gone through so far.
 use Rattle.std.proofs.Common.{◌≡◌, ℕ, zero, suc, ◌+◌, ◌<◌, List, [], ◌∷◌, ◌++◌, length, map, take, drop, drop-cons, get_or, slice_get, Some, sym, ap, ◌∙◌, arith}
 use Rattle.std.specs.List.{flat_map, range_with_len}
 use Rattle.std.proofs.Math.Seq.{take-suc}
@@ -18,7 +18,7 @@ module _ {X Y : Type 0} (f : X → Y) where
   taken (y ∷ ys) zero x less is = ap (λ z. f z ∷ []) (sym is)
   taken (y ∷ ys) (suc i) x less is = ap (λ l. f y ∷ l) (taken ys i x (omega arith) is)
 
-  -- the lists are the same one element further
+  -- the lists are the same, one element further
   pub same_further : (xs ys : List X) (i : ℕ) (x y : X) → i < length xs → i < length ys
       → x ≡ get_or xs i x → y ≡ get_or ys i y → f x ≡ f y
       → take i (map f xs) ≡ take i (map f ys) → take (i + 1) (map f xs) ≡ take (i + 1) (map f ys)
@@ -26,7 +26,7 @@ module _ {X Y : Type 0} (f : X → Y) where
       rw add-one (taken xs i x lx is ∙ ap (λ l. l ++ f x ∷ []) before
       ∙ ap (λ z. take i (map f ys) ++ z ∷ []) same ∙ sym (taken ys i y ly is'))
 
-  -- and where they are the same, each element is
+  -- and if they are the same, each element is
   pub same_there : (xs ys : List X) (i : ℕ) (x y : X) → i < length xs → i < length ys
       → x ≡ get_or xs i x → y ≡ get_or ys i y → map f xs ≡ map f ys → f x ≡ f y
   same_there xs ys i x y lx ly is is' same =

@@ -33,14 +33,14 @@ pub list_fault : (key : Key) (test : List ℕ → Bool) (o : Option Data) (ds : 
 list_fault key test None ds e = cc
 list_fault key test (Some value) ds e = rw (e, items_list-items_of ds)
 
--- the texts of the items that are there
+-- the texts of the items that exist
 pub texts_there : (o : Option Data) (ds : List Data)
     → option_and_then as_array o ≡ Some (items_of ds)
     → option_map_or (λ found. map (λ value. text_of (Some value)) (items_list found))
     (option_and_then as_array o) [] ≡ map (λ value. text_of (Some value)) ds
 texts_there o ds e = rw (e, items_list-items_of ds)
 
--- an item amiss
+-- an item that is not valid
 pub listed_amiss : (key : Key) (test : List ℕ → Bool) (o : Option Data) (ds : List Data)
     → option_and_then as_array o ≡ Some (items_of ds) → list_all (is_string test) ds ≡ false
     → value_fault (key lists test) o ≡ Some (BadField key)
@@ -48,7 +48,7 @@ listed_amiss key test o ds there amiss =
     list_fault key test o ds there ∙ when_amiss (nat_le (length ds) MOST_OBJECTS) _
     (BadField key) amiss
 
--- no item amiss, and few
+-- all items valid, and not too many
 pub listed_right : (key : Key) (test : List ℕ → Bool) (o : Option Data) (ds : List Data)
     (texts : List (List ℕ)) → option_and_then as_array o ≡ Some (items_of ds)
     → list_all (is_string test) ds ≡ true
@@ -58,7 +58,7 @@ listed_right key test o ds texts there right is few =
     let long = ap length is ∙ length-map ds (λ value. text_of (Some value)) in
     list_fault key test o ds there ∙ rw (le-leb (length ds) MOST_OBJECTS (omega arith), right)
 
--- no item amiss, and more
+-- all items valid, but too many
 pub listed_many : (key : Key) (test : List ℕ → Bool) (o : Option Data) (ds : List Data)
     (texts : List (List ℕ)) → option_and_then as_array o ≡ Some (items_of ds)
     → texts ≡ map (λ value. text_of (Some value)) ds → MOST_OBJECTS < length texts
@@ -68,7 +68,7 @@ listed_many key test o ds texts there is many =
     let more : nat_le (length ds) MOST_OBJECTS ≡ false = grind (arith, nat_tests) in
     list_fault key test o ds there ∙ rw more
 
--- one that is no such string
+-- an item that is not a valid string
 pub one_amiss : {V : Type 0} (seen : V → Data) (test : List ℕ → Bool) (vs : List V) (i : ℕ) (v : V)
     → i < length vs → v ≡ get_or vs i v → is_string test (seen v) ≡ false
     → list_all (is_string test) (map seen vs) ≡ false
@@ -80,7 +80,7 @@ all_strings : (test : List ℕ → Bool) (texts : List (List ℕ))
     → list_all (is_string test) (map string texts) ≡ list_all test texts
 all_strings test texts = list_all-map (is_string test) string texts
 
--- few such texts are such strings
+-- texts that are valid, and not too many, are valid strings
 pub strings_fit : (test : List ℕ → Bool) (texts : List (List ℕ)) → length texts ≤ MOST_OBJECTS
     → list_all test texts ≡ true → are_strings test (items_of (map string texts)) ≡ true
 strings_fit test texts few all =
@@ -88,7 +88,7 @@ strings_fit test texts few all =
     (and_from _ _ (le-leb _ _ (omega (arith, length-map texts string)))
     (all_strings test texts ∙ all))
 
--- and they are read as they were written
+-- and are read back as they were written
 pub texts_back : (texts : List (List ℕ))
     → map (λ value. text_of (Some value)) (items_list (items_of (map string texts))) ≡ texts
 texts_back [] = refl

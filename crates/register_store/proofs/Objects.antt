@@ -1,4 +1,4 @@
--- What an object says of a message, and what is no object.
+-- The message of an object, and values that aren't objects.
 use Rattle.std.proofs.Common.{◌≡◌, ℕ, Bool, List, true, false, bytes_eq, is_some, Some, Err, codes, refl, ◌∙◌}
 use Rattle.std.proofs.lemmas.Slice.Eq.{bytes_eq-Decides}
 use Rattle.serde_json.specs.Data.{Data, null, boolean, number, string, array, object}
@@ -33,7 +33,7 @@ no_such_name : (name kind : List ℕ) → (name ≡ kind → ⊥) → bytes_eq n
 no_such_name name kind apart =
     told_false (bytes_eq name kind) (λ same. apart ((bytes_eq-Decides name kind).0 same))
 
--- an object of another kind than these three is of a loan's, or of none
+-- an object of another kind than these three is about a loan, or of no kind
 pub other_kind : (d kind : Data) (name : List ℕ) → is_some (as_object d) ≡ true
     → get (key_name Kind) d ≡ Some kind → as_str kind ≡ Some name
     → (name ≡ codes "move" → ⊥) → (name ≡ codes "pack" → ⊥) → (name ≡ codes "signoff" → ⊥)
@@ -47,7 +47,7 @@ other_kind d kind name is there text not_move not_pack not_sign_off =
       no_such_name name (codes "signoff") not_sign_off,
     ) refl
 
--- a value that names a kind which takes memory
+-- a value of a kind that takes memory
 pub grows : (d kind : Data) (name : List ℕ) → get (key_name Kind) d ≡ Some kind
     → as_str kind ≡ Some name → is_some (kind_named kinds_that_grow name) ≡ true
     → takes_memory d ≡ true

@@ -1,4 +1,4 @@
--- A store has one list: its rows are numbered, and each tells its entry.
+-- A store has only one list: its rows are numbered, and each row has one entry.
 use Rattle.std.proofs.Common.{◌≡◌, ◌⊎◌, inl, inr, ℕ, suc, ◌+◌, ◌≤◌, nat_abs, List, [], ◌∷◌, length, get_or, reverse, refl, sym, subst, ap, ◌∙◌, arith}
 use Rattle.std.specs.List.{AllByRecursion}
 use Rattle.std.specs.List.Sorted.{IsPermutation}
@@ -14,7 +14,7 @@ use Rattle.register_store.specs.StoredRows.{Content, PostingRow, SetupRow, numbe
 use Rattle.register_store.proofs.RoundTrip.{one_message}
 
 module _ {X : Type 0} (number : X → ℕ) where
-  -- numbered from 1, the last first
+  -- numbered from 1, last first
   abbrev IsNumbered : List X → Type 0
   IsNumbered [] = Unit {0}
   IsNumbered (x ∷ xs) = (number x ≡ length xs + 1) × IsNumbered xs
@@ -33,7 +33,7 @@ module _ {X : Type 0} (number : X → ℕ) where
   low (y ∷ ys) h x (inl e) = let same = ap number e in let top = h.0 in omega arith
   low (y ∷ ys) h x (inr i) = let below = low ys h.1 x i in omega arith
 
-  -- the top one isn't among those below it
+  -- the first element isn't among the others
   rest : (y : X) (ys zs : List X) (n : ℕ) → number y ≡ n + 1 → ((z : X) → IsIn zs z → number z ≤ n)
       → AllByRecursion (IsIn (y ∷ ys)) zs → AllByRecursion (IsIn ys) zs
   rest y ys [] n top below all = tt
@@ -59,7 +59,7 @@ module _ {X : Type 0} (number : X → ℕ) where
       head (inl e) = e
       head (inr i) = let below = low ys k.1 x i in let top = h.0 in absurd (omega arith)
 
-  -- of the orders of numbered elements, one is that of their numbers
+  -- of the orders of numbered elements, only one is that of their numbers
   pub one_order : (xs ys : List X) → IsNumbered xs → IsNumbered ys → IsPermutation xs ys → xs ≡ ys
   one_order xs ys h k same =
       once xs ys h k (sym (length_permutation xs ys same))
@@ -199,7 +199,7 @@ same_entries (e ∷ P) (f ∷ Q) (row ∷ rows) h k =
     (subst (λ (l : List Entry). IsPostingRow (length l + 1) f row) (sym before) k.0))
     ∙ ap (λ l. f ∷ l) before
 
--- two lists that a store has are one
+-- two lists of one store are the same
 pub one_list : (P Q : List Entry) (c : Content) → HasList P c → HasList Q c → P ≡ Q
 one_list P Q c h k =
     let same : IsPermutation h.rows k.rows =

@@ -1,4 +1,4 @@
--- Rows that take the place of those with the same key.
+-- Rows that replace those with the same key.
 use Rattle.std.specs.Prelude.{◌≡◌, ◌||◌, Bool, true, false, not, List, [], ◌∷◌, map, filter, if◌then◌else◌, refl}
 use Rattle.std.proofs.Common.{ap, sym, subst, ◌∙◌}
 use Rattle.std.specs.List.{list_any, AllByRecursion, IsDistinct}
@@ -11,15 +11,15 @@ use Rattle.sqlite_keyed.proofs.ListLemmas.{all_weaker, filter_all, IsPermutation
 use Rattle.register_store.specs.StoredRows.{put, put_each}
 
 module _ {R : Type 0} (same : R → R → Bool) where
-  -- none of them is the same
+  -- none of them has the same key
   abbrev pub IsFree : R → List R → Type 0
   IsFree r rows = AllByRecursion (λ q. same r q ≡ false) rows
 
-  -- none is the same as one after it
+  -- none has the same key as a later one
   abbrev pub AreOnce : List R → Type 0
   AreOnce rows = IsAscending (λ r q. same r q ≡ false) rows
 
-  -- the row takes the place of one that is the same
+  -- the row replaces one with the same key
   abbrev pub replaced : R → R → R
   replaced r q = if same r q then r else q
 
@@ -28,7 +28,7 @@ module _ {R : Type 0} (same : R → R → Bool) where
   put_same r a b alike = IsPermutation-cons r _ _
       (IsPermutation-filter (λ q. not (same r q)) a b alike)
 
-  -- rows in another order stay so when others are put
+  -- two lists with the same rows in different orders still have the same rows after others are put
   pub put_each_same : (rs a b : List R) → IsPermutation a b
       → IsPermutation (put_each same rs a) (put_each same rs b)
   put_each_same [] a b alike = alike
@@ -46,11 +46,11 @@ module _ {R : Type 0} (same : R → R → Bool) where
   none_replaced r [] free = refl
   none_replaced r (q ∷ rows) (e, free) = rw e (ap (λ l. q ∷ l) (none_replaced r rows free))
 
-  -- the first of two comes to the front
+  -- the second of two rows moves to the front
   exchanged : (r q : R) (rows : List R) → IsPermutation (q ∷ r ∷ rows) (r ∷ q ∷ rows)
   exchanged r q rows = IsPermutation-middle (q ∷ []) r rows
 
-  -- where each stands once, putting is replacing
+  -- if no key is repeated, putting is replacing
   pub put_replaces : ((r q s : R) → same r q ≡ true → same q s ≡ false → same r s ≡ false)
       → (r : R) (rows : List R) → AreOnce rows → list_any (same r) rows ≡ true
       → IsPermutation (map (replaced r) rows) (put same r rows)
@@ -69,7 +69,7 @@ module _ {R : Type 0} (same : R → R → Bool) where
             (IsPermutation-cons q _ _ (put_replaces apart r rows once.1 h)) (exchanged r q _)
       ] refl there
 
-  -- a pair that a map takes is put among its rows
+  -- a pair that a map inserts is put among its rows
   module _ {K V : Type 0} (eq : K → K → Bool) (exact : (k l : K) → eq k l ≡ true → k ≡ l) (row : K
       → V → R) (keyed : (k l : K) (v w : V) → same (row k v) (row l w) ≡ eq k l) where
     abbrev rows_of : List (K × V) → List R
@@ -106,7 +106,7 @@ module _ {R : Type 0} (same : R → R → Bool) where
               (exchanged (row k v) (row e.0 e.1) _))
         ] refl distinct
 
--- rows are put as what they stand for is
+-- rows are put as the values that they stand for
 module _ {A R : Type 0} (alike : A → A → Bool) (same : R → R → Bool) (row : A
     → R) (keyed : (a b : A) → same (row a) (row b) ≡ alike a b) where
   others_kept : (a : A) (held : List A)

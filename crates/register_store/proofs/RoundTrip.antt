@@ -26,7 +26,7 @@ no_float (Extend last loan) = refl
 pub one_text : (m : message.Message) (a b : List ℕ) → IsTextOf m a → IsTextOf m b → a ≡ b
 one_text m a b h k = h ∙ sym k
 
--- bytes spell one message
+-- the bytes spell only one message
 pub one_message : (m n : message.Message) (bytes : List ℕ) → of_bytes bytes ≡ Ok m
     → of_bytes bytes ≡ Ok n → m ≡ n
 one_message m n bytes h k = cc

@@ -1,4 +1,4 @@
--- The rows of spots that entries wrote are the spots of looking back.
+-- The rows of the spots that entries wrote are those of looking back.
 use Rattle.std.proofs.Common.{◌≡◌, ℕ, ◌+◌, Bool, true, false, if◌then◌else◌, List, [], ◌∷◌, ◌++◌, length, map, reverse, Option, Some, None, refl, sym, subst, ap, ◌∙◌, arith}
 use Rattle.std.specs.List.{flat_map, filter_map, range_with_len, cons_option}
 use Rattle.std.specs.Option.{option_map, option_to_list}
@@ -70,7 +70,7 @@ one_row x count (Some spot) =
 abbrev before : Museum → List Entry → ℕ → List NewSpot
 before S P x = spots_of_thing x 1 (spots S P x)
 
--- the row that an entry adds to a thing's
+-- the row that an entry adds to those of a thing
 abbrev added : Museum → List Entry → Bool → Message → ℕ → List NewSpot
 added S P applied m x =
     spots_of_thing x (1 + length (spots S P x))

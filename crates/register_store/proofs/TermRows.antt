@@ -1,4 +1,4 @@
--- The last day that an entry puts is that of looking back after it.
+-- The last day that an entry sets is that of looking back after it.
 use Rattle.std.specs.Prelude.{ℕ, ℤ, ◌≡◌, ◌||◌, Bool, true, false, not, cond, List, [], ◌∷◌, ◌++◌, map, Option, None, Some, is_some, if◌then◌else◌, unwrap_or, refl}
 use Rattle.std.proofs.Common.{ap, sym, subst, ◌∙◌}
 use Rattle.std.specs.List.{find, list_any}
@@ -80,7 +80,7 @@ pub terms_once : (S : Museum) (depth : ℕ) (P : List Entry) → IsLawful S dept
 terms_once S depth P lawful = once_at (λ t. last_from P t.loan t.last) (agreements P)
     (agreements_apart S depth P lawful)
 
--- a loan's last day after a message, under a verdict that lets it stand or not
+-- a loan's last day after a message; the flag is whether the message is applied
 abbrev last_after : List Entry → Bool → Message → Agreement → ℤ
 last_after P b m t = unwrap_or (if b then extension_in m t.loan else None)
     (last_from P t.loan t.last)
@@ -128,7 +128,7 @@ agreed S depth P m t lawful applied is stays =
     (free_of f t.loan t.last (agreements P) new.0)))
     (IsPermutation-to_front (rows_of_terms P) (row t.loan t.last)))
 
--- the rows after a last day is put, if there is one
+-- the rows after a last day is set, if one is
 abbrev pub with_term : Option TermRow → List TermRow → List TermRow
 with_term o rows = option_map_or (λ t. put is_same_loan t rows) o rows
 

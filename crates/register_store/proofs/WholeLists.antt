@@ -55,7 +55,7 @@ ascending (e ∷ P) (row ∷ rows) h =
     (λ a less. (Less-from_lt a.id row.id (subst (λ z. a.id <ℤ z) (sym number) less), tt)) rows
     (below P rows (length P + 1) h.1 (omega arith)))))
 
--- each row keeps its entry, under its number
+-- each row is that of its entry, with its number
 kept : (stations at : ℕ) (later : List PostingRow) (row : PostingRow) (before : List PostingRow)
     (P : List Entry)
     → ArePostings P (later ++ row ∷ before) → AllByRecursion (IsOfStation stations) P

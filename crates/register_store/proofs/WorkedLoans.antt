@@ -1,4 +1,4 @@
--- The rows of lines and of last days computed on worked lists, and the edges of putting them.
+-- The rows of lines and of last days computed on worked lists, and the edge cases of putting them.
 use Rattle.std.specs.Prelude.{ℕ, ℤ, pos, ◌≡◌, List, [], ◌∷◌, Some, None, refl, codes}
 use Rattle.posting_core.specs.declared.message.Message.TheVariants.{Move, Pack, Agree, Authorise, Exit, Return, Extend}
 use Rattle.posting_core.specs.declared.verdict.Verdict.TheVariants.{Applied, NotLater, LoanKnown}
@@ -57,7 +57,7 @@ loan_out-lines = refl
 loan_out-terms : rows_of_terms loan_out ≡ term loan_1 may_31 ∷ []
 loan_out-terms = refl
 
--- an extension gives another last day, and leaves the lines; a refused one gives none
+-- an extension sets another last day and changes no line; a refused one sets none
 
 abbrev extended : List Entry
 extended = entry pack 7 (Extend june_30 loan_1) Applied ∷ loan_out
@@ -72,7 +72,7 @@ extended-lines = refl
 extended-terms : rows_of_terms (not_later ∷ extended) ≡ term loan_1 june_30 ∷ []
 extended-terms = refl
 
--- one object comes back, and is agreed for another loan: each loan has its own line of it
+-- one object comes back, and is agreed for another loan: each loan has its own line for it
 
 abbrev again : List Entry
 again =
@@ -90,7 +90,7 @@ again-terms = refl
 abbrev row : List ℕ → ℕ → LineStage → LineRow
 row loan o stage = line_row (line loan o stage)
 
--- as the table has it: an object that is away
+-- the row of an object that is away, as the table has it
 row-away : row loan_1 object_2 Away ≡ record {
   loan = codes "LO2024.1";
   object = pos 3;
@@ -98,7 +98,7 @@ row-away : row loan_1 object_2 Away ≡ record {
 }
 row-away = refl
 
--- a line takes the place of that of its loan and object, and of no other
+-- a line replaces that of its loan and object, and no other
 put-one : put is_same_line (row loan_1 object_1 Back) (rows_of_lines museum extended)
     ≡ row loan_1 object_1 Back ∷ row loan_1 object_2 Away ∷ []
 put-one = refl
@@ -120,7 +120,7 @@ put-other_day : put is_same_loan (term loan_2 june_2) (rows_of_terms loan_out) �
     ∷ term loan_1 may_31 ∷ []
 put-other_day = refl
 
--- a refused message gives no last day, nor does one that neither agrees nor extends
+-- a refused message sets no last day, and neither does one that doesn't agree or extend
 no_day-not_later : term_of not_later ≡ None
 no_day-not_later = refl
 

@@ -1,4 +1,4 @@
--- The rows of a store computed on worked lists, and why wrong ones are refused.
+-- The rows of a store computed on worked lists, and why wrong ones are rejected.
 use Rattle.std.specs.Prelude.{ℕ, zero, suc, pos, negsuc, nat_abs, ◌-◌, ◌^◌, ◌≡◌, ◌≤◌, ◌<◌, ◌||◌, not, Bool, true, false, List, [], ◌∷◌, map, reverse, get_or, Some, None, slice_index, refl, codes, Err}
 use Rattle.std.proofs.Common.{arith, sym, ap, subst, ◌∙◌}
 use Rattle.std.specs.Str.{is_utf8, chars, bytes_eq}
@@ -29,8 +29,8 @@ use Rattle.posting_core.specs.VerdictNames.{verdict_number}
 use Rattle.register_store.proofs.OneList.{all_verdicts, of_number}
 use Rattle.register_store.proofs.WorkedTexts.{may, may-text, first_move, first_text, first_run-text, ann, spaced_text, begins}
 
--- two stations, three places of the museum's own and two partners', two crates, three own objects
--- and a borrowed one
+-- two stations, three places of the museum's own and two partners' places, two crates, three own
+-- objects and a borrowed one
 abbrev pub museum : Museum
 museum = record {
   stations = codes "PACK" ∷ codes "GAL" ∷ [];
@@ -62,7 +62,7 @@ object_1 = 2
 abbrev pub object_2 : ℕ
 object_2 = 3
 
--- setup_row_text: the setup's rows with their numbers, the last first
+-- setup_row_text: the setup's rows with their numbers, last first
 
 abbrev row : ℕ → List ℕ → SetupRow
 row id text = record { id = pos id; text = text }
@@ -97,7 +97,7 @@ depth_twelve = refl
 depths : map is_depth (0 ∷ 8 ∷ 9 ∷ 12 ∷ []) ≡ false ∷ true ∷ false ∷ true ∷ []
 depths = refl
 
--- held_then_posted: three entries of GAL, and what they wrote
+-- held_then_posted: three entries of GAL, and their rows
 
 abbrev pub entry : ℕ → ℕ → Message → Verdict → Entry
 entry station n m v = record { station = station; n = n; message = m; verdict = v }
@@ -130,14 +130,14 @@ held_then_posted-spots = refl
 held_then_posted-by_thing : spots_by_thing museum held_then_posted ≡ things_in_order
 held_then_posted-by_thing = refl
 
--- a refused entry writes no spot, nor does a Move to the place where the thing is, nor a sign-off
+-- no spot is written by a refused entry, a Move to the thing's own place, or a sign-off
 more-spots : all_written museum
     (entry gal 5 ann Applied ∷ entry gal 4 (Move may (codes "2001.4.1") (codes "S1-A")) Applied
     ∷ entry pack 1 (Move may (codes "2001.4.1") (codes "MUSEUM-X")) ElsewherePlace
     ∷ held_then_posted) ≡ spots_down
 more-spots = refl
 
--- what one more entry writes: a spot with the next number of its thing's list
+-- the rows that one more entry writes: a spot with the next number in its thing's list
 next-written : written museum held_then_posted
     (entry pack 1 (Move may (codes "2001.4.2") (codes "S1")) Applied) ≡ spot object_2 2 4 s1 ∷ []
 next-written = refl
@@ -175,11 +175,11 @@ bound = record {
 new-bound : bound_to museum new ≡ bound
 new-bound = refl
 
--- the rows of the three entries, the last first
+-- the rows of the three entries, last first
 abbrev posted : Content
 posted = record bound { postings = row_3 ∷ row_2 ∷ row_1 ∷ []; spots = map spot_row spots_down }
 
--- what an applied entry changes that is of no loan
+-- the changes of an applied entry about no loan
 abbrev pub moving : ℕ → List NewSpot → Changes
 moving number spots = record {
   entry = number;
@@ -198,7 +198,7 @@ three-posted :
     ≡ posted
 three-posted = refl
 
--- an old store stays, whatever it is bound to
+-- an old store stays as it is, whatever it is bound to
 old-bound : bound_to (record { stations = []; places = []; things = [] }) posted ≡ posted
 old-bound = refl
 
@@ -293,11 +293,11 @@ saying rows = record in_tables { meta = rows }
 version_nine : IsBindFault museum (saying (meta 9 12)) OtherVersion
 version_nine = refl
 
--- the version before this one isn't read either
+-- the previous version isn't read either
 version_one : IsBindFault museum (saying (meta 1 8)) OtherVersion
 version_one = refl
 
--- of each row: where it tells a depth limit, that is one that a store can have
+-- in each row, any depth limit is one that a store can have
 abbrev has_depth : MetaRow → Bool
 has_depth row = not (bytes_eq row.name (codes "depth")) || is_depth (nat_abs row.val)
 
@@ -315,13 +315,13 @@ no_depth : IsBindFault museum (saying (record { name = codes "version"; val = po
 no_depth =
     (refl, refl, refl, λ whole. let one = length_permutation _ _ whole.2 in absurd (omega arith))
 
--- a word more than the two
+-- one word besides the two
 one_word_more : IsBindFault museum
     (saying (record { name = codes "term"; val = pos 1 } ∷ meta 2 12)) (Damaged 0)
 one_word_more =
     (refl, refl, refl, λ whole. let one = length_permutation _ _ whole.2 in absurd (omega arith))
 
--- a setup of as many rows, of which the third differs
+-- a setup with as many rows, with another third row
 
 abbrev is_other_place : SetupRow → Bool
 is_other_place row = bytes_eq row.text (codes "place,S3,inside")
@@ -384,7 +384,7 @@ second_deleted = record {
   };
 }
 
--- a row that no entry of two stations has
+-- a row that is no entry of two stations
 
 differ : (a b : ℕ) → a < b → a ≡ b → ⊥
 differ a b less same = omega arith
@@ -408,16 +408,16 @@ no_such_verdict e kept known =
     subst (λ n. get_or all_verdicts n Applied ≡ e.verdict) (sym number) (of_number e.verdict) in
     differ 0 26 (omega arith) (ap verdict_number applied ∙ sym number)
 
--- a cell below 0 is no entry's, whatever stands in the others
+-- a negative cell is no entry's, whatever the other cells are
 negative_number : IsWrongRow 2 1 (record row_1 { n = negsuc 0 })
 negative_number e kept known = let n : negsuc 0 ≡ pos e.n = kept.n in absurd (cc)
 
--- a body that is read as the message, and isn't its one text
+-- a body that is read as the message, but isn't its one text
 another_text : IsWrongRow 2 1 (posting 1 gal 1 spaced_text 0)
 another_text e kept known = differ 32 34 (omega arith)
     (ap (λ l. slice_index l 1) (begins e.message spaced_text kept.body))
 
--- how often a store refused, up to the last number
+-- the count of Store faults, up to its limit
 
 refused_again : CountsRefusal {T = ℕ} 4 5 (Err Store)
 refused_again = refl

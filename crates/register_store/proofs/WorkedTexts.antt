@@ -1,4 +1,5 @@
--- The texts of messages computed on worked rows: what they spell, and the one text of each.
+-- The texts of messages computed on worked rows: the messages that they spell, and the one text of
+-- each.
 use Rattle.std.specs.Prelude.{ℤ, pos, ◌≤ℤ◌, ◌≡◌, List, ℕ, zero, suc, [], ◌∷◌, take, refl, codes, Ok, Err}
 use Rattle.std.specs.Str.{is_utf8, chars}
 use Rattle.std.proofs.Math.Utf8.{encode}
@@ -36,7 +37,7 @@ may-spelled =
       day_in = (omega arith, omega arith);
     }) may refl (omega (arith, signed_arith))
 
--- whatever spells a day of the calendar is its text
+-- every text that spells a day of the calendar is its only text
 same_text : (text : List ℕ) (day : ℤ) → IsOnlySpelling text day → first_number ≤ℤ day
     → day ≤ℤ last_number → day_text day ≡ text
 same_text text day is low high = is.only (day_text day) (text_spells_day day low high).spells
@@ -121,7 +122,7 @@ pub sign_off-reads_back : of_bytes (codes "{\"by\":\"Ann\",\"kind\":\"signoff\"}
 unfolding is_utf8 chars encode value punctuate lex content
 sign_off-reads_back = refl
 
--- an agreement, whose objects stand in the order given
+-- an agreement; its objects keep their order
 
 abbrev pub agreed : Message
 agreed = Agree may end_of_may (codes "LO2024.1") (codes "MUSEUM-X")
@@ -155,7 +156,7 @@ unfolding is_utf8 chars encode value punctuate lex content days_from_civil day_c
     days_of_months
 extend-reads_back = refl
 
--- whatever a message says, its text begins with a brace and a quote
+-- the text of every message begins with a brace and a quote
 pub begins : (m : Message) (text : List ℕ) → IsTextOf m text → take 2 text ≡ codes "{\""
 begins (Move day x p) text h = ap (take 2) h
 begins (Pack day x c) text h = ap (take 2) h
@@ -167,7 +168,7 @@ begins (Receive day x loan p) text h = ap (take 2) h
 begins (Extend last loan) text h = ap (take 2) h
 begins (SignOff name) text h = ap (take 2) h
 
--- other bytes of the same message: read, and not its text
+-- other bytes of the same message are read, but aren't its text
 
 abbrev pub spaced_text : List ℕ
 spaced_text =
@@ -188,7 +189,7 @@ no_text : of_bytes (255 ∷ []) ≡ Err NotJson
 unfolding is_utf8 chars encode
 no_text = refl
 
--- an object with this kind and these members beside
+-- an object with this kind and these other members
 abbrev of : List ℕ → Members → Data
 of kind members = object (put (codes "kind") (string kind) members)
 
@@ -210,7 +211,7 @@ no_such_kind = refl
 no_thing : of_json (of (codes "move") no_members) ≡ Err (Missing Thing)
 no_thing = refl
 
--- a wrong thing comes before a place that is missing
+-- a wrong thing comes before a missing place
 wrong_thing : of_json (of (codes "move") (with (codes "thing") (codes "2001.04") no_members))
     ≡ Err (BadField Thing)
 wrong_thing = refl
@@ -242,7 +243,7 @@ no_place_received : of_json (of (codes "receive")
     ≡ Err (Missing Place)
 no_place_received = refl
 
--- the objects of an agreement: 2001.4.1 so many times
+-- an agreement's objects: 2001.4.1, this many times
 abbrev many : ℕ → Items
 many zero = no_items
 many (suc n) = item (string (codes "2001.4.1")) (many n)

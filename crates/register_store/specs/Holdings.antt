@@ -1,5 +1,5 @@
--- Defines what a store may hold before and after a call on its register, and how the call changes
--- that.
+-- Defines the contents that a store may have before and after a call on its register, and how the
+-- call changes them.
 use Rattle.std.specs.Prelude.{◌≡◌, ◌⊎◌, true}
 use Rattle.nest_core.specs.Museum.{Museum}
 use Rattle.posting_core.specs.declared.entry.Changes.{Changes}
@@ -8,9 +8,9 @@ use Rattle.register_store.specs.declared.store_fault.StoreFault.{StoreFault}
 use Rattle.register_store.specs.StoredRows.{Content, PostingRow, AreSame, IsPostingRow, with_posted}
 use Rattle.register_store.specs.Registers.{is_failure, bound_to, IsBindFault}
 
--- `is_quiet`: nobody else writes to the store, and it returned what was written. `holds`: a content
--- that it may have, in any order of rows. A store in memory has one; after a failed write a store
--- on disk may have one of two.
+-- `is_quiet`: nobody else writes to the store, and it returned the rows that were written. `holds`:
+-- a content that it may have, in any order of rows. A store in memory has one; after a failed write
+-- a store on disk may have one of two.
 pub record Holding : Type 1 where
   pub is_quiet : Type 0
   pub holds : Content → Type 0

@@ -1,4 +1,4 @@
--- Defines what a register in memory keeps.
+-- Defines the content of a register in memory.
 use Rattle.std.specs.Prelude.{ℕ, ℤ, pos, ◌==◌, ◌&&◌, Bool, false, List, [], map, Option, Some, None, ⊤, Vec, String, string_bytes}
 use Rattle.std.specs.List.{flat_map}
 use Rattle.std.specs.Map.{lookup}

@@ -1,4 +1,4 @@
--- Defines the faults of a register: when each can come, and what it counts.
+-- Defines the faults of a register: when each can come, and which are counted.
 use Rattle.std.specs.Prelude.{ℕ, pos, ◌≡◌, ◌+◌, ◌-◌, ◌^◌, ◌<◌, ◌≤◌, ◌&&◌, min, Bool, true, false, not, List, [], ◌∷◌, ◌++◌, length, reverse, All, Result, Ok, Err, OnOk, IfErr, codes}
 use Rattle.std.specs.List.{list_any}
 use Rattle.std.specs.List.Sorted.{IsPermutation, IsSortedByKey}

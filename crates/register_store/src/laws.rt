@@ -41,8 +41,8 @@ pub fn whole_list()
         → All (IsOfStation stations) P → IsListFault stations c (StoreFault.Damaged at) → ⊥ }
 {}
 
-/// After `post` returned `Ok`, a quiet store can't have every content. A register that loses what
-/// was posted can't keep its contract by allowing any content.
+/// After `post` returned `Ok`, a quiet store can't have every content. A register that loses posted
+/// entries can't keep its contract by allowing any content.
 pub fn posted_holds_not_anything<R: Register>()
     ensures { (old new : R) (e : Entry) (changes : Changes)
         → Comes (R.holding old) (R.holding new) (IsPosted e changes)
@@ -50,14 +50,15 @@ pub fn posted_holds_not_anything<R: Register>()
 {}
 
 /// After `post` returned `Ok`, a quiet store that had a content before still has one. A register
-/// that loses what was posted can't keep its contract by allowing no content.
+/// that loses posted entries can't keep its contract by allowing no content.
 pub fn posted_holds_something<R: Register>()
     ensures { (old new : R) (e : Entry) (changes : Changes) (c : Content)
         → Comes (R.holding old) (R.holding new) (IsPosted e changes)
         → (R.holding new).is_quiet → (R.holding old).holds c → IsEmpty (R.holding new) → ⊥ }
 {}
 
-/// A register in memory is always quiet: nobody else writes to it, and it returns what was written.
+/// A register in memory is always quiet: nobody else writes to it, and it returns the rows that
+/// were written.
 pub fn memory_is_quiet(register: &PlainRegister)
     ensures { (in_memory register.now).is_quiet }
 {

@@ -1,15 +1,15 @@
 //! Messages as JSON text, and registers, which keep a posted list in a store.
 //!
 //! [`read_message`] reads a message from JSON, or returns its first [`ReadFault`]. [`message_text`]
-//! writes it: each message has one text, and reading that text returns the message. [`Register`] is
-//! the trait of what keeps a posted list: it binds a setup, posts entries and lists them, or fails
-//! with a [`StoreFault`]. [`PlainRegister`] keeps its rows in memory; `register_sql` keeps them in
-//! an SQLite database.
+//! writes it: each message has one text, and reading that text returns the message. A [`Register`]
+//! keeps a posted list: it binds a setup, posts entries and lists them, or fails with a
+//! [`StoreFault`]. [`PlainRegister`] keeps its rows in memory; `register_sql` keeps them in an
+//! SQLite database.
 //!
 //! Contracts speak of every content that a store may have after a call, if the store is quiet:
-//! nobody else writes to it, and it returns what was written. An entry is stored with all its rows
-//! or, after a fault, perhaps not at all. Listing returns all entries, or names the first damaged
-//! row. [`laws`] has what follows for every register.
+//! nobody else writes to it, and it returns the rows that were written. An entry is stored with all
+//! its rows or, after a fault, perhaps not at all. Listing returns all entries, or names the first
+//! damaged row. [`laws`] has the facts that follow for every register.
 //!
 //! ```text
 //! let mut register = PlainRegister::new(alloc);

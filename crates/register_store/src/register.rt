@@ -1,4 +1,4 @@
-//! The trait of what keeps a posted list.
+//! The trait of registers, which keep a posted list in a store.
 ghost use Rattle.std.specs.Prelude.{◌≡◌, ◌⊎◌, ℕ, Bool, true, Err, length, reverse, All, IfOk, IfErr, OnOk, OnErr};
 ghost use Rattle.std.specs.Bool.{Decides};
 ghost use Rattle.register_store.specs.StoredRows.{AreSame, IsBoundTo, HasList, HasRows};
@@ -17,7 +17,7 @@ use std::alloc::Global;
 /// each comes from a content that the store may have had before. A store that was bound has some
 /// content.
 pub trait Register {
-    /// What the store may have in it.
+    /// The contents that the store may have.
     ghost holding: { Self → Holding };
 
     /// Whether a setup is bound to the register.

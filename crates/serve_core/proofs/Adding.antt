@@ -1,4 +1,4 @@
--- What is appended in two steps.
+-- Bytes that are appended in two steps.
 use Rattle.std.proofs.Common.{◌≡◌, ◌∙◌, ◌+◌, ◌≤◌, ◌++◌, ℕ, List, Result, String, length, string_bytes, string_len, string_capacity, ap, arith, append_assoc, length-append}
 use Rattle.std.proofs.lemmas.Result.{on_ok_weaker}
 use Rattle.std.specs.declared.alloc.Global.{Global}

@@ -34,7 +34,7 @@ answered-append S depth O A (l ∷ G) H g h = (
       (sym (append_assoc A (sent_item l.station l.item) (log_arrivals G))) h),
 )
 
--- nothing was taken
+-- no item was taken
 pub answers_none : {R : Type 0} (holding : R → Holding) (a b : State R)
     → b.book.museum ≡ a.book.museum → b.book.depth ≡ a.book.depth → Answers holding a b []
 answers_none holding a b museum depth = record {
@@ -108,7 +108,7 @@ met_first holding a b s x museum depth m = record {
       (sym (append-nil A)) (m O A st);
 }
 
--- in an arrival
+-- in the arrival of an item
 pub met_in : {R : Type 0} (holding : R → Holding) (old new : State R) (O : List Entry)
     (A : List Arrival) (r : Arrival) → StandsFor holding old O A → new.down ≡ true
     → new.book.museum ≡ old.book.museum → new.book.depth ≡ old.book.depth

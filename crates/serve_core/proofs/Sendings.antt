@@ -1,4 +1,4 @@
--- What the threads hand back, put together with what was taken.
+-- The lanes that the threads hand back, and the items taken.
 use Rattle.std.proofs.Common.{◌≡◌, ℕ, zero, suc, ◌<◌, List, [], ◌∷◌, ◌++◌, length, map, Bool, true, false, inl, inr, refl, ap, ◌∙◌, sym, subst, arith, append_assoc, append-nil, get_or}
 use Rattle.std.proofs.lemmas.List.Elements.{All-append, All-cons, All-head, All-nil, All-tail}
 use Rattle.std.specs.Prelude.{All}
@@ -58,7 +58,7 @@ settled_at cs0 cs xs0 xs i c x p q lc lx ac ax b = (
       ∙ (b.1 ∙ ap (λ (ys : List Item). ys ++ b.0) (sym (received_here cs i c lc ac) ∙ p))),
 )
 
--- the lanes that come back are those of the rings, and have the feeds' items
+-- the returned lanes are those of the rings, and have the feeds' items
 module _ {H X : Type 0} (lane : H → Lane) (feed : H → X) (its : X → List Item) where
   pub back_to : (hs : List H) (xs : List Sent) (cs0 cs : List Ring)
       → AllZip (λ h x. Sends (lane h) (its (feed h)) x) hs xs → AllZip IsFresh (map lane hs) cs0
@@ -92,7 +92,7 @@ module _ {H X : Type 0} (lane : H → Lane) (feed : H → X) (its : X → List I
     back_of hs xs cs0 a.1 b.1,
   )
 
--- the ends of the lanes that came back
+-- the ends of the returned lanes
 pub ends_on : (xs : List Sent) (es : List LaneEnd) (cs : List Ring) → AllZip IsEndOfSent xs es
     → AllZip IsSentTo xs cs → AllZip IsEndOn es cs
 ends_on [] [] [] a b = tt
@@ -113,7 +113,7 @@ ended_sent (x ∷ xs) [] s a = absurd a
 ended_sent (x ∷ xs) (e ∷ es) zero a = a.0.1
 ended_sent (x ∷ xs) (e ∷ es) (suc s) a = ended_sent xs es s a.1
 
--- a front of each feed was sent, and each whole where all are
+-- the first part of each feed was sent, and all of it if all are whole
 front_sent : (xs : List Sent) (fs : List (List Item)) (s : ℕ) → AllZip IsSent xs fs
     → Begins (sent_at xs s) (items_at fs s)
 front_sent [] [] s a = ([], refl)
@@ -142,7 +142,7 @@ begins_trans : (xs ys zs : List Item) → Begins xs ys → Begins ys zs → Begi
 begins_trans xs ys zs p q =
     (p.0 ++ q.0, q.1 ∙ (ap (λ (us : List Item). us ++ q.0) p.1 ∙ append_assoc xs p.0 q.0))
 
--- what is left, behind what was taken first
+-- the items left after those taken first
 left_after : (ls : List Lane) (cs0 cs : List Ring) (G H : List LogLine) (s : ℕ)
     → AllZip IsFresh ls cs0 → Takes cs0 cs G
     → received_at cs s ++ items_of s H ≡ items_of s (G ++ H)
@@ -157,7 +157,7 @@ stations_both n m k G H p q a b =
     All-append (λ l. l.station < m) G H (subst (λ (i : ℕ). AreOfStations i G) p a)
     (subst (λ (i : ℕ). AreOfStations i H) q b)
 
--- how many feeds, lanes and rings there are
+-- the numbers of feeds, lanes and rings
 module _ (ls : List Lane) (cs0 cs : List Ring) (xs : List Sent) (fs : List (List Item)) where
   feeds_count : AllZip SameConsumer cs0 cs → AllZip IsSentTo xs cs → AllZip IsSent xs fs
       → length cs0 ≡ length fs
@@ -167,7 +167,7 @@ module _ (ls : List Lane) (cs0 cs : List Ring) (xs : List Sent) (fs : List (List
   rings_count : AllZip IsSentTo xs cs → AllZip IsSent xs fs → length cs ≡ length fs
   rings_count to of = sym (zip_length IsSentTo xs cs to) ∙ zip_length IsSent xs fs of
 
-  -- a fault while turning
+  -- a fault during the turns
   pub fronts_stopped : (G : List LogLine) (fault : ServeFault) → AllZip IsFresh ls cs0
       → TakesSome cs0 cs G → AllZip IsSentTo xs cs → AllZip IsSent xs fs
       → ((s : ℕ) → s < length cs → Begins (received_at cs s) (sent_at xs s))
@@ -183,7 +183,7 @@ module _ (ls : List Lane) (cs0 cs : List Ring) (xs : List Sent) (fs : List (List
     named = named;
   }
 
-  -- all have ended, and what was left was taken, or a front of it
+  -- all threads have ended, and the items left were taken, perhaps only the first of them
   pub fronts_left : (G H : List LogLine) (fault : ServeFault) → AllZip IsFresh ls cs0
       → Takes cs0 cs G → AllZip IsSentTo xs cs → AllZip IsSent xs fs
       → AreOfStations (length cs) H → SentFront cs xs H → IsOneOf (length fs) fault
@@ -209,7 +209,7 @@ module _ (ls : List Lane) (cs0 cs : List Ring) (xs : List Sent) (fs : List (List
         ∙ (left s (let e = rings_count to of in omega (arith, e)) ∙ whole_sent xs fs s whole of);
   }
 
--- a log that was empty
+-- a log that was empty before
 pub log_whole : (xs ys zs G H : List LogLine) → xs ≡ [] → ys ≡ xs ++ G → zs ≡ ys ++ H → zs ≡ G ++ H
 log_whole xs ys zs G H e p q =
     q ∙ ap (λ (ls : List LogLine). ls ++ H) (p ∙ ap (λ (ls : List LogLine). ls ++ G) e)
@@ -219,7 +219,7 @@ hub_named n hub.NoMemory = tt
 hub_named n hub.Store = tt
 hub_named n hub.Down = tt
 
--- what a view shows
+-- the view after the lanes were looked at
 pub settled_view : (cs arg : List Ring) (xs : List Sent) (n : ℕ) → cs ≡ arg → n ≡ length cs
     → ((s : ℕ) → s < n → Begins (received_at cs s) (sent_at xs s))
     → (s : ℕ) → s < length arg → Begins (received_at arg s) (sent_at xs s)
@@ -235,7 +235,7 @@ fronts_none fs fault named = record {
   named = named;
 }
 
--- what the ends tell is what was sent
+-- the ends have the items that were sent
 pub left_front : (cs : List Ring) (xs0 xs : List Sent) (cs1 : List Ring) (es : List LaneEnd)
     (G : List LogLine) → AllZip IsStill xs0 xs → AllZip IsEndOfSent xs es
     → length cs1 ≡ length cs → ((s : ℕ) → received_at cs1 s ≡ received_at cs s)
@@ -256,7 +256,7 @@ left_whole cs xs0 xs cs1 es G still ends len same left s lt =
     ap (λ (ys : List Item). ys ++ items_of s G) (sym (same s))
     ∙ (left s (omega (arith, len)) ∙ (ended_sent xs es s ends ∙ still_at xs0 xs s still))
 
--- no line more
+-- no more lines
 pub none_left : (cs : List Ring) (xs : List Sent)
     → ((s : ℕ) → s < length cs → Begins (received_at cs s) (sent_at xs s)) → SentFront cs xs []
 none_left cs xs settled s lt = (
@@ -265,7 +265,7 @@ none_left cs xs settled s lt = (
       (sym (append-nil (received_at cs s))),
 )
 
--- a front of each feed, and the one item more that met a fault
+-- the first part of each feed, and the next item, which met a fault
 stations_left : (n : ℕ) (G H : List LogLine) → AreOfStations n (G ++ H) → AreOfStations n G
 stations_left n [] H a = All-nil (λ l. l.station < n)
 stations_left n (l ∷ G) H a =
@@ -283,7 +283,7 @@ fronts_shorter fs G H fault f = record {
 }
 
 module _ {R : Type 0} (holding : R → Holding) where
-  -- what a serving leaves, by its fault
+  -- the state after a serving, by its fault
   pub stops_after : (a b : State R) (fs : List (List Item)) (G : List LogLine) (fault : HubFault)
       → (fault ≡ hub.Store → b.down ≡ true) → Stops holding a b fs G (serve_fault fault)
       → AfterFault holding a b fs G (serve_fault fault)
@@ -307,7 +307,7 @@ module _ {R : Type 0} (holding : R → Holding) where
       fronts_shorter fs G (dropped h.0.station h.0.item ∷ []) faults.Store h.0.fronts
   after_fronts a b fs G (faults.Unfinished s) le = le.fronts
 
-  -- what ending the lanes leaves, by its fault
+  -- the state after ending the lanes, by its fault
   pub stops_lanes_after : (a b : State R) (cs : List Ring) (xs : List Sent) (old new : List LogLine)
       (fault : HubFault) → (fault ≡ hub.Store → b.down ≡ true)
       → StopsLanes holding a b cs xs old new
@@ -327,7 +327,7 @@ module _ {R : Type 0} (holding : R → Holding) where
   missing_lanes a b cs xs old new false fault station missing memory lt le =
       subst (λ (f : ServeFault). EndsLanes holding a b cs xs old new f) (sym (memory refl)) (inr le)
 
-  -- turning, and then ending the lanes
+  -- the turns, and then ending the lanes
   module _ (a b c : State R) (ls : List Lane) (cs0 cs : List Ring) (xs : List Sent)
       (fs : List (List Item)) (log0 log1 log2 G : List LogLine)
       (fresh : AllZip IsFresh ls cs0) (t : Takes cs0 cs G) (to : AllZip IsSentTo xs cs)

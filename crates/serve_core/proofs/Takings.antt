@@ -1,4 +1,4 @@
--- What taking items does to the rings.
+-- The effect of taking items on the rings.
 use Rattle.std.proofs.Common.{◌≡◌, ◌≢◌, ℕ, take, drop, zero, suc, ◌+◌, ◌<◌, ◌≤◌, ◌==◌, Bool, true, false, List, [], ◌∷◌, ◌++◌, length, map, Option, Some, refl, ap, ◌∙◌, sym, subst, arith, append_assoc, append-nil, get_or}
 use Rattle.std.proofs.lemmas.Bool.Decides.{nat_tests}
 use Rattle.std.proofs.lemmas.List.{map-append, length-set}
@@ -80,7 +80,7 @@ items_of_other t s (l ∷ G) ne of =
 pub item_of_line : (s : ℕ) (l : LogLine) → l.station ≡ s → items_of s (l ∷ []) ≡ l.item ∷ []
 item_of_line s l is = let e : (l.station == s) ≡ true = grind (arith, nat_tests) in rw e refl
 
--- member i changes: what is read at s, by a test that gives `none` where there is no member
+-- Member i changes. `read` is `f` of a member that exists.
 module _ {X : Type 0} (f : X → List Item) (read : Option X → List Item) (is : (x : X)
     → read (Some x) ≡ f x) where
   pub read_here : (xs : List X) (i : ℕ) (x : X) → i < length xs → x ≡ get_or xs i x
@@ -119,7 +119,7 @@ pub ended_here : (es : List LaneEnd) (i : ℕ) (e : LaneEnd) → i < length es �
     → ended_at es i ≡ end_items e
 ended_here = read_here end_items ended_of (λ x. refl)
 
--- a ring's lines, after those before
+-- a ring's lines, after the earlier ones
 taken_here : (bs cs : List Ring) (G H : List LogLine) (i : ℕ) (c d : Ring) (rest : List Item)
     → received_at cs i ≡ received_at bs i ++ items_of i G → i < length cs → c ≡ get_or cs i c
     → received_is d ≡ (received_is c ++ items_of i H) ++ rest
@@ -148,7 +148,7 @@ are_of_stations count s (l ∷ G) lt of =
     All-cons (λ l. l.station < count) l G (let e = of.0 in omega (arith, e))
     (are_of_stations count s G lt of.1)
 
--- one ring more gave its items
+-- items were taken from one more ring
 takes_stations : (bs cs : List Ring) (G H : List LogLine) (i : ℕ) → Takes bs cs G → i < length cs
     → AreOf i H → AreOfStations (length bs) (G ++ H)
 takes_stations bs cs G H i t lt of =
@@ -281,7 +281,7 @@ are_of_push : (s : ℕ) (G : List LogLine) (l : LogLine) → AreOf s G → l.sta
 are_of_push s [] l of is = (is, tt)
 are_of_push s (m ∷ G) l of is = (of.0, are_of_push s G l of.1 is)
 
--- one item more of a ring
+-- one more item from a ring
 pub takes_push : (s : ℕ) (b c d : Ring) (G : List LogLine) (l : LogLine) (x : Item)
     → TakesOf s b c G → SameConsumer c d → received_is d ≡ received_is c ++ x ∷ [] → IsLineOf s x l
     → TakesOf s b d (G ++ l ∷ [])
@@ -301,7 +301,7 @@ pub moved : (r r' k k' all : List Item) (x : Item) → r ++ k ≡ all → r' ≡
 moved r r' k k' all x p q h = ap (λ (xs : List Item). xs ++ k') q
     ∙ (append_assoc r (x ∷ []) k' ∙ (ap (λ (xs : List Item). r ++ xs) (sym h) ∙ p))
 
--- what was taken is a front of what was sent, so what the lines have is one
+-- the items taken are the first of those sent, so those in the lines are too
 pub front_of_lines : (cs0 cs : List Ring) (es : List LaneEnd) (G : List LogLine)
     → TakesSome cs0 cs G → ((s : ℕ) → s < length cs → Begins (received_at cs s) (ended_at es s))
     → TakesFront cs0 es G
@@ -362,7 +362,7 @@ stations_after : (a b : List Ring) (G H : List LogLine) → length a ≡ length 
 stations_after a b G H e p q =
     All-append (λ l. l.station < length a) G H p (subst (λ (n : ℕ). AreOfStations n H) (sym e) q)
 
--- one turn after others
+-- one turn after the others
 pub takes_after : (a b c : List Ring) (G H : List LogLine) → Takes a b G → Takes b c H
     → Takes a c (G ++ H)
 takes_after a b c G H p q = record {

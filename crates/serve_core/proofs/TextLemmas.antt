@@ -9,7 +9,7 @@ use Rattle.serve_core.specs.declared.item.Item.{Item}
 use Rattle.serve_core.specs.declared.text_feed.Place.{Place}
 use Rattle.serve_core.specs.Feeds.{line_items, items_from, items_left}
 
--- a text up to a line feed, and what is behind it
+-- a text up to a line feed, and the text after it
 cut_at : (xs : List ℕ) (n : ℕ) → take (n + 1) xs ≡ take n xs ++ 10 ∷ []
     → xs ≡ take n xs ++ 10 ∷ drop (n + 1) xs
 cut_at xs n e = sym (take-append-drop (n + 1) xs) ∙ ap (λ (ys : List ℕ). ys ++ drop (n + 1) xs) e
@@ -24,12 +24,12 @@ lines_last [] there h = absurd (omega arith)
 lines_last (x ∷ p) there h = ap (map line_of) (pieces_last x p h) ∙ ap (λ (l : List ℕ). l ∷ [])
     (line_last (x ∷ p) h)
 
--- what stands from a place on
+-- the text from a position on
 pub rest_is : (bytes : List ℕ) (at : ℕ) → take (length bytes - at) (drop at bytes) ≡ drop at bytes
 rest_is bytes at = let l : length (drop at bytes) ≡ length bytes - at = length-drop at bytes in
     take_all (length bytes - at) (drop at bytes) (omega (arith, l))
 
--- the first line of what is left, and the rest
+-- the first line of the remaining text, and the rest
 pub next_line : (bytes rest : List ℕ) (at n next : ℕ) → rest ≡ drop at bytes → at < length bytes
     → n ≤ length rest → HasNoFeed (take n rest)
     → (n < length rest → take (n + 1) rest ≡ take n rest ++ 10 ∷ [])
@@ -53,7 +53,7 @@ next_line bytes rest at n next same lt le h fed given =
     rw (whole, drop_all next bytes e) (lines_last rest there (subst HasNoFeed whole h)))
     (cases_lt n (length rest))
 
--- the items of what is left are those of its first line and of the rest
+-- the items of the remaining text are those of its first line and of the rest
 pub next_items : (bytes : List ℕ) (p q : Place) (line : List ℕ) → q.number ≡ p.number + 1
     → lines (drop p.at bytes) ≡ line ∷ lines (drop q.at bytes)
     → items_left bytes p ≡ line_items p.number line ++ items_left bytes q

@@ -34,7 +34,7 @@ use Rattle.serve_core.specs.Sending.{serve_fault, CountsServe, IsOneOf, items_at
 empty_lines : text_items (codes "\n\r\n") ≡ []
 empty_lines = refl
 
--- what a line asks is its item; a fault bears the line's number
+-- the request of a line is its item; a fault has the line's number
 question_asked : asked_item 2 (Ok (asks.Ask (codes "2001.4.1"))) ≡ Ask (codes "2001.4.1")
 question_asked = refl
 
@@ -45,14 +45,14 @@ message_asked = refl
 faulty_line : asked_item 2 (Err NotJson) ≡ Bad 2 (Read NotJson)
 faulty_line = refl
 
--- a line of 16,385 bytes isn't read, whatever they are
+-- a line of 16,385 bytes isn't read, whatever its bytes
 line_too_long : (b : ℕ) (rest : List ℕ) → length rest ≡ 16384
     → line_items 3 (b ∷ rest) ≡ Bad 3 TooLong ∷ []
 line_too_long b rest long =
     ap (λ (n : ℕ). (if nat_lt LONGEST_LINE (suc n) then Bad 3 TooLong else asked_item 3
     (request_in (b ∷ rest))) ∷ []) long
 
--- ---- two_feeds: PACK and GAL each send a move, and then ask where their object is
+-- ---- two_feeds: PACK and GAL each send a move, and then a question about their object
 
 abbrev move_1 : Item
 move_1 = Scan 1 (moved (codes "2001.4.1") (codes "S1"))
@@ -84,7 +84,7 @@ gal_asked = line gal ask_2 (Found (At s2 []))
 abbrev pack_asked : LogLine
 pack_asked = line pack ask_1 (Found (At s1 []))
 
--- the log of one of the orders that there can be
+-- the log of one of the possible orders
 abbrev both : List LogLine
 both = pack_moved ∷ gal_moved ∷ gal_asked ∷ pack_asked ∷ []
 
@@ -116,13 +116,13 @@ faulty-sends = refl
 faulty-unread : item_reply museum 12 [] [] gal (Bad 3 TooLong) ≡ Unread
 faulty-unread = refl
 
--- a question after the move isn't answered as before it
+-- a question after the move isn't answered as if before it
 answered_at_the_opening : IsAnswered museum 12 [] []
     (pack_moved ∷ line pack ask_1 (Found Unplaced) ∷ []) → ⊥
 unfolding window
 answered_at_the_opening h = let e : Found Unplaced ≡ Found (At s1 []) = h.1.0 in cc
 
--- nor one before it as after it
+-- nor one before it as if after it
 answered_at_the_end : IsAnswered museum 12 [] [] (pack_asked ∷ pack_moved ∷ []) → ⊥
 unfolding window
 answered_at_the_end h = let e : Found (At s1 []) ≡ Found Unplaced = h.0 in cc
@@ -154,23 +154,23 @@ two_feeds-merge = record { stations = of_two; whole = whole_of_two }
 lost : IsMerge feeds (pack_moved ∷ gal_moved ∷ gal_asked ∷ []) → ⊥
 lost h = let e : move_1 ∷ [] ≡ move_1 ∷ ask_1 ∷ [] = h.whole 0 pack_of_two in cc
 
--- nor says one twice
+-- nor repeats one
 twice : IsMerge feeds (pack_moved ∷ both) → ⊥
 twice h = let e : move_1 ∷ move_1 ∷ ask_1 ∷ [] ≡ move_1 ∷ ask_1 ∷ [] = h.whole 0 pack_of_two in cc
 
--- nor turns a station's items round, though it has all of both
+-- nor swaps a station's items, even if it has all of both
 turned_round : IsMerge feeds (pack_asked ∷ gal_moved ∷ gal_asked ∷ pack_moved ∷ []) → ⊥
 turned_round h = let e : ask_1 ∷ move_1 ∷ [] ≡ move_1 ∷ ask_1 ∷ [] = h.whole 0 pack_of_two in cc
 
--- nor has a line of a station without a feed
+-- nor has a line for a station without a feed
 of_another : IsMerge feeds (line 2 ask_1 (Found Unplaced) ∷ both) → ⊥
 of_another h = let known : 2 < 2 =
     All-head (λ (l : LogLine). l.station < 2) (line 2 ask_1 (Found Unplaced)) both h.stations
     in omega arith
 
--- ---- what is printed of it
+-- ---- the printed text
 
--- what both moves posted, oldest first
+-- the entries of both moves, oldest first
 abbrev posted_both : List Entry
 posted_both = reverse (posted museum 12 [] (log_arrivals both))
 
@@ -197,7 +197,7 @@ printed-faulty = refl
 
 -- ---- after a fault
 
--- the first lines of each are a front of it
+-- the first lines of each are the first part of its feed
 front_of_each : (s : ℕ) → s < 2 → Begins (items_of s (gal_moved ∷ [])) (items_at feeds s)
 front_of_each zero lt = (move_1 ∷ ask_1 ∷ [], refl)
 front_of_each (suc zero) lt = (ask_2 ∷ [], refl)
@@ -211,7 +211,7 @@ stopped-fronts = record {
   named = tt;
 }
 
--- with the item that met the fault they still are
+-- and still are with the item that met the fault
 front_with_item : (s : ℕ) → s < 2
     → Begins (items_of s (gal_moved ∷ dropped pack move_1 ∷ [])) (items_at feeds s)
 front_with_item zero lt = (ask_1 ∷ [], refl)
@@ -228,17 +228,17 @@ stopped-with_item = record {
   named = tt;
 }
 
--- an item that isn't the next of its feed didn't meet it
+-- an item that isn't the next of its feed didn't meet the fault
 met_too_late : AreFronts feeds (gal_moved ∷ dropped pack ask_1 ∷ []) Store → ⊥
 met_too_late h = let behind =
     h.front 0 pack_of_two in let e : move_1 ∷ ask_1 ∷ [] ≡ ask_1 ∷ behind.0 = behind.1 in cc
 
--- what comes behind a lost item is none
+-- the items after a lost item don't count
 passed_over : AreFronts feeds (gal_asked ∷ []) Store → ⊥
 passed_over h = let behind = h.front 1 gal_of_two in
     let e : move_2 ∷ ask_2 ∷ [] ≡ ask_2 ∷ behind.0 = behind.1 in cc
 
--- a fault names one of so many stations, or none
+-- a fault names one of this many stations, or none
 last_of_two : IsOneOf 2 (Unfinished 1)
 last_of_two = gal_of_two
 
@@ -255,7 +255,7 @@ faults_told = refl
 differ : (a b : ℕ) → a < b → a ≡ b → ⊥
 differ a b less same = omega arith
 
--- Store is counted up to the last number of 64 bits, and nothing else is counted
+-- Store is counted up to 2^64 - 1, and no other fault is counted
 counted : CountsServe 3 4 Store × CountsServe (2 ^ 64 - 1) (2 ^ 64 - 1) Store
     × CountsServe 3 3 NoMemory × CountsServe 3 3 (Unfinished 0)
 counted = (refl, refl, refl, refl)
@@ -263,7 +263,7 @@ counted = (refl, refl, refl, refl)
 store_uncounted : CountsServe 3 3 Store → ⊥
 store_uncounted h = differ 3 4 (omega arith) h
 
--- ---- one turn: of each station a line at most, in their order
+-- ---- one turn: at most one line from each station, in their order
 
 nought : 0 ≤ 0
 nought = omega arith

@@ -1,4 +1,5 @@
--- Defines what the threads of the stations send and hand back, and how a serving can end.
+-- Defines the items that the stations' threads send, the lanes that they hand back, and how a
+-- serving can end.
 use Rattle.std.specs.Prelude.{ℕ, ◌≡◌, ◌<◌, ◌≤◌, ◌+◌, ◌-◌, ◌^◌, min, true, Option, Some, None, ◌⊎◌, List, [], ◌∷◌, ◌++◌, length, slice_get, unwrap_or}
 use Rattle.rtrb.specs.Ring.{IsPair}
 use Rattle.hub_core.specs.declared.hub.answer.HubFault.{HubFault}
@@ -22,8 +23,8 @@ pub record IsSent (sent : Sent) (items : List Item) : Type 0 where
   pub front : Begins (sent_items sent.lane) items
   pub whole : sent.whole ≡ true → sent_items sent.lane ≡ items
 
--- A station's thread sent its feed: it hands back its own lane, through which the first items of
--- the feed went after what was sent before, and all of them if the feed came to its end.
+-- A station's thread sent its feed and hands back its own lane. After the items sent before, the
+-- first items of the feed went through it, and all of them if the feed came to its end.
 pub record Sends (lane : Lane) (items : List Item) (back : Sent) : Type 0 where
   pub same : SameLane lane back.lane
   pub back_is : IsSent back (sent_items lane ++ items)
@@ -42,7 +43,7 @@ IsSentTo sent c = IsPair sent.lane.producer c
 abbrev pub IsEndOfSent : Sent → LaneEnd → Type 0
 IsEndOfSent sent e = IsEndOf sent.lane e
 
--- There is room for what this many threads hand back, and for as many ends.
+-- There is room for the results of this many threads, and for as many ends.
 pub record HasRoom (count : ℕ) (room : Room) : Type 0 where
   pub few : count < 2 ^ 32
   pub none : room.found.items ≡ []
@@ -132,7 +133,7 @@ AfterFault holding before after feeds G serve.Store =
 AfterFault holding before after feeds G (serve.Unfinished s) =
     Leaves holding before after feeds G (serve.Unfinished s)
 
--- While the lanes were ended and what was left in them was logged, an item met the fault: it is the
+-- While the lanes were ended and their last items were logged, an item met the fault: it is the
 -- next of its lane after those in the log.
 pub record StopsLanes {R : Type 0} (holding : R → Holding) (before after : State R)
     (cs : List Ring) (found : List Sent) (old new : List LogLine) : Type 0 where

@@ -11,7 +11,7 @@ use codes_core::NoMemory;
 use rtrb::Consumer;
 use std::alloc::Global;
 
-/// Room for what the threads hand back, and for the ends of their lanes. It is made before the
+/// Room for the results of the threads, and for the ends of their lanes. It is made before the
 /// first thread starts, so that joining the threads and ending the lanes need no memory.
 #[derive(Drop)]
 pub(crate) struct Room {
@@ -32,7 +32,7 @@ impl Room {
 
 impl Intake {
     /// Looks at each lane that was handed back together with its ring. Nothing is taken or sent;
-    /// the look lets the contract say that what was taken is the first part of what was sent.
+    /// the look lets the contract say that the items taken are the first of those sent.
     pub(crate) fn settle_lanes(&mut self, found: &mut Vec<Sent>)
         requires { AllZip IsSentTo found.old.items self.old }
         ensures rings { AllZip SameConsumer self.old self.new }

@@ -19,7 +19,7 @@ use std::alloc::Global;
 use std::marker::Model;
 
 /// The receiving end of all lanes, in the thread that owns the hub. Contracts see it as the rings,
-/// each with what was taken from it.
+/// each with the items taken from it.
 #[derive(Drop)]
 pub struct Intake {
     pub(crate) rings: Vec<Consumer<Item>>,
@@ -105,8 +105,8 @@ impl Intake {
             ((G : List LogLine) × (log.new ≡ log.old ++ G)
             × Serves R.holding hub.old hub.new G × AreOfStations (length self) G
             × TakesLeft self ends.items G) }
-        // The lines, and then the item that met the fault, are the first items of what was left in
-        // each lane.
+        // The logged items, and then the one that met the fault, are the first items that were left
+        // in each lane.
         ensures fault { OnErr result
             ((G : List LogLine) × (s : ℕ) × (item : Item) × (log.new ≡ log.old ++ G)
             × ServesTo R.holding hub.old hub.new G s item

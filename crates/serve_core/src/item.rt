@@ -51,7 +51,7 @@ impl Item {
 pub enum Reply {
     /// The hub's answer to a message.
     Answered(Answer),
-    /// Where the thing of a question is.
+    /// The place of a question's thing.
     Found(Where),
     /// A faulty line isn't passed to the hub.
     Unread,

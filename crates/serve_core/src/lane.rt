@@ -14,7 +14,7 @@ pub struct Lane {
     pub(crate) producer: Producer<Item>,
 }
 
-/// What is left of a lane that has ended: it knows all that was sent through the lane.
+/// A lane that has ended. It knows all items that were sent through the lane.
 #[derive(Drop)]
 pub struct LaneEnd {
     pub(crate) finished: Finished<Item>,
@@ -26,8 +26,8 @@ pub struct Full(pub Item);
 
 impl Lane {
     /// Sends an item after those that were sent before. Full hands the item back, and nothing was
-    /// sent. The call needs no memory and doesn't wait; no clause says that Full comes only from a
-    /// full lane.
+    /// sent. The call needs no memory and doesn't wait. No clause promises that Full comes only
+    /// from a full lane.
     pub fn send(&mut self, item: Item) -> Result<(), Full>
         ensures lane { SameLane self.old self.new }
         ensures sent { OnOk result (sent_items self.new ≡ sent_items self.old ++ item ∷ []) }
@@ -40,8 +40,9 @@ impl Lane {
         }
     }
 
-    /// Ends the lane. Its end knows all that was sent through it. None can come only if the intake
-    /// was dropped before, though no clause says so. The call needs no memory and doesn't wait.
+    /// Ends the lane. Its end knows all items that were sent through it. None can come only if the
+    /// intake was dropped before, though no clause promises that. The call needs no memory and
+    /// doesn't wait.
     pub fn finish(self) -> Option<LaneEnd>
         ensures { IfSome result (λ e. IsEndOf self e) }
     {

@@ -14,7 +14,7 @@ use std::sync::{Arc, Wait};
 use std::thread;
 use std::thread::{Promise, PromisedHandle, Threads};
 
-/// What a station's thread hands back: its lane, and whether its feed came to its end.
+/// The result of a station's thread: its lane, and whether its feed came to its end.
 #[derive(Drop)]
 pub struct Sent {
     pub(crate) lane: Lane,
@@ -165,8 +165,8 @@ fn start_marked<F: Feed + Drop + Send + 'static, R: Threads + Wait + Copy + Send
     Ok((child, mark))
 }
 
-/// Waits until the threads have ended, and adds what each hands back to `found`, in order. There is
-/// room for it.
+/// Waits until the threads have ended, and adds their results to `found`, in order. There is room
+/// for them.
 pub(crate) fn join_all<F: Feed, R: Threads>(
     rt: &R,
     children: Vec<PromisedHandle<Sent, SendsAll<F>>>,

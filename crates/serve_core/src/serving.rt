@@ -20,14 +20,14 @@ use std::sync::atomic::AtomicBool;
 use std::sync::{Arc, Wait};
 use std::thread::{PromisedHandle, Threads};
 
-/// The result of a serving: the hub, and the log of all that was taken.
+/// The result of a serving: the hub, and the log of all items taken.
 #[derive(Drop)]
 pub struct Served<R: Register> {
     pub hub: Hub<R>,
     pub log: Log,
 }
 
-/// Why a serving stopped, with the hub, and the log of what was taken before.
+/// Why a serving stopped, with the hub, and the log of the items taken before.
 #[derive(Drop)]
 pub struct ServeFailed<R: Register> {
     pub fault: ServeFault,
@@ -38,7 +38,7 @@ pub struct ServeFailed<R: Register> {
 /// Serves all stations at once. A thread for each feed sends its items through the station's lane;
 /// feed i is that of station i. Meanwhile the calling thread passes each item that comes to the
 /// hub, and logs it with its reply. The hub must not be down, and there must be a feed for each
-/// station. When the call returns, every thread has ended (no clause says so).
+/// station. When the call returns, every thread has ended (no clause promises that).
 ///
 /// Faults, the first that is met:
 /// - NoMemory, if a lane, its thread or an item finds no memory; Store, from an item. Nothing more
@@ -59,8 +59,8 @@ pub fn serve<
     ensures up { IfOk result (λ s. s.hub.down ≡ false) }
     ensures fronts { IfErr result (λ f. AreFronts (map F.items feeds.items) f.log f.fault) }
     ensures answered { IfErr result (λ f. Answers R.holding hub f.hub f.log) }
-    // The log has what the hub took, except the item that met the fault, if one did. The hub has
-    // nothing of that item, or was stopped at it, as always after Store.
+    // The log has every item that the hub took, except the one that met the fault, if one did. The
+    // hub has nothing of that item, or was stopped at it, as always after Store.
     ensures left { IfErr result
         (λ f. AfterFault R.holding hub f.hub (map F.items feeds.items) f.log f.fault) }
     ensures uncounted { IfOk result (λ s. R.refusals s.hub.register ≡ R.refusals hub.register) }
@@ -99,8 +99,8 @@ fn serve_all<
     }
 }
 
-/// The threads that were started, their marks, the intake of their lanes, and room for what they
-/// hand back.
+/// The threads that were started, their marks, the intake of their lanes, and room for their
+/// results.
 #[derive(Drop)]
 struct Prepared<F: Feed> {
     intake: Intake,
@@ -139,7 +139,7 @@ fn prepare<F: Feed + Drop + Send + 'static, T: Threads + Wait + Copy + Send + 's
     })
 }
 
-/// Takes what the threads send, and ends their lanes.
+/// Takes the items that the threads send, and ends their lanes.
 fn take_all<R: Register, F: Feed, T: Threads + Wait>(
     rt: &T,
     alloc: Global,
@@ -182,7 +182,7 @@ fn take_all<R: Register, F: Feed, T: Threads + Wait>(
     }
 }
 
-/// Ends the lanes after their threads have ended, and takes what is left in them.
+/// Ends the lanes after their threads have ended, and takes the items left in them.
 fn finish_all<R: Register>(
     alloc: Global,
     hub: &mut Hub<R>,

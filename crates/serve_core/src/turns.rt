@@ -77,7 +77,7 @@ pub(crate) fn drop_until(rt: &impl Wait, intake: &mut Intake, marks: &[Arc<Atomi
     unreachable!()
 }
 
-/// Empties the lanes until the threads that were started have ended, and drops what they hand back.
+/// Empties the lanes until the threads that were started have ended, and drops their results.
 pub(crate) fn give_up<F: Feed, T: Threads + Wait>(
     rt: &T,
     intake: &mut Intake,

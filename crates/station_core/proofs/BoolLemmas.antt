@@ -9,7 +9,7 @@ ended_test false b e h = refl
 ended_test true false e h = refl
 ended_test true true e h = rw h refl
 
--- the greatest number passes, where 0 does
+-- the greatest number passes, if 0 does
 holds_step : (p : ℕ → Bool) (n g : ℕ) (b : Bool) → p (suc n) ≡ b → p g ≡ true
     → p (if b then suc n else g) ≡ true
 holds_step p n g true e h = e
@@ -40,13 +40,13 @@ greatest_fails p zero h = absurd (omega arith)
 greatest_fails p (suc n) h = fails_step p n (greatest p n) (p (suc n)) refl (greatest_le p n)
     (greatest_fails p n) h
 
--- a test that holds below each number where it holds
+-- a test that holds below each number for which it holds
 pub down : (p : ℕ → Bool) → ((j : ℕ) → p (suc j) ≡ true → p j ≡ true) → (j d : ℕ) → p (j + d) ≡ true
     → p j ≡ true
 down p f j zero h = rw add-zero at h
 down p f j (suc d) h = down p f j d (f (j + d) (rw add-suc at h))
 
--- it holds at k and not at k + 1: the greatest is k
+-- if it holds at k and not at k + 1, the greatest is k
 pub greatest_is : (p : ℕ → Bool) (n k : ℕ) → ((j : ℕ) → p (suc j) ≡ true → p j ≡ true) → p 0 ≡ true
     → p k ≡ true → p (suc k) ≡ false → k ≤ n → greatest p n ≡ k
 greatest_is p n k f none on off le =

@@ -1,4 +1,4 @@
--- What one more message does to what is ready, to a run, and to how a station may start.
+-- The effect of one more message on the ready messages, on a run, and on how a station may start.
 use Rattle.std.proofs.Common.{◌≡◌, ◌≢◌, ℕ, suc, ◌+◌, ◌-◌, ◌<◌, ◌≤◌, Bool, true, false, List, [], ◌∷◌, ◌++◌, Some, refl, ap, ◌∙◌, sym, arith, ⊎_elim}
 use Rattle.std.proofs.lemmas.Bool.{cases_lt}
 use Rattle.station_core.specs.declared.Start.{Start}
@@ -8,7 +8,7 @@ use Rattle.station_core.proofs.RunLemmas.{at_other_number, at_other_station, at_
 use Rattle.station_core.proofs.BoolLemmas.{down}
 
 module _ {M : Type 0} where
-  -- what is posted stays posted
+  -- posted messages stay posted
   pub ready_grows : (signs : M → Bool) (rs : List (Arrived M)) (r : Arrived M)
       → ready signs rs r.station < r.n
       → ready signs rs r.station ≤ ready signs (rs ++ r ∷ []) r.station
@@ -30,7 +30,7 @@ module _ {M : Type 0} where
       (λ ge. ge)
       (cases_lt (ready signs qs s) (ready signs rs s))
 
-  -- a run is the run before it, and what came due
+  -- a run is the earlier run, and then the messages that came due
   pub run_grows : (signs : M → Bool) (rs : List (Arrived M)) (r : Arrived M)
       → ready signs rs r.station < r.n
       → run signs (rs ++ r ∷ []) r.station ≡ run signs rs r.station ++ due (rs ++ r ∷ []) r.station
@@ -62,7 +62,7 @@ module _ {M : Type 0} where
       ap (due (rs ++ r ∷ []) t 0) (ready_other signs rs r t ne) ∙ due_same rs (rs ++ r ∷ []) t 0
       (ready signs rs t) (λ n h. at_other_station rs r t n ne)
 
-  -- how a station starts from a list that is posted, message by message
+  -- how a station starts from a posted list, message by message
   pub starts_empty : (signs : M → Bool) (s : ℕ)
       → StartsFrom signs [] s (record { posted = 0; signed = false })
   starts_empty signs s = record { whole = refl; sign = refl; none_above = λ n h. refl }

@@ -1,4 +1,4 @@
--- Lemmas on numbers found in a list of what was taken.
+-- Lemmas on numbers in a list of taken messages.
 use Rattle.std.proofs.Common.{◌≡◌, ◌≢◌, ℕ, zero, suc, ◌+◌, ◌-◌, ◌≤◌, ◌&&◌, ◌==◌, not, max, Bool, true, false, if◌then◌else◌, List, [], ◌∷◌, ◌++◌, Option, Some, None, is_some, refl, ap, ◌∙◌, arith, ⊎_elim, add-zero, add-suc, append-nil, append_assoc, add_assoc}
 use Rattle.std.proofs.lemmas.Bool.{cases_lt, and_parts, and_from, false_from_ne_true}
 use Rattle.std.proofs.lemmas.Bool.Decides.{nat_tests}
@@ -32,7 +32,7 @@ module _ {M : Type 0} where
       → message_at (rs ++ r ∷ []) s n ≡ message_at rs s n
   at_other_station rs r s n h = message_at_other rs r s n (station_apart s n r h)
 
-  -- the first message under a number stays
+  -- a later message under the same number changes nothing
   either_kept : (b : Bool) (a o o' : Option M) (m : M) → (o ≡ Some m → o' ≡ Some m)
       → (if b then a else o) ≡ Some m → (if b then a else o') ≡ Some m
   either_kept true a o o' m f h = h
@@ -45,7 +45,7 @@ module _ {M : Type 0} where
       either_kept (is_number s n x) (Some x.message) (message_at rs s n)
       (message_at (rs ++ r ∷ []) s n) m (message_at_kept rs r s n m) h
 
-  -- the arrival's own number, where it was free
+  -- the arrival's own number, if it was free
   either_none : (b : Bool) (x : M) (o o' : Option M) (m : M) → (o ≡ None → o' ≡ Some m)
       → (if b then Some x else o) ≡ None → (if b then Some x else o') ≡ Some m
   either_none true x o o' m f h = absurd (cc)
@@ -98,7 +98,7 @@ module _ {M : Type 0} where
   bound_of signs rs s zero h = omega arith
   bound_of signs rs s (suc k) h = highest_bound rs s (suc k) (unbroken_found signs rs s k h)
 
-  -- ready is told by the two numbers round it
+  -- the ready count is determined by the two numbers around it
   pub ready_is : (signs : M → Bool) (rs : List (Arrived M)) (s k : ℕ) → unbroken signs rs s k ≡ true
       → unbroken signs rs s (suc k) ≡ false → ready signs rs s ≡ k
   ready_is signs rs s k on off =
@@ -117,7 +117,7 @@ module _ {M : Type 0} where
       (λ on. let h = bound_of signs rs s (suc (ready signs rs s)) on in (omega arith)))
       (cases_lt (ready signs rs s) (highest rs))
 
-  -- a run stops at a sign-off, and where a number is missing
+  -- a run stops at a sign-off, and at a missing number
   pub stops_at_sign_off : (signs : M → Bool) (rs : List (Arrived M)) (s j : ℕ)
       → ends signs rs s j ≡ true → unbroken signs rs s (suc j) ≡ false
   stops_at_sign_off signs rs s j h =
@@ -166,7 +166,7 @@ module _ {M : Type 0} where
   due_same rs qs s k (suc d) f =
       rw (due_same rs qs s k d (λ n h. f n (omega arith)), f (k + suc d) (omega arith)) refl
 
-  -- what is due, in two parts
+  -- the due messages, in two parts
   pub due_split : (rs : List (Arrived M)) (s k d e : ℕ)
       → due rs s k (d + e) ≡ due rs s k d ++ due rs s (k + d) e
   due_split rs s k d zero = rw (add-zero, append-nil) refl
@@ -178,7 +178,7 @@ module _ {M : Type 0} where
     add-suc d e,
   ) refl
 
-  -- what is due, with one message more
+  -- the due messages, with one more
   pub due_next : (rs : List (Arrived M)) (s k j : ℕ) (m : M) → k ≤ j
       → message_at rs s (suc j) ≡ Some m
       → due rs s k (suc j - k) ≡ due rs s k (j - k) ++ arrived s (suc j) m ∷ []

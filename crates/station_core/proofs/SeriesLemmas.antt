@@ -1,4 +1,4 @@
--- What one station's series holds of what was taken, call by call.
+-- The messages that one station's series holds, call by call.
 use Rattle.std.proofs.Common.{◌≡◌, ◌≢◌, ℕ, suc, ◌+◌, ◌-◌, ◌<◌, ◌≤◌, ◌&&◌, not, nat_lt, Bool, true, false, List, [], ◌∷◌, ◌++◌, length, drop, Some, None, is_some, inl, inr, refl, ap, ◌∙◌, sym, arith, ⊎_elim, add-one, length-append, length-drop, length-set}
 use Rattle.std.proofs.lemmas.List.{length-replicate}
 use Rattle.std.proofs.lemmas.Bool.{cases_Bool, cases_lt}
@@ -12,7 +12,7 @@ use Rattle.station_core.proofs.SlotLemmas.{window_is, slot_set_same, slot_set_ot
 use Rattle.station_core.proofs.RunLemmas.{at_other_number, at_other_station, at_its_number, ends_same, unbroken_same, ready_is, ready_holds, ready_same, stops_at_sign_off, stops_at_missing}
 
 module _ {M : Type 0} where
-  -- a station as it starts, from a list of what is posted
+  -- a station at its start, from a posted list
   pub matches_opened : (signs : M → Bool) (taken : List (Arrived M)) (s : ℕ) (start : Start)
       → unbroken signs taken s start.posted ≡ true → start.signed ≡ ends signs taken s start.posted
       → ((n : ℕ) → start.posted < n → message_at taken s n ≡ None)
@@ -54,7 +54,7 @@ module _ {M : Type 0} where
         empty = ms.empty;
       }
 
-  -- an arrival that is taken, and held
+  -- an arrival that is taken and held
   pub pending_taken : (signs : M → Bool) (taken : List (Arrived M)) (r : Arrived M) (q : Series M)
       → Matches signs taken r.station q → q.signed ≡ false → q.posted < r.n
       → r.n ≤ q.posted + window → message_at taken r.station r.n ≡ None
@@ -97,7 +97,7 @@ module _ {M : Type 0} where
           rw (n, at_its_number taken r none, e)
           (slot_set_same q.slots (r.n - q.posted - 1) r.message (omega (arith, ms.width)))
 
-  -- the first place is that of the next number
+  -- the first slot is that of the next number
   pub next_of : (signs : M → Bool) (taken : List (Arrived M)) (s : ℕ) (q : Series M)
       → Pending signs taken s q → slot_at q.slots 0 ≡ message_at taken s (suc q.posted)
   next_of signs taken s q p = let e : q.posted + (0 + 1) ≡ suc q.posted = omega arith in
@@ -189,7 +189,7 @@ module _ {M : Type 0} where
         empty = λ on i. slot_empty (length q.slots) i;
       }
 
-  -- the test at a station says what looking back says
+  -- the test at a station is that of looking back
   pub held_is_taken : (signs : M → Bool) (taken : List (Arrived M)) (s n : ℕ) (q : Series M)
       → Matches signs taken s q → q.posted < n
       → is_some (held_at q n) ≡ (not q.signed && is_some (message_at taken s n))

@@ -1,4 +1,4 @@
--- Lemmas on the places of a window.
+-- Lemmas on the slots of a window.
 use Rattle.std.proofs.Common.{◌≡◌, ◌≢◌, ℕ, ◌<◌, ◌≤◌, arith, sym, List, [], ◌∷◌, ◌++◌, length, drop, replicate, Option, Some, None, refl, ap, ◌∙◌, zero, suc, get_or}
 use Rattle.std.specs.Prelude.{slice_get, slice_set, option_and_then, unwrap_or, false}
 use Rattle.std.proofs.lemmas.Option.{slice_get_past, slice_get_read}
@@ -8,7 +8,7 @@ use Rattle.circular_buffer.specs.Buffer.{Buffer, buffer}
 use Rattle.std.proofs.lemmas.List.{length-replicate}
 use Rattle.station_core.specs.Series.{Series, series, slot_at, series_at, window, FitsWindow}
 
--- the window's one number
+-- the size of the window
 pub window_is : window ≡ WINDOW
 unfolding window
 window_is = refl
@@ -47,14 +47,14 @@ module _ {M : Type 0} where
       ∙ ap (λ (ys : List (Option M)). None ∷ ys) (nothing_moves xs (λ i. none (suc i)))
       ∙ ap (λ (o : Option M). o ∷ (xs ++ None ∷ [])) (sym (none 0))
 
-  -- where nothing is held behind the first place, all move up where that one is emptied
+  -- if nothing is held after the first slot, emptying that slot moves all the others up
   pub moves_alone : (xs : List (Option M)) (first : Option M) → 0 < length xs → first ≡ None
       → ((i : ℕ) → 0 < i → slot_at xs i ≡ None) → slice_set xs 0 first ≡ drop 1 xs ++ None ∷ []
   moves_alone [] first some none behind = absurd (omega (arith, some))
   moves_alone (x ∷ xs) first some none behind =
       ap (λ (o : Option M). o ∷ xs) none ∙ nothing_moves xs (λ i. behind (suc i) (omega arith))
 
-  -- the series of a station that is there
+  -- the series of a station that exists
   pub series_at_there : (all : List (Series M)) (s : ℕ) (q : Series M) → slice_get all s ≡ Some q
       → series_at all s ≡ q
   series_at_there all s q h = ap (λ (o : Option (Series M)). unwrap_or o (series 0 false [])) h
@@ -66,7 +66,7 @@ module _ {M : Type 0} where
       rw (← same) (series_at_there items s q
       (slice_get_read items (length items) s q refl here read))
 
-  -- a place past the window's end
+  -- a slot past the window's end
   pub slot_past : (xs : List (Option M)) (i : ℕ) → length xs ≤ i → slot_at xs i ≡ None
   slot_past xs i h = ap (option_and_then (λ x. x)) (slice_get_past xs i h)
 

@@ -1,4 +1,4 @@
--- What the series of all stations hold of what was taken, call by call.
+-- The messages that the series of all stations hold, call by call.
 use Rattle.std.proofs.Common.{◌≡◌, ◌≢◌, ℕ, zero, suc, ◌+◌, ◌-◌, ◌<◌, ◌≤◌, ◌&&◌, ◌||◌, ◌==◌, not, nat_lt, nat_le, Bool, true, false, if◌then◌else◌, List, [], ◌∷◌, ◌++◌, length, map, Option, Some, None, is_some, refl, ap, ◌∙◌, sym, arith, rules, ⊎_elim, add-one, length-set}
 use Rattle.std.proofs.lemmas.Bool.{cases_lt, cases_eq, or_parts}
 use Rattle.std.proofs.lemmas.Bool.Decides.{nat_tests}
@@ -17,7 +17,7 @@ use Rattle.station_core.specs.Progress.{Matches, AllMatch, IsPosting, IsEnding, 
 use Rattle.station_core.proofs.SlotLemmas.{series_at_there, slot_shift}
 use Rattle.station_core.proofs.SeriesLemmas.{matches_opened, matches_other, pending_taken, pending_counted, ending_counted, matches_pending, matches_closed, next_of, held_is_taken}
 
--- a test that refuses nothing
+-- a test that finds no reason to refuse
 tests_none : (a b c d e : Bool)
     → (if a then Some UnknownStation else
     (if b then Some BadNumber else
@@ -31,7 +31,7 @@ tests_none false false false true e h = absurd (cc)
 tests_none false false false false true h = absurd (cc)
 tests_none false false false false false h = (refl, refl, refl, refl, refl)
 
--- what an arrival that isn't refused meets
+-- the facts about an arrival that isn't refused
 pub record IsAccepted {M : Type 0} (signs : M → Bool) (stations : ℕ) (taken : List (Arrived M))
     (s n : ℕ) : Type 0 where
   pub within : s < stations
@@ -61,7 +61,7 @@ module _ {M : Type 0} where
             search rules;
       }
 
-  -- what is taken after an arrival
+  -- the list of taken messages after an arrival
   pub taken_refused : (signs : M → Bool) (stations : ℕ) (taken : List (Arrived M)) (r : Arrived M)
       (f : Refusal) → refusal signs stations taken r.station r.n ≡ Some f
       → taken_after signs stations taken r ≡ taken
@@ -84,7 +84,7 @@ module _ {M : Type 0} where
       ap (λ (o : Option (Series M)). unwrap_or o (series 0 false []))
       (slice_get-set_other all s t q h)
 
-  -- what holds of the other stations holds after it, too
+  -- facts about the other stations stay true
   others_stay : (all : List (Series M)) (s : ℕ) (q : Series M) (P : ℕ → Series M → Type 0)
       → ((t : ℕ) → t < length all → t ≢ s → P t (series_at all t))
       → (t : ℕ) → t < length (slice_set all s q) → t ≢ s → P t (series_at (slice_set all s q) t)
@@ -96,7 +96,7 @@ module _ {M : Type 0} where
   series_there all s h = let p = slice_get-some all s h in
       p.1 ∙ ap Some (sym (series_at_there all s p.0 p.1))
 
-  -- the test says what looking back says
+  -- the test agrees with looking back
   pub refusal_agrees : (signs : M → Bool) (taken : List (Arrived M)) (all : List (Series M))
       (s n : ℕ) → AllMatch signs taken all
       → refusal_of all s n ≡ refusal signs (length all) taken s n
@@ -117,14 +117,14 @@ module _ {M : Type 0} where
       (slice_get_past all s h, there) refl)
       (cases_lt s (length all))
 
-  -- there is a station where nothing is refused
+  -- the station of an arrival that isn't refused exists
   pub accepted_within : (all : List (Series M)) (s n : ℕ) → refusal_of all s n ≡ None
       → s < length all
   accepted_within all s n h =
       ⊎_elim (λ lt. lt) (λ ge. let e : refusal_of all s n ≡ Some UnknownStation = rw
       (slice_get_past all s ge) refl in absurd (cc)) (cases_lt s (length all))
 
-  -- the stations as they start
+  -- the stations at their start
   opened_at : (xs : List Start) (s : ℕ) → s < length xs → (start : Start)
       × (slice_get xs s ≡ Some start)
       × (slice_get (map (opened {M = M}) xs) s ≡ Some (opened start))
@@ -201,7 +201,7 @@ module _ {M : Type 0} where
     ends = posting_ending signs taken all s m p here;
   }
 
-  -- one station and the others are all
+  -- one station and the others are all of them
   all_from : (signs : M → Bool) (taken : List (Arrived M)) (all : List (Series M)) (s : ℕ)
       → Matches signs taken s (series_at all s)
       → ((t : ℕ) → t < length all → t ≢ s → Matches signs taken t (series_at all t))
@@ -218,14 +218,15 @@ module _ {M : Type 0} where
       all_from signs taken all s (matches_pending signs taken s (series_at all s) p.here
       here) p.others
 
-  -- what a call on one station says of all: what comes due, or that nothing does
+  -- the list of all series after a call on one station: its next message is counted, or nothing
+  -- changes
   pub counted_among : (o : Option (ℕ × M)) (all items : List (Series M)) (s : ℕ) (q new : Series M)
       → items ≡ all → series_at all s ≡ q → OnSome o (new ≡ counted q)
       → OnSome o (slice_set items s new ≡ slice_set all s (counted (series_at all s)))
   counted_among None all items s q new same here e = tt
   counted_among (Some d) all items s q new same here e = rw (same, here, e) refl
 
-  -- one place on, the window has under each later number what it had
+  -- after the window moved up by one, each later number has the same message
   held_later : (q : Series M) (n : ℕ) → q.posted + 1 < n → held_at (counted q) n ≡ held_at q n
   held_later q n later =
       let above : nat_lt (q.posted + 1) n ≡ true = grind (arith, nat_tests) in
@@ -270,7 +271,7 @@ module _ {M : Type 0} where
       λ signs taken posting. rw none.1 (all_posted signs taken all s posting none.0)
   posted_among (Some d) all new s none = tt
 
-  -- the station is signed off
+  -- a station signs off
   pub all_closed : (signs : M → Bool) (taken : List (Arrived M)) (all : List (Series M)) (s : ℕ)
       → IsEnding signs taken s all
       → AllMatch signs taken (slice_set all s (closed (series_at all s)))

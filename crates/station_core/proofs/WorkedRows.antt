@@ -38,7 +38,7 @@ then_posted = refl
 in_order : run signs (sends (3 ∷ 2 ∷ 1 ∷ [])) 0 ≡ sent 0 1 1 ∷ sent 0 2 2 ∷ sent 0 3 3 ∷ []
 in_order = refl
 
--- 2 and 3 come due behind 1, and another station's 2 doesn't
+-- 2 and 3 come due after 1, and another station's 2 doesn't
 due_behind_1 : due (sent 0 3 3 ∷ sent 0 2 2 ∷ sent 1 2 7 ∷ sent 0 1 1 ∷ []) 0 0 3 ≡ sent 0 1 1
     ∷ sent 0 2 2 ∷ sent 0 3 3 ∷ []
 due_behind_1 = refl
@@ -107,7 +107,7 @@ held_sign_off = refl
 two_held : held_count {M = ℕ} (series 0 false (None ∷ Some 2 ∷ None ∷ Some 4 ∷ [])) ≡ 2
 two_held = refl
 
--- a station with nothing posted holds what is taken of an empty list
+-- a station with nothing posted holds nothing of an empty list
 abbrev nothing : Start
 nothing = record { posted = 0; signed = false }
 

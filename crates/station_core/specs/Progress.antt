@@ -11,8 +11,8 @@ module _ {M : Type 0} where
     pub inside : (i : ℕ) → i < window → slot_at q.slots i ≡ message_at taken s (q.posted + (i + 1))
     pub above : (n : ℕ) → q.posted + window < n → message_at taken s n ≡ None
 
-  -- Between arrivals: the series has posted what is ready. Until the sign-off is posted it holds
-  -- what was taken above; after it, nothing.
+  -- Between arrivals: the series has posted the ready messages. Until the sign-off is posted it
+  -- holds the later messages that were taken; after it, none.
   pub record Matches (signs : M → Bool) (taken : List (Arrived M)) (s : ℕ)
       (q : Series M) : Type 0 where
     pub count : q.posted ≡ ready signs taken s

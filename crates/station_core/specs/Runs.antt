@@ -1,5 +1,5 @@
 -- Defines hold-back on the list of all messages taken, read from its beginning each time. This is
--- the plain meaning; a `Series` keeps only what is still needed.
+-- the plain meaning; a `Series` keeps only the messages that are still needed.
 use Rattle.std.specs.Prelude.{ℕ, ◌+◌, ◌==◌, ◌||◌, ◌&&◌, not, nat_lt, nat_le, max, Bool, true, false, if◌then◌else◌, List, [], ◌∷◌, ◌++◌, Option, Some, None, is_some, is_none, zero, suc}
 use Rattle.station_core.specs.declared.TheConstants.{LAST}
 use Rattle.station_core.specs.declared.Refusal.{Refusal}
@@ -62,7 +62,7 @@ module _ {M : Type 0} where
   is_signed signs taken s = ends signs taken s (ready signs taken s)
 
   -- The number is posted. Before the sign-off is posted, a number that is held is a double, too;
-  -- afterwards what was held above it no longer counts.
+  -- afterwards the messages held above it no longer count.
   abbrev pub is_double : (M → Bool) → List (Arrived M) → ℕ → ℕ → Bool
   is_double signs taken s n =
       nat_le n (ready signs taken s)

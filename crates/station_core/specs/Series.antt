@@ -83,8 +83,8 @@ module _ {M : Type 0} where
   abbrev pub with_held : Series M → ℕ → M → Series M
   with_held q n m = series q.posted q.signed (slice_set q.slots (n - q.posted - 1) (Some m))
 
-  -- The next number is posted. The window moves up by one, and what is held stays held under its
-  -- own number.
+  -- The next number is posted. The window moves up by one, and held messages stay held under their
+  -- own numbers.
   abbrev pub counted : Series M → Series M
   counted q = series (q.posted + 1) q.signed (drop 1 q.slots ++ None ∷ [])
 

@@ -72,7 +72,7 @@ impl Refusal {
     }
 }
 
-/// What happened to a message that was taken.
+/// The result of taking a message.
 #[derive(Clone, Copy, Debug, PartialEq, Eq)]
 pub enum Taken {
     /// It waits for a lower number.

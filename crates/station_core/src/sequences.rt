@@ -102,7 +102,7 @@ impl<M: Drop> Sequences<M> {
         ensures stays { OnSome result ((n : ℕ) → (series_at self.old s).posted + 1 < n →
             held_at (series_at self.new s) n ≡ held_at (series_at self.old s) n) }
 
-        // It is the message taken under that number. After the last one, all that are ready are
+        // It is the message taken under that number. After the last one, all ready messages are
         // posted.
         ensures due { IfSome result (λ d.
             (signs : M → Bool) (taken : List (Arrived M)) →

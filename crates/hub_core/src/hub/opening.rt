@@ -1,4 +1,4 @@
-//! Opens a hub over what a register has.
+//! Opens a hub over the entries of a register.
 ghost use Rattle.std.specs.Prelude.{◌≡◌, [], true, length, OnOk, IfOk, IfErr};
 ghost use Rattle.register_store.specs.StoredRows.{AreSame, HasRows, IsBoundTo};
 ghost use Rattle.register_store.specs.Registers.{CountsRefusal};
@@ -12,7 +12,7 @@ use register_store::{Register, StoreFault};
 use station_core::Sequences;
 use std::alloc::Global;
 
-/// Returns the stations and the ledger of a hub over what the register has. Faults: those of
+/// Returns the stations and the ledger of a hub over the entries of a register. Faults: those of
 /// `Hub::open`.
 pub(crate) fn prepare<R: Register>(
     alloc: Global,

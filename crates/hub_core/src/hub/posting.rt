@@ -18,7 +18,7 @@ use register_store::{Register, StoreFault};
 use station_core::Sequences;
 use std::alloc::Global;
 
-/// Posts what is due at a station, one message after another, up to a sign-off.
+/// Posts a station's due messages, one after another, up to a sign-off.
 pub(crate) fn post_due<R: Register>(
     alloc: Global,
     sequences: &mut Sequences<Message>,

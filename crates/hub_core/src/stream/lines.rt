@@ -30,8 +30,8 @@ use std::io::{BufRead, ErrorKind, Write};
 /// - WriteFailed: all lines that were read are taken, and the first part of their replies is
 ///   written.
 /// - NoMemory, Store: all lines before the one that met the fault are answered. The hub has taken
-///   that line's arrival or not, or it is down, and its store has what is posted, or that and the
-///   next message.
+///   that line's arrival or not, or it is down, and its store has the posted entries, or those and
+///   the next message.
 pub fn replay<R: BufRead, W: Write, S: Register>(
     alloc: Global,
     input: &mut R,

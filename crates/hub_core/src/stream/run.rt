@@ -18,9 +18,9 @@ use std::io::{BufRead, Write};
 /// setup is all bytes before the first empty line, or all bytes if there is none.
 ///
 /// Faults of the head, after which nothing is written: ReadFailed; HeadTooLong, as soon as the
-/// limit is passed; Setup, with its first fault. A fault in the lines leaves what it leaves of a
-/// replay. NoMemory can come instead of any result, and Store never comes. The reads of the head
-/// and of the lines are counted together.
+/// limit is passed; Setup, with its first fault. After a fault in the lines everything is as after
+/// one in a replay. NoMemory can come instead of any result, and Store never comes. The reads of
+/// the head and of the lines are counted together.
 pub fn run<R: BufRead, W: Write>(
     alloc: Global,
     input: &mut R,

@@ -162,7 +162,7 @@ fn workers_meet(rt: HostRuntime) -> Result<(), Fail> {
     Ok(())
 }
 
-/// What PACK sends before the list with each answer is checked.
+/// The messages that PACK sends before the list with each answer is checked.
 const PUTS: &str = r#"{"kind":"move","thing":"2001.4.1","place":"S1","day":"2024-05-01"}
 {"kind":"move","thing":"2001.4.2","place":"S2","day":"2024-05-01"}
 {"kind":"move","thing":"2001.4.3","place":"S1-A","day":"2024-05-01"}
@@ -194,7 +194,7 @@ const MISSING: &[MissingObject] = &[
     },
 ];
 
-/// Counts the rows of which it is told.
+/// Counts the calls for rows.
 #[derive(Drop)]
 struct Counting {
     seen: AtomicU32,

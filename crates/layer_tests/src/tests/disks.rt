@@ -58,8 +58,8 @@ fn copied_file(alloc: Global, file: &Stopping, calls: u64) -> io::Result<Stoppin
     Ok(Fuse::new(memory, calls))
 }
 
-/// What is left of the files. If the program ended, they are as they were; if the machine crashed,
-/// what was not synced is lost. They no longer stop.
+/// The files after the program ended, as they are, or after the machine crashed, without the bytes
+/// that were not synced. They no longer stop.
 pub(crate) fn left_after(alloc: Global, mut files: Pair, crashes: bool) -> Option<Pair> {
     if crashes {
         files.log.crash();

@@ -1,4 +1,4 @@
-//! A hub, through its calls. `cases/` has what runs through the program.
+//! A hub, through its calls. `cases/` has the tests that run through the program.
 ghost use Rattle.std.specs.Prelude.{◌≡◌, true, IfErr};
 ghost use Rattle.register_store.specs.Registers.{is_failure};
 

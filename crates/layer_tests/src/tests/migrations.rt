@@ -64,7 +64,8 @@ fn is_migrated(alloc: Global, files: Pair, setup: &Setup, crashes: bool) -> Opti
     }
 }
 
-/// Whether the store in the files can be migrated, and then has what was posted and goes on.
+/// Whether the store in the files can be migrated, and then has the posted messages and accepts
+/// more.
 fn is_whole_of_first(alloc: Global, files: Pair, setup: &Setup) -> bool {
     match migrated(alloc, files, setup) {
         Some(ended) => ended.given && goes_on(alloc, ended.files),

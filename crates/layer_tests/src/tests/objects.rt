@@ -21,7 +21,7 @@ fn copies_and_lists(rt: HostRuntime) -> Result<(), Fail> {
     Ok(())
 }
 
-/// So many codes, from 2000.1 on.
+/// This many codes, from 2000.1 on.
 fn codes(alloc: Global, count: u32) -> Result<Vec<ThingCode>, Fail> {
     let mut codes = Vec::new(alloc);
     for k in 1..=count {
@@ -31,7 +31,8 @@ fn codes(alloc: Global, count: u32) -> Result<Vec<ThingCode>, Fail> {
     Ok(codes)
 }
 
-/// Whether so many codes make a list, and whether that, or what is handed back, has each of them.
+/// Whether this many codes make a list, and whether the list, or the codes handed back, has each of
+/// them.
 fn listed(alloc: Global, count: u32) -> Result<(bool, bool), Fail> {
     let wanted = codes(alloc, count)?;
     match Objects::new(codes(alloc, count)?) {

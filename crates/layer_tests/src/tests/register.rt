@@ -88,8 +88,8 @@ fn brought(alloc: Global, entry: EntryNo) -> Result<Changes, Fail>
     Ok(changes)
 }
 
-/// Binds an empty register, posts two entries and reads all. The contract follows from what every
-/// register promises.
+/// Binds an empty register, posts two entries and reads all. The contract follows from the promises
+/// of every register.
 fn keep_two<R: Register>(
     alloc: Global,
     register: &mut R,
@@ -111,7 +111,7 @@ fn keep_two<R: Register>(
 }
 
 /// Does the same with a new register, the first entry with a spot and the second without. Returns
-/// what is read back.
+/// the entries that are read back.
 fn kept_by<R: Fresh>(
     alloc: Global,
     setup: &Setup,

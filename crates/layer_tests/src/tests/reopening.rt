@@ -46,9 +46,9 @@ impl Start for Missing {
     }
 }
 
-/// Stands for what a run left in the files, in the runs after it. A ghost member is fixed as the
-/// test is compiled, so it can't be the bytes that the run then leaves: these contents are none. The
-/// clause of [`reopened`] is about any contents, and the test compares the rows.
+/// The contents that a run left in the files, for the runs after it. A ghost member is fixed when
+/// the test is compiled, so it can't be the bytes that the run will leave: these contents are
+/// empty. The clause of [`reopened`] is about any contents, and the test compares the rows.
 #[derive(Drop)]
 struct Left<const RUN: u8>;
 
@@ -77,7 +77,7 @@ fn made(rt: &HostRuntime, alloc: Global) -> Result<InFile<Missing>, Fail>
     }
 }
 
-/// Opens the store in the file, which has the rows of what a run before left.
+/// Opens the store in the file, which has the rows that an earlier run left.
 fn reopened<S: Start>(rt: &HostRuntime, alloc: Global, left: S) -> Result<InFile<S>, Fail>
     ensures { IfOk result (λ r. HasCleanDisk (file_state r.conn)
         → IsFoundIn (image_at S.Start) (in_store (file_state r.conn))) }

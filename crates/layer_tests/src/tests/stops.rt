@@ -21,7 +21,7 @@ fn count_stops(alloc: Global, in_log: bool, crashes: bool) -> Option<u64> {
 }
 
 /// Whether a run over the files is stopped, in closing them at the latest. None if a second run,
-/// over what the first left, doesn't go on from there.
+/// over the files that the first left, doesn't go on from there.
 fn is_stopped(alloc: Global, files: Pair, crashes: bool) -> Option<bool> {
     let first = run_and_close(alloc, files)?;
     let left = left_after(alloc, first.files, crashes)?;

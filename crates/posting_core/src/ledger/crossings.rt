@@ -1,4 +1,4 @@
-//! The rules of what crosses under a loan: exit, return and receipt.
+//! The rules of crossings under a loan: exit, return and receipt.
 ghost use Rattle.std.specs.Prelude.{ℤ, ◌≡◌, ◌<◌, ◌&&◌, true, false, List, length, All, filter, not, IfOk, IfSome, OnErr, MatchResult, Some, None, if◌then◌else◌, ℕ};
 ghost use Rattle.std.specs.Option.{option_map_or};
 ghost use Rattle.posting_core.specs.declared.message.Message.TheVariants.{Exit, Return, Receive};
@@ -135,7 +135,7 @@ impl Ledger {
     }
 
     /// Checks the rows of a return that come before its loan lines. Returns the first refusal as
-    /// the error. If there is none, returns what `incoming_asked` found.
+    /// the error. If there is none, returns the result of `incoming_asked`.
     fn return_asked(
         &self,
         thing: &ThingCode,
@@ -205,7 +205,7 @@ impl Ledger {
     }
 
     /// Checks the rows of a receipt that come before its loan lines. Returns the first refusal as
-    /// the error. If there is none, returns what `incoming_asked` found.
+    /// the error. If there is none, returns the result of `incoming_asked`.
     fn receive_asked(
         &self,
         thing: &ThingCode,

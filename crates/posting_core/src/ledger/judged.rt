@@ -7,8 +7,8 @@ use crate::Verdict;
 use nest_core::{Put, Target, ThingNo, ThingNos};
 
 /// A message's verdict. If it is applied, also where it puts its thing and the number of the loan
-/// that it continues, if its kind does that. `carried` is what the thing carries, if judging has
-/// gathered it.
+/// that it continues, if its kind does that. `carried` has the things that the thing carries, if
+/// judging has gathered them.
 #[derive(Drop)]
 pub(crate) struct Judged {
     pub(crate) verdict: Verdict,
@@ -43,7 +43,7 @@ pub(crate) fn going_on(loan: usize) -> Judged
 }
 
 /// The result for a message that, if it is applied, puts its thing there and continues this loan,
-/// if there is one. `carried` is what the thing carries, if judging has gathered it.
+/// if there is one. `carried` has the things that the thing carries, if judging has gathered them.
 pub(crate) fn putting(
     verdict: Verdict,
     thing: ThingNo,

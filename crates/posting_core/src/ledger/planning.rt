@@ -1,4 +1,4 @@
-//! What an applied message puts where, and the spots and loan lines that it adds.
+//! Plans a message that is applied: its put, and the spots and loan lines that it adds.
 ghost use Rattle.std.specs.Prelude.{◌≡◌, ◌<◌, ◌≤◌, ◌+◌, ◌&&◌, [], if◌then◌else◌, length, All, IfOk, OnErr, IfSome, Some, true, not, map, filter};
 ghost use Rattle.std.specs.List.{filter_map};
 ghost use Rattle.nest_core.specs.Puts.{container_of};
@@ -48,8 +48,9 @@ impl Ledger {
     }
 
     /// The spots that the message adds: one for each carried thing that comes to another place.
-    /// `put` and `carried` are where it puts its thing under its verdict, and what moves with that.
-    /// Fails with `NoMemory`, but only if the message is applied and something is in its thing.
+    /// `put` is where it puts its thing under its verdict, and `carried` the things that move with
+    /// that. Fails with `NoMemory`, but only if the message is applied and something is in its
+    /// thing.
     pub(crate) fn spots_under(
         &self,
         alloc: Global,
@@ -149,9 +150,9 @@ impl Ledger {
         }
     }
 
-    /// The loan lines that the message makes or changes under this verdict. `carried` is what moves
-    /// with its thing. Fails with `NoMemory`, but only if the message is applied and of a kind with
-    /// lines.
+    /// The loan lines that the message makes or changes under this verdict. `carried` has the
+    /// things that move with its thing. Fails with `NoMemory`, but only if the message is applied
+    /// and of a kind with lines.
     pub(crate) fn lines_under(
         &self,
         alloc: Global,

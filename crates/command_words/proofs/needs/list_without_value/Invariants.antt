@@ -4,7 +4,7 @@ use Rattle.command_words.specs.Needs.{without_value}
 use Rattle.command_words.specs.Words.{texts_of}
 use Rattle.command_words.proofs.needs.list_without_value.Given as goal
 
--- with those of the arguments that are left, the list is whole
+-- together with the missing arguments among the rest, the list is complete
 abbrev pub invariant-loop-id : goal.invariant-loop-id
 invariant-loop-id l =
     (texts_of l.without.items

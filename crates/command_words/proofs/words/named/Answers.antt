@@ -14,7 +14,7 @@ use Rattle.command_words.proofs.words.named.Goals as goal
 abbrev form_by : Text → Option Form
 form_by name = find (λ form. bytes_eq name form.app.top.name) commands
 
--- in an arm the name is known, and by it the command
+-- in each arm the name is known, and so is the command
 in_arm : (words : List Text) (name known : Text) (found : Option Form)
     (result : Result Chosen WordsFault)
     → IsNamed words name → name ≡ known → form_by known ≡ found

@@ -4,7 +4,7 @@ use Rattle.csv.specs.declared.reader.Trim.TheVariants as trim
 use Rattle.count_core.proofs.CountReading.{IsUpTo}
 use Rattle.count_core.proofs.count_reader.read_rows.Given as goal
 
--- the rows before this one are kept, and the reader stands behind them
+-- the rows before this one are kept, and the reader is after them
 abbrev pub invariant-loop-number : goal.invariant-loop-number
 invariant-loop-number l = (reader_trim l.reader ≡ trim.None) × Ready l.reader
     × (reader_config l.reader ≡ default_config)

@@ -4,7 +4,7 @@ use Rattle.nest_core.specs.RowReading.{TakesRows}
 use Rattle.nest_core.proofs.Reading.{IsUpTo}
 use Rattle.nest_core.proofs.setup_reader.add_rows.Given as goal
 
--- the rows before this one are listed, each of a byte at least, and the reader stands behind them
+-- The rows before this one are listed, each of at least one byte, and the reader is after them.
 abbrev pub invariant-loop-before : goal.invariant-loop-before
 invariant-loop-before l = TakesRows l.reader
     × (xs : List ℕ) × (source_of (λ s. Some s.now) l.reader ≡ Some xs)

@@ -12,7 +12,7 @@ refused : (b : Bool) (bytes : List ℕ) → (b ≡ true → read bytes ≡ None)
 refused true bytes none = ap of_read (none refl)
 refused false bytes none = refl
 
--- what isn't UTF-8 or isn't JSON is refused
+-- bytes that aren't UTF-8 or JSON are rejected
 of_none : (bytes : List ℕ) → (IsUtf8 bytes → read bytes ≡ None) → of_bytes bytes ≡ Err NotJson
 of_none bytes none = refused (is_utf8 bytes) bytes (λ utf8. none (IsUtf8-from_is_utf8 bytes utf8))
 

@@ -3,13 +3,13 @@ use Rattle.std.proofs.lemmas.List.{length-take-le, take-append-le, take-append-d
 use Rattle.std.specs.Str.{IsAscii}
 use Rattle.codes_core.proofs.spelling.Spelling.shortened.Goals as goal
 
--- a front of a front
+-- the first part of the first part
 within : (n k : ℕ) (t : List ℕ) → n ≤ k → k ≤ length t → take n (take k t) ≡ take n t
 within n k t less fits =
     let here : n ≤ length (take k t) = rw (length-take-le k t fits) less in
     sym (take-append-le n (take k t) (drop k t) here) ∙ ap (take n) (take-append-drop k t)
 
--- what pads the text is all that the shorter room has behind it
+-- all padding is in the part that the shorter room cuts off
 padding : (n k m : ℕ) (t : List ℕ) → n ≤ k → k ≤ m → drop n t ≡ replicate (m - n) 0
     → drop n (take k t) ≡ replicate (k - n) 0
 padding n k m t less room zeros =

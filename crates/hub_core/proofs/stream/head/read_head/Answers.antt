@@ -7,12 +7,12 @@ use Rattle.hub_core.proofs.Written.{if_err}
 use Rattle.hub_core.proofs.HeadTaken.{stops_between, stops_in_line, ends_there, too_long_there, last_there, more_there, unkept_there}
 use Rattle.hub_core.proofs.stream.head.read_head.Goals as goal
 
--- how long the line feed is
+-- the length of the line feed
 counted : (fed : Bool) → bool_byte fed ≡ length (feed_if fed)
 counted true = refl
 counted false = refl
 
--- what was told of a slice of the line
+-- a test on a slice of the line
 told : (line held : List ℕ) (blank t : Bool) → line ≡ held → blank ≡ is_empty (without_return line)
     → blank ≡ t → is_empty (without_return held) ≡ t
 told line held blank t at is e = ap (λ l. is_empty (without_return l)) (sym at) ∙ sym is ∙ e

@@ -10,7 +10,7 @@ use Rattle.posting_core.specs.VerdictNames.{is_applied}
 use Rattle.posting_core.specs.Book.{has_lines, asks_lines, verdict_in}
 use Rattle.posting_core.proofs.ledger.Ledger.plan.Goals as goal
 
--- what asks for memory: lines, or what a put takes along
+-- the calls that need memory: for lines, or for the things that a put carries
 asked : (a b c d : Bool) → (b && d) ≡ true → (a || (b && (c || d))) ≡ true
 asked true b c d e = refl
 asked false true true d e = refl

@@ -6,7 +6,7 @@ use Rattle.posting_core.specs.declared.spot_rows.KeptSpot.{KeptSpot}
 use Rattle.posting_core.specs.SpotRows.{spots_at, LeadBack}
 use Rattle.posting_core.proofs.spots.Spots.next_back.Goals as goal
 
--- where some are left, those before the last lead back too
+-- if some are left, those before the last lead back too
 before : (kept : List KeptSpot) (at left : ℕ) (d : KeptSpot) → (left ≡ 0 → ⊥)
     → LeadBack kept at left → LeadBack kept (get_or kept at d).before (left - 1)
 before kept at zero d some back = absurd (some refl)
@@ -14,7 +14,7 @@ before kept at (suc left) d some (s, found, back) =
     let fewer : suc left - 1 ≡ left = omega arith in
     rw (get_or_from_slice_get kept at s d found, fewer) back
 
--- and the last stands behind them
+-- and the last comes after them
 last_left : (kept : List KeptSpot) (at left : ℕ) (d : KeptSpot) → (left ≡ 0 → ⊥)
     → LeadBack kept at left →
     spots_at kept at left ≡ spots_at kept (get_or kept at d).before (left - 1)
