@@ -77,7 +77,7 @@ The messages, each with all its keys:
 
 A number is lost? Send under it a message about a thing that the setup does not
 list: a move, pack, exit, return or receive. It is recorded as UnknownThing,
-changes nothing, and what was held behind it can be sent again:
+changes nothing, and the messages held after it can be sent again:
 
   {\"kind\":\"move\",\"thing\":\"C999999\",\"place\":\"S1\",\"day\":\"2024-05-01\"}
 ";

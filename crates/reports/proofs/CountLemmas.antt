@@ -1,4 +1,4 @@
--- The rows of a count list, found one by one.
+-- The rows of the report on a count list, by number.
 use Rattle.std.proofs.Common.{◌≡◌, ℕ, ◌+◌, ◌<◌, ◌++◌, All, List, [], length, map, Some, ap, sym, subst, ◌∙◌, arith}
 use Rattle.std.specs.List.{range_with_len, slice_get}
 use Rattle.std.specs.Option.{option_map_or}

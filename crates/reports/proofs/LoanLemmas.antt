@@ -1,4 +1,4 @@
--- A loan's agreement, found by going through the entries from the oldest on.
+-- A loan's agreement, found by a search from the oldest entry.
 use Rattle.std.proofs.Common.{◌≡◌, ℕ, ◌+◌, ◌<◌, ◌++◌, List, [], ◌∷◌, Option, Some, None, length, take, drop, reverse, get_or, refl, ap, sym, ◌∙◌, cond, Bool, true, false, is_some}
 use Rattle.std.specs.List.{find}
 use Rattle.std.specs.Option.{option_map, option_and_then, option_or, option_to_list}
@@ -26,7 +26,7 @@ stays_agreed : (loan : List ℕ) (L P : List Entry) (t : Agreement) → agreemen
 stays_agreed loan [] P t is = is
 stays_agreed loan (e ∷ L) P t is = next_agreed loan e (L ++ P) ∙ ap (λ o. option_or o (agreed_by loan e)) (stays_agreed loan L P t is)
 
--- one entry more
+-- one more entry
 turned : (xs : List Entry) (i : ℕ) (x : Entry) → i < length xs → x ≡ get_or xs i x → reverse (take (i + 1) xs) ≡ x ∷ reverse (take i xs)
 turned xs i x h at =
     ap reverse (take_more xs i x h ∙ ap (λ y. take i xs ++ y ∷ []) (sym at)) ∙ reverse-append (take i xs) (x ∷ [])
@@ -46,7 +46,7 @@ agreed_here loan xs i x t h at none here =
     ap (λ P. agreement P loan) (ap reverse (sym (take-append-drop (i + 1) xs)) ∙ reverse-append (take (i + 1) xs) (drop (i + 1) xs))
     ∙ stays_agreed loan (reverse (drop (i + 1) xs)) (reverse (take (i + 1) xs)) t upto
 
--- what puts a thing agrees no loan
+-- a message that puts a thing agrees no loan
 pub agrees_none : (m : Message) → is_some (day_of m) ≡ true → agreement_in m ≡ None
 agrees_none (Agree first last loan partner objects) e = absurd (cc)
 agrees_none (Move day x p) e = refl
@@ -58,12 +58,12 @@ agrees_none (Receive day x loan p) e = refl
 agrees_none (SignOff name) e = refl
 agrees_none (Extend last loan) e = refl
 
-pub told_here : (loan : List ℕ) (xs : List Entry) (i : ℕ) (x : Entry) (o : Option Terms) → i < length xs → x ≡ get_or xs i x
+pub found_here : (loan : List ℕ) (xs : List Entry) (i : ℕ) (x : Entry) (o : Option Terms) → i < length xs → x ≡ get_or xs i x
     → agreement (reverse (take i xs)) loan ≡ None → option_map agreement_with o ≡ agreed_by loan x → is_some o ≡ true → option_map agreement_with o ≡ agreement (reverse xs) loan
-told_here loan xs i x None h at none here e = absurd (cc)
-told_here loan xs i x (Some t) h at none here e = sym (agreed_here loan xs i x (agreement_with t) h at none (sym here))
+found_here loan xs i x None h at none here e = absurd (cc)
+found_here loan xs i x (Some t) h at none here e = sym (agreed_here loan xs i x (agreement_with t) h at none (sym here))
 
-pub told_further : (loan : List ℕ) (xs : List Entry) (i : ℕ) (x : Entry) (o : Option Terms) → i < length xs → x ≡ get_or xs i x
+pub not_found_yet : (loan : List ℕ) (xs : List Entry) (i : ℕ) (x : Entry) (o : Option Terms) → i < length xs → x ≡ get_or xs i x
     → agreement (reverse (take i xs)) loan ≡ None → option_map agreement_with o ≡ agreed_by loan x → is_some o ≡ false → agreement (reverse (take (i + 1) xs)) loan ≡ None
-told_further loan xs i x None h at none here e = agreed_further loan xs i x h at none (sym here)
-told_further loan xs i x (Some t) h at none here e = absurd (cc)
+not_found_yet loan xs i x None h at none here e = agreed_further loan xs i x h at none (sym here)
+not_found_yet loan xs i x (Some t) h at none here e = absurd (cc)

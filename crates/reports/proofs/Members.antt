@@ -1,4 +1,4 @@
--- The members of an object, one by one.
+-- The members of a JSON object, one at a time.
 use Rattle.std.specs.Prelude.{◌≡◌, ◌∷◌, ◌++◌, [], ◌+◌, ◌<◌, ◌≤◌, ℕ, List, length, map, min, refl, suc, zero}
 use Rattle.std.proofs.Common.{ap, arith, get_or, sym, take, ◌∙◌}
 use Rattle.std.proofs.lemmas.List.{length-map, length-take-le, map-append, take-map, take_more}
@@ -11,7 +11,7 @@ members-append [] (v ∷ values) name value same = absurd (omega (arith, same))
 members-append (x ∷ names) [] name value same = absurd (omega (arith, same))
 members-append (x ∷ names) (v ∷ values) name value same = ap (λ rest. member x v ∷ rest) (members-append names values name value (omega (arith, same)))
 
--- as many of each in front
+-- the two first parts have the same length
 alike : {X Y : Type 0} (f : X → List ℕ) (g : Y → Cell) (xs : List X) (ys : List Y) (i : ℕ) → i < length xs → i < length ys
     → length (map f (take i xs)) ≡ length (map g (take i ys))
 alike f g xs ys i h k =
@@ -28,7 +28,7 @@ members_more f g xs ys i x y h k at =
     rw (take_more xs i x h, one, map-append f (take i xs) (get_or xs i x ∷ []), map-append g (take i ys) (y ∷ []))
     (members-append (map f (take i xs)) (map g (take i ys)) (f (get_or xs i x)) (g y) (alike f g xs ys i h k))
 
--- the members that names and values, cut where one of them ends, have
+-- the members stay the same if names and values are cut to the shorter list
 pub members_cut : (m : ℕ) (names : List (List ℕ)) (values : List Cell) → min (length names) (length values) ≤ m
     → members (take m names) (take m values) ≡ members names values
 members_cut zero [] values h = refl

@@ -1,4 +1,4 @@
--- What was written so far.
+-- The text that was written so far.
 use Rattle.std.proofs.Common.{◌≡◌, ℕ, ◌+◌, ◌-◌, ◌≤◌, List, ◌++◌, [], ◌∷◌, length, take, drop, Option, None, Some, Result, Ok, Err, arith, ap, ◌∙◌, sym, subst, refl, zero, suc, add-one}
 use Rattle.std.proofs.Math.Seq.{take-add}
 use Rattle.std.proofs.lemmas.List.{length-drop, take-append-drop, take_all}
@@ -24,17 +24,17 @@ rest_bound text m n within few =
     let d = length-drop m text in
     omega (arith, e, d, few, within)
 
--- n more bytes of the text
+-- n more bytes of the text are written
 pub more_taken : (a b c : Option (List ℕ)) (text : List ℕ) (m n : ℕ) → Appends a b (take m text) → Appends b c (take n (take (length text - m) (drop m text))) → Appends a c (take (m + n) text)
 more_taken a b c text m n p q =
     let r : Appends b c (take n (drop m text)) = subst (λ (l : List ℕ). Appends b c (take n l)) (all_taken m text) q in
     subst (Appends a c) (sym (take-add m n text)) (Appends-trans a b c (take m text) (take n (drop m text)) p r)
 
--- a front of the text is one of a longer text
+-- A front of a text was written. It is also a front of a longer text.
 abbrev pub Front : Option (List ℕ) → Option (List ℕ) → List ℕ → Type 0
 Front a b text = (k : ℕ) × Appends a b (take k text)
 
--- some front of the longer text is that front
+-- that front is a front of the longer text
 front_of : (k : ℕ) (s t : List ℕ) → (j : ℕ) × (take j (s ++ t) ≡ take k s)
 front_of zero s t = (zero, refl)
 front_of (suc k) [] t = (zero, refl)
@@ -53,7 +53,7 @@ front_whole a b s t p = front_longer a b s t (length s, subst (Appends a b) (sym
 pub front_past : (a b c : Option (List ℕ)) (s t : List ℕ) → Appends a b s → Front b c t → Front a c (s ++ t)
 front_past a b c s t p q = let r = past_of q.0 s t in (r.0, subst (Appends a c) (sym r.1) (Appends-trans a b c s (take q.0 t) p q.1))
 
--- one row more
+-- one more row
 pub row_taken : (rows : List (List Cell)) (i : ℕ) → take (suc i) rows ≡ take i rows ++ option_to_list (slice_get rows i)
 row_taken [] zero = refl
 row_taken [] (suc i) = refl
@@ -67,7 +67,7 @@ lines_more text rows i =
     ap (λ k. flat_map text (take k rows)) (add-one i)
     ∙ (ap (flat_map text) (row_taken rows i) ∙ flat_map-append text (take i rows) (option_to_list (slice_get rows i)))
 
--- after a fault at row i a front of all is written
+-- after a fault at row i a front of all rows is written
 pub broken_at : (a b c : Option (List ℕ)) (text : List Cell → List ℕ) (rows : List (List Cell)) (i : ℕ)
     → Appends a b (flat_map text (take i rows)) → Front b c (flat_map text (option_to_list (slice_get rows i))) → Front a c (flat_map text rows)
 broken_at a b c text rows i p q =
@@ -79,7 +79,7 @@ broken_at a b c text rows i p q =
     (front_longer a c (flat_map text (take i rows) ++ flat_map text (option_to_list (slice_get rows i))) rest
     (front_past a b c (flat_map text (take i rows)) (flat_map text (option_to_list (slice_get rows i))) p q))
 
--- what a call that was broken off left
+-- a call that failed left a front of its text
 pub prints_err : {F : Type 0} (a b : Option (List ℕ)) (r : Result Unit F) (text : List ℕ) (x : F) → IsErrAnd r (λ y. y ≡ x) → Front a b text → Prints a b r text
 prints_err a b (Ok u) text x is p = absurd is
 prints_err a b (Err y) text x is p = p

@@ -18,7 +18,7 @@ use std::alloc::Global;
 
 /// Posts these entries in a new ledger, each judged again after those before it, and returns how
 /// each station goes on. Faults: Damaged(i) for the first entry, counted from 1, whose station,
-/// number or verdict isn't the one by the rules; NoMemory.
+/// number or verdict isn't the one that the rules require; NoMemory.
 pub(crate) fn judged(
     alloc: Global,
     ledger: &mut Ledger,
@@ -69,8 +69,8 @@ fn judge_next(
     Ok(())
 }
 
-/// Posts an entry in the ledger if its verdict is the one by the rules. The caller has checked that
-/// its station may send its number.
+/// Posts an entry in the ledger if its verdict is the one that the rules require. The caller has
+/// checked that its station may send its number.
 fn post_again(alloc: Global, ledger: &mut Ledger, entry: &Entry) -> Result<(), StoreFault>
     requires { Follows ledger.old.museum ledger.old.depth ledger.old.posted
         (entry_of ledger.old.museum ledger.old.depth ledger.old.posted (arrival_of entry.now)) }

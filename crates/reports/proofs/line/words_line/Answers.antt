@@ -7,6 +7,6 @@ use Rattle.reports.proofs.line.words_line.Goals as goal
 
 pub returns : goal.returns
 returns c =
-    let told_words = filter is_shown (map cell_of c.args.words.now) in
-    let joined = joined_alike string_bytes plain_text (codes " ") _ told_words c.in_ok-texts.ensures in
+    let shown = filter is_shown (map cell_of c.args.words.now) in
+    let joined = joined_alike string_bytes plain_text (codes " ") _ shown c.in_ok-texts.ensures in
     search rules
