@@ -16,6 +16,7 @@ use Rattle.posting_core.specs.History.{place_at, spots, spot_from}
 use Rattle.posting_core.specs.Lawful.{IsLawful, count_at}
 use Rattle.posting_core.specs.LoanRows.{LoanRow}
 use Rattle.posting_core.specs.Rows.{IsKept}
+use Rattle.posting_core.specs.declared.standing.Standing.{Standing}
 
 -- the entries of the stations below k
 abbrev counted : ℕ → List Entry → ℕ
@@ -65,7 +66,7 @@ all_counted S depth (e ∷ P) (follows, lawful) =
     omega (arith, rest, more)
 
 -- no station has more than the last number
-few_at : (S : Museum) (depth : ℕ) (k : ℕ) (P : List Entry) → IsLawful S depth P
+pub few_at : (S : Museum) (depth : ℕ) (k : ℕ) (P : List Entry) → IsLawful S depth P
     → count_at k P ≤ LAST_NUMBER
 few_at S depth k [] lawful = omega arith
 few_at S depth k (e ∷ P) (follows, lawful) =
@@ -125,7 +126,7 @@ few_spots S (e ∷ P) x =
 
 -- the size of a ledger's fields
 module _ {S : Museum} {P : List Entry} {N : Nested} {R : List (List Spot)} {L : List LoanRow}
-    (kept : IsKept S P N R L) (museum : IsMuseum S) where
+    {T : List Standing} (kept : IsKept S P N R L T) (museum : IsMuseum S) where
   pub few_kept : length P ≤ MOST_ENTRIES
   few_kept = few_entries S N.depth P museum.few_stations kept.lawful
 

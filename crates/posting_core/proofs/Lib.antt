@@ -25,6 +25,7 @@ pub mod Refused
 pub mod SpotRows
 pub mod SpotsAfter
 pub mod Spotted
+mod Stations
 pub mod Turns
 mod WorkedAccounts
 mod WorkedCrossings

@@ -33,6 +33,8 @@ use Rattle.posting_core.specs.Book.{Book, chain_in, spots_in, loans_in, objects_
 use Rattle.posting_core.specs.Agreements.{Agreement, agreement_in, agreement_by, agreements, agreement, loan_no, loan_by, is_agreed}
 use Rattle.posting_core.specs.LoanRows.{LoanRow, loan_row, loan_rows, rows_with, row_by, AreOnce, MayAgree}
 use Rattle.posting_core.specs.Rows.{row_of, rows_after, IsKept}
+use Rattle.posting_core.specs.Standings.{no_standing, standing_at, standings_with}
+use Rattle.posting_core.specs.declared.standing.Standing.{Standing}
 use Rattle.posting_core.proofs.AppliedRows.{applied_is}
 use Rattle.posting_core.proofs.Agreed.{IsSound, agree_applied}
 use Rattle.posting_core.proofs.Bounds.{short, spots_within}
@@ -40,6 +42,7 @@ use Rattle.posting_core.proofs.Lined.{rows_after_entry, objects_told}
 use Rattle.posting_core.proofs.ObjectNumbers.{numbers_once}
 use Rattle.posting_core.proofs.LoanAnswers.{IsRowOf, row_is, row_missing, codes_told, code_at, objects_at}
 use Rattle.posting_core.proofs.Placed.{put_allowed, may_go, chain_below}
+use Rattle.posting_core.proofs.Stations.{as_many_standings, standing_first, standing_next}
 use Rattle.posting_core.proofs.Spotted.{carried_below}
 use Rattle.posting_core.proofs.Written.{rows_written, chosen_spot, own_spot, same_place, rows_length, own_within}
 
@@ -49,7 +52,7 @@ book_of S P N = record { museum = S; depth = N.depth; posted = P }
 
 -- the fields agree with looking back through the ledger's entries
 module _ {S : Museum} {P : List Entry} {N : Nested} {R : List (List Spot)} {L : List LoanRow}
-    {B : Book} (kept : IsKept S P N R L) (same : book_of S P N ≡ B) where
+    {T : List Standing} {B : Book} (kept : IsKept S P N R L T) (same : book_of S P N ≡ B) where
   pub lawful_kept : IsLawful B.museum B.depth B.posted
   lawful_kept = subst (λ (C : Book). IsLawful C.museum C.depth C.posted) same kept.lawful
 
@@ -166,6 +169,19 @@ module _ {S : Museum} {P : List Entry} {N : Nested} {R : List (List Spot)} {L : 
       subst (λ (C : Book). option_map (objects_of_loan C) (slice_get (loans_in C) i)
       ≡ Some row.objects) same (objects_at S N.depth P L i row kept.lawful kept.loans at)
 
+  -- each station's standing
+  pub station_kept : (s : ℕ) → s < length B.museum.stations → s < length T
+  station_kept s known =
+      let less : s < length S.stations =
+      subst (λ (C : Book). s < length C.museum.stations) (sym same) known in
+      omega (arith, less, kept.stations)
+
+  pub standing_kept : (s : ℕ) → s < length B.museum.stations
+      → slice_get T s ≡ Some (standing_at B.posted s)
+  standing_kept s known =
+      subst (λ (C : Book). slice_get T s ≡ Some (standing_at C.posted s)) same
+      (kept.standing s (subst (λ (C : Book). s < length C.museum.stations) (sym same) known))
+
   pub count_kept : length L ≡ length (loans_in B)
   count_kept = subst (λ (C : Book). length L ≡ length (loans_in C)) same
       (ap length kept.loans ∙ length-map (agreements P) (loan_row S P)
@@ -185,10 +201,10 @@ spot_for S P m x = new_spot (length P + 1) (length (spots S P x)) (place_at S P 
 
 -- the rows of spots after the spots of an entry
 spots_after_entry : (S : Museum) (P : List Entry) (N : Nested) (R : List (List Spot))
-    (L : List LoanRow) (e : Entry) → IsKept S P N R L →
+    (L : List LoanRow) (T : List Standing) (e : Entry) → IsKept S P N R L T →
     (x : ℕ) → x < length S.things → row_of (rows_after R (news_under S P e.verdict e.message)) x
     ≡ spots S (e ∷ P) x
-spots_after_entry S P N R L e kept x less =
+spots_after_entry S P N R L T e kept x less =
     let number = length P + 1 in
     let things = length S.things in
     let day = day_of e.message in
@@ -233,9 +249,9 @@ unplaced S P v _ agrees = absurd (false≢true agrees)
 
 -- the entry and the changes that `apply` gets, over the ledger's fields
 pub record IsPlanned (S : Museum) (P : List Entry) (N : Nested) (R : List (List Spot))
-    (L : List LoanRow) (e : Entry) (put : Option Put) (along : List ℕ) (news : List NewSpot)
+    (L : List LoanRow) (T : List Standing) (e : Entry) (put : Option Put) (along : List ℕ) (news : List NewSpot)
     (loan : Option ℕ) (lines : List NewLine) : Type 0 where
-  pub kept : IsKept S P N R L
+  pub kept : IsKept S P N R L T
   pub follows : Follows S N.depth P e
   pub put_is : put ≡ put_by S P e.verdict e.message
   pub along_is : along ≡ carried_with S P put
@@ -265,11 +281,11 @@ written B e changes follows plan = (
 )
 
 pub planned : {S : Museum} {P : List Entry} {N : Nested} {R : List (List Spot)} {L : List LoanRow}
-    {B : Book} {e : Entry} {changes : Changes} {along : List ℕ} {news : List NewSpot}
-    {lines : List NewLine} → IsKept S P N R L → book_of S P N ≡ B →
+    {T : List Standing} {B : Book} {e : Entry} {changes : Changes} {along : List ℕ} {news : List NewSpot}
+    {lines : List NewLine} → IsKept S P N R L T → book_of S P N ≡ B →
     Follows B.museum B.depth B.posted e → changes ≡ changes_of B e.message → along ≡ changes.carried
     → news ≡ changes.spots → lines ≡ changes.lines
-    → IsPlanned S P N R L e changes.put along news changes.loan lines
+    → IsPlanned S P N R L T e changes.put along news changes.loan lines
 planned {S} {P} {N} {B} {e} {changes} kept same follows plan same_carried same_spots same_lines =
     let follows' : Follows S N.depth P e =
     subst (λ (C : Book). Follows C.museum C.depth C.posted e) (sym same) follows in
@@ -288,11 +304,15 @@ planned {S} {P} {N} {B} {e} {changes} kept same follows plan same_carried same_s
 
 -- for an entry with its planned changes
 module _ {S : Museum} {P : List Entry} {N : Nested} {R : List (List Spot)} {L : List LoanRow}
-    {e : Entry} {put : Option Put} {along : List ℕ} {news : List NewSpot} {loan : Option ℕ}
-    {lines : List NewLine} (is : IsPlanned S P N R L e put along news loan lines) where
+    {T : List Standing} {e : Entry} {put : Option Put} {along : List ℕ} {news : List NewSpot} {loan : Option ℕ}
+    {lines : List NewLine} (is : IsPlanned S P N R L T e put along news loan lines) where
   -- the new spots are of things that have rows
   pub planned_within : (R' : List (List Spot)) → R' ≡ R → All (λ s. s.thing < length R') news
   planned_within R' r = rw (is.news_is, r, is.kept.rowed) (news_within S P e.verdict e.message)
+
+  -- the entry's station has a standing
+  pub planned_station : e.station < length T
+  planned_station = omega (arith, is.kept.stations, is.follows.known)
 
   -- an applied agreement can be kept
   pub planned_agree : IfSome (agreement_by e.verdict e.message) (MayAgree L lines)
@@ -378,12 +398,14 @@ module _ {S : Museum} {P : List Entry} {N : Nested} {R : List (List Spot)} {L : 
       (things : M.things ≡ N.things) (places : M.places ≡ N.places)
       (depth : M.depth ≡ N.depth) where
     -- the fields after the entry
-    pub kept_after : {P' : List Entry} {R' : List (List Spot)} {L' : List LoanRow} → P' ≡ e ∷ P
+    pub kept_after : {P' : List Entry} {R' : List (List Spot)} {L' : List LoanRow}
+        {T' : List Standing} → P' ≡ e ∷ P
         → R' ≡ rows_after R news
         → L' ≡ (if is_applied e.verdict then rows_with S L e.message lines else L)
-        → IsKept S P' M R' L'
-    kept_after {R'} {L'} p r l =
-        subst (λ (K : List Entry). IsKept S K M R' L') (sym p) (record {
+        → T' ≡ standings_with T e
+        → IsKept S P' M R' L' T'
+    kept_after {R'} {L'} {T'} p r l t =
+        subst (λ (K : List Entry). IsKept S K M R' L' T') (sym p) (record {
           lawful = subst (λ d. IsLawful S d (e ∷ P)) (sym depth) (is.follows, is.kept.lawful);
           things = things ∙ is.kept.things;
           places = places ∙ is.kept.places;
@@ -391,15 +413,19 @@ module _ {S : Museum} {P : List Entry} {N : Nested} {R : List (List Spot)} {L : 
               (stands (puts S P) is.kept.nest);
           rowed = ap length r ∙ rows_length R news ∙ is.kept.rowed;
           row = λ x less. ap (λ rs. row_of rs x) r ∙ ap (λ ns. row_of (rows_after R ns) x)
-              is.news_is ∙ spots_after_entry S P N R L e is.kept x less;
+              is.news_is ∙ spots_after_entry S P N R L T e is.kept x less;
           loans = loans_after L' l;
+          stations = ap length t ∙ as_many_standings T e ∙ is.kept.stations;
+          standing = λ s known. ap (λ ts. slice_get ts s) t
+              ∙ standing_next S N.depth P T e is.follows is.kept.stations is.kept.standing s known;
         })
 
     -- after an agreement that failed for lack of memory, the fields are as before
     pub kept_still : {P' : List Entry} {R' : List (List Spot)} {L' : List LoanRow}
-        → is_some (agreement_in e.message) ≡ true → P' ≡ P → R' ≡ R → L' ≡ L → IsKept S P' M R' L'
+        → is_some (agreement_in e.message) ≡ true → P' ≡ P → R' ≡ R → L' ≡ L
+        → IsKept S P' M R' L' T
     kept_still {R'} {L'} agrees p r l =
-        subst (λ (K : List Entry). IsKept S K M R' L') (sym p) (record {
+        subst (λ (K : List Entry). IsKept S K M R' L' T) (sym p) (record {
           lawful = subst (λ d. IsLawful S d P) (sym depth) is.kept.lawful;
           things = things ∙ is.kept.things;
           places = places ∙ is.kept.places;
@@ -409,6 +435,8 @@ module _ {S : Museum} {P : List Entry} {N : Nested} {R : List (List Spot)} {L : 
           rowed = ap length r ∙ is.kept.rowed;
           row = λ x less. ap (λ rs. row_of rs x) r ∙ is.kept.row x less;
           loans = l ∙ is.kept.loans;
+          stations = is.kept.stations;
+          standing = is.kept.standing;
         })
 
 row_none : (n x : ℕ) → row_of (replicate n []) x ≡ []
@@ -418,10 +446,12 @@ row_none (suc n) (suc x) = row_none n x
 
 -- the fields of a ledger with nothing posted
 pub kept_new : {S : Museum} {n : ℕ} {P : List Entry} {N : Nested} {R : List (List Spot)}
-    {L : List LoanRow} → n ≡ length S.things → P ≡ [] → StandsFor N [] → N.things ≡ length S.things
-    → N.places ≡ length S.places → R ≡ replicate n [] → L ≡ [] → IsKept S P N R L
-kept_new {S} {n} {N} {R} {L} same p nest things places r l =
-    subst (λ (K : List Entry). IsKept S K N R L) (sym p) (record {
+    {L : List LoanRow} {k : ℕ} {T : List Standing} → n ≡ length S.things
+    → k ≡ length S.stations → P ≡ [] → StandsFor N [] → N.things ≡ length S.things
+    → N.places ≡ length S.places → R ≡ replicate n [] → L ≡ []
+    → T ≡ replicate k no_standing → IsKept S P N R L T
+kept_new {S} {n} {N} {R} {L} {k} {T} same counted p nest things places r l t =
+    subst (λ (K : List Entry). IsKept S K N R L T) (sym p) (record {
       lawful = tt;
       things = things;
       places = places;
@@ -429,4 +459,7 @@ kept_new {S} {n} {N} {R} {L} same p nest things places r l =
       rowed = ap length r ∙ length-replicate n [] ∙ same;
       row = λ x less. ap (λ rs. row_of rs x) r ∙ row_none n x;
       loans = l;
+      stations = ap length t ∙ length-replicate k _ ∙ counted;
+      standing = λ s known. ap (λ ts. slice_get ts s) t
+          ∙ standing_first k s (subst (λ m. s < m) (sym counted) known);
     })

@@ -5,6 +5,7 @@ pub mod History
 pub mod Loans
 pub mod SpotRows
 pub mod StageNumbers
+pub mod Standings
 pub mod Verdicts
 pub mod Lawful
 pub mod Book

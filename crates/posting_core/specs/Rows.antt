@@ -1,5 +1,5 @@
--- Defines the invariant of a ledger's fields: the nest, each thing's spots by number, and the
--- loans.
+-- Defines the invariant of a ledger's fields: the nest, each thing's spots by number, the loans,
+-- and the stations.
 use Rattle.std.specs.Prelude.{ℕ, ◌≡◌, ◌<◌, ◌++◌, List, [], ◌∷◌, Option, Some, length, slice_get, slice_set}
 use Rattle.std.specs.Option.{option_map_or}
 use Rattle.nest_core.specs.declared.put.Target.{Target}
@@ -12,6 +12,8 @@ use Rattle.posting_core.specs.declared.entry.NewSpot.{NewSpot}
 use Rattle.posting_core.specs.History.{puts, place_at, spots}
 use Rattle.posting_core.specs.Lawful.{IsLawful}
 use Rattle.posting_core.specs.LoanRows.{LoanRow, loan_rows}
+use Rattle.posting_core.specs.Standings.{standing_at}
+use Rattle.posting_core.specs.declared.standing.Standing.{Standing}
 
 -- The place that a thing gets from this target.
 abbrev pub place_to : Museum → List Entry → Target → Option ℕ
@@ -28,10 +30,10 @@ rows_after rows [] = rows
 rows_after rows (s ∷ ss) =
     rows_after (slice_set rows s.thing (row_of rows s.thing ++ s.spot ∷ [])) ss
 
--- The entries are lawful, the nest stands for their puts, and the rows of spots and of loans are
--- those of looking back.
+-- The entries are lawful, the nest stands for their puts, and the rows of spots, of loans and of
+-- stations are those of looking back.
 pub record IsKept (S : Museum) (P : List Entry) (N : Nested) (rows : List (List Spot))
-    (L : List LoanRow) : Type 0 where
+    (L : List LoanRow) (T : List Standing) : Type 0 where
   pub lawful : IsLawful S N.depth P
   pub things : N.things ≡ length S.things
   pub places : N.places ≡ length S.places
@@ -39,3 +41,5 @@ pub record IsKept (S : Museum) (P : List Entry) (N : Nested) (rows : List (List 
   pub rowed : length rows ≡ length S.things
   pub row : (x : ℕ) → x < length S.things → row_of rows x ≡ spots S P x
   pub loans : L ≡ loan_rows S P
+  pub stations : length T ≡ length S.stations
+  pub standing : (s : ℕ) → s < length S.stations → slice_get T s ≡ Some (standing_at P s)

@@ -2,7 +2,7 @@
 ghost use Rattle.std.specs.Prelude.{◌≡◌, ◌<◌, ◌≤◌, ◌∷◌, [], length, reverse, All, IfOk, OnOk, OnErr, IfSome, ℕ, Some, slice_get, is_some, true};
 ghost use Rattle.std.specs.Option.{option_map};
 ghost use Rattle.nest_core.specs.Puts.{is_among};
-ghost use Rattle.posting_core.specs.Lawful.{Follows, IsLawful};
+ghost use Rattle.posting_core.specs.Lawful.{Follows, IsLawful, count_at, is_signed_off};
 ghost use Rattle.posting_core.specs.Messages.{place_no};
 ghost use Rattle.posting_core.specs.History.{put_by, carried_at, carried_with, holds_at};
 ghost use Rattle.posting_core.specs.Agreements.{agreement, loan_no, loan_by, is_agreed, is_authorised, last_day};
@@ -22,12 +22,13 @@ use crate::kept_loans::KeptLoans;
 use crate::placement::place;
 use crate::recording::record;
 use crate::spot_rows::SpotRows;
+use crate::standing::{Standing, count_entry, new_standings};
 use crate::{
-    Changes, Entry, EntryNo, LineStage, LoanState, MOST_ENTRIES, Message, PostedEntry, Spots,
-    Verdict,
+    Changes, Entry, EntryNo, LAST_NUMBER, LineStage, LoanState, MOST_ENTRIES, Message, PostedEntry,
+    Spots, Verdict,
 };
 use codes_core::{Day, LoanCode, NoMemory};
-use nest_core::{Nest, PlaceNo, Setup, ThingNo, ThingNos};
+use nest_core::{Nest, PlaceNo, Setup, StationNo, ThingNo, ThingNos};
 use std::alloc::Global;
 use std::marker::Model;
 
@@ -42,6 +43,7 @@ pub struct Ledger {
     nest: Nest,
     spots: SpotRows,
     loans: KeptLoans,
+    standings: Vec<Standing>,
 }
 
 impl Model for Ledger {
@@ -55,7 +57,7 @@ impl Model for Ledger {
         record { museum = a.setup; depth = a.nest.depth; posted = reverse a.posted.items } };
 
     ghost invariant = { λ a.
-        IsKept a.setup (reverse a.posted.items) a.nest a.spots.rows a.loans };
+        IsKept a.setup (reverse a.posted.items) a.nest a.spots.rows a.loans a.standings.items };
 }
 
 /// Manual `Drop`: a derived one is inlined at every return and slows the proof.
@@ -67,12 +69,14 @@ impl Drop for Ledger {
             nest,
             spots,
             loans,
+            standings,
         } = self;
         drop(setup);
         drop(posted);
         drop(nest);
         drop(spots);
         drop(loans);
+        drop(standings);
     }
 }
 
@@ -85,12 +89,14 @@ impl Ledger {
     {
         let nest = Nest::new(alloc, &setup, depth)?;
         let spots = SpotRows::new(alloc, setup.things())?;
+        let standings = new_standings(alloc, setup.stations())?;
         Ok(Ledger {
             setup,
             posted: Vec::new(alloc),
             nest,
             spots,
             loans: KeptLoans::new(alloc),
+            standings,
         })
     }
 
@@ -116,6 +122,24 @@ impl Ledger {
     {
         self.setup.is_museum();
         self.posted().len() as EntryNo
+    }
+
+    /// The number of a station's entries, which is also that of its last message. The station must
+    /// be in the setup.
+    pub fn number_of(&self, station: StationNo) -> u32
+        requires { station < length self.now.museum.stations }
+        ensures count { result ≡ count_at station self.now.posted }
+        ensures few { result ≤ LAST_NUMBER }
+    {
+        self.standings[station as usize].count
+    }
+
+    /// Whether a station's sign-off is posted. The station must be in the setup.
+    pub fn has_signed_off(&self, station: StationNo) -> bool
+        requires { station < length self.now.museum.stations }
+        ensures { result ≡ is_signed_off station self.now.posted }
+    {
+        self.standings[station as usize].signed_off
     }
 
     /// The law of every posted list, for proofs: each entry may follow those before it. The
@@ -293,6 +317,7 @@ impl Ledger {
             lines,
         )?;
         self.spots.push_all(spots);
+        count_entry(&mut self.standings, entry);
         self.posted.push_reserved(posted);
         Ok(())
     }

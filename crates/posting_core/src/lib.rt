@@ -35,6 +35,7 @@ mod recording;
 mod spot_rows;
 mod spots;
 mod stage;
+mod standing;
 mod verdict;
 
 pub use entry::{Changes, Entry, EntryNo, NewLine, NewLines, NewSpot, NewSpots, Spot};

@@ -3,5 +3,4 @@ mod NumberedRows
 mod Joins
 mod LoanLemmas
 mod Members
-mod Standings
 mod WrittenText

@@ -10,9 +10,7 @@ use Rattle.posting_core.specs.Book.{Book}
 use Rattle.posting_core.specs.Lawful.{count_at, is_signed_off}
 use Rattle.posting_core.specs.VerdictNames.{verdict_name}
 use Rattle.register_store.specs.MessageText.{body_of}
-use Rattle.posting_core.specs.Messages.{is_sign_off}
 use Rattle.reports.specs.declared.form.Form.{Form}
-use Rattle.reports.specs.declared.reports.stations.Standing.{Standing}
 use Rattle.reports.specs.Forms.{by_form}
 use Rattle.reports.specs.Cells.{Cell, flag, json, number, number_if, text}
 use Rattle.reports.specs.Texts.{station_text}
@@ -66,11 +64,3 @@ entry_row_at B i = option_map_or (entry_row B.museum (i + 1)) (slice_get (revers
 abbrev pub posted_rows : Book → ℕ → List (List Cell)
 posted_rows B from =
     map (entry_row_at B) (range_with_len (from - 1) (length B.posted - (from - 1)))
-
--- The standing of a station whose last entry this is.
-abbrev pub standing_after : Entry → Standing
-standing_after e =
-    record {
-      next = if is_sign_off e.message || nat_le LAST_NUMBER e.n then None else Some (e.n + 1);
-      signed_off = is_sign_off e.message;
-    }

@@ -4,7 +4,7 @@ use Rattle.nest_core.proofs.Outcomes.{at_err}
 use Rattle.posting_core.specs.declared.entry.Entry.{Entry}
 use Rattle.posting_core.specs.declared.entry.Spot.{Spot}
 use Rattle.posting_core.specs.Rows.{rows_after}
-use Rattle.posting_core.proofs.Posted.{planned, planned_within, planned_put, planned_carried, planned_agree, planned_loan, kept_still, kept_after}
+use Rattle.posting_core.proofs.Posted.{planned, planned_within, planned_put, planned_carried, planned_agree, planned_loan, planned_station, kept_still, kept_after}
 use Rattle.posting_core.proofs.ledger.Ledger.apply.Goals as goal
 
 pub push_all-requires-clause-within : goal.push_all-requires-clause-within
@@ -48,7 +48,13 @@ invariant_of-self-2 c =
     c.in_ok-posted.ensures) ∙ reverse-append c.self.inside.posted.items (c.args.entry.now ∷ []))
     (c.push_all.ensures ∙ ap (λ (rs : List (List Spot)). rows_after rs c.as_slice-spots.result.now)
     c.reserve.ensures.rows)
-    c.in_ok-record.ensures.ok
+    c.in_ok-record.ensures.ok c.count_entry.ensures
+
+pub count_entry-requires : goal.count_entry-requires
+count_entry-requires c =
+    let is = planned c.self.invariant c.self.view_is c.requires.follows c.requires.planned
+    c.as_slice-carried.ensures c.as_slice-spots.ensures c.as_slice-lines.ensures in
+    planned_station is
 
 pub invariant_of-self-in_err-record : goal.invariant_of-self-in_err-record
 invariant_of-self-in_err-record c =
