@@ -126,7 +126,7 @@ few_spots S (e ∷ P) x =
 
 -- the size of a ledger's fields
 module _ {S : Museum} {P : List Entry} {N : Nested} {R : List (List Spot)} {L : List LoanRow}
-    {T : List Standing} (kept : IsKept S P N R L T) (museum : IsMuseum S) where
+    {A : List ℕ} {T : List Standing} (kept : IsKept S P N R L A T) (museum : IsMuseum S) where
   pub few_kept : length P ≤ MOST_ENTRIES
   few_kept = few_entries S N.depth P museum.few_stations kept.lawful
 

@@ -108,7 +108,7 @@ first_row loan (row ∷ rows) = ap (λ n. cond (not (bytes_eq loan row.loan)) (1
     (first_row loan rows)
 
 -- the position of a code
-found : (loan : List ℕ) (codes : List (List ℕ)) (i : ℕ) → position (bytes_eq loan) codes ≡ Some i
+pub found : (loan : List ℕ) (codes : List (List ℕ)) (i : ℕ) → position (bytes_eq loan) codes ≡ Some i
     → (i < length codes) × (position_or_len (bytes_eq loan) codes ≡ i)
 found loan codes i at =
     let first = position-Some (bytes_eq loan) codes i [] at in

@@ -1,5 +1,6 @@
 pub mod Accounted
 pub mod Agreed
+mod AgreedEntries
 pub mod Along
 pub mod Among
 pub mod AppliedRows

@@ -30,7 +30,7 @@ use Rattle.posting_core.specs.VerdictNames.{is_applied}
 use Rattle.posting_core.specs.Loans.{crossing_in, objects_of}
 use Rattle.posting_core.specs.Lawful.{Follows, IsLawful}
 use Rattle.posting_core.specs.Book.{Book, chain_in, spots_in, loans_in, objects_of_loan, place_after, new_spot, new_spots, lines_of_agreement, lines_of_crossing, new_lines, changes_of}
-use Rattle.posting_core.specs.Agreements.{Agreement, agreement_in, agreement_by, agreements, agreement, loan_no, loan_by, is_agreed}
+use Rattle.posting_core.specs.Agreements.{Agreement, agreed_entries, agreement_in, agreement_by, agreements, agreement, loan_no, loan_by, is_agreed}
 use Rattle.posting_core.specs.LoanRows.{LoanRow, loan_row, loan_rows, rows_with, row_by, AreOnce, MayAgree}
 use Rattle.posting_core.specs.Rows.{row_of, rows_after, IsKept}
 use Rattle.posting_core.specs.Standings.{no_standing, standing_at, standings_with}
@@ -52,7 +52,7 @@ book_of S P N = record { museum = S; depth = N.depth; posted = P }
 
 -- the fields agree with looking back through the ledger's entries
 module _ {S : Museum} {P : List Entry} {N : Nested} {R : List (List Spot)} {L : List LoanRow}
-    {T : List Standing} {B : Book} (kept : IsKept S P N R L T) (same : book_of S P N ≡ B) where
+    {A : List ℕ} {T : List Standing} {B : Book} (kept : IsKept S P N R L A T) (same : book_of S P N ≡ B) where
   pub lawful_kept : IsLawful B.museum B.depth B.posted
   lawful_kept = subst (λ (C : Book). IsLawful C.museum C.depth C.posted) same kept.lawful
 
@@ -187,6 +187,13 @@ module _ {S : Museum} {P : List Entry} {N : Nested} {R : List (List Spot)} {L : 
       (ap length kept.loans ∙ length-map (agreements P) (loan_row S P)
       ∙ sym (length-map (agreements P) (λ t. t.loan)))
 
+-- the entry that agreed the loan with this number
+module _ {S : Museum} {P : List Entry} {N : Nested} {R : List (List Spot)} {L : List LoanRow}
+    {A : List ℕ} {T : List Standing} {B : Book} (kept : IsKept S P N R L A T)
+    (same : book_of S P N ≡ B) where
+  pub agreed_kept : A ≡ agreed_entries B.posted
+  agreed_kept = subst (λ (C : Book). A ≡ agreed_entries C.posted) same kept.agreed
+
 -- the spots and the loan lines that an entry writes
 
 abbrev news_under : Museum → List Entry → Verdict → Message → List NewSpot
@@ -201,10 +208,10 @@ spot_for S P m x = new_spot (length P + 1) (length (spots S P x)) (place_at S P 
 
 -- the rows of spots after the spots of an entry
 spots_after_entry : (S : Museum) (P : List Entry) (N : Nested) (R : List (List Spot))
-    (L : List LoanRow) (T : List Standing) (e : Entry) → IsKept S P N R L T →
+    (L : List LoanRow) (A : List ℕ) (T : List Standing) (e : Entry) → IsKept S P N R L A T →
     (x : ℕ) → x < length S.things → row_of (rows_after R (news_under S P e.verdict e.message)) x
     ≡ spots S (e ∷ P) x
-spots_after_entry S P N R L T e kept x less =
+spots_after_entry S P N R L A T e kept x less =
     let number = length P + 1 in
     let things = length S.things in
     let day = day_of e.message in
@@ -249,9 +256,9 @@ unplaced S P v _ agrees = absurd (false≢true agrees)
 
 -- the entry and the changes that `apply` gets, over the ledger's fields
 pub record IsPlanned (S : Museum) (P : List Entry) (N : Nested) (R : List (List Spot))
-    (L : List LoanRow) (T : List Standing) (e : Entry) (put : Option Put) (along : List ℕ) (news : List NewSpot)
+    (L : List LoanRow) (A : List ℕ) (T : List Standing) (e : Entry) (put : Option Put) (along : List ℕ) (news : List NewSpot)
     (loan : Option ℕ) (lines : List NewLine) : Type 0 where
-  pub kept : IsKept S P N R L T
+  pub kept : IsKept S P N R L A T
   pub follows : Follows S N.depth P e
   pub put_is : put ≡ put_by S P e.verdict e.message
   pub along_is : along ≡ carried_with S P put
@@ -281,11 +288,11 @@ written B e changes follows plan = (
 )
 
 pub planned : {S : Museum} {P : List Entry} {N : Nested} {R : List (List Spot)} {L : List LoanRow}
-    {T : List Standing} {B : Book} {e : Entry} {changes : Changes} {along : List ℕ} {news : List NewSpot}
-    {lines : List NewLine} → IsKept S P N R L T → book_of S P N ≡ B →
+    {A : List ℕ} {T : List Standing} {B : Book} {e : Entry} {changes : Changes} {along : List ℕ} {news : List NewSpot}
+    {lines : List NewLine} → IsKept S P N R L A T → book_of S P N ≡ B →
     Follows B.museum B.depth B.posted e → changes ≡ changes_of B e.message → along ≡ changes.carried
     → news ≡ changes.spots → lines ≡ changes.lines
-    → IsPlanned S P N R L T e changes.put along news changes.loan lines
+    → IsPlanned S P N R L A T e changes.put along news changes.loan lines
 planned {S} {P} {N} {B} {e} {changes} kept same follows plan same_carried same_spots same_lines =
     let follows' : Follows S N.depth P e =
     subst (λ (C : Book). Follows C.museum C.depth C.posted e) (sym same) follows in
@@ -304,8 +311,8 @@ planned {S} {P} {N} {B} {e} {changes} kept same follows plan same_carried same_s
 
 -- for an entry with its planned changes
 module _ {S : Museum} {P : List Entry} {N : Nested} {R : List (List Spot)} {L : List LoanRow}
-    {T : List Standing} {e : Entry} {put : Option Put} {along : List ℕ} {news : List NewSpot} {loan : Option ℕ}
-    {lines : List NewLine} (is : IsPlanned S P N R L T e put along news loan lines) where
+    {A : List ℕ} {T : List Standing} {e : Entry} {put : Option Put} {along : List ℕ} {news : List NewSpot} {loan : Option ℕ}
+    {lines : List NewLine} (is : IsPlanned S P N R L A T e put along news loan lines) where
   -- the new spots are of things that have rows
   pub planned_within : (R' : List (List Spot)) → R' ≡ R → All (λ s. s.thing < length R') news
   planned_within R' r = rw (is.news_is, r, is.kept.rowed) (news_within S P e.verdict e.message)
@@ -399,13 +406,14 @@ module _ {S : Museum} {P : List Entry} {N : Nested} {R : List (List Spot)} {L : 
       (depth : M.depth ≡ N.depth) where
     -- the fields after the entry
     pub kept_after : {P' : List Entry} {R' : List (List Spot)} {L' : List LoanRow}
-        {T' : List Standing} → P' ≡ e ∷ P
+        {A' : List ℕ} {T' : List Standing} → P' ≡ e ∷ P
         → R' ≡ rows_after R news
         → L' ≡ (if is_applied e.verdict then rows_with S L e.message lines else L)
+        → A' ≡ A ++ map (λ t. length P + 1) (option_to_list (agreement_by e.verdict e.message))
         → T' ≡ standings_with T e
-        → IsKept S P' M R' L' T'
-    kept_after {R'} {L'} {T'} p r l t =
-        subst (λ (K : List Entry). IsKept S K M R' L' T') (sym p) (record {
+        → IsKept S P' M R' L' A' T'
+    kept_after {R'} {L'} {A'} {T'} p r l a t =
+        subst (λ (K : List Entry). IsKept S K M R' L' A' T') (sym p) (record {
           lawful = subst (λ d. IsLawful S d (e ∷ P)) (sym depth) (is.follows, is.kept.lawful);
           things = things ∙ is.kept.things;
           places = places ∙ is.kept.places;
@@ -413,8 +421,10 @@ module _ {S : Museum} {P : List Entry} {N : Nested} {R : List (List Spot)} {L : 
               (stands (puts S P) is.kept.nest);
           rowed = ap length r ∙ rows_length R news ∙ is.kept.rowed;
           row = λ x less. ap (λ rs. row_of rs x) r ∙ ap (λ ns. row_of (rows_after R ns) x)
-              is.news_is ∙ spots_after_entry S P N R L T e is.kept x less;
+              is.news_is ∙ spots_after_entry S P N R L A T e is.kept x less;
           loans = loans_after L' l;
+          agreed = a ∙ ap (λ ns. ns ++ map (λ t. length P + 1)
+              (option_to_list (agreement_by e.verdict e.message))) is.kept.agreed;
           stations = ap length t ∙ as_many_standings T e ∙ is.kept.stations;
           standing = λ s known. ap (λ ts. slice_get ts s) t
               ∙ standing_next S N.depth P T e is.follows is.kept.stations is.kept.standing s known;
@@ -422,10 +432,10 @@ module _ {S : Museum} {P : List Entry} {N : Nested} {R : List (List Spot)} {L : 
 
     -- after an agreement that failed for lack of memory, the fields are as before
     pub kept_still : {P' : List Entry} {R' : List (List Spot)} {L' : List LoanRow}
-        → is_some (agreement_in e.message) ≡ true → P' ≡ P → R' ≡ R → L' ≡ L
-        → IsKept S P' M R' L' T
-    kept_still {R'} {L'} agrees p r l =
-        subst (λ (K : List Entry). IsKept S K M R' L' T) (sym p) (record {
+        {A' : List ℕ} → is_some (agreement_in e.message) ≡ true → P' ≡ P → R' ≡ R → L' ≡ L
+        → A' ≡ A → IsKept S P' M R' L' A' T
+    kept_still {R'} {L'} {A'} agrees p r l a =
+        subst (λ (K : List Entry). IsKept S K M R' L' A' T) (sym p) (record {
           lawful = subst (λ d. IsLawful S d P) (sym depth) is.kept.lawful;
           things = things ∙ is.kept.things;
           places = places ∙ is.kept.places;
@@ -435,6 +445,7 @@ module _ {S : Museum} {P : List Entry} {N : Nested} {R : List (List Spot)} {L : 
           rowed = ap length r ∙ is.kept.rowed;
           row = λ x less. ap (λ rs. row_of rs x) r ∙ is.kept.row x less;
           loans = l ∙ is.kept.loans;
+          agreed = a ∙ is.kept.agreed;
           stations = is.kept.stations;
           standing = is.kept.standing;
         })
@@ -446,12 +457,12 @@ row_none (suc n) (suc x) = row_none n x
 
 -- the fields of a ledger with nothing posted
 pub kept_new : {S : Museum} {n : ℕ} {P : List Entry} {N : Nested} {R : List (List Spot)}
-    {L : List LoanRow} {k : ℕ} {T : List Standing} → n ≡ length S.things
+    {L : List LoanRow} {A : List ℕ} {k : ℕ} {T : List Standing} → n ≡ length S.things
     → k ≡ length S.stations → P ≡ [] → StandsFor N [] → N.things ≡ length S.things
     → N.places ≡ length S.places → R ≡ replicate n [] → L ≡ []
-    → T ≡ replicate k no_standing → IsKept S P N R L T
-kept_new {S} {n} {N} {R} {L} {k} {T} same counted p nest things places r l t =
-    subst (λ (K : List Entry). IsKept S K N R L T) (sym p) (record {
+    → A ≡ [] → T ≡ replicate k no_standing → IsKept S P N R L A T
+kept_new {S} {n} {N} {R} {L} {A} {k} {T} same counted p nest things places r l a t =
+    subst (λ (K : List Entry). IsKept S K N R L A T) (sym p) (record {
       lawful = tt;
       things = things;
       places = places;
@@ -459,6 +470,7 @@ kept_new {S} {n} {N} {R} {L} {k} {T} same counted p nest things places r l t =
       rowed = ap length r ∙ length-replicate n [] ∙ same;
       row = λ x less. ap (λ rs. row_of rs x) r ∙ row_none n x;
       loans = l;
+      agreed = a;
       stations = ap length t ∙ length-replicate k _ ∙ counted;
       standing = λ s known. ap (λ ts. slice_get ts s) t
           ∙ standing_first k s (subst (λ m. s < m) (sym counted) known);

@@ -1,7 +1,7 @@
 -- Defines the agreements of loans, by looking back through the posted entries: a loan's terms,
 -- whether it is authorised, and its last day. The newest entry comes first, and only applied
 -- entries count.
-use Rattle.std.specs.Prelude.{ℕ, ℤ, ◌&&◌, Bool, false, List, [], ◌∷◌, ◌++◌, Option, Some, None, map, is_some, unwrap_or, if◌then◌else◌}
+use Rattle.std.specs.Prelude.{ℕ, ℤ, ◌+◌, ◌&&◌, Bool, false, List, [], ◌∷◌, ◌++◌, length, Option, Some, None, map, is_some, unwrap_or, if◌then◌else◌}
 use Rattle.std.specs.List.{find, list_any, position}
 use Rattle.std.specs.Option.{option_map, option_and_then, option_to_list}
 use Rattle.std.specs.Str.{bytes_eq}
@@ -35,6 +35,13 @@ agreement_by verdict m = if is_applied verdict then agreement_in m else None
 abbrev pub agreements : List Entry → List Agreement
 agreements [] = []
 agreements (e ∷ P) = agreements P ++ option_to_list (agreement_by e.verdict e.message)
+
+-- The number of the entry that makes each applied agreement, in the same order.
+abbrev pub agreed_entries : List Entry → List ℕ
+agreed_entries [] = []
+agreed_entries (e ∷ P) =
+    agreed_entries P
+    ++ map (λ t. length P + 1) (option_to_list (agreement_by e.verdict e.message))
 
 -- The agreement of a loan: the first with its code.
 abbrev pub agreement : List Entry → List ℕ → Option Agreement

@@ -11,6 +11,7 @@ use Rattle.posting_core.specs.declared.entry.Spot.{Spot}
 use Rattle.posting_core.specs.declared.entry.NewSpot.{NewSpot}
 use Rattle.posting_core.specs.History.{puts, place_at, spots}
 use Rattle.posting_core.specs.Lawful.{IsLawful}
+use Rattle.posting_core.specs.Agreements.{agreed_entries}
 use Rattle.posting_core.specs.LoanRows.{LoanRow, loan_rows}
 use Rattle.posting_core.specs.Standings.{standing_at}
 use Rattle.posting_core.specs.declared.standing.Standing.{Standing}
@@ -33,7 +34,7 @@ rows_after rows (s ∷ ss) =
 -- The entries are lawful, the nest stands for their puts, and the rows of spots, of loans and of
 -- stations are those of looking back.
 pub record IsKept (S : Museum) (P : List Entry) (N : Nested) (rows : List (List Spot))
-    (L : List LoanRow) (T : List Standing) : Type 0 where
+    (L : List LoanRow) (A : List ℕ) (T : List Standing) : Type 0 where
   pub lawful : IsLawful S N.depth P
   pub things : N.things ≡ length S.things
   pub places : N.places ≡ length S.places
@@ -41,5 +42,6 @@ pub record IsKept (S : Museum) (P : List Entry) (N : Nested) (rows : List (List 
   pub rowed : length rows ≡ length S.things
   pub row : (x : ℕ) → x < length S.things → row_of rows x ≡ spots S P x
   pub loans : L ≡ loan_rows S P
+  pub agreed : A ≡ agreed_entries P
   pub stations : length T ≡ length S.stations
   pub standing : (s : ℕ) → s < length S.stations → slice_get T s ≡ Some (standing_at P s)

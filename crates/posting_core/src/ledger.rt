@@ -5,7 +5,7 @@ ghost use Rattle.nest_core.specs.Puts.{is_among};
 ghost use Rattle.posting_core.specs.Lawful.{Follows, IsLawful, count_at, is_signed_off};
 ghost use Rattle.posting_core.specs.Messages.{place_no};
 ghost use Rattle.posting_core.specs.History.{put_by, carried_at, carried_with, holds_at};
-ghost use Rattle.posting_core.specs.Agreements.{agreement, loan_no, loan_by, is_agreed, is_authorised, last_day};
+ghost use Rattle.posting_core.specs.Agreements.{agreement, agreement_by, loan_no, loan_by, is_agreed, is_authorised, last_day};
 ghost use Rattle.posting_core.specs.Loans.{line, loan_state};
 ghost use Rattle.posting_core.specs.LoanRows.{line_of, state_of};
 ghost use Rattle.posting_core.specs.Book.{place_in, chain_in, spots_in, verdict_in, changes_of, asks_lines, asks_memory, loans_in, objects_of_loan, line_in, state_in, last_day_in};
@@ -20,7 +20,7 @@ use self::judged::{Judged, unput};
 use crate::kept_loan::KeptLoan;
 use crate::kept_loans::KeptLoans;
 use crate::placement::place;
-use crate::recording::record;
+use crate::recording::{note_agreement, record};
 use crate::spot_rows::SpotRows;
 use crate::standing::{Standing, count_entry, new_standings};
 use crate::{
@@ -43,6 +43,7 @@ pub struct Ledger {
     nest: Nest,
     spots: SpotRows,
     loans: KeptLoans,
+    agreed: Vec<EntryNo>,
     standings: Vec<Standing>,
 }
 
@@ -57,7 +58,8 @@ impl Model for Ledger {
         record { museum = a.setup; depth = a.nest.depth; posted = reverse a.posted.items } };
 
     ghost invariant = { λ a.
-        IsKept a.setup (reverse a.posted.items) a.nest a.spots.rows a.loans a.standings.items };
+        IsKept a.setup (reverse a.posted.items) a.nest a.spots.rows a.loans a.agreed.items
+        a.standings.items };
 }
 
 /// Manual `Drop`: a derived one is inlined at every return and slows the proof.
@@ -69,6 +71,7 @@ impl Drop for Ledger {
             nest,
             spots,
             loans,
+            agreed,
             standings,
         } = self;
         drop(setup);
@@ -76,6 +79,7 @@ impl Drop for Ledger {
         drop(nest);
         drop(spots);
         drop(loans);
+        drop(agreed);
         drop(standings);
     }
 }
@@ -96,6 +100,7 @@ impl Ledger {
             nest,
             spots,
             loans: KeptLoans::new(alloc),
+            agreed: Vec::new(alloc),
             standings,
         })
     }
@@ -233,6 +238,17 @@ impl Ledger {
         self.loan(loan)?.1.stage_of(object)
     }
 
+    /// The entry that agreed a loan. `None` if the loan isn't agreed.
+    pub fn agreement(&self, loan: &LoanCode) -> Option<&PostedEntry>
+        ensures agreement { option_map (λ e. agreement_by e.now.verdict e.now.message) result
+            ≡ option_map Some (agreement self.now.posted loan.now) }
+        ensures agreed { is_some result ≡ is_agreed self.now.posted loan.now }
+    {
+        let (i, _) = self.loan(loan)?;
+        let number = self.agreed[i];
+        Some(&self.posted[number as usize - 1])
+    }
+
     /// The state of a loan. `None` if it isn't agreed.
     pub fn loan_state(&self, loan: &LoanCode) -> Option<LoanState>
         ensures state { result ≡ state_in self.now loan.now }
@@ -305,6 +321,7 @@ impl Ledger {
         let lines = changes.lines.as_slice();
         self.spots.reserve(spots.len())?;
         self.posted.reserve(1)?;
+        self.agreed.reserve(1)?;
         let posted = PostedEntry::new(alloc, entry)?;
         place(&mut self.nest, changes.put, carried)?;
         record(
@@ -317,6 +334,7 @@ impl Ledger {
             lines,
         )?;
         self.spots.push_all(spots);
+        note_agreement(&mut self.agreed, entry, changes.entry);
         count_entry(&mut self.standings, entry);
         self.posted.push_reserved(posted);
         Ok(())

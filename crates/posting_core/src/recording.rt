@@ -1,5 +1,6 @@
 //! Records the changes that an entry makes in the loans.
-ghost use Rattle.std.specs.Prelude.{◌≡◌, true, is_some, if◌then◌else◌, IfSome, OnOk, OnErr};
+ghost use Rattle.std.specs.Prelude.{◌≡◌, ◌<◌, ◌++◌, true, is_some, if◌then◌else◌, IfSome, length, map, OnOk, OnErr, vec_capacity};
+ghost use Rattle.std.specs.Option.{option_to_list};
 ghost use Rattle.posting_core.specs.declared.verdict.Verdict.TheVariants.{Applied};
 ghost use Rattle.posting_core.specs.VerdictNames.{is_applied};
 ghost use Rattle.posting_core.specs.Agreements.{agreement_by, agreement_in};
@@ -7,7 +8,7 @@ ghost use Rattle.posting_core.specs.LoanRows.{rows_with, row_by, MayAgree};
 
 use crate::kept_loan::KeptLoan;
 use crate::kept_loans::KeptLoans;
-use crate::{Message, NewLine, Verdict};
+use crate::{Entry, EntryNo, Message, NewLine, Verdict};
 use codes_core::NoMemory;
 use nest_core::Setup;
 use std::alloc::Global;
@@ -35,6 +36,19 @@ pub(crate) fn record(
     match verdict {
         Verdict::Applied => write(alloc, loans, setup, message, loan, lines),
         _ => Ok(()),
+    }
+}
+
+/// Adds the number of the entry to those that make an agreement, if this one does. There must be room
+/// for it.
+pub(crate) fn note_agreement(agreed: &mut Vec<EntryNo>, entry: &Entry, number: EntryNo)
+    requires { length agreed.old.items < vec_capacity agreed.old }
+    ensures { agreed.new.items ≡ agreed.old.items
+        ++ map (λ t. number)
+        (option_to_list (agreement_by entry.now.verdict entry.now.message)) }
+{
+    if matches!(entry.verdict, Verdict::Applied) && matches!(entry.message, Message::Agree { .. }) {
+        agreed.push_reserved(number);
     }
 }
 

@@ -1,4 +1,9 @@
-use Rattle.std.proofs.Common.{ap, arith, ◌∙◌, reverse, List, ◌∷◌, ◌++◌, []}
+use Rattle.std.proofs.Common.{ℕ, ap, arith, ◌∙◌, ◌+◌, length, map, reverse, List, ◌∷◌, ◌++◌, []}
+use Rattle.std.proofs.Common.{sym}
+use Rattle.std.specs.Option.{option_to_list}
+use Rattle.posting_core.specs.declared.entry.Changes.{Changes}
+use Rattle.posting_core.specs.Agreements.{agreement_by}
+use Rattle.posting_core.specs.Book.{Book}
 use Rattle.std.proofs.lemmas.List.{reverse-append}
 use Rattle.nest_core.proofs.Outcomes.{at_err}
 use Rattle.posting_core.specs.declared.entry.Entry.{Entry}
@@ -48,7 +53,16 @@ invariant_of-self-2 c =
     c.in_ok-posted.ensures) ∙ reverse-append c.self.inside.posted.items (c.args.entry.now ∷ []))
     (c.push_all.ensures ∙ ap (λ (rs : List (List Spot)). rows_after rs c.as_slice-spots.result.now)
     c.reserve.ensures.rows)
-    c.in_ok-record.ensures.ok c.count_entry.ensures
+    c.in_ok-record.ensures.ok
+    (c.note_agreement.ensures
+    ∙ ap (λ (ns : List ℕ). ns ++ map (λ t. c.args.changes.now.entry)
+    (option_to_list (agreement_by c.args.entry.now.verdict c.args.entry.now.message)))
+    c.reserve-3.ensures.items
+    ∙ ap (λ (n : ℕ). c.self.inside.agreed.items ++ map (λ t. n)
+    (option_to_list (agreement_by c.args.entry.now.verdict c.args.entry.now.message)))
+    (ap (λ (changes : Changes). changes.entry) c.requires.planned
+    ∙ sym (ap (λ (B : Book). length B.posted + 1) c.self.view_is)))
+    c.count_entry.ensures
 
 pub count_entry-requires : goal.count_entry-requires
 count_entry-requires c =
@@ -64,7 +78,7 @@ invariant_of-self-in_err-record c =
     c.in_ok-place.ensures.stands c.in_ok-place.ensures.sized.0 c.in_ok-place.ensures.sized.1
     c.in_ok-place.ensures.sized.2
     c.in_err-record.ensures.err.1 (ap reverse c.reserve-2.ensures.items) c.reserve.ensures.rows
-    c.in_err-record.ensures.err.0
+    c.in_err-record.ensures.err.0 c.reserve-3.ensures.items
 
 pub invariant_of-self : goal.invariant_of-self
 invariant_of-self c = rw c.reserve.ensures.rows c.self.invariant
@@ -82,7 +96,7 @@ returns-in_err-reserve-2-clause-err c =
 
 pub invariant_of-self-in_err-place : goal.invariant_of-self-in_err-place
 invariant_of-self-in_err-place c =
-    rw (c.in_err-place.ensures.unchanged, c.reserve-2.ensures.items, c.reserve.ensures.rows)
+    rw (c.in_err-place.ensures.unchanged, c.reserve-3.ensures.items, c.reserve-2.ensures.items, c.reserve.ensures.rows)
     c.self.invariant
 
 pub returns-in_err-place-clause-err : goal.returns-in_err-place-clause-err
