@@ -1,6 +1,5 @@
 mod CountLemmas
 mod NumberedRows
 mod Joins
-mod LoanLemmas
 mod Members
 mod WrittenText

@@ -125,7 +125,7 @@ fn print_loan<W: Write>(
     ensures { Prints (W.contents out.old) (W.contents out.new) result
         (rows_text form (map (λ n. n.now) names.now) (loan_rows ledger.now form code.now)) }
 {
-    match agreed_terms(ledger.posted(), code) {
+    match agreed_terms(ledger, code) {
         None => print_rows(alloc, form, names, &NoLoan { code: *code }, out),
         Some(terms) => print_rows(alloc, form, names, &Loan { ledger, terms }, out),
     }

@@ -1,11 +1,11 @@
 //! A loan: its terms, its state, and the stages of its objects.
-ghost use Rattle.std.specs.Prelude.{◌≡◌, IfOk, map, option_map, reverse};
+ghost use Rattle.std.specs.Prelude.{◌≡◌, IfOk, map, option_map};
 ghost use Rattle.std.specs.Option.{option_and_then};
 ghost use Rattle.nest_core.specs.Museum.{find_thing};
-ghost use Rattle.posting_core.specs.Agreements.{agreement};
+ghost use Rattle.posting_core.specs.Agreements.{agreement, agreement_by};
 ghost use Rattle.posting_core.specs.Book.{line_in};
 ghost use Rattle.reports.specs.Loans.{object_row, stage_word, state_word, terms_words};
-ghost use Rattle.reports.specs.Terms.{agreed_by, agreement_with};
+ghost use Rattle.reports.specs.Terms.{agreement_with};
 ghost use Rattle.reports.specs.Cells.{text_if, cell_of};
 
 use crate::Form;
@@ -61,23 +61,17 @@ impl<'a> Rows for Loan<'a> {
     }
 }
 
-/// The terms of a loan, if one of these entries, oldest first, agrees it.
-pub(crate) fn agreed_terms<'a>(posted: &'a [PostedEntry], loan: &LoanCode) -> Option<Terms<'a>>
-    ensures { option_map agreement_with result
-        ≡ agreement (reverse posted.entry.now) loan.now }
+/// The terms of a loan, if it is agreed.
+pub(crate) fn agreed_terms<'a>(ledger: &'a Ledger, loan: &LoanCode) -> Option<Terms<'a>>
+    ensures { option_map agreement_with result ≡ agreement ledger.entry.now.posted loan.now }
 {
-    for i in 0..posted.len() {
-        let found = terms_in(&posted[i], loan);
-        if found.is_some() {
-            return found;
-        }
-    }
-    None
+    terms_in(ledger.agreement(loan)?)
 }
 
-/// The terms of the loan, if this entry agrees it.
-fn terms_in<'a>(entry: &'a PostedEntry, sought: &LoanCode) -> Option<Terms<'a>>
-    ensures { option_map agreement_with result ≡ agreed_by sought.now entry.entry.now }
+/// The terms that an entry agrees, if it agrees a loan.
+fn terms_in(entry: &PostedEntry) -> Option<Terms<'_>>
+    ensures { option_map agreement_with result
+        ≡ agreement_by entry.entry.now.verdict entry.entry.now.message }
 {
     match entry.message().as_message() {
         Some(
@@ -88,7 +82,7 @@ fn terms_in<'a>(entry: &'a PostedEntry, sought: &LoanCode) -> Option<Terms<'a>>
                 partner,
                 objects,
             },
-        ) if loan == sought && matches!(entry.verdict(), Verdict::Applied) => Some(Terms {
+        ) if matches!(entry.verdict(), Verdict::Applied) => Some(Terms {
             loan: *loan,
             partner: *partner,
             objects: objects.as_slice(),
