@@ -1,5 +1,6 @@
 -- How a number is read from a text of digits alone.
-use Rattle.std.specs.Prelude.{◌≡◌, ℕ, ◌<◌, ◌^◌, ◌==◌, nat_lt, if◌then◌else◌, false, true, List, [], ◌∷◌, ◌++◌, length, Some, None, refl, slice_index}
+use Rattle.std.specs.Prelude.{◌≡◌, ℕ, ◌<◌, ◌^◌, ◌==◌, nat_lt, if◌then◌else◌, false, true, List, []}
+use Rattle.std.specs.Prelude.{◌∷◌, ◌++◌, length, Some, None, refl, slice_index}
 use Rattle.std.specs.Str.Parse.{IsNumeral, digits_value}
 use Rattle.std.proofs.Common.{ap, ◌∙◌, sym, arith, append-nil}
 use Rattle.std.proofs.lemmas.Bool.Decides.{nat_tests}

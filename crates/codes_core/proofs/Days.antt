@@ -1,5 +1,6 @@
 -- A day of the calendar and its number determine each other, and so do its text and its number.
-use Rattle.std.specs.Prelude.{◌≡◌, ℕ, ◌<◌, ◌≤◌, ◌&&◌, true, nat_lt, nat_le, List, refl, ℤ, pos, negsuc, ◌≤ℤ◌, unsigned_abs}
+use Rattle.std.specs.Prelude.{◌≡◌, ℕ, ◌<◌, ◌≤◌, ◌&&◌, true, nat_lt, nat_le, List, refl, ℤ, pos}
+use Rattle.std.specs.Prelude.{negsuc, ◌≤ℤ◌, unsigned_abs}
 use Rattle.std.proofs.Common.{arith, rules, subst, sym, ◌∙◌, to_z, w8, w16}
 use Rattle.std.proofs.lemmas.Bool.Decides.{nat_tests}
 use Rattle.std.proofs.lemmas.Int.{by_lt_z, ints}
@@ -7,13 +8,18 @@ use Rattle.jiff_core.specs.declared.civil.date.Date.{Date}
 use Rattle.jiff_core.specs.Calendar.{day_count, days_from_civil, days_in_month}
 use Rattle.jiff_core.specs.Date.{epoch_day, IsYmd}
 use Rattle.jiff_core.proofs.SignedLemmas.{signed_arith}
-use Rattle.jiff_core.proofs.CalendarLemmas.{days_in_month_bounds, days_from_civil-day_count, day_count-lt_year, day_count-later_year, day_count-day_of_year}
+use Rattle.jiff_core.proofs.CalendarLemmas.{days_in_month_bounds, days_from_civil-day_count}
+use Rattle.jiff_core.proofs.CalendarLemmas.{day_count-lt_year, day_count-later_year}
+use Rattle.jiff_core.proofs.CalendarLemmas.{day_count-day_of_year}
 use Rattle.jiff_core.proofs.MarchLemmas.{day_count-early}
 use Rattle.jiff_core.proofs.DateLemmas.{civil, epoch_day_injective, epoch_day_range}
 use Rattle.codes_core.specs.declared.fault.CodeFault.TheVariants.{NoSuchDay}
-use Rattle.codes_core.specs.Day.{first_number, last_number, is_day_shape, year_of, month_of, date_of, is_civil, day_number, SpellsDay, IsOnlySpelling, date_text}
+use Rattle.codes_core.specs.Day.{first_number, last_number, is_day_shape, year_of, month_of}
+use Rattle.codes_core.specs.Day.{date_of, is_civil, day_number, SpellsDay, IsOnlySpelling}
+use Rattle.codes_core.specs.Day.{date_text}
 use Rattle.codes_core.proofs.Texts.{no_fault}
-use Rattle.codes_core.proofs.DayTexts.{text_shape, year_back, month_back, date_back, day_parts, text_back, year_small}
+use Rattle.codes_core.proofs.DayTexts.{text_shape, year_back, month_back, date_back, day_parts}
+use Rattle.codes_core.proofs.DayTexts.{text_back, year_small}
 
 -- 0001-01-01
 pub year_one : day_count (pos 1) 1 1 ≡ 3652791

@@ -1,11 +1,14 @@
 -- How the first group of a code's text decides the result for the whole text.
-use Rattle.std.specs.Prelude.{◌≡◌, ℕ, ◌-◌, ◌<◌, ◌≤◌, ◌&&◌, Bool, true, false, nat_lt, List, suc, length, take, drop, refl, Option, Some}
+use Rattle.std.specs.Prelude.{◌≡◌, ℕ, ◌-◌, ◌<◌, ◌≤◌, ◌&&◌, Bool, true, false, nat_lt, List, suc}
+use Rattle.std.specs.Prelude.{length, take, drop, refl, Option, Some}
 use Rattle.std.specs.Option.{option_map}
 use Rattle.std.specs.List.{list_all}
 use Rattle.std.proofs.Common.{arith}
 use Rattle.std.proofs.lemmas.Bool.Decides.{nat_tests}
-use Rattle.codes_core.specs.Grammar.{is_digits, is_right_number, is_year, are_few, groups, are_groups, has_right_groups, numbers_of}
-use Rattle.codes_core.proofs.Parts.{front, rest, following, parts-front, cut_by, few_by, goes_on-nil, goes_on-cons, following-nil, following-cons}
+use Rattle.codes_core.specs.Grammar.{is_digits, is_right_number, is_year, are_few, groups}
+use Rattle.codes_core.specs.Grammar.{are_groups, has_right_groups, numbers_of}
+use Rattle.codes_core.proofs.Parts.{front, rest, following, parts-front, cut_by, few_by}
+use Rattle.codes_core.proofs.Parts.{goes_on-nil, goes_on-cons, following-nil, following-cons}
 
 never : (t : Bool) → t && false ≡ false
 never true = refl

@@ -1,18 +1,23 @@
 -- A place's text, segment by segment.
-use Rattle.std.specs.Prelude.{◌≡◌, ℕ, ◌+◌, ◌*◌, ◌<◌, ◌≤◌, ◌==◌, ◌&&◌, Bool, true, false, nat_le, nat_lt, nat_eq, cond, List, [], ◌∷◌, length, suc, zero, take, drop, Option, None, refl}
+use Rattle.std.specs.Prelude.{◌≡◌, ℕ, ◌+◌, ◌*◌, ◌<◌, ◌≤◌, ◌==◌, ◌&&◌, Bool, true, false, nat_le}
+use Rattle.std.specs.Prelude.{nat_lt, nat_eq, cond, List, [], ◌∷◌, length, suc, zero, take, drop}
+use Rattle.std.specs.Prelude.{Option, None, refl}
 use Rattle.std.specs.List.{list_all}
 use Rattle.std.specs.Bool.{then_some}
 use Rattle.std.specs.Cmp.Lexicographic.{pointwise}
 use Rattle.std.specs.Str.{bytes_eq}
 use Rattle.std.proofs.Common.{arith, ap, sym, ◌∙◌}
-use Rattle.std.proofs.lemmas.Bool.{and_parts, eqb-true, eqb-false, eq-eqb, ne_eqb, leb-true, false≢true}
+use Rattle.std.proofs.lemmas.Bool.{and_parts, eqb-true, eqb-false, eq-eqb, ne_eqb, leb-true}
+use Rattle.std.proofs.lemmas.Bool.{false≢true}
 use Rattle.std.proofs.lemmas.Bool.Decides.{nat_tests}
 use Rattle.std.proofs.Math.Bool.{and_assoc}
 use Rattle.codes_core.specs.declared.fault.CodeFault.TheVariants.{BadNumber}
 use Rattle.codes_core.specs.Grammar.{in_first, numbers_of}
-use Rattle.codes_core.proofs.Parts.{front, rest, following, goes_on, parts-front, are_few-zero, first_then, front_and_rest, ascii_parts}
+use Rattle.codes_core.proofs.Parts.{front, rest, following, goes_on, parts-front, are_few-zero}
+use Rattle.codes_core.proofs.Parts.{first_then, front_and_rest, ascii_parts}
 use Rattle.codes_core.proofs.Texts.{no_fault, IsShort}
-use Rattle.codes_core.specs.Place.{is_segment_byte, segments, is_segment, is_place_shape, place_fault, lies_in, ends_segment}
+use Rattle.codes_core.specs.Place.{is_segment_byte, segments, is_segment, is_place_shape}
+use Rattle.codes_core.specs.Place.{place_fault, lies_in, ends_segment}
 
 -- the empty text lies in no place
 empty-lies_in : (b : ℕ) (bs : List ℕ) → lies_in [] (b ∷ bs) ≡ false
@@ -62,7 +67,8 @@ lies_in_front (a ∷ place) (b ∷ other) =
           ≡ is_front (a ∷ place) (b ∷ other)) [
             | true ↦ λ e. let first = eqb-true a 45 e in
                 rw (eq-eqb a b (first ∙ sym dash)) (lies_in_front place other)
-            | false ↦ λ e. rw (parts-front 45 place, ne_eqb a b (λ h. eqb-false a 45 e (h ∙ dash))) refl
+            | false ↦ λ e.
+                rw (parts-front 45 place, ne_eqb a b (λ h. eqb-false a 45 e (h ∙ dash))) refl
           ] refl
       | false ↦ λ f. elim (a == 45) as (λ t. a == 45 ≡ t
           → from (in_first b (segments other))

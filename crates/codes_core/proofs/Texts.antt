@@ -1,5 +1,7 @@
 -- The texts of codes are short and ASCII.
-use Rattle.std.specs.Prelude.{◌≡◌, ℕ, ◌+◌, ◌-◌, ◌*◌, ◌<◌, ◌≤◌, ◌==◌, ◌&&◌, Bool, true, false, nat_lt, nat_le, not, cond, List, [], ◌∷◌, length, suc, nat_eq, take, drop, slice_index, refl, None, ◌||◌, codes}
+use Rattle.std.specs.Prelude.{◌≡◌, ℕ, ◌+◌, ◌-◌, ◌*◌, ◌<◌, ◌≤◌, ◌==◌, ◌&&◌, Bool, true, false}
+use Rattle.std.specs.Prelude.{nat_lt, nat_le, not, cond, List, [], ◌∷◌, length, suc, nat_eq, take}
+use Rattle.std.specs.Prelude.{drop, slice_index, refl, None, ◌||◌, codes}
 use Rattle.std.proofs.Common.{arith, inl, inr, length-drop, subst, sym}
 use Rattle.std.proofs.lemmas.Bool.{and_parts, or_cases, eqb-true, leb-true, false≢true}
 use Rattle.std.proofs.lemmas.Bool.Decides.{nat_tests}
@@ -13,10 +15,12 @@ use Rattle.std.specs.List.{starts_with, list_all}
 use Rattle.std.specs.Char.{is_ascii_digit, is_ascii_lowercase}
 use Rattle.codes_core.specs.declared.fault.CodeFault.{CodeFault}
 use Rattle.codes_core.specs.declared.fault.CodeFault.TheVariants.{BadNumber}
-use Rattle.codes_core.specs.Grammar.{is_digits, is_right_number, is_year, are_few, groups, are_groups, has_right_groups, code_fault}
+use Rattle.codes_core.specs.Grammar.{is_digits, is_right_number, is_year, are_few, groups}
+use Rattle.codes_core.specs.Grammar.{are_groups, has_right_groups, code_fault}
 use Rattle.codes_core.proofs.Parts.{is_plain, front, rest, following, parts-front, ascii_parts}
 use Rattle.codes_core.specs.Loan.{is_out, is_loan_shape, has_loan_number, loan_fault}
-use Rattle.codes_core.specs.Thing.{without_letter, is_object_shape, has_object_numbers, is_thing_shape, has_thing_numbers, thing_fault}
+use Rattle.codes_core.specs.Thing.{without_letter, is_object_shape, has_object_numbers}
+use Rattle.codes_core.specs.Thing.{is_thing_shape, has_thing_numbers, thing_fault}
 
 -- a text of at most n bytes of ASCII
 pub record IsShort (n : ℕ) (text : List ℕ) : Type 0 where

@@ -1,7 +1,8 @@
 -- The definitions computed on worked texts: each code beside its nearest wrong neighbours.
 use Rattle.std.specs.Prelude.{◌≡◌, true, false, Some, None, [], ◌∷◌, refl, codes}
 use Rattle.codes_core.specs.declared.TheConstants.{LONGEST_NAME}
-use Rattle.codes_core.specs.declared.fault.CodeFault.TheVariants.{Empty, BadShape, BadNumber, NoSuchDay}
+use Rattle.codes_core.specs.declared.fault.CodeFault.TheVariants.{Empty, BadShape, BadNumber}
+use Rattle.codes_core.specs.declared.fault.CodeFault.TheVariants.{NoSuchDay}
 use Rattle.codes_core.specs.declared.thing.ThingKind.TheVariants.{Own, Borrowed, Container}
 use Rattle.codes_core.specs.Grammar.{groups, numbers_of}
 use Rattle.codes_core.specs.Thing.{thing_kind, without_letter, thing_fault}

@@ -1,12 +1,14 @@
 -- Tables of valid texts, and of texts next to them that have each fault.
-use Rattle.std.specs.Prelude.{◌≡◌, ◌<◌, ◌≤◌, true, false, Some, None, [], ◌∷◌, refl, codes, map, replicate, pos, negsuc}
+use Rattle.std.specs.Prelude.{◌≡◌, ◌<◌, ◌≤◌, true, false, Some, None, [], ◌∷◌, refl, codes, map}
+use Rattle.std.specs.Prelude.{replicate, pos, negsuc}
 use Rattle.std.proofs.Common.{arith}
 use Rattle.std.specs.Str.{chars, is_utf8}
 use Rattle.std.proofs.lemmas.Bool.{leb-true}
 use Rattle.std.proofs.lemmas.Str.{is_utf8-from_IsUtf8}
 use Rattle.std.proofs.Math.Utf8.{encode}
 use Rattle.jiff_core.specs.Calendar.{days_from_civil, day_count, days_of_years, days_of_months}
-use Rattle.codes_core.specs.declared.fault.CodeFault.TheVariants.{Empty, BadShape, BadNumber, NoSuchDay}
+use Rattle.codes_core.specs.declared.fault.CodeFault.TheVariants.{Empty, BadShape, BadNumber}
+use Rattle.codes_core.specs.declared.fault.CodeFault.TheVariants.{NoSuchDay}
 use Rattle.codes_core.specs.declared.thing.ThingKind.TheVariants.{Own, Borrowed, Container}
 use Rattle.codes_core.specs.Thing.{thing_fault, thing_kind}
 use Rattle.codes_core.specs.Loan.{loan_fault}

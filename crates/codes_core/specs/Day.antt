@@ -1,6 +1,8 @@
 -- Defines days of the calendar (2024-05-01), their text, and their number: days from 1970-01-01,
 -- which is 0. The calendar is the proleptic Gregorian one of ISO 8601, in the years 1 to 9999.
-use Rattle.std.specs.Prelude.{ℕ, zero, suc, ℤ, pos, negsuc, ◌-ℤ◌, unsigned_abs, ◌≡◌, ◌+◌, ◌/◌, ◌%◌, ◌&&◌, ◌==◌, if◌then◌else◌, Bool, nat_lt, nat_le, List, [], ◌∷◌, ◌++◌, length, take, drop, slice_index, slice_range, Option, None}
+use Rattle.std.specs.Prelude.{ℕ, zero, suc, ℤ, pos, negsuc, ◌-ℤ◌, unsigned_abs, ◌≡◌, ◌+◌, ◌/◌, ◌%◌}
+use Rattle.std.specs.Prelude.{◌&&◌, ◌==◌, if◌then◌else◌, Bool, nat_lt, nat_le, List, [], ◌∷◌, ◌++◌}
+use Rattle.std.specs.Prelude.{length, take, drop, slice_index, slice_range, Option, None}
 use Rattle.std.specs.Char.{is_ascii_digit}
 use Rattle.std.specs.List.{list_all}
 use Rattle.jiff_core.specs.Calendar.{days_in_month, days_from_civil}

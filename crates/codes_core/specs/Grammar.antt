@@ -1,7 +1,9 @@
 -- Defines the grammar that all codes share: how a text splits into parts, which numbers are valid,
 -- and which fault comes first. Bytes are numbers from 0 to 255. Lists are counted from 0; rows,
 -- lines, entries and messages from 1.
-use Rattle.std.specs.Prelude.{ℕ, ◌+◌, ◌-◌, ◌*◌, fold, ◌&&◌, ◌==◌, Bool, false, nat_lt, nat_le, nat_eq, not, List, [], ◌∷◌, length, drop, Option, Some, None, if◌then◌else◌}
+use Rattle.std.specs.Prelude.{ℕ, ◌+◌, ◌-◌, ◌*◌, fold, ◌&&◌, ◌==◌, Bool, false, nat_lt, nat_le}
+use Rattle.std.specs.Prelude.{nat_eq, not, List, [], ◌∷◌, length, drop, Option, Some, None}
+use Rattle.std.specs.Prelude.{if◌then◌else◌}
 use Rattle.std.specs.Char.{is_ascii_digit}
 use Rattle.std.specs.List.{starts_with, list_all}
 use Rattle.codes_core.specs.declared.fault.CodeFault.{CodeFault}

@@ -1,5 +1,6 @@
 -- Defines names as people write them: of people who authorise a loan, or sign a station off.
-use Rattle.std.specs.Prelude.{ℕ, ◌≡◌, ◌<◌, ◌≤◌, ◌==◌, ◌&&◌, not, nat_le, Bool, List, length, IsUtf8, IsTrue}
+use Rattle.std.specs.Prelude.{ℕ, ◌≡◌, ◌<◌, ◌≤◌, ◌==◌, ◌&&◌, not, nat_le, Bool, List, length, IsUtf8}
+use Rattle.std.specs.Prelude.{IsTrue}
 use Rattle.std.specs.List.{list_all}
 use Rattle.codes_core.specs.declared.TheConstants.{LONGEST_NAME}
 use Rattle.codes_core.specs.declared.fault.NameFault.{NameFault}

@@ -1,12 +1,14 @@
 -- Defines the codes of things: own objects (2001.4.2a), borrowed objects (L1999.7) and containers
 -- (C17).
-use Rattle.std.specs.Prelude.{ℕ, ◌-◌, ◌==◌, Bool, true, false, List, [], ◌∷◌, length, take, slice_index, Option, if◌then◌else◌}
+use Rattle.std.specs.Prelude.{ℕ, ◌-◌, ◌==◌, Bool, true, false, List, [], ◌∷◌, length, take}
+use Rattle.std.specs.Prelude.{slice_index, Option, if◌then◌else◌}
 use Rattle.std.specs.Char.{is_ascii_lowercase}
 use Rattle.codes_core.specs.declared.fault.CodeFault.{CodeFault}
 use Rattle.codes_core.specs.declared.fault.CodeFault.TheVariants.{BadNumber}
 use Rattle.codes_core.specs.declared.thing.ThingKind.{ThingKind}
 use Rattle.codes_core.specs.declared.thing.ThingKind.TheVariants.{Own, Borrowed, Container}
-use Rattle.codes_core.specs.Grammar.{groups, are_groups, has_right_groups, is_digits, is_right_number, code_fault}
+use Rattle.codes_core.specs.Grammar.{groups, are_groups, has_right_groups, is_digits}
+use Rattle.codes_core.specs.Grammar.{is_right_number, code_fault}
 
 -- The kind of a thing, by the first letter of its code: C is a container, L a borrowed object, and
 -- any other code an own object.

@@ -1,7 +1,11 @@
 //! Days of the calendar: parsing, writing and day numbers.
-ghost use Rattle.std.specs.Prelude.{◌≡◌, true, false, ◌++◌, ◌-ℤ◌, ◌≤◌, ◌≤ℤ◌, pos, List, ℕ, None, Some, IfSome, IfNone, OnOk, OnErr, MatchResult, MatchOption, string_bytes};
+ghost use Rattle.std.specs.Prelude.{◌≡◌, true, false, ◌++◌, ◌-ℤ◌, ◌≤◌, ◌≤ℤ◌, pos, List, ℕ, None};
+ghost use Rattle.std.specs.Prelude.{Some, IfSome, IfNone, OnOk, OnErr, MatchResult, MatchOption};
+ghost use Rattle.std.specs.Prelude.{string_bytes};
 ghost use Rattle.jiff_core.specs.Calendar.{days_from_civil};
-ghost use Rattle.codes_core.specs.Day.{is_day_shape, is_civil, day_fault, day_number, first_number, last_number, IsOnlySpelling, day_text, date_text, two_digits};
+ghost use Rattle.codes_core.specs.Day.{is_day_shape, is_civil, day_fault, day_number, first_number};
+ghost use Rattle.codes_core.specs.Day.{last_number, IsOnlySpelling, day_text, date_text};
+ghost use Rattle.codes_core.specs.Day.{two_digits};
 
 use crate::digits::{are_digits, number_of};
 use crate::spelling::Spelling;

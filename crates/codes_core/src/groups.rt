@@ -2,7 +2,8 @@
 ghost use Rattle.std.specs.Prelude.{◌≡◌, ◌≤◌, ◌&&◌, not, ◌==◌, length, take_while};
 ghost use Rattle.std.specs.List.{list_all};
 ghost use Rattle.std.specs.Option.{option_map};
-ghost use Rattle.codes_core.specs.Grammar.{is_digits, is_right_number, is_year, are_few, groups, are_groups, has_right_groups, numbers_of};
+ghost use Rattle.codes_core.specs.Grammar.{is_digits, is_right_number, is_year, are_few, groups};
+ghost use Rattle.codes_core.specs.Grammar.{are_groups, has_right_groups, numbers_of};
 
 use crate::digits::{is_digits, is_right_number};
 

@@ -1,7 +1,9 @@
 //! The codes of places.
-ghost use Rattle.std.specs.Prelude.{◌≡◌, ◌++◌, ◌≤◌, not, ◌==◌, length, take_while, None, Some, OnOk, OnErr, MatchResult, string_bytes, ◌<◌, MatchOption};
+ghost use Rattle.std.specs.Prelude.{◌≡◌, ◌++◌, ◌≤◌, not, ◌==◌, length, take_while, None, Some};
+ghost use Rattle.std.specs.Prelude.{OnOk, OnErr, MatchResult, string_bytes, ◌<◌, MatchOption};
 ghost use Rattle.std.specs.List.{list_all};
-ghost use Rattle.codes_core.specs.Place.{is_segment, is_segment_byte, is_place_shape, place_fault, lies_in, ends_segment};
+ghost use Rattle.codes_core.specs.Place.{is_segment, is_segment_byte, is_place_shape, place_fault};
+ghost use Rattle.codes_core.specs.Place.{lies_in, ends_segment};
 
 use crate::fault::test;
 use crate::spelling::Spelling;

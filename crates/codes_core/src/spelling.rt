@@ -1,5 +1,6 @@
 //! A short text that is kept in place, without an allocation.
-ghost use Rattle.std.specs.Prelude.{◌≡◌, ◌++◌, ◌≤◌, ◌<◌, ◌-◌, length, replicate, OnOk, OnErr, MatchOption, string_bytes};
+ghost use Rattle.std.specs.Prelude.{◌≡◌, ◌++◌, ◌≤◌, ◌<◌, ◌-◌, length, replicate, OnOk, OnErr};
+ghost use Rattle.std.specs.Prelude.{MatchOption, string_bytes};
 ghost use Rattle.std.specs.Str.{bytes_eq, IsAscii};
 ghost use Rattle.std.specs.Cmp.Rules.{comparing, hashing};
 ghost use Rattle.std.proofs.Common.{rules};
@@ -18,7 +19,8 @@ pub struct Spelling<const N: usize> {
 }
 
 impl<const N: usize> Model for Spelling<N> {
-    ghost use Rattle.std.specs.Prelude.{List, ℕ, ◌≤◌, ◌≡◌, ◌-◌, ◌++◌, take, drop, length, replicate};
+    ghost use Rattle.std.specs.Prelude.{List, ℕ, ◌≤◌, ◌≡◌, ◌-◌, ◌++◌, take, drop, length};
+    ghost use Rattle.std.specs.Prelude.{replicate};
     ghost use Rattle.std.specs.Str.{IsAscii};
     ghost use Rattle.codes_core.specs.Padded.{padded-take};
 

@@ -1,7 +1,10 @@
 //! The codes of things.
-ghost use Rattle.std.specs.Prelude.{◌≡◌, ◌++◌, None, Some, OnOk, OnErr, MatchResult, string_bytes, ◌≤◌, ◌<◌, length, MatchOption};
+ghost use Rattle.std.specs.Prelude.{◌≡◌, ◌++◌, None, Some, OnOk, OnErr, MatchResult, string_bytes};
+ghost use Rattle.std.specs.Prelude.{◌≤◌, ◌<◌, length, MatchOption};
 ghost use Rattle.codes_core.specs.Grammar.{is_digits, is_right_number, numbers_of};
-ghost use Rattle.codes_core.specs.Thing.{thing_kind, without_letter, is_object_shape, has_object_numbers, is_thing_shape, has_thing_numbers, thing_fault};
+ghost use Rattle.codes_core.specs.Thing.{thing_kind, without_letter, is_object_shape};
+ghost use Rattle.codes_core.specs.Thing.{has_object_numbers, is_thing_shape, has_thing_numbers};
+ghost use Rattle.codes_core.specs.Thing.{thing_fault};
 
 use crate::digits::{is_digits, is_right_number};
 use crate::fault::test;

@@ -1,5 +1,7 @@
 -- Words that name a command, and words that name none.
-use Rattle.std.proofs.Common.{◌≡◌, ◌∙◌, ◌∷◌, ◌&&◌, Bool, Err, List, MatchResult, None, Ok, Option, Result, Some, ap, ap₂, [], arith, codes, false, inl, is_some, not, refl, subst, sym, true}
+use Rattle.std.proofs.Common.{◌≡◌, ◌∙◌, ◌∷◌, ◌&&◌, Bool, Err, List, MatchResult, None, Ok, Option}
+use Rattle.std.proofs.Common.{Result, Some, ap, ap₂, [], arith, codes, false, inl, is_some, not}
+use Rattle.std.proofs.Common.{refl, subst, sym, true}
 use Rattle.std.specs.List.{list_any}
 use Rattle.std.specs.Option.{option_map_or}
 use Rattle.clap.specs.Kinds.{IsAmong, Kinds, or_else}
@@ -7,7 +9,8 @@ use Rattle.clap.specs.Words.{App, Row, Text, fault_of, kind_of, matches_of}
 use Rattle.clap.specs.declared.error.kind.ErrorKind.{ErrorKind}
 use Rattle.clap.specs.declared.error.kind.ErrorKind.TheVariants.{ArgumentConflict}
 use Rattle.command_words.specs.Commands.{all_needed, both_needed, overview, report}
-use Rattle.command_words.specs.Words.{GivesReport, HoldsReport, IsFaultBy, IsNoReport, IsRead, IsRefused}
+use Rattle.command_words.specs.Words.{GivesReport, HoldsReport, IsFaultBy, IsNoReport, IsRead}
+use Rattle.command_words.specs.Words.{IsRefused}
 use Rattle.command_words.specs.Words.{format_in, kinds_by, report_kinds}
 use Rattle.command_words.specs.declared.command.Format.{Format}
 use Rattle.command_words.specs.declared.reading.Report.{Report}

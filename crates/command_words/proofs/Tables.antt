@@ -1,5 +1,6 @@
 -- The commands of the table are among those of `clap`'s clauses.
-use Rattle.std.proofs.Common.{◌≡◌, ◌<◌, ◌+◌, ◌∙◌, ◌∷◌, List, [], ap, drop, get_or, length, refl, sym, true, ℕ}
+use Rattle.std.proofs.Common.{◌≡◌, ◌<◌, ◌+◌, ◌∙◌, ◌∷◌, List, [], ap, drop, get_or, length, refl}
+use Rattle.std.proofs.Common.{sym, true, ℕ}
 use Rattle.std.proofs.lemmas.List.{at_drop_more}
 use Rattle.clap.specs.Words.{App, app_of, is_simple_and_free, shape_of, with_rule, with_subcommand}
 use Rattle.clap.specs.declared.builder.command.Command.{Command}

@@ -1,5 +1,6 @@
 -- The definitions computed on worked words.
-use Rattle.std.specs.Prelude.{◌≡◌, ◌∷◌, ◌++◌, [], ℕ, List, None, Some, codes, false, map, refl, true}
+use Rattle.std.specs.Prelude.{◌≡◌, ◌∷◌, ◌++◌, [], ℕ, List, None, Some, codes, false, map, refl}
+use Rattle.std.specs.Prelude.{true}
 use Rattle.std.specs.Borrow.{Bor}
 use Rattle.clap.specs.Words.{Text, matches_of, new_app}
 use Rattle.clap.proofs.OnLiterals.{clap_on_literals}
@@ -8,7 +9,8 @@ use Rattle.clap.specs.declared.error.kind.ErrorKind.TheVariants.{UnknownArgument
 use Rattle.command_words.specs.Commands.{away, copy, explain, help, posted, register_app, replay}
 use Rattle.command_words.specs.Commands.{report_app, serve}
 use Rattle.command_words.specs.Tables.{with_arguments}
-use Rattle.command_words.specs.Words.{form_named, format_in, is_given, lacks, refusals, report_kinds}
+use Rattle.command_words.specs.Words.{form_named, format_in, is_given, lacks, refusals}
+use Rattle.command_words.specs.Words.{report_kinds}
 use Rattle.command_words.specs.Words.{HoldsReport, IsNoReport, status_of_kind, value, values}
 use Rattle.command_words.specs.declared.command.Format.TheVariants.{Csv, Json, Lines}
 use Rattle.command_words.specs.declared.command.WordsFault.TheVariants.{Missing}

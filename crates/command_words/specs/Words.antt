@@ -1,8 +1,10 @@
 -- Defines the command that the words of a command line choose, or the fault by which they choose
 -- none. `fault_of` and `matches_of` are `clap`'s: the kinds of error that it can report for the
 -- words, empty if it accepts them, and the values that it then has for each argument.
-use Rattle.std.specs.Prelude.{◌≡◌, ◌≢◌, ◌∷◌, [], ℕ, Bool, List, Option, Result, Some, None, MatchResult, codes, find, is_some}
-use Rattle.std.specs.Prelude.{◌&&◌, false, if◌then◌else◌, map, not, option_map, slice_get, true, unwrap_or}
+use Rattle.std.specs.Prelude.{◌≡◌, ◌≢◌, ◌∷◌, [], ℕ, Bool, List, Option, Result, Some, None}
+use Rattle.std.specs.Prelude.{MatchResult, codes, find, is_some}
+use Rattle.std.specs.Prelude.{◌&&◌, false, if◌then◌else◌, map, not, option_map, slice_get, true}
+use Rattle.std.specs.Prelude.{unwrap_or}
 use Rattle.std.specs.Borrow.{Bor}
 use Rattle.std.specs.List.{list_any}
 use Rattle.std.specs.Option.{option_and_then, option_map_or}
@@ -13,9 +15,11 @@ use Rattle.clap.specs.Kinds.{IsAmong, Kinds, or_else}
 use Rattle.clap.specs.Values.{kind_of}
 use Rattle.clap.specs.declared.error.Error.{Error}
 use Rattle.clap.specs.declared.error.kind.ErrorKind.{ErrorKind}
-use Rattle.clap.specs.declared.error.kind.ErrorKind.TheVariants.{ArgumentConflict, DisplayHelp, DisplayVersion, OutOfMemory}
+use Rattle.clap.specs.declared.error.kind.ErrorKind.TheVariants.{ArgumentConflict, DisplayHelp}
+use Rattle.clap.specs.declared.error.kind.ErrorKind.TheVariants.{DisplayVersion, OutOfMemory}
 use Rattle.command_words.specs.Commands.{Form, at, away, commands, contents, copy, count, explain}
-use Rattle.command_words.specs.Commands.{help, history, loan, migrate, overdue, overview, posted, replay, serve}
+use Rattle.command_words.specs.Commands.{help, history, loan, migrate, overdue, overview, posted}
+use Rattle.command_words.specs.Commands.{replay, serve}
 use Rattle.command_words.specs.Commands.{stations, where_is}
 use Rattle.command_words.specs.declared.reading.Files.{Files}
 use Rattle.command_words.specs.declared.reading.Record.{Record}

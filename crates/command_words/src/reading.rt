@@ -4,8 +4,10 @@ ghost use Rattle.clap.specs.Faults.{fault_of, is_simple_and_free};
 ghost use Rattle.clap.specs.Words.{app_of, first_of, found_of, kind_of, rows_of};
 ghost use Rattle.command_words.specs.Commands.{all_needed, both_needed, one_needed, report};
 ghost use Rattle.command_words.specs.Tables.{app_by};
-ghost use Rattle.command_words.specs.Words.{GivesFiles, GivesRecord, GivesReport, HoldsReport, IsFaultBy};
-ghost use Rattle.command_words.specs.Words.{IsNoReport, IsRead, IsRefused, all_in, format_by, is_given};
+ghost use Rattle.command_words.specs.Words.{GivesFiles, GivesRecord, GivesReport, HoldsReport};
+ghost use Rattle.command_words.specs.Words.{IsFaultBy};
+ghost use Rattle.command_words.specs.Words.{IsNoReport, IsRead, IsRefused, all_in, format_by};
+ghost use Rattle.command_words.specs.Words.{is_given};
 ghost use Rattle.command_words.specs.Words.{is_true, text_of, texts_of, value, values};
 ghost use Rattle.command_words.specs.declared.command.WordsFault.TheVariants.{Missing, NoMemory};
 

@@ -3,7 +3,8 @@
 
 ghost use Rattle.std.specs.Prelude.{◌≡◌, ◌∷◌, [], IfErr, IfOk, None, OnOk, Some, codes};
 ghost use Rattle.command_words.specs.Commands as commands;
-ghost use Rattle.command_words.specs.Words.{Chooses, IsChosen, IsFault, IsNamed, form_named, refusals, texts_of};
+ghost use Rattle.command_words.specs.Words.{Chooses, IsChosen, IsFault, IsNamed, form_named};
+ghost use Rattle.command_words.specs.Words.{refusals, texts_of};
 
 use crate::questions::{at, contents, explain, help, loan, posted, stations, where_is};
 use crate::reading::{

@@ -1,5 +1,6 @@
 -- A place in an answer is a place of the setup.
-use Rattle.std.specs.Prelude.{[], ◌∷◌, option_map, ℕ, ◌<◌, Bool, true, false, All, IfSome, List, length, take, Option, Some, None, is_none, if◌then◌else◌, slice_get}
+use Rattle.std.specs.Prelude.{[], ◌∷◌, option_map, ℕ, ◌<◌, Bool, true, false, All, IfSome, List}
+use Rattle.std.specs.Prelude.{length, take, Option, Some, None, is_none, if◌then◌else◌, slice_get}
 use Rattle.std.proofs.lemmas.List.Elements.{All-head, All-map, All-tail}
 use Rattle.std.proofs.Common.{subst}
 use Rattle.std.specs.List.{last_or, range_with_len}
@@ -13,8 +14,11 @@ use Rattle.posting_core.specs.History.{place_at, spots}
 use Rattle.posting_core.proofs.Bounds.{spots_within}
 use Rattle.posting_core.proofs.LastSpots.{last_is_current}
 use Rattle.count_core.specs.declared.count_row.CountRow.{CountRow}
-use Rattle.count_core.specs.declared.answer.CountAnswer.TheVariants.{UnknownPlace, Counted, UnknownObject, Again, Found, Elsewhere}
-use Rattle.count_core.specs.Counts.{answer, answer_at, answers, found_from, is_again, look, look_object, IsAnswerIn}
+use Rattle.count_core.specs.declared.answer.CountAnswer.TheVariants.{UnknownPlace, Counted}
+use Rattle.count_core.specs.declared.answer.CountAnswer.TheVariants.{UnknownObject, Again, Found}
+use Rattle.count_core.specs.declared.answer.CountAnswer.TheVariants.{Elsewhere}
+use Rattle.count_core.specs.Counts.{answer, answer_at, answers, found_from, is_again, look}
+use Rattle.count_core.specs.Counts.{look_object, IsAnswerIn}
 use Rattle.count_core.specs.Reports.{lies_at}
 
 -- the last of spots that are at places of the setup

@@ -1,5 +1,7 @@
 -- The laws of counts.
-use Rattle.std.specs.Prelude.{ℕ, ◌≡◌, ◌≢◌, ◌<◌, ◌==◌, ◌&&◌, ◌||◌, not, Bool, true, false, Contains, List, [], ◌∷◌, filter, map, length, take, Option, Some, None, is_none, if◌then◌else◌, slice_get, zero, suc, refl}
+use Rattle.std.specs.Prelude.{ℕ, ◌≡◌, ◌≢◌, ◌<◌, ◌==◌, ◌&&◌, ◌||◌, not, Bool, true, false, Contains}
+use Rattle.std.specs.Prelude.{List, [], ◌∷◌, filter, map, length, take, Option, Some, None, is_none}
+use Rattle.std.specs.Prelude.{if◌then◌else◌, slice_get, zero, suc, refl}
 use Rattle.std.proofs.Common.{arith, ap, sym, ◌∙◌}
 use Rattle.std.proofs.lemmas.Bool.{and_parts}
 use Rattle.std.proofs.lemmas.Bool.Decides.{nat_tests}
@@ -14,9 +16,12 @@ use Rattle.count_core.specs.declared.answer.MissingObject.{MissingObject}
 use Rattle.count_core.specs.declared.answer.CountAnswer.{CountAnswer}
 use Rattle.count_core.specs.declared.answer.CountAnswer.TheVariants.{UnknownPlace, Again, Found}
 use Rattle.count_core.specs.Accounts.{CountsAll, answer_of_row, named_by_row}
-use Rattle.count_core.specs.Counts.{answer, answer_at, answers, is_again, is_missing, is_unnamed, is_within, look, mentioned, missing, missing_at, missing_in, named, names}
+use Rattle.count_core.specs.Counts.{answer, answer_at, answers, is_again, is_missing, is_unnamed}
+use Rattle.count_core.specs.Counts.{is_within, look, mentioned, missing, missing_at, missing_in}
+use Rattle.count_core.specs.Counts.{named, names}
 use Rattle.count_core.specs.Reports.{is_in}
-use Rattle.count_core.proofs.Membership.{any_of, filter_none, flat_map_none, from_flat_map, from_map, kept, let_through}
+use Rattle.count_core.proofs.Membership.{any_of, filter_none, flat_map_none, from_flat_map}
+use Rattle.count_core.proofs.Membership.{from_map, kept, let_through}
 
 pub each_answered : (B : Book) (rows : List CountRow) → length (answers B rows) ≡ length rows
 each_answered B rows = length-map-range_with_len (answer_at B rows) 0 (length rows)

@@ -1,5 +1,6 @@
 -- How far a reader has come in the rows of a count list.
-use Rattle.std.specs.Prelude.{◌≡◌, ℕ, ◌+◌, ◌≤◌, ◌==◌, not, nat_lt, Bool, true, false, List, [], ◌∷◌, ◌++◌, length, Option, Some, None, if◌then◌else◌, refl}
+use Rattle.std.specs.Prelude.{◌≡◌, ℕ, ◌+◌, ◌≤◌, ◌==◌, not, nat_lt, Bool, true, false, List, [], ◌∷◌}
+use Rattle.std.specs.Prelude.{◌++◌, length, Option, Some, None, if◌then◌else◌, refl}
 use Rattle.std.proofs.Common.{arith, ap, sym, ◌∙◌, append_assoc}
 use Rattle.std.proofs.lemmas.Bool.Decides.{nat_tests}
 use Rattle.std.proofs.lemmas.List.{append-nil, length-append}
@@ -15,7 +16,8 @@ use Rattle.nest_core.proofs.CsvRows.{left_at_start, left_none, left_some, next_l
 use Rattle.count_core.specs.declared.count_row.CountRow.{CountRow}
 use Rattle.count_core.specs.declared.count_fault.CountFault.{CountFault}
 use Rattle.count_core.specs.declared.count_fault.CountFault.TheVariants.{BadFields, BadCode}
-use Rattle.count_core.specs.CountRows.{count_row, counted, counts_of, first_fault, has_codes, own_fault, row_fault}
+use Rattle.count_core.specs.CountRows.{count_row, counted, counts_of, first_fault, has_codes}
+use Rattle.count_core.specs.CountRows.{own_fault, row_fault}
 
 -- The rows before row n are kept and have no fault, and the rest is read from this state.
 pub record IsUpTo (text : List ℕ) (kept : List CountRow) (n : ℕ) (s : State) (xs : List ℕ) :

@@ -1,5 +1,6 @@
 -- The members of a list.
-use Rattle.std.specs.Prelude.{ℕ, ◌≡◌, ◌<◌, ◌||◌, ◌⊎◌, Bool, true, false, cond, Contains, List, [], ◌∷◌, ◌++◌, filter, map, flat_map, get_or, length, zero, suc, refl}
+use Rattle.std.specs.Prelude.{ℕ, ◌≡◌, ◌<◌, ◌||◌, ◌⊎◌, Bool, true, false, cond, Contains, List, []}
+use Rattle.std.specs.Prelude.{◌∷◌, ◌++◌, filter, map, flat_map, get_or, length, zero, suc, refl}
 use Rattle.std.proofs.Common.{arith, ap, sym, ◌∙◌, subst, inl, inr}
 use Rattle.std.proofs.lemmas.List.Concat.{flat_map-cons}
 use Rattle.std.proofs.lemmas.List.Folds.{list_any_at}

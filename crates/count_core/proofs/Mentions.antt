@@ -1,5 +1,6 @@
 -- The places that a list mentions, row by row.
-use Rattle.std.specs.Prelude.{ℕ, ◌≡◌, ◌==◌, ◌||◌, ◌<◌, not, Bool, true, false, cond, All, List, [], ◌∷◌, ◌++◌, length, filter, filter_map, Option, Some, None, refl}
+use Rattle.std.specs.Prelude.{ℕ, ◌≡◌, ◌==◌, ◌||◌, ◌<◌, not, Bool, true, false, cond, All, List, []}
+use Rattle.std.specs.Prelude.{◌∷◌, ◌++◌, length, filter, filter_map, Option, Some, None, refl}
 use Rattle.std.proofs.Common.{arith, ap, sym, ◌∙◌, subst}
 use Rattle.std.proofs.lemmas.Bool.Decides.{nat_tests}
 use Rattle.std.proofs.lemmas.List.{append-nil}

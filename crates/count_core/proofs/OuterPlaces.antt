@@ -1,11 +1,14 @@
 -- The places that a place lies in: each is in the list once, and the list has no others.
-use Rattle.std.specs.Prelude.{All, is_none, ℕ, ◌≡◌, ◌+◌, ◌<◌, ◌≤◌, ◌==◌, ◌&&◌, ◌||◌, Bool, true, false, cond, nat_lt, List, [], ◌∷◌, ◌++◌, length, drop, take, map, filter, Option, Some, None, if◌then◌else◌, zero, suc, refl}
+use Rattle.std.specs.Prelude.{All, is_none, ℕ, ◌≡◌, ◌+◌, ◌<◌, ◌≤◌, ◌==◌, ◌&&◌, ◌||◌, Bool, true}
+use Rattle.std.specs.Prelude.{false, cond, nat_lt, List, [], ◌∷◌, ◌++◌, length, drop, take, map}
+use Rattle.std.specs.Prelude.{filter, Option, Some, None, if◌then◌else◌, zero, suc, refl}
 use Rattle.std.proofs.Common.{arith, ap, sym, subst, ◌∙◌}
 use Rattle.std.proofs.Math.Seq.{drop-length, take-length}
 use Rattle.std.proofs.lemmas.Bool.{and_parts, false_from_ne_true}
 use Rattle.std.proofs.lemmas.Bool.Decides.{nat_tests}
 use Rattle.std.proofs.lemmas.List.{map-id, length-map, length-take, length-take-le}
-use Rattle.std.proofs.lemmas.List.Elements.{All-nil, All-cons, All-append, filter-append, filter_map-append}
+use Rattle.std.proofs.lemmas.List.Elements.{All-nil, All-cons, All-append, filter-append}
+use Rattle.std.proofs.lemmas.List.Elements.{filter_map-append}
 use Rattle.std.proofs.lemmas.List.FromFn.{map-range_with_len_more}
 use Rattle.std.proofs.lemmas.List.Quantifiers.{position-Some}
 use Rattle.std.proofs.lemmas.Option.{get_or_from_slice_get}
@@ -16,7 +19,8 @@ use Rattle.std.specs.Str.{bytes_eq}
 use Rattle.codes_core.specs.Place.{lies_in, ends_segment, place_fault}
 use Rattle.codes_core.specs.declared.fault.CodeFault.{CodeFault}
 use Rattle.codes_core.proofs.Segments.{lies_in_front}
-use Rattle.nest_core.specs.Museum.{Museum, IsMuseum, find_place, is_place_row, place_code_of, place_codes}
+use Rattle.nest_core.specs.Museum.{Museum, IsMuseum, find_place, is_place_row, place_code_of}
+use Rattle.nest_core.specs.Museum.{place_codes}
 use Rattle.nest_core.proofs.Positions.{position_unlike}
 use Rattle.count_core.specs.Inside.{outer_place, outer_places, outer_of}
 use Rattle.count_core.proofs.Flags.{by_bool}

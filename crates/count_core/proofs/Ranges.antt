@@ -1,9 +1,12 @@
 -- Lists that a loop goes through, one element at a time.
-use Rattle.std.specs.Prelude.{ℕ, ◌≡◌, ◌+◌, ◌<◌, ◌&&◌, Bool, true, false, cond, All, List, [], ◌∷◌, ◌++◌, filter, length, take, flat_map, Some, slice_get, zero, suc, refl}
+use Rattle.std.specs.Prelude.{ℕ, ◌≡◌, ◌+◌, ◌<◌, ◌&&◌, Bool, true, false, cond, All, List, [], ◌∷◌}
+use Rattle.std.specs.Prelude.{◌++◌, filter, length, take, flat_map, Some, slice_get, zero, suc}
+use Rattle.std.specs.Prelude.{refl}
 use Rattle.std.proofs.Common.{arith, get_or, ap, sym, ◌∙◌}
 use Rattle.std.proofs.lemmas.List.{append-nil, map-id, take_more}
 use Rattle.std.proofs.lemmas.List.Elements.{filter-append, All-filter}
-use Rattle.std.proofs.lemmas.List.FromFn.{filter_of_map_range_with_len_more, get_or-range_with_len, length-range_with_len}
+use Rattle.std.proofs.lemmas.List.FromFn.{filter_of_map_range_with_len_more, get_or-range_with_len}
+use Rattle.std.proofs.lemmas.List.FromFn.{length-range_with_len}
 use Rattle.std.proofs.lemmas.Grind.{flat_map-append}
 use Rattle.std.proofs.lemmas.Option.{get_or_from_slice_get}
 use Rattle.std.specs.List.{range_with_len}

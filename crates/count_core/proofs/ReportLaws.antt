@@ -1,5 +1,7 @@
 -- The laws of reports.
-use Rattle.std.specs.Prelude.{ℕ, ℤ, ◌≡◌, ◌≢◌, ◌<◌, ◌==◌, ◌&&◌, ◌⊎◌, not, Bool, true, false, Contains, List, filter, length, Option, Some, None, option_map, int_lt, if◌then◌else◌, refl}
+use Rattle.std.specs.Prelude.{ℕ, ℤ, ◌≡◌, ◌≢◌, ◌<◌, ◌==◌, ◌&&◌, ◌⊎◌, not, Bool, true, false}
+use Rattle.std.specs.Prelude.{Contains, List, filter, length, Option, Some, None, option_map}
+use Rattle.std.specs.Prelude.{int_lt, if◌then◌else◌, refl}
 use Rattle.std.proofs.Common.{arith, ap, sym, ◌∙◌, subst, inl, inr}
 use Rattle.std.proofs.lemmas.Bool.{and_parts}
 use Rattle.std.proofs.lemmas.Bool.Decides.{nat_tests}
@@ -9,18 +11,22 @@ use Rattle.std.specs.List.{list_any, range_with_len}
 use Rattle.std.specs.Option.{option_map_or}
 use Rattle.codes_core.specs.Place.{lies_in}
 use Rattle.codes_core.specs.Thing.{thing_kind}
-use Rattle.nest_core.specs.Museum.{Museum, is_own, is_own_kind, kind_of, normal_of, place_code_of, thing_codes, thing_code_of}
+use Rattle.nest_core.specs.Museum.{Museum, is_own, is_own_kind, kind_of, normal_of, place_code_of}
+use Rattle.nest_core.specs.Museum.{thing_codes, thing_code_of}
 use Rattle.nest_core.specs.Nest.{is_same_place}
 use Rattle.nest_core.specs.Puts.{is_among}
 use Rattle.posting_core.specs.declared.stage.LineStage.{LineStage}
-use Rattle.posting_core.specs.declared.stage.LineStage.TheVariants.{Awaiting, Away, Back, Here, GivenBack}
+use Rattle.posting_core.specs.declared.stage.LineStage.TheVariants.{Awaiting, Away, Back, Here}
+use Rattle.posting_core.specs.declared.stage.LineStage.TheVariants.{GivenBack}
 use Rattle.posting_core.specs.Loans.{stage}
 use Rattle.posting_core.specs.Verdicts.{is_over}
 use Rattle.posting_core.specs.Book.{Book, place_in, loans_in, last_day_in, line_in, objects_of_loan}
 use Rattle.count_core.specs.declared.answer.AwayObject.{AwayObject}
 use Rattle.count_core.specs.Accounts.{IsOverdue}
-use Rattle.count_core.specs.Reports.{away, away_object, in_place, is_away, is_in, is_out_still, is_overdue, is_owed, lies_at, overdue}
-use Rattle.count_core.proofs.Membership.{any_of, from_map, in_map, in_range, kept, let_through, range_below, some_of}
+use Rattle.count_core.specs.Reports.{away, away_object, in_place, is_away, is_in, is_out_still}
+use Rattle.count_core.specs.Reports.{is_overdue, is_owed, lies_at, overdue}
+use Rattle.count_core.proofs.Membership.{any_of, from_map, in_map, in_range, kept, let_through}
+use Rattle.count_core.proofs.Membership.{range_below, some_of}
 use Rattle.count_core.proofs.PlaceNesting.{lies_in_itself, lies_through, one_in_other}
 
 -- the test of a value, if there is one

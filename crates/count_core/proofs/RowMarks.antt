@@ -1,5 +1,7 @@
 -- The effect of marking on each row.
-use Rattle.std.proofs.Common.{◌≡◌, ℕ, zero, suc, ◌+◌, ◌<◌, Bool, true, false, List, [], ◌∷◌, ◌++◌, length, take, map, Option, Some, None, if◌then◌else◌, refl, ap, ◌∙◌, sym, subst, arith, get_or}
+use Rattle.std.proofs.Common.{◌≡◌, ℕ, zero, suc, ◌+◌, ◌<◌, Bool, true, false, List, [], ◌∷◌, ◌++◌}
+use Rattle.std.proofs.Common.{length, take, map, Option, Some, None, if◌then◌else◌, refl, ap, ◌∙◌}
+use Rattle.std.proofs.Common.{sym, subst, arith, get_or}
 use Rattle.std.specs.Prelude.{slice_get, is_none}
 use Rattle.std.specs.List.{range_with_len}
 use Rattle.std.specs.Option.{option_map_or, option_and_then}
@@ -13,10 +15,13 @@ use Rattle.posting_core.specs.Book.{Book, place_in}
 use Rattle.count_core.specs.declared.count_row.CountRow.{CountRow}
 use Rattle.count_core.specs.declared.lookup.Looked.{Looked}
 use Rattle.count_core.specs.declared.answer.CountAnswer.{CountAnswer}
-use Rattle.count_core.specs.declared.answer.CountAnswer.TheVariants.{UnknownPlace, Counted, UnknownObject, Again, Found, Elsewhere}
+use Rattle.count_core.specs.declared.answer.CountAnswer.TheVariants.{UnknownPlace, Counted}
+use Rattle.count_core.specs.declared.answer.CountAnswer.TheVariants.{UnknownObject, Again, Found}
+use Rattle.count_core.specs.declared.answer.CountAnswer.TheVariants.{Elsewhere}
 use Rattle.count_core.specs.Marks.{AreNames, flagged, with_flag, again_for, mark}
 use Rattle.count_core.specs.Reports.{lies_at}
-use Rattle.count_core.specs.Counts.{found_from, look_object, look, named, looked_of, look_at, is_again, answer, answer_at}
+use Rattle.count_core.specs.Counts.{found_from, look_object, look, named, looked_of, look_at}
+use Rattle.count_core.specs.Counts.{is_again, answer, answer_at}
 use Rattle.count_core.proofs.Flags.{names_then, flag_is}
 
 thing_below : (S : Museum) (code : List ℕ) (x : ℕ) → find_thing S code ≡ Some x

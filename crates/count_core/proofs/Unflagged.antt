@@ -1,10 +1,14 @@
 -- The lists of the objects without a flag, place by place and thing by thing.
-use Rattle.std.specs.Prelude.{ℕ, zero, suc, ◌≡◌, ◌+◌, ◌<◌, ◌==◌, ◌&&◌, Bool, true, false, cond, List, [], ◌∷◌, ◌++◌, length, map, filter, Option, Some, None, option_map, slice_get, slice_set, unwrap_or, Vec, refl}
+use Rattle.std.specs.Prelude.{ℕ, zero, suc, ◌≡◌, ◌+◌, ◌<◌, ◌==◌, ◌&&◌, Bool, true, false, cond}
+use Rattle.std.specs.Prelude.{List, [], ◌∷◌, ◌++◌, length, map, filter, Option, Some, None}
+use Rattle.std.specs.Prelude.{option_map, slice_get, slice_set, unwrap_or, Vec, refl}
 use Rattle.std.proofs.Common.{arith, ap, sym, subst, ◌∙◌, get_or, append_assoc, replicate}
 use Rattle.std.proofs.lemmas.Bool.Decides.{nat_tests}
-use Rattle.std.proofs.lemmas.List.{append-nil, map-append, length-map, length-replicate, length-set, get_or-replicate}
+use Rattle.std.proofs.lemmas.List.{append-nil, map-append, length-map, length-replicate, length-set}
+use Rattle.std.proofs.lemmas.List.{get_or-replicate}
 use Rattle.std.proofs.lemmas.List.Elements.{filter-append}
-use Rattle.std.proofs.lemmas.Option.{slice_get-map, slice_get-get_or, slice_get_read, unwrap_or-slice_get}
+use Rattle.std.proofs.lemmas.Option.{slice_get-map, slice_get-get_or, slice_get_read}
+use Rattle.std.proofs.lemmas.Option.{unwrap_or-slice_get}
 use Rattle.std.specs.List.{range_with_len}
 use Rattle.std.specs.Option.{option_map_or}
 use Rattle.std.specs.declared.alloc.Global.{Global}
@@ -13,7 +17,8 @@ use Rattle.nest_core.specs.Museum.{Museum, IsMuseum, place_code_of}
 use Rattle.nest_core.proofs.Writes.{get_set_same, get_set_other}
 use Rattle.posting_core.specs.Book.{Book, place_in}
 use Rattle.count_core.specs.Counts.{is_within}
-use Rattle.count_core.specs.Inside.{outer_of, outer_places, lists, list_at, is_unflagged_in, AreOuter, AreUnflaggedIn}
+use Rattle.count_core.specs.Inside.{outer_of, outer_places, lists, list_at, is_unflagged_in}
+use Rattle.count_core.specs.Inside.{AreOuter, AreUnflaggedIn}
 use Rattle.count_core.specs.Marks.{is_unflagged}
 use Rattle.count_core.specs.Reports.{lies_at, is_in}
 use Rattle.count_core.proofs.Flags.{by_bool}

@@ -1,11 +1,16 @@
 -- The definitions computed on worked rows.
-use Rattle.std.specs.Prelude.{ℕ, ℤ, zero, suc, pos, ◌≡◌, ◌≢◌, Bool, true, false, List, [], ◌∷◌, Some, None, map, refl, codes}
-use Rattle.posting_core.specs.declared.message.Message.TheVariants.{Pack, Agree, Authorise, Exit, Return, Receive, Extend}
+use Rattle.std.specs.Prelude.{ℕ, ℤ, zero, suc, pos, ◌≡◌, ◌≢◌, Bool, true, false, List, [], ◌∷◌}
+use Rattle.std.specs.Prelude.{Some, None, map, refl, codes}
+use Rattle.posting_core.specs.declared.message.Message.TheVariants.{Pack, Agree, Authorise, Exit}
+use Rattle.posting_core.specs.declared.message.Message.TheVariants.{Return, Receive, Extend}
 use Rattle.posting_core.specs.declared.entry.Entry.{Entry}
-use Rattle.posting_core.proofs.WorkedRows.{pack, gal, s1, s1_a, s2, museum_x, lender_y, crate_1, object_1, object_2, object_3, may, moved, run, book}
+use Rattle.posting_core.proofs.WorkedRows.{pack, gal, s1, s1_a, s2, museum_x, lender_y, crate_1}
+use Rattle.posting_core.proofs.WorkedRows.{object_1, object_2, object_3, may, moved, run, book}
 use Rattle.count_core.specs.declared.count_row.CountRow.{CountRow}
 use Rattle.count_core.specs.declared.count_fault.CountFault.TheVariants.{BadFields, BadCode}
-use Rattle.count_core.specs.declared.answer.CountAnswer.TheVariants.{UnknownPlace, Counted, UnknownObject, Again, Unplaced, Found, Elsewhere}
+use Rattle.count_core.specs.declared.answer.CountAnswer.TheVariants.{UnknownPlace, Counted}
+use Rattle.count_core.specs.declared.answer.CountAnswer.TheVariants.{UnknownObject, Again, Unplaced}
+use Rattle.count_core.specs.declared.answer.CountAnswer.TheVariants.{Found, Elsewhere}
 use Rattle.nest_core.specs.SetupRows.{Fields}
 use Rattle.count_core.specs.CountRows.{counts_of, first_fault}
 use Rattle.count_core.specs.Counts.{answers, missing}

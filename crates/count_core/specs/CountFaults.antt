@@ -1,7 +1,8 @@
 -- Defines how the fault of a count list is printed: its row and its name.
 use Rattle.std.specs.Prelude.{ℕ, List, Option, Some, None, codes}
 use Rattle.count_core.specs.declared.count_fault.CountFault.{CountFault}
-use Rattle.count_core.specs.declared.count_fault.CountFault.TheVariants.{NotCsv, BadFields, BadCode, TooMany, NoMemory}
+use Rattle.count_core.specs.declared.count_fault.CountFault.TheVariants.{NotCsv, BadFields, BadCode}
+use Rattle.count_core.specs.declared.count_fault.CountFault.TheVariants.{TooMany, NoMemory}
 
 -- The row that has the fault. None for a fault of the whole file.
 abbrev pub row_of : CountFault → Option ℕ

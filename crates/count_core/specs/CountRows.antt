@@ -1,6 +1,8 @@
 -- Defines how the rows of a count list are read, and its first fault. A row has the code of a place
 -- and, if a thing was seen there, the code of the thing. Rows are counted from 1.
-use Rattle.std.specs.Prelude.{ℕ, ◌+◌, ◌==◌, ◌&&◌, ◌||◌, Bool, not, nat_lt, nat_le, List, [], ◌∷◌, ◌++◌, length, filter_map, Option, Some, None, is_none, is_some, if◌then◌else◌}
+use Rattle.std.specs.Prelude.{ℕ, ◌+◌, ◌==◌, ◌&&◌, ◌||◌, Bool, not, nat_lt, nat_le, List, [], ◌∷◌}
+use Rattle.std.specs.Prelude.{◌++◌, length, filter_map, Option, Some, None, is_none, is_some}
+use Rattle.std.specs.Prelude.{if◌then◌else◌}
 use Rattle.std.specs.Option.{option_or}
 use Rattle.std.specs.Str.{is_utf8}
 use Rattle.codes_core.specs.Thing.{thing_fault}
@@ -9,7 +11,8 @@ use Rattle.nest_core.specs.SetupRows.{Fields, rows_of, field, field_count}
 use Rattle.count_core.specs.declared.TheConstants.{MOST_COUNT_ROWS}
 use Rattle.count_core.specs.declared.count_row.CountRow.{CountRow}
 use Rattle.count_core.specs.declared.count_fault.CountFault.{CountFault}
-use Rattle.count_core.specs.declared.count_fault.CountFault.TheVariants.{NotCsv, BadFields, BadCode, TooMany}
+use Rattle.count_core.specs.declared.count_fault.CountFault.TheVariants.{NotCsv, BadFields, BadCode}
+use Rattle.count_core.specs.declared.count_fault.CountFault.TheVariants.{TooMany}
 
 -- The row has a second field.
 abbrev pub has_thing : Fields → Bool

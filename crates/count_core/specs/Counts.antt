@@ -1,6 +1,7 @@
 -- Defines the answer to each row of a count list, and the objects that the list misses. The order
 -- of answers is UnknownPlace, Counted, UnknownObject, Again, Unplaced, Found, Elsewhere.
-use Rattle.std.specs.Prelude.{ℕ, ◌<◌, ◌==◌, ◌&&◌, Bool, false, not, List, [], ◌∷◌, length, take, map, filter, Option, Some, None, is_none, if◌then◌else◌, slice_get}
+use Rattle.std.specs.Prelude.{ℕ, ◌<◌, ◌==◌, ◌&&◌, Bool, false, not, List, [], ◌∷◌, length, take}
+use Rattle.std.specs.Prelude.{map, filter, Option, Some, None, is_none, if◌then◌else◌, slice_get}
 use Rattle.std.specs.Option.{option_map_or, option_and_then}
 use Rattle.std.specs.List.{list_any, filter_map, flat_map, range_with_len}
 use Rattle.nest_core.specs.Museum.{Museum, find_place, find_thing, place_code_of, is_container}
@@ -9,7 +10,9 @@ use Rattle.count_core.specs.declared.count_row.CountRow.{CountRow}
 use Rattle.count_core.specs.declared.lookup.Looked.{Looked}
 use Rattle.count_core.specs.declared.answer.MissingObject.{MissingObject}
 use Rattle.count_core.specs.declared.answer.CountAnswer.{CountAnswer}
-use Rattle.count_core.specs.declared.answer.CountAnswer.TheVariants.{UnknownPlace, Counted, UnknownObject, Again, Unplaced, Found, Elsewhere}
+use Rattle.count_core.specs.declared.answer.CountAnswer.TheVariants.{UnknownPlace, Counted}
+use Rattle.count_core.specs.declared.answer.CountAnswer.TheVariants.{UnknownObject, Again, Unplaced}
+use Rattle.count_core.specs.declared.answer.CountAnswer.TheVariants.{Found, Elsewhere}
 use Rattle.count_core.specs.Reports.{lies_at, is_in}
 
 -- The answer for a thing at this place that was seen in place `sought`.

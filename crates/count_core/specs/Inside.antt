@@ -1,6 +1,7 @@
 -- Defines the places that a place lies in, found by its code, and the objects of each place that no
 -- row of a count list has flagged.
-use Rattle.std.specs.Prelude.{ℕ, ◌≡◌, ◌≢◌, ◌+◌, ◌<◌, ◌&&◌, Bool, List, [], length, drop, take, map, filter, Option, None, if◌then◌else◌, slice_get, unwrap_or, Vec}
+use Rattle.std.specs.Prelude.{ℕ, ◌≡◌, ◌≢◌, ◌+◌, ◌<◌, ◌&&◌, Bool, List, [], length, drop, take, map}
+use Rattle.std.specs.Prelude.{filter, Option, None, if◌then◌else◌, slice_get, unwrap_or, Vec}
 use Rattle.std.specs.List.{filter_map, range_with_len}
 use Rattle.std.specs.Option.{option_map_or}
 use Rattle.std.specs.declared.alloc.Global.{Global}

@@ -1,10 +1,13 @@
 -- Defines how a count marks rows Again: each thing that an earlier row names has a flag.
-use Rattle.std.specs.Prelude.{ℕ, ◌≡◌, ◌<◌, ◌==◌, ◌&&◌, not, Bool, true, false, List, length, Option, Some, None, if◌then◌else◌, slice_get, slice_set, unwrap_or}
+use Rattle.std.specs.Prelude.{ℕ, ◌≡◌, ◌<◌, ◌==◌, ◌&&◌, not, Bool, true, false, List, length, Option}
+use Rattle.std.specs.Prelude.{Some, None, if◌then◌else◌, slice_get, slice_set, unwrap_or}
 use Rattle.std.specs.List.{list_any}
 use Rattle.std.specs.Option.{option_map_or}
 use Rattle.nest_core.specs.Museum.{Museum, is_container}
 use Rattle.count_core.specs.declared.answer.CountAnswer.{CountAnswer}
-use Rattle.count_core.specs.declared.answer.CountAnswer.TheVariants.{UnknownPlace, Counted, UnknownObject, Again, Unplaced, Found, Elsewhere}
+use Rattle.count_core.specs.declared.answer.CountAnswer.TheVariants.{UnknownPlace, Counted}
+use Rattle.count_core.specs.declared.answer.CountAnswer.TheVariants.{UnknownObject, Again, Unplaced}
+use Rattle.count_core.specs.declared.answer.CountAnswer.TheVariants.{Found, Elsewhere}
 
 -- The flag of thing x. False if there is no thing.
 abbrev pub flagged : List Bool → Option ℕ → Bool

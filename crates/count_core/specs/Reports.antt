@@ -1,13 +1,15 @@
 -- Defines three reports: the overdue loans, the own objects away from their normal place, and the
 -- things in a place.
-use Rattle.std.specs.Prelude.{ℕ, ℤ, ◌<◌, ◌&&◌, Bool, true, false, not, IfSome, List, length, map, filter}
+use Rattle.std.specs.Prelude.{ℕ, ℤ, ◌<◌, ◌&&◌, Bool, true, false, not, IfSome, List, length, map}
+use Rattle.std.specs.Prelude.{filter}
 use Rattle.std.specs.Option.{option_map_or}
 use Rattle.std.specs.List.{list_any, range_with_len}
 use Rattle.codes_core.specs.Place.{lies_in}
 use Rattle.nest_core.specs.Museum.{Museum, place_code_of, is_own, normal_of}
 use Rattle.nest_core.specs.Nest.{is_same_place}
 use Rattle.posting_core.specs.declared.stage.LineStage.{LineStage}
-use Rattle.posting_core.specs.declared.stage.LineStage.TheVariants.{Awaiting, Away, Back, Here, GivenBack}
+use Rattle.posting_core.specs.declared.stage.LineStage.TheVariants.{Awaiting, Away, Back, Here}
+use Rattle.posting_core.specs.declared.stage.LineStage.TheVariants.{GivenBack}
 use Rattle.posting_core.specs.Verdicts.{is_over}
 use Rattle.posting_core.specs.Book.{Book, place_in, loans_in, objects_of_loan, line_in}
 use Rattle.count_core.specs.declared.answer.AwayObject.{AwayObject}

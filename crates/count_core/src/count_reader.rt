@@ -1,10 +1,12 @@
 //! Reads a count list.
-ghost use Rattle.std.specs.Prelude.{◌≡◌, ◌≢◌, ◌++◌, ◌∷◌, [], length, false, true, None, Some, if◌then◌else◌, OnOk, IfErr, MatchResult};
+ghost use Rattle.std.specs.Prelude.{◌≡◌, ◌≢◌, ◌++◌, ◌∷◌, [], length, false, true, None, Some};
+ghost use Rattle.std.specs.Prelude.{if◌then◌else◌, OnOk, IfErr, MatchResult};
 ghost use Rattle.std.specs.Option.{option_to_list};
 ghost use Rattle.std.specs.Str.{is_utf8};
 ghost use Rattle.csv.specs.Records.{fields_of};
 ghost use Rattle.nest_core.specs.SetupRows.{field_count, rows_of};
-ghost use Rattle.count_core.specs.CountRows.{count_fault, count_row, counted, counts_of, first_fault, has_codes, is_full, own_fault, row_fault};
+ghost use Rattle.count_core.specs.CountRows.{count_fault, count_row, counted, counts_of};
+ghost use Rattle.count_core.specs.CountRows.{first_fault, has_codes, is_full, own_fault, row_fault};
 
 use crate::{CountFault, CountRow, MOST_COUNT_ROWS};
 use codes_core::{PlaceCode, ThingCode};

@@ -1,5 +1,6 @@
 //! Laws about counts and reports. Each is stated on a function that does nothing.
-ghost use Rattle.std.specs.Prelude.{◌≡◌, ◌≢◌, ◌<◌, ◌⊎◌, ℕ, ℤ, List, [], Contains, length, true, Some};
+ghost use Rattle.std.specs.Prelude.{◌≡◌, ◌≢◌, ◌<◌, ◌⊎◌, ℕ, ℤ, List, [], Contains, length, true};
+ghost use Rattle.std.specs.Prelude.{Some};
 ghost use Rattle.codes_core.specs.Place.{lies_in};
 ghost use Rattle.nest_core.specs.Museum.{is_own, normal_of, place_code_of};
 ghost use Rattle.posting_core.specs.Book.{Book, place_in};

@@ -1,7 +1,8 @@
 //! Finds the objects that a count list misses.
 ghost use Rattle.std.specs.Prelude.{◌≡◌, ◌<◌, ◌++◌, All, IfOk, OnOk, length, map};
 ghost use Rattle.std.specs.List.{range_with_len};
-ghost use Rattle.count_core.specs.Counts.{look_at, mentioned, missing, missing_at, named, IsMissingIn};
+ghost use Rattle.count_core.specs.Counts.{look_at, mentioned, missing, missing_at, named};
+ghost use Rattle.count_core.specs.Counts.{IsMissingIn};
 ghost use Rattle.count_core.specs.Marks.{AreNames};
 
 use crate::lookup::{Looked, looked_in};

@@ -4,7 +4,8 @@ ghost use Rattle.std.specs.Prelude.{◌≡◌, ◌<◌, All, IfOk, length, slice
 ghost use Rattle.std.specs.List.{list_any};
 ghost use Rattle.std.specs.Option.{option_map_or};
 ghost use Rattle.posting_core.specs.Book.{loans_in};
-ghost use Rattle.count_core.specs.Reports.{overdue, is_overdue, is_owed, is_out_still, away, is_away, in_place, IsAwayIn};
+ghost use Rattle.count_core.specs.Reports.{overdue, is_overdue, is_owed, is_out_still, away};
+ghost use Rattle.count_core.specs.Reports.{is_away, in_place, IsAwayIn};
 
 use crate::AwayObject;
 use crate::lookup::is_in;

@@ -1,5 +1,6 @@
 //! Finds the objects that no row names, place by place.
-ghost use Rattle.std.specs.Prelude.{◌≡◌, ◌<◌, ◌==◌, ◌+◌, ◌++◌, ◌∷◌, [], ℕ, All, IfOk, OnOk, cond, filter, length, map, replicate};
+ghost use Rattle.std.specs.Prelude.{◌≡◌, ◌<◌, ◌==◌, ◌+◌, ◌++◌, ◌∷◌, [], ℕ, All, IfOk, OnOk, cond};
+ghost use Rattle.std.specs.Prelude.{filter, length, map, replicate};
 ghost use Rattle.count_core.specs.Inside.{lists, list_at, AreOuter, AreUnflaggedIn};
 ghost use Rattle.count_core.specs.Marks.{is_unflagged};
 

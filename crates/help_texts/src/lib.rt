@@ -6,8 +6,8 @@
 //!
 //! The contracts promise:
 //!
-//! - [`nearest_explained`] returns a word with its distance from the text. That it is the nearest of
-//!   its table is a private clause (`nearest_in`).
+//! - [`nearest_explained`] returns a word with its distance from the text. That it is the nearest
+//!   of its table is a private clause (`nearest_in`).
 //! - [`Topic::named`] returns the topic of that name, and None only if no topic has it.
 //!
 //! No contract covers the wording of the pages and explanations.

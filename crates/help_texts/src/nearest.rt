@@ -15,8 +15,8 @@ pub struct Nearest {
     pub edits: usize,
 }
 
-/// Returns the nearest of the best word so far and the words of a table. Fault: AllocError, if memory
-/// runs out.
+/// Returns the nearest of the best word so far and the words of a table. Fault: AllocError, if
+/// memory runs out.
 pub(crate) fn nearest_in(
     alloc: Global,
     text: &str,

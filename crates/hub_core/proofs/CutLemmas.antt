@@ -1,5 +1,7 @@
 -- The posted list cut to one station is that station's run.
-use Rattle.std.proofs.Common.{◌≡◌, ◌≢◌, ℕ, zero, suc, ◌+◌, ◌-◌, ◌<◌, ◌==◌, inl, inr, ⊎_elim, true, false, List, [], ◌∷◌, ◌++◌, length, Option, Some, None, refl, ap, ◌∙◌, sym, subst, arith, append_assoc, append-nil}
+use Rattle.std.proofs.Common.{◌≡◌, ◌≢◌, ℕ, zero, suc, ◌+◌, ◌-◌, ◌<◌, ◌==◌, inl, inr, ⊎_elim, true}
+use Rattle.std.proofs.Common.{false, List, [], ◌∷◌, ◌++◌, length, Option, Some, None, refl, ap, ◌∙◌}
+use Rattle.std.proofs.Common.{sym, subst, arith, append_assoc, append-nil}
 use Rattle.std.proofs.lemmas.Bool.{cases_eq, ne_eqb}
 use Rattle.std.proofs.lemmas.Bool.Decides.{nat_tests}
 use Rattle.std.specs.Prelude.{fold}
@@ -9,7 +11,8 @@ use Rattle.posting_core.specs.declared.message.Message.{Message}
 use Rattle.posting_core.specs.declared.entry.Entry.{Entry}
 use Rattle.posting_core.specs.Messages.{is_sign_off}
 use Rattle.station_core.specs.declared.Refusal.{Refusal}
-use Rattle.station_core.specs.Runs.{Arrived, arrived, message_at, ready, refusal, taken_after, numbered, due, run}
+use Rattle.station_core.specs.Runs.{Arrived, arrived, message_at, ready, refusal, taken_after}
+use Rattle.station_core.specs.Runs.{numbered, due, run}
 use Rattle.station_core.proofs.StationLemmas.{accepted}
 use Rattle.station_core.proofs.GrowLemmas.{starts_next, run_grows, run_other}
 use Rattle.station_core.proofs.RunLemmas.{at_its_number, ready_is, stops_at_missing}
@@ -17,7 +20,8 @@ use Rattle.station_core.specs.declared.Start.{Start}
 use Rattle.station_core.specs.Progress.{StartsFrom}
 use Rattle.posting_core.specs.Lawful.{count_at, Follows, IsLawful}
 use Rattle.hub_core.specs.declared.hub.answer.Arrival.{Arrival}
-use Rattle.hub_core.specs.Points.{seen, arrival_of, post, Point, point_with, point_after, point, cut}
+use Rattle.hub_core.specs.Points.{seen, arrival_of, post, Point, point_with, point_after, point}
+use Rattle.hub_core.specs.Points.{cut}
 use Rattle.hub_core.proofs.OpenLemmas.{sent, sent_next, lawful_start}
 use Rattle.hub_core.proofs.StandLemmas.{point_refused, point_accepted}
 

@@ -1,14 +1,19 @@
 -- The head of a run, line by line.
-use Rattle.std.proofs.Common.{◌≡◌, ℕ, suc, ◌+◌, ◌-◌, ◌<◌, ◌≤◌, ◌==◌, ◌||◌, Bool, true, false, true≢false, if◌then◌else◌, ◌⊎◌, inl, inr, ◌≢◌, nat_eq, List, [], ◌∷◌, ◌++◌, length, length-append, length-take, take, drop, refl, ap, ◌∙◌, sym, arith, append_assoc, append-nil, cond, not}
+use Rattle.std.proofs.Common.{◌≡◌, ℕ, suc, ◌+◌, ◌-◌, ◌<◌, ◌≤◌, ◌==◌, ◌||◌, Bool, true, false}
+use Rattle.std.proofs.Common.{true≢false, if◌then◌else◌, ◌⊎◌, inl, inr, ◌≢◌, nat_eq, List, [], ◌∷◌}
+use Rattle.std.proofs.Common.{◌++◌, length, length-append, length-take, take, drop, refl, ap, ◌∙◌}
+use Rattle.std.proofs.Common.{sym, arith, append_assoc, append-nil, cond, not}
 use Rattle.std.specs.List.{concat, before_first, after_first, list_any, prefix_len, ends_with}
 use Rattle.std.proofs.lemmas.Bool.{or_parts}
 use Rattle.std.proofs.lemmas.Bool.Decides.{eqb_tells}
 use Rattle.std.proofs.lemmas.List.Folds.{concat-append, list_any-append}
 use Rattle.hub_core.specs.Reading.{HasNoFeed}
-use Rattle.hub_core.specs.Lines.{before, pieces, is_empty, is_blank, without_return, head, after_head}
+use Rattle.hub_core.specs.Lines.{before, pieces, is_empty, is_blank, without_return, head}
+use Rattle.hub_core.specs.Lines.{after_head}
 use Rattle.hub_core.specs.WholeRun.{has_empty_line}
 use Rattle.hub_core.proofs.FeedLemmas.{no_feed_join}
-use Rattle.hub_core.proofs.LineLemmas.{IsWhole, whole_none, whole_more, ended_whole, line_fed, line_last, pieces_fed, pieces_last}
+use Rattle.hub_core.proofs.LineLemmas.{IsWhole, whole_none, whole_more, ended_whole, line_fed}
+use Rattle.hub_core.proofs.LineLemmas.{line_last, pieces_fed, pieces_last}
 
 -- bytes cut apart and joined again
 pub pieces_joined : (bytes : List ℕ) → concat (pieces bytes) ≡ bytes

@@ -1,6 +1,9 @@
 -- Takes a head, line by line. The reader has `i` left at first, `i1` before the line, and `i2`
 -- after it.
-use Rattle.std.proofs.Common.{◌≡◌, ℕ, ◌+◌, ◌<◌, ◌≤◌, inl, ◌∷◌, ◌++◌, Bool, true, false, true≢false, if◌then◌else◌, List, [], length, length-append, length-take, take_all, Option, None, Some, refl, ap, ◌∙◌, sym, subst, arith, append_assoc, append-nil}
+use Rattle.std.proofs.Common.{◌≡◌, ℕ, ◌+◌, ◌<◌, ◌≤◌, inl, ◌∷◌, ◌++◌, Bool, true, false, true≢false}
+use Rattle.std.proofs.Common.{if◌then◌else◌, List, [], length, length-append, length-take, take_all}
+use Rattle.std.proofs.Common.{Option, None, Some, refl, ap, ◌∙◌, sym, subst, arith, append_assoc}
+use Rattle.std.proofs.Common.{append-nil}
 use Rattle.std.specs.Prelude.{IfSome, OnSome}
 use Rattle.std.specs.Option.{option_map}
 use Rattle.std.specs.Io.KnownBytes.{Consumes, IsAtEnd}
@@ -9,12 +12,16 @@ use Rattle.std.proofs.lemmas.Bool.{lt-ltb}
 use Rattle.nest_core.specs.SetupRows.{setup_fault}
 use Rattle.hub_core.specs.declared.stream.head.TheConstants.{LONGEST_HEAD}
 use Rattle.hub_core.specs.declared.run_fault.RunFault.{RunFault}
-use Rattle.hub_core.specs.declared.run_fault.RunFault.TheVariants.{NoMemory, Store, ReadFailed, WriteFailed, Setup, HeadTooLong}
+use Rattle.hub_core.specs.declared.run_fault.RunFault.TheVariants.{NoMemory, Store, ReadFailed}
+use Rattle.hub_core.specs.declared.run_fault.RunFault.TheVariants.{WriteFailed, Setup, HeadTooLong}
 use Rattle.hub_core.specs.Reading.{HasNoFeed, feed_if, TakesLine}
 use Rattle.hub_core.specs.Lines.{is_empty, without_return, head, after_head}
-use Rattle.hub_core.specs.WholeRun.{head_fault, InHead, TakesHead, StopsInLine, BeforeLines, has_empty_line}
+use Rattle.hub_core.specs.WholeRun.{head_fault, InHead, TakesHead, StopsInLine, BeforeLines}
+use Rattle.hub_core.specs.WholeRun.{has_empty_line}
 use Rattle.hub_core.proofs.FeedLemmas.{end_after}
-use Rattle.hub_core.proofs.HeadLemmas.{IsFull, full_more, head_behind, after_behind, head_ends, after_ends, head_blank, head_last, after_last, head_goes_on, head_grows, kept_blank, part_of}
+use Rattle.hub_core.proofs.HeadLemmas.{IsFull, full_more, head_behind, after_behind, head_ends}
+use Rattle.hub_core.proofs.HeadLemmas.{after_ends, head_blank, head_last, after_last, head_goes_on}
+use Rattle.hub_core.proofs.HeadLemmas.{head_grows, kept_blank, part_of}
 
 -- whatever is true of the bytes read, with any bytes after them, is true of all bytes
 of_all : (i i' : Option (List ℕ)) (bytes : List ℕ) (P : List ℕ → Type 0) → Consumes i i' bytes

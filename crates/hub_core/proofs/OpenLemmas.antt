@@ -1,5 +1,7 @@
 -- A hub over the entries of a store.
-use Rattle.std.proofs.Common.{◌≡◌, ℕ, zero, suc, ◌+◌, ◌<◌, ◌≤◌, ◌==◌, ◌&&◌, not, Bool, true, false, List, [], ◌∷◌, ◌++◌, length, Option, Some, None, inl, inr, get_or, refl, ap, ◌∙◌, sym, subst, arith, append_assoc}
+use Rattle.std.proofs.Common.{◌≡◌, ℕ, zero, suc, ◌+◌, ◌<◌, ◌≤◌, ◌==◌, ◌&&◌, not, Bool, true, false}
+use Rattle.std.proofs.Common.{List, [], ◌∷◌, ◌++◌, length, Option, Some, None, inl, inr, get_or}
+use Rattle.std.proofs.Common.{refl, ap, ◌∙◌, sym, subst, arith, append_assoc}
 use Rattle.std.specs.Prelude.{map, reverse, replicate, slice_get, slice_set, nat_le, All}
 use Rattle.std.proofs.lemmas.List.Elements.{All-from_get_or}
 use Rattle.std.proofs.lemmas.Bool.{cases_eq, and_parts, and_from, not-true}
@@ -22,10 +24,13 @@ use Rattle.station_core.specs.Progress.{StartsFrom, AllStart, AllMatch}
 use Rattle.station_core.proofs.GrowLemmas.{starts_empty, starts_other, starts_next}
 use Rattle.hub_core.specs.Points.{arrival_of, entry_of}
 use Rattle.register_store.specs.declared.store_fault.StoreFault.{StoreFault}
-use Rattle.register_store.specs.declared.store_fault.StoreFault.TheVariants.{NoMemory, Store, OtherSetup, Damaged, OtherVersion}
+use Rattle.register_store.specs.declared.store_fault.StoreFault.TheVariants.{NoMemory, Store}
+use Rattle.register_store.specs.declared.store_fault.StoreFault.TheVariants.{OtherSetup, Damaged}
+use Rattle.register_store.specs.declared.store_fault.StoreFault.TheVariants.{OtherVersion}
 use Rattle.hub_core.specs.Openings.{GoesOn, may_send, IsEntryFault, IsJudgeFault}
 use Rattle.hub_core.specs.StandsFor.{InStep}
-use Rattle.hub_core.proofs.PostLemmas.{IsWritten, written, step_written, count_same, count_other, signed_same, signed_other}
+use Rattle.hub_core.proofs.PostLemmas.{IsWritten, written, step_written, count_same, count_other}
+use Rattle.hub_core.proofs.PostLemmas.{signed_same, signed_other}
 
 abbrev fresh : Start
 fresh = record { posted = 0; signed = false }

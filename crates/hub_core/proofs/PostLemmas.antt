@@ -1,5 +1,7 @@
 -- The posting of due messages.
-use Rattle.std.proofs.Common.{◌≡◌, ◌≢◌, ℕ, suc, ◌+◌, ◌-◌, ◌<◌, ◌≤◌, ◌==◌, ◌||◌, inl, inr, Bool, true, false, List, [], ◌∷◌, length, Some, None, refl, ap, ◌∙◌, sym, subst, arith, length-set, if◌then◌else◌}
+use Rattle.std.proofs.Common.{◌≡◌, ◌≢◌, ℕ, suc, ◌+◌, ◌-◌, ◌<◌, ◌≤◌, ◌==◌, ◌||◌, inl, inr, Bool}
+use Rattle.std.proofs.Common.{true, false, List, [], ◌∷◌, length, Some, None, refl, ap, ◌∙◌, sym}
+use Rattle.std.proofs.Common.{subst, arith, length-set, if◌then◌else◌}
 use Rattle.std.specs.Prelude.{fold, slice_set}
 use Rattle.std.proofs.Math.Bool.{or-false}
 use Rattle.std.proofs.lemmas.List.Sums.{fold-append}
@@ -17,7 +19,8 @@ use Rattle.posting_core.specs.Lawful.{count_at, is_signed_off, Follows}
 use Rattle.station_core.specs.declared.TheConstants.{LAST}
 use Rattle.std.specs.Prelude.{slice_get, unwrap_or, is_some, nat_lt, nat_le}
 use Rattle.station_core.specs.declared.Refusal.TheVariants.{BadNumber, Double, SignedOff, TooEarly}
-use Rattle.station_core.specs.Series.{Series, series, series_at, counted, closed, refusal_of, refusal_in, held_at, window}
+use Rattle.station_core.specs.Series.{Series, series, series_at, counted, closed, refusal_of}
+use Rattle.station_core.specs.Series.{refusal_in, held_at, window}
 use Rattle.station_core.specs.Runs.{Arrived, arrived, message_at, ready, due}
 use Rattle.station_core.specs.Progress.{IsPosting, IsEnding, AllMatch, ComesDue}
 use Rattle.station_core.proofs.RunLemmas.{due_next}

@@ -1,5 +1,6 @@
 -- The opening of a store, call by call.
-use Rattle.std.proofs.Common.{◌≡◌, ℕ, List, length, Bool, Result, Err, true, false, inl, inr, subst, sym}
+use Rattle.std.proofs.Common.{◌≡◌, ℕ, List, length, Bool, Result, Err, true, false, inl, inr, subst}
+use Rattle.std.proofs.Common.{sym}
 use Rattle.std.specs.Prelude.{All}
 use Rattle.std.specs.Result.{IsErrAnd}
 use Rattle.std.proofs.lemmas.Result.{err_from_is_err_and}
@@ -9,13 +10,18 @@ use Rattle.posting_core.specs.Book.{Book}
 use Rattle.posting_core.specs.Lawful.{IsLawful}
 use Rattle.station_core.specs.declared.Start.{Start}
 use Rattle.register_store.specs.declared.store_fault.StoreFault.{StoreFault}
-use Rattle.register_store.specs.declared.store_fault.StoreFault.TheVariants.{NoMemory, Store, OtherSetup, Damaged, OtherVersion}
+use Rattle.register_store.specs.declared.store_fault.StoreFault.TheVariants.{NoMemory, Store}
+use Rattle.register_store.specs.declared.store_fault.StoreFault.TheVariants.{OtherSetup, Damaged}
+use Rattle.register_store.specs.declared.store_fault.StoreFault.TheVariants.{OtherVersion}
 use Rattle.register_store.specs.StoredRows.{Content, AreSame, IsBoundTo, HasList, HasRows}
-use Rattle.register_store.specs.Registers.{CountsRefusal, is_new, bound_by, bound_to, IsBindFault, IsOfStation, IsListFault}
+use Rattle.register_store.specs.Registers.{CountsRefusal, is_new, bound_by, bound_to, IsBindFault}
+use Rattle.register_store.specs.Registers.{IsOfStation, IsListFault}
 use Rattle.register_store.specs.Holdings.{Holding, Each, Has, Comes, IsBound, IsNotBound}
 use Rattle.register_store.proofs.Kept.{same_back, same_then}
-use Rattle.register_store.proofs.HoldingLemmas.{comes_has, comes_on, comes_so, same_bound, same_list, same_rows_held, same_wrong}
-use Rattle.hub_core.specs.Openings.{IsJudged, IsJudgeFault, IsOpenFault, IsNotOpened, IsRestoreFault, IsRowsFault}
+use Rattle.register_store.proofs.HoldingLemmas.{comes_has, comes_on, comes_so, same_bound}
+use Rattle.register_store.proofs.HoldingLemmas.{same_list, same_rows_held, same_wrong}
+use Rattle.hub_core.specs.Openings.{IsJudged, IsJudgeFault, IsOpenFault, IsNotOpened}
+use Rattle.hub_core.specs.Openings.{IsRestoreFault, IsRowsFault}
 use Rattle.hub_core.specs.StandsFor.{HasStore}
 
 comes_more : (old new : Holding) (F G : Content → Content → Type 0)

@@ -1,10 +1,12 @@
 -- A store that has a lawful list can be opened.
-use Rattle.std.proofs.Common.{◌≡◌, ◌⊎◌, inl, inr, Bool, ℕ, true, false, List, [], ◌∷◌, ◌++◌, length, refl, sym, subst, ap, ◌∙◌, arith}
+use Rattle.std.proofs.Common.{◌≡◌, ◌⊎◌, inl, inr, Bool, ℕ, true, false, List, [], ◌∷◌, ◌++◌, length}
+use Rattle.std.proofs.Common.{refl, sym, subst, ap, ◌∙◌, arith}
 use Rattle.std.proofs.lemmas.Bool.{false≢true}
 use Rattle.std.specs.List.{AllByRecursion}
 use Rattle.std.specs.List.Sorted.{IsPermutation}
 use Rattle.std.proofs.lemmas.List.Elements.{All-from_recursion}
-use Rattle.std.proofs.lemmas.List.Sorted.{IsPermutation-sym, IsPermutation-trans, length_permutation, list_any-IsPermutation}
+use Rattle.std.proofs.lemmas.List.Sorted.{IsPermutation-sym, IsPermutation-trans}
+use Rattle.std.proofs.lemmas.List.Sorted.{length_permutation, list_any-IsPermutation}
 use Rattle.nest_core.specs.Museum.{Museum}
 use Rattle.posting_core.specs.declared.entry.Entry.{Entry}
 use Rattle.posting_core.specs.declared.message.Message.{Message}
@@ -13,19 +15,25 @@ use Rattle.posting_core.specs.declared.verdict.Verdict.{Verdict}
 use Rattle.posting_core.specs.Book.{Book, changes_of}
 use Rattle.posting_core.specs.Lawful.{Follows, IsLawful}
 use Rattle.register_store.specs.declared.store_fault.StoreFault.{StoreFault}
-use Rattle.register_store.specs.declared.store_fault.StoreFault.TheVariants.{NoMemory, Store, OtherSetup, Damaged, OtherVersion}
-use Rattle.register_store.specs.StoredRows.{Content, AreSame, MetaRow, HasRows, IsStoreOf, rows_of_meta}
-use Rattle.register_store.specs.Registers.{is_failure, is_new, bound_by, bound_to, has_other_version, IsOfStation}
+use Rattle.register_store.specs.declared.store_fault.StoreFault.TheVariants.{NoMemory, Store}
+use Rattle.register_store.specs.declared.store_fault.StoreFault.TheVariants.{OtherSetup, Damaged}
+use Rattle.register_store.specs.declared.store_fault.StoreFault.TheVariants.{OtherVersion}
+use Rattle.register_store.specs.StoredRows.{Content, AreSame, MetaRow, HasRows, IsStoreOf}
+use Rattle.register_store.specs.StoredRows.{rows_of_meta}
+use Rattle.register_store.specs.Registers.{is_failure, is_new, bound_by, bound_to}
+use Rattle.register_store.specs.Registers.{has_other_version, IsOfStation}
 use Rattle.register_store.specs.Holdings.{Holding, Comes, IsPosted}
 use Rattle.register_store.proofs.HoldingLemmas.{has_more}
 use Rattle.register_store.proofs.OneList.{one_list}
 use Rattle.register_store.proofs.WholeLists.{never_wrong}
 use Rattle.station_core.specs.Runs.{Arrived}
-use Rattle.hub_core.proofs.StoreLemmas.{one_depth, entry_with, left_in, either_in, posted_book, stored_book}
+use Rattle.hub_core.proofs.StoreLemmas.{one_depth, entry_with, left_in, either_in, posted_book}
+use Rattle.hub_core.proofs.StoreLemmas.{stored_book}
 use Rattle.hub_core.specs.Points.{arrival_of, entry_of, post}
 use Rattle.hub_core.specs.Posting.{Posts, LeavesUnposted}
 use Rattle.hub_core.specs.StandsFor.{HasStore, HasSomeStore, HasEither}
-use Rattle.hub_core.specs.Openings.{IsFirstUnlawful, HasWrongRow, HasWrongEntry, HasOtherRows, IsOpenFault, OpensAgain, IsNotOpened}
+use Rattle.hub_core.specs.Openings.{IsFirstUnlawful, HasWrongRow, HasWrongEntry, HasOtherRows}
+use Rattle.hub_core.specs.Openings.{IsOpenFault, OpensAgain, IsNotOpened}
 
 -- the entries of a lawful list are of its stations
 of_stations : (S : Museum) (depth : ℕ) (P : List Entry) → IsLawful S depth P

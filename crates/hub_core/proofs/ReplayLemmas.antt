@@ -1,5 +1,7 @@
 -- A replay, line by line.
-use Rattle.std.proofs.Common.{◌≡◌, ℕ, ◌+◌, ◌-◌, ◌^◌, ◌≤◌, Bool, true, false, List, [], ◌∷◌, ◌++◌, length, take, Option, None, Some, Result, Ok, Err, refl, ap, ◌∙◌, sym, subst, arith, append_assoc, append-nil, true≢false, not}
+use Rattle.std.proofs.Common.{◌≡◌, ℕ, ◌+◌, ◌-◌, ◌^◌, ◌≤◌, Bool, true, false, List, [], ◌∷◌, ◌++◌}
+use Rattle.std.proofs.Common.{length, take, Option, None, Some, Result, Ok, Err, refl, ap, ◌∙◌, sym}
+use Rattle.std.proofs.Common.{subst, arith, append_assoc, append-nil, true≢false, not}
 use Rattle.std.specs.Prelude.{OnSome, IfSome, IfErr, min}
 use Rattle.std.specs.Result.{IsErrAnd}
 use Rattle.std.specs.Io.KnownBytes.{Appends, Consumes, Keeps, IsAtEnd}
@@ -11,7 +13,8 @@ use Rattle.hub_core.specs.declared.hub.answer.Arrival.{Arrival}
 use Rattle.hub_core.specs.declared.hub.answer.HubFault.{HubFault}
 use Rattle.hub_core.specs.declared.hub.answer.HubFault.TheVariants as hub_faults
 use Rattle.hub_core.specs.declared.replay_fault.ReplayFault.{ReplayFault}
-use Rattle.hub_core.specs.declared.replay_fault.ReplayFault.TheVariants.{NoMemory, Store, ReadFailed, WriteFailed}
+use Rattle.hub_core.specs.declared.replay_fault.ReplayFault.TheVariants.{NoMemory, Store}
+use Rattle.hub_core.specs.declared.replay_fault.ReplayFault.TheVariants.{ReadFailed, WriteFailed}
 use Rattle.hub_core.specs.declared.line.bytes.TheConstants.{MOST_KEPT}
 use Rattle.hub_core.specs.declared.line.reply.TheConstants.{LONGEST_LINE}
 use Rattle.hub_core.specs.Reading.{HasNoFeed, feed_if, TakesLine, TakesStart}
@@ -23,9 +26,11 @@ use Rattle.hub_core.specs.Outcomes.{outcomes, line_outcomes, reply_outcomes, Wat
 use Rattle.register_store.specs.Holdings.{Holding}
 use Rattle.hub_core.specs.StandsFor.{State, StandsFor, TakesSome}
 use Rattle.hub_core.specs.Faults.{replay_fault, CountsStore, CountsReplay}
-use Rattle.hub_core.specs.Replayed.{lines_read, Answered, CutShort, BrokenOff, AfterFault, EndsReplay}
+use Rattle.hub_core.specs.Replayed.{lines_read, Answered, CutShort, BrokenOff, AfterFault}
+use Rattle.hub_core.specs.Replayed.{EndsReplay}
 use Rattle.hub_core.proofs.LineLemmas.{IsWhole, whole_none, whole_more, ended_whole}
-use Rattle.hub_core.proofs.ReplyLemmas.{text_more, outcomes_more, arrivals_more, count_more, one_start, one_line, one_arrivals}
+use Rattle.hub_core.proofs.ReplyLemmas.{text_more, outcomes_more, arrivals_more, count_more}
+use Rattle.hub_core.proofs.ReplyLemmas.{one_start, one_line, one_arrivals}
 use Rattle.hub_core.proofs.KeptLemmas.{kept_reply, kept_outcomes, kept_arrivals}
 use Rattle.hub_core.proofs.FeedLemmas.{end_after}
 use Rattle.hub_core.proofs.StandLemmas.{takes_none}

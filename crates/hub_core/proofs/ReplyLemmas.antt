@@ -1,5 +1,7 @@
 -- The replies to lines.
-use Rattle.std.proofs.Common.{◌≡◌, ℕ, ◌+◌, ◌≤◌, Bool, true, false, List, [], ◌∷◌, ◌++◌, length, map, refl, ap, ◌∙◌, sym, subst, arith, append_assoc, append-nil, length-append}
+use Rattle.std.proofs.Common.{◌≡◌, ℕ, ◌+◌, ◌≤◌, Bool, true, false, List, [], ◌∷◌, ◌++◌, length, map}
+use Rattle.std.proofs.Common.{refl, ap, ◌∙◌, sym, subst, arith, append_assoc, append-nil}
+use Rattle.std.proofs.Common.{length-append}
 use Rattle.std.specs.Prelude.{flat_map}
 use Rattle.nest_core.specs.Museum.{Museum}
 use Rattle.posting_core.specs.declared.entry.Entry.{Entry}
@@ -9,7 +11,8 @@ use Rattle.hub_core.specs.Lines.{pieces, line_of, lines, without_return}
 use Rattle.hub_core.specs.LineText.{line_reply, line_arrivals, replies, text, arrivals}
 use Rattle.hub_core.specs.declared.outcome.Outcome.{Outcome}
 use Rattle.hub_core.specs.Outcomes.{line_outcomes, all_outcomes, outcomes}
-use Rattle.hub_core.proofs.LineLemmas.{IsWhole, whole_none, line_fed, line_last, pieces_fed, pieces_last}
+use Rattle.hub_core.proofs.LineLemmas.{IsWhole, whole_none, line_fed, line_last, pieces_fed}
+use Rattle.hub_core.proofs.LineLemmas.{pieces_last}
 
 zero_more : (k : ℕ) → k ≡ 0 + k
 zero_more k = omega arith

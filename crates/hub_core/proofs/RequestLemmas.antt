@@ -1,5 +1,6 @@
 -- The requests of lines.
-use Rattle.std.proofs.Common.{◌≡◌, ℕ, Bool, true, false, List, Some, None, option_and_then, is_some, Ok, Err, if◌then◌else◌, refl, ap}
+use Rattle.std.proofs.Common.{◌≡◌, ℕ, Bool, true, false, List, Some, None, option_and_then, is_some}
+use Rattle.std.proofs.Common.{Ok, Err, if◌then◌else◌, refl, ap}
 use Rattle.std.specs.Str.{is_utf8, IsUtf8}
 use Rattle.std.proofs.lemmas.Str.{IsUtf8-from_is_utf8}
 use Rattle.serde_json.specs.Data.{Data}
@@ -12,7 +13,8 @@ use Rattle.register_store.specs.Spelling.{key_name}
 use Rattle.register_store.specs.Kinds.{◌spells◌, fault_at}
 use Rattle.register_store.proofs.Fields.{text_fault}
 use Rattle.hub_core.specs.declared.line.request.Request.{Request}
-use Rattle.hub_core.specs.Requests.{request_of, object_of, request_read, request_in, line_of, line_read, line_in}
+use Rattle.hub_core.specs.Requests.{request_of, object_of, request_read, request_in, line_of}
+use Rattle.hub_core.specs.Requests.{line_read, line_in}
 
 -- UTF-8 that is JSON has the request of its value
 pub of_value : (S : Museum) (bytes : List ℕ) (d : Data) → is_utf8 bytes ≡ true → read bytes ≡ Some d

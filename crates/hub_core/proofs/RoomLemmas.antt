@@ -1,5 +1,7 @@
 -- How long replies are.
-use Rattle.std.proofs.Common.{◌≡◌, ℕ, suc, ◌+◌, ◌<◌, ◌≤◌, ◌^◌, true, true≢false, List, [], ◌∷◌, length, Some, Result, Ok, Err, refl, ap, sym, subst, arith, length-append}
+use Rattle.std.proofs.Common.{◌≡◌, ℕ, suc, ◌+◌, ◌<◌, ◌≤◌, ◌^◌, true, true≢false, List, [], ◌∷◌}
+use Rattle.std.proofs.Common.{length, Some, Result, Ok, Err, refl, ap, sym, subst, arith}
+use Rattle.std.proofs.Common.{length-append}
 use Rattle.std.proofs.lemmas.Bool.{and_parts}
 use Rattle.std.proofs.lemmas.Bool.Decides.{nat_tests}
 use Rattle.std.proofs.lemmas.Fmt.{length-decimal-le}
@@ -10,7 +12,8 @@ use Rattle.nest_core.specs.Museum.{Museum, station_name_of, thing_code_of}
 use Rattle.nest_core.specs.StationName.{is_station_name, is_station_byte}
 use Rattle.nest_core.proofs.Positions.{passes_at}
 use Rattle.station_core.specs.declared.Refusal.{Refusal}
-use Rattle.station_core.specs.declared.Refusal.TheVariants.{UnknownStation, BadNumber, Double, SignedOff, TooEarly}
+use Rattle.station_core.specs.declared.Refusal.TheVariants.{UnknownStation, BadNumber, Double}
+use Rattle.station_core.specs.declared.Refusal.TheVariants.{SignedOff, TooEarly}
 use Rattle.station_core.specs.Refusals.{refusal_name}
 use Rattle.hub_core.specs.declared.line.wording.TheConstants.{REPLY_ROOM}
 use Rattle.hub_core.specs.LineText.{chain_text, container_text}

@@ -1,5 +1,7 @@
 -- A run: the hub over nothing posted, and the lines after the head.
-use Rattle.std.proofs.Common.{◌≡◌, ◌≢◌, ◌≤◌, ◌∙◌, ℕ, if◌then◌else◌, false, inl, inr, ◌∷◌, true, true≢false, List, [], length, length-append, Option, None, Some, Result, Err, IfErr, IsErrAnd, refl, ap, sym, subst, arith}
+use Rattle.std.proofs.Common.{◌≡◌, ◌≢◌, ◌≤◌, ◌∙◌, ℕ, if◌then◌else◌, false, inl, inr, ◌∷◌, true}
+use Rattle.std.proofs.Common.{true≢false, List, [], length, length-append, Option, None, Some}
+use Rattle.std.proofs.Common.{Result, Err, IfErr, IsErrAnd, refl, ap, sym, subst, arith}
 use Rattle.std.specs.Prelude.{IfSome, nat_lt}
 use Rattle.std.specs.Option.{option_map}
 use Rattle.std.proofs.lemmas.Bool.Decides.{nat_tests}
@@ -7,7 +9,8 @@ use Rattle.nest_core.specs.SetupRows.{rows_of, museum_of, setup_fault}
 use Rattle.hub_core.specs.declared.stream.head.TheConstants.{LONGEST_HEAD}
 use Rattle.std.specs.Io.KnownBytes.{Appends, IsAtEnd}
 use Rattle.std.proofs.lemmas.List.{nil_from_length}
-use Rattle.std.proofs.lemmas.List.Sorted.{IsPermutation-refl, IsPermutation-sym, IsPermutation-trans, length_permutation}
+use Rattle.std.proofs.lemmas.List.Sorted.{IsPermutation-refl, IsPermutation-sym}
+use Rattle.std.proofs.lemmas.List.Sorted.{IsPermutation-trans, length_permutation}
 use Rattle.nest_core.specs.Museum.{Museum}
 use Rattle.posting_core.specs.declared.entry.Entry.{Entry}
 use Rattle.register_store.specs.declared.plain.TheConstants.{NEW_DEPTH}
@@ -23,13 +26,15 @@ use Rattle.hub_core.specs.declared.hub.answer.Arrival.{Arrival}
 use Rattle.hub_core.specs.declared.replay_fault.ReplayFault.{ReplayFault}
 use Rattle.hub_core.specs.declared.replay_fault.ReplayFault.TheVariants as replay
 use Rattle.hub_core.specs.declared.run_fault.RunFault.{RunFault}
-use Rattle.hub_core.specs.declared.run_fault.RunFault.TheVariants.{NoMemory, Store, ReadFailed, WriteFailed, Setup, HeadTooLong}
+use Rattle.hub_core.specs.declared.run_fault.RunFault.TheVariants.{NoMemory, Store, ReadFailed}
+use Rattle.hub_core.specs.declared.run_fault.RunFault.TheVariants.{WriteFailed, Setup, HeadTooLong}
 use Rattle.hub_core.specs.Faults.{CountsReplay}
 use Rattle.hub_core.specs.Lines.{head, after_head}
 use Rattle.hub_core.specs.StandsFor.{State, StandsFor}
 use Rattle.hub_core.specs.Openings.{IsOpenFault, CountsFault, Opened, IsNotOpened}
 use Rattle.hub_core.specs.Replayed.{Answered, AfterFault}
-use Rattle.hub_core.specs.WholeRun.{head_fault, setup_in, run_text, run_fault, IsFresh, TakesHead, OpensHub, InLines}
+use Rattle.hub_core.specs.WholeRun.{head_fault, setup_in, run_text, run_fault, IsFresh, TakesHead}
+use Rattle.hub_core.specs.WholeRun.{OpensHub, InLines}
 use Rattle.hub_core.proofs.StoreLemmas.{one_depth}
 use Rattle.hub_core.proofs.Written.{if_err}
 use Rattle.hub_core.proofs.ReplayLemmas.{whole_input}

@@ -1,5 +1,7 @@
 -- The arrivals that a hub stands for, after one more.
-use Rattle.std.proofs.Common.{◌≡◌, ℕ, ◌+◌, ◌-◌, ◌<◌, ◌==◌, true, false, List, [], ◌∷◌, ◌++◌, length, Option, Some, None, inl, inr, append-nil, refl, ap, ◌∙◌, sym, subst, arith}
+use Rattle.std.proofs.Common.{◌≡◌, ℕ, ◌+◌, ◌-◌, ◌<◌, ◌==◌, true, false, List, [], ◌∷◌, ◌++◌, length}
+use Rattle.std.proofs.Common.{Option, Some, None, inl, inr, append-nil, refl, ap, ◌∙◌, sym, subst}
+use Rattle.std.proofs.Common.{arith}
 use Rattle.std.proofs.lemmas.Bool.Decides.{nat_tests}
 use Rattle.std.specs.Prelude.{slice_set, map, reverse}
 use Rattle.std.proofs.lemmas.List.Sums.{fold_push}
@@ -14,11 +16,13 @@ use Rattle.station_core.specs.Series.{Series, series_at, with_held}
 use Rattle.station_core.specs.Runs.{Arrived, ready, refusal, due}
 use Rattle.station_core.specs.Progress.{IsPosting, AllMatch}
 use Rattle.station_core.specs.declared.Refusal.{Refusal}
-use Rattle.station_core.proofs.StationLemmas.{taken_refused, taken_accepted, series_at_set_same, accepted}
+use Rattle.station_core.proofs.StationLemmas.{taken_refused, taken_accepted, series_at_set_same}
+use Rattle.station_core.proofs.StationLemmas.{accepted}
 use Rattle.register_store.specs.Holdings.{Holding}
 use Rattle.hub_core.specs.declared.hub.answer.Arrival.{Arrival}
 use Rattle.hub_core.specs.declared.hub.answer.Answer.TheVariants.{Refused, Posted}
-use Rattle.hub_core.specs.Points.{seen, post, Point, point_with, point_after, point, reply, reply_from, due_with, arrival_of}
+use Rattle.hub_core.specs.Points.{seen, post, Point, point_with, point_after, point, reply}
+use Rattle.hub_core.specs.Points.{reply_from, due_with, arrival_of}
 use Rattle.hub_core.specs.StandsFor.{State, StandsFor, InStep, Done, HasStore, Stopped, TakesSome}
 
 abbrev pub refused_at : Museum → Point → Arrival → Option Refusal

@@ -1,5 +1,6 @@
 -- The rows of a register for a posted list, after one more posting.
-use Rattle.std.proofs.Common.{◌≡◌, ℕ, nat_abs, map, ◌+◌, if◌then◌else◌, List, [], ◌∷◌, ◌++◌, length, Result, Ok, ◌⊎◌, inl, inr, ap, ◌∙◌, sym, subst, arith}
+use Rattle.std.proofs.Common.{◌≡◌, ℕ, nat_abs, map, ◌+◌, if◌then◌else◌, List, [], ◌∷◌, ◌++◌, length}
+use Rattle.std.proofs.Common.{Result, Ok, ◌⊎◌, inl, inr, ap, ◌∙◌, sym, subst, arith}
 use Rattle.std.specs.Prelude.{reverse}
 use Rattle.std.specs.List.Sorted.{IsPermutation}
 use Rattle.std.proofs.lemmas.List.Sorted.{IsPermutation-cons, sum_by-IsPermutation}
@@ -13,7 +14,10 @@ use Rattle.posting_core.specs.Book.{Book, changes_of, new_lines}
 use Rattle.posting_core.specs.Lawful.{Follows, IsLawful}
 use Rattle.posting_core.specs.VerdictNames.{is_applied}
 use Rattle.station_core.specs.Runs.{Arrived}
-use Rattle.register_store.specs.StoredRows.{Content, MetaRow, PostingRow, AreSame, IsPostingRow, IsStoreOf, written, spot_row, line_row, is_same_line, rows_of_meta, rows_of_spots, rows_of_lines, put_each, with_posted}
+use Rattle.register_store.specs.StoredRows.{Content, MetaRow, PostingRow, AreSame, IsPostingRow}
+use Rattle.register_store.specs.StoredRows.{IsStoreOf, written, spot_row, line_row, is_same_line}
+use Rattle.register_store.specs.StoredRows.{rows_of_meta, rows_of_spots, rows_of_lines, put_each}
+use Rattle.register_store.specs.StoredRows.{with_posted}
 use Rattle.register_store.specs.Holdings.{Holding, Has, Comes, IsPosted}
 use Rattle.register_store.proofs.HoldingLemmas.{comes_has, has_more, same_store}
 use Rattle.register_store.proofs.LineRows.{next_line_rows}

@@ -1,5 +1,7 @@
 -- When a tally is clean.
-use Rattle.std.proofs.Common.{◌≡◌, ℕ, zero, suc, ◌+◌, ◌<◌, ◌==◌, ◌&&◌, ◌-◌, Bool, true, false, List, [], ◌∷◌, length, take, drop, refl, ap, ◌∙◌, sym, arith, lit<, length-set}
+use Rattle.std.proofs.Common.{◌≡◌, ℕ, zero, suc, ◌+◌, ◌<◌, ◌==◌, ◌&&◌, ◌-◌, Bool, true, false, List}
+use Rattle.std.proofs.Common.{[], ◌∷◌, length, take, drop, refl, ap, ◌∙◌, sym, arith, lit<}
+use Rattle.std.proofs.Common.{length-set}
 use Rattle.std.specs.Prelude.{fold, slice_index, slice_range, slice_set}
 use Rattle.std.specs.List.{list_all}
 use Rattle.std.proofs.lemmas.List.{length-replicate}
@@ -10,10 +12,12 @@ use Rattle.posting_core.specs.VerdictNames.{is_applied, verdict_number}
 use Rattle.station_core.specs.declared.Refusal.{Refusal}
 use Rattle.station_core.specs.declared.Refusal.TheVariants as refusals
 use Rattle.hub_core.specs.declared.outcome.Outcome.{Outcome}
-use Rattle.hub_core.specs.declared.outcome.Outcome.TheVariants.{Answered, Bad, UnknownStation, Refused, Held, Posted, Asked}
+use Rattle.hub_core.specs.declared.outcome.Outcome.TheVariants.{Answered, Bad, UnknownStation}
+use Rattle.hub_core.specs.declared.outcome.Outcome.TheVariants.{Refused, Held, Posted, Asked}
 use Rattle.hub_core.specs.declared.tally.Tally.{Tally}
 use Rattle.hub_core.specs.declared.tally.TheConstants.{REFUSALS, VERDICTS}
-use Rattle.hub_core.specs.Tallies.{refusal_place, one_more, nothing_seen, tallied, tally_of, is_clean, is_fine}
+use Rattle.hub_core.specs.Tallies.{refusal_place, one_more, nothing_seen, tallied, tally_of}
+use Rattle.hub_core.specs.Tallies.{is_clean, is_fine}
 
 -- a count that went up isn't 0
 more_than_0 : (n : ℕ) → (one_more n == 0) ≡ false

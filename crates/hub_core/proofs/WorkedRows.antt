@@ -1,9 +1,11 @@
 -- The definitions computed on worked rows.
 use Rattle.std.specs.Fmt.{digits}
-use Rattle.std.specs.Prelude.{ℕ, pos, ◌≡◌, true, false, [], ◌∷◌, None, Some, refl, codes, slice_index, Ok, Err}
+use Rattle.std.specs.Prelude.{ℕ, pos, ◌≡◌, true, false, [], ◌∷◌, None, Some, refl, codes}
+use Rattle.std.specs.Prelude.{slice_index, Ok, Err}
 use Rattle.serde_json.proofs.OnLiterals.{serde_json_on_literals}
 use Rattle.serde_json.specs.Read.{read}
-use Rattle.serde_json.specs.Data.{Data, Members, string, number, unsigned, array, object, no_items, no_members, put}
+use Rattle.serde_json.specs.Data.{Data, Members, string, number, unsigned, array, object, no_items}
+use Rattle.serde_json.specs.Data.{no_members, put}
 use Rattle.nest_core.specs.Museum.{Museum}
 use Rattle.posting_core.specs.declared.message.Message.TheVariants.{Move}
 use Rattle.posting_core.specs.declared.verdict.Verdict.TheVariants as verdict
@@ -25,7 +27,8 @@ use Rattle.hub_core.specs.Outcomes.{station_outcomes, request_outcomes}
 use Rattle.hub_core.specs.Tallies.{tally_of, is_clean}
 use Rattle.hub_core.specs.Requests.{line_of, object_of, request_read}
 use Rattle.hub_core.specs.Points.{reply, posted, whereabouts, cut}
-use Rattle.hub_core.specs.Replies.{refused_line, unknown_station_line, held_line, posted_line, bad_line, asked_line}
+use Rattle.hub_core.specs.Replies.{refused_line, unknown_station_line, held_line, posted_line}
+use Rattle.hub_core.specs.Replies.{bad_line, asked_line}
 
 abbrev museum : Museum
 museum = record {

@@ -1,5 +1,6 @@
 -- Defines appending bytes to a text.
-use Rattle.std.specs.Prelude.{ℕ, ◌≡◌, ◌+◌, ◌≤◌, ◌++◌, List, length, Result, String, string_bytes, string_len, string_capacity, IsOk, OnOk}
+use Rattle.std.specs.Prelude.{ℕ, ◌≡◌, ◌+◌, ◌≤◌, ◌++◌, List, length, Result, String, string_bytes}
+use Rattle.std.specs.Prelude.{string_len, string_capacity, IsOk, OnOk}
 use Rattle.std.specs.declared.alloc.Global.{Global}
 
 -- The bytes are appended. That can fail only if the text has no room for them. The room never

@@ -1,7 +1,8 @@
 -- Defines the text that is written for lines: the reply to each, after the arrivals before it. S is
 -- the setup, `depth` the depth limit, O the entries posted at the start, newest first, and A the
 -- arrivals so far.
-use Rattle.std.specs.Prelude.{ℕ, ◌+◌, ◌||◌, nat_lt, Bool, List, [], ◌∷◌, ◌++◌, length, flat_map, Option, Some, None, unwrap_or, Result, Ok, Err, codes, if◌then◌else◌}
+use Rattle.std.specs.Prelude.{ℕ, ◌+◌, ◌||◌, nat_lt, Bool, List, [], ◌∷◌, ◌++◌, length, flat_map}
+use Rattle.std.specs.Prelude.{Option, Some, None, unwrap_or, Result, Ok, Err, codes, if◌then◌else◌}
 use Rattle.std.specs.List.{concat}
 use Rattle.nest_core.specs.Museum.{Museum, station_name_of, place_code_of, thing_code_of}
 use Rattle.posting_core.specs.declared.entry.Entry.{Entry}
@@ -9,7 +10,8 @@ use Rattle.posting_core.specs.VerdictNames.{verdict_name}
 use Rattle.station_core.specs.Refusals.{refusal_name}
 use Rattle.register_store.specs.Spelling.{key_name}
 use Rattle.register_store.specs.declared.fault.ReadFault.{ReadFault}
-use Rattle.register_store.specs.declared.fault.ReadFault.TheVariants.{NotJson, Missing, BadKind, BadField, NoMemory}
+use Rattle.register_store.specs.declared.fault.ReadFault.TheVariants.{NotJson, Missing, BadKind}
+use Rattle.register_store.specs.declared.fault.ReadFault.TheVariants.{BadField, NoMemory}
 use Rattle.hub_core.specs.declared.hub.answer.Arrival.{Arrival}
 use Rattle.hub_core.specs.declared.hub.answer.Answer.{Answer}
 use Rattle.hub_core.specs.declared.hub.answer.Answer.TheVariants.{Refused, Held, Posted}
@@ -22,7 +24,8 @@ use Rattle.hub_core.specs.declared.line.reply.TheConstants.{LONGEST_LINE}
 use Rattle.hub_core.specs.Lines.{is_empty, lines}
 use Rattle.hub_core.specs.Requests.{line_in}
 use Rattle.hub_core.specs.Points.{posted, reply, whereabouts}
-use Rattle.hub_core.specs.Replies.{refused_line, unknown_station_line, held_line, posted_line, bad_line, asked_line}
+use Rattle.hub_core.specs.Replies.{refused_line, unknown_station_line, held_line, posted_line}
+use Rattle.hub_core.specs.Replies.{bad_line, asked_line}
 
 -- The name of a line's fault.
 abbrev pub fault_text : ReadFault → List ℕ

@@ -1,5 +1,6 @@
 -- Defines how bytes are cut into lines, and into the head of a run and the lines after it.
-use Rattle.std.specs.Prelude.{ℕ, ◌-◌, ◌==◌, nat_eq, Bool, true, false, List, [], ◌∷◌, length, take, map, if◌then◌else◌}
+use Rattle.std.specs.Prelude.{ℕ, ◌-◌, ◌==◌, nat_eq, Bool, true, false, List, [], ◌∷◌, length, take}
+use Rattle.std.specs.Prelude.{map, if◌then◌else◌}
 use Rattle.std.specs.List.{concat, ends_with, before_first, after_first}
 
 -- Adds a byte to the front of the first piece.

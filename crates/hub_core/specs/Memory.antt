@@ -1,5 +1,6 @@
 -- Defines which requests can fail once they are read and their reply has room.
-use Rattle.std.specs.Prelude.{ℕ, ◌≡◌, ◌+◌, ◌≤◌, Bool, true, false, List, Option, Some, None, Result, OnErr, String, string_len, string_capacity}
+use Rattle.std.specs.Prelude.{ℕ, ◌≡◌, ◌+◌, ◌≤◌, Bool, true, false, List, Option, Some, None, Result}
+use Rattle.std.specs.Prelude.{OnErr, String, string_len, string_capacity}
 use Rattle.std.specs.declared.alloc.Global.{Global}
 use Rattle.nest_core.specs.Museum.{Museum}
 use Rattle.posting_core.specs.declared.entry.Entry.{Entry}

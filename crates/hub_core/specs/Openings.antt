@@ -1,5 +1,6 @@
 -- Defines why a store can't be opened with a setup, and the arrivals that an opened hub stands for.
-use Rattle.std.specs.Prelude.{ℕ, ◌≡◌, ◌⊎◌, ◌+◌, ◌==◌, ◌&&◌, nat_le, not, All, Bool, true, false, List, [], ◌∷◌, ◌++◌, length, map, reverse, Option, Some, None, Err}
+use Rattle.std.specs.Prelude.{ℕ, ◌≡◌, ◌⊎◌, ◌+◌, ◌==◌, ◌&&◌, nat_le, not, All, Bool, true, false}
+use Rattle.std.specs.Prelude.{List, [], ◌∷◌, ◌++◌, length, map, reverse, Option, Some, None, Err}
 use Rattle.nest_core.specs.Museum.{Museum}
 use Rattle.posting_core.specs.declared.entry.Entry.{Entry}
 use Rattle.posting_core.specs.declared.message.Message.{Message}
@@ -11,12 +12,15 @@ use Rattle.station_core.specs.Progress.{AllMatch}
 use Rattle.station_core.specs.declared.Start.{Start}
 use Rattle.station_core.specs.declared.TheConstants.{LAST}
 use Rattle.register_store.specs.declared.store_fault.StoreFault.{StoreFault}
-use Rattle.register_store.specs.declared.store_fault.StoreFault.TheVariants.{NoMemory, Store, OtherSetup, Damaged, OtherVersion}
+use Rattle.register_store.specs.declared.store_fault.StoreFault.TheVariants.{NoMemory, Store}
+use Rattle.register_store.specs.declared.store_fault.StoreFault.TheVariants.{OtherSetup, Damaged}
+use Rattle.register_store.specs.declared.store_fault.StoreFault.TheVariants.{OtherVersion}
 use Rattle.register_store.specs.StoredRows.{Content, AreSame, IsBoundTo, HasList, HasRows}
 use Rattle.register_store.specs.Holdings.{Holding, Has, Comes, IsBound}
 use Rattle.hub_core.specs.Points.{arrival_of}
 use Rattle.hub_core.specs.StandsFor.{State, StandsFor, InStep, HasStore}
-use Rattle.register_store.specs.Registers.{CountsRefusal, is_failure, IsBindFault, IsOfStation, IsFirstWrong, bound_to}
+use Rattle.register_store.specs.Registers.{CountsRefusal, is_failure, IsBindFault, IsOfStation}
+use Rattle.register_store.specs.Registers.{IsFirstWrong, bound_to}
 
 -- Entry number `at` is the first that may not follow those before it.
 pub record IsFirstUnlawful (S : Museum) (depth : ℕ) (O : List Entry) (at : ℕ) : Type 0 where

@@ -1,6 +1,7 @@
 -- Defines the outcomes of lines, which a replay counts for `--progress` and `--strict`. Each line
 -- that has a reply is Answered first, and then has its own outcomes.
-use Rattle.std.specs.Prelude.{ℕ, ◌≡◌, ◌-◌, true, List, [], ◌∷◌, ◌++◌, drop, map, reverse, Option, Some, None, Result, Ok, Err, IfOk, if◌then◌else◌}
+use Rattle.std.specs.Prelude.{ℕ, ◌≡◌, ◌-◌, true, List, [], ◌∷◌, ◌++◌, drop, map, reverse, Option}
+use Rattle.std.specs.Prelude.{Some, None, Result, Ok, Err, IfOk, if◌then◌else◌}
 use Rattle.nest_core.specs.Museum.{Museum}
 use Rattle.posting_core.specs.declared.entry.Entry.{Entry}
 use Rattle.register_store.specs.declared.fault.ReadFault.{ReadFault}

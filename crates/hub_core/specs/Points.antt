@@ -1,6 +1,7 @@
 -- Defines where a list of arrivals leads from a list of posted entries: which messages are held,
 -- which are posted, and the replies. Entries are listed newest first, arrivals oldest first.
-use Rattle.std.specs.Prelude.{ℕ, ◌<◌, All, ◌+◌, ◌-◌, ◌==◌, if◌then◌else◌, Bool, true, false, List, [], ◌∷◌, ◌++◌, length, fold, map, reverse, Option, Some, None}
+use Rattle.std.specs.Prelude.{ℕ, ◌<◌, All, ◌+◌, ◌-◌, ◌==◌, if◌then◌else◌, Bool, true, false, List}
+use Rattle.std.specs.Prelude.{[], ◌∷◌, ◌++◌, length, fold, map, reverse, Option, Some, None}
 use Rattle.std.specs.Option.{option_map_or}
 use Rattle.nest_core.specs.Museum.{Museum, find_thing}
 use Rattle.posting_core.specs.declared.message.Message.{Message}

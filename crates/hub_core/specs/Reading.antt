@@ -1,6 +1,7 @@
 -- Defines how one read takes bytes of the input. `old` and `new` are the bytes left before and
 -- after it.
-use Rattle.std.specs.Prelude.{ℕ, ◌≡◌, ◌≢◌, ◌∷◌, ◌++◌, Bool, true, false, List, [], Option, OnSome, take}
+use Rattle.std.specs.Prelude.{ℕ, ◌≡◌, ◌≢◌, ◌∷◌, ◌++◌, Bool, true, false, List, [], Option, OnSome}
+use Rattle.std.specs.Prelude.{take}
 use Rattle.std.specs.Io.KnownBytes.{Consumes, IsAtEnd}
 use Rattle.hub_core.specs.declared.line.bytes.End.{End}
 use Rattle.hub_core.specs.declared.line.bytes.End.TheVariants.{Feed, Input, Open}

@@ -1,13 +1,15 @@
 -- Defines how a replay can end. `i` and `i'` are the bytes that the reader has left before and
 -- after, `o` and `o'` those that the writer holds.
-use Rattle.std.specs.Prelude.{ℕ, ◌≡◌, ◌≤◌, ◌++◌, Bool, true, false, List, Option, OnSome, Result, OnOk, IfErr, length, take}
+use Rattle.std.specs.Prelude.{ℕ, ◌≡◌, ◌≤◌, ◌++◌, Bool, true, false, List, Option, OnSome, Result}
+use Rattle.std.specs.Prelude.{OnOk, IfErr, length, take}
 use Rattle.std.specs.Io.KnownBytes.{Appends, Consumes, IsAtEnd}
 use Rattle.nest_core.specs.Museum.{Museum}
 use Rattle.posting_core.specs.declared.entry.Entry.{Entry}
 use Rattle.register_store.specs.Holdings.{Holding}
 use Rattle.hub_core.specs.declared.hub.answer.Arrival.{Arrival}
 use Rattle.hub_core.specs.declared.replay_fault.ReplayFault.{ReplayFault}
-use Rattle.hub_core.specs.declared.replay_fault.ReplayFault.TheVariants.{NoMemory, Store, ReadFailed, WriteFailed}
+use Rattle.hub_core.specs.declared.replay_fault.ReplayFault.TheVariants.{NoMemory, Store}
+use Rattle.hub_core.specs.declared.replay_fault.ReplayFault.TheVariants.{ReadFailed, WriteFailed}
 use Rattle.hub_core.specs.Faults.{CountsReplay}
 use Rattle.hub_core.specs.Lines.{lines, ended}
 use Rattle.hub_core.specs.LineText.{text, arrivals}

@@ -1,5 +1,6 @@
 -- Defines a hub and the arrivals that it stands for, which the contracts of its calls are about.
-use Rattle.std.specs.Prelude.{ℕ, ◌≡◌, ◌-◌, ◌<◌, ◌⊎◌, ◌++◌, ◌∷◌, Bool, true, false, List, length, fold, take}
+use Rattle.std.specs.Prelude.{ℕ, ◌≡◌, ◌-◌, ◌<◌, ◌⊎◌, ◌++◌, ◌∷◌, Bool, true, false, List, length}
+use Rattle.std.specs.Prelude.{fold, take}
 use Rattle.nest_core.specs.Museum.{Museum}
 use Rattle.posting_core.specs.declared.message.Message.{Message}
 use Rattle.posting_core.specs.declared.entry.Entry.{Entry}

@@ -1,11 +1,13 @@
 -- Defines the counts of outcomes that a replay keeps.
-use Rattle.std.specs.Prelude.{ℕ, ◌≡◌, ◌+◌, ◌-◌, ◌^◌, ◌==◌, ◌&&◌, min, Bool, true, false, List, fold, replicate, slice_index, slice_range, slice_set}
+use Rattle.std.specs.Prelude.{ℕ, ◌≡◌, ◌+◌, ◌-◌, ◌^◌, ◌==◌, ◌&&◌, min, Bool, true, false, List, fold}
+use Rattle.std.specs.Prelude.{replicate, slice_index, slice_range, slice_set}
 use Rattle.std.specs.List.{list_all}
 use Rattle.posting_core.specs.VerdictNames.{is_applied, verdict_number}
 use Rattle.station_core.specs.declared.Refusal.{Refusal}
 use Rattle.station_core.specs.declared.Refusal.TheVariants as refusal
 use Rattle.hub_core.specs.declared.outcome.Outcome.{Outcome}
-use Rattle.hub_core.specs.declared.outcome.Outcome.TheVariants.{Answered, Bad, UnknownStation, Refused, Held, Posted, Asked}
+use Rattle.hub_core.specs.declared.outcome.Outcome.TheVariants.{Answered, Bad, UnknownStation}
+use Rattle.hub_core.specs.declared.outcome.Outcome.TheVariants.{Refused, Held, Posted, Asked}
 use Rattle.hub_core.specs.declared.tally.Tally.{Tally}
 use Rattle.hub_core.specs.declared.tally.TheConstants.{REFUSALS, VERDICTS}
 

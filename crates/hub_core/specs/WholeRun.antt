@@ -1,7 +1,8 @@
 -- Defines a run: a head with the setup, an empty line, and the lines to replay over a register in
 -- memory. `i` and `i'` are the bytes that the reader has left before and after, `o` and `o'` those
 -- that the writer holds.
-use Rattle.std.specs.Prelude.{ℕ, ◌≡◌, ◌≤◌, ◌<◌, ◌⊎◌, nat_lt, Bool, false, List, [], length, Option, Some, None, IfSome, if◌then◌else◌}
+use Rattle.std.specs.Prelude.{ℕ, ◌≡◌, ◌≤◌, ◌<◌, ◌⊎◌, nat_lt, Bool, false, List, [], length, Option}
+use Rattle.std.specs.Prelude.{Some, None, IfSome, if◌then◌else◌}
 use Rattle.std.specs.Option.{option_map}
 use Rattle.std.specs.List.{list_any}
 use Rattle.std.specs.Io.KnownBytes.{Consumes, Keeps}
@@ -15,7 +16,8 @@ use Rattle.hub_core.specs.declared.replay_fault.ReplayFault.{ReplayFault}
 use Rattle.hub_core.specs.declared.replay_fault.ReplayFault.TheVariants as replay
 use Rattle.hub_core.specs.declared.stream.head.TheConstants.{LONGEST_HEAD}
 use Rattle.hub_core.specs.declared.run_fault.RunFault.{RunFault}
-use Rattle.hub_core.specs.declared.run_fault.RunFault.TheVariants.{NoMemory, Store, ReadFailed, WriteFailed, Setup, HeadTooLong}
+use Rattle.hub_core.specs.declared.run_fault.RunFault.TheVariants.{NoMemory, Store, ReadFailed}
+use Rattle.hub_core.specs.declared.run_fault.RunFault.TheVariants.{WriteFailed, Setup, HeadTooLong}
 use Rattle.hub_core.specs.Reading.{HasNoFeed}
 use Rattle.hub_core.specs.Lines.{pieces, ended, is_blank, head, after_head}
 use Rattle.hub_core.specs.LineText.{text}

@@ -1,5 +1,6 @@
 //! The hub, and its calls.
-ghost use Rattle.std.specs.Prelude.{◌≡◌, ◌≢◌, ◌+◌, ◌<◌, ◌↔◌, None, List, [], ◌∷◌, ◌++◌, ℕ, length, reverse, true, false, IfOk, OnOk, OnErr, IsErrOf, IfErr};
+ghost use Rattle.std.specs.Prelude.{◌≡◌, ◌≢◌, ◌+◌, ◌<◌, ◌↔◌, None, List, [], ◌∷◌, ◌++◌, ℕ, length};
+ghost use Rattle.std.specs.Prelude.{reverse, true, false, IfOk, OnOk, OnErr, IsErrOf, IfErr};
 ghost use Rattle.posting_core.specs.declared.entry.Entry.{Entry};
 ghost use Rattle.hub_core.specs.declared.hub.answer.Arrival.{Arrival};
 ghost use Rattle.posting_core.specs.Messages.{is_sign_off};
@@ -10,7 +11,8 @@ ghost use Rattle.station_core.specs.declared.Refusal.{Refusal};
 ghost use Rattle.register_store.specs.Holdings.{Comes};
 ghost use Rattle.hub_core.specs.Openings.{CountsFault, Opened, IsNotOpened, OpensAgain};
 ghost use Rattle.hub_core.specs.Faults.{CountsStore};
-ghost use Rattle.hub_core.specs.Points.{point, reply, reply_from, due_with, whereabouts, is_enclosed, cut, IsPlaced};
+ghost use Rattle.hub_core.specs.Points.{point, reply, reply_from, due_with, whereabouts};
+ghost use Rattle.hub_core.specs.Points.{is_enclosed, cut, IsPlaced};
 
 pub(crate) mod answer;
 mod opening;

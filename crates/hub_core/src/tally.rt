@@ -2,7 +2,8 @@
 ghost use Rattle.std.specs.Prelude.{◌≡◌, ◌<◌, ◌==◌, List, slice_index};
 ghost use Rattle.std.specs.List.{list_all};
 ghost use Rattle.posting_core.specs.VerdictNames.{verdict_number};
-ghost use Rattle.hub_core.specs.Tallies.{refusal_place, nothing_seen, tallied, HasTallied, is_clean, is_fine};
+ghost use Rattle.hub_core.specs.Tallies.{refusal_place, nothing_seen, tallied, HasTallied};
+ghost use Rattle.hub_core.specs.Tallies.{is_clean, is_fine};
 ghost use Rattle.hub_core.specs.declared.outcome.Outcome.{Outcome};
 
 use crate::{Outcome, Watch};

@@ -1,12 +1,16 @@
 -- The item that a row lists, and the fault of a row, from the values read.
-use Rattle.std.specs.Prelude.{◌≡◌, ℕ, ◌==◌, ◌&&◌, Bool, true, false, not, cond, List, [], ◌∷◌, Option, Some, None, refl}
+use Rattle.std.specs.Prelude.{◌≡◌, ℕ, ◌==◌, ◌&&◌, Bool, true, false, not, cond, List, [], ◌∷◌}
+use Rattle.std.specs.Prelude.{Option, Some, None, refl}
 use Rattle.std.proofs.lemmas.Bool.Decides.{nat_tests}
 use Rattle.std.proofs.Common.{arith, ap, sym, ◌∙◌}
 use Rattle.codes_core.specs.Thing.{thing_kind}
 use Rattle.codes_core.specs.declared.thing.ThingKind.{ThingKind}
 use Rattle.codes_core.specs.declared.thing.ThingKind.TheVariants.{Own, Borrowed, Container}
 use Rattle.nest_core.specs.Museum.{Museum}
-use Rattle.nest_core.specs.SetupRows.{Fields, field, field_count, fields_of_kind, has_word, has_codes, has_normal, is_of_kind, is_place_code, is_right, is_thing_code, listed, listing_fault, kind_fault, row_fault, row_kind, with_kind, with_listed, with_row}
+use Rattle.nest_core.specs.SetupRows.{Fields, field, field_count, fields_of_kind, has_word}
+use Rattle.nest_core.specs.SetupRows.{has_codes, has_normal, is_of_kind, is_place_code, is_right}
+use Rattle.nest_core.specs.SetupRows.{is_thing_code, listed, listing_fault, kind_fault, row_fault}
+use Rattle.nest_core.specs.SetupRows.{row_kind, with_kind, with_listed, with_row}
 use Rattle.nest_core.specs.InOrder.{◌if◌, first_or}
 use Rattle.nest_core.specs.declared.setup_fault.SetupFault.{SetupFault}
 use Rattle.nest_core.specs.declared.setup_fault.SetupFault.TheVariants.{BadFields, BadCode}

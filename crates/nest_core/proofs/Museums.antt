@@ -1,5 +1,6 @@
 -- Facts about a museum.
-use Rattle.std.specs.Prelude.{◌≡◌, ℕ, ◌<◌, ◌≤◌, Bool, true, false, nat_le, nat_lt, List, [], ◌∷◌, ◌++◌, length, map, Option, Some, None, IfSome, is_none, is_some, refl}
+use Rattle.std.specs.Prelude.{◌≡◌, ℕ, ◌<◌, ◌≤◌, Bool, true, false, nat_le, nat_lt, List, [], ◌∷◌}
+use Rattle.std.specs.Prelude.{◌++◌, length, map, Option, Some, None, IfSome, is_none, is_some, refl}
 use Rattle.std.specs.List.{slice_get}
 use Rattle.std.specs.Option.{option_map_or, option_and_then}
 use Rattle.std.specs.Str.{bytes_eq}
@@ -13,12 +14,16 @@ use Rattle.codes_core.specs.Thing.{thing_fault, thing_kind}
 use Rattle.codes_core.specs.declared.thing.ThingKind.{ThingKind}
 use Rattle.codes_core.specs.declared.thing.ThingKind.TheVariants.{Own, Borrowed, Container}
 use Rattle.nest_core.specs.declared.TheConstants.{MOST_STATIONS, MOST_PLACES, MOST_THINGS}
-use Rattle.nest_core.specs.Museum.{Museum, IsMuseum, find_station, find_place, find_thing, place_codes, thing_codes, has_right_normal, is_place_row, is_thing_row}
-use Rattle.nest_core.specs.SetupRows.{has_normal, is_right, lacks_normal, listing_fault, with_listed}
+use Rattle.nest_core.specs.Museum.{Museum, IsMuseum, find_station, find_place, find_thing}
+use Rattle.nest_core.specs.Museum.{place_codes, thing_codes, has_right_normal, is_place_row}
+use Rattle.nest_core.specs.Museum.{is_thing_row}
+use Rattle.nest_core.specs.SetupRows.{has_normal, is_right, lacks_normal, listing_fault}
+use Rattle.nest_core.specs.SetupRows.{with_listed}
 use Rattle.nest_core.specs.declared.setup_fault.SetupFault.TheVariants.{TooMany, UnknownNormal}
 use Rattle.nest_core.specs.StationName.{is_station_name}
 use Rattle.nest_core.specs.declared.setup_row.SetupRow.TheVariants as lists
-use Rattle.nest_core.proofs.Positions.{passes_at, all_push, all_more, EachFound, EachFound-push, test_true}
+use Rattle.nest_core.proofs.Positions.{passes_at, all_push, all_more, EachFound, EachFound-push}
+use Rattle.nest_core.proofs.Positions.{test_true}
 
 below : (p n : ℕ) → nat_lt p n ≡ true → p < n
 below p n h = grind (arith, nat_tests)

@@ -1,5 +1,6 @@
 -- The definitions computed on worked rows: setup files read row by row, and puts.
-use Rattle.std.specs.Prelude.{◌≡◌, ◌≤◌, ◌+◌, ◌*◌, List, ℕ, [], ◌∷◌, length, map, true, false, None, Some, codes, refl}
+use Rattle.std.specs.Prelude.{◌≡◌, ◌≤◌, ◌+◌, ◌*◌, List, ℕ, [], ◌∷◌, length, map, true, false, None}
+use Rattle.std.specs.Prelude.{Some, codes, refl}
 use Rattle.std.proofs.Common.{arith}
 use Rattle.csv.specs.Machine.{next_record}
 use Rattle.csv.specs.Reading.{records_from, strip_bom}
@@ -13,7 +14,9 @@ use Rattle.nest_core.specs.declared.put.Target.TheVariants.{At, Within}
 use Rattle.nest_core.specs.declared.nest.PackBar.TheVariants.{Cycle, TooDeep}
 use Rattle.nest_core.specs.Puts.{last, chain, place, carried, contents, holds_things}
 use Rattle.nest_core.specs.Nest.{pack_bar, moved_by, leaves}
-use Rattle.nest_core.specs.declared.setup_fault.SetupFault.TheVariants.{BadCode, BadFields, BadKind, NoStation, Repeated, UnknownNormal}
+use Rattle.nest_core.specs.declared.setup_fault.SetupFault.TheVariants.{BadCode, BadFields, BadKind}
+use Rattle.nest_core.specs.declared.setup_fault.SetupFault.TheVariants.{NoStation, Repeated}
+use Rattle.nest_core.specs.declared.setup_fault.SetupFault.TheVariants.{UnknownNormal}
 
 abbrev file : List ℕ
 file = codes

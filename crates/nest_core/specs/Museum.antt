@@ -1,6 +1,7 @@
 -- Defines a setup: the stations, places and things of a museum, each with its position in its list,
 -- from 0, as its number.
-use Rattle.std.specs.Prelude.{ℕ, ◌≡◌, ◌+◌, ◌≤◌, ◌&&◌, Bool, true, false, not, nat_lt, List, [], length, map, Option, Some, None, is_none, option_map, slice_get}
+use Rattle.std.specs.Prelude.{ℕ, ◌≡◌, ◌+◌, ◌≤◌, ◌&&◌, Bool, true, false, not, nat_lt, List, []}
+use Rattle.std.specs.Prelude.{length, map, Option, Some, None, is_none, option_map, slice_get}
 use Rattle.std.specs.List.{position, list_all}
 use Rattle.std.specs.Option.{option_map_or, option_and_then}
 use Rattle.std.specs.Str.{bytes_eq}

@@ -1,7 +1,8 @@
 -- Defines the states of a `csv` reader that a setup is read with.
 use Rattle.std.specs.Borrow.{Bor}
 use Rattle.std.specs.Prelude.{◌≡◌, List, ℕ, true, Some}
-use Rattle.csv.specs.Reading.{Ready, default_config, is_flexible, reader_config, reader_state, reader_trim, source_of, strip_bom}
+use Rattle.csv.specs.Reading.{Ready, default_config, is_flexible, reader_config, reader_state}
+use Rattle.csv.specs.Reading.{reader_trim, source_of, strip_bom}
 use Rattle.csv.specs.declared.parser.State.TheVariants as st
 use Rattle.csv.specs.declared.reader.Reader.{Reader}
 use Rattle.csv.specs.declared.reader.Trim.TheVariants as trim

@@ -1,7 +1,10 @@
 -- Defines how the fault of a setup is printed: its row and its name.
 use Rattle.std.specs.Prelude.{ℕ, List, Option, Some, None, codes}
 use Rattle.nest_core.specs.declared.setup_fault.SetupFault.{SetupFault}
-use Rattle.nest_core.specs.declared.setup_fault.SetupFault.TheVariants.{NotCsv, BadKind, BadFields, BadCode, Repeated, UnknownNormal, TooMany, NoStation, NoMemory}
+use Rattle.nest_core.specs.declared.setup_fault.SetupFault.TheVariants.{NotCsv, BadKind, BadFields}
+use Rattle.nest_core.specs.declared.setup_fault.SetupFault.TheVariants.{BadCode, Repeated}
+use Rattle.nest_core.specs.declared.setup_fault.SetupFault.TheVariants.{UnknownNormal, TooMany}
+use Rattle.nest_core.specs.declared.setup_fault.SetupFault.TheVariants.{NoStation, NoMemory}
 
 -- The row that has the fault. None for a fault of the whole file.
 abbrev pub row_of : SetupFault → Option ℕ

@@ -1,6 +1,8 @@
 -- Defines how the rows of a setup file are read, and the first fault of a setup. Rows are counted
 -- from 1.
-use Rattle.std.specs.Prelude.{ℕ, ◌+◌, ◌≡◌, ◌≢◌, ◌==◌, ◌&&◌, ◌||◌, Bool, true, false, not, nat_le, List, [], ◌∷◌, ◌++◌, length, fold, Option, Some, None, is_some, is_none, unwrap_or, slice_get, codes, if◌then◌else◌}
+use Rattle.std.specs.Prelude.{ℕ, ◌+◌, ◌≡◌, ◌≢◌, ◌==◌, ◌&&◌, ◌||◌, Bool, true, false, not, nat_le}
+use Rattle.std.specs.Prelude.{List, [], ◌∷◌, ◌++◌, length, fold, Option, Some, None, is_some}
+use Rattle.std.specs.Prelude.{is_none, unwrap_or, slice_get, codes, if◌then◌else◌}
 use Rattle.std.specs.Option.{option_map_or, option_and_then, option_or}
 use Rattle.std.specs.Str.{bytes_eq, is_utf8}
 use Rattle.csv.specs.Reading.{records, default_config, strip_bom}
@@ -9,11 +11,15 @@ use Rattle.codes_core.specs.Place.{place_fault}
 use Rattle.codes_core.specs.declared.thing.ThingKind.{ThingKind}
 use Rattle.codes_core.specs.declared.thing.ThingKind.TheVariants.{Own, Borrowed, Container}
 use Rattle.nest_core.specs.declared.TheConstants.{MOST_STATIONS, MOST_PLACES, MOST_THINGS}
-use Rattle.nest_core.specs.Museum.{Museum, no_museum, find_station, find_place, find_thing, is_own_kind, is_borrowed_kind, is_container_kind}
+use Rattle.nest_core.specs.Museum.{Museum, no_museum, find_station, find_place, find_thing}
+use Rattle.nest_core.specs.Museum.{is_own_kind, is_borrowed_kind, is_container_kind}
 use Rattle.nest_core.specs.StationName.{is_station_name}
 use Rattle.nest_core.specs.InOrder.{◌if◌, first_or}
 use Rattle.nest_core.specs.declared.setup_fault.SetupFault.{SetupFault}
-use Rattle.nest_core.specs.declared.setup_fault.SetupFault.TheVariants.{NotCsv, BadKind, BadFields, BadCode, Repeated, UnknownNormal, TooMany, NoStation}
+use Rattle.nest_core.specs.declared.setup_fault.SetupFault.TheVariants.{NotCsv, BadKind, BadFields}
+use Rattle.nest_core.specs.declared.setup_fault.SetupFault.TheVariants.{BadCode, Repeated}
+use Rattle.nest_core.specs.declared.setup_fault.SetupFault.TheVariants.{UnknownNormal, TooMany}
+use Rattle.nest_core.specs.declared.setup_fault.SetupFault.TheVariants.{NoStation}
 use Rattle.nest_core.specs.declared.setup_row.RowKind.{RowKind}
 use Rattle.nest_core.specs.declared.setup_row.RowKind.TheVariants as kind
 use Rattle.nest_core.specs.declared.setup_row.SetupRow.{SetupRow}

@@ -1,6 +1,7 @@
 -- Defines the text rows of a setup, from which it can be read again: stations, then places, then
 -- things, each in the order of their numbers.
-use Rattle.std.specs.Prelude.{ℕ, Bool, List, [], ◌∷◌, ◌++◌, map, Option, Some, None, unwrap_or, codes, if◌then◌else◌}
+use Rattle.std.specs.Prelude.{ℕ, Bool, List, [], ◌∷◌, ◌++◌, map, Option, Some, None, unwrap_or}
+use Rattle.std.specs.Prelude.{codes, if◌then◌else◌}
 use Rattle.std.specs.List.{join_with_byte}
 use Rattle.codes_core.specs.Thing.{thing_kind}
 use Rattle.codes_core.specs.declared.thing.ThingKind.{ThingKind}

@@ -1,7 +1,10 @@
 //! The setup: the museum's lists, and the lookups in them.
-ghost use Rattle.std.specs.Prelude.{◌≡◌, ◌≢◌, ◌<◌, ◌≤◌, ◌+◌, true, length, None, Some, IfSome, OnOk, OnErr, IfErr};
+ghost use Rattle.std.specs.Prelude.{◌≡◌, ◌≢◌, ◌<◌, ◌≤◌, ◌+◌, true, length, None, Some, IfSome};
+ghost use Rattle.std.specs.Prelude.{OnOk, OnErr, IfErr};
 ghost use Rattle.std.specs.Option.{option_and_then};
-ghost use Rattle.nest_core.specs.Museum.{IsMuseum, find_station, find_place, find_thing, station_name_of, place_code_of, thing_code_of, is_inside, kind_of, normal_of, row_count, no_museum};
+ghost use Rattle.nest_core.specs.Museum.{IsMuseum, find_station, find_place, find_thing};
+ghost use Rattle.nest_core.specs.Museum.{station_name_of, place_code_of, thing_code_of, is_inside};
+ghost use Rattle.nest_core.specs.Museum.{kind_of, normal_of, row_count, no_museum};
 ghost use Rattle.nest_core.specs.SetupRows.{is_place_code, is_right, listing_fault, with_listed};
 ghost use Rattle.nest_core.specs.StationName.{is_station_name};
 

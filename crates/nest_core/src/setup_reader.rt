@@ -1,10 +1,12 @@
 //! Reads a setup file.
-ghost use Rattle.std.specs.Prelude.{◌≡◌, ◌≢◌, ◌⊎◌, [], true, false, None, Some, OnOk, IfErr, MatchResult};
+ghost use Rattle.std.specs.Prelude.{◌≡◌, ◌≢◌, ◌⊎◌, [], true, false, None, Some, OnOk, IfErr};
+ghost use Rattle.std.specs.Prelude.{MatchResult};
 ghost use Rattle.std.specs.Str.{is_utf8};
 ghost use Rattle.csv.specs.Reading.{has_failed};
 ghost use Rattle.csv.specs.Records.{fields_of};
 ghost use Rattle.nest_core.specs.Museum.{no_museum};
-ghost use Rattle.nest_core.specs.SetupRows.{CanBeListed, first_fault, museum_of, row_fault, rows_of, setup_fault, with_row};
+ghost use Rattle.nest_core.specs.SetupRows.{CanBeListed, first_fault, museum_of, row_fault};
+ghost use Rattle.nest_core.specs.SetupRows.{rows_of, setup_fault, with_row};
 ghost use Rattle.nest_core.specs.RowReading.{ReadsRows};
 
 use crate::setup::Setup;

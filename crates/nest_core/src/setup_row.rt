@@ -1,8 +1,12 @@
 //! One row of a setup file: its fields, and the item that it lists.
-ghost use Rattle.std.specs.Prelude.{◌≡◌, ◌≢◌, ◌==◌, is_none, true, None, Some, IfOk, IfErr, MatchOption, if◌then◌else◌};
+ghost use Rattle.std.specs.Prelude.{◌≡◌, ◌≢◌, ◌==◌, is_none, true, None, Some, IfOk, IfErr};
+ghost use Rattle.std.specs.Prelude.{MatchOption, if◌then◌else◌};
 ghost use Rattle.csv.specs.Records.{fields_of};
 ghost use Rattle.nest_core.specs.Museum.{Museum};
-ghost use Rattle.nest_core.specs.SetupRows.{field, field_count, fields_of_kind, has_word, has_codes, is_thing_code, is_place_code, is_right, listed, listing_fault, row_fault, row_kind, with_listed, with_row};
+ghost use Rattle.nest_core.specs.SetupRows.{field, field_count, fields_of_kind, has_word};
+ghost use Rattle.nest_core.specs.SetupRows.{has_codes, is_thing_code, is_place_code, is_right};
+ghost use Rattle.nest_core.specs.SetupRows.{listed, listing_fault, row_fault, row_kind};
+ghost use Rattle.nest_core.specs.SetupRows.{with_listed, with_row};
 
 use crate::setup_fault::SetupFault;
 use crate::station_name::StationName;

@@ -1,7 +1,9 @@
 //! Writes the rows that list a setup.
-ghost use Rattle.std.specs.Prelude.{◌≡◌, ◌-◌, ◌<◌, ◌≤◌, length, map, Some, IfOk, slice_get, string_bytes};
+ghost use Rattle.std.specs.Prelude.{◌≡◌, ◌-◌, ◌<◌, ◌≤◌, length, map, Some, IfOk, slice_get};
+ghost use Rattle.std.specs.Prelude.{string_bytes};
 ghost use Rattle.nest_core.specs.Museum.{row_count};
-ghost use Rattle.nest_core.specs.SetupTexts.{joined, kind_word, place_fields, setup_rows, station_fields, thing_fields};
+ghost use Rattle.nest_core.specs.SetupTexts.{joined, kind_word, place_fields, setup_rows};
+ghost use Rattle.nest_core.specs.SetupTexts.{station_fields, thing_fields};
 
 use crate::setup::{PlaceNo, Setup, StationNo, ThingNo};
 use codes_core::{NoMemory, ThingKind};

@@ -1,5 +1,6 @@
 -- The effect of an applied entry on an object: where it is afterwards, and its stages.
-use Rattle.std.specs.Prelude.{ℕ, ◌≡◌, ◌≢◌, ◌<◌, ◌==◌, ◌&&◌, ◌||◌, Bool, true, false, not, if◌then◌else◌, List, ◌∷◌, length, Option, None, Some, refl}
+use Rattle.std.specs.Prelude.{ℕ, ◌≡◌, ◌≢◌, ◌<◌, ◌==◌, ◌&&◌, ◌||◌, Bool, true, false, not}
+use Rattle.std.specs.Prelude.{if◌then◌else◌, List, ◌∷◌, length, Option, None, Some, refl}
 use Rattle.std.specs.List.{find, range_with_len}
 use Rattle.std.specs.Option.{option_map_or, option_or, option_to_list, option_and_then}
 use Rattle.std.specs.Str.{bytes_eq}
@@ -14,13 +15,15 @@ use Rattle.nest_core.specs.Puts.{last, with_put, chain, place, is_among, is_carr
 use Rattle.posting_core.specs.declared.verdict.Verdict.TheVariants.{Applied}
 use Rattle.posting_core.specs.declared.entry.Entry.{Entry}
 use Rattle.posting_core.specs.declared.stage.LineStage.{LineStage}
-use Rattle.posting_core.specs.declared.stage.LineStage.TheVariants.{Awaiting, Away, Back, Here, GivenBack}
+use Rattle.posting_core.specs.declared.stage.LineStage.TheVariants.{Awaiting, Away, Back, Here}
+use Rattle.posting_core.specs.declared.stage.LineStage.TheVariants.{GivenBack}
 use Rattle.posting_core.specs.Messages.{thing_no}
 use Rattle.posting_core.specs.VerdictNames.{is_applied}
 use Rattle.posting_core.specs.Agreements.{Agreement, agreement, agreements, agreement_by}
 use Rattle.posting_core.specs.History.{puts, put_in, place_at, carried_at}
 use Rattle.posting_core.specs.Loans.{Crossing, crossing_in, objects_in, stage_by, stage, objects}
-use Rattle.posting_core.specs.Verdicts.{verdict, stage_eq, is_at_stage, carries_unlisted, carries_wrong_stage}
+use Rattle.posting_core.specs.Verdicts.{verdict, stage_eq, is_at_stage, carries_unlisted}
+use Rattle.posting_core.specs.Verdicts.{carries_wrong_stage}
 use Rattle.posting_core.specs.Lawful.{Follows, IsLawful}
 use Rattle.posting_core.specs.Book.{Book, place_after}
 use Rattle.posting_core.specs.Rows.{place_to}
@@ -61,10 +64,12 @@ by_verdict {X} {S} {P} {e} o follows lawful applied refused =
         stays = record {
           place = ap (λ b. place (length S.things)
               (with_put (if b then put_in S P e.message else None) (puts S P)) o) h;
-          target = ap (λ b. last (with_put (if b then put_in S P e.message else None) (puts S P)) o) h;
+          target =
+              ap (λ b. last (with_put (if b then put_in S P e.message else None) (puts S P)) o) h;
         };
         stages =
-            λ loan. ap (λ b. option_map_or (λ s. s) (if b then stage_by S P e.message loan o else None)
+            λ loan.
+            ap (λ b. option_map_or (λ s. s) (if b then stage_by S P e.message loan o else None)
             (stage S P loan o)) h;
       })
     ] refl

@@ -1,6 +1,7 @@
 -- The agreements of a lawful list: each loan once, of known objects, with a known partner; and
 -- entries that change nothing of a loan.
-use Rattle.std.specs.Prelude.{ℕ, ℤ, ◌≡◌, Bool, true, false, not, cond, List, [], ◌∷◌, ◌++◌, Option, None, Some, refl, is_some, if◌then◌else◌}
+use Rattle.std.specs.Prelude.{ℕ, ℤ, ◌≡◌, Bool, true, false, not, cond, List, [], ◌∷◌, ◌++◌, Option}
+use Rattle.std.specs.Prelude.{None, Some, refl, is_some, if◌then◌else◌}
 use Rattle.std.specs.List.{find, list_any, AllByRecursion}
 use Rattle.std.specs.Option.{option_or, option_to_list}
 use Rattle.std.specs.Str.{bytes_eq}
@@ -13,15 +14,21 @@ use Rattle.std.proofs.lemmas.Option.{none-some, same_Some}
 use Rattle.std.proofs.lemmas.Slice.Eq.{bytes_eq-Decides}
 use Rattle.nest_core.specs.Museum.{Museum, is_inside}
 use Rattle.posting_core.specs.declared.message.Message.{Message}
-use Rattle.posting_core.specs.declared.message.Message.TheVariants.{Move, Pack, Agree, Authorise, Exit, Return, Receive, SignOff, Extend}
+use Rattle.posting_core.specs.declared.message.Message.TheVariants.{Move, Pack, Agree, Authorise}
+use Rattle.posting_core.specs.declared.message.Message.TheVariants.{Exit, Return, Receive, SignOff}
+use Rattle.posting_core.specs.declared.message.Message.TheVariants.{Extend}
 use Rattle.posting_core.specs.declared.verdict.Verdict.TheVariants.{Applied}
 use Rattle.posting_core.specs.declared.entry.Entry.{Entry}
 use Rattle.posting_core.specs.declared.stage.LineStage.TheVariants.{Awaiting}
 use Rattle.posting_core.specs.VerdictNames.{is_applied}
 use Rattle.posting_core.specs.Messages.{place_no}
-use Rattle.posting_core.specs.Agreements.{Agreement, agreement_in, agreement_by, agreements, agreement, is_agreed, authorises, is_authorised, extension_in, last_from}
+use Rattle.posting_core.specs.Agreements.{Agreement, agreement_in, agreement_by, agreements}
+use Rattle.posting_core.specs.Agreements.{agreement, is_agreed, authorises, is_authorised}
+use Rattle.posting_core.specs.Agreements.{extension_in, last_from}
 use Rattle.posting_core.specs.Loans.{stage_by, stage}
-use Rattle.posting_core.specs.Verdicts.{verdict, is_known, is_known_place, is_container_code, is_of_wrong_owner, repeats, agree_rows, authorise_rows, exit_rows, return_rows, receive_rows, extend_rows}
+use Rattle.posting_core.specs.Verdicts.{verdict, is_known, is_known_place, is_container_code}
+use Rattle.posting_core.specs.Verdicts.{is_of_wrong_owner, repeats, agree_rows, authorise_rows}
+use Rattle.posting_core.specs.Verdicts.{exit_rows, return_rows, receive_rows, extend_rows}
 use Rattle.posting_core.specs.Lawful.{IsLawful}
 use Rattle.posting_core.proofs.AppliedRows.{none_holds, applied_is}
 

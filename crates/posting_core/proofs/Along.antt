@@ -1,5 +1,6 @@
 -- The things that a put carries, when a call fails.
-use Rattle.std.specs.Prelude.{ℕ, ◌≡◌, ◌<◌, ◌&&◌, Bool, true, false, List, Option, Some, None, Result, OnErr, if◌then◌else◌, length}
+use Rattle.std.specs.Prelude.{ℕ, ◌≡◌, ◌<◌, ◌&&◌, Bool, true, false, List, Option, Some, None}
+use Rattle.std.specs.Prelude.{Result, OnErr, if◌then◌else◌, length}
 use Rattle.std.proofs.Common.{ap, ◌∙◌, arith}
 use Rattle.std.proofs.lemmas.Result.{on_err_weaker}
 use Rattle.nest_core.specs.declared.put.Put.{Put}
@@ -8,7 +9,8 @@ use Rattle.nest_core.proofs.Alone.{more_hold}
 use Rattle.posting_core.specs.declared.message.Message.{Message}
 use Rattle.posting_core.specs.declared.verdict.Verdict.{Verdict}
 use Rattle.posting_core.specs.declared.entry.Entry.{Entry}
-use Rattle.posting_core.specs.History.{puts, put_in, put_by, carried_at, carried_with, holds_at, takes_along}
+use Rattle.posting_core.specs.History.{puts, put_in, put_by, carried_at, carried_with, holds_at}
+use Rattle.posting_core.specs.History.{takes_along}
 use Rattle.posting_core.specs.VerdictNames.{is_applied}
 
 -- a thing that carries more than itself has something in it

@@ -1,5 +1,7 @@
 -- Members of lists of numbers and of codes, and their positions.
-use Rattle.std.specs.Prelude.{ℕ, ◌≡◌, ◌+◌, ◌<◌, ◌≤◌, ◌==◌, ◌||◌, Bool, true, false, not, cond, filter, List, [], ◌∷◌, length, map, None, Some, refl, zero, suc, is_some, unwrap_or, nat_eq, nat_lt, if◌then◌else◌}
+use Rattle.std.specs.Prelude.{ℕ, ◌≡◌, ◌+◌, ◌<◌, ◌≤◌, ◌==◌, ◌||◌, Bool, true, false, not, cond}
+use Rattle.std.specs.Prelude.{filter, List, [], ◌∷◌, length, map, None, Some, refl, zero, suc}
+use Rattle.std.specs.Prelude.{is_some, unwrap_or, nat_eq, nat_lt, if◌then◌else◌}
 use Rattle.std.specs.List.{range_with_len, list_any, position, position_or_len}
 use Rattle.std.specs.Option.{option_map}
 use Rattle.std.specs.Str.{bytes_eq}

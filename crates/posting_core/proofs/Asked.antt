@@ -1,5 +1,6 @@
 -- Verdicts of crossings that depend on the loan lines.
-use Rattle.std.specs.Prelude.{ℕ, ◌≡◌, ◌&&◌, Bool, true, false, not, List, [], ◌∷◌, Option, None, Some, is_some, refl, if◌then◌else◌, length, unwrap_or}
+use Rattle.std.specs.Prelude.{ℕ, ◌≡◌, ◌&&◌, Bool, true, false, not, List, [], ◌∷◌, Option, None}
+use Rattle.std.specs.Prelude.{Some, is_some, refl, if◌then◌else◌, length, unwrap_or}
 use Rattle.std.specs.Option.{option_map_or}
 use Rattle.std.proofs.Common.{ap, ◌∙◌}
 use Rattle.std.proofs.lemmas.Bool.{or_parts, and_from}
@@ -7,10 +8,12 @@ use Rattle.nest_core.specs.Museum.{Museum, find_thing}
 use Rattle.posting_core.specs.declared.entry.Entry.{Entry}
 use Rattle.posting_core.specs.declared.stage.LineStage.{LineStage}
 use Rattle.posting_core.specs.declared.verdict.Verdict.{Verdict}
-use Rattle.posting_core.specs.declared.verdict.Verdict.TheVariants.{Applied, NotListed, WrongStage, TermOver}
+use Rattle.posting_core.specs.declared.verdict.Verdict.TheVariants.{Applied, NotListed, WrongStage}
+use Rattle.posting_core.specs.declared.verdict.Verdict.TheVariants.{TermOver}
 use Rattle.posting_core.specs.Messages.{thing_no}
 use Rattle.posting_core.specs.History.{holds_at}
-use Rattle.posting_core.specs.Verdicts.{first_of, line_rows, any_unlisted, any_not_at, hangs_on_lines, stage_eq}
+use Rattle.posting_core.specs.Verdicts.{first_of, line_rows, any_unlisted, any_not_at}
+use Rattle.posting_core.specs.Verdicts.{hangs_on_lines, stage_eq}
 
 by_rows : (unlisted wrong late : Bool)
     → hangs_on_lines (if unlisted then NotListed else

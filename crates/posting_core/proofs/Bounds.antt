@@ -1,6 +1,8 @@
 -- A ledger's answers are within its setup: over a lawful list the places of spots are places of the
 -- setup, the objects of loans are its things, and no chain is longer than the depth limit.
-use Rattle.std.specs.Prelude.{ℕ, ℤ, zero, suc, ◌≡◌, ◌<◌, ◌≤◌, ◌+◌, ◌==◌, ◌||◌, true, false, not, cond, List, [], ◌∷◌, Option, None, Some, length, map, refl, if◌then◌else◌, All, IfSome, is_some, slice_get}
+use Rattle.std.specs.Prelude.{ℕ, ℤ, zero, suc, ◌≡◌, ◌<◌, ◌≤◌, ◌+◌, ◌==◌, ◌||◌, true, false, not}
+use Rattle.std.specs.Prelude.{cond, List, [], ◌∷◌, Option, None, Some, length, map, refl}
+use Rattle.std.specs.Prelude.{if◌then◌else◌, All, IfSome, is_some, slice_get}
 use Rattle.std.specs.List.{find, list_any}
 use Rattle.std.specs.Option.{option_map, option_map_or, option_to_list}
 use Rattle.std.specs.Str.{bytes_eq}

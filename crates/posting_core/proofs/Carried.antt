@@ -1,12 +1,14 @@
 -- The things that a thing carries: they are where it is, and a thing without a place was never put
 -- anywhere.
-use Rattle.std.specs.Prelude.{ℕ, ◌≡◌, ◌≤◌, ◌==◌, ◌||◌, true, false, List, length, Option, None, refl, zero, suc}
+use Rattle.std.specs.Prelude.{ℕ, ◌≡◌, ◌≤◌, ◌==◌, ◌||◌, true, false, List, length, Option, None}
+use Rattle.std.specs.Prelude.{refl, zero, suc}
 use Rattle.std.proofs.Common.{ap, ◌∙◌, sym, arith}
 use Rattle.std.proofs.lemmas.Bool.{false≢true}
 use Rattle.std.proofs.lemmas.Bool.Decides.{nat_tests}
 use Rattle.nest_core.specs.declared.put.Target.{Target}
 use Rattle.nest_core.specs.Museum.{Museum}
-use Rattle.nest_core.specs.Puts.{last, container_of, place_of, above, outermost, place_by, is_among, is_carried}
+use Rattle.nest_core.specs.Puts.{last, container_of, place_of, above, outermost, place_by, is_among}
+use Rattle.nest_core.specs.Puts.{is_carried}
 use Rattle.nest_core.specs.Records.{Ended}
 use Rattle.nest_core.proofs.Chains.{above-none, above-some, by_container, same_chain, length_above}
 use Rattle.nest_core.proofs.NestLaws.{IsSound, chain_ends}

@@ -1,5 +1,6 @@
 -- The loan lines that an applied entry writes: these get a stage, and all others stay.
-use Rattle.std.specs.Prelude.{ℕ, ◌≡◌, ◌≢◌, ◌↔◌, ◌&&◌, ◌||◌, ◌==◌, Bool, true, false, cond, List, [], ◌∷◌, ◌++◌, Option, None, Some, refl, if◌then◌else◌, All}
+use Rattle.std.specs.Prelude.{ℕ, ◌≡◌, ◌≢◌, ◌↔◌, ◌&&◌, ◌||◌, ◌==◌, Bool, true, false, cond, List, []}
+use Rattle.std.specs.Prelude.{◌∷◌, ◌++◌, Option, None, Some, refl, if◌then◌else◌, All}
 use Rattle.std.specs.List.{find, list_any}
 use Rattle.std.specs.Option.{option_map_or, option_or, option_to_list}
 use Rattle.std.specs.Str.{bytes_eq}
@@ -18,15 +19,20 @@ use Rattle.posting_core.specs.declared.message.Message.TheVariants.{Agree, Exit,
 use Rattle.posting_core.specs.declared.entry.Entry.{Entry}
 use Rattle.posting_core.specs.declared.entry.NewLine.{NewLine}
 use Rattle.posting_core.specs.declared.stage.LineStage.{LineStage}
-use Rattle.posting_core.specs.declared.stage.LineStage.TheVariants.{Awaiting, Away, Back, Here, GivenBack}
+use Rattle.posting_core.specs.declared.stage.LineStage.TheVariants.{Awaiting, Away, Back, Here}
+use Rattle.posting_core.specs.declared.stage.LineStage.TheVariants.{GivenBack}
 use Rattle.posting_core.specs.declared.verdict.Verdict.TheVariants.{Applied}
 use Rattle.posting_core.specs.VerdictNames.{is_applied}
 use Rattle.posting_core.specs.Agreements.{Agreement, agreement_in, agreements, agreement}
-use Rattle.posting_core.specs.Loans.{Crossing, crossing_in, wanted_by_exit, exit_stage, objects_in, stage, objects_of, objects, line}
-use Rattle.posting_core.specs.Verdicts.{verdict, exit_rows, return_rows, receive_rows, carries_unlisted, carries_wrong_stage}
-use Rattle.posting_core.specs.Book.{Book, lines_of_agreement, lines_of_crossing, new_lines, line_in, changes_of}
+use Rattle.posting_core.specs.Loans.{Crossing, crossing_in, wanted_by_exit, exit_stage, objects_in}
+use Rattle.posting_core.specs.Loans.{stage, objects_of, objects, line}
+use Rattle.posting_core.specs.Verdicts.{verdict, exit_rows, return_rows, receive_rows}
+use Rattle.posting_core.specs.Verdicts.{carries_unlisted, carries_wrong_stage}
+use Rattle.posting_core.specs.Book.{Book, lines_of_agreement, lines_of_crossing, new_lines, line_in}
+use Rattle.posting_core.specs.Book.{changes_of}
 use Rattle.posting_core.specs.Onward.{GoesOn, later, names_line}
-use Rattle.posting_core.proofs.Accounted.{IsApplied, nothing_crosses, crosses_without, crosses_with, ready}
+use Rattle.posting_core.proofs.Accounted.{IsApplied, nothing_crosses, crosses_without, crosses_with}
+use Rattle.posting_core.proofs.Accounted.{ready}
 use Rattle.posting_core.proofs.Agreed.{apart_sym, agree_applied, untouched}
 use Rattle.posting_core.proofs.Among.{first_among, later_among}
 use Rattle.posting_core.proofs.AppliedRows.{none_holds, applied_is}

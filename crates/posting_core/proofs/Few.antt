@@ -1,7 +1,8 @@
 -- A lawful list is short: it has no more entries than its stations have numbers, and a thing no
 -- more spots than there are
 -- entries.
-use Rattle.std.specs.Prelude.{ℕ, ℤ, zero, suc, ◌≡◌, ◌<◌, ◌≤◌, ◌+◌, ◌*◌, ◌==◌, Bool, true, false, List, [], ◌∷◌, Option, None, Some, length, refl, if◌then◌else◌}
+use Rattle.std.specs.Prelude.{ℕ, ℤ, zero, suc, ◌≡◌, ◌<◌, ◌≤◌, ◌+◌, ◌*◌, ◌==◌, Bool, true, false}
+use Rattle.std.specs.Prelude.{List, [], ◌∷◌, Option, None, Some, length, refl, if◌then◌else◌}
 use Rattle.std.specs.Option.{option_to_list}
 use Rattle.std.proofs.Common.{ap, ◌∙◌, arith}
 use Rattle.std.proofs.lemmas.Bool.Decides.{nat_tests}
@@ -74,7 +75,8 @@ few_at S depth k (e ∷ P) (follows, lawful) =
     → (if b then 1 else 0) + count_at k P ≤ LAST_NUMBER) [
       | true ↦ λ is.
           let same : e.station ≡ k = grind (arith, nat_tests) in
-          let number : e.n ≡ count_at k P + 1 = follows.next ∙ ap (λ (s : ℕ). count_at s P + 1) same in
+          let number : e.n ≡ count_at k P + 1 =
+          follows.next ∙ ap (λ (s : ℕ). count_at s P + 1) same in
           omega (arith, number, follows.few)
       | false ↦ λ is. let rest : count_at k P ≤ LAST_NUMBER = few_at S depth k P lawful in
           omega (arith, rest)

@@ -1,5 +1,6 @@
 -- Over a lawful list a borrowed object is with its lender, or it is a guest under one loan in.
-use Rattle.std.specs.Prelude.{ℕ, ◌≡◌, ◌⊎◌, true, false, if◌then◌else◌, List, [], ◌∷◌, None, Some, refl, IfSome}
+use Rattle.std.specs.Prelude.{ℕ, ◌≡◌, ◌⊎◌, true, false, if◌then◌else◌, List, [], ◌∷◌, None, Some}
+use Rattle.std.specs.Prelude.{refl, IfSome}
 use Rattle.std.specs.Option.{option_map_or}
 use Rattle.std.proofs.Common.{ap, ◌∙◌, sym, subst, inl, inr}
 use Rattle.std.proofs.lemmas.Bool.{false≢true}
@@ -15,10 +16,13 @@ use Rattle.posting_core.specs.Verdicts.{is_away}
 use Rattle.posting_core.specs.Lawful.{IsLawful}
 use Rattle.posting_core.specs.Book.{Book}
 use Rattle.posting_core.specs.Accountability.{IsWithLender, IsGuest}
-use Rattle.posting_core.proofs.Accounted.{IsLeft, AtNone, AtOne, by_verdict, none_left, one_left, went, came}
+use Rattle.posting_core.proofs.Accounted.{IsLeft, AtNone, AtOne, by_verdict, none_left, one_left}
+use Rattle.posting_core.proofs.Accounted.{went, came}
 use Rattle.posting_core.proofs.Carried.{carried_alone}
-use Rattle.posting_core.proofs.Owners.{IsListed, listed_is, listed_stays, line_listed, line_stage, borrowed_object, borrowed_listed, partner_elsewhere}
-use Rattle.posting_core.proofs.Turns.{IsInside, IsObject, HasMoved, HasExited, HasReceived, Turn, Left, Moved, Exited, Returned, Received, turn}
+use Rattle.posting_core.proofs.Owners.{IsListed, listed_is, listed_stays, line_listed, line_stage}
+use Rattle.posting_core.proofs.Owners.{borrowed_object, borrowed_listed, partner_elsewhere}
+use Rattle.posting_core.proofs.Turns.{IsInside, IsObject, HasMoved, HasExited, HasReceived, Turn}
+use Rattle.posting_core.proofs.Turns.{Left, Moved, Exited, Returned, Received, turn}
 
 -- an object without a place was never put anywhere
 unplaced : {S : Museum} {P : List Entry} {e : Entry} {o : ℕ} → place_at S (e ∷ P) o ≡ None
@@ -102,7 +106,8 @@ module _ (S : Museum) (depth : ℕ) (o : ℕ) (borrowed : is_borrowed S o ≡ tr
             ap (is_away S m.thing) (sym none ∙ m.before) ∙ m.here in
             false≢true (sym here ∙ sym (ap (is_borrowed S) alone) ∙ borrowed)
         | Some p ↦ λ at away.
-            let here : is_elsewhere S p ≡ false = ap (is_away S m.thing) (sym at ∙ m.before) ∙ m.here in
+            let here : is_elsewhere S p ≡ false =
+            ap (is_away S m.thing) (sym at ∙ m.before) ∙ m.here in
             false≢true (sym here ∙ away)
       ] refl
 

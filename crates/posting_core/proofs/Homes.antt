@@ -1,5 +1,6 @@
 -- Over a lawful list an own object is home, or it is lent under one loan out.
-use Rattle.std.specs.Prelude.{ℕ, ◌≡◌, ◌⊎◌, true, false, if◌then◌else◌, List, [], ◌∷◌, Option, None, Some, IfSome}
+use Rattle.std.specs.Prelude.{ℕ, ◌≡◌, ◌⊎◌, true, false, if◌then◌else◌, List, [], ◌∷◌, Option, None}
+use Rattle.std.specs.Prelude.{Some, IfSome}
 use Rattle.std.specs.Option.{option_map, option_map_or}
 use Rattle.std.proofs.Common.{ap, ◌∙◌, sym, subst, inl, inr}
 use Rattle.std.proofs.lemmas.Bool.{false≢true}
@@ -15,9 +16,12 @@ use Rattle.posting_core.specs.Verdicts.{is_away}
 use Rattle.posting_core.specs.Lawful.{IsLawful}
 use Rattle.posting_core.specs.Book.{Book}
 use Rattle.posting_core.specs.Accountability.{IsHome, IsLent}
-use Rattle.posting_core.proofs.Accounted.{IsLeft, AtNone, AtOne, by_verdict, none_left, one_left, went, came}
-use Rattle.posting_core.proofs.Owners.{IsListed, listed_stays, line_listed, line_stage, own_object, own_listed, partner_elsewhere}
-use Rattle.posting_core.proofs.Turns.{IsInside, HasMoved, HasExited, HasReturned, Turn, Left, Moved, Exited, Returned, Received, turn, not_elsewhere_inside}
+use Rattle.posting_core.proofs.Accounted.{IsLeft, AtNone, AtOne, by_verdict, none_left, one_left}
+use Rattle.posting_core.proofs.Accounted.{went, came}
+use Rattle.posting_core.proofs.Owners.{IsListed, listed_stays, line_listed, line_stage, own_object}
+use Rattle.posting_core.proofs.Owners.{own_listed, partner_elsewhere}
+use Rattle.posting_core.proofs.Turns.{IsInside, HasMoved, HasExited, HasReturned, Turn, Left, Moved}
+use Rattle.posting_core.proofs.Turns.{Exited, Returned, Received, turn, not_elsewhere_inside}
 
 -- home, and lent, by the stages
 record Home (S : Museum) (P : List Entry) (o : ℕ) : Type 0 where

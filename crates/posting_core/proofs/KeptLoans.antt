@@ -1,5 +1,7 @@
 -- The loans that a ledger keeps, found by their codes.
-use Rattle.std.specs.Prelude.{◌≡◌, ℕ, ◌+◌, ◌<◌, true, false, cond, not, List, [], ◌∷◌, ◌++◌, length, map, Option, Some, None, IfSome, nat_lt, slice_get, slice_set, refl, zero, suc}
+use Rattle.std.specs.Prelude.{◌≡◌, ℕ, ◌+◌, ◌<◌, true, false, cond, not, List, [], ◌∷◌, ◌++◌, length}
+use Rattle.std.specs.Prelude.{map, Option, Some, None, IfSome, nat_lt, slice_get, slice_set, refl}
+use Rattle.std.specs.Prelude.{zero, suc}
 use Rattle.std.specs.List.{find, position, position_or_len}
 use Rattle.std.specs.Str.{bytes_eq}
 use Rattle.std.proofs.lemmas.Bool.Decides.{nat_tests}
@@ -108,7 +110,8 @@ first_row loan (row ∷ rows) = ap (λ n. cond (not (bytes_eq loan row.loan)) (1
     (first_row loan rows)
 
 -- the position of a code
-pub found : (loan : List ℕ) (codes : List (List ℕ)) (i : ℕ) → position (bytes_eq loan) codes ≡ Some i
+pub found : (loan : List ℕ) (codes : List (List ℕ)) (i : ℕ) → position (bytes_eq loan) codes
+    ≡ Some i
     → (i < length codes) × (position_or_len (bytes_eq loan) codes ≡ i)
 found loan codes i at =
     let first = position-Some (bytes_eq loan) codes i [] at in

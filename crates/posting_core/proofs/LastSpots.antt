@@ -1,5 +1,6 @@
 -- A thing's last spot is its current place, and no spot is at the place of the one before it.
-use Rattle.std.specs.Prelude.{ℕ, ℤ, ◌≡◌, ◌≢◌, ◌+◌, ◌<◌, Bool, true, false, not, if◌then◌else◌, List, [], ◌∷◌, ◌++◌, Option, None, Some, length, refl, IfSome}
+use Rattle.std.specs.Prelude.{ℕ, ℤ, ◌≡◌, ◌≢◌, ◌+◌, ◌<◌, Bool, true, false, not, if◌then◌else◌, List}
+use Rattle.std.specs.Prelude.{[], ◌∷◌, ◌++◌, Option, None, Some, length, refl, IfSome}
 use Rattle.std.specs.List.{last_or, AllAdjacentBelow}
 use Rattle.std.specs.Option.{option_map, option_map_or, option_to_list}
 use Rattle.std.proofs.Common.{ap, ◌∙◌, sym, subst, arith, inl, inr, get_or, length-append}
@@ -13,7 +14,9 @@ use Rattle.nest_core.specs.Museum.{Museum, is_inside}
 use Rattle.nest_core.specs.Puts.{with_put, place}
 use Rattle.nest_core.specs.Nest.{is_same_place}
 use Rattle.posting_core.specs.declared.message.Message.{Message}
-use Rattle.posting_core.specs.declared.message.Message.TheVariants.{Move, Pack, Agree, Authorise, Exit, Return, Receive, SignOff, Extend}
+use Rattle.posting_core.specs.declared.message.Message.TheVariants.{Move, Pack, Agree, Authorise}
+use Rattle.posting_core.specs.declared.message.Message.TheVariants.{Exit, Return, Receive, SignOff}
+use Rattle.posting_core.specs.declared.message.Message.TheVariants.{Extend}
 use Rattle.posting_core.specs.declared.verdict.Verdict.TheVariants.{Applied}
 use Rattle.posting_core.specs.declared.entry.Entry.{Entry}
 use Rattle.posting_core.specs.declared.entry.Spot.{Spot}
@@ -68,7 +71,8 @@ entry_keeps_place S depth P e follows lawful x gone =
         → IfSome o (λ put. place_to S P put.to ≢ None) → place_at S P x ≡ None) [
           | None ↦ λ is placed. sym (nothing_put a x is).place ∙ gone
           | Some put ↦ λ is placed. by_carried a x put is
-              (λ goes. absurd (placed (sym goes.after ∙ gone))) (λ apart stays. sym stays.place ∙ gone)
+              (λ goes. absurd (placed (sym goes.after ∙ gone)))
+              (λ apart stays. sym stays.place ∙ gone)
         ] refl (target_placed S depth P e.message a.judged)
 
 entry_without_day : (S : Museum) (P : List Entry) (e : Entry) (x : ℕ) → day_of e.message ≡ None

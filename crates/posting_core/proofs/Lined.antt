@@ -1,5 +1,7 @@
 -- The rows of loans after an entry are those of looking back after it.
-use Rattle.std.specs.Prelude.{ℕ, ℤ, ◌≡◌, ◌&&◌, ◌||◌, ◌==◌, Bool, true, false, cond, zero, suc, List, [], ◌∷◌, ◌++◌, Option, None, Some, map, refl, if◌then◌else◌, unwrap_or, slice_set, nat_eq}
+use Rattle.std.specs.Prelude.{ℕ, ℤ, ◌≡◌, ◌&&◌, ◌||◌, ◌==◌, Bool, true, false, cond, zero, suc, List}
+use Rattle.std.specs.Prelude.{[], ◌∷◌, ◌++◌, Option, None, Some, map, refl, if◌then◌else◌}
+use Rattle.std.specs.Prelude.{unwrap_or, slice_set, nat_eq}
 use Rattle.std.specs.List.{find, position, AllByRecursion}
 use Rattle.std.specs.Option.{option_map, option_map_or, option_to_list}
 use Rattle.std.specs.Str.{bytes_eq}
@@ -13,7 +15,9 @@ use Rattle.std.proofs.lemmas.Slice.Eq.{bytes_eq-Decides}
 use Rattle.nest_core.specs.Museum.{Museum}
 use Rattle.nest_core.specs.Puts.{is_among}
 use Rattle.posting_core.specs.declared.message.Message.{Message}
-use Rattle.posting_core.specs.declared.message.Message.TheVariants.{Move, Pack, Agree, Authorise, Exit, Return, Receive, SignOff, Extend}
+use Rattle.posting_core.specs.declared.message.Message.TheVariants.{Move, Pack, Agree, Authorise}
+use Rattle.posting_core.specs.declared.message.Message.TheVariants.{Exit, Return, Receive, SignOff}
+use Rattle.posting_core.specs.declared.message.Message.TheVariants.{Extend}
 use Rattle.posting_core.specs.declared.entry.Entry.{Entry}
 use Rattle.posting_core.specs.declared.entry.NewLine.{NewLine}
 use Rattle.posting_core.specs.declared.stage.LineStage.{LineStage}
@@ -21,15 +25,20 @@ use Rattle.posting_core.specs.declared.stage.LineStage.TheVariants.{Awaiting, Aw
 use Rattle.posting_core.specs.declared.verdict.Verdict.TheVariants.{Applied}
 use Rattle.posting_core.specs.VerdictNames.{is_applied}
 use Rattle.posting_core.specs.Messages.{place_no}
-use Rattle.posting_core.specs.Agreements.{Agreement, agreement_in, agreements, authorises, is_authorised, extension_in, last_from}
-use Rattle.posting_core.specs.Loans.{Crossing, exit_of, crossing_in, objects_in, stage_by, stage, objects_of}
+use Rattle.posting_core.specs.Agreements.{Agreement, agreement_in, agreements, authorises}
+use Rattle.posting_core.specs.Agreements.{is_authorised, extension_in, last_from}
+use Rattle.posting_core.specs.Loans.{Crossing, exit_of, crossing_in, objects_in, stage_by, stage}
+use Rattle.posting_core.specs.Loans.{objects_of}
 use Rattle.posting_core.specs.Verdicts.{verdict}
 use Rattle.posting_core.specs.Lawful.{Follows, IsLawful}
 use Rattle.posting_core.specs.Book.{new_lines, lines_of_agreement}
-use Rattle.posting_core.specs.LoanRows.{LoanRow, loan_row, loan_rows, with_lines, changed, authorised_row, extended_row, agreed_row, rows_with, AreOnce}
+use Rattle.posting_core.specs.LoanRows.{LoanRow, loan_row, loan_rows, with_lines, changed}
+use Rattle.posting_core.specs.LoanRows.{authorised_row, extended_row, agreed_row, rows_with}
+use Rattle.posting_core.specs.LoanRows.{AreOnce}
 use Rattle.posting_core.proofs.AppliedRows.{applied_is}
 use Rattle.posting_core.proofs.Among.{position_cons}
-use Rattle.posting_core.proofs.Agreed.{IsSound, AreApart, IsUntouched, agreements_apart, agreements_sound, agree_applied, untouched}
+use Rattle.posting_core.proofs.Agreed.{IsSound, AreApart, IsUntouched, agreements_apart}
+use Rattle.posting_core.proofs.Agreed.{agreements_sound, agree_applied, untouched}
 use Rattle.posting_core.proofs.ObjectNumbers.{numbers_once}
 
 -- the stages of lines, after those of these objects are set
@@ -79,7 +88,8 @@ reset_more : (f : ℕ → LineStage) (o : ℕ) (os : List ℕ) (s : LineStage) (
 reset_more f o os s y = elim (is_among y os) as
     (λ b. option_map_or (λ t. t) (if b then Some s else None) (if o == y then s else f y)
     ≡ option_map_or (λ t. t) (if (o == y) || b then Some s else None) (f y)) [
-      | true ↦ elim (o == y) as (λ b. s ≡ option_map_or (λ t. t) (if b || true then Some s else None)
+      | true ↦ elim (o == y) as
+          (λ b. s ≡ option_map_or (λ t. t) (if b || true then Some s else None)
           (f y)) [ true ↦ refl | false ↦ refl ]
       | false ↦
           elim (o == y) as (λ b. (if b then s else f y) ≡ option_map_or (λ t. t)

@@ -1,5 +1,7 @@
 -- The row that is kept of a loan answers as looking back does.
-use Rattle.std.specs.Prelude.{ℕ, ◌≡◌, ◌==◌, ◌||◌, Bool, true, false, cond, zero, suc, List, [], ◌∷◌, Option, None, Some, map, refl, is_some, if◌then◌else◌, slice_get, nat_eq, IfSome, IfOk, Result}
+use Rattle.std.specs.Prelude.{ℕ, ◌≡◌, ◌==◌, ◌||◌, Bool, true, false, cond, zero, suc, List, [], ◌∷◌}
+use Rattle.std.specs.Prelude.{Option, None, Some, map, refl, is_some, if◌then◌else◌, slice_get}
+use Rattle.std.specs.Prelude.{nat_eq, IfSome, IfOk, Result}
 use Rattle.std.specs.List.{find, position}
 use Rattle.std.specs.Option.{option_map, option_map_or, option_and_then}
 use Rattle.std.specs.Str.{bytes_eq}
@@ -15,7 +17,8 @@ use Rattle.posting_core.specs.declared.entry.Entry.{Entry}
 use Rattle.posting_core.specs.declared.stage.LineStage.{LineStage}
 use Rattle.posting_core.specs.declared.verdict.Verdict.{Verdict}
 use Rattle.posting_core.specs.Messages.{place_no}
-use Rattle.posting_core.specs.Agreements.{Agreement, agreements, agreement, loans, is_agreed, is_authorised, last_day, last_from}
+use Rattle.posting_core.specs.Agreements.{Agreement, agreements, agreement, loans, is_agreed}
+use Rattle.posting_core.specs.Agreements.{is_authorised, last_day, last_from}
 use Rattle.posting_core.specs.Loans.{stage, objects_of, objects, line, loan_state, state_by}
 use Rattle.posting_core.specs.Verdicts.{first_of, line_rows}
 use Rattle.posting_core.specs.Lawful.{IsLawful}

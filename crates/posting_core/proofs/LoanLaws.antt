@@ -1,5 +1,7 @@
 -- A closed loan is over, and things cross only under authorised loans and within their terms.
-use Rattle.std.specs.Prelude.{ℕ, ℤ, ◌≡◌, ◌≤ℤ◌, ◌&&◌, ◌||◌, ◌==◌, Bool, true, false, not, if◌then◌else◌, List, [], ◌∷◌, Option, None, Some, map, refl, IfSome, int_lt, is_some}
+use Rattle.std.specs.Prelude.{ℕ, ℤ, ◌≡◌, ◌≤ℤ◌, ◌&&◌, ◌||◌, ◌==◌, Bool, true, false, not}
+use Rattle.std.specs.Prelude.{if◌then◌else◌, List, [], ◌∷◌, Option, None, Some, map, refl, IfSome}
+use Rattle.std.specs.Prelude.{int_lt, is_some}
 use Rattle.std.specs.List.{list_all, list_any}
 use Rattle.std.specs.Option.{option_map, option_map_or}
 use Rattle.std.proofs.Common.{ap, ◌∙◌, sym, subst, arith, inl, inr}
@@ -14,12 +16,16 @@ use Rattle.posting_core.specs.declared.verdict.Verdict.TheVariants.{Applied}
 use Rattle.posting_core.specs.declared.entry.Entry.{Entry}
 use Rattle.posting_core.specs.declared.stage.LineStage.{LineStage}
 use Rattle.posting_core.specs.declared.stage.LineStage.TheVariants.{Back, GivenBack}
-use Rattle.posting_core.specs.declared.stage.LoanState.TheVariants.{Draft, Authorised, Running, Closed}
-use Rattle.posting_core.specs.Agreements.{Agreement, agreement, is_agreed, is_authorised, last_from, last_day}
-use Rattle.posting_core.specs.Loans.{objects_of, stage, line, is_done, is_awaiting, state_by, loan_state}
+use Rattle.posting_core.specs.declared.stage.LoanState.TheVariants.{Draft, Authorised, Running}
+use Rattle.posting_core.specs.declared.stage.LoanState.TheVariants.{Closed}
+use Rattle.posting_core.specs.Agreements.{Agreement, agreement, is_agreed, is_authorised, last_from}
+use Rattle.posting_core.specs.Agreements.{last_day}
+use Rattle.posting_core.specs.Loans.{objects_of, stage, line, is_done, is_awaiting, state_by}
+use Rattle.posting_core.specs.Loans.{loan_state}
 use Rattle.posting_core.specs.Lawful.{IsLawful}
 use Rattle.posting_core.specs.Verdicts.{verdict, exit_rows, return_rows, receive_rows, is_over}
-use Rattle.posting_core.specs.Accountability.{IsOver, AtEachApplied, IsAuthorised, IsInTerm, IsWithin}
+use Rattle.posting_core.specs.Accountability.{IsOver, AtEachApplied, IsAuthorised, IsInTerm}
+use Rattle.posting_core.specs.Accountability.{IsWithin}
 use Rattle.posting_core.proofs.AppliedRows.{none_holds, applied_is}
 
 done_over : (s : LineStage) → is_done s ≡ true → IsOver s

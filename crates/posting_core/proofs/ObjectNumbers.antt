@@ -1,6 +1,7 @@
 -- The numbers of a loan's objects: different codes have different numbers, so no number is repeated
 -- if no code is.
-use Rattle.std.specs.Prelude.{◌≡◌, ℕ, ◌+◌, ◌<◌, ◌==◌, ◌||◌, Bool, true, false, not, List, [], ◌∷◌, ◌++◌, length, map, Some, nat_eq, refl, zero, suc}
+use Rattle.std.specs.Prelude.{◌≡◌, ℕ, ◌+◌, ◌<◌, ◌==◌, ◌||◌, Bool, true, false, not, List, [], ◌∷◌}
+use Rattle.std.specs.Prelude.{◌++◌, length, map, Some, nat_eq, refl, zero, suc}
 use Rattle.std.specs.Bool.{Decides}
 use Rattle.std.specs.List.{list_any}
 use Rattle.std.specs.Str.{bytes_eq}

@@ -1,6 +1,7 @@
 -- Facts about a ledger that stay true whatever is posted later: lines only go forward, closed loans
 -- stay closed, last days only become later.
-use Rattle.std.specs.Prelude.{ℕ, ℤ, ◌≡◌, ◌≤ℤ◌, ◌&&◌, ◌||◌, Bool, true, false, not, if◌then◌else◌, List, [], ◌∷◌, ◌++◌, Option, None, Some, map, refl, unwrap_or, int_le}
+use Rattle.std.specs.Prelude.{ℕ, ℤ, ◌≡◌, ◌≤ℤ◌, ◌&&◌, ◌||◌, Bool, true, false, not, if◌then◌else◌}
+use Rattle.std.specs.Prelude.{List, [], ◌∷◌, ◌++◌, Option, None, Some, map, refl, unwrap_or, int_le}
 use Rattle.std.specs.List.{list_all}
 use Rattle.std.specs.Option.{option_map, option_map_or}
 use Rattle.std.specs.Str.{bytes_eq}
@@ -15,17 +16,20 @@ use Rattle.posting_core.specs.declared.message.Message.{Message}
 use Rattle.posting_core.specs.declared.message.Message.TheVariants.{Exit, Extend}
 use Rattle.posting_core.specs.declared.entry.Entry.{Entry}
 use Rattle.posting_core.specs.declared.stage.LineStage.{LineStage}
-use Rattle.posting_core.specs.declared.stage.LineStage.TheVariants.{Awaiting, Away, Back, Here, GivenBack}
+use Rattle.posting_core.specs.declared.stage.LineStage.TheVariants.{Awaiting, Away, Back, Here}
+use Rattle.posting_core.specs.declared.stage.LineStage.TheVariants.{GivenBack}
 use Rattle.posting_core.specs.declared.stage.LoanState.TheVariants.{Draft, Closed}
 use Rattle.posting_core.specs.declared.verdict.Verdict.TheVariants.{Applied}
 use Rattle.posting_core.specs.VerdictNames.{is_applied}
-use Rattle.posting_core.specs.Agreements.{Agreement, agreement, is_authorised, authorises, extension_in, last_from, last_day}
+use Rattle.posting_core.specs.Agreements.{Agreement, agreement, is_authorised, authorises}
+use Rattle.posting_core.specs.Agreements.{extension_in, last_from, last_day}
 use Rattle.posting_core.specs.Loans.{stage, objects_of, line, is_done, state_by, loan_state}
 use Rattle.posting_core.specs.Verdicts.{verdict, exit_rows, extend_rows, is_container_code}
 use Rattle.posting_core.specs.Lawful.{IsLawful}
 use Rattle.posting_core.specs.Book.{Book, line_in, state_in, last_day_in}
 use Rattle.posting_core.specs.Accountability.{AtEachApplied}
-use Rattle.posting_core.specs.Onward.{later, GoesOn, is_onward, goes_forward, MovesOn, LeavesUncrated}
+use Rattle.posting_core.specs.Onward.{later, GoesOn, is_onward, goes_forward, MovesOn}
+use Rattle.posting_core.specs.Onward.{LeavesUncrated}
 use Rattle.posting_core.proofs.Accounted.{IsApplied, agreement_stays}
 use Rattle.posting_core.proofs.Among.{first_among, later_among}
 use Rattle.posting_core.proofs.AppliedRows.{none_holds, applied_is}
@@ -108,8 +112,8 @@ module _ (S : Museum) (depth : ℕ) (P : List Entry) (e : Entry) (lawful : IsLaw
             ((bytes_eq-Decides w.loan loan).0 parts.0)
             (ap (goes_forward (line S P w.loan o)) (w.writes.here o parts.1) ∙ step_forward
             (line S P w.loan o) w.stage (w.writes.step o parts.1))
-        | false ↦ λ k. ap (goes_forward (line S P loan o)) (w.writes.others loan o k) ∙ forward_itself
-            (line S P loan o)
+        | false ↦ λ k. ap (goes_forward (line S P loan o)) (w.writes.others loan o k)
+            ∙ forward_itself (line S P loan o)
       ] refl
 
   step_line : (o : ℕ) → goes_forward (line S P loan o) (line S (e ∷ P) loan o) ≡ true

@@ -1,5 +1,6 @@
 -- Own and borrowed objects, the loans that list them, and those loans' partners.
-use Rattle.std.specs.Prelude.{ℕ, ◌≡◌, ◌<◌, Bool, true, false, if◌then◌else◌, List, [], ◌∷◌, None, Some, refl}
+use Rattle.std.specs.Prelude.{ℕ, ◌≡◌, ◌<◌, Bool, true, false, if◌then◌else◌, List, [], ◌∷◌, None}
+use Rattle.std.specs.Prelude.{Some, refl}
 use Rattle.std.specs.Option.{option_map, option_map_or}
 use Rattle.std.proofs.Common.{ap, ◌∙◌, sym, subst}
 use Rattle.std.proofs.lemmas.Bool.{false≢true}
@@ -9,7 +10,8 @@ use Rattle.codes_core.specs.declared.thing.ThingKind.{ThingKind}
 use Rattle.codes_core.specs.declared.thing.ThingKind.TheVariants.{Own, Borrowed, Container}
 use Rattle.codes_core.specs.Loan.{is_out}
 use Rattle.codes_core.specs.Thing.{thing_kind}
-use Rattle.nest_core.specs.Museum.{Museum, thing_codes, thing_code_of, is_own, is_borrowed, is_own_kind, is_borrowed_kind, is_container_kind, is_elsewhere}
+use Rattle.nest_core.specs.Museum.{Museum, thing_codes, thing_code_of, is_own, is_borrowed}
+use Rattle.nest_core.specs.Museum.{is_own_kind, is_borrowed_kind, is_container_kind, is_elsewhere}
 use Rattle.nest_core.specs.Puts.{is_among}
 use Rattle.posting_core.specs.declared.entry.Entry.{Entry}
 use Rattle.posting_core.specs.Messages.{place_no}

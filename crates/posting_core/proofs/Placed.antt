@@ -1,5 +1,6 @@
 -- The puts of applied messages, and the places after them.
-use Rattle.std.specs.Prelude.{ℕ, ℤ, zero, suc, ◌≡◌, ◌<◌, true, false, All, List, [], ◌∷◌, Option, None, Some, length, refl, IfSome, is_some, unwrap_or, if◌then◌else◌}
+use Rattle.std.specs.Prelude.{ℕ, ℤ, zero, suc, ◌≡◌, ◌<◌, true, false, All, List, [], ◌∷◌, Option}
+use Rattle.std.specs.Prelude.{None, Some, length, refl, IfSome, is_some, unwrap_or, if◌then◌else◌}
 use Rattle.std.specs.List.{position}
 use Rattle.std.specs.Option.{option_map, option_map_or}
 use Rattle.std.specs.Str.{bytes_eq}
@@ -14,11 +15,15 @@ use Rattle.nest_core.specs.declared.put.Target.TheVariants.{At, Within}
 use Rattle.nest_core.specs.declared.put.Put.{Put}
 use Rattle.nest_core.specs.Museum.{Museum, find_thing, thing_codes, place_codes, is_container}
 use Rattle.nest_core.specs.Nest.{Nested, StandsFor, MayGo, put_at}
-use Rattle.nest_core.specs.Puts.{last, with_put, container_of, place_of, above, place_by, is_carried}
+use Rattle.nest_core.specs.Puts.{last, with_put, container_of, place_of, above, place_by}
+use Rattle.nest_core.specs.Puts.{is_carried}
 use Rattle.nest_core.proofs.NestWords.{IsAllowed}
-use Rattle.nest_core.proofs.NestLaws.{IsSound, sound_put, may_pack, place_carried, place_packed, place_stays}
+use Rattle.nest_core.proofs.NestLaws.{IsSound, sound_put, may_pack, place_carried, place_packed}
+use Rattle.nest_core.proofs.NestLaws.{place_stays}
 use Rattle.posting_core.specs.declared.message.Message.{Message}
-use Rattle.posting_core.specs.declared.message.Message.TheVariants.{Move, Pack, Agree, Authorise, Exit, Return, Receive, SignOff, Extend}
+use Rattle.posting_core.specs.declared.message.Message.TheVariants.{Move, Pack, Agree, Authorise}
+use Rattle.posting_core.specs.declared.message.Message.TheVariants.{Exit, Return, Receive, SignOff}
+use Rattle.posting_core.specs.declared.message.Message.TheVariants.{Extend}
 use Rattle.posting_core.specs.declared.verdict.Verdict.{Verdict}
 use Rattle.posting_core.specs.declared.verdict.Verdict.TheVariants.{Applied}
 use Rattle.posting_core.specs.declared.entry.Entry.{Entry}
@@ -26,7 +31,8 @@ use Rattle.posting_core.specs.Messages.{thing_no, place_no}
 use Rattle.posting_core.specs.History.{puts, put_in, put_by, chain_at, place_at}
 use Rattle.posting_core.specs.VerdictNames.{is_applied}
 use Rattle.posting_core.specs.Agreements.{agreement}
-use Rattle.posting_core.specs.Verdicts.{verdict, move_rows, pack_rows, exit_rows, return_rows, receive_rows, is_known, is_known_place, is_known_container}
+use Rattle.posting_core.specs.Verdicts.{verdict, move_rows, pack_rows, exit_rows, return_rows}
+use Rattle.posting_core.specs.Verdicts.{receive_rows, is_known, is_known_place, is_known_container}
 use Rattle.posting_core.specs.Lawful.{IsLawful}
 use Rattle.posting_core.specs.Book.{Book, verdict_in, place_after}
 use Rattle.posting_core.specs.Rows.{place_to}

@@ -1,5 +1,7 @@
 -- The invariant of a ledger's fields, before and after an entry.
-use Rattle.std.specs.Prelude.{ℕ, ◌≡◌, ◌+◌, ◌<◌, ◌≤◌, Bool, true, false, if◌then◌else◌, List, [], ◌∷◌, ◌++◌, Option, None, Some, length, All, Result, Ok, Err, IfOk, OnErr, map, replicate, zero, suc, refl, IfSome, slice_get, is_some}
+use Rattle.std.specs.Prelude.{ℕ, ◌≡◌, ◌+◌, ◌<◌, ◌≤◌, Bool, true, false, if◌then◌else◌, List, []}
+use Rattle.std.specs.Prelude.{◌∷◌, ◌++◌, Option, None, Some, length, All, Result, Ok, Err, IfOk}
+use Rattle.std.specs.Prelude.{OnErr, map, replicate, zero, suc, refl, IfSome, slice_get, is_some}
 use Rattle.std.specs.Borrow.{Bor}
 use Rattle.std.specs.List.{find, position}
 use Rattle.std.specs.Str.{bytes_eq}
@@ -25,13 +27,18 @@ use Rattle.posting_core.specs.declared.entry.NewLine.{NewLine}
 use Rattle.posting_core.specs.declared.entry.Changes.{Changes}
 use Rattle.posting_core.specs.declared.stage.LineStage.TheVariants.{Awaiting}
 use Rattle.posting_core.specs.Messages.{day_of, loan_of}
-use Rattle.posting_core.specs.History.{puts, put_in, put_by, spots, spot_from, place_at, carried_at, carried_with, holds_at}
+use Rattle.posting_core.specs.History.{puts, put_in, put_by, spots, spot_from, place_at, carried_at}
+use Rattle.posting_core.specs.History.{carried_with, holds_at}
 use Rattle.posting_core.specs.VerdictNames.{is_applied}
 use Rattle.posting_core.specs.Loans.{crossing_in, objects_of}
 use Rattle.posting_core.specs.Lawful.{Follows, IsLawful}
-use Rattle.posting_core.specs.Book.{Book, chain_in, spots_in, loans_in, objects_of_loan, place_after, new_spot, new_spots, lines_of_agreement, lines_of_crossing, new_lines, changes_of}
-use Rattle.posting_core.specs.Agreements.{Agreement, agreed_entries, agreement_in, agreement_by, agreements, agreement, loan_no, loan_by, is_agreed}
-use Rattle.posting_core.specs.LoanRows.{LoanRow, loan_row, loan_rows, rows_with, row_by, AreOnce, MayAgree}
+use Rattle.posting_core.specs.Book.{Book, chain_in, spots_in, loans_in, objects_of_loan}
+use Rattle.posting_core.specs.Book.{place_after, new_spot, new_spots, lines_of_agreement}
+use Rattle.posting_core.specs.Book.{lines_of_crossing, new_lines, changes_of}
+use Rattle.posting_core.specs.Agreements.{Agreement, agreed_entries, agreement_in, agreement_by}
+use Rattle.posting_core.specs.Agreements.{agreements, agreement, loan_no, loan_by, is_agreed}
+use Rattle.posting_core.specs.LoanRows.{LoanRow, loan_row, loan_rows, rows_with, row_by, AreOnce}
+use Rattle.posting_core.specs.LoanRows.{MayAgree}
 use Rattle.posting_core.specs.Rows.{row_of, rows_after, IsKept}
 use Rattle.posting_core.specs.Standings.{no_standing, standing_at, standings_with}
 use Rattle.posting_core.specs.declared.standing.Standing.{Standing}
@@ -40,11 +47,13 @@ use Rattle.posting_core.proofs.Agreed.{IsSound, agree_applied}
 use Rattle.posting_core.proofs.Bounds.{short, spots_within}
 use Rattle.posting_core.proofs.Lined.{rows_after_entry, objects_told}
 use Rattle.posting_core.proofs.ObjectNumbers.{numbers_once}
-use Rattle.posting_core.proofs.LoanAnswers.{IsRowOf, row_is, row_missing, codes_told, code_at, objects_at}
+use Rattle.posting_core.proofs.LoanAnswers.{IsRowOf, row_is, row_missing, codes_told, code_at}
+use Rattle.posting_core.proofs.LoanAnswers.{objects_at}
 use Rattle.posting_core.proofs.Placed.{put_allowed, may_go, chain_below}
 use Rattle.posting_core.proofs.Stations.{as_many_standings, standing_first, standing_next}
 use Rattle.posting_core.proofs.Spotted.{carried_below}
-use Rattle.posting_core.proofs.Written.{rows_written, chosen_spot, own_spot, same_place, rows_length, own_within}
+use Rattle.posting_core.proofs.Written.{rows_written, chosen_spot, own_spot, same_place}
+use Rattle.posting_core.proofs.Written.{rows_length, own_within}
 
 -- the ledger's view, by its fields
 abbrev pub book_of : Museum → List Entry → Nested → Book
@@ -52,7 +61,8 @@ book_of S P N = record { museum = S; depth = N.depth; posted = P }
 
 -- the fields agree with looking back through the ledger's entries
 module _ {S : Museum} {P : List Entry} {N : Nested} {R : List (List Spot)} {L : List LoanRow}
-    {A : List ℕ} {T : List Standing} {B : Book} (kept : IsKept S P N R L A T) (same : book_of S P N ≡ B) where
+    {A : List ℕ} {T : List Standing} {B : Book} (kept : IsKept S P N R L A T)
+    (same : book_of S P N ≡ B) where
   pub lawful_kept : IsLawful B.museum B.depth B.posted
   lawful_kept = subst (λ (C : Book). IsLawful C.museum C.depth C.posted) same kept.lawful
 
@@ -256,8 +266,8 @@ unplaced S P v _ agrees = absurd (false≢true agrees)
 
 -- the entry and the changes that `apply` gets, over the ledger's fields
 pub record IsPlanned (S : Museum) (P : List Entry) (N : Nested) (R : List (List Spot))
-    (L : List LoanRow) (A : List ℕ) (T : List Standing) (e : Entry) (put : Option Put) (along : List ℕ) (news : List NewSpot)
-    (loan : Option ℕ) (lines : List NewLine) : Type 0 where
+    (L : List LoanRow) (A : List ℕ) (T : List Standing) (e : Entry) (put : Option Put)
+    (along : List ℕ) (news : List NewSpot) (loan : Option ℕ) (lines : List NewLine) : Type 0 where
   pub kept : IsKept S P N R L A T
   pub follows : Follows S N.depth P e
   pub put_is : put ≡ put_by S P e.verdict e.message
@@ -288,7 +298,8 @@ written B e changes follows plan = (
 )
 
 pub planned : {S : Museum} {P : List Entry} {N : Nested} {R : List (List Spot)} {L : List LoanRow}
-    {A : List ℕ} {T : List Standing} {B : Book} {e : Entry} {changes : Changes} {along : List ℕ} {news : List NewSpot}
+    {A : List ℕ} {T : List Standing} {B : Book} {e : Entry} {changes : Changes} {along : List ℕ}
+    {news : List NewSpot}
     {lines : List NewLine} → IsKept S P N R L A T → book_of S P N ≡ B →
     Follows B.museum B.depth B.posted e → changes ≡ changes_of B e.message → along ≡ changes.carried
     → news ≡ changes.spots → lines ≡ changes.lines
@@ -311,7 +322,8 @@ planned {S} {P} {N} {B} {e} {changes} kept same follows plan same_carried same_s
 
 -- for an entry with its planned changes
 module _ {S : Museum} {P : List Entry} {N : Nested} {R : List (List Spot)} {L : List LoanRow}
-    {A : List ℕ} {T : List Standing} {e : Entry} {put : Option Put} {along : List ℕ} {news : List NewSpot} {loan : Option ℕ}
+    {A : List ℕ} {T : List Standing} {e : Entry} {put : Option Put} {along : List ℕ}
+    {news : List NewSpot} {loan : Option ℕ}
     {lines : List NewLine} (is : IsPlanned S P N R L A T e put along news loan lines) where
   -- the new spots are of things that have rows
   pub planned_within : (R' : List (List Spot)) → R' ≡ R → All (λ s. s.thing < length R') news

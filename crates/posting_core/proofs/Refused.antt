@@ -1,5 +1,6 @@
 -- Refused messages change no answer.
-use Rattle.std.specs.Prelude.{ℕ, ℤ, ◌≡◌, ◌+◌, false, List, [], ◌∷◌, ◌++◌, Option, None, Some, length, map, refl, if◌then◌else◌, Bool, true, not}
+use Rattle.std.specs.Prelude.{ℕ, ℤ, ◌≡◌, ◌+◌, false, List, [], ◌∷◌, ◌++◌, Option, None, Some}
+use Rattle.std.specs.Prelude.{length, map, refl, if◌then◌else◌, Bool, true, not}
 use Rattle.std.specs.List.{find}
 use Rattle.std.specs.Option.{option_map, option_map_or, option_to_list}
 use Rattle.std.specs.Str.{bytes_eq}
@@ -10,7 +11,8 @@ use Rattle.nest_core.specs.Puts.{is_among}
 use Rattle.posting_core.specs.declared.entry.Entry.{Entry}
 use Rattle.posting_core.specs.Messages.{day_of}
 use Rattle.posting_core.specs.VerdictNames.{is_applied}
-use Rattle.posting_core.specs.Agreements.{Agreement, agreements, agreement, loans, is_authorised, last_from, last_day}
+use Rattle.posting_core.specs.Agreements.{Agreement, agreements, agreement, loans, is_authorised}
+use Rattle.posting_core.specs.Agreements.{last_from, last_day}
 use Rattle.posting_core.specs.History.{spots, place_at}
 use Rattle.posting_core.specs.Loans.{stage, objects_of, objects, line, state_by, loan_state}
 use Rattle.posting_core.specs.Book.{Book}

@@ -1,5 +1,6 @@
 -- The spots that an entry adds for each thing.
-use Rattle.std.specs.Prelude.{ℕ, zero, suc, ◌≡◌, ◌+◌, ◌<◌, ◌≤◌, ◌==◌, Bool, true, false, filter, map, [], ◌∷◌, ◌++◌, Option, None, Some, length, refl, if◌then◌else◌}
+use Rattle.std.specs.Prelude.{ℕ, zero, suc, ◌≡◌, ◌+◌, ◌<◌, ◌≤◌, ◌==◌, Bool, true, false, filter}
+use Rattle.std.specs.Prelude.{map, [], ◌∷◌, ◌++◌, Option, None, Some, length, refl, if◌then◌else◌}
 use Rattle.std.specs.List.{filter_map, range_with_len, cons_option}
 use Rattle.std.specs.Option.{option_map, option_to_list}
 use Rattle.std.proofs.Common.{ap, ◌∙◌, sym, subst, arith, inl, inr}

@@ -1,6 +1,8 @@
 -- The spots that an applied message writes are those of the things carried, and which things these
 -- are.
-use Rattle.std.specs.Prelude.{ℕ, ℤ, zero, suc, ◌≡◌, ◌+◌, ◌<◌, ◌≤◌, Bool, true, false, cond, if◌then◌else◌, List, [], ◌∷◌, ◌++◌, Option, None, Some, length, filter, refl, All}
+use Rattle.std.specs.Prelude.{ℕ, ℤ, zero, suc, ◌≡◌, ◌+◌, ◌<◌, ◌≤◌, Bool, true, false, cond}
+use Rattle.std.specs.Prelude.{if◌then◌else◌, List, [], ◌∷◌, ◌++◌, Option, None, Some, length}
+use Rattle.std.specs.Prelude.{filter, refl, All}
 use Rattle.std.specs.List.{filter_map, range_with_len, cons_option}
 use Rattle.std.proofs.Common.{ap, ◌∙◌, sym, arith, get_or, take}
 use Rattle.std.proofs.lemmas.List.{take_more}
@@ -14,10 +16,12 @@ use Rattle.posting_core.specs.declared.verdict.Verdict.{Verdict}
 use Rattle.posting_core.specs.declared.entry.Entry.{Entry}
 use Rattle.posting_core.specs.declared.entry.NewSpot.{NewSpot}
 use Rattle.posting_core.specs.Messages.{day_of}
-use Rattle.posting_core.specs.History.{puts, put_in, put_by, spots, place_at, carried_at, carried_with}
+use Rattle.posting_core.specs.History.{puts, put_in, put_by, spots, place_at, carried_at}
+use Rattle.posting_core.specs.History.{carried_with}
 use Rattle.posting_core.specs.Lawful.{IsLawful}
 use Rattle.posting_core.specs.VerdictNames.{is_applied}
-use Rattle.posting_core.specs.Book.{Book, verdict_in, place_in, spots_in, place_after, new_spot, new_spots}
+use Rattle.posting_core.specs.Book.{Book, verdict_in, place_in, spots_in, place_after, new_spot}
+use Rattle.posting_core.specs.Book.{new_spots}
 use Rattle.posting_core.specs.Rows.{place_to}
 use Rattle.posting_core.proofs.AppliedRows.{applied_is}
 use Rattle.posting_core.proofs.Placed.{IsAllowedPut, allowed_in, by_applied, comes_along, stays}

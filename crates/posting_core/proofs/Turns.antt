@@ -1,5 +1,6 @@
 -- The effect of an applied entry of each kind on an object that it places.
-use Rattle.std.specs.Prelude.{ℕ, ℤ, ◌≡◌, ◌<◌, true, false, not, List, [], ◌∷◌, length, Option, None, Some, refl, is_some, slice_get}
+use Rattle.std.specs.Prelude.{ℕ, ℤ, ◌≡◌, ◌<◌, true, false, not, List, [], ◌∷◌, length, Option, None}
+use Rattle.std.specs.Prelude.{Some, refl, is_some, slice_get}
 use Rattle.std.specs.Option.{option_map, option_map_or}
 use Rattle.std.proofs.Common.{ap, ◌∙◌, sym, subst}
 use Rattle.std.proofs.lemmas.Bool.{not-false, false≢true}
@@ -10,7 +11,9 @@ use Rattle.nest_core.specs.declared.put.Target.TheVariants.{At, Within}
 use Rattle.nest_core.specs.Museum.{Museum, is_container, is_inside, is_elsewhere}
 use Rattle.nest_core.specs.Puts.{is_carried}
 use Rattle.posting_core.specs.declared.message.Message.{Message}
-use Rattle.posting_core.specs.declared.message.Message.TheVariants.{Move, Pack, Agree, Authorise, Exit, Return, Receive, SignOff, Extend}
+use Rattle.posting_core.specs.declared.message.Message.TheVariants.{Move, Pack, Agree, Authorise}
+use Rattle.posting_core.specs.declared.message.Message.TheVariants.{Exit, Return, Receive, SignOff}
+use Rattle.posting_core.specs.declared.message.Message.TheVariants.{Extend}
 use Rattle.posting_core.specs.declared.verdict.Verdict.TheVariants.{Applied}
 use Rattle.posting_core.specs.declared.entry.Entry.{Entry}
 use Rattle.posting_core.specs.declared.stage.LineStage.TheVariants.{Awaiting, Away, Back, Here}
@@ -18,11 +21,15 @@ use Rattle.posting_core.specs.Messages.{thing_no, place_no}
 use Rattle.posting_core.specs.Agreements.{Agreement, agreement, is_agreed}
 use Rattle.posting_core.specs.History.{puts, put_in, place_at}
 use Rattle.posting_core.specs.Loans.{Crossing, crossing_in, exit_of, stage}
-use Rattle.posting_core.specs.Verdicts.{verdict, first_of, move_rows, pack_rows, exit_rows, return_rows, receive_rows, is_known_place, is_away, stands_inside, carries_unlisted, carries_wrong_stage}
+use Rattle.posting_core.specs.Verdicts.{verdict, first_of, move_rows, pack_rows, exit_rows}
+use Rattle.posting_core.specs.Verdicts.{return_rows, receive_rows, is_known_place, is_away}
+use Rattle.posting_core.specs.Verdicts.{stands_inside, carries_unlisted, carries_wrong_stage}
 use Rattle.posting_core.specs.Rows.{place_to}
 use Rattle.posting_core.proofs.AppliedRows.{none_holds}
 use Rattle.posting_core.proofs.Placed.{place_below}
-use Rattle.posting_core.proofs.Accounted.{IsApplied, IsLeft, GoesWith, HasCrossed, IsReady, nothing_put, by_carried, carried_among, apart_not_among, nothing_crosses, crosses_without, crosses_with, ready}
+use Rattle.posting_core.proofs.Accounted.{IsApplied, IsLeft, GoesWith, HasCrossed, IsReady}
+use Rattle.posting_core.proofs.Accounted.{nothing_put, by_carried, carried_among, apart_not_among}
+use Rattle.posting_core.proofs.Accounted.{nothing_crosses, crosses_without, crosses_with, ready}
 
 -- a place of the setup is inside or elsewhere
 elsewhere_is : (S : Museum) (p : ℕ) → p < length S.places → is_elsewhere S p ≡ not (is_inside S p)

@@ -1,5 +1,6 @@
 -- Where objects are according to the loans, and how a ledger goes on, on worked rows.
-use Rattle.std.specs.Prelude.{ℕ, ◌≡◌, ◌≢◌, true, false, cond, Bool, List, [], ◌∷◌, Some, None, map, refl, codes, if◌then◌else◌}
+use Rattle.std.specs.Prelude.{ℕ, ◌≡◌, ◌≢◌, true, false, cond, Bool, List, [], ◌∷◌, Some, None, map}
+use Rattle.std.specs.Prelude.{refl, codes, if◌then◌else◌}
 use Rattle.std.specs.Option.{option_map_or}
 use Rattle.std.specs.Str.{bytes_eq}
 use Rattle.std.proofs.Common.{ap, ◌∙◌, sym, arith, inl}
@@ -8,18 +9,25 @@ use Rattle.std.proofs.lemmas.Option.{none-some}
 use Rattle.std.proofs.lemmas.Slice.Eq.{bytes_eq-Decides}
 use Rattle.nest_core.specs.Puts.{is_among}
 use Rattle.posting_core.specs.declared.stage.LineStage.{LineStage}
-use Rattle.posting_core.specs.declared.stage.LineStage.TheVariants.{Awaiting, Away, Back, Here, GivenBack}
+use Rattle.posting_core.specs.declared.stage.LineStage.TheVariants.{Awaiting, Away, Back, Here}
+use Rattle.posting_core.specs.declared.stage.LineStage.TheVariants.{GivenBack}
 use Rattle.posting_core.specs.declared.entry.Entry.{Entry}
 use Rattle.posting_core.specs.declared.verdict.Verdict.TheVariants.{NotAuthorised}
 use Rattle.posting_core.specs.Agreements.{Agreement, agreement}
 use Rattle.posting_core.specs.Loans.{objects_of, objects, stage}
 use Rattle.posting_core.specs.Verdicts.{is_container_code}
 use Rattle.posting_core.specs.Book.{line_in, last_day_in, changes_of}
-use Rattle.posting_core.specs.Accountability.{IsUnderOne, partner_in, IsHome, IsLent, IsWithLender, IsGuest, IsOver, AtEachApplied, IsAuthorised, IsWithin, IsInTerm, AnswerAlike}
-use Rattle.posting_core.specs.Onward.{later, spots_for, names_line, is_onward, goes_forward, MovesOn, LeavesUncrated}
+use Rattle.posting_core.specs.Accountability.{IsUnderOne, partner_in, IsHome, IsLent, IsWithLender}
+use Rattle.posting_core.specs.Accountability.{IsGuest, IsOver, AtEachApplied, IsAuthorised}
+use Rattle.posting_core.specs.Accountability.{IsWithin, IsInTerm, AnswerAlike}
+use Rattle.posting_core.specs.Onward.{later, spots_for, names_line, is_onward, goes_forward}
+use Rattle.posting_core.specs.Onward.{MovesOn, LeavesUncrated}
 use Rattle.posting_core.proofs.Refused.{unchanged}
-use Rattle.posting_core.proofs.WorkedRows.{museum, museum_x, s2, object_1, object_2, object_3, borrowed, may, book, run, pack}
-use Rattle.posting_core.proofs.WorkedLoansOut.{may_31, june_30, loan_1, leaves, spot_on, two_agreed, three_packed, refused_unauthorised, ready, loan_out, both_back, extend_tour}
+use Rattle.posting_core.proofs.WorkedRows.{museum, museum_x, s2, object_1, object_2, object_3}
+use Rattle.posting_core.proofs.WorkedRows.{borrowed, may, book, run, pack}
+use Rattle.posting_core.proofs.WorkedLoansOut.{may_31, june_30, loan_1, leaves, spot_on, two_agreed}
+use Rattle.posting_core.proofs.WorkedLoansOut.{three_packed, refused_unauthorised, ready, loan_out}
+use Rattle.posting_core.proofs.WorkedLoansOut.{both_back, extend_tour}
 use Rattle.posting_core.proofs.WorkedLoansIn.{loan_in_1, june_5, awaited, here}
 
 -- loan_out: at first each object is home; then two leave in the crate, and the third stays home

@@ -4,7 +4,9 @@
 use Rattle.std.specs.Prelude.{ℕ, ◌≡◌, true, false, List, [], ◌∷◌, Some, None, map, refl, codes}
 use Rattle.std.proofs.Common.{arith, sym}
 use Rattle.nest_core.specs.Museum.{find_thing}
-use Rattle.posting_core.specs.declared.verdict.Verdict.TheVariants.{Applied, UnknownThing, UnknownPlace, ElsewherePlace, UnknownLoan, NotAuthorised}
+use Rattle.posting_core.specs.declared.verdict.Verdict.TheVariants.{Applied, UnknownThing}
+use Rattle.posting_core.specs.declared.verdict.Verdict.TheVariants.{UnknownPlace, ElsewherePlace}
+use Rattle.posting_core.specs.declared.verdict.Verdict.TheVariants.{UnknownLoan, NotAuthorised}
 use Rattle.posting_core.specs.declared.message.Message.{Message}
 use Rattle.posting_core.specs.declared.message.Message.TheVariants.{Move, Extend}
 use Rattle.posting_core.specs.declared.stage.LineStage.TheVariants.{Awaiting}
@@ -14,7 +16,8 @@ use Rattle.posting_core.specs.LoanRows.{AreOnce, LoanRow, loan_rows, row_by}
 use Rattle.posting_core.specs.Crossings.{IsFound, incoming_rows}
 use Rattle.posting_core.specs.Verdicts.{first_of}
 use Rattle.posting_core.proofs.LoanAnswers.{IsRowOf, row_is}
-use Rattle.posting_core.proofs.WorkedRows.{museum, museum_x, pack, crate_1, object_1, object_2, object_3, may, run}
+use Rattle.posting_core.proofs.WorkedRows.{museum, museum_x, pack, crate_1, object_1, object_2}
+use Rattle.posting_core.proofs.WorkedRows.{object_3, may, run}
 use Rattle.posting_core.proofs.WorkedLoansOut.{agreed, loan_1, may_31, june_1, now_authorised}
 
 -- the loan that is agreed last, for the object that was left out

@@ -1,7 +1,8 @@
 -- The forms in which messages are kept, computed on worked rows.
 use Rattle.std.specs.Prelude.{◌≡◌, refl, codes}
 use Rattle.posting_core.specs.declared.kept_message.Form.TheVariants as form
-use Rattle.posting_core.specs.declared.message.Message.TheVariants.{Move, Pack, Exit, Return, Receive}
+use Rattle.posting_core.specs.declared.message.Message.TheVariants.{Move, Pack, Exit, Return}
+use Rattle.posting_core.specs.declared.message.Message.TheVariants.{Receive}
 use Rattle.posting_core.specs.KeptForms.{said, HasCodes}
 use Rattle.posting_core.proofs.WorkedRows.{may}
 use Rattle.posting_core.proofs.WorkedLoansOut.{loan_1}

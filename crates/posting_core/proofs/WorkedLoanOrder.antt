@@ -4,7 +4,14 @@ use Rattle.std.specs.Prelude.{ℕ, ◌≡◌, List, [], ◌∷◌, map, refl, co
 use Rattle.posting_core.specs.declared.message.Message.{Message}
 use Rattle.posting_core.specs.declared.message.Message.TheVariants.{Agree, Return, Receive, Extend}
 use Rattle.posting_core.specs.declared.verdict.Verdict.{Verdict}
-use Rattle.posting_core.specs.declared.verdict.Verdict.TheVariants.{UnknownThing, UnknownPlace, ElsewherePlace, UnknownLoan, LoanKnown, InsidePartner, NotObject, Repeated, WrongOwner, NotAuthorised, WrongDirection, NotHere, NotWithPartner, AlreadyHere, NotListed, WrongStage}
+use Rattle.posting_core.specs.declared.verdict.Verdict.TheVariants.{UnknownThing, UnknownPlace}
+use Rattle.posting_core.specs.declared.verdict.Verdict.TheVariants.{ElsewherePlace, UnknownLoan}
+use Rattle.posting_core.specs.declared.verdict.Verdict.TheVariants.{LoanKnown, InsidePartner}
+use Rattle.posting_core.specs.declared.verdict.Verdict.TheVariants.{NotObject, Repeated, WrongOwner}
+use Rattle.posting_core.specs.declared.verdict.Verdict.TheVariants.{NotAuthorised, WrongDirection}
+use Rattle.posting_core.specs.declared.verdict.Verdict.TheVariants.{NotHere, NotWithPartner}
+use Rattle.posting_core.specs.declared.verdict.Verdict.TheVariants.{AlreadyHere, NotListed}
+use Rattle.posting_core.specs.declared.verdict.Verdict.TheVariants.{WrongStage}
 use Rattle.posting_core.specs.declared.entry.Entry.{Entry}
 use Rattle.posting_core.specs.Verdicts.{verdict}
 use Rattle.posting_core.proofs.WorkedRows.{museum, pack, may, moved, run}

@@ -2,12 +2,22 @@
 use Rattle.std.specs.Prelude.{ℕ, ℤ, pos, ◌≡◌, List, [], ◌∷◌, Some, None, map, refl, codes}
 use Rattle.posting_core.specs.declared.message.Message.{Message}
 use Rattle.posting_core.specs.declared.message.Message.TheVariants.{Pack, Agree, Receive}
-use Rattle.posting_core.specs.declared.verdict.Verdict.TheVariants.{Applied, UnknownThing, UnknownPlace, ElsewherePlace, UnknownContainer, UnknownLoan, LoanKnown, InsidePartner, NoObjects, NotObject, Repeated, WrongOwner, BadTerm, AlreadyAuthorised, WrongDirection, NotHere, ContainerNotHere, AlreadyHere}
+use Rattle.posting_core.specs.declared.verdict.Verdict.TheVariants.{Applied, UnknownThing}
+use Rattle.posting_core.specs.declared.verdict.Verdict.TheVariants.{UnknownPlace, ElsewherePlace}
+use Rattle.posting_core.specs.declared.verdict.Verdict.TheVariants.{UnknownContainer, UnknownLoan}
+use Rattle.posting_core.specs.declared.verdict.Verdict.TheVariants.{LoanKnown, InsidePartner}
+use Rattle.posting_core.specs.declared.verdict.Verdict.TheVariants.{NoObjects, NotObject, Repeated}
+use Rattle.posting_core.specs.declared.verdict.Verdict.TheVariants.{WrongOwner, BadTerm}
+use Rattle.posting_core.specs.declared.verdict.Verdict.TheVariants.{AlreadyAuthorised}
+use Rattle.posting_core.specs.declared.verdict.Verdict.TheVariants.{WrongDirection, NotHere}
+use Rattle.posting_core.specs.declared.verdict.Verdict.TheVariants.{ContainerNotHere, AlreadyHere}
 use Rattle.posting_core.specs.declared.stage.LineStage.TheVariants.{Awaiting, Here, GivenBack}
-use Rattle.posting_core.specs.declared.stage.LoanState.TheVariants.{Draft, Authorised, Running, Closed}
+use Rattle.posting_core.specs.declared.stage.LoanState.TheVariants.{Draft, Authorised, Running}
+use Rattle.posting_core.specs.declared.stage.LoanState.TheVariants.{Closed}
 use Rattle.posting_core.specs.declared.entry.Entry.{Entry}
 use Rattle.posting_core.specs.Book.{place_in, spots_in, loans_in, line_in, state_in, changes_of}
-use Rattle.posting_core.proofs.WorkedRows.{lender_y, pack, gal, s1, s2, crate_1, object_1, borrowed, may, moved, run, verdicts, book, spot, put_at}
+use Rattle.posting_core.proofs.WorkedRows.{lender_y, pack, gal, s1, s2, crate_1, object_1, borrowed}
+use Rattle.posting_core.proofs.WorkedRows.{may, moved, run, verdicts, book, spot, put_at}
 use Rattle.posting_core.proofs.WorkedLoansOut.{may_31, loan_1, agreed, authorised, leaves}
 
 -- the day before the term

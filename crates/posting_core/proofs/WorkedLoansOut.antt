@@ -1,18 +1,28 @@
 -- Loans out computed on worked rows: objects leave in a crate, and come back.
-use Rattle.std.specs.Prelude.{ℕ, ℤ, pos, ◌≡◌, true, false, List, [], ◌∷◌, ◌++◌, Some, None, map, refl, codes}
+use Rattle.std.specs.Prelude.{ℕ, ℤ, pos, ◌≡◌, true, false, List, [], ◌∷◌, ◌++◌, Some, None, map}
+use Rattle.std.specs.Prelude.{refl, codes}
 use Rattle.posting_core.specs.declared.message.Message.{Message}
-use Rattle.posting_core.specs.declared.message.Message.TheVariants.{Move, Pack, Agree, Authorise, Exit, Return, Extend}
-use Rattle.posting_core.specs.declared.verdict.Verdict.TheVariants.{Applied, UnknownLoan, NotAuthorised, NotHere, NotWithPartner, NotListed, WrongStage, TermOver, NotLater}
+use Rattle.posting_core.specs.declared.message.Message.TheVariants.{Move, Pack, Agree, Authorise}
+use Rattle.posting_core.specs.declared.message.Message.TheVariants.{Exit, Return, Extend}
+use Rattle.posting_core.specs.declared.verdict.Verdict.TheVariants.{Applied, UnknownLoan}
+use Rattle.posting_core.specs.declared.verdict.Verdict.TheVariants.{NotAuthorised, NotHere}
+use Rattle.posting_core.specs.declared.verdict.Verdict.TheVariants.{NotWithPartner, NotListed}
+use Rattle.posting_core.specs.declared.verdict.Verdict.TheVariants.{WrongStage, TermOver, NotLater}
 use Rattle.posting_core.specs.declared.stage.LineStage.TheVariants.{Awaiting, Away, Back}
-use Rattle.posting_core.specs.declared.stage.LoanState.TheVariants.{Draft, Authorised, Running, Closed}
+use Rattle.posting_core.specs.declared.stage.LoanState.TheVariants.{Draft, Authorised, Running}
+use Rattle.posting_core.specs.declared.stage.LoanState.TheVariants.{Closed}
 use Rattle.posting_core.specs.declared.entry.Entry.{Entry}
 use Rattle.posting_core.specs.declared.entry.NewLine.{NewLine}
 use Rattle.posting_core.specs.declared.entry.NewSpot.{NewSpot}
 use Rattle.posting_core.specs.declared.entry.Spot.{Spot}
 use Rattle.posting_core.specs.declared.stage.LineStage.{LineStage}
-use Rattle.posting_core.specs.Book.{place_in, chain_in, spots_in, loans_in, objects_of_loan, line_in, state_in, last_day_in, changes_of, crosses_with, asks_lines, asks_memory}
+use Rattle.posting_core.specs.Book.{place_in, chain_in, spots_in, loans_in, objects_of_loan}
+use Rattle.posting_core.specs.Book.{line_in, state_in, last_day_in, changes_of, crosses_with}
+use Rattle.posting_core.specs.Book.{asks_lines, asks_memory}
 use Rattle.posting_core.specs.History.{takes_along}
-use Rattle.posting_core.proofs.WorkedRows.{museum, museum_x, pack, s1, s2, crate_1, object_1, object_2, object_3, may, moved, run, verdicts, book, spot, put_at}
+use Rattle.posting_core.proofs.WorkedRows.{museum, museum_x, pack, s1, s2, crate_1, object_1}
+use Rattle.posting_core.proofs.WorkedRows.{object_2, object_3, may, moved, run, verdicts, book}
+use Rattle.posting_core.proofs.WorkedRows.{spot, put_at}
 
 -- other days: the last of the term, and those after it
 abbrev pub may_31 : ℤ

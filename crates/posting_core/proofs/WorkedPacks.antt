@@ -1,18 +1,24 @@
 -- Packing computed on worked rows: things in crates, crates in crates, and how deep they may go.
-use Rattle.std.specs.Prelude.{ℕ, ◌≡◌, ◌++◌, true, false, List, [], ◌∷◌, Option, Some, None, map, reverse, refl, codes}
+use Rattle.std.specs.Prelude.{ℕ, ◌≡◌, ◌++◌, true, false, List, [], ◌∷◌, Option, Some, None, map}
+use Rattle.std.specs.Prelude.{reverse, refl, codes}
 use Rattle.nest_core.specs.declared.put.Target.TheVariants.{At, Within}
 use Rattle.nest_core.specs.declared.put.Put.{Put}
 use Rattle.nest_core.specs.Museum.{Museum}
 use Rattle.nest_core.specs.Puts.{contents}
 use Rattle.posting_core.specs.declared.message.Message.{Message}
 use Rattle.posting_core.specs.declared.message.Message.TheVariants.{Pack}
-use Rattle.posting_core.specs.declared.verdict.Verdict.TheVariants.{Applied, UnknownThing, UnknownContainer, NotHere, ContainerNotHere, Cycle, TooDeep}
+use Rattle.posting_core.specs.declared.verdict.Verdict.TheVariants.{Applied, UnknownThing}
+use Rattle.posting_core.specs.declared.verdict.Verdict.TheVariants.{UnknownContainer, NotHere}
+use Rattle.posting_core.specs.declared.verdict.Verdict.TheVariants.{ContainerNotHere, Cycle}
+use Rattle.posting_core.specs.declared.verdict.Verdict.TheVariants.{TooDeep}
 use Rattle.posting_core.specs.declared.entry.Entry.{Entry}
 use Rattle.posting_core.specs.declared.entry.NewSpot.{NewSpot}
 use Rattle.posting_core.specs.History.{puts, chain_at, carried_at, holds_at, spots}
 use Rattle.posting_core.specs.Verdicts.{verdict, is_deep_with}
 use Rattle.posting_core.specs.Book.{place_in, changes_of, asks_memory}
-use Rattle.posting_core.proofs.WorkedRows.{museum, pack, s1, s1_a, s2, crate_1, crate_2, object_1, object_2, may, moved, run, run_in, verdicts, book, spot, put_at}
+use Rattle.posting_core.proofs.WorkedRows.{museum, pack, s1, s1_a, s2, crate_1, crate_2, object_1}
+use Rattle.posting_core.proofs.WorkedRows.{object_2, may, moved, run, run_in, verdicts, book, spot}
+use Rattle.posting_core.proofs.WorkedRows.{put_at}
 
 abbrev packed : List ℕ → List ℕ → Message
 packed x c = Pack may x c

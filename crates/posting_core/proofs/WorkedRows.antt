@@ -1,6 +1,7 @@
 -- The definitions computed on worked rows that a reader can follow by hand. Each is proved by
 -- computing.
-use Rattle.std.specs.Prelude.{ℕ, ℤ, pos, ◌+◌, ◌*◌, ◌≡◌, ◌<◌, ◌≤◌, true, false, List, [], ◌∷◌, Option, Some, None, map, reverse, refl, codes}
+use Rattle.std.specs.Prelude.{ℕ, ℤ, pos, ◌+◌, ◌*◌, ◌≡◌, ◌<◌, ◌≤◌, true, false, List, [], ◌∷◌}
+use Rattle.std.specs.Prelude.{Option, Some, None, map, reverse, refl, codes}
 use Rattle.std.proofs.Common.{arith, sym}
 use Rattle.nest_core.specs.declared.put.Target.TheVariants.{At}
 use Rattle.nest_core.specs.declared.put.Put.{Put}
@@ -9,7 +10,9 @@ use Rattle.posting_core.specs.declared.TheConstants.{LAST_NUMBER, MOST_ENTRIES, 
 use Rattle.posting_core.specs.declared.message.Message.{Message}
 use Rattle.posting_core.specs.declared.message.Message.TheVariants.{Move, SignOff}
 use Rattle.posting_core.specs.declared.verdict.Verdict.{Verdict}
-use Rattle.posting_core.specs.declared.verdict.Verdict.TheVariants.{Applied, UnknownThing, UnknownPlace, ElsewherePlace, NotHere}
+use Rattle.posting_core.specs.declared.verdict.Verdict.TheVariants.{Applied, UnknownThing}
+use Rattle.posting_core.specs.declared.verdict.Verdict.TheVariants.{UnknownPlace, ElsewherePlace}
+use Rattle.posting_core.specs.declared.verdict.Verdict.TheVariants.{NotHere}
 use Rattle.posting_core.specs.declared.entry.Entry.{Entry}
 use Rattle.posting_core.specs.declared.entry.Spot.{Spot}
 use Rattle.posting_core.specs.History.{puts, chain_at, carried_at, spots}

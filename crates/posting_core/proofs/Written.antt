@@ -1,5 +1,6 @@
 -- The rows after an entry's new spots are written.
-use Rattle.std.specs.Prelude.{ℕ, ℤ, ◌≡◌, ◌+◌, ◌<◌, ◌≤◌, ◌==◌, true, List, [], ◌∷◌, ◌++◌, Option, None, Some, length, zero, suc, refl, slice_set, All}
+use Rattle.std.specs.Prelude.{ℕ, ℤ, ◌≡◌, ◌+◌, ◌<◌, ◌≤◌, ◌==◌, true, List, [], ◌∷◌, ◌++◌, Option}
+use Rattle.std.specs.Prelude.{None, Some, length, zero, suc, refl, slice_set, All}
 use Rattle.std.specs.List.{filter_map, range_with_len, cons_option}
 use Rattle.std.specs.Option.{option_map, option_map_or, option_to_list}
 use Rattle.std.proofs.Common.{ap, ◌∙◌, sym, subst, arith, inl, inr, length-set}
@@ -68,7 +69,8 @@ rows_written R f a (suc n) x own fits low high =
             (rw e (append-nil (row_of R x))))
         | inr n' ↦ rows_written R f (a + 1) n x own (omega arith) (omega arith) (omega arith)
       ]
-      | Some s ↦ λ e. let t : s.thing ≡ a = own a s e in let row = row_of R s.thing ++ s.spot ∷ [] in
+      | Some s ↦ λ e. let t : s.thing ≡ a = own a s e in
+          let row = row_of R s.thing ++ s.spot ∷ [] in
           elim (cases_eq a x) [
             | inl same ↦ rows_before (slice_set R s.thing row) f (a + 1) n x own (omega arith)
                 ∙ subst (λ y. row_of (slice_set R s.thing row) y ≡ row_of R y ++ spot_at f y) same
@@ -76,7 +78,8 @@ rows_written R f a (suc n) x own fits low high =
                 (rw e (row_same R s.thing row (omega arith))))
             | inr n' ↦ rows_written (slice_set R s.thing row) f (a + 1) n x own
                 (omega (arith, length-set R s.thing row)) (omega arith) (omega arith)
-                ∙ ap (λ (r : List Spot). r ++ spot_at f x) (row_other R s.thing x row (λ h. n' (sym t ∙ h)))
+                ∙ ap (λ (r : List Spot). r ++ spot_at f x)
+                (row_other R s.thing x row (λ h. n' (sym t ∙ h)))
           ]
     ] refl
 

@@ -1,6 +1,7 @@
 -- Defines how the loans account for the objects: where own and borrowed objects are, when a loan is
 -- over, and how things may leave and arrive. The laws of `posting_core` prove this of every ledger.
-use Rattle.std.specs.Prelude.{ℕ, ℤ, ◌≡◌, ◌≢◌, ◌⊎◌, ◌≤ℤ◌, true, false, List, [], ◌∷◌, Option, Some, IfSome}
+use Rattle.std.specs.Prelude.{ℕ, ℤ, ◌≡◌, ◌≢◌, ◌⊎◌, ◌≤ℤ◌, true, false, List, [], ◌∷◌, Option, Some}
+use Rattle.std.specs.Prelude.{IfSome}
 use Rattle.std.specs.Option.{option_map}
 use Rattle.codes_core.specs.Loan.{is_out}
 use Rattle.nest_core.specs.Museum.{is_inside, is_elsewhere}
@@ -12,7 +13,8 @@ use Rattle.posting_core.specs.declared.stage.LineStage.TheVariants.{Away, Back, 
 use Rattle.posting_core.specs.Messages.{place_no}
 use Rattle.posting_core.specs.VerdictNames.{is_applied}
 use Rattle.posting_core.specs.Agreements.{agreement, is_authorised, last_day}
-use Rattle.posting_core.specs.Book.{Book, place_in, chain_in, spots_in, loans_in, objects_of_loan, line_in, state_in, last_day_in}
+use Rattle.posting_core.specs.Book.{Book, place_in, chain_in, spots_in, loans_in, objects_of_loan}
+use Rattle.posting_core.specs.Book.{line_in, state_in, last_day_in}
 
 -- Under no loan is the object's line at this stage.
 abbrev pub IsUnderNone : Book → LineStage → ℕ → Type 0

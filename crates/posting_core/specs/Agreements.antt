@@ -1,7 +1,8 @@
 -- Defines the agreements of loans, by looking back through the posted entries: a loan's terms,
 -- whether it is authorised, and its last day. The newest entry comes first, and only applied
 -- entries count.
-use Rattle.std.specs.Prelude.{ℕ, ℤ, ◌+◌, ◌&&◌, Bool, false, List, [], ◌∷◌, ◌++◌, length, Option, Some, None, map, is_some, unwrap_or, if◌then◌else◌}
+use Rattle.std.specs.Prelude.{ℕ, ℤ, ◌+◌, ◌&&◌, Bool, false, List, [], ◌∷◌, ◌++◌, length, Option}
+use Rattle.std.specs.Prelude.{Some, None, map, is_some, unwrap_or, if◌then◌else◌}
 use Rattle.std.specs.List.{find, list_any, position}
 use Rattle.std.specs.Option.{option_map, option_and_then, option_to_list}
 use Rattle.std.specs.Str.{bytes_eq}

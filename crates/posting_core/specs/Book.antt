@@ -1,5 +1,6 @@
 -- Defines a ledger's view, its answers, and the changes that posting a message makes in it.
-use Rattle.std.specs.Prelude.{ℕ, ℤ, ◌+◌, ◌&&◌, ◌||◌, Bool, false, List, [], length, map, Option, is_some, if◌then◌else◌}
+use Rattle.std.specs.Prelude.{ℕ, ℤ, ◌+◌, ◌&&◌, ◌||◌, Bool, false, List, [], length, map, Option}
+use Rattle.std.specs.Prelude.{is_some, if◌then◌else◌}
 use Rattle.std.specs.List.{range_with_len, filter_map}
 use Rattle.std.specs.Option.{option_map, option_map_or}
 use Rattle.nest_core.specs.Museum.{Museum}
@@ -15,10 +16,12 @@ use Rattle.posting_core.specs.declared.stage.LineStage.{LineStage}
 use Rattle.posting_core.specs.declared.stage.LineStage.TheVariants.{Awaiting}
 use Rattle.posting_core.specs.declared.stage.LoanState.{LoanState}
 use Rattle.posting_core.specs.Messages.{thing_no, day_of}
-use Rattle.posting_core.specs.History.{puts, put_in, put_by, carried_with, holds_at, takes_along, chain_at, place_at, spots, spot_from}
+use Rattle.posting_core.specs.History.{puts, put_in, put_by, carried_with, holds_at, takes_along}
+use Rattle.posting_core.specs.History.{chain_at, place_at, spots, spot_from}
 use Rattle.posting_core.specs.VerdictNames.{is_applied}
 use Rattle.posting_core.specs.Agreements.{Agreement, agreement_in, loan_by, loans, last_day}
-use Rattle.posting_core.specs.Loans.{Crossing, crossing_in, objects_in, objects_of, objects, line, loan_state}
+use Rattle.posting_core.specs.Loans.{Crossing, crossing_in, objects_in, objects_of, objects, line}
+use Rattle.posting_core.specs.Loans.{loan_state}
 use Rattle.posting_core.specs.Verdicts.{verdict, hangs_on_lines}
 
 -- A ledger: the setup, the depth limit, and the posted entries, the newest first.

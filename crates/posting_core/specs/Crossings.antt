@@ -5,7 +5,8 @@ use Rattle.nest_core.specs.Museum.{Museum, find_thing, is_elsewhere}
 use Rattle.nest_core.specs.InOrder.{Row, ◌if◌}
 use Rattle.posting_core.specs.declared.entry.Entry.{Entry}
 use Rattle.posting_core.specs.declared.verdict.Verdict.{Verdict}
-use Rattle.posting_core.specs.declared.verdict.Verdict.TheVariants.{UnknownThing, UnknownPlace, ElsewherePlace, UnknownLoan}
+use Rattle.posting_core.specs.declared.verdict.Verdict.TheVariants.{UnknownThing, UnknownPlace}
+use Rattle.posting_core.specs.declared.verdict.Verdict.TheVariants.{ElsewherePlace, UnknownLoan}
 use Rattle.posting_core.specs.Messages.{place_no}
 use Rattle.posting_core.specs.Agreements.{agreement, loan_no, is_agreed, is_authorised, last_day}
 use Rattle.posting_core.specs.Loans.{line}

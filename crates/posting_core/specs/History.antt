@@ -1,6 +1,7 @@
 -- Defines where things are and have been, by looking back through the posted entries. The newest
 -- entry comes first, so looking back is going down the list.
-use Rattle.std.specs.Prelude.{ℕ, ℤ, ◌+◌, Bool, false, List, [], ◌∷◌, ◌++◌, length, Option, Some, None, if◌then◌else◌}
+use Rattle.std.specs.Prelude.{ℕ, ℤ, ◌+◌, Bool, false, List, [], ◌∷◌, ◌++◌, length, Option, Some}
+use Rattle.std.specs.Prelude.{None, if◌then◌else◌}
 use Rattle.std.specs.Option.{option_map, option_map_or, option_to_list}
 use Rattle.nest_core.specs.declared.put.Target.TheVariants.{At, Within}
 use Rattle.nest_core.specs.declared.put.Put.{Put}
@@ -8,7 +9,8 @@ use Rattle.nest_core.specs.Museum.{Museum}
 use Rattle.nest_core.specs.Puts.{with_put, chain, place, carried, holds_things}
 use Rattle.nest_core.specs.Nest.{is_same_place}
 use Rattle.posting_core.specs.declared.message.Message.{Message}
-use Rattle.posting_core.specs.declared.message.Message.TheVariants.{Move, Pack, Exit, Return, Receive}
+use Rattle.posting_core.specs.declared.message.Message.TheVariants.{Move, Pack, Exit, Return}
+use Rattle.posting_core.specs.declared.message.Message.TheVariants.{Receive}
 use Rattle.posting_core.specs.declared.verdict.Verdict.{Verdict}
 use Rattle.posting_core.specs.declared.entry.Entry.{Entry}
 use Rattle.posting_core.specs.declared.entry.Spot.{Spot}

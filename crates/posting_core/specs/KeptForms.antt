@@ -5,7 +5,8 @@ use Rattle.codes_core.specs.Loan.{loan_fault}
 use Rattle.codes_core.specs.Place.{place_fault}
 use Rattle.codes_core.specs.Thing.{thing_fault}
 use Rattle.posting_core.specs.declared.kept_message.Form.{Form}
-use Rattle.posting_core.specs.declared.kept_message.Form.TheVariants.{Move, Pack, Exit, Return, Receive, Whole}
+use Rattle.posting_core.specs.declared.kept_message.Form.TheVariants.{Move, Pack, Exit, Return}
+use Rattle.posting_core.specs.declared.kept_message.Form.TheVariants.{Receive, Whole}
 use Rattle.posting_core.specs.declared.message.Message.{Message}
 use Rattle.posting_core.specs.declared.message.Message.TheVariants as says
 

@@ -3,7 +3,9 @@
 use Rattle.std.specs.Prelude.{ℕ, ℤ, Bool, true, false, List, length, Option, Some, None, unwrap_or}
 use Rattle.nest_core.specs.Museum.{Museum, find_thing, find_place}
 use Rattle.posting_core.specs.declared.message.Message.{Message}
-use Rattle.posting_core.specs.declared.message.Message.TheVariants.{Move, Pack, Authorise, Exit, Return, Receive, SignOff, Extend}
+use Rattle.posting_core.specs.declared.message.Message.TheVariants.{Move, Pack, Authorise, Exit}
+use Rattle.posting_core.specs.declared.message.Message.TheVariants.{Return, Receive, SignOff}
+use Rattle.posting_core.specs.declared.message.Message.TheVariants.{Extend}
 
 -- The number of a thing's code. For a code that the setup doesn't have, the number of things, which
 -- is no thing's own.

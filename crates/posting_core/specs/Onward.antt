@@ -1,6 +1,7 @@
 -- Defines how a ledger grows: the changes that an entry makes in it, and the facts that stay true
 -- whatever is posted later.
-use Rattle.std.specs.Prelude.{ℕ, ℤ, ◌≡◌, ◌≤ℤ◌, ◌&&◌, ◌==◌, ◌++◌, Bool, true, false, not, List, Option, Some, None, IfSome, filter, map}
+use Rattle.std.specs.Prelude.{ℕ, ℤ, ◌≡◌, ◌≤ℤ◌, ◌&&◌, ◌==◌, ◌++◌, Bool, true, false, not, List}
+use Rattle.std.specs.Prelude.{Option, Some, None, IfSome, filter, map}
 use Rattle.std.specs.List.{list_all, list_any}
 use Rattle.std.specs.Option.{option_map_or}
 use Rattle.std.specs.Str.{bytes_eq}
@@ -11,7 +12,8 @@ use Rattle.posting_core.specs.declared.entry.Entry.{Entry}
 use Rattle.posting_core.specs.declared.entry.Spot.{Spot}
 use Rattle.posting_core.specs.declared.entry.Changes.{Changes}
 use Rattle.posting_core.specs.declared.stage.LineStage.{LineStage}
-use Rattle.posting_core.specs.declared.stage.LineStage.TheVariants.{Awaiting, Away, Back, Here, GivenBack}
+use Rattle.posting_core.specs.declared.stage.LineStage.TheVariants.{Awaiting, Away, Back, Here}
+use Rattle.posting_core.specs.declared.stage.LineStage.TheVariants.{GivenBack}
 use Rattle.posting_core.specs.VerdictNames.{is_applied}
 use Rattle.posting_core.specs.Lawful.{IsLawful}
 use Rattle.posting_core.specs.Verdicts.{is_container_code}

@@ -2,7 +2,8 @@
 ghost use Rattle.std.specs.Prelude.{◌≡◌, ◌<◌, false, map, IfOk};
 ghost use Rattle.posting_core.specs.Messages.{place_no};
 ghost use Rattle.posting_core.specs.Loans.{is_done, is_awaiting, state_by};
-ghost use Rattle.posting_core.specs.LoanRows.{LoanRow, AreOnce, line_of, state_of, authorised_row, extended_row, with_stage, with_lines};
+ghost use Rattle.posting_core.specs.LoanRows.{LoanRow, AreOnce, line_of, state_of, authorised_row};
+ghost use Rattle.posting_core.specs.LoanRows.{extended_row, with_stage, with_lines};
 
 use crate::numbers::place_no;
 use crate::{LineStage, LoanState, NewLine};

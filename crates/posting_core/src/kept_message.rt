@@ -11,7 +11,8 @@ use codes_core::{Day, LoanCode, NoMemory, PlaceCode, Spelling, ThingCode};
 use std::alloc::Global;
 use std::marker::Model;
 
-/// A message as it is kept: in 40 bytes, instead of a message's 88. Contracts see it as the message.
+/// A message as it is kept: in 40 bytes, instead of a message's 88. Contracts see it as the
+/// message.
 ///
 /// A code's type has room for the longest code, and most codes are much shorter. A message that
 /// puts a thing is kept with less room for its codes, if they fit. Any other message is kept whole,

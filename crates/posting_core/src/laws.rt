@@ -1,5 +1,6 @@
 //! Laws of a ledger's entries. The functions do nothing: their contracts are the laws.
-ghost use Rattle.std.specs.Prelude.{◌≡◌, ◌≢◌, ◌⊎◌, ◌↔◌, ◌<◌, ◌∷◌, ◌++◌, ℕ, List, [], length, None, Some, true, false, IfSome, All, is_some};
+ghost use Rattle.std.specs.Prelude.{◌≡◌, ◌≢◌, ◌⊎◌, ◌↔◌, ◌<◌, ◌∷◌, ◌++◌, ℕ, List, [], length, None};
+ghost use Rattle.std.specs.Prelude.{Some, true, false, IfSome, All, is_some};
 ghost use Rattle.std.specs.List.{last_or, AllAdjacentBelow};
 ghost use Rattle.std.specs.Option.{option_map};
 ghost use Rattle.nest_core.specs.Museum.{is_own, is_borrowed};
@@ -8,9 +9,13 @@ ghost use Rattle.posting_core.specs.declared.stage.LoanState.TheVariants.{Closed
 ghost use Rattle.posting_core.specs.declared.entry.Entry.{Entry};
 ghost use Rattle.posting_core.specs.VerdictNames.{is_applied};
 ghost use Rattle.posting_core.specs.History.{puts};
-ghost use Rattle.posting_core.specs.Book.{Book, place_in, spots_in, line_in, state_in, last_day_in, changes_of};
-ghost use Rattle.posting_core.specs.Accountability.{IsHome, IsLent, IsWithLender, IsGuest, IsOver, AtEachApplied, IsAuthorised, IsInTerm, AnswerAlike};
-ghost use Rattle.posting_core.specs.Onward.{later, GoesOn, are_refused, spots_for, names_line, goes_forward, MovesOn, LeavesUncrated};
+ghost use Rattle.posting_core.specs.Book.{Book, place_in, spots_in, line_in, state_in, last_day_in};
+ghost use Rattle.posting_core.specs.Book.{changes_of};
+ghost use Rattle.posting_core.specs.Accountability.{IsHome, IsLent, IsWithLender, IsGuest, IsOver};
+ghost use Rattle.posting_core.specs.Accountability.{AtEachApplied, IsAuthorised, IsInTerm};
+ghost use Rattle.posting_core.specs.Accountability.{AnswerAlike};
+ghost use Rattle.posting_core.specs.Onward.{later, GoesOn, are_refused, spots_for, names_line};
+ghost use Rattle.posting_core.specs.Onward.{goes_forward, MovesOn, LeavesUncrated};
 
 use crate::Ledger;
 

@@ -1,14 +1,18 @@
 //! The ledger: the posted entries, and the answers from looking back through them.
-ghost use Rattle.std.specs.Prelude.{◌≡◌, ◌<◌, ◌≤◌, ◌∷◌, [], length, reverse, All, IfOk, OnOk, OnErr, IfSome, ℕ, Some, slice_get, is_some, true};
+ghost use Rattle.std.specs.Prelude.{◌≡◌, ◌<◌, ◌≤◌, ◌∷◌, [], length, reverse, All, IfOk, OnOk};
+ghost use Rattle.std.specs.Prelude.{OnErr, IfSome, ℕ, Some, slice_get, is_some, true};
 ghost use Rattle.std.specs.Option.{option_map};
 ghost use Rattle.nest_core.specs.Puts.{is_among};
 ghost use Rattle.posting_core.specs.Lawful.{Follows, IsLawful, count_at, is_signed_off};
 ghost use Rattle.posting_core.specs.Messages.{place_no};
 ghost use Rattle.posting_core.specs.History.{put_by, carried_at, carried_with, holds_at};
-ghost use Rattle.posting_core.specs.Agreements.{agreement, agreement_by, loan_no, loan_by, is_agreed, is_authorised, last_day};
+ghost use Rattle.posting_core.specs.Agreements.{agreement, agreement_by, loan_no, loan_by};
+ghost use Rattle.posting_core.specs.Agreements.{is_agreed, is_authorised, last_day};
 ghost use Rattle.posting_core.specs.Loans.{line, loan_state};
 ghost use Rattle.posting_core.specs.LoanRows.{line_of, state_of};
-ghost use Rattle.posting_core.specs.Book.{place_in, chain_in, spots_in, verdict_in, changes_of, asks_lines, asks_memory, loans_in, objects_of_loan, line_in, state_in, last_day_in};
+ghost use Rattle.posting_core.specs.Book.{place_in, chain_in, spots_in, verdict_in, changes_of};
+ghost use Rattle.posting_core.specs.Book.{asks_lines, asks_memory, loans_in, objects_of_loan};
+ghost use Rattle.posting_core.specs.Book.{line_in, state_in, last_day_in};
 
 mod crossings;
 mod judged;

@@ -1,5 +1,6 @@
 //! Records the changes that an entry makes in the loans.
-ghost use Rattle.std.specs.Prelude.{◌≡◌, ◌<◌, ◌++◌, true, is_some, if◌then◌else◌, IfSome, length, map, OnOk, OnErr, vec_capacity};
+ghost use Rattle.std.specs.Prelude.{◌≡◌, ◌<◌, ◌++◌, true, is_some, if◌then◌else◌, IfSome, length};
+ghost use Rattle.std.specs.Prelude.{map, OnOk, OnErr, vec_capacity};
 ghost use Rattle.std.specs.Option.{option_to_list};
 ghost use Rattle.posting_core.specs.declared.verdict.Verdict.TheVariants.{Applied};
 ghost use Rattle.posting_core.specs.VerdictNames.{is_applied};
@@ -39,8 +40,8 @@ pub(crate) fn record(
     }
 }
 
-/// Adds the number of the entry to those that make an agreement, if this one does. There must be room
-/// for it.
+/// Adds the number of the entry to those that make an agreement, if this one does. There must be
+/// room for it.
 pub(crate) fn note_agreement(agreed: &mut Vec<EntryNo>, entry: &Entry, number: EntryNo)
     requires { length agreed.old.items < vec_capacity agreed.old }
     ensures { agreed.new.items ≡ agreed.old.items

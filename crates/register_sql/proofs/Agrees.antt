@@ -1,9 +1,12 @@
 -- The rows that were read, and those of the ledger.
-use Rattle.std.proofs.Common.{◌≡◌, ◌&&◌, ℕ, ℤ, Bool, List, [], ◌∷◌, ◌++◌, map, drop, reverse, None, refl, ap, subst, ◌∙◌}
+use Rattle.std.proofs.Common.{◌≡◌, ◌&&◌, ℕ, ℤ, Bool, List, [], ◌∷◌, ◌++◌, map, drop, reverse, None}
+use Rattle.std.proofs.Common.{refl, ap, subst, ◌∙◌}
 use Rattle.std.specs.Bool.{Decides}
 use Rattle.std.specs.List.Sorted.{IsPermutation}
 use Rattle.std.proofs.lemmas.List.{map-append}
-use Rattle.std.proofs.lemmas.List.Sorted.{IsPermutation-refl, IsPermutation-sym, IsPermutation-trans, IsPermutation-map, IsPermutation-reverse}
+use Rattle.std.proofs.lemmas.List.Sorted.{IsPermutation-refl, IsPermutation-sym}
+use Rattle.std.proofs.lemmas.List.Sorted.{IsPermutation-trans, IsPermutation-map}
+use Rattle.std.proofs.lemmas.List.Sorted.{IsPermutation-reverse}
 use Rattle.indexmap.specs.IndexMap.{insert_entry}
 use Rattle.indexmap.proofs.MapLemmas.{absent_from_lookup, insert_entry-absent}
 use Rattle.std.specs.Map.{lookup}
@@ -18,7 +21,8 @@ use Rattle.sqlite_value.specs.Order.{bytes}
 use Rattle.register_store.proofs.Kept.{content_of, told_by}
 use Rattle.register_store.specs.declared.loan_rows.LineKey.{LineKey}
 use Rattle.register_store.specs.Plain.{held_lines, term_rows}
-use Rattle.register_store.specs.StoredRows.{Content, SpotRow, LineRow, TermRow, HasRows, spot_row, line_row, spots_by_thing, lines_by_loan, rows_of_terms}
+use Rattle.register_store.specs.StoredRows.{Content, SpotRow, LineRow, TermRow, HasRows, spot_row}
+use Rattle.register_store.specs.StoredRows.{line_row, spots_by_thing, lines_by_loan, rows_of_terms}
 use Rattle.register_sql.specs.Found.{spots_shown, lines_shown, terms_shown, AreFound}
 use Rattle.register_sql.specs.Queries.{shown_in}
 use Rattle.register_sql.specs.Rows.{AreRows, spot_cells, line_cells, term_cells}

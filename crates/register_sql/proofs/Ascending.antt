@@ -1,6 +1,8 @@
 -- Sorted rows with different rowids rise, so the rows that were read show exactly whether a table's
 -- rowids differ.
-use Rattle.std.proofs.Common.{Result, Ok, Err, IfOk, zero, suc, ◌-◌, ◌≤◌, length, slice_index_or, ◌≡◌, ◌<◌, ◌+◌, ℕ, List, [], ◌∷◌, map, Bool, true, false, IsTrue, refl, sym, ap, subst, ◌∙◌, arith}
+use Rattle.std.proofs.Common.{Result, Ok, Err, IfOk, zero, suc, ◌-◌, ◌≤◌, length, slice_index_or}
+use Rattle.std.proofs.Common.{◌≡◌, ◌<◌, ◌+◌, ℕ, List, [], ◌∷◌, map, Bool, true, false, IsTrue, refl}
+use Rattle.std.proofs.Common.{sym, ap, subst, ◌∙◌, arith}
 use Rattle.std.specs.Bool.{Decides}
 use Rattle.std.specs.List.{AllByRecursion, IsDistinct}
 use Rattle.std.specs.List.Sorted.{IsPermutation, IsSorted}
@@ -18,12 +20,14 @@ use Rattle.sqlite_rules.proofs.TableLemmas.{int_is}
 use Rattle.sqlite_trees.specs.View.{is_int}
 use Rattle.sqlite_value.specs.Order.{value_cmp}
 use Rattle.sqlite_value.proofs.OrderLemmas.{value_cmp-Int, value_cmp_total}
-use Rattle.register_sql.specs.Queries.{tree_of, least_of, shown_by, shows_id, shown_in, IsApartIn, AreApart, IsSame}
+use Rattle.register_sql.specs.Queries.{tree_of, least_of, shown_by, shows_id, shown_in, IsApartIn}
+use Rattle.register_sql.specs.Queries.{AreApart, IsSame}
 use Rattle.register_sql.specs.Rowids.{HasId, IsBelow, IsRising}
 use Rattle.register_sql.specs.Rows.{Apart, HasNumber, AreNumbered, same_id}
 use Rattle.register_sql.specs.Shown.{id_cmp}
 use Rattle.register_sql.specs.declared.queries.Query.{Query}
-use Rattle.register_sql.specs.declared.queries.Query.TheVariants.{SetupIds, PostingIds, LineIds, TermIds}
+use Rattle.register_sql.specs.declared.queries.Query.TheVariants.{SetupIds, PostingIds, LineIds}
+use Rattle.register_sql.specs.declared.queries.Query.TheVariants.{TermIds}
 use Rattle.register_sql.proofs.Apart.{apart_moved}
 use Rattle.register_sql.proofs.Rising.{here, apart_read, apart_unmade, shows_first, trees_same}
 

@@ -1,5 +1,6 @@
 -- The meaning of each query of the store, and the columns that it returns.
-use Rattle.std.proofs.Common.{◌≡◌, ◌≤◌, ℕ, zero, suc, List, [], ◌∷◌, codes, map, true, false, Ok, Err, Result, IfOk, OnOk, Vec, refl, sym, subst, ◌∙◌, arith}
+use Rattle.std.proofs.Common.{◌≡◌, ◌≤◌, ℕ, zero, suc, List, [], ◌∷◌, codes, map, true, false, Ok}
+use Rattle.std.proofs.Common.{Err, Result, IfOk, OnOk, Vec, refl, sym, subst, ◌∙◌, arith}
 use Rattle.std.specs.List.Sorted.{IsPermutation}
 use Rattle.std.specs.declared.alloc.Global.{Global}
 use Rattle.sqlite.specs.Listing.{understood}
@@ -8,10 +9,13 @@ use Rattle.sqlite.specs.State.{State, Shown, IsUnchanged}
 use Rattle.sqlite.specs.Term.{Term, col}
 use Rattle.sqlite.specs.declared.error.Error.{Error}
 use Rattle.sqlite_tied.specs.Compute.{everything}
-use Rattle.register_sql.specs.Queries.{text_of, tree_of, least_of, shown_by, shows_id, shown_in, IsInOrder, IsSame}
+use Rattle.register_sql.specs.Queries.{text_of, tree_of, least_of, shown_by, shows_id, shown_in}
+use Rattle.register_sql.specs.Queries.{IsInOrder, IsSame}
 use Rattle.register_sql.specs.Tables.{prefix}
 use Rattle.register_sql.specs.declared.queries.Query.{Query}
-use Rattle.register_sql.specs.declared.queries.Query.TheVariants.{Metas, Setups, Postings, Spots, Lines, Terms, MetaIds, SetupIds, PostingIds, LineIds, TermIds}
+use Rattle.register_sql.specs.declared.queries.Query.TheVariants.{Metas, Setups, Postings, Spots}
+use Rattle.register_sql.specs.declared.queries.Query.TheVariants.{Lines, Terms, MetaIds, SetupIds}
+use Rattle.register_sql.specs.declared.queries.Query.TheVariants.{PostingIds, LineIds, TermIds}
 use Rattle.register_sql.proofs.Listings.{IsListing, shows_of, lists, lists_same, lists_sorted}
 use Rattle.register_sql.proofs.Texts.{ordered_by_rowid}
 

@@ -1,6 +1,9 @@
 -- The store's information about itself is that of its rows, and binding changes these as a register
 -- promises.
-use Rattle.std.proofs.Common.{◌≡◌, ◌≢◌, ◌≤◌, ℕ, zero, suc, pos, List, [], ◌∷◌, ◌++◌, length, map, drop, reverse, slice_index_or, codes, Bool, true, false, not, ◌&&◌, ◌||◌, Ok, Err, Result, IfOk, IfErr, refl, sym, ap, subst, ◌∙◌, arith, append-nil}
+use Rattle.std.proofs.Common.{◌≡◌, ◌≢◌, ◌≤◌, ℕ, zero, suc, pos, List, [], ◌∷◌, ◌++◌, length, map}
+use Rattle.std.proofs.Common.{drop, reverse, slice_index_or, codes, Bool, true, false, not, ◌&&◌}
+use Rattle.std.proofs.Common.{◌||◌, Ok, Err, Result, IfOk, IfErr, refl, sym, ap, subst, ◌∙◌, arith}
+use Rattle.std.proofs.Common.{append-nil}
 use Rattle.std.specs.Bool.{Decides}
 use Rattle.std.specs.List.{AllByRecursion, list_any}
 use Rattle.std.specs.List.Sorted.{IsPermutation}
@@ -9,7 +12,9 @@ use Rattle.std.specs.Str.{bytes_eq}
 use Rattle.std.proofs.lemmas.Bool.{and_parts}
 use Rattle.std.proofs.lemmas.Bool.Decides.{Decides-int_eq}
 use Rattle.std.proofs.lemmas.List.{reverse-reverse}
-use Rattle.std.proofs.lemmas.List.Sorted.{IsPermutation-refl, IsPermutation-sym, IsPermutation-trans, IsPermutation-map, length_permutation, list_any-IsPermutation}
+use Rattle.std.proofs.lemmas.List.Sorted.{IsPermutation-refl, IsPermutation-sym}
+use Rattle.std.proofs.lemmas.List.Sorted.{IsPermutation-trans, IsPermutation-map}
+use Rattle.std.proofs.lemmas.List.Sorted.{length_permutation, list_any-IsPermutation}
 use Rattle.std.proofs.lemmas.Slice.Eq.{bytes_eq-Decides}
 use Rattle.nest_core.specs.Museum.{Museum}
 use Rattle.nest_core.specs.SetupTexts.{setup_rows}
@@ -23,10 +28,13 @@ use Rattle.sqlite.specs.declared.types.Value.TheVariants.{Int, Text}
 use Rattle.sqlite_catalog.specs.Listing.{IsSound}
 use Rattle.sqlite_trees.proofs.ListLemmas.{all-permutation}
 use Rattle.sqlite_value.specs.Order.{bytes}
-use Rattle.register_store.specs.Registers.{is_new, is_failure, has_other_version, bound_by, bound_to, IsBindFault}
-use Rattle.register_store.specs.StoredRows.{Content, SetupRow, MetaRow, AreSame, IsBoundTo, rows_of_setup, rows_of_meta}
+use Rattle.register_store.specs.Registers.{is_new, is_failure, has_other_version, bound_by}
+use Rattle.register_store.specs.Registers.{bound_to, IsBindFault}
+use Rattle.register_store.specs.StoredRows.{Content, SetupRow, MetaRow, AreSame, IsBoundTo}
+use Rattle.register_store.specs.StoredRows.{rows_of_setup, rows_of_meta}
 use Rattle.register_store.specs.declared.store_fault.StoreFault.{StoreFault}
-use Rattle.register_store.specs.declared.store_fault.StoreFault.TheVariants.{OtherSetup, Damaged, OtherVersion, Store}
+use Rattle.register_store.specs.declared.store_fault.StoreFault.TheVariants.{OtherSetup, Damaged}
+use Rattle.register_store.specs.declared.store_fault.StoreFault.TheVariants.{OtherVersion, Store}
 use Rattle.register_sql.specs.Binding.{IsRefused, IsBoundAs, IsUnfitFor, LeavesBound, ComesBound}
 use Rattle.register_sql.specs.Making.{MakesWhole, IsMadeWhole, LeavesMade, setup_from}
 use Rattle.register_sql.specs.Posting.{IsWhole}

@@ -1,5 +1,6 @@
 -- A new store may be a file of one page, without a table.
-use Rattle.std.proofs.Common.{◌≡◌, ℕ, List, [], Some, true, length, take, inl, inr, refl, sym, ap, subst, ◌∙◌, arith, ne_eqb, take_all}
+use Rattle.std.proofs.Common.{◌≡◌, ℕ, List, [], Some, true, length, take, inl, inr, refl, sym, ap}
+use Rattle.std.proofs.Common.{subst, ◌∙◌, arith, ne_eqb, take_all}
 use Rattle.std.proofs.Math.Path.{fun_ext}
 use Rattle.std.proofs.lemmas.Bool.{cases_eq}
 use Rattle.sqlite.proofs.ListingLemmas.{empty_is_sound}

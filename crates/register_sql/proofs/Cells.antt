@@ -1,5 +1,7 @@
 -- Each row of a sound table has the cells of a row that a content can have.
-use Rattle.std.proofs.Common.{zero, suc, ◌≡◌, ◌<◌, ◌≤◌, ◌+◌, ℕ, ℤ, List, [], ◌∷◌, length, map, drop, true, false, not, Option, None, Some, refl, sym, ap, subst, ◌∙◌, arith}
+use Rattle.std.proofs.Common.{zero, suc, ◌≡◌, ◌<◌, ◌≤◌, ◌+◌, ℕ, ℤ, List, [], ◌∷◌, length, map, drop}
+use Rattle.std.proofs.Common.{true, false, not, Option, None, Some, refl, sym, ap, subst, ◌∙◌}
+use Rattle.std.proofs.Common.{arith}
 use Rattle.std.specs.List.{range_with_len}
 use Rattle.std.proofs.lemmas.Bool.{and_parts}
 use Rattle.sqlite.specs.Order.{Row, column}
@@ -11,8 +13,10 @@ use Rattle.sqlite_schema.specs.declared.schema.Column.{Column}
 use Rattle.sqlite_sql.specs.Ops.{is_null}
 use Rattle.sqlite_trees.specs.View.{is_int}
 use Rattle.sqlite_schema.specs.declared.schema.Table.{Table}
-use Rattle.register_store.specs.StoredRows.{SetupRow, MetaRow, PostingRow, SpotRow, LineRow, TermRow}
-use Rattle.register_sql.specs.Rows.{setup_cells, meta_cells, posting_cells, spot_cells, line_cells, term_cells, HasNumber}
+use Rattle.register_store.specs.StoredRows.{SetupRow, MetaRow, PostingRow, SpotRow, LineRow}
+use Rattle.register_store.specs.StoredRows.{TermRow}
+use Rattle.register_sql.specs.Rows.{setup_cells, meta_cells, posting_cells, spot_cells, line_cells}
+use Rattle.register_sql.specs.Rows.{term_cells, HasNumber}
 use Rattle.register_sql.specs.Tables.{meta, setup, posting, spot, line, term}
 
 int_cell : (v : Value) → is_of kind.Integer v ≡ true → not (is_null v) ≡ true

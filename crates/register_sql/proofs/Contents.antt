@@ -1,10 +1,12 @@
 -- A sound store holds exactly one set of rows, in some order.
-use Rattle.std.proofs.Common.{zero, suc, ◌≡◌, ◌≤◌, ℕ, List, [], ◌∷◌, length, map, drop, true, refl, sym, ap, subst, ◌∙◌, arith}
+use Rattle.std.proofs.Common.{zero, suc, ◌≡◌, ◌≤◌, ℕ, List, [], ◌∷◌, length, map, drop, true, refl}
+use Rattle.std.proofs.Common.{sym, ap, subst, ◌∙◌, arith}
 use Rattle.std.specs.List.{AllByRecursion}
 use Rattle.std.specs.List.Sorted.{IsPermutation}
 use Rattle.std.proofs.lemmas.Bool.{and_parts}
 use Rattle.std.proofs.lemmas.Slice.Zip.{AllZip-long}
-use Rattle.std.proofs.lemmas.List.Sorted.{IsPermutation-refl, IsPermutation-sym, IsPermutation-trans, IsPermutation-map}
+use Rattle.std.proofs.lemmas.List.Sorted.{IsPermutation-refl, IsPermutation-sym}
+use Rattle.std.proofs.lemmas.List.Sorted.{IsPermutation-trans, IsPermutation-map}
 use Rattle.sqlite.specs.Edit.{id_in}
 use Rattle.sqlite.specs.Order.{Row, column}
 use Rattle.sqlite.specs.Table.{Table}
@@ -14,10 +16,13 @@ use Rattle.sqlite_catalog.specs.Listing.{IsSound}
 use Rattle.sqlite_schema.specs.Rules.{are_typed, passes, has_computed}
 use Rattle.sqlite_schema.specs.declared.schema.Constraint.TheVariants.{Datatype, NotNull}
 use Rattle.sqlite_value.specs.Order.{bytes}
-use Rattle.register_store.specs.StoredRows.{Content, SetupRow, MetaRow, PostingRow, SpotRow, LineRow, TermRow, AreSame}
-use Rattle.register_sql.specs.Rows.{setup_cells, meta_cells, posting_cells, spot_cells, line_cells, term_cells, had, HasPart, IsStored, HasNumber, AreNumbered}
+use Rattle.register_store.specs.StoredRows.{Content, SetupRow, MetaRow, PostingRow, SpotRow}
+use Rattle.register_store.specs.StoredRows.{LineRow, TermRow, AreSame}
+use Rattle.register_sql.specs.Rows.{setup_cells, meta_cells, posting_cells, spot_cells, line_cells}
+use Rattle.register_sql.specs.Rows.{term_cells, had, HasPart, IsStored, HasNumber, AreNumbered}
 use Rattle.register_sql.specs.Tables.{meta, setup, posting, spot, line, term, prefix}
-use Rattle.register_sql.proofs.Cells.{IsRight, meta_read, setup_read, posting_read, spot_read, line_read, term_read}
+use Rattle.register_sql.proofs.Cells.{IsRight, meta_read, setup_read, posting_read, spot_read}
+use Rattle.register_sql.proofs.Cells.{line_read, term_read}
 
 -- each row of a table can be read, if the rules of a database hold for it
 module _ (schema : Schema) (db : Trees) (table : Table) {X : Type 0} (part : Row → Row) (cells : X

@@ -1,5 +1,6 @@
 -- The tables are created in turn, each empty, and those before stay as they were.
-use Rattle.std.proofs.Common.{◌≡◌, ◌<◌, ◌+◌, ℕ, zero, suc, List, [], Ok, Err, Result, None, OnOk, refl, sym, ap, subst, ◌∙◌, arith}
+use Rattle.std.proofs.Common.{◌≡◌, ◌<◌, ◌+◌, ℕ, zero, suc, List, [], Ok, Err, Result, None, OnOk}
+use Rattle.std.proofs.Common.{refl, sym, ap, subst, ◌∙◌, arith}
 use Rattle.sqlite.proofs.Callers.{statement_of, runs_as}
 use Rattle.sqlite.specs.Change.{next_tree, created, KeepsRows}
 use Rattle.sqlite.specs.Command.TheVariants.{CreateTable}
@@ -14,7 +15,8 @@ use Rattle.sqlite.specs.declared.error.Error.{Error}
 use Rattle.register_sql.specs.Making.{create_of, Grown, IsMade, Goes}
 use Rattle.register_sql.specs.Tables.{prefix}
 use Rattle.register_sql.proofs.Added.{went, same_value}
-use Rattle.register_sql.proofs.Creates.{IsCreate, creates_meta, creates_setup, creates_posting, creates_spot, creates_line, creates_term}
+use Rattle.register_sql.proofs.Creates.{IsCreate, creates_meta, creates_setup, creates_posting}
+use Rattle.register_sql.proofs.Creates.{creates_spot, creates_line, creates_term}
 
 -- the schema has the table, which is empty
 record Makes (schema after : Schema) (db next : Database) : Type 0 where

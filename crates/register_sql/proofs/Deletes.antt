@@ -1,5 +1,6 @@
 -- The rows that each DELETE of the store removes.
-use Rattle.std.proofs.Common.{◌≡◌, ℕ, ℤ, List, [], ◌∷◌, map, filter, drop, Bool, true, false, not, ◌&&◌, unwrap_or, Some, Ok, refl, sym, ap, ◌∙◌}
+use Rattle.std.proofs.Common.{◌≡◌, ℕ, ℤ, List, [], ◌∷◌, map, filter, drop, Bool, true, false, not}
+use Rattle.std.proofs.Common.{◌&&◌, unwrap_or, Some, Ok, refl, sym, ap, ◌∙◌}
 use Rattle.std.specs.Bool.{Decides}
 use Rattle.std.specs.List.Sorted.{IsPermutation}
 use Rattle.std.specs.Ordering.{is_eq, int_eq}
@@ -24,7 +25,9 @@ use Rattle.register_sql.specs.Rows.{line_cells, term_cells, Apart}
 use Rattle.register_sql.specs.Tables.{setup, line, term, hub_schema}
 use Rattle.register_sql.proofs.Apart.{filter_same}
 use Rattle.register_sql.proofs.Removed.{removed, has_key}
-use Rattle.register_sql.proofs.Texts.{delete_setup, setup_key, delete_setup_is, delete_setup_plain, delete_line, line_key, delete_line_is, delete_line_plain, delete_term, term_key, delete_term_is, delete_term_plain}
+use Rattle.register_sql.proofs.Texts.{delete_setup, setup_key, delete_setup_is, delete_setup_plain}
+use Rattle.register_sql.proofs.Texts.{delete_line, line_key, delete_line_is, delete_line_plain}
+use Rattle.register_sql.proofs.Texts.{delete_term, term_key, delete_term_is, delete_term_plain}
 
 -- comparing two texts, and two numbers, as SQL does
 either_way : (b : Bool) → unwrap_or (truth (from_truth (Some b))) false ≡ b

@@ -1,8 +1,10 @@
 -- The first entry that version 1 can't have, and why the entries of such a store can't be listed.
-use Rattle.std.proofs.Common.{◌<◌, ◌+◌, ◌≡◌, ◌≢◌, ℕ, List, length, map, reverse, take, drop, get_or, true, false, sym, ap, subst, ◌∙◌, arith, All}
+use Rattle.std.proofs.Common.{◌<◌, ◌+◌, ◌≡◌, ◌≢◌, ℕ, List, length, map, reverse, take, drop, get_or}
+use Rattle.std.proofs.Common.{true, false, sym, ap, subst, ◌∙◌, arith, All}
 use Rattle.std.specs.List.Sorted.{IsPermutation, IsSorted}
 use Rattle.std.proofs.lemmas.List.{length-take-le}
-use Rattle.std.proofs.lemmas.List.Sorted.{IsPermutation-map, IsPermutation-trans, IsPermutation-sym, IsPermutation-reverse, All-permutation}
+use Rattle.std.proofs.lemmas.List.Sorted.{IsPermutation-map, IsPermutation-trans, IsPermutation-sym}
+use Rattle.std.proofs.lemmas.List.Sorted.{IsPermutation-reverse, All-permutation}
 use Rattle.itertools.proofs.KMergeLemmas.{lift-permutation}
 use Rattle.sqlite.specs.Order.{Row}
 use Rattle.sqlite.specs.Tree.{Trees}
@@ -13,7 +15,8 @@ use Rattle.register_store.specs.Registers.{IsWrongRow}
 use Rattle.register_store.specs.StoredRows.{Content, PostingRow, IsPostingRow, ArePostings, HasList}
 use Rattle.register_store.specs.declared.store_fault.StoreFault.{StoreFault}
 use Rattle.register_store.specs.declared.store_fault.StoreFault.TheVariants.{NoMemory, Damaged}
-use Rattle.register_sql.specs.Early.{is_early, IsEarlyOf, IsWrongEarly, IsEarlyWrongAt, IsFirstEarlyWrong}
+use Rattle.register_sql.specs.Early.{is_early, IsEarlyOf, IsWrongEarly, IsEarlyWrongAt}
+use Rattle.register_sql.specs.Early.{IsFirstEarlyWrong}
 use Rattle.register_sql.specs.Queries.{shown_in}
 use Rattle.register_sql.specs.Rows.{HasPart, posting_cells}
 use Rattle.register_sql.specs.Shown.{shown_posting, posting_shown, id_cmp}

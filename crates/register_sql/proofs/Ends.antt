@@ -1,5 +1,7 @@
 -- How the steps of a transaction go together, and how it ends.
-use Rattle.std.proofs.Common.{◌≡◌, inl, ℕ, suc, ◌+◌, ◌<◌, true, false, List, [], ◌∷◌, length, drop, get_or, Ok, Err, Result, OnOk, IsTrue, refl, sym, ap, subst, ◌∙◌, arith}
+use Rattle.std.proofs.Common.{◌≡◌, inl, ℕ, suc, ◌+◌, ◌<◌, true, false, List, [], ◌∷◌, length, drop}
+use Rattle.std.proofs.Common.{get_or, Ok, Err, Result, OnOk, IsTrue, refl, sym, ap, subst, ◌∙◌}
+use Rattle.std.proofs.Common.{arith}
 use Rattle.std.proofs.Math.Seq.{drop-cons}
 use Rattle.sqlite.proofs.Callers.{survives_begin}
 use Rattle.sqlite.proofs.StateLemmas.{survives_then}
@@ -11,7 +13,8 @@ use Rattle.sqlite.specs.Tree.{Trees}
 use Rattle.sqlite.specs.declared.error.Error.{Error}
 use Rattle.sqlite_catalog.specs.Listing.{IsSound}
 use Rattle.register_store.specs.StoredRows.{Content}
-use Rattle.register_sql.specs.Posting.{IsWhole, IsReady, Within, Turns, Makes, SoFar, IsDone, LeavesWhole, with_each}
+use Rattle.register_sql.specs.Posting.{IsWhole, IsReady, Within, Turns, Makes, SoFar, IsDone}
+use Rattle.register_sql.specs.Posting.{LeavesWhole, with_each}
 use Rattle.register_sql.specs.Rows.{AreRows}
 
 pub kept_then : (a b c : State) → KeepsCommit a b → KeepsCommit b c → KeepsCommit a c

@@ -1,11 +1,16 @@
 -- The effect on the tables of emptying and filling the setup and the rows about the store.
-use Rattle.std.proofs.Common.{◌≡◌, ℕ, List, [], ◌∷◌, ◌++◌, map, filter, drop, true, false, Ok, Err, Result, OnOk, IsTrue, refl, sym, ap, subst, ◌∙◌, arith, append-nil}
+use Rattle.std.proofs.Common.{◌≡◌, ℕ, List, [], ◌∷◌, ◌++◌, map, filter, drop, true, false, Ok, Err}
+use Rattle.std.proofs.Common.{Result, OnOk, IsTrue, refl, sym, ap, subst, ◌∙◌, arith, append-nil}
 use Rattle.std.specs.List.Sorted.{IsPermutation}
-use Rattle.std.proofs.lemmas.List.Sorted.{IsPermutation-refl, IsPermutation-sym, IsPermutation-trans, IsPermutation-append, IsPermutation-map, IsPermutation-middle, IsPermutation-cons}
+use Rattle.std.proofs.lemmas.List.Sorted.{IsPermutation-refl, IsPermutation-sym}
+use Rattle.std.proofs.lemmas.List.Sorted.{IsPermutation-trans, IsPermutation-append}
+use Rattle.std.proofs.lemmas.List.Sorted.{IsPermutation-map, IsPermutation-middle}
+use Rattle.std.proofs.lemmas.List.Sorted.{IsPermutation-cons}
 use Rattle.sqlite.specs.Effect.{Database, IsDatabase}
 use Rattle.sqlite.specs.Held.{Held, state}
 use Rattle.sqlite.specs.Order.{Row}
-use Rattle.sqlite.specs.State.{State, Executes, ExecutesInside, KeepsCommit, KeepsCounts, Shows, HasCleanDisk, Survives}
+use Rattle.sqlite.specs.State.{State, Executes, ExecutesInside, KeepsCommit, KeepsCounts, Shows}
+use Rattle.sqlite.specs.State.{HasCleanDisk, Survives}
 use Rattle.sqlite.specs.Store.{Ghosts}
 use Rattle.sqlite.specs.Tree.{Trees}
 use Rattle.sqlite.specs.declared.error.Error.{Error}
@@ -13,7 +18,9 @@ use Rattle.sqlite_catalog.specs.Listing.{IsSound}
 use Rattle.register_store.specs.StoredRows.{SetupRow, MetaRow}
 use Rattle.register_sql.specs.Changes.{Adds, Removes}
 use Rattle.register_sql.specs.Changes as changes
-use Rattle.register_sql.specs.Making.{IsMade, Goes, Grown, Spares, ClearsSetup, AddsSetup, ReplacesSetup, AddsMeta, Fills, MakesWhole, SoFarSetup, IsMadeWhole, LeavesMade}
+use Rattle.register_sql.specs.Making.{IsMade, Goes, Grown, Spares, ClearsSetup, AddsSetup}
+use Rattle.register_sql.specs.Making.{ReplacesSetup, AddsMeta, Fills, MakesWhole, SoFarSetup}
+use Rattle.register_sql.specs.Making.{IsMadeWhole, LeavesMade}
 use Rattle.register_sql.specs.Rows.{setup_cells, meta_cells, had, Apart}
 use Rattle.register_sql.specs.Tables.{hub_schema}
 use Rattle.register_sql.proofs.Deletes.{removes_setup}

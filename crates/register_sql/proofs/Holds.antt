@@ -1,5 +1,6 @@
 -- The rows that a register over a connection may hold come from those that it may have held.
-use Rattle.std.proofs.Common.{◌≡◌, ◌⊎◌, inl, inr, ℕ, true, false, IsTrue, refl, sym, ap, subst, ◌∙◌, arith, Err, List, [], ◌∷◌, map}
+use Rattle.std.proofs.Common.{◌≡◌, ◌⊎◌, inl, inr, ℕ, true, false, IsTrue, refl, sym, ap, subst, ◌∙◌}
+use Rattle.std.proofs.Common.{arith, Err, List, [], ◌∷◌, map}
 use Rattle.std.proofs.Math.Logic.{∥∥₁_elim}
 use Rattle.std.specs.List.Sorted.{IsPermutation}
 use Rattle.std.proofs.lemmas.List.Sorted.{IsPermutation-refl, length_permutation}
@@ -12,9 +13,12 @@ use Rattle.sqlite.specs.Tree.{Trees}
 use Rattle.sqlite_catalog.specs.Listing.{IsSound}
 use Rattle.register_store.specs.Holdings.{Each, Has, Comes, IsPosted, IsBound, IsNotBound}
 use Rattle.register_store.specs.Registers.{is_failure, IsBindFault, CountsRefusal}
-use Rattle.register_store.specs.StoredRows.{Content, PostingRow, AreSame, IsBoundTo, IsPostingRow, with_posted}
+use Rattle.register_store.specs.StoredRows.{Content, PostingRow, AreSame, IsBoundTo, IsPostingRow}
+use Rattle.register_store.specs.StoredRows.{with_posted}
 use Rattle.register_store.specs.declared.store_fault.StoreFault.{StoreFault}
-use Rattle.register_store.specs.declared.store_fault.StoreFault.TheVariants.{NoMemory, Store, OtherSetup, Damaged, OtherVersion}
+use Rattle.register_store.specs.declared.store_fault.StoreFault.TheVariants.{NoMemory, Store}
+use Rattle.register_store.specs.declared.store_fault.StoreFault.TheVariants.{OtherSetup, Damaged}
+use Rattle.register_store.specs.declared.store_fault.StoreFault.TheVariants.{OtherVersion}
 use Rattle.register_sql.specs.Binding.{IsSettled, IsRefused, IsBoundAs, LeavesBound}
 use Rattle.register_sql.specs.Posting.{IsWhole, IsReady, IsDone, LeavesWhole}
 use Rattle.register_sql.specs.Queries.{IsSame}
@@ -90,7 +94,8 @@ same_comes old new before after up survives = record {
               left.0,
               left.1,
               subst (λ db. IsStored db c)
-                  (before.settled held.0 was.is_open held.1 ∙ sym (before.settled left.0 was.is_open had))
+                  (before.settled held.0 was.is_open held.1
+                  ∙ sym (before.settled left.0 was.is_open had))
                   held.2,
             )
         | inr not ↦ not
@@ -199,7 +204,8 @@ failed_comes S fault old new fails before after up survives = record {
               left.0,
               left.1,
               subst (λ db. IsStored db c)
-                  (before.settled held.0 was.is_open held.1 ∙ sym (before.settled left.0 was.is_open had))
+                  (before.settled held.0 was.is_open held.1
+                  ∙ sym (before.settled left.0 was.is_open had))
                   held.2,
             )
         | inr bound ↦ none bound.content.0 (

@@ -6,11 +6,19 @@ use Rattle.sqlite.specs.State.{State, Executes}
 use Rattle.sqlite.specs.Tree.{Trees}
 use Rattle.sqlite.specs.declared.types.Value.TheVariants.{Int, Text}
 use Rattle.register_sql.specs.Changes.{Adds}
-use Rattle.register_store.specs.StoredRows.{SetupRow, MetaRow, PostingRow, SpotRow, LineRow, TermRow}
-use Rattle.register_sql.specs.Rows.{setup_cells, meta_cells, posting_cells, spot_cells, line_cells, term_cells}
+use Rattle.register_store.specs.StoredRows.{SetupRow, MetaRow, PostingRow, SpotRow, LineRow}
+use Rattle.register_store.specs.StoredRows.{TermRow}
+use Rattle.register_sql.specs.Rows.{setup_cells, meta_cells, posting_cells, spot_cells, line_cells}
+use Rattle.register_sql.specs.Rows.{term_cells}
 use Rattle.register_sql.specs.Tables.{meta, setup, posting, spot, line, term, hub_schema}
 use Rattle.register_sql.proofs.Added.{added, cast_int, cast_null}
-use Rattle.register_sql.proofs.Texts.{insert_meta, meta_terms, insert_meta_is, insert_meta_plain, insert_setup, setup_terms, insert_setup_is, insert_setup_plain, insert_posting, posting_terms, insert_posting_is, insert_posting_plain, insert_spot, spot_terms, insert_spot_is, insert_spot_plain, insert_line, line_terms, insert_line_is, insert_line_plain, insert_term, term_terms, insert_term_is, insert_term_plain}
+use Rattle.register_sql.proofs.Texts.{insert_meta, meta_terms, insert_meta_is, insert_meta_plain}
+use Rattle.register_sql.proofs.Texts.{insert_setup, setup_terms, insert_setup_is}
+use Rattle.register_sql.proofs.Texts.{insert_setup_plain, insert_posting, posting_terms}
+use Rattle.register_sql.proofs.Texts.{insert_posting_is, insert_posting_plain, insert_spot}
+use Rattle.register_sql.proofs.Texts.{spot_terms, insert_spot_is, insert_spot_plain, insert_line}
+use Rattle.register_sql.proofs.Texts.{line_terms, insert_line_is, insert_line_plain, insert_term}
+use Rattle.register_sql.proofs.Texts.{term_terms, insert_term_is, insert_term_plain}
 
 -- the row under a rowid that the table chooses
 abbrev pub under_next : ℕ → Row → Trees → Row

@@ -1,5 +1,6 @@
 -- Facts about a register's connection after a call.
-use Rattle.std.proofs.Common.{◌≡◌, ℕ, Bool, true, false, Option, None, Some, IfSome, refl, sym, subst, ◌∙◌, arith, Ok, Err, Result, IfOk, IfErr}
+use Rattle.std.proofs.Common.{◌≡◌, ℕ, Bool, true, false, Option, None, Some, IfSome, refl, sym}
+use Rattle.std.proofs.Common.{subst, ◌∙◌, arith, Ok, Err, Result, IfOk, IfErr}
 use Rattle.std.proofs.lemmas.Option.{none-some}
 use Rattle.nest_core.specs.Museum.{Museum}
 use Rattle.sqlite.specs.Effect.{Database}
@@ -10,7 +11,9 @@ use Rattle.register_store.specs.Holdings.{Each}
 use Rattle.register_store.specs.Registers.{is_failure, is_of_listing, IsListFault}
 use Rattle.register_store.specs.StoredRows.{Content}
 use Rattle.register_store.specs.declared.store_fault.StoreFault.{StoreFault}
-use Rattle.register_store.specs.declared.store_fault.StoreFault.TheVariants.{NoMemory, Store, OtherSetup, Damaged, OtherVersion}
+use Rattle.register_store.specs.declared.store_fault.StoreFault.TheVariants.{NoMemory, Store}
+use Rattle.register_store.specs.declared.store_fault.StoreFault.TheVariants.{OtherSetup, Damaged}
+use Rattle.register_store.specs.declared.store_fault.StoreFault.TheVariants.{OtherVersion}
 use Rattle.register_sql.specs.Binding.{IsBoundAs}
 use Rattle.register_sql.specs.Posting.{IsWhole, IsReady, IsDone}
 use Rattle.register_sql.specs.Queries.{IsPart, IsSame}

@@ -1,9 +1,13 @@
 -- The version of a store decides whether it is migrated, and which rows it then has.
-use Rattle.std.proofs.Common.{◌≡◌, ◌≢◌, inl, inr, ◌≤◌, ℕ, zero, suc, List, [], ◌∷◌, length, map, reverse, Bool, true, false, All, Ok, Err, Result, IfOk, OnOk, refl, sym, ap, subst, ◌∙◌, arith}
+use Rattle.std.proofs.Common.{◌≡◌, ◌≢◌, inl, inr, ◌≤◌, ℕ, zero, suc, List, [], ◌∷◌, length, map}
+use Rattle.std.proofs.Common.{reverse, Bool, true, false, All, Ok, Err, Result, IfOk, OnOk, refl}
+use Rattle.std.proofs.Common.{sym, ap, subst, ◌∙◌, arith}
 use Rattle.std.specs.Bool.{Decides}
 use Rattle.std.specs.List.{AllByRecursion}
 use Rattle.std.specs.List.Sorted.{IsPermutation}
-use Rattle.std.proofs.lemmas.List.Sorted.{IsPermutation-refl, IsPermutation-sym, IsPermutation-trans, IsPermutation-map, IsPermutation-reverse, All-permutation}
+use Rattle.std.proofs.lemmas.List.Sorted.{IsPermutation-refl, IsPermutation-sym}
+use Rattle.std.proofs.lemmas.List.Sorted.{IsPermutation-trans, IsPermutation-map}
+use Rattle.std.proofs.lemmas.List.Sorted.{IsPermutation-reverse, All-permutation}
 use Rattle.nest_core.specs.Museum.{Museum}
 use Rattle.nest_core.specs.SetupTexts.{setup_rows}
 use Rattle.posting_core.specs.Lawful.{IsLawful}
@@ -21,11 +25,16 @@ use Rattle.register_store.proofs.TermRows.{next_terms}
 use Rattle.register_store.specs.Registers.{is_new, is_of_listing}
 use Rattle.register_store.specs.StoredRows.{Content, MetaRow, HasList, rows_of_setup, rows_of_terms}
 use Rattle.register_store.specs.declared.store_fault.StoreFault.{StoreFault}
-use Rattle.register_store.specs.declared.store_fault.StoreFault.TheVariants.{NoMemory, Store, OtherSetup, Damaged, OtherVersion}
+use Rattle.register_store.specs.declared.store_fault.StoreFault.TheVariants.{NoMemory, Store}
+use Rattle.register_store.specs.declared.store_fault.StoreFault.TheVariants.{OtherSetup, Damaged}
+use Rattle.register_store.specs.declared.store_fault.StoreFault.TheVariants.{OtherVersion}
 use Rattle.register_sql.specs.Ages.{version_row, first_meta, LacksRow, IsAged}
 use Rattle.register_sql.specs.Binding.{IsSettled}
 use Rattle.register_sql.specs.Early.{IsEarlyOf, IsFirstEarlyWrong}
-use Rattle.register_sql.specs.Migrating.{Lacks, IsOfFirst, IsMigrateFault, AreFirstApart, IsUnfit, IsFirstOf, IsRaisable, IsRaised, IsLeft, LeavesMoved, ComesMigrated, IsLifted, LeavesLifted, days_given, migrated, lifted}
+use Rattle.register_sql.specs.Migrating.{Lacks, IsOfFirst, IsMigrateFault, AreFirstApart, IsUnfit}
+use Rattle.register_sql.specs.Migrating.{IsFirstOf, IsRaisable, IsRaised, IsLeft, LeavesMoved}
+use Rattle.register_sql.specs.Migrating.{ComesMigrated, IsLifted, LeavesLifted, days_given}
+use Rattle.register_sql.specs.Migrating.{migrated, lifted}
 use Rattle.register_sql.specs.Queries.{shown_in, IsPart, IsSame, IsApartIn, AreApart}
 use Rattle.register_sql.specs.Rows.{HasPart, AreRows, IsStored, Apart, meta_cells}
 use Rattle.register_sql.specs.Says.{HasOther, setup_rows_shown, setup_in}
@@ -33,7 +42,9 @@ use Rattle.register_sql.specs.Shown.{setup_shown}
 use Rattle.register_sql.specs.Tables.{IsNoStore}
 use Rattle.register_sql.specs.declared.version.Age.TheVariants as age
 use Rattle.register_sql.specs.declared.queries.Query.TheVariants.{Metas, MetaIds}
-use Rattle.register_sql.proofs.Binds.{metas_read, same_metas, none_new, some_old, none_other, told_other, setup_rows_are, setups_shown, has_the_setup, part_of, sound_in, other_fault}
+use Rattle.register_sql.proofs.Binds.{metas_read, same_metas, none_new, some_old, none_other}
+use Rattle.register_sql.proofs.Binds.{told_other, setup_rows_are, setups_shown, has_the_setup}
+use Rattle.register_sql.proofs.Binds.{part_of, sound_in, other_fault}
 use Rattle.register_sql.proofs.Contents.{content_in, same_part}
 use Rattle.register_sql.proofs.Prefixes.{same_count}
 use Rattle.register_sql.proofs.Raised.{lifted_is}

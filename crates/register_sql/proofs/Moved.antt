@@ -1,5 +1,6 @@
 -- A migration changes the content of a store as a register promises.
-use Rattle.std.proofs.Common.{◌≡◌, inl, inr, Bool, true, false, Option, None, Ok, Err, Result, IfErr, OnOk, sym, subst, ◌∙◌, arith}
+use Rattle.std.proofs.Common.{◌≡◌, inl, inr, Bool, true, false, Option, None, Ok, Err, Result}
+use Rattle.std.proofs.Common.{IfErr, OnOk, sym, subst, ◌∙◌, arith}
 use Rattle.std.proofs.Math.Logic.{∥∥₁_elim}
 use Rattle.nest_core.specs.Museum.{Museum}
 use Rattle.sqlite.specs.Effect.{Database}
@@ -10,15 +11,19 @@ use Rattle.register_store.specs.Holdings.{Comes}
 use Rattle.register_store.specs.Registers.{is_failure}
 use Rattle.register_store.specs.StoredRows.{Content}
 use Rattle.register_store.specs.declared.store_fault.StoreFault.{StoreFault}
-use Rattle.register_store.specs.declared.store_fault.StoreFault.TheVariants.{NoMemory, Store, OtherSetup, Damaged, OtherVersion}
+use Rattle.register_store.specs.declared.store_fault.StoreFault.TheVariants.{NoMemory, Store}
+use Rattle.register_store.specs.declared.store_fault.StoreFault.TheVariants.{OtherSetup, Damaged}
+use Rattle.register_store.specs.declared.store_fault.StoreFault.TheVariants.{OtherVersion}
 use Rattle.register_sql.specs.Binding.{IsSettled}
-use Rattle.register_sql.specs.Migrating.{IsMigrateFault, Migrates, IsNotMigrated, IsMoved, IsSecond, IsRaised, IsCompleted, IsLeft, LeavesMoved}
+use Rattle.register_sql.specs.Migrating.{IsMigrateFault, Migrates, IsNotMigrated, IsMoved, IsSecond}
+use Rattle.register_sql.specs.Migrating.{IsRaised, IsCompleted, IsLeft, LeavesMoved}
 use Rattle.register_sql.specs.Posting.{IsWhole, IsReady}
 use Rattle.register_sql.specs.Queries.{IsSame}
 use Rattle.register_sql.specs.Rows.{AreRows, IsStored}
 use Rattle.register_sql.specs.Stores.{in_store, IsKept}
 use Rattle.register_sql.proofs.Binds.{part_of, same_all}
-use Rattle.register_sql.proofs.Holds.{Laws, Holds, shown_held, held_shown, rows_held, held_rows, ready_left, no_two}
+use Rattle.register_sql.proofs.Holds.{Laws, Holds, shown_held, held_shown, rows_held, held_rows}
+use Rattle.register_sql.proofs.Holds.{ready_left, no_two}
 
 still : (old new : State) → IsSame old new → IsSettled old → IsSettled new
 still old new same was =
@@ -112,7 +117,8 @@ unmoved_comes S fault old new fails before after up survives = record {
               left.0,
               left.1,
               subst (λ db. IsStored db c)
-                  (before.settled held.0 was.is_open held.1 ∙ sym (before.settled left.0 was.is_open had))
+                  (before.settled held.0 was.is_open held.1
+                  ∙ sym (before.settled left.0 was.is_open had))
                   held.2,
             )
         | inr moved ↦ none moved.content.0 (

@@ -1,7 +1,10 @@
 -- The two rows of `meta`, in either order.
-use Rattle.std.proofs.Common.{zero, suc, Bool, true, false, ltb, ltb-true, ltb-false, ◌≤◌, slice_index_or, ◌≡◌, ◌≢◌, ◌⊎◌, inl, inr, ◌<◌, ◌+◌, ℕ, pos, List, [], ◌∷◌, length, codes, refl, sym, ap, subst, ◌∙◌, arith}
+use Rattle.std.proofs.Common.{zero, suc, Bool, true, false, ltb, ltb-true, ltb-false, ◌≤◌}
+use Rattle.std.proofs.Common.{slice_index_or, ◌≡◌, ◌≢◌, ◌⊎◌, inl, inr, ◌<◌, ◌+◌, ℕ, pos, List, []}
+use Rattle.std.proofs.Common.{◌∷◌, length, codes, refl, sym, ap, subst, ◌∙◌, arith}
 use Rattle.std.specs.List.{AllByRecursion}
-use Rattle.std.proofs.lemmas.List.Sorted.{IsPermutation-refl, IsPermutation-sym, IsPermutation-middle, length_permutation}
+use Rattle.std.proofs.lemmas.List.Sorted.{IsPermutation-refl, IsPermutation-sym}
+use Rattle.std.proofs.lemmas.List.Sorted.{IsPermutation-middle, length_permutation}
 use Rattle.sqlite_trees.proofs.ListLemmas.{all-permutation}
 use Rattle.sqlite.specs.declared.types.Value.TheVariants.{Int, Text}
 use Rattle.sqlite.specs.Order.{Row}

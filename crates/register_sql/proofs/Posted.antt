@@ -1,7 +1,9 @@
 -- The effect of a posting's statements on the rows that a store holds.
-use Rattle.std.proofs.Common.{◌≡◌, ℕ, List, ◌∷◌, map, drop, false, Ok, Err, Result, OnOk, refl, sym, subst, ◌∙◌, arith}
+use Rattle.std.proofs.Common.{◌≡◌, ℕ, List, ◌∷◌, map, drop, false, Ok, Err, Result, OnOk, refl, sym}
+use Rattle.std.proofs.Common.{subst, ◌∙◌, arith}
 use Rattle.std.specs.List.Sorted.{IsPermutation}
-use Rattle.std.proofs.lemmas.List.Sorted.{IsPermutation-trans, IsPermutation-cons, IsPermutation-map}
+use Rattle.std.proofs.lemmas.List.Sorted.{IsPermutation-trans, IsPermutation-cons}
+use Rattle.std.proofs.lemmas.List.Sorted.{IsPermutation-map}
 use Rattle.sqlite.specs.Edit.{is_taken}
 use Rattle.sqlite.specs.Effect.{Database, IsDatabase}
 use Rattle.sqlite.specs.Order.{Row}
@@ -9,13 +11,18 @@ use Rattle.sqlite.specs.State.{State, Executes, ExecutesInside}
 use Rattle.sqlite.specs.declared.error.Error.{Error}
 use Rattle.sqlite.specs.declared.types.Value.{Value}
 use Rattle.register_sql.specs.Changes.{Adds, Spares}
-use Rattle.register_sql.specs.Posting.{IsWhole, Within, Turns, Makes, with_posting, with_spot, more_line, without_line, more_term, without_term}
+use Rattle.register_sql.specs.Posting.{IsWhole, Within, Turns, Makes, with_posting, with_spot}
+use Rattle.register_sql.specs.Posting.{more_line, without_line, more_term, without_term}
 use Rattle.register_store.specs.StoredRows.{Content, PostingRow, SpotRow, LineRow, TermRow}
-use Rattle.register_sql.specs.Rows.{Apart, posting_cells, spot_cells, line_cells, term_cells, HasNumber}
+use Rattle.register_sql.specs.Rows.{Apart, posting_cells, spot_cells, line_cells, term_cells}
+use Rattle.register_sql.specs.Rows.{HasNumber}
 use Rattle.register_sql.proofs.Apart.{apart_moved, apart_more, apart_kept}
-use Rattle.register_sql.proofs.Deletes.{removes_line, removes_term, fewer_lines, fewer_terms, line_key_params, term_key_params}
-use Rattle.register_sql.proofs.Inserts.{adds_posting, adds_spot, adds_line, adds_term, posting_params, spot_params, line_params, term_params}
-use Rattle.register_sql.proofs.Texts.{insert_posting, insert_spot, insert_line, insert_term, delete_line, delete_term}
+use Rattle.register_sql.proofs.Deletes.{removes_line, removes_term, fewer_lines, fewer_terms}
+use Rattle.register_sql.proofs.Deletes.{line_key_params, term_key_params}
+use Rattle.register_sql.proofs.Inserts.{adds_posting, adds_spot, adds_line, adds_term}
+use Rattle.register_sql.proofs.Inserts.{posting_params, spot_params, line_params, term_params}
+use Rattle.register_sql.proofs.Texts.{insert_posting, insert_spot, insert_line, insert_term}
+use Rattle.register_sql.proofs.Texts.{delete_line, delete_term}
 
 -- one more row in one table, which the others don't have
 more : {X : Type 0} (cells : X → Row) (x : X) (xs : List X) (id : Value) (rows next : List Row)

@@ -1,11 +1,16 @@
 -- The entries read from the rows are those that a content has.
-use Rattle.std.proofs.Common.{◌<◌, ◌≤◌, ◌+◌, ◌^◌, ◌≡◌, ◌≢◌, ℕ, zero, suc, List, [], ◌∷◌, ◌++◌, length, map, reverse, take, drop, get_or, Bool, true, false, cond, refl, sym, ap, subst, ◌∙◌, arith, is_lt, Ok, Err, Result, IfOk, IfErr, All}
+use Rattle.std.proofs.Common.{◌<◌, ◌≤◌, ◌+◌, ◌^◌, ◌≡◌, ◌≢◌, ℕ, zero, suc, List, [], ◌∷◌, ◌++◌}
+use Rattle.std.proofs.Common.{length, map, reverse, take, drop, get_or, Bool, true, false, cond}
+use Rattle.std.proofs.Common.{refl, sym, ap, subst, ◌∙◌, arith, is_lt, Ok, Err, Result, IfOk, IfErr}
+use Rattle.std.proofs.Common.{All}
 use Rattle.std.specs.List.Sorted.{IsPermutation, IsSorted, IsSortedByKey}
 use Rattle.std.specs.Ordering.{int_cmp}
 use Rattle.std.specs.Str.{is_utf8}
 use Rattle.std.proofs.lemmas.Str.{IsUtf8-from_is_utf8}
-use Rattle.std.proofs.lemmas.List.{get_or-map, length-map, reverse-append, length-reverse, length-take-le, take_all}
-use Rattle.std.proofs.lemmas.List.Sorted.{IsPermutation-map, IsPermutation-trans, IsPermutation-sym, IsPermutation-reverse, All-permutation}
+use Rattle.std.proofs.lemmas.List.{get_or-map, length-map, reverse-append, length-reverse}
+use Rattle.std.proofs.lemmas.List.{length-take-le, take_all}
+use Rattle.std.proofs.lemmas.List.Sorted.{IsPermutation-map, IsPermutation-trans, IsPermutation-sym}
+use Rattle.std.proofs.lemmas.List.Sorted.{IsPermutation-reverse, All-permutation}
 use Rattle.itertools.proofs.KMergeLemmas.{lift-permutation}
 use Rattle.sqlite.specs.Edit.{id_in}
 use Rattle.sqlite.specs.Order.{Row, column}
@@ -19,10 +24,13 @@ use Rattle.posting_core.specs.declared.verdict.Verdict.TheVariants as v
 use Rattle.register_store.proofs.Lists.{taken_next, split_at}
 use Rattle.register_store.proofs.OneList.{as_many}
 use Rattle.register_store.specs.Kinds.{of_bytes, of_read}
-use Rattle.register_store.specs.Registers.{is_of_listing, IsOfStation, IsWrongRow, IsWrongAt, IsListFault, IsFirstWrong}
+use Rattle.register_store.specs.Registers.{is_of_listing, IsOfStation, IsWrongRow, IsWrongAt}
+use Rattle.register_store.specs.Registers.{IsListFault, IsFirstWrong}
 use Rattle.register_store.specs.StoredRows.{Content, PostingRow, IsPostingRow, ArePostings, HasList}
 use Rattle.register_store.specs.declared.store_fault.StoreFault.{StoreFault}
-use Rattle.register_store.specs.declared.store_fault.StoreFault.TheVariants.{NoMemory, Store, OtherSetup, Damaged, OtherVersion}
+use Rattle.register_store.specs.declared.store_fault.StoreFault.TheVariants.{NoMemory, Store}
+use Rattle.register_store.specs.declared.store_fault.StoreFault.TheVariants.{OtherSetup, Damaged}
+use Rattle.register_store.specs.declared.store_fault.StoreFault.TheVariants.{OtherVersion}
 use Rattle.register_sql.specs.Queries.{shown_in}
 use Rattle.register_sql.specs.Rows.{AreRows, posting_cells}
 use Rattle.register_sql.specs.Shown.{shown_posting, posting_shown, FitsPosting, id_cmp}

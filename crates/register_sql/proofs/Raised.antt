@@ -1,5 +1,7 @@
 -- The effect of a migration's steps on the tables, one after another.
-use Rattle.std.proofs.Common.{◌≡◌, ℕ, List, [], ◌∷◌, ◌++◌, map, filter, drop, reverse, codes, true, false, Option, None, Some, Ok, Err, Result, OnOk, IsTrue, refl, sym, ap, subst, ◌∙◌, arith, append-nil}
+use Rattle.std.proofs.Common.{◌≡◌, ℕ, List, [], ◌∷◌, ◌++◌, map, filter, drop, reverse, codes, true}
+use Rattle.std.proofs.Common.{false, Option, None, Some, Ok, Err, Result, OnOk, IsTrue, refl, sym}
+use Rattle.std.proofs.Common.{ap, subst, ◌∙◌, arith, append-nil}
 use Rattle.std.specs.List.Sorted.{IsPermutation}
 use Rattle.std.specs.Option.{option_map_or}
 use Rattle.std.proofs.lemmas.Grind.{reverse_onto}
@@ -10,7 +12,8 @@ use Rattle.sqlite.specs.Effect.{Database}
 use Rattle.sqlite.specs.Held.{Held, state}
 use Rattle.sqlite.specs.Listing.{understood}
 use Rattle.sqlite.specs.Order.{Row}
-use Rattle.sqlite.specs.State.{State, Executes, ExecutesInside, KeepsCommit, KeepsCounts, Shows, HasCleanDisk, Survives}
+use Rattle.sqlite.specs.State.{State, Executes, ExecutesInside, KeepsCommit, KeepsCounts, Shows}
+use Rattle.sqlite.specs.State.{HasCleanDisk, Survives}
 use Rattle.sqlite.specs.Store.{Ghosts}
 use Rattle.sqlite.specs.Term.{Term}
 use Rattle.sqlite.specs.Tree.{Trees}
@@ -18,10 +21,12 @@ use Rattle.sqlite.specs.declared.error.Error.{Error}
 use Rattle.sqlite.proofs.Callers.{IsPlain, command_of}
 use Rattle.sqlite_catalog.specs.Listing.{IsSound}
 use Rattle.sqlite_tied.specs.Compute.{everything}
-use Rattle.register_store.specs.StoredRows.{Content, MetaRow, TermRow, rows_of_meta, put, is_same_loan, term_of}
+use Rattle.register_store.specs.StoredRows.{Content, MetaRow, TermRow, rows_of_meta, put}
+use Rattle.register_store.specs.StoredRows.{is_same_loan, term_of}
 use Rattle.register_sql.specs.Changes.{Removes}
 use Rattle.register_sql.specs.Making.{IsMade, Goes, Grown, AddsMeta}
-use Rattle.register_sql.specs.Migrating.{days_given, migrated, lifted, Lifts, ClearsMeta, RenewsMeta, Raises, IsLifting, IsLifted, LeavesLifted}
+use Rattle.register_sql.specs.Migrating.{days_given, migrated, lifted, Lifts, ClearsMeta}
+use Rattle.register_sql.specs.Migrating.{RenewsMeta, Raises, IsLifting, IsLifted, LeavesLifted}
 use Rattle.register_sql.specs.Posting.{IsWhole, Within, Makes, with_each, with_some_term}
 use Rattle.register_sql.specs.Rows.{HasPart, AreRows, Apart, meta_cells}
 use Rattle.register_sql.specs.Tables.{meta, hub_schema}

@@ -1,6 +1,9 @@
 -- Rows whose rowids rise have rowids that differ, and so do those of the tables that they were read
 -- from.
-use Rattle.std.proofs.Common.{Result, Ok, Err, OnOk, zero, ◌-◌, cond, nat_lt, ltb, ltb-true, ltb-false, ◌≤◌, length, slice_index_or, ◌≡◌, ◌<◌, ◌+◌, ℕ, suc, add-one, ℤ, List, [], ◌∷◌, map, Bool, true, false, IsTrue, refl, sym, ap, subst, ◌∙◌, arith}
+use Rattle.std.proofs.Common.{Result, Ok, Err, OnOk, zero, ◌-◌, cond, nat_lt, ltb, ltb-true}
+use Rattle.std.proofs.Common.{ltb-false, ◌≤◌, length, slice_index_or, ◌≡◌, ◌<◌, ◌+◌, ℕ, suc}
+use Rattle.std.proofs.Common.{add-one, ℤ, List, [], ◌∷◌, map, Bool, true, false, IsTrue, refl, sym}
+use Rattle.std.proofs.Common.{ap, subst, ◌∙◌, arith}
 use Rattle.std.specs.List.{AllByRecursion, IsDistinct}
 use Rattle.std.specs.Ordering.{is_eq}
 use Rattle.std.specs.Cmp.{int_cmp_is}
@@ -17,9 +20,12 @@ use Rattle.sqlite_value.specs.Order.{value_cmp}
 use Rattle.sqlite_value.proofs.OrderLemmas.{value_cmp-Int, value_cmp_total}
 use Rattle.sqlite_trees.specs.View.{is_int}
 use Rattle.register_sql.specs.Rows.{Apart, same_id, had}
-use Rattle.register_sql.specs.Queries.{tree_of, least_of, shown_by, shows_id, shown_in, IsApartIn, IsPart, IsSame}
+use Rattle.register_sql.specs.Queries.{tree_of, least_of, shown_by, shows_id, shown_in, IsApartIn}
+use Rattle.register_sql.specs.Queries.{IsPart, IsSame}
 use Rattle.register_sql.specs.declared.queries.Query.{Query}
-use Rattle.register_sql.specs.declared.queries.Query.TheVariants.{Metas, Setups, Postings, Spots, Lines, Terms, MetaIds, SetupIds, PostingIds, LineIds, TermIds}
+use Rattle.register_sql.specs.declared.queries.Query.TheVariants.{Metas, Setups, Postings, Spots}
+use Rattle.register_sql.specs.declared.queries.Query.TheVariants.{Lines, Terms, MetaIds, SetupIds}
+use Rattle.register_sql.specs.declared.queries.Query.TheVariants.{PostingIds, LineIds, TermIds}
 use Rattle.register_sql.proofs.Apart.{apart_moved, no_rows}
 use Rattle.register_sql.specs.Rowids.{IsBelow, IsRising}
 

@@ -1,5 +1,7 @@
 -- The rows of a store opened on files, and the files after a store is closed.
-use Rattle.std.proofs.Common.{◌≡◌, inl, inr, ℕ, ◌<◌, List, Option, Some, unwrap_or, length, take, slice_index, get_or-take, length-take, ◌≤◌, false, true, IsTrue, sym, ap, subst, ◌∙◌, arith, []}
+use Rattle.std.proofs.Common.{◌≡◌, inl, inr, ℕ, ◌<◌, List, Option, Some, unwrap_or, length, take}
+use Rattle.std.proofs.Common.{slice_index, get_or-take, length-take, ◌≤◌, false, true, IsTrue, sym}
+use Rattle.std.proofs.Common.{ap, subst, ◌∙◌, arith, []}
 use Rattle.std.proofs.Math.Logic.{∥∥₁_elim, ∥∥₁_map}
 use Rattle.sqlite.specs.Files.{HoldsDatabase, AreFoundIn, IsNothing, IsEmpty}
 use Rattle.sqlite.specs.Recovery.{Image}

@@ -1,5 +1,7 @@
 -- If a row is none of the wanted ones, the rows aren't the wanted ones.
-use Rattle.std.proofs.Common.{inl, inr, ◌≡◌, ◌≢◌, ◌<◌, ◌≤◌, ◌+◌, ℕ, zero, suc, ℤ, List, [], ◌∷◌, length, map, slice_index_or, Bool, true, false, refl, sym, ap, subst, ◌∙◌, arith, ltb, ltb-true, ltb-false}
+use Rattle.std.proofs.Common.{inl, inr, ◌≡◌, ◌≢◌, ◌<◌, ◌≤◌, ◌+◌, ℕ, zero, suc, ℤ, List, [], ◌∷◌}
+use Rattle.std.proofs.Common.{length, map, slice_index_or, Bool, true, false, refl, sym, ap, subst}
+use Rattle.std.proofs.Common.{◌∙◌, arith, ltb, ltb-true, ltb-false}
 use Rattle.std.specs.Bool.{Decides}
 use Rattle.std.specs.List.{AllByRecursion}
 use Rattle.std.specs.List.Sorted.{IsPermutation}
@@ -13,11 +15,13 @@ use Rattle.sqlite_trees.proofs.ListLemmas.{all-permutation, all-get_or}
 use Rattle.register_store.proofs.SpotRows.{looking_back}
 use Rattle.register_store.specs.declared.loan_rows.LineKey.{LineKey}
 use Rattle.register_store.specs.Plain.{held_lines, term_rows}
-use Rattle.register_store.specs.StoredRows.{Content, HasRows, spot_row, line_row, all_written, spots_by_thing, lines_by_loan, rows_of_terms}
+use Rattle.register_store.specs.StoredRows.{Content, HasRows, spot_row, line_row, all_written}
+use Rattle.register_store.specs.StoredRows.{spots_by_thing, lines_by_loan, rows_of_terms}
 use Rattle.register_sql.specs.Fits.{IsNoSpot, IsNoLine, IsNoTerm}
 use Rattle.register_sql.specs.Found.{AreFound}
 use Rattle.register_sql.specs.Rows.{spot_cells, line_cells, term_cells}
-use Rattle.register_sql.specs.Strange.{IsNone, HasStranger, AreStrange, cells_of_spot, cells_of_line, cells_of_term}
+use Rattle.register_sql.specs.Strange.{IsNone, HasStranger, AreStrange, cells_of_spot}
+use Rattle.register_sql.specs.Strange.{cells_of_line, cells_of_term}
 use Rattle.register_sql.proofs.Ascending.{never}
 use Rattle.register_sql.proofs.Removed.{map_twice}
 

@@ -1,5 +1,6 @@
 -- The steps of a posting make the change that a register promises.
-use Rattle.std.proofs.Common.{◌≡◌, List, [], ◌∷◌, ◌++◌, map, reverse, Option, Some, None, refl, sym, ap, ◌∙◌, append_assoc}
+use Rattle.std.proofs.Common.{◌≡◌, List, [], ◌∷◌, ◌++◌, map, reverse, Option, Some, None, refl, sym}
+use Rattle.std.proofs.Common.{ap, ◌∙◌, append_assoc}
 use Rattle.std.specs.Option.{option_map_or}
 use Rattle.std.proofs.lemmas.Grind.{reverse_onto}
 use Rattle.std.proofs.lemmas.List.{map-append}
@@ -7,8 +8,11 @@ use Rattle.posting_core.specs.declared.entry.Changes.{Changes}
 use Rattle.posting_core.specs.declared.entry.Entry.{Entry}
 use Rattle.posting_core.specs.declared.entry.NewLine.{NewLine}
 use Rattle.posting_core.specs.declared.entry.NewSpot.{NewSpot}
-use Rattle.register_store.specs.StoredRows.{Content, PostingRow, SpotRow, TermRow, spot_row, line_row, put, put_each, is_same_line, is_same_loan, term_of, with_posted}
-use Rattle.register_sql.specs.Posting.{with_each, with_posting, with_spot, with_line, with_some_term}
+use Rattle.register_store.specs.StoredRows.{Content, PostingRow, SpotRow, TermRow, spot_row}
+use Rattle.register_store.specs.StoredRows.{line_row, put, put_each, is_same_line, is_same_loan}
+use Rattle.register_store.specs.StoredRows.{term_of, with_posted}
+use Rattle.register_sql.specs.Posting.{with_each, with_posting, with_spot, with_line}
+use Rattle.register_sql.specs.Posting.{with_some_term}
 
 spots_are : (ss : List NewSpot) (c : Content)
     → with_each (λ s. with_spot (spot_row s)) ss c

@@ -1,7 +1,8 @@
 -- A store of version 1 computed on a worked list, the result of its migration, and why an extension
 -- is no entry of it.
 use lib.Ieee.{is_nan, lt}
-use Rattle.std.specs.Prelude.{◌≡◌, ℕ, pos, true, false, List, [], ◌∷◌, Some, slice_index_or, codes, refl}
+use Rattle.std.specs.Prelude.{◌≡◌, ℕ, pos, true, false, List, [], ◌∷◌, Some, slice_index_or, codes}
+use Rattle.std.specs.Prelude.{refl}
 use Rattle.std.specs.List.{IsDistinct}
 use Rattle.std.specs.Str.{is_utf8, chars}
 use Rattle.std.proofs.Common.{ap, arith, inl, inr, length, zero, suc, ⊎_elim}
@@ -27,7 +28,8 @@ use Rattle.sqlite.specs.declared.types.Value.TheVariants.{Null, Int, Text}
 use Rattle.sqlite_catalog.specs.Listing.{IsSound}
 use Rattle.sqlite_value.specs.Order.{value_cmp}
 use Rattle.register_store.proofs.WorkedTexts.{may, may-text, end_of_may, end_of_may-text}
-use Rattle.register_store.specs.StoredRows.{Content, SetupRow, PostingRow, TermRow, IsPostingRow, HasList, rows_of_setup, rows_of_meta}
+use Rattle.register_store.specs.StoredRows.{Content, SetupRow, PostingRow, TermRow, IsPostingRow}
+use Rattle.register_store.specs.StoredRows.{HasList, rows_of_setup, rows_of_meta}
 use Rattle.register_sql.specs.Ages.{first_meta}
 use Rattle.register_sql.specs.Early.{IsEarlyOf}
 use Rattle.register_sql.specs.Binding.{IsUnfitFor}

@@ -1,9 +1,11 @@
 -- The definitions computed on a worked store, and on other databases.
 use lib.Ieee.{is_nan, lt}
-use Rattle.std.specs.Prelude.{◌≡◌, ◌-◌, ◌^◌, ℕ, pos, negsuc, List, [], ◌∷◌, map, codes, slice_index_or, true, false, Some, None, refl}
+use Rattle.std.specs.Prelude.{◌≡◌, ◌-◌, ◌^◌, ℕ, pos, negsuc, List, [], ◌∷◌, map, codes}
+use Rattle.std.specs.Prelude.{slice_index_or, true, false, Some, None, refl}
 use Rattle.std.proofs.Common.{arith, inl, inr, lit<, ⊎_elim}
 use Rattle.std.specs.List.{IsDistinct}
-use Rattle.std.proofs.lemmas.List.Sorted.{IsPermutation-refl, IsPermutation-middle, length_permutation}
+use Rattle.std.proofs.lemmas.List.Sorted.{IsPermutation-refl, IsPermutation-middle}
+use Rattle.std.proofs.lemmas.List.Sorted.{length_permutation}
 use Rattle.sqlite.specs.Edit.{is_taken}
 use Rattle.sqlite.specs.Order.{Row}
 use Rattle.sqlite.specs.State.{State}
@@ -15,19 +17,23 @@ use Rattle.sqlite_value.specs.Order.{value_cmp}
 use Rattle.posting_core.specs.declared.entry.NewLine.{NewLine}
 use Rattle.posting_core.specs.declared.entry.NewSpot.{NewSpot}
 use Rattle.posting_core.specs.declared.stage.LineStage.TheVariants.{Awaiting, Away, Back}
-use Rattle.register_store.specs.StoredRows.{Content, SetupRow, PostingRow, TermRow, rows_of_meta, spot_row, line_row}
+use Rattle.register_store.specs.StoredRows.{Content, SetupRow, PostingRow, TermRow, rows_of_meta}
+use Rattle.register_store.specs.StoredRows.{spot_row, line_row}
 use Rattle.register_store.specs.declared.store_fault.StoreFault.TheVariants.{NoMemory, Store}
 use Rattle.nest_core.specs.Museum.{Museum}
 use Rattle.register_sql.specs.Binding.{IsSettled, IsUnfitFor, IsUnfitNew}
 use Rattle.register_sql.specs.Fits.{FitsSpot, IsNoSpot, IsNoLine, IsNoTerm}
 use Rattle.register_sql.specs.Making.{MakesWhole, setup_from}
-use Rattle.register_sql.specs.Posting.{with_posting, with_spot, with_line, without_line, with_each, with_some_term}
+use Rattle.register_sql.specs.Posting.{with_posting, with_spot, with_line, without_line, with_each}
+use Rattle.register_sql.specs.Posting.{with_some_term}
 use Rattle.register_sql.specs.Queries.{shown_in, AreApart}
 use Rattle.register_sql.specs.Rows.{HasPart, AreRows, had, spot_cells, line_cells, same_id}
 use Rattle.register_sql.specs.Says.{IsOther, IsIdentity, setup_in, setup_rows_shown}
 use Rattle.register_sql.specs.Stores.{in_store, no_rows, counted}
-use Rattle.register_sql.specs.Tables.{hub_schema, table_at, index_at, all_tables, all_indexes, index_count}
-use Rattle.register_sql.specs.declared.queries.Query.TheVariants.{Metas, Setups, Postings, Spots, Lines, Terms, LineIds}
+use Rattle.register_sql.specs.Tables.{hub_schema, table_at, index_at, all_tables, all_indexes}
+use Rattle.register_sql.specs.Tables.{index_count}
+use Rattle.register_sql.specs.declared.queries.Query.TheVariants.{Metas, Setups, Postings, Spots}
+use Rattle.register_sql.specs.declared.queries.Query.TheVariants.{Lines, Terms, LineIds}
 use Rattle.register_sql.specs.declared.identity.Identity.TheVariants as told
 
 -- ---- a store with an entry, its spot, two lines of a loan and its last day

@@ -1,5 +1,6 @@
 -- Defines how the tables of a new store are created and filled.
-use Rattle.std.specs.Prelude.{◌≡◌, ℕ, zero, suc, ◌+◌, pos, List, [], ◌∷◌, ◌++◌, map, drop, codes, Result, OnOk, IsTrue, true}
+use Rattle.std.specs.Prelude.{◌≡◌, ℕ, zero, suc, ◌+◌, pos, List, [], ◌∷◌, ◌++◌, map, drop, codes}
+use Rattle.std.specs.Prelude.{Result, OnOk, IsTrue, true}
 use Rattle.std.specs.List.Sorted.{IsPermutation}
 use Rattle.sqlite.specs.Effect.{IsDatabase}
 use Rattle.sqlite.specs.State.{State, HasCleanDisk}

@@ -1,6 +1,7 @@
 -- Defines the migration of a store from version 1 to version 2: the stores that it accepts, the
 -- change, its steps, and the faults.
-use Rattle.std.specs.Prelude.{◌≡◌, ◌≢◌, ◌⊎◌, ℕ, true, false, List, [], ◌∷◌, length, map, drop, All, IsTrue}
+use Rattle.std.specs.Prelude.{◌≡◌, ◌≢◌, ◌⊎◌, ℕ, true, false, List, [], ◌∷◌, length, map, drop, All}
+use Rattle.std.specs.Prelude.{IsTrue}
 use Rattle.std.specs.List.{AllByRecursion}
 use Rattle.std.specs.List.Sorted.{IsPermutation}
 use Rattle.std.specs.Option.{option_map_or}
@@ -11,9 +12,12 @@ use Rattle.sqlite.specs.State.{State}
 use Rattle.sqlite.specs.Tree.{Trees}
 use Rattle.sqlite_catalog.specs.Listing.{IsSound}
 use Rattle.register_store.specs.Registers.{is_new, is_failure, has_other_version}
-use Rattle.register_store.specs.StoredRows.{Content, MetaRow, TermRow, AreSame, HasList, rows_of_setup, rows_of_meta, put, is_same_loan, term_of}
+use Rattle.register_store.specs.StoredRows.{Content, MetaRow, TermRow, AreSame, HasList}
+use Rattle.register_store.specs.StoredRows.{rows_of_setup, rows_of_meta, put, is_same_loan, term_of}
 use Rattle.register_store.specs.declared.store_fault.StoreFault.{StoreFault}
-use Rattle.register_store.specs.declared.store_fault.StoreFault.TheVariants.{NoMemory, Store, OtherSetup, Damaged, OtherVersion}
+use Rattle.register_store.specs.declared.store_fault.StoreFault.TheVariants.{NoMemory, Store}
+use Rattle.register_store.specs.declared.store_fault.StoreFault.TheVariants.{OtherSetup, Damaged}
+use Rattle.register_store.specs.declared.store_fault.StoreFault.TheVariants.{OtherVersion}
 use Rattle.register_sql.specs.Ages.{version_row, first_meta}
 use Rattle.register_sql.specs.Early.{IsEarlyOf, IsFirstEarlyWrong}
 use Rattle.register_sql.specs.Posting.{Within, IsWhole, IsReady, with_each, with_some_term}

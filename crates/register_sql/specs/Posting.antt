@@ -1,5 +1,6 @@
 -- Defines the effect of each step of posting an entry on a whole store.
-use Rattle.std.specs.Prelude.{◌≡◌, true, not, List, [], ◌∷◌, filter, Option, Some, None, Result, OnOk, IsTrue}
+use Rattle.std.specs.Prelude.{◌≡◌, true, not, List, [], ◌∷◌, filter, Option, Some, None, Result}
+use Rattle.std.specs.Prelude.{OnOk, IsTrue}
 use Rattle.sqlite.specs.Effect.{Database, IsDatabase}
 use Rattle.sqlite.specs.State.{State, HasCleanDisk, KeepsCommit, Survives}
 use Rattle.sqlite.specs.Tree.{Trees}
@@ -7,7 +8,9 @@ use Rattle.sqlite.specs.declared.error.Error.{Error}
 use Rattle.sqlite_catalog.specs.Listing.{IsSound}
 use Rattle.posting_core.specs.declared.entry.Changes.{Changes}
 use Rattle.posting_core.specs.declared.entry.Entry.{Entry}
-use Rattle.register_store.specs.StoredRows.{Content, PostingRow, SpotRow, LineRow, TermRow, IsPostingRow, put, is_same_line, is_same_loan, with_posted}
+use Rattle.register_store.specs.StoredRows.{Content, PostingRow, SpotRow, LineRow, TermRow}
+use Rattle.register_store.specs.StoredRows.{IsPostingRow, put, is_same_line, is_same_loan}
+use Rattle.register_store.specs.StoredRows.{with_posted}
 use Rattle.register_sql.specs.Rows.{AreRows, Apart}
 use Rattle.register_sql.specs.Tables.{hub_schema}
 

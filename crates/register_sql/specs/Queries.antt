@@ -7,10 +7,13 @@ use Rattle.sqlite.specs.Order.{Row}
 use Rattle.sqlite.specs.State.{State}
 use Rattle.sqlite.specs.Tree.{Trees}
 use Rattle.register_sql.specs.Rows.{had, Apart}
-use Rattle.register_sql.specs.Shown.{shown_meta, shown_setup, shown_posting, shown_spot, shown_line, shown_term, shown_id, id_cmp}
+use Rattle.register_sql.specs.Shown.{shown_meta, shown_setup, shown_posting, shown_spot, shown_line}
+use Rattle.register_sql.specs.Shown.{shown_term, shown_id, id_cmp}
 use Rattle.register_sql.specs.Tables.{prefix}
 use Rattle.register_sql.specs.declared.queries.Query.{Query}
-use Rattle.register_sql.specs.declared.queries.Query.TheVariants.{Metas, Setups, Postings, Spots, Lines, Terms, MetaIds, SetupIds, PostingIds, LineIds, TermIds}
+use Rattle.register_sql.specs.declared.queries.Query.TheVariants.{Metas, Setups, Postings, Spots}
+use Rattle.register_sql.specs.declared.queries.Query.TheVariants.{Lines, Terms, MetaIds, SetupIds}
+use Rattle.register_sql.specs.declared.queries.Query.TheVariants.{PostingIds, LineIds, TermIds}
 
 -- The text of the query.
 abbrev pub text_of : Query → List ℕ

@@ -9,7 +9,8 @@ use Rattle.sqlite.specs.declared.types.Value.TheVariants.{Null, Int, Text}
 use Rattle.sqlite_catalog.specs.Listing.{IsSound}
 use Rattle.sqlite_trees.specs.View.{is_int}
 use Rattle.sqlite_value.specs.Order.{value_cmp}
-use Rattle.register_store.specs.StoredRows.{Content, SetupRow, MetaRow, PostingRow, SpotRow, LineRow, TermRow}
+use Rattle.register_store.specs.StoredRows.{Content, SetupRow, MetaRow, PostingRow, SpotRow}
+use Rattle.register_store.specs.StoredRows.{LineRow, TermRow}
 use Rattle.register_sql.specs.Tables.{prefix}
 
 -- The cells of a row. In `setup` and `posting` the number is the rowid: it comes first, and its own

@@ -1,6 +1,7 @@
 -- Defines the information about a store in the rows of `meta` and `setup`, in the order in which it
 -- is checked.
-use Rattle.std.specs.Prelude.{◌≡◌, ◌≢◌, ◌<◌, ℕ, ℤ, pos, true, List, [], ◌∷◌, length, slice_index_or, map, codes}
+use Rattle.std.specs.Prelude.{◌≡◌, ◌≢◌, ◌<◌, ℕ, ℤ, pos, true, List, [], ◌∷◌, length, slice_index_or}
+use Rattle.std.specs.Prelude.{map, codes}
 use Rattle.std.specs.List.Sorted.{IsPermutation}
 use Rattle.sqlite.specs.Order.{Row}
 use Rattle.sqlite.specs.Tree.{Trees}
@@ -10,7 +11,8 @@ use Rattle.register_sql.specs.Making.{setup_from}
 use Rattle.register_sql.specs.Rows.{had, meta_cells}
 use Rattle.register_sql.specs.Shown.{shown_setup, setup_shown}
 use Rattle.register_sql.specs.declared.identity.Identity.{Identity}
-use Rattle.register_sql.specs.declared.identity.Identity.TheVariants.{New, OtherVersion, Damaged, Bound}
+use Rattle.register_sql.specs.declared.identity.Identity.TheVariants.{New, OtherVersion, Damaged}
+use Rattle.register_sql.specs.declared.identity.Identity.TheVariants.{Bound}
 
 -- A version other than 2.
 abbrev pub IsOther : Row → Type 0

@@ -8,7 +8,9 @@ use Rattle.sqlite.specs.Tree.{Trees}
 use Rattle.register_store.specs.Holdings.{Holding}
 use Rattle.register_store.specs.StoredRows.{Content}
 use Rattle.register_store.specs.declared.store_fault.StoreFault.{StoreFault}
-use Rattle.register_store.specs.declared.store_fault.StoreFault.TheVariants.{NoMemory, Store, OtherSetup, Damaged, OtherVersion}
+use Rattle.register_store.specs.declared.store_fault.StoreFault.TheVariants.{NoMemory, Store}
+use Rattle.register_store.specs.declared.store_fault.StoreFault.TheVariants.{OtherSetup, Damaged}
+use Rattle.register_store.specs.declared.store_fault.StoreFault.TheVariants.{OtherVersion}
 use Rattle.register_sql.specs.Binding.{IsSettled}
 use Rattle.register_sql.specs.Posting.{IsReady}
 use Rattle.register_sql.specs.Rows.{AreRows, IsStored}

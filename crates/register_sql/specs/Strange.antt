@@ -7,7 +7,8 @@ use Rattle.posting_core.specs.declared.entry.Entry.{Entry}
 use Rattle.posting_core.specs.declared.entry.NewSpot.{NewSpot}
 use Rattle.posting_core.specs.declared.stage.LineStage.{LineStage}
 use Rattle.register_store.specs.declared.loan_rows.LineKey.{LineKey}
-use Rattle.register_store.specs.StoredRows.{spot_row, line_row, spots_by_thing, lines_by_loan, rows_of_terms}
+use Rattle.register_store.specs.StoredRows.{spot_row, line_row, spots_by_thing, lines_by_loan}
+use Rattle.register_store.specs.StoredRows.{rows_of_terms}
 use Rattle.register_sql.specs.Fits.{IsNoSpot, IsNoLine, IsNoTerm}
 use Rattle.register_sql.specs.Rows.{spot_cells, line_cells, term_cells}
 

@@ -1,7 +1,8 @@
 -- Defines the six tables of a store, in the order in which they are created. The first five alone
 -- are a store of version 1. Each table and each index has its own tree; trees are numbered from 0
 -- in the order of creation.
-use Rattle.std.specs.Prelude.{◌≢◌, true, false, [], ◌∷◌, Some, None, codes, map, take, List, ℕ, zero, suc, Bool, Option}
+use Rattle.std.specs.Prelude.{◌≢◌, true, false, [], ◌∷◌, Some, None, codes, map, take, List, ℕ}
+use Rattle.std.specs.Prelude.{zero, suc, Bool, Option}
 use Rattle.sqlite.specs.Collation.TheVariants.{Binary}
 use Rattle.sqlite.specs.Effect.{Database}
 use Rattle.sqlite.specs.Kind.{Kind}

@@ -3,7 +3,8 @@ ghost use Rattle.std.specs.Prelude.{◌≡◌, ◌≢◌, ◌≤◌, [], true, f
 ghost use Rattle.std.specs.List.Sorted.{IsPermutation};
 ghost use Rattle.sqlite.specs.Held.{state};
 ghost use Rattle.sqlite.specs.State.{HasCleanDisk, Survives};
-ghost use Rattle.register_sql.specs.Binding.{IsSettled, IsRefused, IsBoundAs, IsNewness, LeavesBound};
+ghost use Rattle.register_sql.specs.Binding.{IsSettled, IsRefused, IsBoundAs, IsNewness};
+ghost use Rattle.register_sql.specs.Binding.{LeavesBound};
 ghost use Rattle.register_sql.specs.Posting.{Survived};
 ghost use Rattle.register_sql.specs.Queries.{shown_in, IsPart, IsSame};
 ghost use Rattle.register_sql.specs.Rows.{had};

@@ -1,6 +1,7 @@
 //! Reads the information about a store in its tables `meta` and `setup`: its version, its depth
 //! limit and its setup.
-ghost use Rattle.std.specs.Prelude.{◌≡◌, ◌<◌, ◌≤◌, ◌+◌, ◌∷◌, [], pos, ℕ, ℤ, true, false, map, codes, length, IfOk, IfSome, IfNone, OnOk, string_bytes};
+ghost use Rattle.std.specs.Prelude.{◌≡◌, ◌<◌, ◌≤◌, ◌+◌, ◌∷◌, [], pos, ℕ, ℤ, true, false, map};
+ghost use Rattle.std.specs.Prelude.{codes, length, IfOk, IfSome, IfNone, OnOk, string_bytes};
 ghost use Rattle.std.specs.Bool.{Decides};
 ghost use Rattle.std.specs.List.Sorted.{IsPermutation};
 ghost use Rattle.nest_core.specs.SetupTexts.{setup_rows};
@@ -11,7 +12,8 @@ ghost use Rattle.sqlite.specs.declared.types.Value.TheVariants.{Int, Text};
 ghost use Rattle.register_store.specs.StoredRows.{is_depth};
 ghost use Rattle.register_sql.specs.Posting.{Survived};
 ghost use Rattle.register_sql.specs.Queries.{shown_in, IsPart, IsSame};
-ghost use Rattle.register_sql.specs.Says.{IsOther, HasOther, IsWhole, IsIdentity, setup_rows_shown, setup_in};
+ghost use Rattle.register_sql.specs.Says.{IsOther, HasOther, IsWhole, IsIdentity, setup_rows_shown};
+ghost use Rattle.register_sql.specs.Says.{setup_in};
 ghost use Rattle.register_sql.specs.Shown.{setup_shown};
 
 use crate::queries::{Query, read};

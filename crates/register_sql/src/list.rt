@@ -1,9 +1,11 @@
 //! Reads the entries of a whole store, in the order of their numbers.
-ghost use Rattle.std.specs.Prelude.{◌≡◌, ◌≢◌, true, false, map, reverse, All, ℕ, List, IfOk, IfErr, OnOk};
+ghost use Rattle.std.specs.Prelude.{◌≡◌, ◌≢◌, true, false, map, reverse, All, ℕ, List, IfOk, IfErr};
+ghost use Rattle.std.specs.Prelude.{OnOk};
 ghost use Rattle.sqlite.specs.Held.{state};
 ghost use Rattle.sqlite.specs.State.{HasCleanDisk};
 ghost use Rattle.register_store.specs.Plain.{posting_row};
-ghost use Rattle.register_store.specs.Registers.{is_of_listing, IsOfStation, IsWrongRow, IsWrongAt, IsListFault};
+ghost use Rattle.register_store.specs.Registers.{is_of_listing, IsOfStation, IsWrongRow, IsWrongAt};
+ghost use Rattle.register_store.specs.Registers.{IsListFault};
 ghost use Rattle.register_store.specs.StoredRows as stored;
 ghost use Rattle.register_store.specs.StoredRows.{IsPostingRow, ArePostings, HasList};
 ghost use Rattle.register_sql.specs.Posting.{Survived};

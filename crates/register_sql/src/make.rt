@@ -1,9 +1,12 @@
 //! Creates and fills the tables of a new store, in one transaction.
-ghost use Rattle.std.specs.Prelude.{◌≡◌, ◌<◌, ◌≤◌, ◌+◌, ◌∷◌, [], OnOk, OnErr, IsTrue, false, pos, map, string_bytes};
+ghost use Rattle.std.specs.Prelude.{◌≡◌, ◌<◌, ◌≤◌, ◌+◌, ◌∷◌, [], OnOk, OnErr, IsTrue, false, pos};
+ghost use Rattle.std.specs.Prelude.{map, string_bytes};
 ghost use Rattle.sqlite.specs.Held.{state};
 ghost use Rattle.sqlite.specs.State.{HasCleanDisk, Survives};
 ghost use Rattle.register_store.specs.StoredRows.{rows_of_meta};
-ghost use Rattle.register_sql.specs.Making.{create_of, setup_from, IsMaking, Went, Grown, ClearsSetup, AddsSetup, ReplacesSetup, AddsMeta, Fills, MakesWhole, IsMadeWhole, LeavesMade};
+ghost use Rattle.register_sql.specs.Making.{create_of, setup_from, IsMaking, Went, Grown};
+ghost use Rattle.register_sql.specs.Making.{ClearsSetup, AddsSetup, ReplacesSetup, AddsMeta, Fills};
+ghost use Rattle.register_sql.specs.Making.{MakesWhole, IsMadeWhole, LeavesMade};
 ghost use Rattle.register_sql.specs.Posting.{Kept, Survived, IsBack};
 ghost use Rattle.register_sql.specs.Queries.{IsPart};
 ghost use Rattle.register_sql.specs.Rows.{had, Apart};

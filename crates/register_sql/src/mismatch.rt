@@ -9,7 +9,8 @@ ghost use Rattle.register_store.specs.StoredRows as stored;
 ghost use Rattle.register_store.specs.StoredRows.{HasRows};
 ghost use Rattle.register_sql.specs.Fits.{IsNoSpot, IsNoLine, IsNoTerm};
 ghost use Rattle.register_sql.specs.Found.{AreFound};
-ghost use Rattle.register_sql.specs.Strange.{IsNone, HasStranger, AreStrange, cells_of_spot, cells_of_line, cells_of_term};
+ghost use Rattle.register_sql.specs.Strange.{IsNone, HasStranger, AreStrange, cells_of_spot};
+ghost use Rattle.register_sql.specs.Strange.{cells_of_line, cells_of_term};
 
 use crate::identity::{is_number, is_text};
 use crate::row_values::{line_of, spot_of, term_of};

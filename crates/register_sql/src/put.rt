@@ -1,12 +1,14 @@
 //! Adds an entry with its spots, loan lines and last day to a whole store, in one transaction.
-ghost use Rattle.std.specs.Prelude.{◌≡◌, ◌≤◌, ◌^◌, Ok, OnOk, OnErr, IfOk, IfErr, IsTrue, false, pos, ℕ};
+ghost use Rattle.std.specs.Prelude.{◌≡◌, ◌≤◌, ◌^◌, Ok, OnOk, OnErr, IfOk, IfErr, IsTrue, false};
+ghost use Rattle.std.specs.Prelude.{pos, ℕ};
 ghost use Rattle.sqlite.specs.Held.{state};
 ghost use Rattle.sqlite.specs.State.{ExecutesInside, HasCleanDisk, Survives};
 ghost use Rattle.sqlite.specs.Values.{bound};
 ghost use Rattle.register_store.specs.Plain.{posting_row};
 ghost use Rattle.register_store.specs.StoredRows.{spot_row, line_row, term_of, with_posted};
 ghost use Rattle.register_sql.specs.Posting as step;
-ghost use Rattle.register_sql.specs.Posting.{IsWithin, Wrote, Kept, Survived, IsReady, IsDone, IsBack, LeavesWhole};
+ghost use Rattle.register_sql.specs.Posting.{IsWithin, Wrote, Kept, Survived, IsReady, IsDone};
+ghost use Rattle.register_sql.specs.Posting.{IsBack, LeavesWhole};
 
 use codes_core::{Day, LoanCode};
 use posting_core::{Changes, Entry, NewLine, NewSpot};

@@ -4,7 +4,8 @@ ghost use Rattle.std.specs.List.Sorted.{IsPermutation};
 ghost use Rattle.sqlite.specs.Held.{state};
 ghost use Rattle.sqlite.specs.State.{HasCleanDisk};
 ghost use Rattle.register_sql.specs.Posting.{Survived};
-ghost use Rattle.register_sql.specs.Queries.{text_of, least_of, shown_in, IsInOrder, IsPart, IsSame};
+ghost use Rattle.register_sql.specs.Queries.{text_of, least_of, shown_in, IsInOrder, IsPart};
+ghost use Rattle.register_sql.specs.Queries.{IsSame};
 
 use sqlite::{Alter, Connection, Error, Row};
 

@@ -4,7 +4,8 @@ ghost use Rattle.sqlite.specs.Order.{column};
 ghost use Rattle.sqlite.specs.declared.types.Value.TheVariants.{Int, Text};
 ghost use Rattle.posting_core.specs.StageNumbers.{stage_number};
 ghost use Rattle.register_store.specs.StoredRows.{spot_row, line_row};
-ghost use Rattle.register_sql.specs.Fits.{IsDay, IsLoan, FitsSpot, FitsLine, FitsTerm, IsNoSpot, IsNoLine, IsNoTerm};
+ghost use Rattle.register_sql.specs.Fits.{IsDay, IsLoan, FitsSpot, FitsLine, FitsTerm, IsNoSpot};
+ghost use Rattle.register_sql.specs.Fits.{IsNoLine, IsNoTerm};
 ghost use Rattle.register_sql.specs.Rows.{spot_cells, line_cells, term_cells};
 
 use codes_core::{Day, LoanCode};

@@ -1,5 +1,6 @@
 //! The register over a connection to a database.
-ghost use Rattle.std.specs.Prelude.{◌≡◌, ◌⊎◌, true, false, Err, length, IsTrue, IfOk, IfErr, OnOk, OnErr, is_some};
+ghost use Rattle.std.specs.Prelude.{◌≡◌, ◌⊎◌, true, false, Err, length, IsTrue, IfOk, IfErr, OnOk};
+ghost use Rattle.std.specs.Prelude.{OnErr, is_some};
 ghost use Rattle.sqlite.specs.Held.{state};
 ghost use Rattle.sqlite.specs.Files.{file_state, IsClosed};
 ghost use Rattle.sqlite_store.specs.FileStore.{view, log_frames, files as store_files};
@@ -253,7 +254,8 @@ impl<S: Alter> SqlRegister<S> {
     pub fn into_connection(self) -> Connection<S>
         ensures same { result ≡ self.conn }
         ensures shown { IsTrue (state S.Store self.conn).is_open
-            → HasIts (in_store (state S.Store self.conn)) (state S.Store self.conn).committed.trees }
+            → HasIts (in_store (state S.Store self.conn))
+            (state S.Store self.conn).committed.trees }
     {
         let SqlRegister {
             link,
@@ -310,7 +312,8 @@ impl<S: Alter> Register for SqlRegister<S> {
             (LeavesBound setup.now (state S.Store self.old.conn)) }
         ensures stops { Stops self.old.stopped self.new.stopped result }
         ensures unfit { HasCleanDisk (state S.Store self.new.conn) → self.new.stopped ≡ false
-            → result ≡ Err StoreFault.Store → IsUnfitFor setup.now (state S.Store self.old.conn).now }
+            → result ≡ Err StoreFault.Store
+            → IsUnfitFor setup.now (state S.Store self.old.conn).now }
     {
         let answer = bind_store(alloc, &mut self.link, setup);
         self.refusals = recount(self.refusals, &answer);

@@ -1,11 +1,13 @@
 //! Reads the entries of a store of version 1, which has no extension and no verdict NotLater.
-ghost use Rattle.std.specs.Prelude.{◌≡◌, ◌≢◌, true, false, map, reverse, All, ℕ, List, IfOk, IfErr, OnOk};
+ghost use Rattle.std.specs.Prelude.{◌≡◌, ◌≢◌, true, false, map, reverse, All, ℕ, List, IfOk, IfErr};
+ghost use Rattle.std.specs.Prelude.{OnOk};
 ghost use Rattle.sqlite.specs.Held.{state};
 ghost use Rattle.sqlite.specs.State.{HasCleanDisk};
 ghost use Rattle.register_store.specs.Registers.{is_of_listing};
 ghost use Rattle.register_store.specs.StoredRows as stored;
 ghost use Rattle.register_store.specs.StoredRows.{IsPostingRow, ArePostings, HasList};
-ghost use Rattle.register_sql.specs.Early.{is_early, IsEarlyOf, IsWrongEarly, IsEarlyWrongAt, IsFirstEarlyWrong};
+ghost use Rattle.register_sql.specs.Early.{is_early, IsEarlyOf, IsWrongEarly, IsEarlyWrongAt};
+ghost use Rattle.register_sql.specs.Early.{IsFirstEarlyWrong};
 ghost use Rattle.register_sql.specs.Posting.{Survived};
 ghost use Rattle.register_sql.specs.Queries.{IsPart, IsSame};
 ghost use Rattle.register_sql.specs.Rows.{HasPart};

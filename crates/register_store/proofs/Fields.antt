@@ -1,5 +1,7 @@
 -- The values that the texts at an object's keys spell.
-use Rattle.std.proofs.Common.{◌≡◌, ℕ, Bool, true, List, [], Option, Some, None, option_and_then, unwrap_or, if◌then◌else◌, Result, Ok, Err, MatchResult, ok_or, is_none, refl, sym, ap, ◌∙◌, lt-ltb, le-leb}
+use Rattle.std.proofs.Common.{◌≡◌, ℕ, Bool, true, List, [], Option, Some, None, option_and_then}
+use Rattle.std.proofs.Common.{unwrap_or, if◌then◌else◌, Result, Ok, Err, MatchResult, ok_or}
+use Rattle.std.proofs.Common.{is_none, refl, sym, ap, ◌∙◌, lt-ltb, le-leb}
 use Rattle.std.specs.Str.{is_utf8}
 use Rattle.std.specs.Result.{result_ok}
 use Rattle.std.proofs.lemmas.Bool.{and_from}

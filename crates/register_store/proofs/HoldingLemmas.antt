@@ -3,7 +3,8 @@ use Rattle.std.proofs.Common.{ℕ, List}
 use Rattle.std.proofs.lemmas.List.Sorted.{IsPermutation-trans}
 use Rattle.nest_core.specs.Museum.{Museum}
 use Rattle.posting_core.specs.declared.entry.Entry.{Entry}
-use Rattle.register_store.specs.StoredRows.{Content, AreSame, IsBoundTo, HasList, HasRows, IsStoreOf}
+use Rattle.register_store.specs.StoredRows.{Content, AreSame, IsBoundTo, HasList, HasRows}
+use Rattle.register_store.specs.StoredRows.{IsStoreOf}
 use Rattle.register_store.specs.Registers.{IsFirstWrong}
 use Rattle.register_store.specs.Holdings.{Holding, Each, Has, Comes}
 

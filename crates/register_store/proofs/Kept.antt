@@ -1,12 +1,19 @@
 -- How the rows of a register in memory change.
-use Rattle.std.proofs.Common.{◌≡◌, ◌≢◌, ◌↔◌, ◌&&◌, ℕ, ℤ, nat_abs, Bool, true, false, true≢false, List, [], ◌∷◌, ◌++◌, map, reverse, get_or, Option, Some, None, Vec, String, string_bytes, MatchOption, Result, Ok, Err, IfErr, OnErr, ◌⊎◌, inl, refl, sym, subst, ap, ◌∙◌, arith}
+use Rattle.std.proofs.Common.{◌≡◌, ◌≢◌, ◌↔◌, ◌&&◌, ℕ, ℤ, nat_abs, Bool, true, false, true≢false}
+use Rattle.std.proofs.Common.{List, [], ◌∷◌, ◌++◌, map, reverse, get_or, Option, Some, None, Vec}
+use Rattle.std.proofs.Common.{String, string_bytes, MatchOption, Result, Ok, Err, IfErr, OnErr, ◌⊎◌}
+use Rattle.std.proofs.Common.{inl, refl, sym, subst, ap, ◌∙◌, arith}
 use Rattle.std.specs.declared.alloc.Global.{Global}
 use Rattle.std.specs.Bool.{Decides}
 use Rattle.std.proofs.lemmas.Bool.{and_parts}
 use Rattle.std.proofs.lemmas.Bool.Decides.{not_from_Decides}
 use Rattle.std.proofs.lemmas.List.{reverse-append, map-append}
 use Rattle.std.specs.List.Sorted.{IsPermutation, IsNonDecreasingBy}
-use Rattle.std.proofs.lemmas.List.Sorted.{IsPermutation-refl, IsPermutation-sym, IsPermutation-trans, IsPermutation-cons, IsPermutation-append_right, IsPermutation-reverse, IsPermutation-map as map-IsPermutation, length_permutation}
+use Rattle.std.proofs.lemmas.List.Sorted.{IsPermutation-refl, IsPermutation-sym}
+use Rattle.std.proofs.lemmas.List.Sorted.{IsPermutation-trans, IsPermutation-cons}
+use Rattle.std.proofs.lemmas.List.Sorted.{IsPermutation-append_right, IsPermutation-reverse}
+use Rattle.std.proofs.lemmas.List.Sorted.{IsPermutation-map as map-IsPermutation}
+use Rattle.std.proofs.lemmas.List.Sorted.{length_permutation}
 use Rattle.sqlite_keyed.proofs.ListLemmas.{map_back, map-map}
 use Rattle.nest_core.specs.Museum.{Museum}
 use Rattle.nest_core.specs.SetupTexts.{setup_rows}
@@ -15,16 +22,26 @@ use Rattle.posting_core.specs.declared.entry.Changes.{Changes}
 use Rattle.posting_core.specs.declared.entry.NewLine.{NewLine}
 use Rattle.posting_core.specs.declared.entry.NewSpot.{NewSpot}
 use Rattle.posting_core.specs.declared.stage.LineStage.{LineStage}
-use Rattle.posting_core.specs.declared.stage.LineStage.TheVariants.{Awaiting, Away, Back, Here, GivenBack}
+use Rattle.posting_core.specs.declared.stage.LineStage.TheVariants.{Awaiting, Away, Back, Here}
+use Rattle.posting_core.specs.declared.stage.LineStage.TheVariants.{GivenBack}
 use Rattle.posting_core.specs.StageNumbers.{stage_number}
 use Rattle.register_store.specs.declared.loan_rows.LineKey.{LineKey}
 use Rattle.register_store.specs.declared.kept_entry.KeptEntry.{KeptEntry}
 use Rattle.register_store.specs.declared.store_fault.StoreFault.{StoreFault}
-use Rattle.register_store.specs.declared.store_fault.StoreFault.TheVariants.{NoMemory, Store, OtherSetup, Damaged, OtherVersion}
-use Rattle.register_store.specs.StoredRows.{Content, MetaRow, PostingRow, SpotRow, LineRow, TermRow, AreSame, HasRows, numbered, rows_of_setup, rows_of_meta, IsBoundTo, spot_row, line_row, spots_by_thing, lines_by_loan, rows_of_spots, rows_of_lines, rows_of_terms, is_same_line, put_each, term_of, with_posted}
-use Rattle.register_store.specs.Registers.{is_new, bound_by, bound_to, IsBindFault, IsWrongAt, IsListFault}
+use Rattle.register_store.specs.declared.store_fault.StoreFault.TheVariants.{NoMemory, Store}
+use Rattle.register_store.specs.declared.store_fault.StoreFault.TheVariants.{OtherSetup, Damaged}
+use Rattle.register_store.specs.declared.store_fault.StoreFault.TheVariants.{OtherVersion}
+use Rattle.register_store.specs.StoredRows.{Content, MetaRow, PostingRow, SpotRow, LineRow, TermRow}
+use Rattle.register_store.specs.StoredRows.{AreSame, HasRows, numbered, rows_of_setup, rows_of_meta}
+use Rattle.register_store.specs.StoredRows.{IsBoundTo, spot_row, line_row, spots_by_thing}
+use Rattle.register_store.specs.StoredRows.{lines_by_loan, rows_of_spots, rows_of_lines}
+use Rattle.register_store.specs.StoredRows.{rows_of_terms, is_same_line, put_each, term_of}
+use Rattle.register_store.specs.StoredRows.{with_posted}
+use Rattle.register_store.specs.Registers.{is_new, bound_by, bound_to, IsBindFault, IsWrongAt}
+use Rattle.register_store.specs.Registers.{IsListFault}
 use Rattle.register_store.specs.Holdings.{Each, Comes}
-use Rattle.register_store.specs.Plain.{rows_in_memory, texts_of, meta_of, kept_row, has_same_key, held_lines, term_rows}
+use Rattle.register_store.specs.Plain.{rows_in_memory, texts_of, meta_of, kept_row, has_same_key}
+use Rattle.register_store.specs.Plain.{held_lines, term_rows}
 use Rattle.register_store.proofs.OneList.{one_setup}
 use Rattle.register_store.proofs.SpotRows.{looking_back}
 use Rattle.register_store.proofs.ListedRows.{in_order}

@@ -1,5 +1,7 @@
 -- The rows of lines and of last days, loan by loan, as a ledger lists them.
-use Rattle.std.specs.Prelude.{ℕ, ℤ, ◌≡◌, ◌||◌, ◌==◌, ◌+◌, zero, suc, Bool, true, false, cond, List, [], ◌∷◌, ◌++◌, map, drop, slice_get, Option, None, Some, if◌then◌else◌, refl}
+use Rattle.std.specs.Prelude.{ℕ, ℤ, ◌≡◌, ◌||◌, ◌==◌, ◌+◌, zero, suc, Bool, true, false, cond, List}
+use Rattle.std.specs.Prelude.{[], ◌∷◌, ◌++◌, map, drop, slice_get, Option, None, Some}
+use Rattle.std.specs.Prelude.{if◌then◌else◌, refl}
 use Rattle.std.proofs.Common.{ap, sym, subst, ◌∙◌, arith, add-one}
 use Rattle.std.specs.List.{find, flat_map, AllByRecursion, IsDistinct}
 use Rattle.std.specs.Map.{keys_of}
@@ -20,7 +22,8 @@ use Rattle.posting_core.specs.Loans.{line, objects_of, stage}
 use Rattle.posting_core.proofs.Agreed.{AreApart, agreements_apart, apart_sym}
 use Rattle.register_store.specs.declared.loan_rows.LineKey.{LineKey}
 use Rattle.register_store.specs.contracts.loan_rows.LineKeyPartialEq.TheImpl.{ghosts}
-use Rattle.register_store.specs.Plain.{has_same_key, held_lines, term_rows, lines_of_loan, day_of_loan}
+use Rattle.register_store.specs.Plain.{has_same_key, held_lines, term_rows, lines_of_loan}
+use Rattle.register_store.specs.Plain.{day_of_loan}
 use Rattle.register_store.specs.StoredRows.{is_same_loan, lines_under, lines_by_loan, rows_of_terms}
 use Rattle.register_store.proofs.PutRows.{AreOnce, IsFree}
 use Rattle.register_store.proofs.LineRows.{lines_once}

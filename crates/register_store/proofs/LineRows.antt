@@ -1,5 +1,6 @@
 -- The lines and the last days that an entry puts are those of looking back after it.
-use Rattle.std.specs.Prelude.{ℕ, pos, ◌≡◌, ◌&&◌, ◌||◌, ◌==◌, Bool, true, false, not, cond, List, [], ◌∷◌, ◌++◌, map, None, Some, is_some, if◌then◌else◌, refl}
+use Rattle.std.specs.Prelude.{ℕ, pos, ◌≡◌, ◌&&◌, ◌||◌, ◌==◌, Bool, true, false, not, cond, List, []}
+use Rattle.std.specs.Prelude.{◌∷◌, ◌++◌, map, None, Some, is_some, if◌then◌else◌, refl}
 use Rattle.std.proofs.Common.{ap, sym, subst, ◌∙◌, arith}
 use Rattle.std.specs.List.{find, flat_map, list_any, AllByRecursion}
 use Rattle.std.specs.Option.{option_map_or, option_to_list}
@@ -10,14 +11,19 @@ use Rattle.std.proofs.lemmas.Bool.{or_parts, false≢true, not-false}
 use Rattle.std.proofs.lemmas.Bool.Decides.{nat_tests}
 use Rattle.std.proofs.lemmas.List.{append-nil, append_assoc}
 use Rattle.std.proofs.lemmas.List.Folds.{list_any-append}
-use Rattle.std.proofs.lemmas.List.Sorted.{IsPermutation-trans, IsPermutation-middle, IsPermutation-map}
+use Rattle.std.proofs.lemmas.List.Sorted.{IsPermutation-trans, IsPermutation-middle}
+use Rattle.std.proofs.lemmas.List.Sorted.{IsPermutation-map}
 use Rattle.std.proofs.lemmas.Option.{none-some}
 use Rattle.std.proofs.lemmas.Slice.Eq.{bytes_eq-Decides}
-use Rattle.sqlite_keyed.proofs.ListLemmas.{all_weaker, all-map, all-flat_map, ascending-append, map-map, map-flat_map, map_same, flat_map_same_on, IsPermutation-same}
+use Rattle.sqlite_keyed.proofs.ListLemmas.{all_weaker, all-map, all-flat_map, ascending-append}
+use Rattle.sqlite_keyed.proofs.ListLemmas.{map-map, map-flat_map, map_same, flat_map_same_on}
+use Rattle.sqlite_keyed.proofs.ListLemmas.{IsPermutation-same}
 use Rattle.nest_core.specs.Museum.{Museum}
 use Rattle.nest_core.specs.Puts.{is_among}
 use Rattle.posting_core.specs.declared.message.Message.{Message}
-use Rattle.posting_core.specs.declared.message.Message.TheVariants.{Move, Pack, Agree, Authorise, Exit, Return, Receive, SignOff, Extend}
+use Rattle.posting_core.specs.declared.message.Message.TheVariants.{Move, Pack, Agree, Authorise}
+use Rattle.posting_core.specs.declared.message.Message.TheVariants.{Exit, Return, Receive, SignOff}
+use Rattle.posting_core.specs.declared.message.Message.TheVariants.{Extend}
 use Rattle.posting_core.specs.declared.verdict.Verdict.TheVariants.{Applied}
 use Rattle.posting_core.specs.declared.entry.Entry.{Entry}
 use Rattle.posting_core.specs.declared.entry.NewLine.{NewLine}
@@ -26,16 +32,21 @@ use Rattle.posting_core.specs.declared.stage.LineStage.TheVariants.{Awaiting, Aw
 use Rattle.posting_core.specs.Agreements.{Agreement, agreement_in, agreements}
 use Rattle.posting_core.specs.Book.{new_lines, lines_of_agreement, lines_of_crossing}
 use Rattle.posting_core.specs.Lawful.{Follows, IsLawful}
-use Rattle.posting_core.specs.Loans.{Crossing, exit_of, crossing_in, objects_in, objects_of, objects, stage, stage_by}
+use Rattle.posting_core.specs.Loans.{Crossing, exit_of, crossing_in, objects_in, objects_of}
+use Rattle.posting_core.specs.Loans.{objects, stage, stage_by}
 use Rattle.posting_core.specs.VerdictNames.{is_applied}
-use Rattle.posting_core.specs.Verdicts.{verdict, carries_unlisted, is_listed, exit_rows, return_rows, receive_rows}
+use Rattle.posting_core.specs.Verdicts.{verdict, carries_unlisted, is_listed, exit_rows}
+use Rattle.posting_core.specs.Verdicts.{return_rows, receive_rows}
 use Rattle.posting_core.proofs.AppliedRows.{none_holds, applied_is}
-use Rattle.posting_core.proofs.Agreed.{IsSound, AreApart, agreements_apart, agreements_sound, agree_applied, untouched, apart_sym}
+use Rattle.posting_core.proofs.Agreed.{IsSound, AreApart, agreements_apart, agreements_sound}
+use Rattle.posting_core.proofs.Agreed.{agree_applied, untouched, apart_sym}
 use Rattle.posting_core.proofs.ObjectNumbers.{numbers_once}
 use Rattle.posting_core.specs.LoanRows as numbers
-use Rattle.register_store.specs.StoredRows.{LineRow, lines_by_loan, put, put_each, line_row, is_same_line, rows_of_lines}
+use Rattle.register_store.specs.StoredRows.{LineRow, lines_by_loan, put, put_each, line_row}
+use Rattle.register_store.specs.StoredRows.{is_same_line, rows_of_lines}
 use Rattle.register_store.specs.Plain.{has_same_key}
-use Rattle.register_store.proofs.PutRows.{IsFree, AreOnce, replaced, put_each_same, put_mapped, put_new, put_replaces}
+use Rattle.register_store.proofs.PutRows.{IsFree, AreOnce, replaced, put_each_same, put_mapped}
+use Rattle.register_store.proofs.PutRows.{put_new, put_replaces}
 
 abbrev row : List ℕ → ℕ → LineStage → NewLine
 row loan o s = record { loan = loan; object = o; stage = s }

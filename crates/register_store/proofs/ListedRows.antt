@@ -1,8 +1,10 @@
 -- Rows and entries, one after another.
-use Rattle.std.proofs.Common.{◌≡◌, ℕ, ◌+◌, ◌<◌, ◌≤◌, pos, false, List, [], ◌∷◌, ◌++◌, length, map, reverse, take, get_or, sym, subst, ◌∙◌, arith, All}
+use Rattle.std.proofs.Common.{◌≡◌, ℕ, ◌+◌, ◌<◌, ◌≤◌, pos, false, List, [], ◌∷◌, ◌++◌, length, map}
+use Rattle.std.proofs.Common.{reverse, take, get_or, sym, subst, ◌∙◌, arith, All}
 use Rattle.std.specs.List.Sorted.{IsNonDecreasingBy, IsSortedByKey}
 use Rattle.std.specs.Ordering.{int_cmp, is_lt}
-use Rattle.std.proofs.lemmas.List.{reverse-append, length-reverse, length-take-le, length-map, get_or-map}
+use Rattle.std.proofs.lemmas.List.{reverse-append, length-reverse, length-take-le, length-map}
+use Rattle.std.proofs.lemmas.List.{get_or-map}
 use Rattle.std.proofs.lemmas.List.Elements.{All-append, All-cons, All-nil}
 use Rattle.std.proofs.lemmas.Int.{ints}
 use Rattle.posting_core.specs.declared.entry.Entry.{Entry}

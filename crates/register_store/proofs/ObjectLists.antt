@@ -1,5 +1,7 @@
 -- Lists of strings, as values and as texts.
-use Rattle.std.proofs.Common.{◌≡◌, ℕ, ◌<◌, ◌≤◌, ◌&&◌, nat_le, Bool, true, false, List, [], ◌∷◌, length, map, get_or, Option, Some, None, option_and_then, if◌then◌else◌, refl, sym, ap, ◌∙◌, le-leb, arith}
+use Rattle.std.proofs.Common.{◌≡◌, ℕ, ◌<◌, ◌≤◌, ◌&&◌, nat_le, Bool, true, false, List, [], ◌∷◌}
+use Rattle.std.proofs.Common.{length, map, get_or, Option, Some, None, option_and_then}
+use Rattle.std.proofs.Common.{if◌then◌else◌, refl, sym, ap, ◌∙◌, le-leb, arith}
 use Rattle.std.specs.Option.{option_map_or}
 use Rattle.std.specs.List.{list_all}
 use Rattle.std.proofs.lemmas.Bool.{and_from}
@@ -13,7 +15,8 @@ use Rattle.posting_core.specs.declared.TheConstants.{MOST_OBJECTS}
 use Rattle.register_store.specs.declared.fault.ReadFault.{ReadFault}
 use Rattle.register_store.specs.declared.fault.ReadFault.TheVariants.{BadField}
 use Rattle.register_store.specs.declared.key.Key.{Key}
-use Rattle.register_store.specs.Kinds.{is_string, are_strings, items_list, ◌lists◌, text_of, value_fault}
+use Rattle.register_store.specs.Kinds.{is_string, are_strings, items_list, ◌lists◌, text_of}
+use Rattle.register_store.specs.Kinds.{value_fault}
 
 pub items_list-items_of : (ds : List Data) → items_list (items_of ds) ≡ ds
 items_list-items_of [] = refl

@@ -1,12 +1,14 @@
 -- The message of an object, and values that aren't objects.
-use Rattle.std.proofs.Common.{◌≡◌, ℕ, Bool, List, true, false, bytes_eq, is_some, Some, Err, codes, refl, ◌∙◌}
+use Rattle.std.proofs.Common.{◌≡◌, ℕ, Bool, List, true, false, bytes_eq, is_some, Some, Err, codes}
+use Rattle.std.proofs.Common.{refl, ◌∙◌}
 use Rattle.std.proofs.lemmas.Slice.Eq.{bytes_eq-Decides}
 use Rattle.serde_json.specs.Data.{Data, null, boolean, number, string, array, object}
 use Rattle.serde_json.specs.Find.{get, as_str, as_object}
 use Rattle.register_store.specs.declared.fault.ReadFault.TheVariants.{NotJson}
 use Rattle.register_store.specs.declared.key.Key.TheVariants.{Kind}
 use Rattle.register_store.specs.Spelling.{key_name}
-use Rattle.register_store.specs.Kinds.{of_json, of_kind, of_named, kind_named, loan_kinds, kinds_that_grow, takes_memory}
+use Rattle.register_store.specs.Kinds.{of_json, of_kind, of_named, kind_named, loan_kinds}
+use Rattle.register_store.specs.Kinds.{kinds_that_grow, takes_memory}
 
 pub of_object : (d : Data) → is_some (as_object d) ≡ true
     → of_json d ≡ of_kind d (get (key_name Kind) d)

@@ -1,16 +1,30 @@
 -- A store has only one list: its rows are numbered, and each row has one entry.
-use Rattle.std.proofs.Common.{◌≡◌, ◌⊎◌, inl, inr, ℕ, suc, ◌+◌, ◌≤◌, nat_abs, List, [], ◌∷◌, length, get_or, reverse, refl, sym, subst, ap, ◌∙◌, arith}
+use Rattle.std.proofs.Common.{◌≡◌, ◌⊎◌, inl, inr, ℕ, suc, ◌+◌, ◌≤◌, nat_abs, List, [], ◌∷◌, length}
+use Rattle.std.proofs.Common.{get_or, reverse, refl, sym, subst, ap, ◌∙◌, arith}
 use Rattle.std.specs.List.{AllByRecursion}
 use Rattle.std.specs.List.Sorted.{IsPermutation}
 use Rattle.std.proofs.lemmas.List.Elements.{recursion_from_All, All-from_recursion}
-use Rattle.std.proofs.lemmas.List.Sorted.{IsPermutation-sym, IsPermutation-trans, length_permutation, All-permutation}
+use Rattle.std.proofs.lemmas.List.Sorted.{IsPermutation-sym, IsPermutation-trans}
+use Rattle.std.proofs.lemmas.List.Sorted.{length_permutation, All-permutation}
 use Rattle.std.proofs.lemmas.List.{reverse-reverse}
 use Rattle.sqlite_keyed.proofs.ListLemmas.{all_weaker}
 use Rattle.posting_core.specs.declared.verdict.Verdict.{Verdict}
-use Rattle.posting_core.specs.declared.verdict.Verdict.TheVariants.{Applied, UnknownThing, UnknownPlace, ElsewherePlace, UnknownContainer, UnknownLoan, LoanKnown, InsidePartner, NoObjects, NotObject, Repeated, WrongOwner, BadTerm, AlreadyAuthorised, NotAuthorised, WrongDirection, NotHere, ContainerNotHere, Cycle, TooDeep, NotWithPartner, AlreadyHere, NotListed, WrongStage, TermOver, NotLater}
+use Rattle.posting_core.specs.declared.verdict.Verdict.TheVariants.{Applied, UnknownThing}
+use Rattle.posting_core.specs.declared.verdict.Verdict.TheVariants.{UnknownPlace, ElsewherePlace}
+use Rattle.posting_core.specs.declared.verdict.Verdict.TheVariants.{UnknownContainer, UnknownLoan}
+use Rattle.posting_core.specs.declared.verdict.Verdict.TheVariants.{LoanKnown, InsidePartner}
+use Rattle.posting_core.specs.declared.verdict.Verdict.TheVariants.{NoObjects, NotObject, Repeated}
+use Rattle.posting_core.specs.declared.verdict.Verdict.TheVariants.{WrongOwner, BadTerm}
+use Rattle.posting_core.specs.declared.verdict.Verdict.TheVariants.{AlreadyAuthorised}
+use Rattle.posting_core.specs.declared.verdict.Verdict.TheVariants.{NotAuthorised, WrongDirection}
+use Rattle.posting_core.specs.declared.verdict.Verdict.TheVariants.{NotHere, ContainerNotHere}
+use Rattle.posting_core.specs.declared.verdict.Verdict.TheVariants.{Cycle, TooDeep, NotWithPartner}
+use Rattle.posting_core.specs.declared.verdict.Verdict.TheVariants.{AlreadyHere, NotListed}
+use Rattle.posting_core.specs.declared.verdict.Verdict.TheVariants.{WrongStage, TermOver, NotLater}
 use Rattle.posting_core.specs.declared.entry.Entry.{Entry}
 use Rattle.posting_core.specs.VerdictNames.{verdict_number}
-use Rattle.register_store.specs.StoredRows.{Content, PostingRow, SetupRow, numbered, IsPostingRow, ArePostings, HasList}
+use Rattle.register_store.specs.StoredRows.{Content, PostingRow, SetupRow, numbered, IsPostingRow}
+use Rattle.register_store.specs.StoredRows.{ArePostings, HasList}
 use Rattle.register_store.proofs.RoundTrip.{one_message}
 
 module _ {X : Type 0} (number : X → ℕ) where

@@ -1,11 +1,16 @@
 -- The rows of the spots that entries wrote are those of looking back.
-use Rattle.std.proofs.Common.{◌≡◌, ℕ, ◌+◌, Bool, true, false, if◌then◌else◌, List, [], ◌∷◌, ◌++◌, length, map, reverse, Option, Some, None, refl, sym, subst, ap, ◌∙◌, arith}
+use Rattle.std.proofs.Common.{◌≡◌, ℕ, ◌+◌, Bool, true, false, if◌then◌else◌, List, [], ◌∷◌, ◌++◌}
+use Rattle.std.proofs.Common.{length, map, reverse, Option, Some, None, refl, sym, subst, ap, ◌∙◌}
+use Rattle.std.proofs.Common.{arith}
 use Rattle.std.specs.List.{flat_map, filter_map, range_with_len, cons_option}
 use Rattle.std.specs.Option.{option_map, option_to_list}
 use Rattle.std.specs.List.Sorted.{IsPermutation}
 use Rattle.std.proofs.Math.Path.{fun_ext}
 use Rattle.std.proofs.lemmas.List.{append_assoc, map-append}
-use Rattle.std.proofs.lemmas.List.Sorted.{IsPermutation-refl, IsPermutation-trans, IsPermutation-append, IsPermutation-append_comm, IsPermutation-append_left, IsPermutation-append_right, IsPermutation-reverse}
+use Rattle.std.proofs.lemmas.List.Sorted.{IsPermutation-refl, IsPermutation-trans}
+use Rattle.std.proofs.lemmas.List.Sorted.{IsPermutation-append, IsPermutation-append_comm}
+use Rattle.std.proofs.lemmas.List.Sorted.{IsPermutation-append_left, IsPermutation-append_right}
+use Rattle.std.proofs.lemmas.List.Sorted.{IsPermutation-reverse}
 use Rattle.nest_core.specs.Museum.{Museum}
 use Rattle.nest_core.specs.Puts.{place, with_put}
 use Rattle.posting_core.specs.declared.message.Message.{Message}
@@ -17,7 +22,8 @@ use Rattle.posting_core.specs.History.{puts, put_in, place_at, spots, spot_from}
 use Rattle.posting_core.specs.VerdictNames.{is_applied}
 use Rattle.posting_core.specs.Book.{place_after, new_spot, new_spots}
 use Rattle.posting_core.proofs.Written.{same_place}
-use Rattle.register_store.specs.StoredRows.{SpotRow, spot_row, spots_of_thing, spots_by_thing, all_written, rows_of_spots, written}
+use Rattle.register_store.specs.StoredRows.{SpotRow, spot_row, spots_of_thing, spots_by_thing}
+use Rattle.register_store.specs.StoredRows.{all_written, rows_of_spots, written}
 
 module _ {X : Type 0} where
   -- two parts of each element's list

@@ -1,5 +1,6 @@
 -- The last day that an entry sets is that of looking back after it.
-use Rattle.std.specs.Prelude.{ℕ, ℤ, ◌≡◌, ◌||◌, Bool, true, false, not, cond, List, [], ◌∷◌, ◌++◌, map, Option, None, Some, is_some, if◌then◌else◌, unwrap_or, refl}
+use Rattle.std.specs.Prelude.{ℕ, ℤ, ◌≡◌, ◌||◌, Bool, true, false, not, cond, List, [], ◌∷◌, ◌++◌}
+use Rattle.std.specs.Prelude.{map, Option, None, Some, is_some, if◌then◌else◌, unwrap_or, refl}
 use Rattle.std.proofs.Common.{ap, sym, subst, ◌∙◌}
 use Rattle.std.specs.List.{find, list_any}
 use Rattle.std.specs.Option.{option_map_or, option_to_list}
@@ -13,17 +14,22 @@ use Rattle.std.proofs.lemmas.Slice.Eq.{bytes_eq-Decides}
 use Rattle.sqlite_keyed.proofs.ListLemmas.{map-map, map_same, IsPermutation-same}
 use Rattle.nest_core.specs.Museum.{Museum}
 use Rattle.posting_core.specs.declared.message.Message.{Message}
-use Rattle.posting_core.specs.declared.message.Message.TheVariants.{Move, Pack, Agree, Authorise, Exit, Return, Receive, SignOff, Extend}
+use Rattle.posting_core.specs.declared.message.Message.TheVariants.{Move, Pack, Agree, Authorise}
+use Rattle.posting_core.specs.declared.message.Message.TheVariants.{Exit, Return, Receive, SignOff}
+use Rattle.posting_core.specs.declared.message.Message.TheVariants.{Extend}
 use Rattle.posting_core.specs.declared.verdict.Verdict.TheVariants.{Applied}
 use Rattle.posting_core.specs.declared.entry.Entry.{Entry}
-use Rattle.posting_core.specs.Agreements.{Agreement, agreement_in, agreements, is_agreed, extension_in, last_from}
+use Rattle.posting_core.specs.Agreements.{Agreement, agreement_in, agreements, is_agreed}
+use Rattle.posting_core.specs.Agreements.{extension_in, last_from}
 use Rattle.posting_core.specs.Lawful.{Follows, IsLawful}
 use Rattle.posting_core.specs.VerdictNames.{is_applied}
 use Rattle.posting_core.specs.Verdicts.{verdict, extend_rows}
 use Rattle.posting_core.proofs.AppliedRows.{none_holds, applied_is}
 use Rattle.posting_core.proofs.Agreed.{AreApart, agreements_apart, agree_applied, untouched}
-use Rattle.register_store.specs.StoredRows.{TermRow, is_same_loan, rows_of_terms, put, term_in, term_of}
-use Rattle.register_store.proofs.PutRows.{IsFree, AreOnce, replaced, put_same, put_new, put_replaces}
+use Rattle.register_store.specs.StoredRows.{TermRow, is_same_loan, rows_of_terms, put, term_in}
+use Rattle.register_store.specs.StoredRows.{term_of}
+use Rattle.register_store.proofs.PutRows.{IsFree, AreOnce, replaced, put_same, put_new}
+use Rattle.register_store.proofs.PutRows.{put_replaces}
 
 abbrev row : List ℕ → ℤ → TermRow
 row loan day = record { loan = loan; day = day }

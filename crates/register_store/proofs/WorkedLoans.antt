@@ -1,12 +1,15 @@
 -- The rows of lines and of last days computed on worked lists, and the edge cases of putting them.
 use Rattle.std.specs.Prelude.{ℕ, ℤ, pos, ◌≡◌, List, [], ◌∷◌, Some, None, refl, codes}
-use Rattle.posting_core.specs.declared.message.Message.TheVariants.{Move, Pack, Agree, Authorise, Exit, Return, Extend}
+use Rattle.posting_core.specs.declared.message.Message.TheVariants.{Move, Pack, Agree, Authorise}
+use Rattle.posting_core.specs.declared.message.Message.TheVariants.{Exit, Return, Extend}
 use Rattle.posting_core.specs.declared.verdict.Verdict.TheVariants.{Applied, NotLater, LoanKnown}
 use Rattle.posting_core.specs.declared.entry.Entry.{Entry}
 use Rattle.posting_core.specs.declared.entry.NewLine.{NewLine}
 use Rattle.posting_core.specs.declared.stage.LineStage.{LineStage}
 use Rattle.posting_core.specs.declared.stage.LineStage.TheVariants.{Awaiting, Away, Back}
-use Rattle.register_store.specs.StoredRows.{TermRow, LineRow, lines_by_loan, rows_of_lines, rows_of_terms, is_same_line, is_same_loan, line_row, put, put_each, term_of}
+use Rattle.register_store.specs.StoredRows.{TermRow, LineRow, lines_by_loan, rows_of_lines}
+use Rattle.register_store.specs.StoredRows.{rows_of_terms, is_same_line, is_same_loan, line_row}
+use Rattle.register_store.specs.StoredRows.{put, put_each, term_of}
 use Rattle.register_store.proofs.WorkedTexts.{may}
 use Rattle.register_store.proofs.WorkedRows.{museum, pack, object_1, object_2, entry}
 

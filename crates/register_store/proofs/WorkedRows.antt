@@ -1,12 +1,16 @@
 -- The rows of a store computed on worked lists, and why wrong ones are rejected.
-use Rattle.std.specs.Prelude.{ℕ, zero, suc, pos, negsuc, nat_abs, ◌-◌, ◌^◌, ◌≡◌, ◌≤◌, ◌<◌, ◌||◌, not, Bool, true, false, List, [], ◌∷◌, map, reverse, get_or, Some, None, slice_index, refl, codes, Err}
+use Rattle.std.specs.Prelude.{ℕ, zero, suc, pos, negsuc, nat_abs, ◌-◌, ◌^◌, ◌≡◌, ◌≤◌, ◌<◌, ◌||◌}
+use Rattle.std.specs.Prelude.{not, Bool, true, false, List, [], ◌∷◌, map, reverse, get_or, Some}
+use Rattle.std.specs.Prelude.{None, slice_index, refl, codes, Err}
 use Rattle.std.proofs.Common.{arith, sym, ap, subst, ◌∙◌}
 use Rattle.std.specs.Str.{is_utf8, chars, bytes_eq}
 use Rattle.std.proofs.Math.Utf8.{encode}
 use Rattle.std.proofs.lemmas.List.Elements.{All-from_recursion}
 use Rattle.std.specs.List.Sorted.{IsPermutation, IsSortedByKey}
 use Rattle.std.specs.Ordering.{int_cmp, is_lt}
-use Rattle.std.proofs.lemmas.List.Sorted.{IsPermutation-refl, IsPermutation-reverse, IsPermutation-append_comm, IsPermutation-map, length_permutation}
+use Rattle.std.proofs.lemmas.List.Sorted.{IsPermutation-refl, IsPermutation-reverse}
+use Rattle.std.proofs.lemmas.List.Sorted.{IsPermutation-append_comm, IsPermutation-map}
+use Rattle.std.proofs.lemmas.List.Sorted.{length_permutation}
 use Rattle.sqlite_trees.proofs.ListLemmas.{all-permutation}
 use Rattle.sqlite_keyed.proofs.ListLemmas.{IsPermutation-filter}
 use Rattle.jiff_core.specs.Calendar.{days_from_civil, day_count, days_of_years, days_of_months}
@@ -22,12 +26,19 @@ use Rattle.posting_core.specs.declared.verdict.Verdict.TheVariants.{Applied, Els
 use Rattle.posting_core.specs.declared.entry.Changes.{Changes}
 use Rattle.posting_core.specs.declared.entry.Entry.{Entry}
 use Rattle.posting_core.specs.declared.entry.NewSpot.{NewSpot}
-use Rattle.register_store.specs.declared.store_fault.StoreFault.TheVariants.{NoMemory, Store, OtherSetup, Damaged, OtherVersion}
-use Rattle.register_store.specs.StoredRows.{SetupRow, MetaRow, PostingRow, Content, AreSame, rows_of_setup, rows_of_meta, is_depth, IsPostingRow, written, all_written, spots_by_thing, HasList, IsStoreOf, spot_row, with_posted}
-use Rattle.register_store.specs.Registers.{CountsRefusal, bound_to, IsBindFault, IsOfStation, IsWrongRow, IsListFault}
+use Rattle.register_store.specs.declared.store_fault.StoreFault.TheVariants.{NoMemory, Store}
+use Rattle.register_store.specs.declared.store_fault.StoreFault.TheVariants.{OtherSetup, Damaged}
+use Rattle.register_store.specs.declared.store_fault.StoreFault.TheVariants.{OtherVersion}
+use Rattle.register_store.specs.StoredRows.{SetupRow, MetaRow, PostingRow, Content, AreSame}
+use Rattle.register_store.specs.StoredRows.{rows_of_setup, rows_of_meta, is_depth, IsPostingRow}
+use Rattle.register_store.specs.StoredRows.{written, all_written, spots_by_thing, HasList}
+use Rattle.register_store.specs.StoredRows.{IsStoreOf, spot_row, with_posted}
+use Rattle.register_store.specs.Registers.{CountsRefusal, bound_to, IsBindFault, IsOfStation}
+use Rattle.register_store.specs.Registers.{IsWrongRow, IsListFault}
 use Rattle.posting_core.specs.VerdictNames.{verdict_number}
 use Rattle.register_store.proofs.OneList.{all_verdicts, of_number}
-use Rattle.register_store.proofs.WorkedTexts.{may, may-text, first_move, first_text, first_run-text, ann, spaced_text, begins}
+use Rattle.register_store.proofs.WorkedTexts.{may, may-text, first_move, first_text, first_run-text}
+use Rattle.register_store.proofs.WorkedTexts.{ann, spaced_text, begins}
 
 -- two stations, three places of the museum's own and two partners' places, two crates, three own
 -- objects and a borrowed one

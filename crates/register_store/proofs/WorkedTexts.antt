@@ -1,6 +1,7 @@
 -- The texts of messages computed on worked rows: the messages that they spell, and the one text of
 -- each.
-use Rattle.std.specs.Prelude.{ℤ, pos, ◌≤ℤ◌, ◌≡◌, List, ℕ, zero, suc, [], ◌∷◌, take, refl, codes, Ok, Err}
+use Rattle.std.specs.Prelude.{ℤ, pos, ◌≤ℤ◌, ◌≡◌, List, ℕ, zero, suc, [], ◌∷◌, take, refl, codes, Ok}
+use Rattle.std.specs.Prelude.{Err}
 use Rattle.std.specs.Str.{is_utf8, chars}
 use Rattle.std.proofs.Math.Utf8.{encode}
 use Rattle.std.proofs.Common.{arith, ap}
@@ -10,14 +11,19 @@ use Rattle.json.specs.Json.{value}
 use Rattle.json.specs.Lex.{punctuate, lex}
 use Rattle.json.specs.Text.{content}
 use Rattle.json.specs.Print.{escape_byte}
-use Rattle.serde_json.specs.Data.{Data, Members, null, string, number, unsigned, array, object, Items, item, no_items, no_members, put}
+use Rattle.serde_json.specs.Data.{Data, Members, null, string, number, unsigned, array, object}
+use Rattle.serde_json.specs.Data.{Items, item, no_items, no_members, put}
 use Rattle.codes_core.specs.Day.{first_number, last_number, IsOnlySpelling, day_text}
 use Rattle.codes_core.proofs.Days.{only_spelling}
 use Rattle.codes_core.proofs.SpelledDays.{text_spells_day}
 use Rattle.posting_core.specs.declared.message.Message.{Message}
-use Rattle.posting_core.specs.declared.message.Message.TheVariants.{Move, Pack, Agree, Authorise, Exit, Return, Receive, SignOff, Extend}
-use Rattle.register_store.specs.declared.fault.ReadFault.TheVariants.{NotJson, Missing, BadKind, BadField}
-use Rattle.register_store.specs.declared.key.Key.TheVariants.{Kind, Thing, Place, Day, By, Objects, First}
+use Rattle.posting_core.specs.declared.message.Message.TheVariants.{Move, Pack, Agree, Authorise}
+use Rattle.posting_core.specs.declared.message.Message.TheVariants.{Exit, Return, Receive, SignOff}
+use Rattle.posting_core.specs.declared.message.Message.TheVariants.{Extend}
+use Rattle.register_store.specs.declared.fault.ReadFault.TheVariants.{NotJson, Missing, BadKind}
+use Rattle.register_store.specs.declared.fault.ReadFault.TheVariants.{BadField}
+use Rattle.register_store.specs.declared.key.Key.TheVariants.{Kind, Thing, Place, Day, By, Objects}
+use Rattle.register_store.specs.declared.key.Key.TheVariants.{First}
 use Rattle.register_store.specs.Kinds.{of_json, of_bytes}
 use Rattle.register_store.specs.MessageText.{IsTextOf}
 

@@ -1,20 +1,28 @@
 -- Defines the table of message kinds, and the message or the first fault of a JSON value by that
 -- table.
-use Rattle.std.specs.Prelude.{ℕ, ℤ, ◌&&◌, nat_le, Bool, false, List, [], ◌∷◌, length, map, Option, Some, None, is_some, option_and_then, unwrap_or, Result, Ok, Err, if◌then◌else◌, codes}
+use Rattle.std.specs.Prelude.{ℕ, ℤ, ◌&&◌, nat_le, Bool, false, List, [], ◌∷◌, length, map, Option}
+use Rattle.std.specs.Prelude.{Some, None, is_some, option_and_then, unwrap_or, Result, Ok, Err}
+use Rattle.std.specs.Prelude.{if◌then◌else◌, codes}
 use Rattle.std.specs.Option.{option_map_or}
 use Rattle.std.specs.List.{list_all}
 use Rattle.std.specs.Str.{bytes_eq, is_utf8}
-use Rattle.serde_json.specs.Data.{Data, null, boolean, number, string, array, object, Items, no_items, item}
+use Rattle.serde_json.specs.Data.{Data, null, boolean, number, string, array, object, Items}
+use Rattle.serde_json.specs.Data.{no_items, item}
 use Rattle.serde_json.specs.Find.{get, as_str, as_array}
 use Rattle.serde_json.specs.Read.{read}
 use Rattle.codes_core.specs.Day.{day_number}
 use Rattle.posting_core.specs.declared.TheConstants.{MOST_OBJECTS}
 use Rattle.posting_core.specs.declared.message.Message as message
-use Rattle.posting_core.specs.declared.message.Message.TheVariants.{Move, Pack, Agree, Authorise, Exit, Return, Receive, SignOff, Extend}
+use Rattle.posting_core.specs.declared.message.Message.TheVariants.{Move, Pack, Agree, Authorise}
+use Rattle.posting_core.specs.declared.message.Message.TheVariants.{Exit, Return, Receive, SignOff}
+use Rattle.posting_core.specs.declared.message.Message.TheVariants.{Extend}
 use Rattle.register_store.specs.declared.fault.ReadFault.{ReadFault}
-use Rattle.register_store.specs.declared.fault.ReadFault.TheVariants.{NotJson, Missing, BadKind, BadField}
+use Rattle.register_store.specs.declared.fault.ReadFault.TheVariants.{NotJson, Missing, BadKind}
+use Rattle.register_store.specs.declared.fault.ReadFault.TheVariants.{BadField}
 use Rattle.register_store.specs.declared.key.Key.{Key}
-use Rattle.register_store.specs.declared.key.Key.TheVariants.{Kind, Thing, Place, Container, Day, By, Loan, Partner, Objects, First, Last}
+use Rattle.register_store.specs.declared.key.Key.TheVariants.{Kind, Thing, Place, Container, Day}
+use Rattle.register_store.specs.declared.key.Key.TheVariants.{By, Loan, Partner, Objects, First}
+use Rattle.register_store.specs.declared.key.Key.TheVariants.{Last}
 use Rattle.register_store.specs.Spelling.{key_name, is_thing, is_place, is_loan, is_day, is_name}
 
 -- A key of a kind, and which values are valid there.

@@ -12,9 +12,13 @@ use Rattle.codes_core.specs.Place.{place_fault}
 use Rattle.codes_core.specs.Thing.{thing_fault}
 use Rattle.posting_core.specs.declared.TheConstants.{MOST_OBJECTS}
 use Rattle.posting_core.specs.declared.message.Message as message
-use Rattle.posting_core.specs.declared.message.Message.TheVariants.{Move, Pack, Agree, Authorise, Exit, Return, Receive, SignOff, Extend}
+use Rattle.posting_core.specs.declared.message.Message.TheVariants.{Move, Pack, Agree, Authorise}
+use Rattle.posting_core.specs.declared.message.Message.TheVariants.{Exit, Return, Receive, SignOff}
+use Rattle.posting_core.specs.declared.message.Message.TheVariants.{Extend}
 use Rattle.register_store.specs.declared.key.Key.{Key}
-use Rattle.register_store.specs.declared.key.Key.TheVariants.{Kind, Thing, Place, Container, Day, By, Loan, Partner, Objects, First, Last}
+use Rattle.register_store.specs.declared.key.Key.TheVariants.{Kind, Thing, Place, Container, Day}
+use Rattle.register_store.specs.declared.key.Key.TheVariants.{By, Loan, Partner, Objects, First}
+use Rattle.register_store.specs.declared.key.Key.TheVariants.{Last}
 use Rattle.register_store.specs.Spelling.{key_name, is_thing}
 
 -- A key and its value.

@@ -1,5 +1,6 @@
 -- Defines the content of a register in memory.
-use Rattle.std.specs.Prelude.{ℕ, ℤ, pos, ◌==◌, ◌&&◌, Bool, false, List, [], map, Option, Some, None, ⊤, Vec, String, string_bytes}
+use Rattle.std.specs.Prelude.{ℕ, ℤ, pos, ◌==◌, ◌&&◌, Bool, false, List, [], map, Option, Some, None}
+use Rattle.std.specs.Prelude.{⊤, Vec, String, string_bytes}
 use Rattle.std.specs.List.{flat_map}
 use Rattle.std.specs.Map.{lookup}
 use Rattle.std.specs.Option.{option_map, option_map_or, option_to_list}
@@ -13,7 +14,8 @@ use Rattle.register_store.specs.declared.kept_entry.KeptEntry.{KeptEntry}
 use Rattle.register_store.specs.declared.loan_rows.LineKey.{LineKey}
 use Rattle.register_store.specs.declared.rows.KeptPosting.{KeptPosting}
 use Rattle.register_store.specs.MessageText.{body_of}
-use Rattle.register_store.specs.StoredRows.{Content, MetaRow, PostingRow, TermRow, AreSame, rows_of_meta}
+use Rattle.register_store.specs.StoredRows.{Content, MetaRow, PostingRow, TermRow, AreSame}
+use Rattle.register_store.specs.StoredRows.{rows_of_meta}
 use Rattle.register_store.specs.Holdings.{Holding}
 
 -- The rows, whether a setup is bound to them, and the number of stations in that setup.

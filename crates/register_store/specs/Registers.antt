@@ -1,5 +1,7 @@
 -- Defines the faults of a register: when each can come, and which are counted.
-use Rattle.std.specs.Prelude.{ℕ, pos, ◌≡◌, ◌+◌, ◌-◌, ◌^◌, ◌<◌, ◌≤◌, ◌&&◌, min, Bool, true, false, not, List, [], ◌∷◌, ◌++◌, length, reverse, All, Result, Ok, Err, OnOk, IfErr, codes}
+use Rattle.std.specs.Prelude.{ℕ, pos, ◌≡◌, ◌+◌, ◌-◌, ◌^◌, ◌<◌, ◌≤◌, ◌&&◌, min, Bool, true, false}
+use Rattle.std.specs.Prelude.{not, List, [], ◌∷◌, ◌++◌, length, reverse, All, Result, Ok, Err, OnOk}
+use Rattle.std.specs.Prelude.{IfErr, codes}
 use Rattle.std.specs.List.{list_any}
 use Rattle.std.specs.List.Sorted.{IsPermutation, IsSortedByKey}
 use Rattle.std.specs.Ordering.{int_cmp, int_eq}
@@ -8,8 +10,11 @@ use Rattle.nest_core.specs.Museum.{Museum}
 use Rattle.posting_core.specs.declared.TheConstants.{LAST_NUMBER}
 use Rattle.posting_core.specs.declared.entry.Entry.{Entry}
 use Rattle.register_store.specs.declared.store_fault.StoreFault.{StoreFault}
-use Rattle.register_store.specs.declared.store_fault.StoreFault.TheVariants.{NoMemory, Store, OtherSetup, Damaged, OtherVersion}
-use Rattle.register_store.specs.StoredRows.{MetaRow, PostingRow, Content, rows_of_setup, rows_of_meta, is_depth, IsPostingRow, ArePostings}
+use Rattle.register_store.specs.declared.store_fault.StoreFault.TheVariants.{NoMemory, Store}
+use Rattle.register_store.specs.declared.store_fault.StoreFault.TheVariants.{OtherSetup, Damaged}
+use Rattle.register_store.specs.declared.store_fault.StoreFault.TheVariants.{OtherVersion}
+use Rattle.register_store.specs.StoredRows.{MetaRow, PostingRow, Content, rows_of_setup}
+use Rattle.register_store.specs.StoredRows.{rows_of_meta, is_depth, IsPostingRow, ArePostings}
 
 -- Store adds one to the number of times that a register has returned it, up to 2^64 - 1. Any other
 -- result leaves the number as it was.

@@ -9,7 +9,9 @@ use Rattle.codes_core.specs.Day.{day_fault}
 use Rattle.codes_core.specs.Name.{is_name_byte}
 use Rattle.codes_core.specs.declared.TheConstants.{LONGEST_NAME}
 use Rattle.register_store.specs.declared.key.Key.{Key}
-use Rattle.register_store.specs.declared.key.Key.TheVariants.{Kind, Thing, Place, Container, Day, By, Loan, Partner, Objects, First, Last, Station, N, Message, Ask}
+use Rattle.register_store.specs.declared.key.Key.TheVariants.{Kind, Thing, Place, Container, Day}
+use Rattle.register_store.specs.declared.key.Key.TheVariants.{By, Loan, Partner, Objects, First}
+use Rattle.register_store.specs.declared.key.Key.TheVariants.{Last, Station, N, Message, Ask}
 
 abbrev pub key_name : Key → List ℕ
 key_name Kind = codes "kind"

@@ -1,7 +1,9 @@
 //! Reads the values at the keys of a JSON object.
-ghost use Rattle.std.specs.Prelude.{◌≡◌, ◌≢◌, None, Some, IfErr, MatchResult, option_and_then, List, ℕ, Bool};
+ghost use Rattle.std.specs.Prelude.{◌≡◌, ◌≢◌, None, Some, IfErr, MatchResult, option_and_then};
+ghost use Rattle.std.specs.Prelude.{List, ℕ, Bool};
 ghost use Rattle.serde_json.specs.Find.{get, as_str};
-ghost use Rattle.register_store.specs.Spelling.{key_name, is_thing, is_place, is_loan, is_day, is_name};
+ghost use Rattle.register_store.specs.Spelling.{key_name, is_thing, is_place, is_loan, is_day};
+ghost use Rattle.register_store.specs.Spelling.{is_name};
 ghost use Rattle.register_store.specs.Kinds.{◌spells◌, text_at, day_at as day_said, fault_at};
 
 use crate::{Key, ReadFault};

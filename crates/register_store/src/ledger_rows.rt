@@ -1,7 +1,8 @@
 //! The rows that a store has for a setup and a ledger.
 ghost use Rattle.std.specs.Prelude.{◌≡◌, ◌≤◌, ◌++◌, length, map, IfOk, OnOk, string_bytes};
 ghost use Rattle.nest_core.specs.SetupTexts.{setup_rows};
-ghost use Rattle.register_store.specs.StoredRows.{spots_of_thing, spots_by_thing, lines_by_loan, rows_of_terms};
+ghost use Rattle.register_store.specs.StoredRows.{spots_of_thing, spots_by_thing, lines_by_loan};
+ghost use Rattle.register_store.specs.StoredRows.{rows_of_terms};
 ghost use Rattle.register_store.specs.Plain.{held_lines, term_rows, lines_of_loan, day_of_loan};
 
 use crate::LineKey;

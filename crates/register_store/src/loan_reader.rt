@@ -1,6 +1,8 @@
 //! Reads messages about loans from JSON.
 ghost use Rattle.std.specs.Prelude.{◌≡◌, ◌≢◌, true, is_some, Ok, Err, IsOk, IfErr, MatchResult};
-ghost use Rattle.register_store.specs.Kinds.{kind_named, loan_kinds, kinds_that_grow, of_named, of_row, agree_row, authorise_row, exit_row, return_row, receive_row, extend_row};
+ghost use Rattle.register_store.specs.Kinds.{kind_named, loan_kinds, kinds_that_grow, of_named};
+ghost use Rattle.register_store.specs.Kinds.{of_row, agree_row, authorise_row, exit_row};
+ghost use Rattle.register_store.specs.Kinds.{return_row, receive_row, extend_row};
 
 use crate::field::{day_at, loan_at, name_at, place_at, thing_at};
 use crate::object_list::objects_at;

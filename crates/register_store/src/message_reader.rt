@@ -1,7 +1,8 @@
 //! Reads messages from JSON.
 ghost use Rattle.std.specs.Prelude.{◌≡◌, ◌≢◌, true, Ok, Err, IsOk, IfErr, MatchResult};
 ghost use Rattle.serde_json.specs.View.{view};
-ghost use Rattle.register_store.specs.Kinds.{of_row, move_row, pack_row, sign_off_row, takes_memory, of_json, of_bytes};
+ghost use Rattle.register_store.specs.Kinds.{of_row, move_row, pack_row, sign_off_row};
+ghost use Rattle.register_store.specs.Kinds.{takes_memory, of_json, of_bytes};
 
 use crate::field::{day_at, name_at, place_at, thing_at, value_at};
 use crate::loan_reader::loan_message_of;

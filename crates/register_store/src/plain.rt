@@ -1,5 +1,6 @@
 //! A register in memory.
-ghost use Rattle.std.specs.Prelude.{◌≡◌, ◌≢◌, ◌&&◌, ◌∷◌, ◌++◌, [], ℕ, true, false, map, reverse, All, MatchOption, IfOk, IfErr, OnOk, OnErr, string_bytes};
+ghost use Rattle.std.specs.Prelude.{◌≡◌, ◌≢◌, ◌&&◌, ◌∷◌, ◌++◌, [], ℕ, true, false, map, reverse};
+ghost use Rattle.std.specs.Prelude.{All, MatchOption, IfOk, IfErr, OnOk, OnErr, string_bytes};
 ghost use Rattle.std.specs.Bool.{Decides};
 ghost use Rattle.std.specs.List.Sorted.{IsPermutation, IsNonDecreasingBy};
 ghost use Rattle.register_store.specs.StoredRows.{ArePostings};
@@ -37,7 +38,8 @@ pub struct PlainRegister {
 
 impl Model for PlainRegister {
     ghost use Rattle.std.specs.Prelude.{map, reverse};
-    ghost use Rattle.register_store.specs.Plain.{Kept, texts_of, meta_of, kept_row, held_lines, term_rows};
+    ghost use Rattle.register_store.specs.Plain.{Kept, texts_of, meta_of, kept_row, held_lines};
+    ghost use Rattle.register_store.specs.Plain.{term_rows};
     ghost use Rattle.register_store.specs.StoredRows.{numbered, spot_row, line_row};
 
     ghost Value = { Kept };

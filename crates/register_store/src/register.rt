@@ -1,9 +1,12 @@
 //! The trait of registers, which keep a posted list in a store.
-ghost use Rattle.std.specs.Prelude.{◌≡◌, ◌⊎◌, ℕ, Bool, true, Err, length, reverse, All, IfOk, IfErr, OnOk, OnErr};
+ghost use Rattle.std.specs.Prelude.{◌≡◌, ◌⊎◌, ℕ, Bool, true, Err, length, reverse, All, IfOk};
+ghost use Rattle.std.specs.Prelude.{IfErr, OnOk, OnErr};
 ghost use Rattle.std.specs.Bool.{Decides};
 ghost use Rattle.register_store.specs.StoredRows.{AreSame, IsBoundTo, HasList, HasRows};
-ghost use Rattle.register_store.specs.Registers.{CountsRefusal, Stops, is_failure, is_of_store, is_of_listing, IsOfStation, IsListFault};
-ghost use Rattle.register_store.specs.Holdings.{Holding, Each, Has, Comes, IsPosted, IsBound, IsNotBound};
+ghost use Rattle.register_store.specs.Registers.{CountsRefusal, Stops, is_failure, is_of_store};
+ghost use Rattle.register_store.specs.Registers.{is_of_listing, IsOfStation, IsListFault};
+ghost use Rattle.register_store.specs.Holdings.{Holding, Each, Has, Comes, IsPosted, IsBound};
+ghost use Rattle.register_store.specs.Holdings.{IsNotBound};
 
 use crate::StoreFault;
 use nest_core::Setup;

@@ -1,11 +1,14 @@
 -- Defines the rows of the report on a count list. An example of the plain line is above each.
-use Rattle.std.specs.Prelude.{◌∷◌, ◌++◌, ◌+◌, [], ℕ, List, None, Option, Some, codes, length, map, slice_get}
+use Rattle.std.specs.Prelude.{◌∷◌, ◌++◌, ◌+◌, [], ℕ, List, None, Option, Some, codes, length, map}
+use Rattle.std.specs.Prelude.{slice_get}
 use Rattle.std.specs.List.{range_with_len}
 use Rattle.std.specs.Option.{option_map_or}
 use Rattle.nest_core.specs.Museum.{Museum}
 use Rattle.posting_core.specs.Book.{Book}
 use Rattle.count_core.specs.declared.answer.CountAnswer.{CountAnswer}
-use Rattle.count_core.specs.declared.answer.CountAnswer.TheVariants.{UnknownPlace, Counted, UnknownObject, Again, Unplaced, Found, Elsewhere}
+use Rattle.count_core.specs.declared.answer.CountAnswer.TheVariants.{UnknownPlace, Counted}
+use Rattle.count_core.specs.declared.answer.CountAnswer.TheVariants.{UnknownObject, Again, Unplaced}
+use Rattle.count_core.specs.declared.answer.CountAnswer.TheVariants.{Found, Elsewhere}
 use Rattle.count_core.specs.declared.answer.MissingObject.{MissingObject}
 use Rattle.count_core.specs.declared.count_row.CountRow.{CountRow}
 use Rattle.count_core.specs.Counts.{answer_at, missing}

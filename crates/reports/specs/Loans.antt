@@ -3,9 +3,11 @@ use Rattle.std.specs.Prelude.{◌∷◌, ◌++◌, [], ℕ, ℤ, List, Some, cod
 use Rattle.std.specs.Option.{option_and_then, option_map_or}
 use Rattle.nest_core.specs.Museum.{find_thing}
 use Rattle.posting_core.specs.declared.stage.LineStage.{LineStage}
-use Rattle.posting_core.specs.declared.stage.LineStage.TheVariants.{Awaiting, Away, Back, Here, GivenBack}
+use Rattle.posting_core.specs.declared.stage.LineStage.TheVariants.{Awaiting, Away, Back, Here}
+use Rattle.posting_core.specs.declared.stage.LineStage.TheVariants.{GivenBack}
 use Rattle.posting_core.specs.declared.stage.LoanState.{LoanState}
-use Rattle.posting_core.specs.declared.stage.LoanState.TheVariants.{Draft, Authorised, Running, Closed}
+use Rattle.posting_core.specs.declared.stage.LoanState.TheVariants.{Draft, Authorised, Running}
+use Rattle.posting_core.specs.declared.stage.LoanState.TheVariants.{Closed}
 use Rattle.posting_core.specs.Agreements.{Agreement, agreement}
 use Rattle.posting_core.specs.Book.{Book, last_day_in, line_in, state_in}
 use Rattle.count_core.specs.Reports.{overdue}

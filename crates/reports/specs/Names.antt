@@ -1,7 +1,9 @@
 -- Defines the names of each report's columns, in their order.
 use Rattle.std.specs.Prelude.{◌∷◌, [], ℕ, List, codes}
 use Rattle.reports.specs.declared.question.Question.{Question}
-use Rattle.reports.specs.declared.question.Question.TheVariants.{Count, Overdue, Away, History, Stations, Where, Contents, Loan, At, Posted}
+use Rattle.reports.specs.declared.question.Question.TheVariants.{Count, Overdue, Away, History}
+use Rattle.reports.specs.declared.question.Question.TheVariants.{Stations, Where, Contents, Loan}
+use Rattle.reports.specs.declared.question.Question.TheVariants.{At, Posted}
 
 abbrev pub names : Question → List (List ℕ)
 names (Count rows) =

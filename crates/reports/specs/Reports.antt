@@ -4,7 +4,9 @@ use Rattle.posting_core.specs.Book.{Book}
 use Rattle.reports.specs.declared.form.Form.{Form}
 use Rattle.reports.specs.declared.form.Form.TheVariants.{Plain, Csv}
 use Rattle.reports.specs.declared.question.Question.{Question}
-use Rattle.reports.specs.declared.question.Question.TheVariants.{Count, Overdue, Away, History, Stations, Where, Contents, Loan, At, Posted}
+use Rattle.reports.specs.declared.question.Question.TheVariants.{Count, Overdue, Away, History}
+use Rattle.reports.specs.declared.question.Question.TheVariants.{Stations, Where, Contents, Loan}
+use Rattle.reports.specs.declared.question.Question.TheVariants.{At, Posted}
 use Rattle.reports.specs.CountRows.{count_rows}
 use Rattle.reports.specs.Forms.{rows_text}
 use Rattle.reports.specs.Loans.{loan_rows, overdue_rows}

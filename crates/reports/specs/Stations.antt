@@ -1,6 +1,7 @@
 -- Defines the rows of the reports on stations and on entries. An example of the plain line is
 -- above each.
-use Rattle.std.specs.Prelude.{◌∷◌, ◌+◌, ◌-◌, ◌||◌, [], ℕ, Bool, List, None, Option, Some, codes, if◌then◌else◌, length, map, nat_le, reverse, slice_get}
+use Rattle.std.specs.Prelude.{◌∷◌, ◌+◌, ◌-◌, ◌||◌, [], ℕ, Bool, List, None, Option, Some, codes}
+use Rattle.std.specs.Prelude.{if◌then◌else◌, length, map, nat_le, reverse, slice_get}
 use Rattle.std.specs.List.{range_with_len}
 use Rattle.std.specs.Option.{option_map_or}
 use Rattle.nest_core.specs.Museum.{Museum}

@@ -3,7 +3,8 @@ ghost use Rattle.std.specs.Prelude.{◌≡◌, IfOk, length, map, string_bytes};
 ghost use Rattle.std.specs.List.{filter};
 ghost use Rattle.csv.specs.Writing.{default_writer, row_text};
 ghost use Rattle.reports.specs.Forms.{heading, line_text};
-ghost use Rattle.reports.specs.Cells.{is_shown, member, object_line, plain_text, cell_of, words_line};
+ghost use Rattle.reports.specs.Cells.{is_shown, member, object_line, plain_text, cell_of};
+ghost use Rattle.reports.specs.Cells.{words_line};
 
 use crate::Form;
 use crate::field::{Field, is_shown, json_text, plain_text, quoted};
@@ -98,7 +99,8 @@ fn separated_fields(alloc: Global, fields: &[Field<'_>]) -> Result<String, NoMem
 
 /// The text of each field.
 fn plain_texts(alloc: Global, fields: &[Field<'_>]) -> Result<Vec<String>, NoMemory>
-    ensures { IfOk result (λ texts. map string_bytes texts.items ≡ map plain_text (map cell_of fields.now)) }
+    ensures { IfOk result
+        (λ texts. map string_bytes texts.items ≡ map plain_text (map cell_of fields.now)) }
 {
     let mut texts = Vec::new(alloc);
     for field in fields {

@@ -1,5 +1,7 @@
 -- Bytes that are appended in two steps.
-use Rattle.std.proofs.Common.{◌≡◌, ◌∙◌, ◌+◌, ◌≤◌, ◌++◌, ℕ, List, Result, String, length, string_bytes, string_len, string_capacity, ap, arith, append_assoc, length-append}
+use Rattle.std.proofs.Common.{◌≡◌, ◌∙◌, ◌+◌, ◌≤◌, ◌++◌, ℕ, List, Result, String, length}
+use Rattle.std.proofs.Common.{string_bytes, string_len, string_capacity, ap, arith, append_assoc}
+use Rattle.std.proofs.Common.{length-append}
 use Rattle.std.proofs.lemmas.Result.{on_ok_weaker}
 use Rattle.std.specs.declared.alloc.Global.{Global}
 use Rattle.hub_core.specs.Adds.{Adds}

@@ -1,5 +1,6 @@
 -- One serving after another.
-use Rattle.std.proofs.Common.{◌≡◌, ℕ, true, inr, List, [], ◌∷◌, ◌++◌, refl, ap, ◌∙◌, sym, subst, append_assoc, append-nil}
+use Rattle.std.proofs.Common.{◌≡◌, ℕ, true, inr, List, [], ◌∷◌, ◌++◌, refl, ap, ◌∙◌, sym, subst}
+use Rattle.std.proofs.Common.{append_assoc, append-nil}
 use Rattle.std.proofs.lemmas.Grind.{flat_map-append}
 use Rattle.std.proofs.lemmas.List.Elements.{All-append, All-nil}
 use Rattle.std.specs.Prelude.{All, Result, Ok, Err, OnErr}
@@ -11,7 +12,8 @@ use Rattle.hub_core.specs.StandsFor.{State, StandsFor, Stopped}
 use Rattle.hub_core.specs.Points.{point, due_with}
 use Rattle.serve_core.specs.declared.item.Item.{Item}
 use Rattle.serve_core.specs.declared.item.LogLine.{LogLine}
-use Rattle.serve_core.specs.Logs.{sent_item, log_arrivals, IsAnswered, IsPlacedReply, Answers, Meets, Serves, ServesTo}
+use Rattle.serve_core.specs.Logs.{sent_item, log_arrivals, IsAnswered, IsPlacedReply, Answers}
+use Rattle.serve_core.specs.Logs.{Meets, Serves, ServesTo}
 
 pub err_any : {T E P : Type 0} (r : Result T E) → P → OnErr r P
 err_any (Ok x) p = tt

@@ -1,5 +1,7 @@
 -- The lanes that the threads hand back, and the items taken.
-use Rattle.std.proofs.Common.{◌≡◌, ℕ, zero, suc, ◌<◌, List, [], ◌∷◌, ◌++◌, length, map, Bool, true, false, inl, inr, refl, ap, ◌∙◌, sym, subst, arith, append_assoc, append-nil, get_or}
+use Rattle.std.proofs.Common.{◌≡◌, ℕ, zero, suc, ◌<◌, List, [], ◌∷◌, ◌++◌, length, map, Bool, true}
+use Rattle.std.proofs.Common.{false, inl, inr, refl, ap, ◌∙◌, sym, subst, arith, append_assoc}
+use Rattle.std.proofs.Common.{append-nil, get_or}
 use Rattle.std.proofs.lemmas.List.Elements.{All-append, All-cons, All-head, All-nil, All-tail}
 use Rattle.std.specs.Prelude.{All}
 use Rattle.std.specs.List.{AllZip}
@@ -14,8 +16,13 @@ use Rattle.serve_core.specs.declared.sending.Sent.{Sent}
 use Rattle.serve_core.specs.declared.serve_fault.ServeFault.{ServeFault}
 use Rattle.serve_core.specs.declared.serve_fault.ServeFault.TheVariants as faults
 use Rattle.serve_core.specs.Logs.{items_of, AreOfStations, Answers, Serves, ServesTo, dropped}
-use Rattle.serve_core.specs.Lanes.{Ring, received_is, received_at, ended_at, sent_items, SameLane, Begins, IsFresh, IsEndOn, Takes, TakesSome, TakesLeft, TakesFront}
-use Rattle.serve_core.specs.Sending.{IsSent, Sends, IsStill, IsSentTo, IsEndOfSent, sent_of, sent_at, items_at, SentFront, SentWhole, IsOneOf, serve_fault, IsMerge, AreFronts, Stops, Leaves, AfterFault, StopsLanes, LeavesLanes, EndsLanes}
+use Rattle.serve_core.specs.Lanes.{Ring, received_is, received_at, ended_at, sent_items, SameLane}
+use Rattle.serve_core.specs.Lanes.{Begins, IsFresh, IsEndOn, Takes, TakesSome, TakesLeft}
+use Rattle.serve_core.specs.Lanes.{TakesFront}
+use Rattle.serve_core.specs.Sending.{IsSent, Sends, IsStill, IsSentTo, IsEndOfSent, sent_of}
+use Rattle.serve_core.specs.Sending.{sent_at, items_at, SentFront, SentWhole, IsOneOf, serve_fault}
+use Rattle.serve_core.specs.Sending.{IsMerge, AreFronts, Stops, Leaves, AfterFault, StopsLanes}
+use Rattle.serve_core.specs.Sending.{LeavesLanes, EndsLanes}
 use Rattle.register_store.specs.Holdings.{Holding}
 use Rattle.hub_core.specs.StandsFor.{State}
 use Rattle.serve_core.proofs.LogLemmas.{serves_then, serves_to_then}

@@ -1,5 +1,7 @@
 -- The effect of taking items on the rings.
-use Rattle.std.proofs.Common.{◌≡◌, ◌≢◌, ℕ, take, drop, zero, suc, ◌+◌, ◌<◌, ◌≤◌, ◌==◌, Bool, true, false, List, [], ◌∷◌, ◌++◌, length, map, Option, Some, refl, ap, ◌∙◌, sym, subst, arith, append_assoc, append-nil, get_or}
+use Rattle.std.proofs.Common.{◌≡◌, ◌≢◌, ℕ, take, drop, zero, suc, ◌+◌, ◌<◌, ◌≤◌, ◌==◌, Bool, true}
+use Rattle.std.proofs.Common.{false, List, [], ◌∷◌, ◌++◌, length, map, Option, Some, refl, ap, ◌∙◌}
+use Rattle.std.proofs.Common.{sym, subst, arith, append_assoc, append-nil, get_or}
 use Rattle.std.proofs.lemmas.Bool.Decides.{nat_tests}
 use Rattle.std.proofs.lemmas.List.{map-append, length-set}
 use Rattle.std.proofs.lemmas.List.Elements.{filter-append, All-append, All-nil, All-cons}
@@ -10,7 +12,9 @@ use Rattle.serve_core.specs.declared.item.Item.{Item}
 use Rattle.serve_core.specs.declared.item.LogLine.{LogLine}
 use Rattle.serve_core.specs.declared.lane.LaneEnd.{LaneEnd}
 use Rattle.serve_core.specs.Logs.{items_of, Ascends, AreOfStations, IsLineOf}
-use Rattle.serve_core.specs.Lanes.{Ring, received_is, received_of, ended_of, received_at, ended_at, end_items, Begins, AreOf, TakesOf, Takes, TakesSome, TakesLeft, TakesFront, IsEndOn, SameEnds}
+use Rattle.serve_core.specs.Lanes.{Ring, received_is, received_of, ended_of, received_at, ended_at}
+use Rattle.serve_core.specs.Lanes.{end_items, Begins, AreOf, TakesOf, Takes, TakesSome, TakesLeft}
+use Rattle.serve_core.specs.Lanes.{TakesFront, IsEndOn, SameEnds}
 
 pub by_bool : {P : Type 0} → (b : Bool) → (b ≡ true → P) → (b ≡ false → P) → P
 by_bool true f g = f refl

@@ -1,7 +1,9 @@
 -- A feed text, line by line.
-use Rattle.std.proofs.Common.{◌≡◌, ℕ, ◌+◌, ◌-◌, ◌<◌, ◌≤◌, min, List, [], ◌∷◌, ◌++◌, length, take, drop, map, ap, ◌∙◌, sym, subst, ⊎_elim, arith, append_assoc}
+use Rattle.std.proofs.Common.{◌≡◌, ℕ, ◌+◌, ◌-◌, ◌<◌, ◌≤◌, min, List, [], ◌∷◌, ◌++◌, length, take}
+use Rattle.std.proofs.Common.{drop, map, ap, ◌∙◌, sym, subst, ⊎_elim, arith, append_assoc}
 use Rattle.std.proofs.lemmas.Bool.{cases_lt}
-use Rattle.std.proofs.lemmas.List.{take-append-drop, drop-drop, drop_all, length-drop, length-take-le, take_all}
+use Rattle.std.proofs.lemmas.List.{take-append-drop, drop-drop, drop_all, length-drop}
+use Rattle.std.proofs.lemmas.List.{length-take-le, take_all}
 use Rattle.hub_core.specs.Reading.{HasNoFeed}
 use Rattle.hub_core.specs.Lines.{line_of, lines, pieces, without_return}
 use Rattle.hub_core.proofs.LineLemmas.{line_fed, line_last, pieces_fed, pieces_last}

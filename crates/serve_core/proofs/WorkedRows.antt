@@ -1,5 +1,6 @@
 -- The definitions computed on worked rows: the items of a feed text, and logs of two stations.
-use Rattle.std.specs.Prelude.{ℕ, ◌≡◌, ◌-◌, ◌^◌, ◌<◌, ◌≤◌, nat_lt, List, [], ◌∷◌, length, map, reverse, Ok, Err, if◌then◌else◌, refl, codes}
+use Rattle.std.specs.Prelude.{ℕ, ◌≡◌, ◌-◌, ◌^◌, ◌<◌, ◌≤◌, nat_lt, List, [], ◌∷◌, length, map}
+use Rattle.std.specs.Prelude.{reverse, Ok, Err, if◌then◌else◌, refl, codes}
 use Rattle.std.specs.Fmt.{digits}
 use Rattle.std.proofs.Common.{arith, ap, suc, zero}
 use Rattle.std.proofs.lemmas.List.Elements.{All-nil, All-cons, All-head}
@@ -21,12 +22,15 @@ use Rattle.serve_core.specs.declared.item.LineFault.TheVariants.{TooLong, Read}
 use Rattle.serve_core.specs.declared.item.Reply.{Reply}
 use Rattle.serve_core.specs.declared.item.Reply.TheVariants.{Answered, Found, Unread}
 use Rattle.serve_core.specs.declared.item.LogLine.{LogLine}
-use Rattle.serve_core.specs.declared.serve_fault.ServeFault.TheVariants.{NoMemory, Store, Unfinished}
+use Rattle.serve_core.specs.declared.serve_fault.ServeFault.TheVariants.{NoMemory, Store}
+use Rattle.serve_core.specs.declared.serve_fault.ServeFault.TheVariants.{Unfinished}
 use Rattle.serve_core.specs.Feeds.{asked_item, line_items, text_items}
 use Rattle.serve_core.specs.Lanes.{Begins}
-use Rattle.serve_core.specs.Logs.{sent_item, item_reply, log_arrivals, items_of, AreOfStations, Ascends, IsAnswered, dropped}
+use Rattle.serve_core.specs.Logs.{sent_item, item_reply, log_arrivals, items_of, AreOfStations}
+use Rattle.serve_core.specs.Logs.{Ascends, IsAnswered, dropped}
 use Rattle.serve_core.specs.Wording.{logged_text}
-use Rattle.serve_core.specs.Sending.{serve_fault, CountsServe, IsOneOf, items_at, IsMerge, AreFronts}
+use Rattle.serve_core.specs.Sending.{serve_fault, CountsServe, IsOneOf, items_at, IsMerge}
+use Rattle.serve_core.specs.Sending.{AreFronts}
 
 -- ---- feed texts
 

@@ -1,5 +1,6 @@
 -- Defines the items of a station's feed text.
-use Rattle.std.specs.Prelude.{ℕ, ◌+◌, ◌≤◌, List, [], ◌∷◌, ◌++◌, length, drop, Result, Ok, Err, if◌then◌else◌}
+use Rattle.std.specs.Prelude.{ℕ, ◌+◌, ◌≤◌, List, [], ◌∷◌, ◌++◌, length, drop, Result, Ok, Err}
+use Rattle.std.specs.Prelude.{if◌then◌else◌}
 use Rattle.register_store.specs.declared.fault.ReadFault.{ReadFault}
 use Rattle.hub_core.specs.declared.line.request.Request.{Request}
 use Rattle.hub_core.specs.declared.line.request.Request.TheVariants as asks

@@ -1,9 +1,11 @@
 -- Defines the views of lanes. A lane carries the items of one station from its thread to the one
 -- thread that calls the hub; a ring is the end of a lane from which items are taken.
-use Rattle.std.specs.Prelude.{◌≡◌, ℕ, ◌<◌, List, [], ◌∷◌, ◌++◌, length, slice_get, Option, Some, None}
+use Rattle.std.specs.Prelude.{◌≡◌, ℕ, ◌<◌, List, [], ◌∷◌, ◌++◌, length, slice_get, Option, Some}
+use Rattle.std.specs.Prelude.{None}
 use Rattle.std.specs.List.{AllZip}
 use Rattle.std.specs.declared.alloc.Global.{Global}
-use Rattle.rtrb.specs.Ring.{sent, received, IsPair, Finishes, all_sent, IsFinishedOf, SameProducer, SameConsumer}
+use Rattle.rtrb.specs.Ring.{sent, received, IsPair, Finishes, all_sent, IsFinishedOf, SameProducer}
+use Rattle.rtrb.specs.Ring.{SameConsumer}
 use Rattle.rtrb.specs.declared.consumer.Consumer.{Consumer}
 use Rattle.rtrb.specs.declared.AnyItems.{AnyItems}
 use Rattle.serve_core.specs.declared.item.Item.{Item}

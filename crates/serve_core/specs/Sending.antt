@@ -1,6 +1,7 @@
 -- Defines the items that the stations' threads send, the lanes that they hand back, and how a
 -- serving can end.
-use Rattle.std.specs.Prelude.{ℕ, ◌≡◌, ◌<◌, ◌≤◌, ◌+◌, ◌-◌, ◌^◌, min, true, Option, Some, None, ◌⊎◌, List, [], ◌∷◌, ◌++◌, length, slice_get, unwrap_or}
+use Rattle.std.specs.Prelude.{ℕ, ◌≡◌, ◌<◌, ◌≤◌, ◌+◌, ◌-◌, ◌^◌, min, true, Option, Some, None, ◌⊎◌}
+use Rattle.std.specs.Prelude.{List, [], ◌∷◌, ◌++◌, length, slice_get, unwrap_or}
 use Rattle.rtrb.specs.Ring.{IsPair}
 use Rattle.hub_core.specs.declared.hub.answer.HubFault.{HubFault}
 use Rattle.hub_core.specs.declared.hub.answer.HubFault.TheVariants as hub

@@ -1,5 +1,6 @@
 //! Takes back the lanes from the threads, and ends them.
-ghost use Rattle.std.specs.Prelude.{◌≡◌, ◌^◌, ◌<◌, ◌≤◌, ℕ, [], true, All, IsTrue, length, take, vec_len, IfNone, IfOk, IfSome};
+ghost use Rattle.std.specs.Prelude.{◌≡◌, ◌^◌, ◌<◌, ◌≤◌, ℕ, [], true, All, IsTrue, length, take};
+ghost use Rattle.std.specs.Prelude.{vec_len, IfNone, IfOk, IfSome};
 ghost use Rattle.std.specs.List.{AllZip};
 ghost use Rattle.rtrb.specs.Ring.{SameConsumer};
 ghost use Rattle.serve_core.specs.Lanes.{received_is, received_at, sent_items, Begins};

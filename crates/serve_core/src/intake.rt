@@ -1,12 +1,15 @@
 //! Takes items from all lanes.
-ghost use Rattle.std.specs.Prelude.{◌≡◌, ◌^◌, ◌<◌, ◌≤◌, ◌++◌, ◌∷◌, ℕ, [], List, true, IfOk, IsErrOf, OnOk, OnErr, vec_len, length};
+ghost use Rattle.std.specs.Prelude.{◌≡◌, ◌^◌, ◌<◌, ◌≤◌, ◌++◌, ◌∷◌, ℕ, [], List, true, IfOk};
+ghost use Rattle.std.specs.Prelude.{IsErrOf, OnOk, OnErr, vec_len, length};
 ghost use Rattle.std.specs.List.{AllZip};
 ghost use Rattle.rtrb.specs.Ring.{SameConsumer};
 ghost use Rattle.hub_core.specs.Faults.{CountsStore};
 ghost use Rattle.serve_core.specs.declared.item.Item.{Item};
 ghost use Rattle.serve_core.specs.declared.item.LogLine.{LogLine};
 ghost use Rattle.serve_core.specs.Logs.{AreOfStations, Serves, ServesTo, dropped, Ascends};
-ghost use Rattle.serve_core.specs.Lanes.{IsFresh, IsEndOn, Takes, TakesSome, TakesOf, TakesFront, TakesLeft, Begins, SameEnds, end_items, ended_at, received_is, received_at};
+ghost use Rattle.serve_core.specs.Lanes.{IsFresh, IsEndOn, Takes, TakesSome, TakesOf, TakesFront};
+ghost use Rattle.serve_core.specs.Lanes.{TakesLeft, Begins, SameEnds, end_items, ended_at};
+ghost use Rattle.serve_core.specs.Lanes.{received_is, received_at};
 
 use crate::item_replies::log_item;
 use crate::lane::ROOM;

@@ -5,7 +5,8 @@ ghost use Rattle.posting_core.specs.declared.entry.Entry.{Entry};
 ghost use Rattle.hub_core.specs.Faults.{CountsStore};
 ghost use Rattle.hub_core.specs.StandsFor.{StandsFor};
 ghost use Rattle.serve_core.specs.declared.item.LogLine.{LogLine};
-ghost use Rattle.serve_core.specs.Logs.{item_reply, sent_item, IsPlacedReply, Meets, Serves, ServesTo, IsLineOf};
+ghost use Rattle.serve_core.specs.Logs.{item_reply, sent_item, IsPlacedReply, Meets, Serves};
+ghost use Rattle.serve_core.specs.Logs.{ServesTo, IsLineOf};
 
 use crate::{Item, LogLine, Reply};
 use hub_core::{Arrival, Hub, HubFault};

@@ -1,11 +1,13 @@
 //! A serving: one thread for each feed, and the hub in the calling thread.
-ghost use Rattle.std.specs.Prelude.{◌≡◌, ◌<◌, ◌≤◌, ◌++◌, ◌^◌, ℕ, List, [], true, false, All, map, length, vec_len, IfOk, IfErr, OnOk};
+ghost use Rattle.std.specs.Prelude.{◌≡◌, ◌<◌, ◌≤◌, ◌++◌, ◌^◌, ℕ, List, [], true, false, All, map};
+ghost use Rattle.std.specs.Prelude.{length, vec_len, IfOk, IfErr, OnOk};
 ghost use Rattle.std.specs.List.{AllZip};
 ghost use Rattle.serve_core.specs.declared.item.LogLine.{LogLine};
 ghost use Rattle.serve_core.specs.declared.serve_fault.ServeFault.TheVariants as faults;
 ghost use Rattle.serve_core.specs.Logs.{Answers, Serves, AreOfStations};
 ghost use Rattle.serve_core.specs.Lanes.{IsFresh};
-ghost use Rattle.serve_core.specs.Sending.{CountsServe, IsMerge, AreFronts, AfterFault, EndsLanes, IsSentTo, HasRoom, SentWhole};
+ghost use Rattle.serve_core.specs.Sending.{CountsServe, IsMerge, AreFronts, AfterFault, EndsLanes};
+ghost use Rattle.serve_core.specs.Sending.{IsSentTo, HasRoom, SentWhole};
 
 use crate::ending::{Room, are_whole, end_all};
 use crate::intake::lanes;

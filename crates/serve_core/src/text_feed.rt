@@ -1,8 +1,10 @@
 //! A feed of the lines of a text.
-ghost use Rattle.std.specs.Prelude.{◌≡◌, ◌≤◌, ◌<◌, ◌+◌, ◌∷◌, [], length, drop, min, IfOk, IfNone, IfSome, OnErr};
+ghost use Rattle.std.specs.Prelude.{◌≡◌, ◌≤◌, ◌<◌, ◌+◌, ◌∷◌, [], length, drop, min, IfOk, IfNone};
+ghost use Rattle.std.specs.Prelude.{IfSome, OnErr};
 ghost use Rattle.hub_core.specs.Lines.{without_return, lines};
 ghost use Rattle.serve_core.specs.declared.item.Item.{Item};
-ghost use Rattle.serve_core.specs.Feeds.{request_item, line_items, text_items, items_left, IsPlaceIn};
+ghost use Rattle.serve_core.specs.Feeds.{request_item, line_items, text_items, items_left};
+ghost use Rattle.serve_core.specs.Feeds.{IsPlaceIn};
 
 use crate::{Feed, Item, LineFault};
 use borrowed_json::TokenScratch;

@@ -1,5 +1,6 @@
 //! Takes turns until the threads have ended.
-ghost use Rattle.std.specs.Prelude.{◌≡◌, ℕ, List, [], ◌∷◌, ◌++◌, true, vec_len, IsErrOf, OnOk, OnErr};
+ghost use Rattle.std.specs.Prelude.{◌≡◌, ℕ, List, [], ◌∷◌, ◌++◌, true, vec_len, IsErrOf, OnOk};
+ghost use Rattle.std.specs.Prelude.{OnErr};
 ghost use Rattle.hub_core.specs.Faults.{CountsStore};
 ghost use Rattle.serve_core.specs.declared.item.Item.{Item};
 ghost use Rattle.serve_core.specs.declared.item.LogLine.{LogLine};

@@ -1,5 +1,6 @@
 -- Lemmas on tests, and on the greatest number that passes one.
-use Rattle.std.proofs.Common.{◌≡◌, ℕ, zero, suc, ◌+◌, ◌-◌, ◌<◌, ◌≤◌, ◌&&◌, not, Bool, true, false, if◌then◌else◌, refl, arith, ⊎_elim, add-zero, add-suc}
+use Rattle.std.proofs.Common.{◌≡◌, ℕ, zero, suc, ◌+◌, ◌-◌, ◌<◌, ◌≤◌, ◌&&◌, not, Bool, true, false}
+use Rattle.std.proofs.Common.{if◌then◌else◌, refl, arith, ⊎_elim, add-zero, add-suc}
 use Rattle.std.proofs.lemmas.Bool.{cases_lt}
 use Rattle.station_core.specs.Runs.{greatest}
 

@@ -1,10 +1,13 @@
 -- The effect of one more message on the ready messages, on a run, and on how a station may start.
-use Rattle.std.proofs.Common.{◌≡◌, ◌≢◌, ℕ, suc, ◌+◌, ◌-◌, ◌<◌, ◌≤◌, Bool, true, false, List, [], ◌∷◌, ◌++◌, Some, refl, ap, ◌∙◌, sym, arith, ⊎_elim}
+use Rattle.std.proofs.Common.{◌≡◌, ◌≢◌, ℕ, suc, ◌+◌, ◌-◌, ◌<◌, ◌≤◌, Bool, true, false, List, []}
+use Rattle.std.proofs.Common.{◌∷◌, ◌++◌, Some, refl, ap, ◌∙◌, sym, arith, ⊎_elim}
 use Rattle.std.proofs.lemmas.Bool.{cases_lt}
 use Rattle.station_core.specs.declared.Start.{Start}
 use Rattle.station_core.specs.Runs.{Arrived, message_at, stops, ends, unbroken, ready, due, run}
 use Rattle.station_core.specs.Progress.{StartsFrom}
-use Rattle.station_core.proofs.RunLemmas.{at_other_number, at_other_station, at_its_number, unbroken_down, ready_holds, ready_fails, ready_same, unbroken_same, ends_same, due_same, due_split}
+use Rattle.station_core.proofs.RunLemmas.{at_other_number, at_other_station, at_its_number}
+use Rattle.station_core.proofs.RunLemmas.{unbroken_down, ready_holds, ready_fails, ready_same}
+use Rattle.station_core.proofs.RunLemmas.{unbroken_same, ends_same, due_same, due_split}
 use Rattle.station_core.proofs.BoolLemmas.{down}
 
 module _ {M : Type 0} where

@@ -1,8 +1,12 @@
 -- Lemmas on numbers in a list of taken messages.
-use Rattle.std.proofs.Common.{◌≡◌, ◌≢◌, ℕ, zero, suc, ◌+◌, ◌-◌, ◌≤◌, ◌&&◌, ◌==◌, not, max, Bool, true, false, if◌then◌else◌, List, [], ◌∷◌, ◌++◌, Option, Some, None, is_some, refl, ap, ◌∙◌, arith, ⊎_elim, add-zero, add-suc, append-nil, append_assoc, add_assoc}
+use Rattle.std.proofs.Common.{◌≡◌, ◌≢◌, ℕ, zero, suc, ◌+◌, ◌-◌, ◌≤◌, ◌&&◌, ◌==◌, not, max, Bool}
+use Rattle.std.proofs.Common.{true, false, if◌then◌else◌, List, [], ◌∷◌, ◌++◌, Option, Some, None}
+use Rattle.std.proofs.Common.{is_some, refl, ap, ◌∙◌, arith, ⊎_elim, add-zero, add-suc, append-nil}
+use Rattle.std.proofs.Common.{append_assoc, add_assoc}
 use Rattle.std.proofs.lemmas.Bool.{cases_lt, and_parts, and_from, false_from_ne_true}
 use Rattle.std.proofs.lemmas.Bool.Decides.{nat_tests}
-use Rattle.station_core.specs.Runs.{Arrived, arrived, is_number, message_at, stops, ends, unbroken, highest, ready, due}
+use Rattle.station_core.specs.Runs.{Arrived, arrived, is_number, message_at, stops, ends, unbroken}
+use Rattle.station_core.specs.Runs.{highest, ready, due}
 use Rattle.station_core.proofs.BoolLemmas.{ended_test, greatest_holds, greatest_fails, greatest_is}
 
 module _ {M : Type 0} where

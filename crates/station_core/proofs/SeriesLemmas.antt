@@ -1,15 +1,22 @@
 -- The messages that one station's series holds, call by call.
-use Rattle.std.proofs.Common.{◌≡◌, ◌≢◌, ℕ, suc, ◌+◌, ◌-◌, ◌<◌, ◌≤◌, ◌&&◌, not, nat_lt, Bool, true, false, List, [], ◌∷◌, ◌++◌, length, drop, Some, None, is_some, inl, inr, refl, ap, ◌∙◌, sym, arith, ⊎_elim, add-one, length-append, length-drop, length-set}
+use Rattle.std.proofs.Common.{◌≡◌, ◌≢◌, ℕ, suc, ◌+◌, ◌-◌, ◌<◌, ◌≤◌, ◌&&◌, not, nat_lt, Bool, true}
+use Rattle.std.proofs.Common.{false, List, [], ◌∷◌, ◌++◌, length, drop, Some, None, is_some, inl}
+use Rattle.std.proofs.Common.{inr, refl, ap, ◌∙◌, sym, arith, ⊎_elim, add-one, length-append}
+use Rattle.std.proofs.Common.{length-drop, length-set}
 use Rattle.std.proofs.lemmas.List.{length-replicate}
 use Rattle.std.proofs.lemmas.Bool.{cases_Bool, cases_lt}
 use Rattle.std.proofs.lemmas.Bool.Decides.{nat_tests}
 use Rattle.std.specs.Prelude.{slice_set}
 use Rattle.station_core.specs.declared.Start.{Start}
-use Rattle.station_core.specs.Series.{Series, window, slot_at, held_at, opened, with_held, counted, closed}
+use Rattle.station_core.specs.Series.{Series, window, slot_at, held_at, opened, with_held, counted}
+use Rattle.station_core.specs.Series.{closed}
 use Rattle.station_core.specs.Runs.{Arrived, message_at, ends, unbroken, ready}
 use Rattle.station_core.specs.Progress.{HoldsAbove, Matches, Pending, Ending}
-use Rattle.station_core.proofs.SlotLemmas.{window_is, slot_set_same, slot_set_other, slot_shift, slot_empty, slot_past}
-use Rattle.station_core.proofs.RunLemmas.{at_other_number, at_other_station, at_its_number, ends_same, unbroken_same, ready_is, ready_holds, ready_same, stops_at_sign_off, stops_at_missing}
+use Rattle.station_core.proofs.SlotLemmas.{window_is, slot_set_same, slot_set_other, slot_shift}
+use Rattle.station_core.proofs.SlotLemmas.{slot_empty, slot_past}
+use Rattle.station_core.proofs.RunLemmas.{at_other_number, at_other_station, at_its_number}
+use Rattle.station_core.proofs.RunLemmas.{ends_same, unbroken_same, ready_is, ready_holds}
+use Rattle.station_core.proofs.RunLemmas.{ready_same, stops_at_sign_off, stops_at_missing}
 
 module _ {M : Type 0} where
   -- a station at its start, from a posted list

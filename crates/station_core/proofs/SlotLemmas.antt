@@ -1,5 +1,6 @@
 -- Lemmas on the slots of a window.
-use Rattle.std.proofs.Common.{◌≡◌, ◌≢◌, ℕ, ◌<◌, ◌≤◌, arith, sym, List, [], ◌∷◌, ◌++◌, length, drop, replicate, Option, Some, None, refl, ap, ◌∙◌, zero, suc, get_or}
+use Rattle.std.proofs.Common.{◌≡◌, ◌≢◌, ℕ, ◌<◌, ◌≤◌, arith, sym, List, [], ◌∷◌, ◌++◌, length, drop}
+use Rattle.std.proofs.Common.{replicate, Option, Some, None, refl, ap, ◌∙◌, zero, suc, get_or}
 use Rattle.std.specs.Prelude.{slice_get, slice_set, option_and_then, unwrap_or, false}
 use Rattle.std.proofs.lemmas.Option.{slice_get_past, slice_get_read}
 use Rattle.circular_buffer.proofs.Places.{slice_get-set_same, slice_get-set_other}

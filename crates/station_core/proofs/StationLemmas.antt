@@ -1,5 +1,8 @@
 -- The messages that the series of all stations hold, call by call.
-use Rattle.std.proofs.Common.{◌≡◌, ◌≢◌, ℕ, zero, suc, ◌+◌, ◌-◌, ◌<◌, ◌≤◌, ◌&&◌, ◌||◌, ◌==◌, not, nat_lt, nat_le, Bool, true, false, if◌then◌else◌, List, [], ◌∷◌, ◌++◌, length, map, Option, Some, None, is_some, refl, ap, ◌∙◌, sym, arith, rules, ⊎_elim, add-one, length-set}
+use Rattle.std.proofs.Common.{◌≡◌, ◌≢◌, ℕ, zero, suc, ◌+◌, ◌-◌, ◌<◌, ◌≤◌, ◌&&◌, ◌||◌, ◌==◌, not}
+use Rattle.std.proofs.Common.{nat_lt, nat_le, Bool, true, false, if◌then◌else◌, List, [], ◌∷◌, ◌++◌}
+use Rattle.std.proofs.Common.{length, map, Option, Some, None, is_some, refl, ap, ◌∙◌, sym, arith}
+use Rattle.std.proofs.Common.{rules, ⊎_elim, add-one, length-set}
 use Rattle.std.proofs.lemmas.Bool.{cases_lt, cases_eq, or_parts}
 use Rattle.std.proofs.lemmas.Bool.Decides.{nat_tests}
 use Rattle.std.proofs.lemmas.List.{length-map}
@@ -10,12 +13,18 @@ use Rattle.circular_buffer.proofs.Places.{slice_get-set_same, slice_get-set_othe
 use Rattle.station_core.specs.declared.TheConstants.{LAST}
 use Rattle.station_core.specs.declared.Start.{Start}
 use Rattle.station_core.specs.declared.Refusal.{Refusal}
-use Rattle.station_core.specs.declared.Refusal.TheVariants.{UnknownStation, BadNumber, Double, SignedOff, TooEarly}
-use Rattle.station_core.specs.Series.{Series, series, window, slot_at, series_at, held_at, refusal_of, opened, with_held, counted, closed}
-use Rattle.station_core.specs.Runs.{Arrived, arrived, message_at, ends, ready, is_signed, is_double, refusal, taken_after}
-use Rattle.station_core.specs.Progress.{Matches, AllMatch, IsPosting, IsEnding, ComesDue, StartsFrom, AllStart}
+use Rattle.station_core.specs.declared.Refusal.TheVariants.{UnknownStation, BadNumber, Double}
+use Rattle.station_core.specs.declared.Refusal.TheVariants.{SignedOff, TooEarly}
+use Rattle.station_core.specs.Series.{Series, series, window, slot_at, series_at, held_at}
+use Rattle.station_core.specs.Series.{refusal_of, opened, with_held, counted, closed}
+use Rattle.station_core.specs.Runs.{Arrived, arrived, message_at, ends, ready, is_signed, is_double}
+use Rattle.station_core.specs.Runs.{refusal, taken_after}
+use Rattle.station_core.specs.Progress.{Matches, AllMatch, IsPosting, IsEnding, ComesDue}
+use Rattle.station_core.specs.Progress.{StartsFrom, AllStart}
 use Rattle.station_core.proofs.SlotLemmas.{series_at_there, slot_shift}
-use Rattle.station_core.proofs.SeriesLemmas.{matches_opened, matches_other, pending_taken, pending_counted, ending_counted, matches_pending, matches_closed, next_of, held_is_taken}
+use Rattle.station_core.proofs.SeriesLemmas.{matches_opened, matches_other, pending_taken}
+use Rattle.station_core.proofs.SeriesLemmas.{pending_counted, ending_counted, matches_pending}
+use Rattle.station_core.proofs.SeriesLemmas.{matches_closed, next_of, held_is_taken}
 
 -- a test that finds no reason to refuse
 tests_none : (a b c d e : Bool)

@@ -1,11 +1,14 @@
 -- Worked rows of the definitions. A message is a number, and 9 signs off.
-use Rattle.std.proofs.Common.{◌≡◌, ℕ, ◌==◌, Bool, true, false, List, [], ◌∷◌, Some, None, refl, subst, slice_get, zero, suc}
+use Rattle.std.proofs.Common.{◌≡◌, ℕ, ◌==◌, Bool, true, false, List, [], ◌∷◌, Some, None, refl}
+use Rattle.std.proofs.Common.{subst, slice_get, zero, suc}
 use Rattle.std.specs.Prelude.{map}
-use Rattle.station_core.specs.declared.Refusal.TheVariants.{UnknownStation, BadNumber, Double, SignedOff, TooEarly}
+use Rattle.station_core.specs.declared.Refusal.TheVariants.{UnknownStation, BadNumber, Double}
+use Rattle.station_core.specs.declared.Refusal.TheVariants.{SignedOff, TooEarly}
 use Rattle.station_core.specs.declared.Start.{Start}
 use Rattle.station_core.specs.declared.TheConstants.{LAST}
 use Rattle.station_core.specs.Series.{window, series, opened, held_count}
-use Rattle.station_core.specs.Runs.{Arrived, arrived, message_at, ready, is_signed, refusal, taken_after, due, run}
+use Rattle.station_core.specs.Runs.{Arrived, arrived, message_at, ready, is_signed, refusal}
+use Rattle.station_core.specs.Runs.{taken_after, due, run}
 use Rattle.station_core.specs.Progress.{AllMatch, StartsFrom}
 use Rattle.station_core.proofs.StationLemmas.{all_opened}
 use Rattle.station_core.proofs.GrowLemmas.{starts_empty}

@@ -1,6 +1,7 @@
 -- Defines how a series agrees with the list of all messages taken: between arrivals, and while
 -- messages come due one by one.
-use Rattle.std.specs.Prelude.{◌≡◌, ◌≢◌, ℕ, ◌+◌, ◌<◌, Bool, true, false, List, length, slice_get, Some, None}
+use Rattle.std.specs.Prelude.{◌≡◌, ◌≢◌, ℕ, ◌+◌, ◌<◌, Bool, true, false, List, length, slice_get}
+use Rattle.std.specs.Prelude.{Some, None}
 use Rattle.station_core.specs.declared.Start.{Start}
 use Rattle.station_core.specs.Series.{Series, window, slot_at, series_at}
 use Rattle.station_core.specs.Runs.{Arrived, message_at, ends, unbroken, ready, is_signed}

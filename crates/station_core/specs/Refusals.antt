@@ -1,7 +1,8 @@
 -- Defines the printed names of refusals.
 use Rattle.std.specs.Prelude.{ℕ, List, codes}
 use Rattle.station_core.specs.declared.Refusal.{Refusal}
-use Rattle.station_core.specs.declared.Refusal.TheVariants.{UnknownStation, BadNumber, Double, SignedOff, TooEarly}
+use Rattle.station_core.specs.declared.Refusal.TheVariants.{UnknownStation, BadNumber, Double}
+use Rattle.station_core.specs.declared.Refusal.TheVariants.{SignedOff, TooEarly}
 
 abbrev pub refusal_name : Refusal → List ℕ
 refusal_name UnknownStation = codes "UnknownStation"

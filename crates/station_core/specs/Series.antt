@@ -1,11 +1,15 @@
 -- Defines the view of a station: how many of its messages are posted, whether it has signed off,
 -- and a window of the messages that are held back until the gap before them closes.
-use Rattle.std.specs.Prelude.{◌≡◌, ℕ, ◌+◌, ◌-◌, ◌≤◌, ◌==◌, ◌||◌, nat_lt, nat_le, Bool, true, false, if◌then◌else◌, List, [], ◌∷◌, ◌++◌, length, drop, replicate, slice_get, slice_set, Option, Some, None, is_some, option_and_then, unwrap_or, count_by, refl}
+use Rattle.std.specs.Prelude.{◌≡◌, ℕ, ◌+◌, ◌-◌, ◌≤◌, ◌==◌, ◌||◌, nat_lt, nat_le, Bool, true, false}
+use Rattle.std.specs.Prelude.{if◌then◌else◌, List, [], ◌∷◌, ◌++◌, length, drop, replicate}
+use Rattle.std.specs.Prelude.{slice_get, slice_set, Option, Some, None, is_some, option_and_then}
+use Rattle.std.specs.Prelude.{unwrap_or, count_by, refl}
 use Rattle.std.specs.Coded.{Coded, code_by, coded×, coded_list, coded_option, coded_bool, coded_ℕ}
 use Rattle.circular_buffer.specs.Buffer.{Buffer}
 use Rattle.station_core.specs.declared.TheConstants.{WINDOW, LAST}
 use Rattle.station_core.specs.declared.Refusal.{Refusal}
-use Rattle.station_core.specs.declared.Refusal.TheVariants.{UnknownStation, BadNumber, Double, SignedOff, TooEarly}
+use Rattle.station_core.specs.declared.Refusal.TheVariants.{UnknownStation, BadNumber, Double}
+use Rattle.station_core.specs.declared.Refusal.TheVariants.{SignedOff, TooEarly}
 use Rattle.station_core.specs.declared.Start.{Start}
 
 -- A station may send this many numbers, 256, above its posted messages. Defined apart from `WINDOW`

@@ -1,7 +1,10 @@
 //! The series of messages of all stations.
-ghost use Rattle.std.specs.Prelude.{◌≡◌, ◌+◌, ◌<◌, ◌≤◌, ◌↔◌, Bool, ℕ, List, [], ◌∷◌, ◌++◌, IfOk, IfNone, IfSome, OnSome, All, map, length, slice_set, None, Some};
+ghost use Rattle.std.specs.Prelude.{◌≡◌, ◌+◌, ◌<◌, ◌≤◌, ◌↔◌, Bool, ℕ, List, [], ◌∷◌, ◌++◌, IfOk};
+ghost use Rattle.std.specs.Prelude.{IfNone, IfSome, OnSome, All, map, length, slice_set, None};
+ghost use Rattle.std.specs.Prelude.{Some};
 ghost use Rattle.station_core.specs.declared.TheConstants.{LAST};
-ghost use Rattle.station_core.specs.Series.{opened, refusal_of, series_at, held_at, held_count, next_held, with_held, counted, closed};
+ghost use Rattle.station_core.specs.Series.{opened, refusal_of, series_at, held_at, held_count};
+ghost use Rattle.station_core.specs.Series.{next_held, with_held, counted, closed};
 ghost use Rattle.station_core.specs.Runs.{Arrived, arrived, refusal};
 ghost use Rattle.station_core.specs.Progress.{AllStart, AllMatch, IsPosting, IsEnding, ComesDue};
 

@@ -1,7 +1,10 @@
 //! The series of one station: a count of posted messages and a window of held ones.
-ghost use Rattle.std.specs.Prelude.{◌≡◌, ◌+◌, ◌<◌, ◌≤◌, ◌↔◌, ◌∷◌, ◌++◌, ℕ, [], IfOk, IfNone, IfSome, OnSome, drop, length, replicate, slice_set, true, Some, None};
+ghost use Rattle.std.specs.Prelude.{◌≡◌, ◌+◌, ◌<◌, ◌≤◌, ◌↔◌, ◌∷◌, ◌++◌, ℕ, [], IfOk, IfNone};
+ghost use Rattle.std.specs.Prelude.{IfSome, OnSome, drop, length, replicate, slice_set, true, Some};
+ghost use Rattle.std.specs.Prelude.{None};
 ghost use Rattle.circular_buffer.specs.Buffer.{buffer};
-ghost use Rattle.station_core.specs.Series.{opened, refusal_at, slot_at, held_count, next_held, with_held, counted, closed};
+ghost use Rattle.station_core.specs.Series.{opened, refusal_at, slot_at, held_count, next_held};
+ghost use Rattle.station_core.specs.Series.{with_held, counted, closed};
 
 use crate::{LAST, Refusal, Start, Taken, WINDOW};
 use circular_buffer::HeapCircularBuffer;

@@ -3,7 +3,8 @@ ghost use Rattle.std.specs.Prelude.{◌≡◌, [], true, length, OnOk, IfOk, IfE
 ghost use Rattle.register_store.specs.StoredRows.{AreSame, HasRows, IsBoundTo};
 ghost use Rattle.register_store.specs.Registers.{CountsRefusal};
 ghost use Rattle.register_store.specs.Holdings.{Comes, Each, Has, IsBound};
-ghost use Rattle.hub_core.specs.Openings.{IsNotOpened, IsPrepared, IsRestored, IsRestoreFault, IsRowsFault};
+ghost use Rattle.hub_core.specs.Openings.{IsNotOpened, IsPrepared, IsRestored, IsRestoreFault};
+ghost use Rattle.hub_core.specs.Openings.{IsRowsFault};
 
 use crate::hub::reposting::judged;
 use nest_core::Setup;

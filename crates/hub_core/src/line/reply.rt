@@ -1,13 +1,18 @@
 //! Acts on a line, and makes the reply.
-ghost use Rattle.std.specs.Prelude.{◌≡◌, ◌≤◌, ◌<◌, ◌||◌, ◌∷◌, ◌++◌, [], false, true, length, string_bytes, string_capacity, IsOk, IfErr, IfOk, IfSome, OnOk};
+ghost use Rattle.std.specs.Prelude.{◌≡◌, ◌≤◌, ◌<◌, ◌||◌, ◌∷◌, ◌++◌, [], false, true, length};
+ghost use Rattle.std.specs.Prelude.{string_bytes, string_capacity, IsOk, IfErr, IfOk, IfSome, OnOk};
 ghost use Rattle.hub_core.specs.Points.{reply, whereabouts};
 ghost use Rattle.hub_core.specs.Requests.{line_in};
 ghost use Rattle.hub_core.specs.Replies.{asked_line};
 ghost use Rattle.hub_core.specs.Serving.{Serves};
-ghost use Rattle.hub_core.specs.Memory.{HasRoom, is_posted, can_fail, line_can_fail, FailsOnlyWhere};
+ghost use Rattle.hub_core.specs.Memory.{HasRoom, is_posted, can_fail, line_can_fail};
+ghost use Rattle.hub_core.specs.Memory.{FailsOnlyWhere};
 ghost use Rattle.hub_core.specs.Lines.{is_empty};
-ghost use Rattle.hub_core.specs.Outcomes.{HasOutcomes, arrival_outcomes, station_outcomes, request_outcomes, read_outcomes, line_outcomes};
-ghost use Rattle.hub_core.specs.LineText.{place_text, arrival_reply, station_text, station_reply, sent_from, request_reply, sent_by, read_reply, sent, is_too_long, line_reply, line_arrivals};
+ghost use Rattle.hub_core.specs.Outcomes.{HasOutcomes, arrival_outcomes, station_outcomes};
+ghost use Rattle.hub_core.specs.Outcomes.{request_outcomes, read_outcomes, line_outcomes};
+ghost use Rattle.hub_core.specs.LineText.{place_text, arrival_reply, station_text, station_reply};
+ghost use Rattle.hub_core.specs.LineText.{sent_from, request_reply, sent_by, read_reply, sent};
+ghost use Rattle.hub_core.specs.LineText.{is_too_long, line_reply, line_arrivals};
 
 use crate::line::request::{Line, Request, read_line_with};
 use crate::line::wording;

@@ -1,8 +1,10 @@
 //! Reads the request of a line.
-ghost use Rattle.std.specs.Prelude.{◌≡◌, ◌≢◌, ◌<◌, length, true, Ok, Err, IfOk, IfErr, IfSome, MatchResult};
+ghost use Rattle.std.specs.Prelude.{◌≡◌, ◌≢◌, ◌<◌, length, true, Ok, Err, IfOk, IfErr, IfSome};
+ghost use Rattle.std.specs.Prelude.{MatchResult};
 ghost use Rattle.serde_json.specs.Find.{get};
 ghost use Rattle.register_store.specs.Spelling.{key_name};
-ghost use Rattle.hub_core.specs.Requests.{number_from, message_from, has_growing_message, request_of, object_of, request_in, line_of, line_in};
+ghost use Rattle.hub_core.specs.Requests.{number_from, message_from, has_growing_message};
+ghost use Rattle.hub_core.specs.Requests.{request_of, object_of, request_in, line_of, line_in};
 
 use borrowed_json::{Fields, Scratch, TextFault, TokenScratch, Value};
 use bumpalo::Bump;

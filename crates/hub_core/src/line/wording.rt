@@ -1,11 +1,14 @@
 //! The words of all replies. Each is a line with its line feed, appended to a text. If memory runs
 //! out, the text may end with a part of the line.
-ghost use Rattle.std.specs.Prelude.{◌≡◌, ◌<◌, ◌++◌, true, All, OnErr, codes, flat_map, length, reverse};
+ghost use Rattle.std.specs.Prelude.{◌≡◌, ◌<◌, ◌++◌, true, All, OnErr, codes, flat_map, length};
+ghost use Rattle.std.specs.Prelude.{reverse};
 ghost use Rattle.hub_core.specs.Adds.{Adds};
 ghost use Rattle.hub_core.specs.Points.{IsPlaced};
 ghost use Rattle.hub_core.specs.Memory.{HasRoom, is_posted};
-ghost use Rattle.hub_core.specs.LineText.{answer_text, chain_text, fault_text, place_text, posted_lines, station_text};
-ghost use Rattle.hub_core.specs.Replies.{asked_line, refused_line, unknown_station_line, held_line, posted_line, bad_line};
+ghost use Rattle.hub_core.specs.LineText.{answer_text, chain_text, fault_text, place_text};
+ghost use Rattle.hub_core.specs.LineText.{posted_lines, station_text};
+ghost use Rattle.hub_core.specs.Replies.{asked_line, refused_line, unknown_station_line, held_line};
+ghost use Rattle.hub_core.specs.Replies.{posted_line, bad_line};
 
 use crate::{Answer, Where};
 use codes_core::ThingCode;

@@ -2,7 +2,8 @@
 ghost use Rattle.std.specs.Prelude.{◌≡◌, ◌≢◌, ◌≤◌, ◌<◌, ◌+◌, false, OnOk, IfOk, IfErr, IfSome};
 ghost use Rattle.std.specs.Io.KnownBytes.{Appends, IsAtEnd};
 ghost use Rattle.hub_core.specs.Lines.{head};
-ghost use Rattle.hub_core.specs.WholeRun.{head_fault, run_text, AfterRun, OpensHub, IsFresh, BeforeLines};
+ghost use Rattle.hub_core.specs.WholeRun.{head_fault, run_text, AfterRun, OpensHub, IsFresh};
+ghost use Rattle.hub_core.specs.WholeRun.{BeforeLines};
 
 use crate::line::bytes::Reads;
 use crate::outcome::Unwatched;

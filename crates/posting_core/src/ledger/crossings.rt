@@ -1,5 +1,6 @@
 //! The rules of crossings under a loan: exit, return and receipt.
-ghost use Rattle.std.specs.Prelude.{ℤ, ◌≡◌, ◌<◌, ◌&&◌, true, false, List, length, All, filter, not, IfOk, IfSome, OnErr, MatchResult, Some, None, if◌then◌else◌, ℕ};
+ghost use Rattle.std.specs.Prelude.{ℤ, ◌≡◌, ◌<◌, ◌&&◌, true, false, List, length, All, filter, not};
+ghost use Rattle.std.specs.Prelude.{IfOk, IfSome, OnErr, MatchResult, Some, None, if◌then◌else◌, ℕ};
 ghost use Rattle.std.specs.Option.{option_map_or};
 ghost use Rattle.posting_core.specs.declared.message.Message.TheVariants.{Exit, Return, Receive};
 ghost use Rattle.posting_core.specs.declared.stage.LineStage.TheVariants.{Awaiting, Away};
@@ -9,7 +10,9 @@ ghost use Rattle.posting_core.specs.Messages.{thing_no};
 ghost use Rattle.posting_core.specs.Loans.{line, wanted_by_exit, objects_with};
 ghost use Rattle.nest_core.specs.Museum.{is_container, is_elsewhere, find_place};
 ghost use Rattle.nest_core.specs.InOrder.{Row};
-ghost use Rattle.posting_core.specs.Verdicts.{first_of, exit_rows, return_rows, receive_rows, stage_eq, is_over, any_unlisted, any_not_at, line_rows, hangs_on_lines};
+ghost use Rattle.posting_core.specs.Verdicts.{first_of, exit_rows, return_rows, receive_rows};
+ghost use Rattle.posting_core.specs.Verdicts.{stage_eq, is_over, any_unlisted, any_not_at};
+ghost use Rattle.posting_core.specs.Verdicts.{line_rows, hangs_on_lines};
 ghost use Rattle.codes_core.specs.Loan.{is_out};
 ghost use Rattle.posting_core.specs.VerdictNames.{is_applied};
 ghost use Rattle.posting_core.specs.Agreements.{last_day, loan_no};

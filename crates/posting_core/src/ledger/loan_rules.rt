@@ -1,14 +1,19 @@
 //! The rules of a loan's terms: agreement, authorisation and extension.
-ghost use Rattle.std.specs.Prelude.{◌≡◌, ◌≤◌, ◌∷◌, [], true, false, length, map, take, int_lt, not, None, if◌then◌else◌};
+ghost use Rattle.std.specs.Prelude.{◌≡◌, ◌≤◌, ◌∷◌, [], true, false, length, map, take, int_lt, not};
+ghost use Rattle.std.specs.Prelude.{None, if◌then◌else◌};
 ghost use Rattle.std.specs.Bool.{Decides};
 ghost use Rattle.std.specs.List.{list_any};
-ghost use Rattle.posting_core.specs.declared.verdict.Verdict.TheVariants.{NoObjects, NotObject, Repeated, WrongOwner, BadTerm};
+ghost use Rattle.posting_core.specs.declared.verdict.Verdict.TheVariants.{NoObjects, NotObject};
+ghost use Rattle.posting_core.specs.declared.verdict.Verdict.TheVariants.{Repeated, WrongOwner};
+ghost use Rattle.posting_core.specs.declared.verdict.Verdict.TheVariants.{BadTerm};
 ghost use Rattle.nest_core.specs.InOrder.{◌if◌};
 ghost use Rattle.posting_core.specs.VerdictNames.{is_applied};
 ghost use Rattle.posting_core.specs.Agreements.{loan_no, is_agreed};
 ghost use Rattle.posting_core.specs.LoanRows.{AreOnce};
 ghost use Rattle.posting_core.specs.Messages.{thing_no};
-ghost use Rattle.posting_core.specs.Verdicts.{first_of, agree_rows, authorise_rows, extend_rows, is_known, is_container_code, is_of_wrong_owner, is_empty, repeats};
+ghost use Rattle.posting_core.specs.Verdicts.{first_of, agree_rows, authorise_rows, extend_rows};
+ghost use Rattle.posting_core.specs.Verdicts.{is_known, is_container_code, is_of_wrong_owner};
+ghost use Rattle.posting_core.specs.Verdicts.{is_empty, repeats};
 
 use super::Ledger;
 use super::judged::{Judged, going_on, unput};

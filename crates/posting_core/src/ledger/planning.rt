@@ -1,5 +1,6 @@
 //! Plans a message that is applied: its put, and the spots and loan lines that it adds.
-ghost use Rattle.std.specs.Prelude.{◌≡◌, ◌<◌, ◌≤◌, ◌+◌, ◌&&◌, [], if◌then◌else◌, length, All, IfOk, OnErr, IfSome, Some, true, not, map, filter};
+ghost use Rattle.std.specs.Prelude.{◌≡◌, ◌<◌, ◌≤◌, ◌+◌, ◌&&◌, [], if◌then◌else◌, length, All, IfOk};
+ghost use Rattle.std.specs.Prelude.{OnErr, IfSome, Some, true, not, map, filter};
 ghost use Rattle.std.specs.List.{filter_map};
 ghost use Rattle.nest_core.specs.Puts.{container_of};
 ghost use Rattle.posting_core.specs.declared.stage.LineStage.TheVariants.{Awaiting};
@@ -9,7 +10,8 @@ ghost use Rattle.posting_core.specs.Messages.{thing_no, day_of};
 ghost use Rattle.posting_core.specs.History.{put_in, put_by, carried_with, takes_along};
 ghost use Rattle.posting_core.specs.Loans.{exit_stage};
 ghost use Rattle.posting_core.specs.VerdictNames.{is_applied};
-ghost use Rattle.posting_core.specs.Book.{place_in, spots_in, verdict_in, new_spot, new_spots, new_lines, has_lines};
+ghost use Rattle.posting_core.specs.Book.{place_in, spots_in, verdict_in, new_spot, new_spots};
+ghost use Rattle.posting_core.specs.Book.{new_lines, has_lines};
 ghost use Rattle.posting_core.specs.Rows.{place_to};
 
 use super::Ledger;

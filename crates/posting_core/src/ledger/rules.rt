@@ -6,7 +6,8 @@ ghost use Rattle.nest_core.specs.Puts.{last};
 ghost use Rattle.nest_core.specs.Nest.{pack_bar};
 ghost use Rattle.posting_core.specs.declared.message.Message.TheVariants.{Move, Pack};
 ghost use Rattle.posting_core.specs.History.{puts, put_by};
-ghost use Rattle.posting_core.specs.Verdicts.{first_of, move_rows, pack_rows, is_away, is_known_container};
+ghost use Rattle.posting_core.specs.Verdicts.{first_of, move_rows, pack_rows, is_away};
+ghost use Rattle.posting_core.specs.Verdicts.{is_known_container};
 ghost use Rattle.posting_core.specs.Book.{place_in};
 
 use super::Ledger;

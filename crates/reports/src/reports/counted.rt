@@ -3,7 +3,8 @@ ghost use Rattle.std.specs.Prelude.{◌≡◌, ◌<◌, ℕ, All, IfOk, Some, le
 ghost use Rattle.count_core.specs.Counts.{IsMissingIn};
 ghost use Rattle.count_core.specs.declared.answer.CountAnswer.TheVariants as answer;
 ghost use Rattle.reports.specs.declared.form.Form.{Form};
-ghost use Rattle.reports.specs.CountRows.{answer_row, answer_word, count_rows, found_rows, missing_row, on_record};
+ghost use Rattle.reports.specs.CountRows.{answer_row, answer_word, count_rows, found_rows};
+ghost use Rattle.reports.specs.CountRows.{missing_row, on_record};
 ghost use Rattle.reports.specs.Cells.{cell_of};
 
 use crate::Form;

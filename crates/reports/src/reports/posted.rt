@@ -1,5 +1,6 @@
 //! The posted entries.
-ghost use Rattle.std.specs.Prelude.{◌≡◌, ◌<◌, ◌+◌, ◌-◌, IfOk, Some, length, map, reverse, slice_get};
+ghost use Rattle.std.specs.Prelude.{◌≡◌, ◌<◌, ◌+◌, ◌-◌, IfOk, Some, length, map, reverse};
+ghost use Rattle.std.specs.Prelude.{slice_get};
 ghost use Rattle.reports.specs.Stations.{entry_row, entry_row_at, posted_rows};
 ghost use Rattle.reports.specs.Texts.{station_text};
 ghost use Rattle.reports.specs.Cells.{cell_of};

@@ -40,7 +40,8 @@ fn station_row<'a>(
     station: StationNo,
 ) -> Result<Vec<Field<'a>>, NoMemory>
     requires { station < length ledger.now.museum.stations }
-    ensures { IfOk result (λ row. map cell_of row.items ≡ station_row ledger.entry.now form station) }
+    ensures { IfOk result
+        (λ row. map cell_of row.items ≡ station_row ledger.entry.now form station) }
 {
     let name = ledger.setup().station_name(station);
     let next = next_number(ledger, station);

@@ -5,7 +5,8 @@ use Rattle.std.specs.Option.{option_and_then}
 use Rattle.clap.specs.Words.{Text}
 use Rattle.command_words.specs.Commands.{Form, at, away, commands, contents, copy, count, explain}
 use Rattle.command_words.specs.Commands.{help, history, loan, migrate}
-use Rattle.command_words.specs.Commands.{overdue, posted, register_app, replay, report_app, serve, stations, where_is}
+use Rattle.command_words.specs.Commands.{overdue, posted, register_app, replay, report_app, serve}
+use Rattle.command_words.specs.Commands.{stations, where_is}
 use Rattle.command_words.specs.Words.{Chooses, IsNamed, form_named, texts_of}
 use Rattle.command_words.specs.declared.command.Chosen.{Chosen}
 use Rattle.command_words.specs.declared.command.WordsFault.{WordsFault}

@@ -1,9 +1,11 @@
-use Rattle.std.proofs.Common.{Some, ◌≡◌, ◌<◌, ◌+◌, ◌++◌, ◌∷◌, [], ℕ, Bool, Vec, Global, length, take, ap, sym, subst, ◌∙◌, arith}
+use Rattle.std.proofs.Common.{Some, ◌≡◌, ◌<◌, ◌+◌, ◌++◌, ◌∷◌, [], ℕ, Bool, Vec, Global, length}
+use Rattle.std.proofs.Common.{take, ap, sym, subst, ◌∙◌, arith}
 use Rattle.count_core.specs.Marks.{with_flag}
 use Rattle.count_core.proofs.RowMarks.{looked_length, found_at, place_below}
 use Rattle.count_core.proofs.Mentions.{AreMentioned, mention_new, mention_old, mention_unknown}
 use Rattle.count_core.proofs.missing.mentioned.Goals as goal
-use Rattle.count_core.proofs.missing.mentioned.Goals.{in-Some+then-not-set_flag+in_ok-push, in-Some+else-not-set_flag, in_default}
+use Rattle.count_core.proofs.missing.mentioned.Goals.{in-Some+then-not-set_flag+in_ok-push}
+use Rattle.count_core.proofs.missing.mentioned.Goals.{in-Some+else-not-set_flag, in_default}
 
 pub looked_in-first-requires : goal.looked_in-first-requires
 looked_in-first-requires c = omega (

@@ -1,4 +1,5 @@
-use Rattle.std.proofs.Common.{◌≡◌, Some, arith, rules, length, ℕ, Vec, Global, [], ◌∷◌, ◌++◌, ap, sym, ◌∙◌}
+use Rattle.std.proofs.Common.{◌≡◌, Some, arith, rules, length, ℕ, Vec, Global, [], ◌∷◌, ◌++◌, ap}
+use Rattle.std.proofs.Common.{sym, ◌∙◌}
 use Rattle.std.proofs.lemmas.List.{append-nil}
 use Rattle.std.specs.List.{filter_map, cons_option, range_with_len}
 use Rattle.nest_core.specs.Museum.{place_code_of}

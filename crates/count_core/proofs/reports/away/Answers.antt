@@ -1,4 +1,5 @@
-use Rattle.std.proofs.Common.{ℕ, ◌<◌, Option, Vec, Global, All, sym, ap, subst, map, [], ◌∷◌, ◌++◌, ◌∙◌, arith, filter, length}
+use Rattle.std.proofs.Common.{ℕ, ◌<◌, Option, Vec, Global, All, sym, ap, subst, map, [], ◌∷◌, ◌++◌}
+use Rattle.std.proofs.Common.{◌∙◌, arith, filter, length}
 use Rattle.std.specs.List.{range_with_len}
 use Rattle.std.proofs.lemmas.List.{map-append}
 use Rattle.std.proofs.lemmas.List.Elements.{All-push}

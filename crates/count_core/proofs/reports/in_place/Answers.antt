@@ -1,4 +1,5 @@
-use Rattle.std.proofs.Common.{ℕ, ◌<◌, Vec, Global, All, [], ◌∷◌, ◌++◌, ap, sym, subst, ◌∙◌, arith, length}
+use Rattle.std.proofs.Common.{ℕ, ◌<◌, Vec, Global, All, [], ◌∷◌, ◌++◌, ap, sym, subst, ◌∙◌, arith}
+use Rattle.std.proofs.Common.{length}
 use Rattle.std.proofs.lemmas.List.Elements.{All-push}
 use Rattle.count_core.specs.Reports.{is_in}
 use Rattle.count_core.proofs.Ranges.{filter_with, filter_without}

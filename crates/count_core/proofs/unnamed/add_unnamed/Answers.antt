@@ -1,4 +1,5 @@
-use Rattle.std.proofs.Common.{◌≡◌, ◌==◌, ◌<◌, ◌++◌, ◌&&◌, ℕ, Bool, All, filter, length, map, ap, sym, subst, ◌∙◌}
+use Rattle.std.proofs.Common.{◌≡◌, ◌==◌, ◌<◌, ◌++◌, ◌&&◌, ℕ, Bool, All, filter, length, map, ap}
+use Rattle.std.proofs.Common.{sym, subst, ◌∙◌}
 use Rattle.std.proofs.lemmas.List.{length-map}
 use Rattle.std.specs.Prelude.{Vec}
 use Rattle.std.specs.declared.alloc.Global.{Global}
@@ -7,7 +8,8 @@ use Rattle.count_core.specs.Counts.{is_within}
 use Rattle.count_core.specs.Inside.{lists, list_at, outer_of, AreOuter}
 use Rattle.count_core.specs.Marks.{is_unflagged}
 use Rattle.count_core.proofs.OuterPlaces.{outer_within}
-use Rattle.count_core.proofs.Unflagged.{code_at, outer_at, unplaced_within, with_unflagged, without_unflagged}
+use Rattle.count_core.proofs.Unflagged.{code_at, outer_at, unplaced_within, with_unflagged}
+use Rattle.count_core.proofs.Unflagged.{without_unflagged}
 use Rattle.count_core.proofs.unnamed.add_unnamed.Goals as goal
 
 pub push_to_each-requires : goal.push_to_each-requires

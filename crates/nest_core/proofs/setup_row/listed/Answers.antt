@@ -1,5 +1,6 @@
 use Rattle.std.proofs.Common.{sym, ◌∙◌}
-use Rattle.nest_core.proofs.Listings.{box_listed, lent_listed, lent_refused, own_listed, own_refused, normal_refused}
+use Rattle.nest_core.proofs.Listings.{box_listed, lent_listed, lent_refused, own_listed}
+use Rattle.nest_core.proofs.Listings.{own_refused, normal_refused}
 use Rattle.nest_core.proofs.setup_row.listed.Goals as goal
 
 pub returns-in_err-thing-in-Own : goal.returns-in_err-thing-in-Own

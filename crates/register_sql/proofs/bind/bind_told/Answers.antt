@@ -4,7 +4,8 @@ use Rattle.sqlite.specs.State.{HasCleanDisk}
 use Rattle.register_store.specs.declared.store_fault.StoreFault.TheVariants.{OtherVersion, Damaged}
 use Rattle.register_sql.specs.Binding.{IsRefused, IsBoundAs}
 use Rattle.register_sql.specs.Says.{IsIdentity}
-use Rattle.register_sql.proofs.Binds.{new_there, weaker, weaker_err, bound_on, crash_on, refused_as, refused_on, other_fault, told_other, told_damaged}
+use Rattle.register_sql.proofs.Binds.{new_there, weaker, weaker_err, bound_on, crash_on, refused_as}
+use Rattle.register_sql.proofs.Binds.{refused_on, other_fault, told_other, told_damaged}
 use Rattle.register_sql.proofs.bind.bind_told.Goals as goal
 
 pub make_new-answer-requires-clause-new : goal.make_new-answer-requires-clause-new

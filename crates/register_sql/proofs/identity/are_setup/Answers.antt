@@ -1,4 +1,5 @@
-use Rattle.std.proofs.Common.{◌≡◌, ◌≢◌, ◌<◌, map, length, get_or, string_bytes, rules, arith, refl, sym, ap, ◌∙◌}
+use Rattle.std.proofs.Common.{◌≡◌, ◌≢◌, ◌<◌, map, length, get_or, string_bytes, rules, arith, refl}
+use Rattle.std.proofs.Common.{sym, ap, ◌∙◌}
 use Rattle.std.proofs.lemmas.List.{length-map, get_or-map, take_all}
 use Rattle.register_sql.specs.Says.{setup_rows_shown}
 use Rattle.register_sql.proofs.Setups.{not_as_many, not_there, one_further}

@@ -6,7 +6,8 @@ use Rattle.register_store.specs.Holdings.{Comes, IsNotBound}
 use Rattle.register_store.specs.declared.store_fault.StoreFault.{StoreFault}
 use Rattle.register_sql.specs.Binding.{IsRefused, IsBoundAs, LeavesBound}
 use Rattle.register_sql.specs.Stores.{in_store}
-use Rattle.register_sql.proofs.Holds.{Laws, bound_has, bound_comes, refused_comes, failed_comes, still_unbound}
+use Rattle.register_sql.proofs.Holds.{Laws, bound_has, bound_comes, refused_comes, failed_comes}
+use Rattle.register_sql.proofs.Holds.{still_unbound}
 use Rattle.register_sql.proofs.link.bind_store.Goals as goal
 
 pub returns-in-Some-clause-refused : goal.returns-in-Some-clause-refused

@@ -6,7 +6,8 @@ use Rattle.register_store.specs.Holdings.{Comes}
 use Rattle.register_sql.specs.Migrating.{IsNotMigrated, IsLeft, LeavesMoved}
 use Rattle.register_sql.specs.Stores.{in_store}
 use Rattle.register_sql.proofs.Holds.{Laws}
-use Rattle.register_sql.proofs.Moved.{answer_kept, ok_comes, ok_completed, err_comes, unmoved_comes, still_unmoved}
+use Rattle.register_sql.proofs.Moved.{answer_kept, ok_comes, ok_completed, err_comes, unmoved_comes}
+use Rattle.register_sql.proofs.Moved.{still_unmoved}
 use Rattle.register_sql.proofs.link.migrate_store.Goals as goal
 
 pub returns-in-Some-clause-refused : goal.returns-in-Some-clause-refused

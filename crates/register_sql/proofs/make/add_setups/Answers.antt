@@ -1,4 +1,5 @@
-use Rattle.std.proofs.Common.{◌≡◌, ◌∷◌, get_or, subst, ap, arith, rules, drop, ◌+◌, map, refl, pos, ◌∙◌}
+use Rattle.std.proofs.Common.{◌≡◌, ◌∷◌, get_or, subst, ap, arith, rules, drop, ◌+◌, map, refl, pos}
+use Rattle.std.proofs.Common.{◌∙◌}
 use Rattle.std.specs.Prelude.{string_bytes}
 use Rattle.std.proofs.lemmas.List.{drop_all}
 use Rattle.sqlite.specs.Held.{state}

@@ -9,7 +9,9 @@ use Rattle.register_sql.specs.Migrating.{IsRaised, IsLeft}
 use Rattle.register_sql.specs.Queries.{IsPart}
 use Rattle.register_sql.specs.Says.{setup_rows_shown, setup_in}
 use Rattle.register_sql.proofs.Binds.{other_fault, weaker_err}
-use Rattle.register_sql.proofs.Migrations.{left_as, left_unfit, other_tables, has_another_setup, first_of, first_on, raised_on, left_on, crash_on, weaker_ok}
+use Rattle.register_sql.proofs.Migrations.{left_as, left_unfit, other_tables, has_another_setup}
+use Rattle.register_sql.proofs.Migrations.{first_of, first_on, raised_on, left_on, crash_on}
+use Rattle.register_sql.proofs.Migrations.{weaker_ok}
 use Rattle.register_sql.proofs.Rising.{part_same}
 use Rattle.register_sql.proofs.migrate.compare_first.Goals as goal
 

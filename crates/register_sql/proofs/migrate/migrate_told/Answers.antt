@@ -5,7 +5,9 @@ use Rattle.register_store.specs.declared.store_fault.StoreFault.TheVariants.{Oth
 use Rattle.register_sql.specs.Ages.{IsAged}
 use Rattle.register_sql.specs.Migrating.{IsRaised, IsLeft}
 use Rattle.register_sql.proofs.Binds.{other_fault, weaker_err}
-use Rattle.register_sql.proofs.Migrations.{left_as, says_nothing, says_other, says_damaged, second_as, told_on, raised_on, left_on, crash_on, weaker_ok}
+use Rattle.register_sql.proofs.Migrations.{left_as, says_nothing, says_other, says_damaged}
+use Rattle.register_sql.proofs.Migrations.{second_as, told_on, raised_on, left_on, crash_on}
+use Rattle.register_sql.proofs.Migrations.{weaker_ok}
 use Rattle.register_sql.proofs.Rising.{part_same}
 use Rattle.register_sql.proofs.migrate.migrate_told.Goals as goal
 

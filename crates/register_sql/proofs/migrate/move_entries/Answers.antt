@@ -1,4 +1,5 @@
-use Rattle.std.proofs.Common.{◌≡◌, ◌≢◌, true, ℕ, IfOk, IfErr, All, reverse, length, arith, rules, subst}
+use Rattle.std.proofs.Common.{◌≡◌, ◌≢◌, true, ℕ, IfOk, IfErr, All, reverse, length, arith, rules}
+use Rattle.std.proofs.Common.{subst}
 use Rattle.sqlite.specs.Held.{state}
 use Rattle.sqlite.specs.State.{HasCleanDisk, Survives}
 use Rattle.register_store.specs.Registers.{is_of_listing}
@@ -7,7 +8,8 @@ use Rattle.register_store.specs.declared.store_fault.StoreFault.TheVariants.{Sto
 use Rattle.register_sql.specs.Early.{IsEarlyOf, IsFirstEarlyWrong}
 use Rattle.register_sql.specs.Migrating.{IsLifted, LeavesLifted}
 use Rattle.register_sql.specs.Rows.{HasPart}
-use Rattle.register_sql.proofs.Migrations.{moved_of, moved_survives, list_left, metas_there, lines_there}
+use Rattle.register_sql.proofs.Migrations.{moved_of, moved_survives, list_left, metas_there}
+use Rattle.register_sql.proofs.Migrations.{lines_there}
 use Rattle.register_sql.proofs.Rising.{part_same}
 use Rattle.register_sql.proofs.migrate.move_entries.Goals as goal
 

@@ -4,7 +4,8 @@ use Rattle.sqlite.specs.Held.{state}
 use Rattle.sqlite.specs.State.{HasCleanDisk}
 use Rattle.register_sql.specs.Migrating.{IsRaised, IsLeft}
 use Rattle.register_sql.proofs.Binds.{weaker_err}
-use Rattle.register_sql.proofs.Migrations.{left_unfit, other_rowids, raisable_on, raised_on, left_on, crash_on, weaker_ok}
+use Rattle.register_sql.proofs.Migrations.{left_unfit, other_rowids, raisable_on, raised_on}
+use Rattle.register_sql.proofs.Migrations.{left_on, crash_on, weaker_ok}
 use Rattle.register_sql.proofs.migrate.move_first.Goals as goal
 
 pub returns-then-not-apart-clause-refused : goal.returns-then-not-apart-clause-refused

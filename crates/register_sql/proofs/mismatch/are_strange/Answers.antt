@@ -1,7 +1,8 @@
 use Rattle.std.proofs.Common.{ap, ◌∙◌, rules}
 use Rattle.std.proofs.lemmas.Bool.Decides.{not_from_Decides}
 use Rattle.register_store.specs.Plain.{held_lines, term_rows}
-use Rattle.register_sql.proofs.Stranger.{strange_spots, strange_lines, strange_terms, spots_told, lines_told, all_told}
+use Rattle.register_sql.proofs.Stranger.{strange_spots, strange_lines, strange_terms, spots_told}
+use Rattle.register_sql.proofs.Stranger.{lines_told, all_told}
 use Rattle.register_sql.proofs.mismatch.are_strange.Goals as goal
 
 pub returns-then-has_strange_spot-clause-told : goal.returns-then-has_strange_spot-clause-told

@@ -3,7 +3,8 @@ use Rattle.sqlite.specs.Held.{state}
 use Rattle.sqlite.specs.State.{HasCleanDisk}
 use Rattle.register_store.specs.Plain.{posting_row}
 use Rattle.register_store.specs.StoredRows.{spot_row, line_row, term_of, with_posted}
-use Rattle.register_sql.specs.Posting.{with_each, with_posting, with_spot, with_line, with_some_term}
+use Rattle.register_sql.specs.Posting.{with_each, with_posting, with_spot, with_line}
+use Rattle.register_sql.specs.Posting.{with_some_term}
 use Rattle.register_sql.proofs.Ends.{kept_then, survives_on, makes_then, makes_as}
 use Rattle.register_sql.proofs.Wholes.{posted_is}
 use Rattle.register_sql.proofs.put.put_rows.Goals as goal

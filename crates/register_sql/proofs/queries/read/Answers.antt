@@ -3,7 +3,8 @@ use Rattle.sqlite.specs.Held.{state}
 use Rattle.sqlite.specs.State.{HasCleanDisk, Shown, Survives, CommitsShowing}
 use Rattle.register_sql.specs.Queries.{text_of, tree_of}
 use Rattle.register_sql.specs.Tables.{prefix}
-use Rattle.register_sql.proofs.Asked.{listed, columns_of, names_of, rows_read, rows_ordered, rows_same}
+use Rattle.register_sql.proofs.Asked.{listed, columns_of, names_of, rows_read, rows_ordered}
+use Rattle.register_sql.proofs.Asked.{rows_same}
 use Rattle.register_sql.proofs.Listings.{lists_survives}
 use Rattle.register_sql.proofs.queries.read.Goals as goal
 

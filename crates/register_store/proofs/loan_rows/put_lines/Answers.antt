@@ -1,4 +1,5 @@
-use Rattle.std.proofs.Common.{rules, ◌≡◌, ◌+◌, ◌∷◌, drop, drop-cons, add-one, sym, subst, ap, ◌∙◌, arith, refl}
+use Rattle.std.proofs.Common.{rules, ◌≡◌, ◌+◌, ◌∷◌, drop, drop-cons, add-one, sym, subst, ap, ◌∙◌}
+use Rattle.std.proofs.Common.{arith, refl}
 use Rattle.std.specs.List.Sorted.{IsPermutation}
 use Rattle.std.proofs.lemmas.List.Sorted.{IsPermutation-trans}
 use Rattle.posting_core.specs.declared.entry.NewLine.{NewLine}

@@ -7,5 +7,6 @@ use Rattle.reports.proofs.field.spaced.Goals as goal
 pub returns : goal.returns
 returns c =
     let xs = c.args.codes.now in
-    let joined = joined_as string_bytes (codes " ") c.loop-i.texts.items xs (c.loop-i.invariant ∙ take_all c.loop-i.i xs (omega arith)) in
+    let joined = joined_as string_bytes (codes " ") c.loop-i.texts.items xs
+    (c.loop-i.invariant ∙ take_all c.loop-i.i xs (omega arith)) in
     search rules

@@ -11,15 +11,19 @@ loop-i-init g c = Appends-nil (g.W.Write.contents c.args.out.now)
 
 pub loop-i-preserved : goal.loop-i-preserved
 loop-i-preserved g c =
-    subst (Appends _ _) (sym (lines_more (line_text c.args.form (map (λ n. n.now) c.args.names.now)) (g.R.Rows.rows c.args.rows.now c.args.form) c.loop-i.i))
+    subst (Appends _ _) (sym (lines_more (line_text c.args.form (map (λ n. n.now) c.args.names.now))
+    (g.R.Rows.rows c.args.rows.now c.args.form) c.loop-i.i))
     (Appends-trans _ _ _ _ _ c.loop-i.invariant c.in_ok-print_row.ensures)
 
 pub returns-in_err-print_row : goal.returns-in_err-print_row
 returns-in_err-print_row g c =
     prints_err _ _ c.from_residual.result _ _ c.from_residual.ensures.1
-    (broken_at _ _ _ (line_text c.args.form (map (λ n. n.now) c.args.names.now)) (g.R.Rows.rows c.args.rows.now c.args.form) c.loop-i.i c.loop-i.invariant c.in_err-print_row.ensures)
+    (broken_at _ _ _ (line_text c.args.form (map (λ n. n.now) c.args.names.now)) (g.R.Rows.rows
+    c.args.rows.now c.args.form) c.loop-i.i c.loop-i.invariant c.in_err-print_row.ensures)
 
 pub returns : goal.returns
 returns g c =
     let rows = g.R.Rows.rows c.args.rows.now c.args.form in
-    subst (λ rs. Appends (g.W.Write.contents c.args.out.now) (g.W.Write.contents c.loop-i.out) (lines_text c.args.form (map (λ n. n.now) c.args.names.now) rs)) (take_all c.loop-i.i rows (omega (arith, c.len-i-end.ensures))) c.loop-i.invariant
+    subst (λ rs. Appends (g.W.Write.contents c.args.out.now) (g.W.Write.contents c.loop-i.out)
+    (lines_text c.args.form (map (λ n. n.now) c.args.names.now) rs))
+    (take_all c.loop-i.i rows (omega (arith, c.len-i-end.ensures))) c.loop-i.invariant

@@ -4,10 +4,12 @@ use Rattle.reports.proofs.WrittenText.{front_longer, prints_after, prints_err}
 use Rattle.reports.proofs.rows.print_rows.Goals as goal
 
 pub returns-in_err-print_heading : goal.returns-in_err-print_heading
-returns-in_err-print_heading g c = prints_err _ _ c.from_residual.result _ _ c.from_residual.ensures.1 (front_longer _ _ _ _ c.in_err-print_heading.ensures)
+returns-in_err-print_heading g c = prints_err _ _ c.from_residual.result _ _
+    c.from_residual.ensures.1 (front_longer _ _ _ _ c.in_err-print_heading.ensures)
 
 pub returns : goal.returns
 returns g c =
     let names = map (λ n. n.now) c.args.names.now in
-    prints_after _ _ _ c.print_lines.result (heading c.args.form names) (lines_text c.args.form names (g.R.Rows.rows c.args.rows.now c.args.form))
+    prints_after _ _ _ c.print_lines.result (heading c.args.form names)
+    (lines_text c.args.form names (g.R.Rows.rows c.args.rows.now c.args.form))
     (c.in_ok-print_heading.ensures) c.print_lines.ensures

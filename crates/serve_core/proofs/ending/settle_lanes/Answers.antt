@@ -2,7 +2,8 @@ use Rattle.std.proofs.Common.{◌<◌, length, refl, ◌∙◌, arith}
 use Rattle.rtrb.specs.Ring.{SameConsumer}
 use Rattle.serve_core.specs.Lanes.{Begins, received_at}
 use Rattle.serve_core.specs.Sending.{IsSentTo, IsStill, sent_at}
-use Rattle.serve_core.proofs.Takings.{zip_length, zip_get, zip_set, zip_change, same_rings, ring_trans, received_kept, by_step}
+use Rattle.serve_core.proofs.Takings.{zip_length, zip_get, zip_set, zip_change, same_rings}
+use Rattle.serve_core.proofs.Takings.{ring_trans, received_kept, by_step}
 use Rattle.serve_core.proofs.Sendings.{all_still, still_trans, still_at, settled_at}
 use Rattle.serve_core.proofs.ending.settle_lanes.Goals as goal
 

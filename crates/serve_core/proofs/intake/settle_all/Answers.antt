@@ -1,6 +1,7 @@
 use Rattle.std.proofs.Common.{◌<◌, length, ◌∙◌, arith}
 use Rattle.serve_core.specs.Lanes.{IsEndOn, Begins, received_at, ended_at}
-use Rattle.serve_core.proofs.Takings.{zip_length, zip_get, zip_set, ends_set, received_kept, by_step, front_at}
+use Rattle.serve_core.proofs.Takings.{zip_length, zip_get, zip_set, ends_set, received_kept}
+use Rattle.serve_core.proofs.Takings.{by_step, front_at}
 use Rattle.serve_core.proofs.intake.settle_all.Goals as goal
 
 pub index_mut-requires-in-loop-i : goal.index_mut-requires-in-loop-i

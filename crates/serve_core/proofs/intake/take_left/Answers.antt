@@ -2,7 +2,9 @@ use Rattle.std.proofs.Common.{◌≡◌, ◌<◌, [], ◌∷◌, ◌++◌, lengt
 use Rattle.serve_core.specs.Logs.{dropped}
 use Rattle.serve_core.specs.Lanes.{IsEndOn, received_at, ended_at}
 use Rattle.serve_core.proofs.LogLemmas.{err_any, serves_none, serves_then, serves_to_then}
-use Rattle.serve_core.proofs.Takings.{lines_then, takes_none, takes_then, takes_joined, zip_length, zip_get, zip_set, ends_set, by_step, drained_at, received_before}
+use Rattle.serve_core.proofs.Takings.{lines_then, takes_none, takes_then, takes_joined, zip_length}
+use Rattle.serve_core.proofs.Takings.{zip_get, zip_set, ends_set, by_step, drained_at}
+use Rattle.serve_core.proofs.Takings.{received_before}
 use Rattle.serve_core.proofs.intake.take_left.Goals as goal
 
 pub loop-i-init : goal.loop-i-init

@@ -1,4 +1,5 @@
-use Rattle.std.proofs.Common.{◌<◌, [], ◌∷◌, ◌++◌, length, refl, ◌∙◌, sym, arith, length-append, append-nil}
+use Rattle.std.proofs.Common.{◌<◌, [], ◌∷◌, ◌++◌, length, refl, ◌∙◌, sym, arith, length-append}
+use Rattle.std.proofs.Common.{append-nil}
 use Rattle.serve_core.specs.Logs.{dropped}
 use Rattle.serve_core.proofs.LogLemmas.{err_any, serves_none, serves_then, serves_to}
 use Rattle.serve_core.proofs.Takings.{takes_none, takes_then, lines_then, ascends_more}

@@ -1,4 +1,5 @@
-use Rattle.std.proofs.Common.{◌≡◌, ◌<◌, List, [], ◌∷◌, ◌++◌, Err, length, All, true, inr, refl, ap, sym, append-nil, subst, arith}
+use Rattle.std.proofs.Common.{◌≡◌, ◌<◌, List, [], ◌∷◌, ◌++◌, Err, length, All, true, inr, refl, ap}
+use Rattle.std.proofs.Common.{sym, append-nil, subst, arith}
 use Rattle.std.proofs.lemmas.List.Elements.{All-nil}
 use Rattle.std.proofs.lemmas.Result.{on_ok_weaker, IfErr-weaker}
 use Rattle.rtrb.specs.Ring.{SameConsumer}
@@ -9,7 +10,8 @@ use Rattle.serve_core.specs.declared.sending.Sent.{Sent}
 use Rattle.serve_core.specs.Logs.{AreOfStations, dropped}
 use Rattle.serve_core.specs.Sending.{IsSentTo, IsStill, LeavesLanes, EndsLanes}
 use Rattle.serve_core.proofs.LogLemmas.{serves_none}
-use Rattle.serve_core.proofs.Sendings.{ends_on, none_left, missing_lanes, stops_lanes_after, left_front, left_whole}
+use Rattle.serve_core.proofs.Sendings.{ends_on, none_left, missing_lanes, stops_lanes_after}
+use Rattle.serve_core.proofs.Sendings.{left_front, left_whole}
 use Rattle.serve_core.proofs.Takings.{zip_length, front_of_left}
 use Rattle.serve_core.proofs.serving.finish_all.Goals as goal
 

@@ -4,7 +4,8 @@ use Rattle.serve_core.specs.declared.item.LogLine.{LogLine}
 use Rattle.serve_core.specs.Logs.{Serves, ServesTo, dropped}
 use Rattle.serve_core.specs.Sending.{IsMerge, AreFronts, AfterFault, EndsLanes, Sends, serve_fault}
 use Rattle.serve_core.proofs.LogLemmas.{serves_then}
-use Rattle.serve_core.proofs.Sendings.{back_to, back_of, fronts_stopped, stops_after, ends_after, merged, log_whole, hub_named}
+use Rattle.serve_core.proofs.Sendings.{back_to, back_of, fronts_stopped, stops_after, ends_after}
+use Rattle.serve_core.proofs.Sendings.{merged, log_whole, hub_named}
 use Rattle.serve_core.proofs.Takings.{zip_length, some_then_none, takes_is_some}
 use Rattle.serve_core.proofs.serving.take_all.Goals as goal
 

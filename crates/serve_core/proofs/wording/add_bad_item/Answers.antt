@@ -1,4 +1,5 @@
-use Rattle.std.proofs.Common.{◌≡◌, ◌∙◌, ◌+◌, ◌++◌, ℕ, List, ap, append_assoc, arith, codes, length, length-append, rules, string_bytes, string_len}
+use Rattle.std.proofs.Common.{◌≡◌, ◌∙◌, ◌+◌, ◌++◌, ℕ, List, ap, append_assoc, arith, codes, length}
+use Rattle.std.proofs.Common.{length-append, rules, string_bytes, string_len}
 use Rattle.hub_core.specs.Replies.{bad_line}
 use Rattle.serve_core.proofs.Adding.{adds_after}
 use Rattle.serve_core.proofs.wording.add_bad_item.Goals as goal

@@ -1,4 +1,5 @@
-use Rattle.std.proofs.Common.{arith, rules, ◌∙◌, sym, ap, subst, ◌≡◌, ◌≤ℤ◌, FitsSigned, w16, w32, w64, to_z, of_z}
+use Rattle.std.proofs.Common.{arith, rules, ◌∙◌, sym, ap, subst, ◌≡◌, ◌≤ℤ◌, FitsSigned, w16, w32}
+use Rattle.std.proofs.Common.{w64, to_z, of_z}
 use Rattle.std.proofs.lemmas.Int.{ints, to_z-of_z}
 use Rattle.jiff_core.specs.Date.{epoch_day}
 use Rattle.codes_core.specs.Day.{first_number, last_number, IsOnlySpelling, date_text, day_text}

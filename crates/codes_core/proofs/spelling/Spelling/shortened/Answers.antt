@@ -1,5 +1,7 @@
-use Rattle.std.proofs.Common.{◌≡◌, ◌+◌, ◌-◌, ◌≤◌, ℕ, List, take, drop, length, replicate, sym, ap, subst, ◌∙◌, arith}
-use Rattle.std.proofs.lemmas.List.{length-take-le, take-append-le, take-append-drop, drop-take, take-replicate}
+use Rattle.std.proofs.Common.{◌≡◌, ◌+◌, ◌-◌, ◌≤◌, ℕ, List, take, drop, length, replicate, sym, ap}
+use Rattle.std.proofs.Common.{subst, ◌∙◌, arith}
+use Rattle.std.proofs.lemmas.List.{length-take-le, take-append-le, take-append-drop, drop-take}
+use Rattle.std.proofs.lemmas.List.{take-replicate}
 use Rattle.std.specs.Str.{IsAscii}
 use Rattle.codes_core.proofs.spelling.Spelling.shortened.Goals as goal
 

@@ -1,4 +1,5 @@
-use Rattle.std.proofs.Common.{◌≡◌, ◌∙◌, ◌<◌, ◌++◌, ◌∷◌, [], sym, ap, subst, refl, length, List, ℕ, false, true≢false}
+use Rattle.std.proofs.Common.{◌≡◌, ◌∙◌, ◌<◌, ◌++◌, ◌∷◌, [], sym, ap, subst, refl, length, List, ℕ}
+use Rattle.std.proofs.Common.{false, true≢false}
 use Rattle.std.proofs.lemmas.Bool.{false≢true}
 use Rattle.posting_core.specs.declared.entry.Entry.{Entry}
 use Rattle.posting_core.specs.declared.message.Message.{Message}
@@ -10,7 +11,8 @@ use Rattle.hub_core.specs.declared.hub.answer.Answer.TheVariants.{Refused, Poste
 use Rattle.hub_core.specs.Points.{reply, due_with}
 use Rattle.hub_core.specs.StandsFor.{State, StandsFor, Stopped}
 use Rattle.hub_core.proofs.PostLemmas.{written, step_held, taken_unsigned}
-use Rattle.hub_core.proofs.StandLemmas.{refused_by, stands_refused, stands_taken, stands_stopped, reply_due, reply_counted, length_back}
+use Rattle.hub_core.proofs.StandLemmas.{refused_by, stands_refused, stands_taken, stands_stopped}
+use Rattle.hub_core.proofs.StandLemmas.{reply_due, reply_counted, length_back}
 use Rattle.hub_core.proofs.hub.Hub.arrive.Goals as goal
 
 pub returns-in-Some-clause-headline : goal.returns-in-Some-clause-headline

@@ -8,7 +8,8 @@ use Rattle.register_store.specs.Registers.{IsOfStation}
 use Rattle.register_store.specs.Holdings.{Each}
 use Rattle.hub_core.specs.Openings.{IsRestoreFault}
 use Rattle.hub_core.proofs.OpenLemmas.{all_few, goes_on}
-use Rattle.hub_core.proofs.PrepareLemmas.{is_listed, listed_still, still_on, not_listed, not_judged, not_agreed, restored_store}
+use Rattle.hub_core.proofs.PrepareLemmas.{is_listed, listed_still, still_on, not_listed, not_judged}
+use Rattle.hub_core.proofs.PrepareLemmas.{not_agreed, restored_store}
 use Rattle.hub_core.proofs.Written.{if_err}
 use Rattle.hub_core.proofs.hub.opening.restore.Goals as goal
 

@@ -4,7 +4,8 @@ use Rattle.station_core.specs.Runs.{Arrived, arrived}
 use Rattle.hub_core.specs.Posting.{StopsDue}
 use Rattle.posting_core.specs.declared.message.Message.{Message}
 use Rattle.posting_core.specs.Book.{Book}
-use Rattle.hub_core.proofs.PostLemmas.{IsPosted, written, written_again, posted_list, posted_step, caught_next, done_sign, next_follows}
+use Rattle.hub_core.proofs.PostLemmas.{IsPosted, written, written_again, posted_list, posted_step}
+use Rattle.hub_core.proofs.PostLemmas.{caught_next, done_sign, next_follows}
 use Rattle.hub_core.proofs.StopLemmas.{stopped_at}
 use Rattle.hub_core.proofs.StoreLemmas.{counts_ok}
 use Rattle.hub_core.proofs.Written.{on_err}

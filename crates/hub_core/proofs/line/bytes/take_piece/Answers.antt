@@ -3,7 +3,9 @@ use Rattle.std.specs.Io.KnownBytes.{Consumes}
 use Rattle.std.specs.Io.BufRead.{FillKeeps}
 use Rattle.std.proofs.BufReadLemmas.{Consumes_shown}
 use Rattle.hub_core.proofs.FeedLemmas.{Cut, cut_feed, cut_open, cut_input}
-use Rattle.hub_core.proofs.line.bytes.take_piece.Goals.{then-feed-there, else-feed-there+then-there-eq0, else-feed-there+else-there-eq0}
+use Rattle.hub_core.proofs.line.bytes.take_piece.Goals.{then-feed-there}
+use Rattle.hub_core.proofs.line.bytes.take_piece.Goals.{else-feed-there+then-there-eq0}
+use Rattle.hub_core.proofs.line.bytes.take_piece.Goals.{else-feed-there+else-there-eq0}
 use Rattle.hub_core.proofs.line.bytes.take_piece.Goals as goal
 
 pub returns-clause-piece : goal.returns-clause-piece

@@ -1,4 +1,5 @@
-use Rattle.std.proofs.Common.{◌≡◌, false, List, ℕ, string_bytes, arith, rules, subst, sym, true≢false}
+use Rattle.std.proofs.Common.{◌≡◌, false, List, ℕ, string_bytes, arith, rules, subst, sym}
+use Rattle.std.proofs.Common.{true≢false}
 use Rattle.std.proofs.lemmas.Bool.Decides.{nat_tests}
 use Rattle.hub_core.specs.Lines.{is_empty}
 use Rattle.hub_core.specs.LineText.{is_too_long, read_reply, sent}

@@ -1,4 +1,5 @@
-use Rattle.std.proofs.Common.{◌≡◌, ◌≤◌, ◌+◌, ◌++◌, length, flat_map, take, string_bytes, string_len, string_capacity}
+use Rattle.std.proofs.Common.{◌≡◌, ◌≤◌, ◌+◌, ◌++◌, length, flat_map, take, string_bytes, string_len}
+use Rattle.std.proofs.Common.{string_capacity}
 use Rattle.hub_core.proofs.line.wording.add.Given as goal
 
 abbrev pub invariant-loop-piece : goal.invariant-loop-piece

@@ -1,4 +1,5 @@
-use Rattle.std.proofs.Common.{◌≡◌, ◌≤◌, ◌+◌, ◌++◌, length, string_bytes, string_len, string_capacity, take, codes}
+use Rattle.std.proofs.Common.{◌≡◌, ◌≤◌, ◌+◌, ◌++◌, length, string_bytes, string_len}
+use Rattle.std.proofs.Common.{string_capacity, take, codes}
 use Rattle.std.specs.Prelude.{flat_map}
 use Rattle.hub_core.specs.LineText.{container_text}
 use Rattle.hub_core.proofs.line.wording.add_chain.Given as goal

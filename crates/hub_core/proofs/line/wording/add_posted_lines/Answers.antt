@@ -1,4 +1,6 @@
-use Rattle.std.proofs.Common.{◌∙◌, ◌++◌, ◌+◌, ◌≤◌, List, ℕ, length, take, ap, sym, append-nil, length-append, true≢false, string_bytes, string_len, string_capacity, rules, arith}
+use Rattle.std.proofs.Common.{◌∙◌, ◌++◌, ◌+◌, ◌≤◌, List, ℕ, length, take, ap, sym, append-nil}
+use Rattle.std.proofs.Common.{length-append, true≢false, string_bytes, string_len, string_capacity}
+use Rattle.std.proofs.Common.{rules, arith}
 use Rattle.std.specs.Prelude.{reverse}
 use Rattle.posting_core.specs.VerdictNames.{verdict_name}
 use Rattle.hub_core.specs.Replies.{posted_line}

@@ -2,7 +2,10 @@ use Rattle.std.proofs.Common.{◌≡◌, ◌≤◌, ◌⊎◌, ◌∙◌, ap, sy
 use Rattle.hub_core.specs.Lines.{is_empty, without_return}
 use Rattle.hub_core.proofs.LineTaken.{line_fed, line_last, line_open}
 use Rattle.hub_core.proofs.HeadLemmas.{line_too_long, line_fits}
-use Rattle.hub_core.proofs.stream.head.next_head_line.Goals.{else-len-room-via-then-len-room+else-not-is_blank, else-len-room-via-else-len-room}
+use Rattle.hub_core.proofs.stream.head.next_head_line.Goals.{
+  else-len-room-via-then-len-room+else-not-is_blank,
+}
+use Rattle.hub_core.proofs.stream.head.next_head_line.Goals.{else-len-room-via-else-len-room}
 use Rattle.hub_core.proofs.stream.head.next_head_line.Goals as goal
 
 pub returns-in-Feed-clause-line : goal.returns-in-Feed-clause-line

@@ -1,10 +1,12 @@
-use Rattle.std.proofs.Common.{◌≡◌, ◌++◌, ◌∙◌, ap, sym, refl, inl, List, ℕ, length, Bool, true, false, rules, arith}
+use Rattle.std.proofs.Common.{◌≡◌, ◌++◌, ◌∙◌, ap, sym, refl, inl, List, ℕ, length, Bool, true}
+use Rattle.std.proofs.Common.{false, rules, arith}
 use mir.Val.{bool_byte}
 use Rattle.hub_core.specs.declared.run_fault.RunFault.TheVariants.{NoMemory}
 use Rattle.hub_core.specs.Reading.{feed_if}
 use Rattle.hub_core.specs.Lines.{is_empty, without_return}
 use Rattle.hub_core.proofs.Written.{if_err}
-use Rattle.hub_core.proofs.HeadTaken.{stops_between, stops_in_line, ends_there, too_long_there, last_there, more_there, unkept_there}
+use Rattle.hub_core.proofs.HeadTaken.{stops_between, stops_in_line, ends_there, too_long_there}
+use Rattle.hub_core.proofs.HeadTaken.{last_there, more_there, unkept_there}
 use Rattle.hub_core.proofs.stream.head.read_head.Goals as goal
 
 -- the length of the line feed

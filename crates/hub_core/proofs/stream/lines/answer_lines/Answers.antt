@@ -4,7 +4,10 @@ use Rattle.hub_core.specs.declared.replay_fault.ReplayFault.TheVariants.{WriteFa
 use Rattle.hub_core.specs.Lines.{without_return}
 use Rattle.hub_core.specs.LineText.{arrivals}
 use Rattle.hub_core.proofs.Written.{if_ok}
-use Rattle.hub_core.proofs.ReplayLemmas.{watch_start, line_read, fault_line, fault_memory, fault_write, fault_flush, answered_last, watched_last, watched_more, told_at, came_at, some_at, read_out, after_hub, after_other, ends_fault, ends_err, ends_flush}
+use Rattle.hub_core.proofs.ReplayLemmas.{watch_start, line_read, fault_line, fault_memory}
+use Rattle.hub_core.proofs.ReplayLemmas.{fault_write, fault_flush, answered_last, watched_last}
+use Rattle.hub_core.proofs.ReplayLemmas.{watched_more, told_at, came_at, some_at, read_out}
+use Rattle.hub_core.proofs.ReplayLemmas.{after_hub, after_other, ends_fault, ends_err, ends_flush}
 use Rattle.hub_core.proofs.stream.lines.answer_lines.Goals as goal
 
 pub loop-number-init : goal.loop-number-init

@@ -1,13 +1,18 @@
-use Rattle.std.proofs.Common.{rules, ◌≡◌, ◌<◌, ◌≤◌, true, is_none, sym, subst, ◌∙◌, None, false, length, arith}
+use Rattle.std.proofs.Common.{rules, ◌≡◌, ◌<◌, ◌≤◌, true, is_none, sym, subst, ◌∙◌, None, false}
+use Rattle.std.proofs.Common.{length, arith}
 use Rattle.std.specs.Option.{option_and_then}
 use Rattle.nest_core.specs.declared.TheConstants.{MOST_THINGS}
 use Rattle.nest_core.specs.Museum.{Museum, find_place, find_thing}
 use Rattle.nest_core.specs.SetupRows.{lacks_normal}
 use Rattle.nest_core.specs.declared.setup_row.SetupRow.TheVariants as lists
-use Rattle.nest_core.proofs.Museums.{IsMuseum-thing, normal_missing, normal_there, normal_unasked, thing_added, thing_row_right, things_full}
+use Rattle.nest_core.proofs.Museums.{IsMuseum-thing, normal_missing, normal_there, normal_unasked}
+use Rattle.nest_core.proofs.Museums.{thing_added, thing_row_right, things_full}
 use Rattle.nest_core.proofs.Positions.{insert_new, not_found}
 use Rattle.nest_core.proofs.setup.Setup.add_thing.Goals as goal
-use Rattle.nest_core.proofs.setup.Setup.add_thing.Goals.{else-is_some-2-via-then-is_some-2+else-is_none, else-is_some-2-via-else-is_some-2}
+use Rattle.nest_core.proofs.setup.Setup.add_thing.Goals.{
+  else-is_some-2-via-then-is_some-2+else-is_none,
+}
+use Rattle.nest_core.proofs.setup.Setup.add_thing.Goals.{else-is_some-2-via-else-is_some-2}
 
 pub invariant_of-self-2 : goal.invariant_of-self-2
 invariant_of-self-2 c =

@@ -1,6 +1,7 @@
 use Rattle.std.proofs.Common.{Some, ◌∙◌, ap, sym}
 use Rattle.nest_core.proofs.Outcomes.{match_err}
-use Rattle.nest_core.proofs.Tables.{is_text, never_both, no_fault, no_station, no_text, not_csv, row_first}
+use Rattle.nest_core.proofs.Tables.{is_text, never_both, no_fault, no_station, no_text, not_csv}
+use Rattle.nest_core.proofs.Tables.{row_first}
 use Rattle.nest_core.proofs.setup.Setup.read.Goals as goal
 
 pub returns-in_default-clause-exact : goal.returns-in_default-clause-exact

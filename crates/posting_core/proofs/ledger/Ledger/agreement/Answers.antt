@@ -12,7 +12,8 @@ index-number-requires c =
     omega (arith, within)
 
 pub overflow_sub-number : goal.overflow_sub-number
-overflow_sub-number c = number_some c.args.self.now.posted (agreed_kept c.self.invariant c.self.view_is)
+overflow_sub-number c =
+    number_some c.args.self.now.posted (agreed_kept c.self.invariant c.self.view_is)
     c.args.loan.now c.in_ok-i.i (sym c.in_ok-i.ensures.number) c.index-number.result.now
     c.index-number.ensures
 
@@ -25,7 +26,8 @@ index-requires c =
     omega (arith, within)
 
 pub returns-clause-agreement : goal.returns-clause-agreement
-returns-clause-agreement c = entry_makes c.args.self.now.posted (agreed_kept c.self.invariant c.self.view_is)
+returns-clause-agreement c =
+    entry_makes c.args.self.now.posted (agreed_kept c.self.invariant c.self.view_is)
     c.args.loan.now c.in_ok-i.i (sym c.in_ok-i.ensures.number) c.self.inside.posted.items
     c.index-number.result.now c.index.result.now (ap (λ (B : Book). B.posted) c.self.view_is)
     c.index-number.ensures c.index.ensures

@@ -9,7 +9,9 @@ use Rattle.nest_core.proofs.Outcomes.{at_err}
 use Rattle.posting_core.specs.declared.entry.Entry.{Entry}
 use Rattle.posting_core.specs.declared.entry.Spot.{Spot}
 use Rattle.posting_core.specs.Rows.{rows_after}
-use Rattle.posting_core.proofs.Posted.{planned, planned_within, planned_put, planned_carried, planned_agree, planned_loan, planned_station, kept_still, kept_after}
+use Rattle.posting_core.proofs.Posted.{planned, planned_within, planned_put, planned_carried}
+use Rattle.posting_core.proofs.Posted.{planned_agree, planned_loan, planned_station, kept_still}
+use Rattle.posting_core.proofs.Posted.{kept_after}
 use Rattle.posting_core.proofs.ledger.Ledger.apply.Goals as goal
 
 pub push_all-requires-clause-within : goal.push_all-requires-clause-within
@@ -96,7 +98,12 @@ returns-in_err-reserve-2-clause-err c =
 
 pub invariant_of-self-in_err-place : goal.invariant_of-self-in_err-place
 invariant_of-self-in_err-place c =
-    rw (c.in_err-place.ensures.unchanged, c.reserve-3.ensures.items, c.reserve-2.ensures.items, c.reserve.ensures.rows)
+    rw (
+      c.in_err-place.ensures.unchanged,
+      c.reserve-3.ensures.items,
+      c.reserve-2.ensures.items,
+      c.reserve.ensures.rows,
+    )
     c.self.invariant
 
 pub returns-in_err-place-clause-err : goal.returns-in_err-place-clause-err

@@ -1,4 +1,5 @@
-use Rattle.std.proofs.Common.{ap, ◌∙◌, ◌≡◌, ◌+◌, ◌∷◌, ◌++◌, [], ℕ, List, length, slice_set, subst, sym, arith, All}
+use Rattle.std.proofs.Common.{ap, ◌∙◌, ◌≡◌, ◌+◌, ◌∷◌, ◌++◌, [], ℕ, List, length, slice_set, subst}
+use Rattle.std.proofs.Common.{sym, arith, All}
 use Rattle.posting_core.specs.declared.spot_rows.KeptSpot.{KeptSpot}
 use Rattle.posting_core.specs.SpotRows.{Rows, IsLast}
 use Rattle.posting_core.proofs.SpotRows.{rows_of, is_last, row_at, pushed_kept, pushed_rows}

@@ -3,7 +3,8 @@ use Rattle.register_store.specs.Plain.{Kept, held_lines, term_rows}
 use Rattle.register_store.specs.Holdings.{IsNotBound}
 use Rattle.register_store.specs.Registers.{bound_to}
 use Rattle.register_store.specs.declared.store_fault.StoreFault.TheVariants.{OtherSetup}
-use Rattle.register_store.proofs.Kept.{same_itself, comes_from, comes_by, refused_setup, fitted, bound_kept, bound_now}
+use Rattle.register_store.proofs.Kept.{same_itself, comes_from, comes_by, refused_setup, fitted}
+use Rattle.register_store.proofs.Kept.{bound_kept, bound_now}
 use Rattle.register_store.proofs.plain.PlainRegisterRegister.bind.Goals as goal
 
 pub returns-then-not-fits-clause-refused : goal.returns-then-not-fits-clause-refused

@@ -3,7 +3,8 @@ use Rattle.std.specs.List.Sorted.{IsPermutation}
 use Rattle.register_store.specs.Plain.{Kept, kept_row, has_same_key, held_lines, term_rows}
 use Rattle.register_store.specs.StoredRows.{put_each, term_of}
 use Rattle.register_store.specs.Holdings.{IsPosted}
-use Rattle.register_store.proofs.Kept.{same_itself, same_back, same_then, comes_from, posted_same, left_as_was}
+use Rattle.register_store.proofs.Kept.{same_itself, same_back, same_then, comes_from, posted_same}
+use Rattle.register_store.proofs.Kept.{left_as_was}
 use Rattle.register_store.proofs.TermRows.{with_term}
 use Rattle.register_store.proofs.plain.PlainRegisterRegister.post.Goals as goal
 

@@ -1,5 +1,6 @@
 use Rattle.station_core.proofs.SlotLemmas.{series_at_read}
-use Rattle.station_core.proofs.StationLemmas.{counted_among, unchanged_among, due_among, posted_among, stays_among}
+use Rattle.station_core.proofs.StationLemmas.{counted_among, unchanged_among, due_among}
+use Rattle.station_core.proofs.StationLemmas.{posted_among, stays_among}
 use Rattle.station_core.proofs.sequences.Sequences.next_due.Goals as goal
 
 pub returns-clause-none : goal.returns-clause-none

@@ -31,8 +31,12 @@ returns c =
     let B = c.args.self.now.ledger.now in
     let s = c.args.self.now.from - 1 in
     let within = numbered_within (entry_row_at B) s (length B.posted - s) c.args.i c.requires in
-    let entry : entry_row_at B (s + c.args.i) ≡ entry_row c.setup.result.now (c.start.result + c.args.i + 1) c.entry_at-entry.result.now
+    let entry : entry_row_at B (s + c.args.i)
+    ≡ entry_row c.setup.result.now (c.start.result + c.args.i + 1) c.entry_at-entry.result.now
     = ap (λ n. entry_row_at B (n + c.args.i)) (sym c.start.ensures)
-    ∙ (ap (λ o. option_map_or (entry_row B.museum (c.start.result + c.args.i + 1)) o []) c.entry_at-entry.ensures
-    ∙ ap (λ S. entry_row S (c.start.result + c.args.i + 1) c.entry_at-entry.result.now) (sym c.setup.ensures)) in
-    IfOk-weaker c.entry_row.result _ _ (λ row is. numbered_at (entry_row_at B) s (length B.posted - s) c.args.i within ∙ ap Some (entry ∙ sym is)) c.entry_row.ensures
+    ∙ (ap (λ o. option_map_or (entry_row B.museum (c.start.result + c.args.i + 1)) o [])
+    c.entry_at-entry.ensures
+    ∙ ap (λ S. entry_row S (c.start.result + c.args.i + 1) c.entry_at-entry.result.now)
+    (sym c.setup.ensures)) in
+    IfOk-weaker c.entry_row.result _ _ (λ row is. numbered_at (entry_row_at B) s
+    (length B.posted - s) c.args.i within ∙ ap Some (entry ∙ sym is)) c.entry_row.ensures

@@ -9,8 +9,10 @@ use Rattle.reports.proofs.reports.stations.StationsRows.row.Goals as goal
 pub overflow_cast-i : goal.overflow_cast-i
 overflow_cast-i c =
     let B = c.args.self.now.ledger.now in
-    let within = numbered_within (station_row B c.args.form) 0 (length B.museum.stations) c.args.i c.requires in
-    let few : length B.museum.stations ≤ 64 = subst (λ (S : Museum). length S.stations ≤ MOST_STATIONS) c.setup.ensures c.is_museum.ensures.few_stations in
+    let within = numbered_within (station_row B c.args.form) 0
+    (length B.museum.stations) c.args.i c.requires in
+    let few : length B.museum.stations ≤ 64 = subst (λ (S : Museum). length S.stations
+    ≤ MOST_STATIONS) c.setup.ensures c.is_museum.ensures.few_stations in
     omega (arith, within, few)
 
 pub station_row-requires : goal.station_row-requires
@@ -21,5 +23,7 @@ station_row-requires c =
 pub returns : goal.returns
 returns c =
     let B = c.args.self.now.ledger.now in
-    let within = numbered_within (station_row B c.args.form) 0 (length B.museum.stations) c.args.i c.requires in
-    IfOk-weaker c.station_row.result _ _ (λ row is. numbered (station_row B c.args.form) (length B.museum.stations) c.args.i within ∙ ap Some (sym is)) c.station_row.ensures
+    let within = numbered_within (station_row B c.args.form) 0
+    (length B.museum.stations) c.args.i c.requires in
+    IfOk-weaker c.station_row.result _ _ (λ row is. numbered (station_row B c.args.form)
+    (length B.museum.stations) c.args.i within ∙ ap Some (sym is)) c.station_row.ensures
