@@ -1,8 +1,11 @@
 //! The `note:` lines on standard error after a command that is done.
 
 use crate::visible::add_on_one_line;
+use codes_core::{ThingCode, ThingKind};
 use hub_core::Hub;
+use nest_core::Setup;
 use register_store::Register;
+use reports::Question;
 use std::alloc::AllocError;
 
 /// Appends the note about a new store.
@@ -10,6 +13,36 @@ pub fn add_new_store(notes: &mut String, path: &str) -> Result<(), AllocError> {
     notes.push_str("note: new store ")?;
     add_on_one_line(notes, path)?;
     notes.push_str("\n")
+}
+
+/// Appends a note if the report on this question prints no row because the setup does not have the
+/// code, or because an object has no contents.
+pub fn add_unanswered(
+    notes: &mut String,
+    setup: &Setup,
+    question: &Question,
+) -> Result<(), AllocError> {
+    match question {
+        Question::At(place) if setup.place(place).is_none() => {
+            writeln!(notes, "note: {} is not in the setup", place.as_str())
+        }
+        Question::History(code) if setup.thing(code).is_none() => {
+            writeln!(notes, "note: {} is not in the setup", code.as_str())
+        }
+        Question::Contents(code) if is_object(setup, code) => {
+            writeln!(
+                notes,
+                "note: {} is an object; only containers have contents",
+                code.as_str()
+            )
+        }
+        _ => Ok(()),
+    }
+}
+
+/// Whether the setup has this code for an object.
+fn is_object(setup: &Setup, code: &ThingCode) -> bool {
+    setup.thing(code).is_some() && !matches!(code.kind(), ThingKind::Container)
 }
 
 /// Appends a note for each station that still has held messages. Held messages are not in the

@@ -5,7 +5,7 @@ ghost use Rattle.reports.specs.Forms.{Prints};
 ghost use Rattle.reports.specs.Reports.{report_text};
 
 use crate::fault::CommandFault;
-use crate::notes::{add_held, add_new_store};
+use crate::notes::{add_held, add_new_store, add_unanswered};
 use crate::serving::served;
 use crate::store::{self, Begins};
 use hub_core::{Hub, Watch, replay_watched};
@@ -240,7 +240,7 @@ fn done<
 {
     match work {
         Work::Replay => replayed(alloc, hub, watch, input, output, notes),
-        Work::Print(question, form) => printed(alloc, threads, hub, &question, form, output),
+        Work::Print(question, form) => printed(alloc, threads, hub, &question, form, output, notes),
         Work::Serve(feeds) => served(alloc, threads, hub, feeds, output, notes),
         // A hub opens only over a store of this version.
         Work::Migrate => (hub.close(), Ok(())),
@@ -272,10 +272,14 @@ fn printed<T: Threads + Sync, S: Register, W: Write>(
     question: &Question,
     form: Form,
     output: &mut W,
+    notes: &mut String,
 ) -> (S, Result<(), CommandFault>)
     ensures { Prints (W.contents output.old) (W.contents output.new) result.1
         (report_text form hub.book question.now) }
 {
+    if let Err(error) = add_unanswered(notes, hub.ledger().setup(), question) {
+        return (hub.close(), Err(CommandFault::from(error)));
+    }
     let ended = print(threads, alloc, hub.ledger(), question, form, output);
     (hub.close(), ended.map_err(CommandFault::from))
 }
