@@ -13,7 +13,7 @@ use Rattle.command_words.specs.Words.{GivesReport, HoldsReport, IsFaultBy, IsNoR
 use Rattle.command_words.specs.Words.{IsRefused}
 use Rattle.command_words.specs.Words.{format_in, kinds_by, report_kinds}
 use Rattle.command_words.specs.declared.command.Format.{Format}
-use Rattle.command_words.specs.declared.reading.Report.{Report}
+use Rattle.command_words.specs.declared.command.Report.{Report}
 use Rattle.command_words.specs.declared.command.WordsFault.{WordsFault}
 use Rattle.command_words.specs.declared.command.WordsFault.TheVariants.{Missing, NoMemory, Refused}
 

@@ -23,9 +23,11 @@ use Rattle.command_words.specs.Commands.{replay, serve}
 use Rattle.command_words.specs.Commands.{stations, where_is}
 use Rattle.command_words.specs.declared.reading.Files.{Files}
 use Rattle.command_words.specs.declared.reading.Record.{Record}
-use Rattle.command_words.specs.declared.reading.Report.{Report}
+use Rattle.command_words.specs.declared.command.Report.{Report}
 use Rattle.command_words.specs.declared.command.Format.{Format}
 use Rattle.command_words.specs.declared.command.Format.TheVariants.{Csv, Json, Lines}
+use Rattle.command_words.specs.declared.command.Asked.{Asked}
+use Rattle.command_words.specs.declared.command.Asked.TheVariants as asked
 use Rattle.command_words.specs.declared.command.Chosen.{Chosen}
 use Rattle.command_words.specs.declared.command.Chosen.TheVariants as command
 use Rattle.command_words.specs.declared.command.WordsFault.{WordsFault}
@@ -84,6 +86,38 @@ format_found rows =
 abbrev pub format_in : App → List Text → Option Format
 format_in app words = format_found (matches_of app words)
 
+-- The matches have both files and one form.
+abbrev pub HoldsReport : List Row → Report → Type 0
+HoldsReport rows report = (first_of (codes "setup") rows ≡ Some report.setup.now)
+    × (first_of (codes "store") rows ≡ Some report.store.now)
+    × (format_found rows ≡ Some report.format)
+
+-- The first word is this name, and the words of this report name both files and one form.
+abbrev pub IsReport : List Text → Text → App → Report → Type 0
+IsReport words name app report = IsNamed words name × HoldsReport (matches_of app words) report
+
+-- The words ask this question: the first is its command's name, and its value is the one that they
+-- have.
+abbrev pub IsAsked : List Text → Report → Asked → Type 0
+IsAsked words report (asked.Count list) = IsReport words (codes "count") count.app report
+    × (value count.app words (codes "list") ≡ Some list.now)
+IsAsked words report (asked.Overdue on) = IsReport words (codes "overdue") overdue.app report
+    × (value overdue.app words (codes "on") ≡ Some on.now)
+IsAsked words report asked.Away = IsReport words (codes "away") away.app report
+IsAsked words report (asked.History code) = IsReport words (codes "history") history.app report
+    × (value history.app words (codes "code") ≡ Some code.now)
+IsAsked words report asked.Stations = IsReport words (codes "stations") stations.app report
+IsAsked words report (asked.Where code) = IsReport words (codes "where") where_is.app report
+    × (value where_is.app words (codes "code") ≡ Some code.now)
+IsAsked words report (asked.Contents code) = IsReport words (codes "contents") contents.app report
+    × (value contents.app words (codes "code") ≡ Some code.now)
+IsAsked words report (asked.Loan code) = IsReport words (codes "loan") loan.app report
+    × (value loan.app words (codes "code") ≡ Some code.now)
+IsAsked words report (asked.At place) = IsReport words (codes "at") at.app report
+    × (value at.app words (codes "place") ≡ Some place.now)
+IsAsked words report (asked.Posted from) = IsReport words (codes "posted") posted.app report
+    × (value posted.app words (codes "from") ≡ text_of from)
+
 -- The first word is the command's name, and each of its values is the one that the words have.
 abbrev pub IsChosen : List Text → Chosen → Type 0
 IsChosen words (command.Replay setup store progress strict) = IsNamed words (codes "replay")
@@ -95,25 +129,6 @@ IsChosen words (command.Serve setup store feeds) = IsNamed words (codes "serve")
     × (value serve.app words (codes "setup") ≡ Some setup.now)
     × (value serve.app words (codes "store") ≡ text_of store)
     × (values serve.app words (codes "feeds") ≡ texts_of feeds.items)
-IsChosen words (command.Count setup store list format) = IsNamed words (codes "count")
-    × (value count.app words (codes "setup") ≡ Some setup.now)
-    × (value count.app words (codes "store") ≡ Some store.now)
-    × (value count.app words (codes "list") ≡ Some list.now)
-    × (format_in count.app words ≡ Some format)
-IsChosen words (command.Overdue setup store on format) = IsNamed words (codes "overdue")
-    × (value overdue.app words (codes "setup") ≡ Some setup.now)
-    × (value overdue.app words (codes "store") ≡ Some store.now)
-    × (value overdue.app words (codes "on") ≡ Some on.now)
-    × (format_in overdue.app words ≡ Some format)
-IsChosen words (command.Away setup store format) = IsNamed words (codes "away")
-    × (value away.app words (codes "setup") ≡ Some setup.now)
-    × (value away.app words (codes "store") ≡ Some store.now)
-    × (format_in away.app words ≡ Some format)
-IsChosen words (command.History setup store code format) = IsNamed words (codes "history")
-    × (value history.app words (codes "setup") ≡ Some setup.now)
-    × (value history.app words (codes "store") ≡ Some store.now)
-    × (value history.app words (codes "code") ≡ Some code.now)
-    × (format_in history.app words ≡ Some format)
 IsChosen words (command.Migrate setup store) = IsNamed words (codes "migrate")
     × (value migrate.app words (codes "setup") ≡ Some setup.now)
     × (value migrate.app words (codes "store") ≡ Some store.now)
@@ -125,35 +140,7 @@ IsChosen words (command.Explain name) = IsNamed words (codes "explain")
     × (value explain.app words (codes "name") ≡ Some name.now)
 IsChosen words (command.Help topic) = IsNamed words (codes "help")
     × (value help.app words (codes "topic") ≡ text_of topic)
-IsChosen words (command.Stations setup store format) = IsNamed words (codes "stations")
-    × (value stations.app words (codes "setup") ≡ Some setup.now)
-    × (value stations.app words (codes "store") ≡ Some store.now)
-    × (format_in stations.app words ≡ Some format)
-IsChosen words (command.Where setup store code format) = IsNamed words (codes "where")
-    × (value where_is.app words (codes "setup") ≡ Some setup.now)
-    × (value where_is.app words (codes "store") ≡ Some store.now)
-    × (value where_is.app words (codes "code") ≡ Some code.now)
-    × (format_in where_is.app words ≡ Some format)
-IsChosen words (command.Contents setup store code format) = IsNamed words (codes "contents")
-    × (value contents.app words (codes "setup") ≡ Some setup.now)
-    × (value contents.app words (codes "store") ≡ Some store.now)
-    × (value contents.app words (codes "code") ≡ Some code.now)
-    × (format_in contents.app words ≡ Some format)
-IsChosen words (command.Loan setup store code format) = IsNamed words (codes "loan")
-    × (value loan.app words (codes "setup") ≡ Some setup.now)
-    × (value loan.app words (codes "store") ≡ Some store.now)
-    × (value loan.app words (codes "code") ≡ Some code.now)
-    × (format_in loan.app words ≡ Some format)
-IsChosen words (command.At setup store place format) = IsNamed words (codes "at")
-    × (value at.app words (codes "setup") ≡ Some setup.now)
-    × (value at.app words (codes "store") ≡ Some store.now)
-    × (value at.app words (codes "place") ≡ Some place.now)
-    × (format_in at.app words ≡ Some format)
-IsChosen words (command.Posted setup store from format) = IsNamed words (codes "posted")
-    × (value posted.app words (codes "setup") ≡ Some setup.now)
-    × (value posted.app words (codes "store") ≡ Some store.now)
-    × (value posted.app words (codes "from") ≡ text_of from)
-    × (format_in posted.app words ≡ Some format)
+IsChosen words (command.Report report question) = IsAsked words report question
 
 -- The errors in the words of a report: those of `clap`, and then --csv and --json together,
 -- reported like any two options that exclude each other.
@@ -207,12 +194,6 @@ abbrev pub GivesRecord : App → List Text → Record → Type 0
 GivesRecord app words files = (fault_of app words ≡ [])
     × (value app words (codes "setup") ≡ Some files.setup.now)
     × (value app words (codes "store") ≡ Some files.store.now)
-
--- The matches have both files and one form.
-abbrev pub HoldsReport : List Row → Report → Type 0
-HoldsReport rows report = (first_of (codes "setup") rows ≡ Some report.setup.now)
-    × (first_of (codes "store") rows ≡ Some report.store.now)
-    × (format_found rows ≡ Some report.format)
 
 -- The words of a report have no error, and name both files and one form.
 abbrev pub GivesReport : App → List Text → Report → Type 0

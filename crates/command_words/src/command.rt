@@ -18,6 +18,39 @@ pub enum Format {
     Json,
 }
 
+/// The record that a report is about, and the form in which it is printed.
+#[derive(Clone, Copy)]
+pub struct Report<'a> {
+    pub setup: &'a str,
+    pub store: &'a str,
+    pub format: Format,
+}
+
+/// The question that a report answers, with the value that the words have for it.
+#[derive(Clone, Copy)]
+pub enum Asked<'a> {
+    /// How does this count list compare with the record?
+    Count(&'a str),
+    /// Which loans are overdue on this day?
+    Overdue(&'a str),
+    /// Which of the museum's own objects aren't at their normal locations?
+    Away,
+    /// Where has this thing been?
+    History(&'a str),
+    /// Which number does each station have to send next?
+    Stations,
+    /// Where is this thing?
+    Where(&'a str),
+    /// What is in this container?
+    Contents(&'a str),
+    /// What are this loan's terms and state, and the stages of its objects?
+    Loan(&'a str),
+    /// What is at this place?
+    At(&'a str),
+    /// Which entries were posted, from this entry on if it is given?
+    Posted(Option<&'a str>),
+}
+
 /// A command with its values, as the words have them. If no store is named, the record is in
 /// memory.
 #[derive(Drop)]
@@ -35,33 +68,6 @@ pub enum Chosen<'a> {
         setup: &'a str,
         store: Option<&'a str>,
         feeds: Vec<&'a str>,
-    },
-    /// Compares a count list with the record.
-    Count {
-        setup: &'a str,
-        store: &'a str,
-        list: &'a str,
-        format: Format,
-    },
-    /// Lists the loans that are overdue on a day.
-    Overdue {
-        setup: &'a str,
-        store: &'a str,
-        on: &'a str,
-        format: Format,
-    },
-    /// Lists the museum's own objects that aren't at their normal locations.
-    Away {
-        setup: &'a str,
-        store: &'a str,
-        format: Format,
-    },
-    /// Lists where a thing has been.
-    History {
-        setup: &'a str,
-        store: &'a str,
-        code: &'a str,
-        format: Format,
     },
     /// Migrates a store of the previous version to this version.
     Migrate {
@@ -83,47 +89,8 @@ pub enum Chosen<'a> {
     Help {
         topic: Option<&'a str>,
     },
-    /// Prints the number that each station has to send next.
-    Stations {
-        setup: &'a str,
-        store: &'a str,
-        format: Format,
-    },
-    /// Prints where a thing is.
-    Where {
-        setup: &'a str,
-        store: &'a str,
-        code: &'a str,
-        format: Format,
-    },
-    /// Lists what is in a container.
-    Contents {
-        setup: &'a str,
-        store: &'a str,
-        code: &'a str,
-        format: Format,
-    },
-    /// Prints a loan's terms, its state, and the stage of each of its objects.
-    Loan {
-        setup: &'a str,
-        store: &'a str,
-        code: &'a str,
-        format: Format,
-    },
-    /// Lists the things at a place.
-    At {
-        setup: &'a str,
-        store: &'a str,
-        place: &'a str,
-        format: Format,
-    },
-    /// Lists the entries, from a given entry on if there is one.
-    Posted {
-        setup: &'a str,
-        store: &'a str,
-        from: Option<&'a str>,
-        format: Format,
-    },
+    /// Prints a report on the record.
+    Report(Report<'a>, Asked<'a>),
 }
 
 /// Why the words choose no command. Refused comes before Missing, and NoMemory can come instead of

@@ -18,7 +18,7 @@
 //! ```text
 //! let words = complete(alloc, given, setup, store)?;
 //! match chosen(alloc, words.as_slice()) {
-//!     Ok(Chosen::Where { setup, store, code, format }) => ..,
+//!     Ok(Chosen::Report(report, Asked::Where(code))) => ..,
 //!     Err(fault) => fault.status(),
 //! }
 //! ```
@@ -34,4 +34,4 @@ mod shapes;
 mod texts;
 pub mod words;
 
-pub use command::{Chosen, Format, WordsFault};
+pub use command::{Asked, Chosen, Format, Report, WordsFault};

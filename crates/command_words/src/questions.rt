@@ -9,7 +9,7 @@ use crate::reading::{
     read_report, read_report_and, read_report_and_perhaps, read_word, read_word_if,
 };
 use crate::shapes::Name;
-use crate::{Chosen, WordsFault};
+use crate::{Asked, Chosen, WordsFault};
 use std::alloc::Global;
 
 pub(crate) fn explain<'a>(alloc: Global, words: &'a [&'a str]) -> Result<Chosen<'a>, WordsFault>
@@ -33,11 +33,7 @@ pub(crate) fn stations<'a>(alloc: Global, words: &'a [&'a str]) -> Result<Chosen
     ensures { Chooses (Some commands.stations) (texts_of words.now) result }
 {
     let report = read_report(alloc, Name::Stations, words)?;
-    Ok(Chosen::Stations {
-        setup: report.setup,
-        store: report.store,
-        format: report.format,
-    })
+    Ok(Chosen::Report(report, Asked::Stations))
 }
 
 pub(crate) fn where_is<'a>(alloc: Global, words: &'a [&'a str]) -> Result<Chosen<'a>, WordsFault>
@@ -45,12 +41,7 @@ pub(crate) fn where_is<'a>(alloc: Global, words: &'a [&'a str]) -> Result<Chosen
     ensures { Chooses (Some commands.where_is) (texts_of words.now) result }
 {
     let (report, code) = read_report_and(alloc, Name::Where, words, "code")?;
-    Ok(Chosen::Where {
-        setup: report.setup,
-        store: report.store,
-        code,
-        format: report.format,
-    })
+    Ok(Chosen::Report(report, Asked::Where(code)))
 }
 
 pub(crate) fn contents<'a>(alloc: Global, words: &'a [&'a str]) -> Result<Chosen<'a>, WordsFault>
@@ -58,12 +49,7 @@ pub(crate) fn contents<'a>(alloc: Global, words: &'a [&'a str]) -> Result<Chosen
     ensures { Chooses (Some commands.contents) (texts_of words.now) result }
 {
     let (report, code) = read_report_and(alloc, Name::Contents, words, "code")?;
-    Ok(Chosen::Contents {
-        setup: report.setup,
-        store: report.store,
-        code,
-        format: report.format,
-    })
+    Ok(Chosen::Report(report, Asked::Contents(code)))
 }
 
 pub(crate) fn loan<'a>(alloc: Global, words: &'a [&'a str]) -> Result<Chosen<'a>, WordsFault>
@@ -71,12 +57,7 @@ pub(crate) fn loan<'a>(alloc: Global, words: &'a [&'a str]) -> Result<Chosen<'a>
     ensures { Chooses (Some commands.loan) (texts_of words.now) result }
 {
     let (report, code) = read_report_and(alloc, Name::Loan, words, "code")?;
-    Ok(Chosen::Loan {
-        setup: report.setup,
-        store: report.store,
-        code,
-        format: report.format,
-    })
+    Ok(Chosen::Report(report, Asked::Loan(code)))
 }
 
 pub(crate) fn at<'a>(alloc: Global, words: &'a [&'a str]) -> Result<Chosen<'a>, WordsFault>
@@ -84,12 +65,7 @@ pub(crate) fn at<'a>(alloc: Global, words: &'a [&'a str]) -> Result<Chosen<'a>, 
     ensures { Chooses (Some commands.at) (texts_of words.now) result }
 {
     let (report, place) = read_report_and(alloc, Name::At, words, "place")?;
-    Ok(Chosen::At {
-        setup: report.setup,
-        store: report.store,
-        place,
-        format: report.format,
-    })
+    Ok(Chosen::Report(report, Asked::At(place)))
 }
 
 pub(crate) fn posted<'a>(alloc: Global, words: &'a [&'a str]) -> Result<Chosen<'a>, WordsFault>
@@ -97,10 +73,5 @@ pub(crate) fn posted<'a>(alloc: Global, words: &'a [&'a str]) -> Result<Chosen<'
     ensures { Chooses (Some commands.posted) (texts_of words.now) result }
 {
     let (report, from) = read_report_and_perhaps(alloc, Name::Posted, words, "from")?;
-    Ok(Chosen::Posted {
-        setup: report.setup,
-        store: report.store,
-        from,
-        format: report.format,
-    })
+    Ok(Chosen::Report(report, Asked::Posted(from)))
 }

@@ -12,7 +12,7 @@ ghost use Rattle.command_words.specs.Words.{is_true, text_of, texts_of, value, v
 ghost use Rattle.command_words.specs.declared.command.WordsFault.TheVariants.{Missing, NoMemory};
 
 use crate::shapes::{Name, bare, command_of};
-use crate::{Format, WordsFault};
+use crate::{Format, Report, WordsFault};
 use clap::error::ErrorKind;
 use clap::{ArgMatches, Command, Error};
 use std::alloc::{AllocError, Global};
@@ -29,14 +29,6 @@ pub(crate) struct Files<'a> {
 pub(crate) struct Record<'a> {
     pub setup: &'a str,
     pub store: &'a str,
-}
-
-/// The record that a report is about, and the form in which it is printed.
-#[derive(Clone, Copy)]
-pub(crate) struct Report<'a> {
-    pub setup: &'a str,
-    pub store: &'a str,
-    pub format: Format,
 }
 
 /// Returns `clap`'s matches for the words. Faults: Refused, if `clap` rejects the words; NoMemory

@@ -12,7 +12,7 @@ use crate::reading::{
     read_report, read_report_and,
 };
 use crate::shapes::{self, Name};
-use crate::{Chosen, WordsFault};
+use crate::{Asked, Chosen, WordsFault};
 use std::alloc::{AllocError, Global};
 
 /// Returns the command that the words choose. They are the words after the program's name. The
@@ -98,12 +98,7 @@ fn count<'a>(alloc: Global, words: &'a [&'a str]) -> Result<Chosen<'a>, WordsFau
     ensures { Chooses (Some commands.count) (texts_of words.now) result }
 {
     let (report, list) = read_report_and(alloc, Name::Count, words, "list")?;
-    Ok(Chosen::Count {
-        setup: report.setup,
-        store: report.store,
-        list,
-        format: report.format,
-    })
+    Ok(Chosen::Report(report, Asked::Count(list)))
 }
 
 fn overdue<'a>(alloc: Global, words: &'a [&'a str]) -> Result<Chosen<'a>, WordsFault>
@@ -111,12 +106,7 @@ fn overdue<'a>(alloc: Global, words: &'a [&'a str]) -> Result<Chosen<'a>, WordsF
     ensures { Chooses (Some commands.overdue) (texts_of words.now) result }
 {
     let (report, on) = read_report_and(alloc, Name::Overdue, words, "on")?;
-    Ok(Chosen::Overdue {
-        setup: report.setup,
-        store: report.store,
-        on,
-        format: report.format,
-    })
+    Ok(Chosen::Report(report, Asked::Overdue(on)))
 }
 
 fn away<'a>(alloc: Global, words: &'a [&'a str]) -> Result<Chosen<'a>, WordsFault>
@@ -124,11 +114,7 @@ fn away<'a>(alloc: Global, words: &'a [&'a str]) -> Result<Chosen<'a>, WordsFaul
     ensures { Chooses (Some commands.away) (texts_of words.now) result }
 {
     let report = read_report(alloc, Name::Away, words)?;
-    Ok(Chosen::Away {
-        setup: report.setup,
-        store: report.store,
-        format: report.format,
-    })
+    Ok(Chosen::Report(report, Asked::Away))
 }
 
 fn history<'a>(alloc: Global, words: &'a [&'a str]) -> Result<Chosen<'a>, WordsFault>
@@ -136,12 +122,7 @@ fn history<'a>(alloc: Global, words: &'a [&'a str]) -> Result<Chosen<'a>, WordsF
     ensures { Chooses (Some commands.history) (texts_of words.now) result }
 {
     let (report, code) = read_report_and(alloc, Name::History, words, "code")?;
-    Ok(Chosen::History {
-        setup: report.setup,
-        store: report.store,
-        code,
-        format: report.format,
-    })
+    Ok(Chosen::Report(report, Asked::History(code)))
 }
 
 fn migrate<'a>(alloc: Global, words: &'a [&'a str]) -> Result<Chosen<'a>, WordsFault>

@@ -2,4 +2,5 @@ mod CountLemmas
 mod NumberedRows
 mod Joins
 mod Members
+mod WorkedRows
 mod WrittenText
