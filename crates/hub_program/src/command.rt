@@ -3,17 +3,16 @@
 use crate::copying::copied;
 use crate::explain::explain;
 use crate::fault::CommandFault;
-use crate::files::{read_feeds, read_list, read_setup};
+use crate::files::{read_feeds, read_setup};
 use crate::help::help;
 use crate::lines::write_line;
 use crate::progress::Progress;
-use crate::request::{asked_of, form_of, question_of};
+use crate::request::{form_of, read_question};
 use crate::usage::on_missing;
 use crate::work::{Work, over_store};
 use command_words::words::chosen;
-use command_words::{Chosen, Format, WordsFault};
+use command_words::{Asked, Chosen, Report, WordsFault};
 use hub_core::{Tally, run};
-use reports::Question;
 use sqlite::Start;
 use std::alloc::Global;
 use std::io::{BufRead, Write};
@@ -48,7 +47,6 @@ pub fn command<
         return status(ended.map_err(CommandFault::from), output, errors);
     }
     match chosen(rt.alloc(), words) {
-        Ok(Chosen::Help { topic }) => help(rt.alloc(), topic, output, errors),
         Ok(chosen) => {
             let mut notes = String::new(rt.alloc());
             let ended = perform(
@@ -67,6 +65,8 @@ enum Ending {
     Done,
     /// The command is a strict replay. It is done, but a line was bad, refused or not applied.
     NotApplied,
+    /// The help is printed, and this is the exit status.
+    Printed(u8),
 }
 
 /// Flushes the output, writes the fault's line or, if there is no fault, the notes, and returns the
@@ -80,6 +80,7 @@ fn noted_status<W: Write, E: Write>(
     let (ended, status_if_done) = match ended {
         Ok(Ending::Done) => (Ok(()), 0),
         Ok(Ending::NotApplied) => (Ok(()), 1),
+        Ok(Ending::Printed(status)) => return status,
         Err(fault) => (Err(fault), 1),
     };
     match status(ended, output, errors) {
@@ -174,14 +175,6 @@ fn perform<
             };
             return replayed(rt, threads, wanted, start, input, output, errors, notes);
         }
-        Chosen::Count {
-            setup,
-            store,
-            list,
-            format,
-        } => counted(
-            rt, threads, setup, store, list, *format, start, input, output, notes,
-        ),
         Chosen::Explain { name } => explain(rt.alloc(), name, output),
         Chosen::Serve {
             setup,
@@ -202,7 +195,12 @@ fn perform<
             rt, threads, setup, store, start, input, output, notes,
         ),
         Chosen::Copy { setup, store, to } => copied(rt, setup, store, to, start, again, output),
-        _ => reported(rt, threads, chosen, start, input, output, notes),
+        Chosen::Report(report, asked) => reported(
+            rt, threads, *report, *asked, start, input, output, notes,
+        ),
+        Chosen::Help { topic } => {
+            return Ok(Ending::Printed(help(rt.alloc(), *topic, output, errors)));
+        }
     };
     ended?;
     Ok(Ending::Done)
@@ -273,70 +271,30 @@ fn replayed<
     Ok(Ending::Done)
 }
 
-/// Prints the command's report, unless it is a count.
+/// Prints the report on the record.
 fn reported<T: Threads + Wait + Sync + Copy + Send + 'static, S: Start, R: BufRead, W: Write>(
     rt: &HostRuntime,
     threads: &T,
-    chosen: &Chosen<'_>,
+    report: Report<'_>,
+    asked: Asked<'_>,
     start: S,
     input: &mut R,
     output: &mut W,
     notes: &mut String,
 ) -> Result<(), CommandFault> {
-    let asked = asked_of(chosen)?;
-    let question = question_of(chosen)?;
-    match read_setup(rt, rt.alloc(), asked.setup) {
-        Ok(setup) => over_store(
-            rt,
-            threads,
-            setup,
-            Some(asked.store),
-            start,
-            Work::Print(question, asked.form),
-            &mut Tally::new(),
-            input,
-            output,
-            notes,
-        ),
-        Err(fault) => {
-            drop(question);
-            Err(fault)
-        }
-    }
-}
-
-/// Reads the setup and the count list, and prints the report of the count.
-fn counted<T: Threads + Wait + Sync + Copy + Send + 'static, S: Start, R: BufRead, W: Write>(
-    rt: &HostRuntime,
-    threads: &T,
-    setup: &str,
-    store: &str,
-    list: &str,
-    format: Format,
-    start: S,
-    input: &mut R,
-    output: &mut W,
-    notes: &mut String,
-) -> Result<(), CommandFault> {
-    let setup = read_setup(rt, rt.alloc(), setup)?;
-    match read_list(rt, rt.alloc(), list) {
-        Ok(rows) => over_store(
-            rt,
-            threads,
-            setup,
-            Some(store),
-            start,
-            Work::Print(Question::Count(rows), form_of(format)),
-            &mut Tally::new(),
-            input,
-            output,
-            notes,
-        ),
-        Err(fault) => {
-            drop(setup);
-            Err(fault)
-        }
-    }
+    let (setup, question) = read_question(rt, report.setup, asked)?;
+    over_store(
+        rt,
+        threads,
+        setup,
+        Some(report.store),
+        start,
+        Work::Print(question, form_of(report.format)),
+        &mut Tally::new(),
+        input,
+        output,
+        notes,
+    )
 }
 
 /// Serves the files, one for each station in the setup's order, and prints the log. After a fault

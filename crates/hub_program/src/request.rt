@@ -1,81 +1,11 @@
-//! Turns a command into the question that its report answers.
+//! Turns the words of a report into the question that it answers.
 
 use crate::fault::CommandFault;
+use crate::files::{read_list, read_setup};
 use codes_core::{Day, LoanCode, PlaceCode, ThingCode};
-use command_words::{Chosen, Format};
+use command_words::{Asked, Format};
+use nest_core::Setup;
 use reports::{Form, Question};
-
-/// The record that a report is about, and the form in which it is printed.
-#[derive(Clone, Copy)]
-pub struct Asked<'a> {
-    pub setup: &'a str,
-    pub store: &'a str,
-    pub form: Form,
-}
-
-/// Returns the record that the command's report is about, and the report's form. Fault: Words, if
-/// the command has no report, or is a count.
-pub fn asked_of<'a>(chosen: &Chosen<'a>) -> Result<Asked<'a>, CommandFault> {
-    match chosen {
-        Chosen::Overdue {
-            setup,
-            store,
-            format,
-            ..
-        }
-        | Chosen::Away {
-            setup,
-            store,
-            format,
-        }
-        | Chosen::History {
-            setup,
-            store,
-            format,
-            ..
-        }
-        | Chosen::Stations {
-            setup,
-            store,
-            format,
-        }
-        | Chosen::Where {
-            setup,
-            store,
-            format,
-            ..
-        }
-        | Chosen::Contents {
-            setup,
-            store,
-            format,
-            ..
-        }
-        | Chosen::Loan {
-            setup,
-            store,
-            format,
-            ..
-        }
-        | Chosen::At {
-            setup,
-            store,
-            format,
-            ..
-        }
-        | Chosen::Posted {
-            setup,
-            store,
-            format,
-            ..
-        } => Ok(Asked {
-            setup,
-            store,
-            form: form_of(*format),
-        }),
-        _ => Err(CommandFault::Words(None)),
-    }
-}
 
 /// The form of a report.
 pub fn form_of(format: Format) -> Form {
@@ -86,21 +16,57 @@ pub fn form_of(format: Format) -> Form {
     }
 }
 
-/// Returns the question that the command's report answers. Faults: Day, Code or Number, if the
-/// argument is not in its form; Words, if the command has no report, or is a count.
-pub fn question_of(chosen: &Chosen<'_>) -> Result<Question, CommandFault> {
-    Ok(match chosen {
-        Chosen::Overdue { on, .. } => Question::Overdue(day(on)?),
-        Chosen::Away { .. } => Question::Away,
-        Chosen::History { code, .. } => Question::History(thing(code)?),
-        Chosen::Stations { .. } => Question::Stations,
-        Chosen::Where { code, .. } => Question::Where(thing(code)?),
-        Chosen::Contents { code, .. } => Question::Contents(thing(code)?),
-        Chosen::Loan { code, .. } => Question::Loan(loan(code)?),
-        Chosen::At { place: code, .. } => Question::At(place(code)?),
-        Chosen::Posted { from, .. } => Question::Posted(number(*from)?),
-        _ => return Err(CommandFault::Words(None)),
-    })
+/// Reads the setup, and returns it with the question that the words ask. Faults, in this order:
+/// Day, Code or Number, if the value is not in its form; those of the setup's file, and of the
+/// setup; those of the count list.
+pub fn read_question(
+    rt: &HostRuntime,
+    setup: &str,
+    asked: Asked<'_>,
+) -> Result<(Setup, Question), CommandFault> {
+    match asked {
+        Asked::Count(list) => read_count(rt, setup, list),
+        Asked::Overdue(on) => with_setup(rt, setup, Question::Overdue(day(on)?)),
+        Asked::Away => with_setup(rt, setup, Question::Away),
+        Asked::History(code) => with_setup(rt, setup, Question::History(thing(code)?)),
+        Asked::Stations => with_setup(rt, setup, Question::Stations),
+        Asked::Where(code) => with_setup(rt, setup, Question::Where(thing(code)?)),
+        Asked::Contents(code) => with_setup(rt, setup, Question::Contents(thing(code)?)),
+        Asked::Loan(code) => with_setup(rt, setup, Question::Loan(loan(code)?)),
+        Asked::At(code) => with_setup(rt, setup, Question::At(place(code)?)),
+        Asked::Posted(from) => with_setup(rt, setup, Question::Posted(number(from)?)),
+    }
+}
+
+/// Reads the setup, and returns it with the question.
+fn with_setup(
+    rt: &HostRuntime,
+    setup: &str,
+    question: Question,
+) -> Result<(Setup, Question), CommandFault> {
+    match read_setup(rt, rt.alloc(), setup) {
+        Ok(setup) => Ok((setup, question)),
+        Err(fault) => {
+            drop(question);
+            Err(fault)
+        }
+    }
+}
+
+/// Reads the setup and the count list.
+fn read_count(
+    rt: &HostRuntime,
+    setup: &str,
+    list: &str,
+) -> Result<(Setup, Question), CommandFault> {
+    let setup = read_setup(rt, rt.alloc(), setup)?;
+    match read_list(rt, rt.alloc(), list) {
+        Ok(rows) => Ok((setup, Question::Count(rows))),
+        Err(fault) => {
+            drop(setup);
+            Err(fault)
+        }
+    }
 }
 
 fn day(text: &str) -> Result<Day, CommandFault> {
