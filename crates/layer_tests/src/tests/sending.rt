@@ -4,7 +4,7 @@ use hub_core::{Answer, Arrival, Hub, HubFault};
 use nest_core::Setup;
 use posting_core::Verdict;
 use register_sql::SqlRegister;
-use register_store::{PlainRegister, Register, read_message};
+use register_store::{Register, read_message};
 use sqlite::{Alter, Connection, Files, Options};
 use sqlite_disk::Disk;
 use station_core::Refusal;
@@ -211,17 +211,4 @@ fn send_all<S: Register>(alloc: Global, hub: &mut Hub<S>) -> Option<Sent> {
         }
     }
     Some(sent)
-}
-
-/// A hub in memory that has the six messages.
-pub(crate) fn sent_in_memory(alloc: Global) -> Option<Hub<PlainRegister>> {
-    let setup = Setup::read(alloc, SETUP.as_bytes()).ok()?;
-    let mut hub = Hub::open(alloc, setup, PlainRegister::new(alloc)).ok()?;
-    let sent = send_all(alloc, &mut hub);
-    if sent.is_some_and(|sent| sent.posted == COUNT) {
-        Some(hub)
-    } else {
-        drop(hub);
-        None
-    }
 }
