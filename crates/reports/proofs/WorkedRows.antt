@@ -1,10 +1,11 @@
 -- The definitions computed on worked rows; the lines are as in docs/FORMATS.md and in cases/.
-use Rattle.std.specs.Prelude.{◌≡◌, ◌∷◌, ◌++◌, [], ℕ, List, None, Some, codes, false, map, pos}
+use Rattle.std.specs.Prelude.{◌≡◌, ◌∷◌, [], ℕ, List, None, Some, codes, false, map, pos}
 use Rattle.std.specs.Prelude.{refl, true}
 use Rattle.std.specs.Fmt.{digits}
 use Rattle.std.specs.List.{slice_get}
 use Rattle.csv.specs.Writing.{default_writer, escaped, fields_text, is_blank, row_text}
 use Rattle.serde_json.proofs.OnLiterals.{serde_json_on_literals}
+use Rattle.codes_core.specs.Day.{day_text}
 use Rattle.posting_core.specs.declared.message.Message.TheVariants.{Agree, Pack, SignOff}
 use Rattle.posting_core.specs.declared.entry.Entry.{Entry}
 use Rattle.posting_core.proofs.WorkedRows.{book, gal, may, moved, museum, pack, run}
@@ -17,7 +18,7 @@ use Rattle.reports.specs.Cells.{member, members, nothing, number, number_if, obj
 use Rattle.reports.specs.Cells.{plain_text, quoted, text, text_if, texts, words_line}
 use Rattle.reports.specs.CountRows.{answer_row, missing_row}
 use Rattle.reports.specs.Forms.{heading, line_text}
-use Rattle.reports.specs.Loans.{loan_rows, unknown_row}
+use Rattle.reports.specs.Loans.{unknown_row}
 use Rattle.reports.specs.Reports.{plain_rows, rows}
 use Rattle.reports.specs.Stations.{next_words, standing_row}
 use Rattle.reports.specs.Things.{place_row, spot_row}
@@ -189,10 +190,9 @@ where-line : words_line
     ≡ codes "2001.4.1 at S2 in C2 C1\n"
 where-line = refl
 
-spot-line : words_line (spot_row museum (record { entry = 5; place = 2; day = may }))
-    ≡ codes "5 2024-05-01 S2\n"
-unfolding digits
-spot-line = refl
+spot-cells : spot_row museum (record { entry = 5; place = 2; day = may })
+    ≡ number 5 ∷ text (day_text may) ∷ text (codes "S2") ∷ []
+spot-cells = refl
 
 elsewhere-line : words_line
     (answer_row museum Plain 2
@@ -272,10 +272,11 @@ agreed = run [] (
     (gal, Agree may (pos 19874) (codes "LO2024.1") (codes "MUSEUM-X") (codes "2001.4.1" ∷ []))
     ∷ [])
 
-agreed-loan : map words_line (plain_rows (book agreed) (question.Loan (codes "LO2024.1")))
-    ≡ codes "LO2024.1 Draft with MUSEUM-X from 2024-05-01 to 2024-05-31\n"
-    ∷ codes "2001.4.1 Awaiting\n" ∷ []
-unfolding digits
+agreed-loan : plain_rows (book agreed) (question.Loan (codes "LO2024.1"))
+    ≡ (text (codes "LO2024.1") ∷ text (codes "Draft") ∷ text (codes "with")
+    ∷ text (codes "MUSEUM-X") ∷ text (codes "from") ∷ text (day_text may) ∷ text (codes "to")
+    ∷ text (day_text (pos 19874)) ∷ [])
+    ∷ (text (codes "2001.4.1") ∷ text (codes "Awaiting") ∷ []) ∷ []
 agreed-loan = refl
 
 agreed-overdue : map words_line (plain_rows (book agreed) (question.Overdue (pos 19900))) ≡ []
