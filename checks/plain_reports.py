@@ -12,8 +12,8 @@ import tempfile
 import seeds
 import streams
 from plain import arrival
-from plain_book import chain, is_container, last_day, place, stage, targets
-from plain_store import loans, spots, text_of
+from plain_book import agreement, applied, chain, is_authorised, is_container, last_day, place, stage, targets
+from plain_store import day_number, loans, spots, text_of
 from plain_text import museum_of, read_line
 
 NORMAL = {"2001.4.1": "S1-A", "2001.4.2": "S1-A"}
@@ -47,6 +47,52 @@ class Record:
     def is_owed(self, loan):
         return any(stage(self.museum, self.posted, loan, thing) in STILL_OUT for thing in self.museum.things)
 
+    def stages(self, loan):
+        """Each object of a loan, with its stage."""
+        return [(thing, stage(self.museum, self.posted, loan, thing)) for thing in agreement(self.posted, loan)["objects"]]
+
+    def state(self, loan):
+        stages = [found for _, found in self.stages(loan)]
+        if not is_authorised(self.posted, loan):
+            return "Draft"
+        if all(found in ("Back", "GivenBack") for found in stages):
+            return "Closed"
+        return "Authorised" if all(found == "Awaiting" for found in stages) else "Running"
+
+    def loans(self, day, only_open):
+        """The line of each loan, with the days that are left on a day."""
+        return [self.loan_line(loan, day) for loan in loans(self.posted) if not only_open or self.state(loan) != "Closed"]
+
+    def loan_line(self, loan, day):
+        terms, state, stages = agreement(self.posted, loan), self.state(loan), self.stages(loan)
+        last, out = last_day(self.posted, loan), sum(found in STILL_OUT for _, found in stages)
+        days = day_number(last) - day_number(day)
+        objects = "1 object" if len(stages) == 1 else f"{len(stages)} objects"
+        left = f", {abs(days)} day{'s' * (abs(days) != 1)} {'left' if days >= 0 else 'over'}" if state != "Closed" else ""
+        return f"{loan} {state} {terms['partner']} {terms['first']} {last} {objects}, {out} out{left}"
+
+    def loan_values(self, by):
+        """The rows of the loans that end by a day, as comma-separated values."""
+        heading = "loan,state,partner,first,last,objects,awaiting,out,back,on,days_left,authorised_by"
+        return [heading, *(self.values_of(loan) for loan in loans(self.posted) if last_day(self.posted, loan) <= by)]
+
+    def values_of(self, loan):
+        terms, stages = agreement(self.posted, loan), [found for _, found in self.stages(loan)]
+        out, awaited = sum(found in STILL_OUT for found in stages), stages.count("Awaiting")
+        names = [m["by"] for _, m in applied(self.posted) if m["kind"] == "authorise" and m["loan"] == loan]
+        numbers = f"{len(stages)},{awaited},{out},{len(stages) - awaited - out}"
+        head = f"{loan},{self.state(loan)},{terms['partner']},{terms['first']},{last_day(self.posted, loan)}"
+        return f"{head},{numbers},,,{quoted(names[0]) if names else ''}"
+
+    def dues(self, by):
+        return [
+            f"{loan} {thing} {last_day(self.posted, loan)} {found} {agreement(self.posted, loan)['partner']}"
+            for loan in loans(self.posted)
+            if last_day(self.posted, loan) <= by
+            for thing, found in self.stages(loan)
+            if found in STILL_OUT
+        ]
+
     def away(self):
         return [
             f"{thing} {self.place(thing) or '-'} normal {normal}"
@@ -74,6 +120,10 @@ class Record:
             f"{number} {entry.station} {entry.n} {entry.verdict} {text_of(entry.message)}"
             for number, entry in enumerate(self.posted, 1)
         ]
+
+    def entries_by(self, keeps):
+        """The lines of the entries for which a test holds, by the station and the message."""
+        return [line for line, entry in zip(self.entries(), self.posted) if keeps(entry)]
 
     def counted(self, rows):
         """What is said to each row, and what the list misses."""
@@ -104,6 +154,16 @@ class Record:
         return "Found" if self.lies(thing, sought) else f"Elsewhere {self.place(thing)}"
 
 
+def quoted(text):
+    """A text as a comma-separated value."""
+    return '"' + text.replace('"', '""') + '"' if any(mark in text for mark in ',"\r\n') else text
+
+
+def named(message):
+    """The things that a message names."""
+    return [message.get("thing"), message.get("container"), *message.get("objects", [])]
+
+
 def json_lines(seed):
     return "".join(json.dumps(line) + "\n" for line in streams.lines(seed)).encode()
 
@@ -119,8 +179,19 @@ def asked(record, rows):
     yield ["count", "list.csv"], record.counted(rows)
     yield ["away"], record.away()
     yield ["posted"], record.entries()
+    yield ["posted", "--from", "3", "--to", "9"], record.entries()[2:9]
+    yield ["posted", "--refused"], record.entries_by(lambda entry: entry.verdict != "Applied")
+    for station in record.museum.stations:
+        yield ["posted", "--station", station], record.entries_by(lambda entry: entry.station == station)
+    for thing in ("C1", "2001.4.1"):
+        yield ["posted", "--thing", thing], record.entries_by(lambda entry: thing in named(entry.message))
+    yield ["posted", "--loan", "LO2024.1"], record.entries_by(lambda entry: entry.message.get("loan") == "LO2024.1")
     for day in ("2024-05-31", "2024-06-01", "2024-07-01"):
         yield ["overdue", "--on", day], record.overdue(day)
+        yield ["loans", "--on", day], record.loans(day, False)
+        yield ["loans", "--open", "--on", day], record.loans(day, True)
+        yield ["loans", "--csv", "--by", day], record.loan_values(day)
+        yield ["dues", "--by", day], record.dues(day)
     for thing in ("C1", "C2", *streams.OBJECTS):
         yield ["history", thing], record.history(thing)
     for sought in PLACES[:-1]:

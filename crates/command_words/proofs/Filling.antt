@@ -27,6 +27,8 @@ has_both Setup name.Contents other more = refl
 has_both Setup name.Loan other more = refl
 has_both Setup name.At other more = refl
 has_both Setup name.Posted other more = refl
+has_both Setup name.Loans other more = refl
+has_both Setup name.Dues other more = refl
 has_both Setup name.Help other more = absurd (more refl)
 has_both Store name.Replay other more = refl
 has_both Store name.Serve other more = refl
@@ -43,6 +45,8 @@ has_both Store name.Contents other more = refl
 has_both Store name.Loan other more = refl
 has_both Store name.At other more = refl
 has_both Store name.Posted other more = refl
+has_both Store name.Loans other more = refl
+has_both Store name.Dues other more = refl
 has_both Store name.Help other more = absurd (more refl)
 
 -- explain has neither

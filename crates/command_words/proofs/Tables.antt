@@ -27,6 +27,8 @@ is_simple name.Contents = refl
 is_simple name.Loan = refl
 is_simple name.At = refl
 is_simple name.Posted = refl
+is_simple name.Loans = refl
+is_simple name.Dues = refl
 is_simple name.Help = refl
 
 is_plain : (n : Name) → (app_by n).top.is_plain ≡ true
@@ -46,6 +48,8 @@ is_plain name.Contents = refl
 is_plain name.Loan = refl
 is_plain name.At = refl
 is_plain name.Posted = refl
+is_plain name.Loans = refl
+is_plain name.Dues = refl
 is_plain name.Help = refl
 
 pub simple_by : (n : Name) (app : App) → app ≡ app_by n → is_simple_and_free app ≡ true
@@ -66,7 +70,7 @@ simple_overview app e = ap is_simple_and_free e ∙ overview_is_simple
 abbrev pub all : List Name
 all = name.Replay ∷ name.Serve ∷ name.Count ∷ name.Overdue ∷ name.Away ∷ name.History
     ∷ name.Migrate ∷ name.Copy ∷ name.Explain ∷ name.Stations ∷ name.Where ∷ name.Contents
-    ∷ name.Loan ∷ name.At ∷ name.Posted ∷ []
+    ∷ name.Loan ∷ name.At ∷ name.Posted ∷ name.Loans ∷ name.Dues ∷ []
 
 all_is_overview : with_commands program_alone all ≡ overview
 unfolding app_by
@@ -112,4 +116,6 @@ app_is name.Contents = refl
 app_is name.Loan = refl
 app_is name.At = refl
 app_is name.Posted = refl
+app_is name.Loans = refl
+app_is name.Dues = refl
 app_is name.Help = refl

@@ -1,4 +1,4 @@
--- Defines the sixteen commands: the arguments that `clap` knows of each, and the values that each
+-- Defines the eighteen commands: the arguments that `clap` knows of each, and the values that each
 -- needs.
 use Rattle.std.specs.Prelude.{◌∷◌, [], ℕ, Bool, List, Some, codes, map, true, false}
 use Rattle.clap.specs.Words.{App, Rule, Text, new_app, new_rule, with_rule}
@@ -136,12 +136,28 @@ at = report
 abbrev pub posted : Form
 posted = report
     (both_needed
-    (report_app (with_rule (register_app (codes "posted")) (option_rule (codes "from")))))
+    (report_app (with_rule (with_rule (with_rule (with_rule (with_rule (with_rule
+    (register_app (codes "posted")) (option_rule (codes "from"))) (option_rule (codes "to")))
+    (option_rule (codes "station"))) (option_rule (codes "thing"))) (option_rule (codes "loan")))
+    (flag_rule (codes "refused")))))
+
+abbrev pub loans : Form
+loans = report
+    (both_needed
+    (report_app (with_rule (with_rule (with_rule (register_app (codes "loans"))
+    (option_rule (codes "on"))) (option_rule (codes "by"))) (flag_rule (codes "open")))))
+
+abbrev pub dues : Form
+dues = report
+    (all_needed
+    (report_app (with_rule (register_app (codes "dues")) (option_rule (codes "by"))))
+    (codes "by"))
 
 -- The commands other than `help`.
 abbrev pub listed : List Form
 listed = replay ∷ serve ∷ count ∷ overdue ∷ away ∷ history ∷ migrate
-    ∷ copy ∷ explain ∷ stations ∷ where_is ∷ contents ∷ loan ∷ at ∷ posted ∷ []
+    ∷ copy ∷ explain ∷ stations ∷ where_is ∷ contents ∷ loan ∷ at ∷ posted
+    ∷ loans ∷ dues ∷ []
 
 abbrev pub commands : List Form
 commands = help ∷ listed

@@ -20,13 +20,14 @@ use Rattle.clap.specs.declared.error.kind.ErrorKind.TheVariants.{DisplayVersion,
 use Rattle.command_words.specs.Commands.{Form, at, away, commands, contents, copy, count, explain}
 use Rattle.command_words.specs.Commands.{help, history, loan, migrate, overdue, overview, posted}
 use Rattle.command_words.specs.Commands.{replay, serve}
-use Rattle.command_words.specs.Commands.{stations, where_is}
+use Rattle.command_words.specs.Commands.{dues, loans, stations, where_is}
 use Rattle.command_words.specs.declared.reading.Files.{Files}
 use Rattle.command_words.specs.declared.reading.Record.{Record}
 use Rattle.command_words.specs.declared.command.Report.{Report}
 use Rattle.command_words.specs.declared.command.Format.{Format}
 use Rattle.command_words.specs.declared.command.Format.TheVariants.{Csv, Json, Lines}
 use Rattle.command_words.specs.declared.command.Asked.{Asked}
+use Rattle.command_words.specs.declared.command.Entries.{Entries}
 use Rattle.command_words.specs.declared.command.Asked.TheVariants as asked
 use Rattle.command_words.specs.declared.command.Chosen.{Chosen}
 use Rattle.command_words.specs.declared.command.Chosen.TheVariants as command
@@ -92,6 +93,15 @@ HoldsReport rows report = (first_of (codes "setup") rows ≡ Some report.setup.n
     × (first_of (codes "store") rows ≡ Some report.store.now)
     × (format_found rows ≡ Some report.format)
 
+-- The matches have these values for which entries are listed.
+abbrev pub HoldsEntries : List Row → Entries → Type 0
+HoldsEntries rows entries = (first_of (codes "from") rows ≡ text_of entries.from)
+    × (first_of (codes "to") rows ≡ text_of entries.to)
+    × (first_of (codes "station") rows ≡ text_of entries.station)
+    × (first_of (codes "thing") rows ≡ text_of entries.thing)
+    × (first_of (codes "loan") rows ≡ text_of entries.loan)
+    × (is_true (first_of (codes "refused") rows) ≡ entries.refused)
+
 -- The first word is this name, and the words of this report name both files and one form.
 abbrev pub IsReport : List Text → Text → App → Report → Type 0
 IsReport words name app report = IsNamed words name × HoldsReport (matches_of app words) report
@@ -115,8 +125,14 @@ IsAsked words report (asked.Loan code) = IsReport words (codes "loan") loan.app 
     × (value loan.app words (codes "code") ≡ Some code.now)
 IsAsked words report (asked.At place) = IsReport words (codes "at") at.app report
     × (value at.app words (codes "place") ≡ Some place.now)
-IsAsked words report (asked.Posted from) = IsReport words (codes "posted") posted.app report
-    × (value posted.app words (codes "from") ≡ text_of from)
+IsAsked words report (asked.Posted entries) = IsReport words (codes "posted") posted.app report
+    × HoldsEntries (matches_of posted.app words) entries
+IsAsked words report (asked.Loans on by only) = IsReport words (codes "loans") loans.app report
+    × (value loans.app words (codes "on") ≡ text_of on)
+    × (value loans.app words (codes "by") ≡ text_of by)
+    × (is_given loans.app words (codes "open") ≡ only)
+IsAsked words report (asked.Dues by) = IsReport words (codes "dues") dues.app report
+    × (value dues.app words (codes "by") ≡ Some by.now)
 
 -- The first word is the command's name, and each of its values is the one that the words have.
 abbrev pub IsChosen : List Text → Chosen → Type 0

@@ -47,8 +47,30 @@ pub enum Asked<'a> {
     Loan(&'a str),
     /// What is at this place?
     At(&'a str),
-    /// Which entries were posted, from this entry on if it is given?
-    Posted(Option<&'a str>),
+    /// Which entries were posted?
+    Posted(Entries<'a>),
+    /// Which loans are agreed, and how far have they come? `on` is the day on which the days left
+    /// are counted. With `by` there are only loans that end by this day, and with `open` only loans
+    /// that aren't closed.
+    Loans {
+        on: Option<&'a str>,
+        by: Option<&'a str>,
+        open: bool,
+    },
+    /// Which objects are due by this day?
+    Dues(&'a str),
+}
+
+/// Which entries a list has: the numbers of the first and the last, the station's name, the code of
+/// a thing and of a loan that the message names, and whether only refused messages are listed.
+#[derive(Clone, Copy)]
+pub struct Entries<'a> {
+    pub from: Option<&'a str>,
+    pub to: Option<&'a str>,
+    pub station: Option<&'a str>,
+    pub thing: Option<&'a str>,
+    pub loan: Option<&'a str>,
+    pub refused: bool,
 }
 
 /// A command with its values, as the words have them. If no store is named, the record is in

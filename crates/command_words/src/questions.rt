@@ -6,7 +6,8 @@ ghost use Rattle.command_words.specs.Commands as commands;
 ghost use Rattle.command_words.specs.Words.{Chooses, IsNamed, texts_of};
 
 use crate::reading::{
-    read_report, read_report_and, read_report_and_perhaps, read_word, read_word_if,
+    read_report, read_report_and, read_report_and_entries, read_report_and_options, read_word,
+    read_word_if,
 };
 use crate::shapes::Name;
 use crate::{Asked, Chosen, WordsFault};
@@ -72,6 +73,29 @@ pub(crate) fn posted<'a>(alloc: Global, words: &'a [&'a str]) -> Result<Chosen<'
     requires { IsNamed (texts_of words.now) (codes "posted") }
     ensures { Chooses (Some commands.posted) (texts_of words.now) result }
 {
-    let (report, from) = read_report_and_perhaps(alloc, Name::Posted, words, "from")?;
-    Ok(Chosen::Report(report, Asked::Posted(from)))
+    let (report, entries) = read_report_and_entries(alloc, Name::Posted, words)?;
+    Ok(Chosen::Report(report, Asked::Posted(entries)))
+}
+
+pub(crate) fn loans<'a>(alloc: Global, words: &'a [&'a str]) -> Result<Chosen<'a>, WordsFault>
+    requires { IsNamed (texts_of words.now) (codes "loans") }
+    ensures { Chooses (Some commands.loans) (texts_of words.now) result }
+{
+    let (report, on, by, open) = read_report_and_options(
+        alloc,
+        Name::Loans,
+        words,
+        "on",
+        "by",
+        "open",
+    )?;
+    Ok(Chosen::Report(report, Asked::Loans { on, by, open }))
+}
+
+pub(crate) fn dues<'a>(alloc: Global, words: &'a [&'a str]) -> Result<Chosen<'a>, WordsFault>
+    requires { IsNamed (texts_of words.now) (codes "dues") }
+    ensures { Chooses (Some commands.dues) (texts_of words.now) result }
+{
+    let (report, by) = read_report_and(alloc, Name::Dues, words, "by")?;
+    Ok(Chosen::Report(report, Asked::Dues(by)))
 }

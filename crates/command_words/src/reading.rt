@@ -1,18 +1,18 @@
 //! Reads the values of a command's arguments.
 ghost use Rattle.std.specs.Prelude.{◌≡◌, [], IfOk, MatchResult, None, Some, codes, true};
 ghost use Rattle.clap.specs.Faults.{fault_of, is_simple_and_free};
-ghost use Rattle.clap.specs.Words.{app_of, first_of, found_of, kind_of, rows_of};
+ghost use Rattle.clap.specs.Words.{app_of, first_of, found_of, kind_of, matches_of, rows_of};
 ghost use Rattle.command_words.specs.Commands.{all_needed, both_needed, one_needed, report};
 ghost use Rattle.command_words.specs.Tables.{app_by};
-ghost use Rattle.command_words.specs.Words.{GivesFiles, GivesRecord, GivesReport, HoldsReport};
-ghost use Rattle.command_words.specs.Words.{IsFaultBy};
+ghost use Rattle.command_words.specs.Words.{GivesFiles, GivesRecord, GivesReport, HoldsEntries};
+ghost use Rattle.command_words.specs.Words.{HoldsReport, IsFaultBy};
 ghost use Rattle.command_words.specs.Words.{IsNoReport, IsRead, IsRefused, all_in, format_by};
 ghost use Rattle.command_words.specs.Words.{is_given};
 ghost use Rattle.command_words.specs.Words.{is_true, text_of, texts_of, value, values};
 ghost use Rattle.command_words.specs.declared.command.WordsFault.TheVariants.{Missing, NoMemory};
 
 use crate::shapes::{Name, bare, command_of};
-use crate::{Format, Report, WordsFault};
+use crate::{Entries, Format, Report, WordsFault};
 use clap::error::ErrorKind;
 use clap::{ArgMatches, Command, Error};
 use std::alloc::{AllocError, Global};
@@ -288,6 +288,65 @@ pub(crate) fn read_report_and_perhaps<'a>(
     let own = one(&matches, id);
     drop(matches);
     Ok((report?, own))
+}
+
+/// Which entries the words ask for.
+fn entries_of<'a, 'b>(found: &'b ArgMatches<'a>) -> Entries<'a>
+    ensures { HoldsEntries (rows_of (found_of found.now)) result }
+{
+    Entries {
+        from: one(found, "from"),
+        to: one(found, "to"),
+        station: one(found, "station"),
+        thing: one(found, "thing"),
+        loan: one(found, "loan"),
+        refused: is_set(found, "refused"),
+    }
+}
+
+/// Returns what [`read_report`] returns, and which entries the words ask for. Faults: as for
+/// [`read_report`].
+pub(crate) fn read_report_and_entries<'a>(
+    alloc: Global,
+    name: Name,
+    words: &'a [&'a str],
+) -> Result<(Report<'a>, Entries<'a>), WordsFault>
+    ensures { MatchResult result
+        (λ r. GivesReport (app_by name) (texts_of words.now) r.0
+        × HoldsEntries (matches_of (app_by name) (texts_of words.now)) r.1)
+        (IsFaultBy (Some (report (both_needed (app_by name)))) (texts_of words.now)) }
+{
+    let matches = read(alloc, name, words)?;
+    let report = report_in(alloc, name, &matches);
+    let entries = entries_of(&matches);
+    drop(matches);
+    Ok((report?, entries))
+}
+
+/// Returns what [`read_report`] returns, the values of two more arguments, None for one that has
+/// none, and whether a flag is given. Faults: as for [`read_report`].
+pub(crate) fn read_report_and_options<'a>(
+    alloc: Global,
+    name: Name,
+    words: &'a [&'a str],
+    first: &'static str,
+    second: &'static str,
+    flag: &'static str,
+) -> Result<(Report<'a>, Option<&'a str>, Option<&'a str>, bool), WordsFault>
+    ensures { MatchResult result
+        (λ r. GivesReport (app_by name) (texts_of words.now) r.0
+        × (value (app_by name) (texts_of words.now) first.now ≡ text_of r.1)
+        × (value (app_by name) (texts_of words.now) second.now ≡ text_of r.2)
+        × (is_given (app_by name) (texts_of words.now) flag.now ≡ r.3))
+        (IsFaultBy (Some (report (both_needed (app_by name)))) (texts_of words.now)) }
+{
+    let matches = read(alloc, name, words)?;
+    let report = report_in(alloc, name, &matches);
+    let first = one(&matches, first);
+    let second = one(&matches, second);
+    let is_given = is_set(&matches, flag);
+    drop(matches);
+    Ok((report?, first, second, is_given))
 }
 
 /// Returns what [`read_report`] returns, and the value of one more argument, which is needed.

@@ -32,11 +32,13 @@ pub(crate) enum Name {
     Loan,
     At,
     Posted,
+    Loans,
+    Dues,
     Help,
 }
 
 /// The commands in the order of the help. `help` is left out, because `clap` adds it.
-const NAMES: [Name; 15] = [
+const NAMES: [Name; 17] = [
     Name::Replay,
     Name::Serve,
     Name::Count,
@@ -52,6 +54,8 @@ const NAMES: [Name; 15] = [
     Name::Loan,
     Name::At,
     Name::Posted,
+    Name::Loans,
+    Name::Dues,
 ];
 
 const PROGRESS: Argument = Argument {
@@ -145,6 +149,69 @@ const FROM: Argument = Argument {
     help: "The first entry to list",
 };
 
+const TO_ENTRY: Argument = Argument {
+    kind: Kind::Valued,
+    id: "to",
+    value: "N",
+    help: "The last entry to list",
+};
+
+const STATION: Argument = Argument {
+    kind: Kind::Valued,
+    id: "station",
+    value: "NAME",
+    help: "Only messages of this station",
+};
+
+const OF_THING: Argument = Argument {
+    kind: Kind::Valued,
+    id: "thing",
+    value: "CODE",
+    help: "Only messages that name this thing",
+};
+
+const OF_LOAN: Argument = Argument {
+    kind: Kind::Valued,
+    id: "loan",
+    value: "CODE",
+    help: "Only messages that name this loan",
+};
+
+const REFUSED: Argument = Argument {
+    kind: Kind::Flag,
+    id: "refused",
+    value: "",
+    help: "Only messages with a verdict other than Applied",
+};
+
+const ON: Argument = Argument {
+    kind: Kind::Valued,
+    id: "on",
+    value: "DAY",
+    help: "The day from which the days left are counted",
+};
+
+const BY: Argument = Argument {
+    kind: Kind::Valued,
+    id: "by",
+    value: "DAY",
+    help: "Only loans that end on this day or before it",
+};
+
+const OPEN: Argument = Argument {
+    kind: Kind::Flag,
+    id: "open",
+    value: "",
+    help: "Only loans that are not closed",
+};
+
+const DUE: Argument = Argument {
+    kind: Kind::Valued,
+    id: "by",
+    value: "DAY",
+    help: "The day by which the loans end, for example 2024-06-30",
+};
+
 /// The word that names the command.
 #[tactic(auto, unfolding(crate::specs::Tables::app_by, crate::specs::Commands::register_app, crate::specs::Commands::report_app))]
 fn word_of(name: Name) -> &'static str
@@ -166,6 +233,8 @@ fn word_of(name: Name) -> &'static str
         Name::Loan => "loan",
         Name::At => "at",
         Name::Posted => "posted",
+        Name::Loans => "loans",
+        Name::Dues => "dues",
         Name::Help => "help",
     }
 }
@@ -191,6 +260,8 @@ pub(crate) fn name_of(word: &str) -> Option<Name>
         "loan" => Some(Name::Loan),
         "at" => Some(Name::At),
         "posted" => Some(Name::Posted),
+        "loans" => Some(Name::Loans),
+        "dues" => Some(Name::Dues),
         "help" => Some(Name::Help),
         _ => None,
     }
@@ -215,7 +286,10 @@ pub(crate) fn needs_of(name: Name) -> &'static [&'static str]
         Name::Replay | Name::Serve => &["setup"],
         Name::Count => &["setup", "store", "list"],
         Name::Overdue => &["setup", "store", "on"],
-        Name::Away | Name::Migrate | Name::Stations | Name::Posted => &["setup", "store"],
+        Name::Away | Name::Migrate | Name::Stations | Name::Posted | Name::Loans => {
+            &["setup", "store"]
+        }
+        Name::Dues => &["setup", "store", "by"],
         Name::History | Name::Where | Name::Contents | Name::Loan => &["setup", "store", "code"],
         Name::Copy => &["setup", "store", "to"],
         Name::Explain => &["name"],
@@ -242,6 +316,8 @@ fn help_of(name: Name) -> &'static Help {
         Name::Loan => &texts::LOAN,
         Name::At => &texts::AT,
         Name::Posted => &texts::POSTED,
+        Name::Loans => &texts::LOANS,
+        Name::Dues => &texts::DUES,
         Name::Help => &texts::HELP,
     }
 }
@@ -266,7 +342,11 @@ fn arguments_of(name: Name) -> &'static [Argument]
         Name::Contents => &[SETUP, STORE, CONTAINER, CSV, JSON],
         Name::Loan => &[SETUP, STORE, LOAN, CSV, JSON],
         Name::At => &[SETUP, STORE, PLACE, CSV, JSON],
-        Name::Posted => &[SETUP, STORE, FROM, CSV, JSON],
+        Name::Posted => &[
+            SETUP, STORE, FROM, TO_ENTRY, STATION, OF_THING, OF_LOAN, REFUSED, CSV, JSON,
+        ],
+        Name::Loans => &[SETUP, STORE, ON, BY, OPEN, CSV, JSON],
+        Name::Dues => &[SETUP, STORE, DUE, CSV, JSON],
         Name::Help => &[TOPIC],
     }
 }

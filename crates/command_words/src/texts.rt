@@ -309,17 +309,62 @@ PLACE is not a place's code.",
 
 pub(crate) const POSTED: Help = Help {
     about: "Lists the entries of the record",
-    usage: "pairsalder posted --setup PATH --store PATH [--from N] [--csv | --json]",
+    usage: "pairsalder posted --setup PATH --store PATH [--from N] [--to N]\n       [--station NAME] [--thing CODE] [--loan CODE] [--refused]\n       [--csv | --json]",
     more: "\
 For an audit, and for other programs: every posted message with its verdict,
 including those not applied.
 
-Prints a line for each entry, from the first entry, or from entry N. With --csv
-or --json the fields are entry, station, n, verdict and message.
+Prints a line for each entry. --from and --to give the first and the last entry.
+The other options list only the messages of a station, those that name a thing
+(as what they put, as the container, or as an object of a loan), those that name
+a loan, or those with a verdict other than Applied. An entry has to meet all of
+them. With --csv or --json the fields are entry, station, n, verdict and
+message.
 
-Example:
+Examples:
   pairsalder posted --setup museum.csv --store museum.db --from 100
+  pairsalder posted --setup museum.csv --store museum.db --refused --station GAL
 
 Exit status: 0 done, even if there are no entries; 1 a fault; 2 a usage error,
-or N is not a number.",
+N is not a number, or CODE is not a code.",
+};
+
+pub(crate) const LOANS: Help = Help {
+    about: "Lists the agreed loans, how far they are, and the days left",
+    usage: "pairsalder loans --setup PATH --store PATH [--on DAY] [--by DAY] [--open]\n       [--csv | --json]",
+    more: "\
+For a review of the loans: which are still open, and when each one ends.
+
+Prints a line for each loan, in the order of the agreements: its code, state,
+partner, first and last day, and how many objects it has and how many are out.
+With --on the days left follow, or the days over; a closed loan has none. With
+--csv or --json the fields are loan, state, partner, first, last, objects,
+awaiting, out, back, on, days_left and authorised_by. days_left is below 0 once
+the last day has passed.
+
+Examples:
+  pairsalder loans --setup museum.csv --store museum.db --open --on 2024-12-15
+  pairsalder loans --setup museum.csv --store museum.db --open --by 2024-12-31
+
+Exit status: 0 done, even if no loan is listed; 1 a fault; 2 a usage error, or
+DAY is not a day.",
+};
+
+pub(crate) const DUES: Help = Help {
+    about: "Lists the objects that are to come back or go back by a day",
+    usage: "pairsalder dues --setup PATH --store PATH --by DAY [--csv | --json]",
+    more: "\
+For planning transport: what has to move before the loans end.
+
+Prints a line for each object that is still out, or here on a loan in, under a
+loan that ends on DAY or before it: the loan, the object, the loan's last day,
+the object's stage and the partner. Away objects are to come back, Here objects
+are to go back. With --csv or --json the fields are loan, object, last, stage
+and partner.
+
+Example:
+  pairsalder dues --setup museum.csv --store museum.db --by 2024-06-30
+
+Exit status: 0 done, even if nothing is due; 1 a fault; 2 a usage error, or DAY
+is not a day.",
 };

@@ -6,7 +6,9 @@ ghost use Rattle.command_words.specs.Commands as commands;
 ghost use Rattle.command_words.specs.Words.{Chooses, IsChosen, IsFault, IsNamed, form_named};
 ghost use Rattle.command_words.specs.Words.{refusals, texts_of};
 
-use crate::questions::{at, contents, explain, help, loan, posted, stations, where_is};
+use crate::questions::{
+    at, contents, dues, explain, help, loan, loans, posted, stations, where_is,
+};
 use crate::reading::{
     needed, read_by, read_files_and_all, read_files_and_flags, read_record, read_record_and,
     read_report, read_report_and,
@@ -57,6 +59,8 @@ fn named<'a>(alloc: Global, name: &str, words: &'a [&'a str]) -> Result<Chosen<'
         "loan" => loan(alloc, words),
         "at" => at(alloc, words),
         "posted" => posted(alloc, words),
+        "loans" => loans(alloc, words),
+        "dues" => dues(alloc, words),
         "help" => help(alloc, words),
         _ => no_command(alloc, words),
     }

@@ -26,17 +26,18 @@ station, place and thing of the museum:
   own,2001.4.1,S1-A          an own object, and its normal location
   lent,L1999.7               a borrowed object
 
-Put a place before the objects that have it as their normal location. At most 64
-stations, 10000 places and 100000 things fit. A record keeps the setup that it
-began with: list everything, and keep the file.
+Put a place before the objects that have it as their normal location. The limits
+are 64 stations, 10000 places and 100000 things. A record keeps the setup that
+it began with: list everything, and keep the file.
 
-Each code has one spelling. A number is 1 to 999999, without a 0 before it.
+Each code has one spelling. A number is 1 to 999999, without leading
+zeros.
 
   station     GAL, STORE-A          1 to 16 of A-Z, a-z, 0-9 and -
   place       S1, S1-A, MUSEUM-X    1 to 4 parts of 1 to 8 of A-Z and 0-9
   container   C1, C17               C and a number
   own object  2001.4.1, 2001.4.2a   year, 1 to 3 numbers, at most one letter
-  borrowed    L1999.7               L before it
+  borrowed    L1999.7               L, then as an own object
   loan        LO2024.1, LI2024.1    LO out, LI in; year and number
   day         2024-05-31            year, month and day
 
@@ -75,9 +76,10 @@ The messages, each with all its keys:
   {\"kind\":\"signoff\",\"by\":\"Ann\"}
       signs the station off for good. Don't send it at the end of a shift.
 
-A number is lost? Send under it a message about a thing that the setup does not
-list: a move, pack, exit, return or receive. It is recorded as UnknownThing,
-changes nothing, and the messages held after it can be sent again:
+If a message is lost, its number blocks the station. Send under that number a
+message about a thing that the setup does not list: a move, pack, exit, return
+or receive. It is recorded as UnknownThing and changes nothing. The messages
+held after it can then be sent again:
 
   {\"kind\":\"move\",\"thing\":\"C999999\",\"place\":\"S1\",\"day\":\"2024-05-01\"}
 ";
@@ -102,16 +104,17 @@ shelves, and writes a row for each thing and each place:
   Elsewhere S2      the record has it at S2
 
 Then it prints 'missing S1-A 2001.4.3' for each object that the record has at a
-place of the list, and that no row names. At most 100000 rows fit.
+place of the list, and that no row names. The limit is 100000 rows.
 
 Example:
   pairsalder count --setup museum.csv --store museum.db shelves.csv
 ";
 
 const VERDICTS: &str = "\
-Each message on record has a verdict. Applied took effect. Any other names the
-first rule that the message broke, and the message changed nothing. Its number
-is used up: send the corrected message under the station's next number.
+Each message on record has a verdict. Applied: the message took effect. Any
+other verdict names the first rule that the message broke; it changed nothing.
+Its number is used up: send the corrected message under the station's next
+number.
 'pairsalder explain NotHere' adds the usual cause, and what to do about it.
 
 ";
@@ -135,8 +138,8 @@ Restore. Move both old files out of the way, then put a copy in their place:
 While a command runs, the newest entries are in museum.db-wal. If a run was
 killed, this file stays. Leave the two files together and run the next command,
 which takes the entries from it. If museum.db-wal is there without museum.db,
-every command fails and touches neither: put museum.db back beside it.
+every command fails and changes nothing: put museum.db back beside it.
 
 Only replay and serve begin a record. Any other command fails with 'fault store
-Store' if there is none. One command at a time can use a store.
+Store' if there is none. Only one command at a time can use a store.
 ";

@@ -5,7 +5,7 @@ use codes_core::{ThingCode, ThingKind};
 use hub_core::Hub;
 use nest_core::Setup;
 use register_store::Register;
-use reports::Question;
+use reports::{EntryFilter, Question};
 use std::alloc::AllocError;
 
 /// Appends the note about a new store.
@@ -15,8 +15,8 @@ pub fn add_new_store(notes: &mut String, path: &str) -> Result<(), AllocError> {
     notes.push_str("\n")
 }
 
-/// Appends a note if the report on this question prints no row because the setup does not have the
-/// code, or because an object has no contents.
+/// Appends a note if the report on this question prints no row because the setup does not have a
+/// code or a station, or because an object has no contents.
 pub fn add_unanswered(
     notes: &mut String,
     setup: &Setup,
@@ -36,8 +36,26 @@ pub fn add_unanswered(
                 code.as_str()
             )
         }
+        Question::Posted(filter) => add_unlisted(notes, setup, filter),
         _ => Ok(()),
     }
+}
+
+/// Appends a note for a station and a thing that are asked for, if the setup does not have them.
+fn add_unlisted(notes: &mut String, setup: &Setup, filter: &EntryFilter) -> Result<(), AllocError> {
+    if let Some(name) = &filter.station {
+        if setup.station(name.as_str()).is_none() {
+            notes.push_str("note: ")?;
+            add_on_one_line(notes, name.as_str())?;
+            notes.push_str(" is not in the setup\n")?;
+        }
+    }
+    if let Some(code) = &filter.thing {
+        if setup.thing(code).is_none() {
+            writeln!(notes, "note: {} is not in the setup", code.as_str())?;
+        }
+    }
+    Ok(())
 }
 
 /// Whether the setup has this code for an object.

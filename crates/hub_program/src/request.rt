@@ -3,9 +3,10 @@
 use crate::fault::CommandFault;
 use crate::files::{read_list, read_setup};
 use codes_core::{Day, LoanCode, PlaceCode, ThingCode};
-use command_words::{Asked, Format};
+use command_words::{Asked, Entries, Format};
 use nest_core::Setup;
-use reports::{Form, Question};
+use reports::{EntryFilter, Form, LoanFilter, Question};
+use std::alloc::Global;
 
 /// The form of a report.
 pub fn form_of(format: Format) -> Form {
@@ -34,7 +35,19 @@ pub fn read_question(
         Asked::Contents(code) => with_setup(rt, setup, Question::Contents(thing(code)?)),
         Asked::Loan(code) => with_setup(rt, setup, Question::Loan(loan(code)?)),
         Asked::At(code) => with_setup(rt, setup, Question::At(place(code)?)),
-        Asked::Posted(from) => with_setup(rt, setup, Question::Posted(number(from)?)),
+        Asked::Posted(entries) => {
+            let filter = entry_filter(rt.alloc(), entries)?;
+            with_setup(rt, setup, Question::Posted(filter))
+        }
+        Asked::Loans { on, by, open } => {
+            let filter = LoanFilter {
+                on: day_if(on)?,
+                by: day_if(by)?,
+                open,
+            };
+            with_setup(rt, setup, Question::Loans(filter))
+        }
+        Asked::Dues(by) => with_setup(rt, setup, Question::Dues(day(by)?)),
     }
 }
 
@@ -73,6 +86,13 @@ fn day(text: &str) -> Result<Day, CommandFault> {
     Day::parse(text.as_bytes()).map_err(CommandFault::Day)
 }
 
+fn day_if(text: Option<&str>) -> Result<Option<Day>, CommandFault> {
+    match text {
+        Some(text) => Ok(Some(day(text)?)),
+        None => Ok(None),
+    }
+}
+
 fn thing(text: &str) -> Result<ThingCode, CommandFault> {
     ThingCode::parse(text.as_bytes()).map_err(CommandFault::Code)
 }
@@ -85,10 +105,50 @@ fn place(text: &str) -> Result<PlaceCode, CommandFault> {
     PlaceCode::parse(text.as_bytes()).map_err(CommandFault::Code)
 }
 
-/// The number of the first entry to list: 1 if none is named.
-fn number(text: Option<&str>) -> Result<u64, CommandFault> {
+/// Which entries the words ask for. Faults, in this order: Number, Code. NoMemory can come instead.
+fn entry_filter(alloc: Global, entries: Entries<'_>) -> Result<EntryFilter, CommandFault> {
+    let from = number_if(entries.from)?.unwrap_or(1);
+    let to = number_if(entries.to)?;
+    let thing = thing_if(entries.thing)?;
+    let loan = loan_if(entries.loan)?;
+    let station = text_if(alloc, entries.station)?;
+    Ok(EntryFilter {
+        from,
+        to,
+        station,
+        thing,
+        loan,
+        refused: entries.refused,
+    })
+}
+
+fn number_if(text: Option<&str>) -> Result<Option<u64>, CommandFault> {
     match text {
-        None => Ok(1),
-        Some(text) => text.parse().map_err(|_| CommandFault::Number),
+        None => Ok(None),
+        Some(text) => match text.parse() {
+            Ok(number) => Ok(Some(number)),
+            Err(_) => Err(CommandFault::Number),
+        },
+    }
+}
+
+fn thing_if(text: Option<&str>) -> Result<Option<ThingCode>, CommandFault> {
+    match text {
+        None => Ok(None),
+        Some(text) => Ok(Some(thing(text)?)),
+    }
+}
+
+fn loan_if(text: Option<&str>) -> Result<Option<LoanCode>, CommandFault> {
+    match text {
+        None => Ok(None),
+        Some(text) => Ok(Some(loan(text)?)),
+    }
+}
+
+fn text_if(alloc: Global, text: Option<&str>) -> Result<Option<String>, CommandFault> {
+    match text {
+        None => Ok(None),
+        Some(text) => Ok(Some(String::from_str(alloc, text)?)),
     }
 }

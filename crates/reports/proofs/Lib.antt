@@ -2,5 +2,7 @@ mod CountLemmas
 mod NumberedRows
 mod Joins
 mod Members
+mod Passing
+mod WorkedLoans
 mod WorkedRows
 mod WrittenText

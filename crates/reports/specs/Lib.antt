@@ -1,5 +1,7 @@
 pub mod CountRows
+pub mod EntryFilters
 pub mod Forms
+pub mod LoanLists
 pub mod Loans
 pub mod Names
 pub mod Reports

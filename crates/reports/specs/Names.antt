@@ -3,7 +3,7 @@ use Rattle.std.specs.Prelude.{◌∷◌, [], ℕ, List, codes}
 use Rattle.reports.specs.declared.question.Question.{Question}
 use Rattle.reports.specs.declared.question.Question.TheVariants.{Count, Overdue, Away, History}
 use Rattle.reports.specs.declared.question.Question.TheVariants.{Stations, Where, Contents, Loan}
-use Rattle.reports.specs.declared.question.Question.TheVariants.{At, Posted}
+use Rattle.reports.specs.declared.question.Question.TheVariants.{At, Posted, Loans, Dues}
 
 abbrev pub names : Question → List (List ℕ)
 names (Count rows) =
@@ -18,5 +18,11 @@ names (Loan code) =
     codes "loan" ∷ codes "state" ∷ codes "partner" ∷ codes "first" ∷ codes "last"
     ∷ codes "object" ∷ codes "stage" ∷ []
 names (At place) = codes "thing" ∷ codes "place" ∷ []
-names (Posted from) =
+names (Posted filter) =
     codes "entry" ∷ codes "station" ∷ codes "n" ∷ codes "verdict" ∷ codes "message" ∷ []
+names (Loans filter) =
+    codes "loan" ∷ codes "state" ∷ codes "partner" ∷ codes "first" ∷ codes "last"
+    ∷ codes "objects" ∷ codes "awaiting" ∷ codes "out" ∷ codes "back" ∷ codes "on"
+    ∷ codes "days_left" ∷ codes "authorised_by" ∷ []
+names (Dues day) =
+    codes "loan" ∷ codes "object" ∷ codes "last" ∷ codes "stage" ∷ codes "partner" ∷ []

@@ -6,12 +6,14 @@ use Rattle.reports.specs.declared.form.Form.TheVariants.{Plain, Csv}
 use Rattle.reports.specs.declared.question.Question.{Question}
 use Rattle.reports.specs.declared.question.Question.TheVariants.{Count, Overdue, Away, History}
 use Rattle.reports.specs.declared.question.Question.TheVariants.{Stations, Where, Contents, Loan}
-use Rattle.reports.specs.declared.question.Question.TheVariants.{At, Posted}
+use Rattle.reports.specs.declared.question.Question.TheVariants.{At, Posted, Loans, Dues}
 use Rattle.reports.specs.CountRows.{count_rows}
 use Rattle.reports.specs.Forms.{rows_text}
+use Rattle.reports.specs.LoanLists.{due_rows, listed_rows}
 use Rattle.reports.specs.Loans.{loan_rows, overdue_rows}
 use Rattle.reports.specs.Names.{names}
-use Rattle.reports.specs.Stations.{posted_rows, station_rows}
+use Rattle.reports.specs.EntryFilters.{posted_rows}
+use Rattle.reports.specs.Stations.{station_rows}
 use Rattle.reports.specs.Things.{at_rows, away_rows, content_rows, history_rows, where_row}
 use Rattle.reports.specs.Cells.{Cell}
 use Rattle.std.specs.Prelude.{◌∷◌, []}
@@ -27,7 +29,9 @@ rows_in form B (Where code) = where_row B form code ∷ []
 rows_in form B (Contents code) = content_rows B code
 rows_in form B (Loan code) = loan_rows B form code
 rows_in form B (At place) = at_rows B place
-rows_in form B (Posted from) = posted_rows B from
+rows_in form B (Posted filter) = posted_rows B filter
+rows_in form B (Loans filter) = listed_rows B form filter
+rows_in form B (Dues day) = due_rows B day
 
 -- The values of a report's rows, by column.
 abbrev pub rows : Book → Question → List (List Cell)

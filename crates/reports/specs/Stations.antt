@@ -1,6 +1,6 @@
 -- Defines the rows of the reports on stations and on entries. An example of the plain line is
 -- above each.
-use Rattle.std.specs.Prelude.{◌∷◌, ◌+◌, ◌-◌, ◌||◌, [], ℕ, Bool, List, None, Option, Some, codes}
+use Rattle.std.specs.Prelude.{◌∷◌, ◌+◌, ◌||◌, [], ℕ, Bool, List, None, Option, Some, codes}
 use Rattle.std.specs.Prelude.{if◌then◌else◌, length, map, nat_le, reverse, slice_get}
 use Rattle.std.specs.List.{range_with_len}
 use Rattle.std.specs.Option.{option_map_or}
@@ -60,8 +60,3 @@ entry_row S n e = number n
 -- The row of the entry at index i, from 0.
 abbrev pub entry_row_at : Book → ℕ → List Cell
 entry_row_at B i = option_map_or (entry_row B.museum (i + 1)) (slice_get (reverse B.posted) i) []
-
--- The entries from this number on. There is no entry 0.
-abbrev pub posted_rows : Book → ℕ → List (List Cell)
-posted_rows B from =
-    map (entry_row_at B) (range_with_len (from - 1) (length B.posted - (from - 1)))

@@ -30,4 +30,4 @@ mod writing;
 pub use fault::PrintFault;
 pub use form::Form;
 pub use printing::print;
-pub use question::{Question, names_of};
+pub use question::{EntryFilter, LoanFilter, Question, names_of};

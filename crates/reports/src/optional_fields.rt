@@ -1,11 +1,11 @@
 //! Fields for values that may be missing.
 ghost use Rattle.std.specs.Prelude.{◌≡◌, ◌<◌, length};
-ghost use Rattle.std.specs.Prelude.{IfSome};
+ghost use Rattle.std.specs.Prelude.{IfSome, option_map};
 ghost use Rattle.reports.specs.Texts.{place_text_if};
 ghost use Rattle.reports.specs.Cells.{day_if, in_if, number_if, or_dash, text_if, cell_of};
 
 use crate::field::Field;
-use codes_core::{Day, PlaceCode, ThingCode};
+use codes_core::{Day, Name, PlaceCode, ThingCode};
 use nest_core::{PlaceNo, Setup};
 
 /// The number, if there is one.
@@ -44,6 +44,16 @@ pub(crate) fn thing_if<'a>(thing: Option<ThingCode>) -> Field<'a>
 {
     match thing {
         Some(thing) => Field::Thing(thing),
+        None => Field::Nothing,
+    }
+}
+
+/// The name, if there is one.
+pub(crate) fn name_if<'a>(name: Option<&'a Name>) -> Field<'a>
+    ensures { cell_of result ≡ text_if (option_map (λ name. name.now) name.entry) }
+{
+    match name {
+        Some(name) => Field::Word(name.as_str()),
         None => Field::Nothing,
     }
 }

@@ -9,8 +9,10 @@ use crate::reports::at::At;
 use crate::reports::away::Away;
 use crate::reports::contents::{Contents, NoContainer};
 use crate::reports::counted::Counted;
+use crate::reports::dues::Dues;
 use crate::reports::history::History;
 use crate::reports::loan::{Loan, NoLoan, agreed_terms};
+use crate::reports::loans::Loans;
 use crate::reports::overdue::Overdue;
 use crate::reports::posted::Posted;
 use crate::reports::stations::Stations;
@@ -55,17 +57,9 @@ pub fn print<T: Threads + Sync, W: Write>(
                 out,
             )
         }
-        Question::Posted(from) => {
-            print_rows(
-                alloc,
-                form,
-                names,
-                &Posted {
-                    ledger,
-                    from: *from,
-                },
-                out,
-            )
+        Question::Posted(filter) => {
+            let rows = Posted::find(alloc, ledger, filter)?;
+            print_rows(alloc, form, names, &rows, out)
         }
         Question::History(code) => {
             let rows = History::find(alloc, ledger, code)?;
@@ -89,6 +83,14 @@ pub fn print<T: Threads + Sync, W: Write>(
             print_rows(alloc, form, names, &rows, out)
         }
         Question::Loan(code) => print_loan(alloc, ledger, code, form, names, out),
+        Question::Loans(filter) => {
+            let rows = Loans::find(alloc, ledger, filter)?;
+            print_rows(alloc, form, names, &rows, out)
+        }
+        Question::Dues(day) => {
+            let rows = Dues::find(alloc, ledger, *day)?;
+            print_rows(alloc, form, names, &rows, out)
+        }
     }
 }
 

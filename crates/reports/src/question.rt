@@ -26,8 +26,41 @@ pub enum Question {
     Loan(LoanCode),
     /// What is at a place?
     At(PlaceCode),
-    /// Which entries were posted, from this number on?
-    Posted(u64),
+    /// Which entries were posted?
+    Posted(EntryFilter),
+    /// Which loans are agreed, how far have they come, and how many days are left?
+    Loans(LoanFilter),
+    /// Which objects are due by a day, to come back or to go back?
+    Dues(Day),
+}
+
+/// Which entries a list has. An entry has to meet all that is asked.
+#[derive(Drop)]
+pub struct EntryFilter {
+    /// The number of the first entry. There is no entry 0.
+    pub from: u64,
+    /// The number of the last entry.
+    pub to: Option<u64>,
+    /// Only messages of the station of this name.
+    pub station: Option<String>,
+    /// Only messages that name this thing: as what they put, as the container, or as an object of a
+    /// loan.
+    pub thing: Option<ThingCode>,
+    /// Only messages that name this loan.
+    pub loan: Option<LoanCode>,
+    /// Only messages with a verdict other than Applied.
+    pub refused: bool,
+}
+
+/// Which loans a list has, and the day on which it counts the days that are left.
+#[derive(Clone, Copy)]
+pub struct LoanFilter {
+    /// The day on which the days that are left are counted.
+    pub on: Option<Day>,
+    /// Only loans that end on this day or before it.
+    pub by: Option<Day>,
+    /// Only loans that aren't closed.
+    pub open: bool,
 }
 
 /// Returns the names of the report's columns, in their order.
@@ -47,5 +80,20 @@ pub fn names_of(question: &Question) -> &'static [&'static str]
         ],
         Question::At(_) => &["thing", "place"],
         Question::Posted(_) => &["entry", "station", "n", "verdict", "message"],
+        Question::Loans(_) => &[
+            "loan",
+            "state",
+            "partner",
+            "first",
+            "last",
+            "objects",
+            "awaiting",
+            "out",
+            "back",
+            "on",
+            "days_left",
+            "authorised_by",
+        ],
+        Question::Dues(_) => &["loan", "object", "last", "stage", "partner"],
     }
 }

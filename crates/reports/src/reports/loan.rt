@@ -19,11 +19,11 @@ use std::alloc::Global;
 /// The terms of an agreement.
 #[derive(Clone, Copy)]
 pub(crate) struct Terms<'a> {
-    loan: LoanCode,
-    partner: PlaceCode,
-    objects: &'a [ThingCode],
-    first: Day,
-    last: Day,
+    pub loan: LoanCode,
+    pub partner: PlaceCode,
+    pub objects: &'a [ThingCode],
+    pub first: Day,
+    pub last: Day,
 }
 
 /// A loan that is agreed.
@@ -143,7 +143,7 @@ fn object_row<'a>(
 }
 
 /// The stage of an object under a loan that lists it.
-fn stage_of(ledger: &Ledger, loan: &LoanCode, object: &ThingCode) -> Option<LineStage>
+pub(crate) fn stage_of(ledger: &Ledger, loan: &LoanCode, object: &ThingCode) -> Option<LineStage>
     ensures { result ≡ option_and_then (line_in ledger.now loan.now)
         (find_thing ledger.now.museum object.now) }
 {
@@ -153,7 +153,7 @@ fn stage_of(ledger: &Ledger, loan: &LoanCode, object: &ThingCode) -> Option<Line
     }
 }
 
-fn stage_field<'a>(stage: Option<LineStage>) -> Field<'a>
+pub(crate) fn stage_field<'a>(stage: Option<LineStage>) -> Field<'a>
     ensures { cell_of result ≡ text_if (option_map stage_word stage) }
 {
     match stage {
@@ -166,7 +166,7 @@ fn stage_field<'a>(stage: Option<LineStage>) -> Field<'a>
     }
 }
 
-fn state_field<'a>(state: Option<LoanState>) -> Field<'a>
+pub(crate) fn state_field<'a>(state: Option<LoanState>) -> Field<'a>
     ensures { cell_of result ≡ text_if (option_map state_word state) }
 {
     match state {

@@ -1,41 +1,90 @@
 //! The posted entries.
-ghost use Rattle.std.specs.Prelude.{◌≡◌, ◌<◌, ◌+◌, ◌-◌, IfOk, Some, length, map, reverse};
-ghost use Rattle.std.specs.Prelude.{slice_get};
-ghost use Rattle.reports.specs.Stations.{entry_row, entry_row_at, posted_rows};
+ghost use Rattle.std.specs.Prelude.{◌≡◌, ◌<◌, All, IfOk, Some, length, map, reverse, slice_get};
+ghost use Rattle.reports.specs.EntryFilters.{posted_rows, wanted};
+ghost use Rattle.reports.specs.Stations.{entry_row, entry_row_at};
 ghost use Rattle.reports.specs.Texts.{station_text};
 ghost use Rattle.reports.specs.Cells.{cell_of};
 
-use crate::Form;
 use crate::field::Field;
+use crate::reports::entry_filter::is_wanted;
 use crate::rows::Rows;
+use crate::{EntryFilter, Form};
 use codes_core::NoMemory;
 use nest_core::{Setup, StationNo};
 use posting_core::{Ledger, PostedEntry};
 use register_store::message_text;
 use std::alloc::Global;
 
-/// The entries from a number on.
+/// The entries that a list has, oldest first, by index from 0.
 #[derive(Drop)]
 pub(crate) struct Posted<'a> {
-    pub ledger: &'a Ledger,
-    pub from: u64,
+    ledger: &'a Ledger,
+    entries: Vec<usize>,
+    ghost within: { All (λ i. i < length ledger.now.posted) entries.items },
 }
 
 impl<'a> Rows for Posted<'a> {
-    ghost use Rattle.reports.specs.Stations.{posted_rows};
+    ghost use Rattle.std.specs.Prelude.{map};
+    ghost use Rattle.reports.specs.Stations.{entry_row_at};
 
-    ghost rows = { λ s form. posted_rows s.ledger.now s.from };
+    ghost rows = { λ s form. map (entry_row_at s.ledger.now) s.entries.items };
 
     fn len(&self, _form: Form) -> usize {
-        (self.ledger.entry_count() as usize).saturating_sub(self.start())
+        self.entries.len()
     }
 
     fn row(&self, alloc: Global, _form: Form, i: usize) -> Result<Vec<Field<'_>>, NoMemory> {
-        let _ = self.ledger.entry_count();
-        let at = self.start() + i;
-        let entry = entry_at(self.ledger, at);
-        entry_row(alloc, self.ledger.setup(), at as u64 + 1, entry)
+        entry_row_at(alloc, self.ledger, self.entries[i])
     }
+}
+
+impl<'a> Posted<'a> {
+    /// Finds the entries that the list has.
+    pub(crate) fn find(
+        alloc: Global,
+        ledger: &'a Ledger,
+        filter: &EntryFilter,
+    ) -> Result<Posted<'a>, NoMemory>
+        ensures { IfOk result (λ found. map (entry_row_at found.ledger.now) found.entries.items
+            ≡ posted_rows ledger.entry.now filter.now) }
+    {
+        let entries = wanted(alloc, ledger, filter)?;
+        Ok(Posted { ledger, entries })
+    }
+}
+
+/// The indexes of the entries that the list has.
+fn wanted(alloc: Global, ledger: &Ledger, asked: &EntryFilter) -> Result<Vec<usize>, NoMemory>
+    ensures entries { IfOk result (λ found. found.items ≡ wanted ledger.now asked.now) }
+    ensures within { IfOk result
+        (λ found. All (λ i. i < length ledger.now.posted) found.items) }
+{
+    let mut found = Vec::new(alloc);
+    for i in 0..ledger.entry_count() as usize {
+        if is_wanted(
+            alloc,
+            ledger.setup(),
+            asked,
+            i as u64 + 1,
+            entry_at(ledger, i),
+        )? {
+            found.push(i)?;
+        }
+    }
+    Ok(found)
+}
+
+/// The row of the entry at this index, from 0.
+fn entry_row_at<'a>(
+    alloc: Global,
+    ledger: &'a Ledger,
+    at: usize,
+) -> Result<Vec<Field<'a>>, NoMemory>
+    requires { at < length ledger.now.posted }
+    ensures { IfOk result (λ row. map cell_of row.items ≡ entry_row_at ledger.entry.now at) }
+{
+    let _ = ledger.entry_count();
+    entry_row(alloc, ledger.setup(), at as u64 + 1, entry_at(ledger, at))
 }
 
 /// The entry at this index, from 0.
@@ -44,15 +93,6 @@ fn entry_at(ledger: &Ledger, at: usize) -> &PostedEntry
     ensures { slice_get (reverse ledger.entry.now.posted) at ≡ Some result.now }
 {
     &ledger.posted()[at]
-}
-
-impl<'a> Posted<'a> {
-    /// The number of entries before the first of these.
-    fn start(&self) -> usize
-        ensures { result ≡ self.now.from - 1 }
-    {
-        self.from.saturating_sub(1) as usize
-    }
 }
 
 fn entry_row<'a>(
@@ -76,7 +116,7 @@ fn entry_row<'a>(
 }
 
 /// The name of a station. Empty if the setup doesn't have the station.
-fn station_name(setup: &Setup, station: StationNo) -> &str
+pub(crate) fn station_name(setup: &Setup, station: StationNo) -> &str
     ensures { result.now ≡ station_text setup.entry.now station }
 {
     if station < setup.stations() {

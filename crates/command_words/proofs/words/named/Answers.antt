@@ -6,7 +6,7 @@ use Rattle.clap.specs.Words.{Text}
 use Rattle.command_words.specs.Commands.{Form, at, away, commands, contents, copy, count, explain}
 use Rattle.command_words.specs.Commands.{help, history, loan, migrate}
 use Rattle.command_words.specs.Commands.{overdue, posted, register_app, replay, report_app, serve}
-use Rattle.command_words.specs.Commands.{stations, where_is}
+use Rattle.command_words.specs.Commands.{dues, loans, stations, where_is}
 use Rattle.command_words.specs.Words.{Chooses, IsNamed, form_named, texts_of}
 use Rattle.command_words.specs.declared.command.Chosen.{Chosen}
 use Rattle.command_words.specs.declared.command.WordsFault.{WordsFault}
@@ -123,6 +123,18 @@ returns-in-posted c =
     in_arm (texts_of c.args.words.now) c.args.name.now (codes "posted") (Some posted)
     c.posted.result
     c.requires c.in-posted.is refl c.posted.ensures
+
+pub returns-in-loans : goal.returns-in-loans
+unfolding register_app report_app
+returns-in-loans c =
+    in_arm (texts_of c.args.words.now) c.args.name.now (codes "loans") (Some loans) c.loans.result
+    c.requires c.in-loans.is refl c.loans.ensures
+
+pub returns-in-dues : goal.returns-in-dues
+unfolding register_app report_app
+returns-in-dues c =
+    in_arm (texts_of c.args.words.now) c.args.name.now (codes "dues") (Some dues) c.dues.result
+    c.requires c.in-dues.is refl c.dues.ensures
 
 pub returns-in-help : goal.returns-in-help
 unfolding register_app report_app
