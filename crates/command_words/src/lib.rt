@@ -30,6 +30,7 @@ pub mod needs;
 mod options;
 mod questions;
 mod reading;
+mod report_reading;
 mod shapes;
 mod texts;
 pub mod words;

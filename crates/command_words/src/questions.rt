@@ -5,9 +5,9 @@ ghost use Rattle.std.specs.Prelude.{Some, codes};
 ghost use Rattle.command_words.specs.Commands as commands;
 ghost use Rattle.command_words.specs.Words.{Chooses, IsNamed, texts_of};
 
-use crate::reading::{
-    read_report, read_report_and, read_report_and_entries, read_report_and_options, read_word,
-    read_word_if,
+use crate::reading::{read_word, read_word_if};
+use crate::report_reading::{
+    read_report, read_report_and, read_report_and_entries, read_report_and_options,
 };
 use crate::shapes::Name;
 use crate::{Asked, Chosen, WordsFault};

@@ -1,18 +1,18 @@
 //! Reads the values of a command's arguments.
 ghost use Rattle.std.specs.Prelude.{◌≡◌, [], IfOk, MatchResult, None, Some, codes, true};
 ghost use Rattle.clap.specs.Faults.{fault_of, is_simple_and_free};
-ghost use Rattle.clap.specs.Words.{app_of, first_of, found_of, kind_of, matches_of, rows_of};
-ghost use Rattle.command_words.specs.Commands.{all_needed, both_needed, one_needed, report};
+ghost use Rattle.clap.specs.Words.{app_of, first_of, found_of, rows_of};
+ghost use Rattle.command_words.specs.Commands.{all_needed, both_needed, one_needed};
 ghost use Rattle.command_words.specs.Tables.{app_by};
-ghost use Rattle.command_words.specs.Words.{GivesFiles, GivesRecord, GivesReport, HoldsEntries};
-ghost use Rattle.command_words.specs.Words.{HoldsReport, IsFaultBy};
-ghost use Rattle.command_words.specs.Words.{IsNoReport, IsRead, IsRefused, all_in, format_by};
+ghost use Rattle.command_words.specs.Words.{GivesFiles, GivesRecord};
+ghost use Rattle.command_words.specs.Words.{IsFaultBy};
+ghost use Rattle.command_words.specs.Words.{IsRead, IsRefused, all_in};
 ghost use Rattle.command_words.specs.Words.{is_given};
 ghost use Rattle.command_words.specs.Words.{is_true, text_of, texts_of, value, values};
 ghost use Rattle.command_words.specs.declared.command.WordsFault.TheVariants.{Missing, NoMemory};
 
-use crate::shapes::{Name, bare, command_of};
-use crate::{Entries, Format, Report, WordsFault};
+use crate::WordsFault;
+use crate::shapes::{Name, command_of};
 use clap::error::ErrorKind;
 use clap::{ArgMatches, Command, Error};
 use std::alloc::{AllocError, Global};
@@ -65,7 +65,7 @@ pub(crate) fn one<'a, 'b>(matches: &'b ArgMatches<'a>, id: &'static str) -> Opti
     matches.get_str(id)
 }
 
-fn files_of<'a, 'b>(found: &'b ArgMatches<'a>) -> Files<'a>
+pub(crate) fn files_of<'a, 'b>(found: &'b ArgMatches<'a>) -> Files<'a>
     ensures setup { text_of result.setup ≡ first_of (codes "setup") (rows_of (found_of found.now)) }
     ensures store { text_of result.store ≡ first_of (codes "store") (rows_of (found_of found.now)) }
 {
@@ -90,24 +90,12 @@ fn all<'a, 'b>(
 }
 
 /// Whether a flag is given.
-fn is_set(matches: &ArgMatches<'_>, id: &'static str) -> bool
+pub(crate) fn is_set(matches: &ArgMatches<'_>, id: &'static str) -> bool
     ensures { result ≡ is_true (first_of id.now (rows_of (found_of matches.now))) }
 {
     match one(matches, id) {
         Some(text) => text == "true",
         None => false,
-    }
-}
-
-/// The form of a report, by whether `--csv` and `--json` are given. None if both are.
-fn format_of(csv: bool, json: bool) -> Option<Format>
-    ensures { result ≡ format_by csv json }
-{
-    match (csv, json) {
-        (true, true) => None,
-        (true, false) => Some(Format::Csv),
-        (false, true) => Some(Format::Json),
-        (false, false) => Some(Format::Lines),
     }
 }
 
@@ -219,152 +207,6 @@ pub(crate) fn read_record_and<'a>(
         store: needed(files.store)?,
     };
     Ok((record, needed(own)?))
-}
-
-/// The setup, the store and the form of a report. `--csv` together with `--json` is rejected with
-/// the error that `clap` has for two options that exclude each other.
-fn report_in<'a, 'b>(
-    alloc: Global,
-    name: Name,
-    found: &'b ArgMatches<'a>,
-) -> Result<Report<'a>, WordsFault>
-    ensures { MatchResult result
-        (HoldsReport (rows_of (found_of found.now)))
-        (IsNoReport (rows_of (found_of found.now))) }
-{
-    let Some(format) = format_of(is_set(found, "csv"), is_set(found, "json")) else {
-        return Err(WordsFault::Refused(both_formats(alloc, name)?));
-    };
-    let files = files_of(found);
-    Ok(Report {
-        setup: needed(files.setup)?,
-        store: needed(files.store)?,
-        format,
-    })
-}
-
-/// `clap`'s error for `--csv` together with `--json`.
-fn both_formats(alloc: Global, name: Name) -> Result<Error, AllocError>
-    ensures { IfOk result (λ e. kind_of e ≡ ErrorKind.ArgumentConflict) }
-{
-    let mut command = bare(alloc, name);
-    command.error(
-        ErrorKind::ArgumentConflict,
-        "the argument '--csv' cannot be used with '--json'",
-    )
-}
-
-/// Returns the setup, the store and the form of a report. Faults: Refused, if `clap` rejects the
-/// words, or if they have both `--csv` and `--json`; Missing, if the setup or the store is missing.
-/// NoMemory can come instead of any result.
-pub(crate) fn read_report<'a>(
-    alloc: Global,
-    name: Name,
-    words: &'a [&'a str],
-) -> Result<Report<'a>, WordsFault>
-    ensures { MatchResult result
-        (GivesReport (app_by name) (texts_of words.now))
-        (IsFaultBy (Some (report (both_needed (app_by name)))) (texts_of words.now)) }
-{
-    let matches = read(alloc, name, words)?;
-    report_in(alloc, name, &matches)
-}
-
-/// Returns what [`read_report`] returns, and the value of one more argument, None if it has none.
-/// Faults: as for [`read_report`].
-pub(crate) fn read_report_and_perhaps<'a>(
-    alloc: Global,
-    name: Name,
-    words: &'a [&'a str],
-    id: &'static str,
-) -> Result<(Report<'a>, Option<&'a str>), WordsFault>
-    ensures { MatchResult result
-        (λ r. GivesReport (app_by name) (texts_of words.now) r.0
-        × (value (app_by name) (texts_of words.now) id.now ≡ text_of r.1))
-        (IsFaultBy (Some (report (both_needed (app_by name)))) (texts_of words.now)) }
-{
-    let matches = read(alloc, name, words)?;
-    let report = report_in(alloc, name, &matches);
-    let own = one(&matches, id);
-    drop(matches);
-    Ok((report?, own))
-}
-
-/// Which entries the words ask for.
-fn entries_of<'a, 'b>(found: &'b ArgMatches<'a>) -> Entries<'a>
-    ensures { HoldsEntries (rows_of (found_of found.now)) result }
-{
-    Entries {
-        from: one(found, "from"),
-        to: one(found, "to"),
-        station: one(found, "station"),
-        thing: one(found, "thing"),
-        loan: one(found, "loan"),
-        refused: is_set(found, "refused"),
-    }
-}
-
-/// Returns what [`read_report`] returns, and which entries the words ask for. Faults: as for
-/// [`read_report`].
-pub(crate) fn read_report_and_entries<'a>(
-    alloc: Global,
-    name: Name,
-    words: &'a [&'a str],
-) -> Result<(Report<'a>, Entries<'a>), WordsFault>
-    ensures { MatchResult result
-        (λ r. GivesReport (app_by name) (texts_of words.now) r.0
-        × HoldsEntries (matches_of (app_by name) (texts_of words.now)) r.1)
-        (IsFaultBy (Some (report (both_needed (app_by name)))) (texts_of words.now)) }
-{
-    let matches = read(alloc, name, words)?;
-    let report = report_in(alloc, name, &matches);
-    let entries = entries_of(&matches);
-    drop(matches);
-    Ok((report?, entries))
-}
-
-/// Returns what [`read_report`] returns, the values of two more arguments, None for one that has
-/// none, and whether a flag is given. Faults: as for [`read_report`].
-pub(crate) fn read_report_and_options<'a>(
-    alloc: Global,
-    name: Name,
-    words: &'a [&'a str],
-    first: &'static str,
-    second: &'static str,
-    flag: &'static str,
-) -> Result<(Report<'a>, Option<&'a str>, Option<&'a str>, bool), WordsFault>
-    ensures { MatchResult result
-        (λ r. GivesReport (app_by name) (texts_of words.now) r.0
-        × (value (app_by name) (texts_of words.now) first.now ≡ text_of r.1)
-        × (value (app_by name) (texts_of words.now) second.now ≡ text_of r.2)
-        × (is_given (app_by name) (texts_of words.now) flag.now ≡ r.3))
-        (IsFaultBy (Some (report (both_needed (app_by name)))) (texts_of words.now)) }
-{
-    let matches = read(alloc, name, words)?;
-    let report = report_in(alloc, name, &matches);
-    let first = one(&matches, first);
-    let second = one(&matches, second);
-    let is_given = is_set(&matches, flag);
-    drop(matches);
-    Ok((report?, first, second, is_given))
-}
-
-/// Returns what [`read_report`] returns, and the value of one more argument, which is needed.
-/// Faults: as for [`read_report`]; Missing also if this value is missing.
-pub(crate) fn read_report_and<'a>(
-    alloc: Global,
-    name: Name,
-    words: &'a [&'a str],
-    id: &'static str,
-) -> Result<(Report<'a>, &'a str), WordsFault>
-    ensures { MatchResult result
-        (λ r. GivesReport (app_by name) (texts_of words.now) r.0
-        × (value (app_by name) (texts_of words.now) id.now ≡ Some r.1.now))
-        (IsFaultBy (Some (report (all_needed (app_by name) id.now)))
-        (texts_of words.now)) }
-{
-    let (report, own) = read_report_and_perhaps(alloc, name, words, id)?;
-    Ok((report, needed(own)?))
 }
 
 /// Returns the value of the only argument of a command, which is needed. Faults: Refused, if `clap`

@@ -11,8 +11,8 @@ use crate::questions::{
 };
 use crate::reading::{
     needed, read_by, read_files_and_all, read_files_and_flags, read_record, read_record_and,
-    read_report, read_report_and,
 };
+use crate::report_reading::{read_report, read_report_and};
 use crate::shapes::{self, Name};
 use crate::{Asked, Chosen, WordsFault};
 use std::alloc::{AllocError, Global};

@@ -3,6 +3,7 @@ mod NumberedRows
 mod Joins
 mod Members
 mod Passing
+mod WorkedEntries
 mod WorkedLoans
 mod WorkedRows
 mod WrittenText

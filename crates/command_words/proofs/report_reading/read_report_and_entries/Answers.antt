@@ -3,7 +3,7 @@ use Rattle.command_words.specs.Commands.{both_needed, report}
 use Rattle.command_words.specs.Tables.{app_by}
 use Rattle.command_words.specs.Words.{IsFaultBy, texts_of}
 use Rattle.command_words.proofs.Naming.{report_lost, report_refused}
-use Rattle.command_words.proofs.reading.read_report_and_perhaps.Goals as goal
+use Rattle.command_words.proofs.report_reading.read_report_and_entries.Goals as goal
 
 pub returns-in_err-matches : goal.returns-in_err-matches
 returns-in_err-matches c =

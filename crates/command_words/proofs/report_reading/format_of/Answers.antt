@@ -1,6 +1,6 @@
 use Rattle.std.proofs.Common.{ap₂, sym}
 use Rattle.command_words.specs.Words.{format_by}
-use Rattle.command_words.proofs.reading.format_of.Goals as goal
+use Rattle.command_words.proofs.report_reading.format_of.Goals as goal
 
 pub returns-in-true-true : goal.returns-in-true-true
 returns-in-true-true c = ap₂ format_by (sym c.in-true-true.is-0) (sym c.in-true-true.is-1)

@@ -2,8 +2,8 @@ use Rattle.std.proofs.Common.{Some, rules}
 use Rattle.command_words.specs.Commands.{both_needed, report}
 use Rattle.command_words.specs.Tables.{app_by}
 use Rattle.command_words.specs.Words.{IsFaultBy, texts_of}
-use Rattle.command_words.proofs.Naming.{report_lost, report_refused}
-use Rattle.command_words.proofs.reading.read_report_and_options.Goals as goal
+use Rattle.command_words.proofs.Naming.{report_read, report_refused}
+use Rattle.command_words.proofs.report_reading.read_report.Goals as goal
 
 pub returns-in_err-matches : goal.returns-in_err-matches
 returns-in_err-matches c =
@@ -13,10 +13,7 @@ returns-in_err-matches c =
     c.in_err-matches.ensures in
     search rules
 
-pub returns-in_err-report : goal.returns-in_err-report
-returns-in_err-report c =
-    let fault : IsFaultBy (Some (report (both_needed (app_by c.args.name))))
-    (texts_of c.args.words.now) c.in_err-report.field-0.0 =
-    report_lost (app_by c.args.name) (texts_of c.args.words.now) _ c.in_err-report.field-0.0
-    c.in_ok-matches.ensures c.in_err-report.ensures in
-    search rules
+pub returns : goal.returns
+returns c =
+    report_read (app_by c.args.name) (texts_of c.args.words.now) _ c.report_in.result
+    c.in_ok-matches.ensures c.report_in.ensures

@@ -3,7 +3,7 @@ use Rattle.command_words.specs.Commands.{all_needed, report}
 use Rattle.command_words.specs.Tables.{app_by}
 use Rattle.command_words.specs.Words.{IsFaultBy, texts_of}
 use Rattle.command_words.proofs.Naming.{more_needed}
-use Rattle.command_words.proofs.reading.read_report_and.Goals as goal
+use Rattle.command_words.proofs.report_reading.read_report_and.Goals as goal
 
 pub returns-in_err-report : goal.returns-in_err-report
 returns-in_err-report c =
