@@ -39,6 +39,7 @@ fn label(id: &str) -> &'static str {
         "setup" => "--setup",
         "store" => "--store",
         "on" => "--on",
+        "by" => "--by",
         "to" => "--to",
         "list" => "LIST",
         "place" => "PLACE",
