@@ -115,7 +115,8 @@ class Pages:
     def filled(self, filler):
         """A lost number is filled by the message of the page, and by the other kinds that it names."""
         thing = re.search(r'"thing":"(\w+)"', filler)[1]
-        kinds = re.search(r"not\s+list: a ([^.]*)\.", self.page("lines"))[1].replace(",", " ").replace(" or ", " ").split()
+        words = re.findall(r"\w+", re.search(r"not\s+list: a ([^.]*)\.", self.page("lines"))[1])
+        kinds = [word for word in words if word != "or"]
         for message in [filler] + [re.sub(r'"thing":"[^"]*"', f'"thing":"{thing}"', text) for text in self.messages()[:-1]]:
             kind = re.search(r'"kind":"(\w+)"', message)[1]
             if kind not in kinds:
