@@ -13,13 +13,11 @@ function, which is taken by its contract.
 """
 import collections
 import glob
-import importlib.machinery
-import importlib.util
 import os
 import re
-import shutil
 import sys
 
+import prover
 from functions import text_of
 
 INTRODUCTION = """\
@@ -44,18 +42,6 @@ NO_HEAD = "it doesn't begin with 'wrong: TITLE' and 'refused by: FUNCTION, CLAUS
 ENSURES = re.compile(r"^ *ensures (\w+) \{", re.M)
 
 Head = collections.namedtuple("Head", "title function clauses remark")
-
-
-def load_rt():
-    """The functions of `rt` itself, which read an edit and call the prover."""
-    path = os.path.realpath(shutil.which(os.environ.get("RT", "rt")))
-    loader = importlib.machinery.SourceFileLoader("rt", path)
-    made = importlib.util.module_from_spec(importlib.util.spec_from_loader("rt", loader))
-    loader.exec_module(made)
-    return made
-
-
-rt = load_rt()
 
 
 def name_of(file):
@@ -100,7 +86,7 @@ class Edit:
 
     def take_pairs(self, crate, known, lines):
         """Puts each new text in place of its old one."""
-        _, self.bad = rt.read_edit(self.file, crate.folder)
+        _, self.bad = prover.read_edit(self.file, crate.folder)
         for key, value in [] if self.bad else lines:
             if key == "file":
                 path, whole = value.strip(), text_of(f"{crate.folder}/{value.strip()}")
