@@ -104,7 +104,7 @@ def read(text):
 def wanted(head, lines, text):
     """The status, the lines and the error text that a count has to give."""
     rows, fault = read(text)
-    return (1, [], f"fault counts {fault}\n") if fault else (0, Record(head, lines).counted(rows), "")
+    return (1, [], f"fault counts {fault}\n") if fault else (0, Record.of(head, lines).counted(rows), "")
 
 
 def count(program, folder, lines):

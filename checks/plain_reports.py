@@ -24,13 +24,22 @@ STILL_OUT = ("Away", "Here")
 class Record:
     """A museum and what is posted, asked by walking all of it."""
 
-    def __init__(self, setup, lines):
-        self.museum, self.posted, taken = museum_of(setup), [], []
+    def __init__(self, museum, posted):
+        self.museum, self.posted, self.put = museum, posted, targets(posted)
+
+    @classmethod
+    def of(cls, setup, lines):
+        """The record after these lines."""
+        museum, posted, taken = museum_of(setup), [], []
         for text in lines.split(b"\n"):
             line, fault = read_line(text)
-            if not fault and line["station"] in self.museum.stations and "ask" not in line:
-                arrival(self.museum, taken, self.posted, line["station"], line["n"], line["message"])
-        self.put = targets(self.posted)
+            if not fault and line["station"] in museum.stations and "ask" not in line:
+                arrival(museum, taken, posted, line["station"], line["n"], line["message"])
+        return cls(museum, posted)
+
+    def upto(self, entry):
+        """The record as it was after an entry."""
+        return Record(self.museum, self.posted[:entry])
 
     def place(self, thing):
         return place(self.put, thing)
@@ -199,16 +208,23 @@ def asked(record, rows):
     yield ["contents", "C1"], record.contents("C1")
 
 
+def asked_then(record, rows, seed):
+    """The same about the record as it was after an entry, which may be one that it doesn't have yet."""
+    entry = seed % (len(record.posted) + 2)
+    for words, wanted in asked(record.upto(entry), rows):
+        yield [*words, "--upto", str(entry)], wanted
+
+
 def is_same(program, seed, folder):
     """Whether the program prints what the plain one does."""
-    record, rows = Record(streams.SETUP, json_lines(seed)), count_rows(seed)
+    record, rows = Record.of(streams.SETUP, json_lines(seed)), count_rows(seed)
     files = {"setup.csv": streams.SETUP, "list.csv": "".join(f"{at},{thing or ''}\n" for at, thing in rows)}
     for name, text in files.items():
         with open(os.path.join(folder, name), "w", encoding="ascii") as file:
             file.write(text)
     store = ["--setup", "setup.csv", "--store", f"{seed}.db"]
     subprocess.run([program, "replay", *store], input=json_lines(seed), cwd=folder, capture_output=True, check=True)
-    for (command, *words), wanted in asked(record, rows):
+    for (command, *words), wanted in (*asked(record, rows), *asked_then(record, rows, seed)):
         ran = subprocess.run([program, command, *store, *words], cwd=folder, capture_output=True, check=False)
         if ran.returncode != 0 or ran.stdout.decode().splitlines() != wanted:
             print(f"stream {seed}: {command} {words} differs")

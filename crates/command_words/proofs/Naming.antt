@@ -98,7 +98,7 @@ pub report_read : (app : App) (words : List Text) (rows : List Row)
 report_read app words rows (Ok r) read held =
     let given : HoldsReport (matches_of app words) r =
     subst (λ (rs : List Row). HoldsReport rs r) read.1 held in (
-      none_of_some (format_in app words) _ (ap is_some given.2)
+      none_of_some (format_in app words) _ (ap is_some given.3)
           (kinds_taken app words read.0),
       given,
     )

@@ -206,9 +206,14 @@ abbrev word : List ℕ → Bor (List ℕ)
 word t = record { ref_ptr = (0, 0); now = t }
 
 pub away_held : HoldsReport (matches_of away.app away_words)
-    (record { setup = word (codes "a"); store = word (codes "b"); format = Lines })
+    (record {
+      setup = word (codes "a");
+      store = word (codes "b");
+      upto = None;
+      format = Lines;
+    })
 unfolding clap_on_literals register_app report_app
-away_held = (refl, refl, refl)
+away_held = (refl, refl, refl, refl)
 
 pub no_store_held : IsNoReport (matches_of away.app (codes "away" ∷ codes "--setup=a" ∷ [])) Missing
 unfolding clap_on_literals register_app report_app

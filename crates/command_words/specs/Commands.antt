@@ -29,9 +29,10 @@ unfoldable pub register_app : Text → App
 register_app name = with_rule (with_rule (new_app name) (file_rule (codes "setup") 115))
     (file_rule (codes "store") 100)
 
--- A command with --csv and --json as well.
+-- A command with --upto, --csv and --json as well.
 unfoldable pub report_app : App → App
-report_app app = with_rule (with_rule app (flag_rule (codes "csv"))) (flag_rule (codes "json"))
+report_app app = with_rule (with_rule (with_rule app (option_rule (codes "upto")))
+    (flag_rule (codes "csv"))) (flag_rule (codes "json"))
 
 -- A command: its arguments, the values that it can't do without, and whether it is a report, which
 -- takes at most one of --csv and --json.

@@ -87,10 +87,11 @@ format_found rows =
 abbrev pub format_in : App → List Text → Option Format
 format_in app words = format_found (matches_of app words)
 
--- The matches have both files and one form.
+-- The matches have both files, one form, and perhaps the last entry that the report looks at.
 abbrev pub HoldsReport : List Row → Report → Type 0
 HoldsReport rows report = (first_of (codes "setup") rows ≡ Some report.setup.now)
     × (first_of (codes "store") rows ≡ Some report.store.now)
+    × (first_of (codes "upto") rows ≡ text_of report.upto)
     × (format_found rows ≡ Some report.format)
 
 -- The matches have these values for which entries are listed.

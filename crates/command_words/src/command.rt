@@ -18,11 +18,13 @@ pub enum Format {
     Json,
 }
 
-/// The record that a report is about, and the form in which it is printed.
+/// The record that a report is about, and the form in which it is printed. With `upto`, the record
+/// is as it was after the entry of this number.
 #[derive(Clone, Copy)]
 pub struct Report<'a> {
     pub setup: &'a str,
     pub store: &'a str,
+    pub upto: Option<&'a str>,
     pub format: Format,
 }
 

@@ -47,6 +47,13 @@ pub(crate) const STORE: Argument = Argument {
     help: "The file that keeps the record [default: $PAIRSALDER_STORE]",
 };
 
+pub(crate) const UPTO: Argument = Argument {
+    kind: Kind::Valued,
+    id: "upto",
+    value: "N",
+    help: "Answer from the record as it was after entry N",
+};
+
 pub(crate) const CSV: Argument = Argument {
     kind: Kind::Flag,
     id: "csv",

@@ -43,6 +43,7 @@ fn report_in<'a, 'b>(
     Ok(Report {
         setup: needed(files.setup)?,
         store: needed(files.store)?,
+        upto: one(found, "upto"),
         format,
     })
 }

@@ -6,7 +6,7 @@ ghost use Rattle.command_words.specs.Completion.{form_called};
 ghost use Rattle.command_words.specs.Tables.{app_by, form_by, with_arguments};
 ghost use Rattle.command_words.specs.Words.{form_named, texts_of};
 
-use crate::options::{Argument, CSV, JSON, Kind, SETUP, STORE, made, with_help};
+use crate::options::{Argument, CSV, JSON, Kind, SETUP, STORE, UPTO, made, with_help};
 use crate::texts::{self, Help};
 use clap::Command;
 use std::alloc::{AllocError, Global};
@@ -330,23 +330,23 @@ fn arguments_of(name: Name) -> &'static [Argument]
     match name {
         Name::Replay => &[SETUP, STORE, PROGRESS, STRICT],
         Name::Serve => &[SETUP, STORE, FEEDS],
-        Name::Count => &[SETUP, STORE, LIST, CSV, JSON],
-        Name::Overdue => &[SETUP, STORE, DAY, CSV, JSON],
-        Name::Away => &[SETUP, STORE, CSV, JSON],
-        Name::History => &[SETUP, STORE, THING, CSV, JSON],
+        Name::Count => &[SETUP, STORE, LIST, UPTO, CSV, JSON],
+        Name::Overdue => &[SETUP, STORE, DAY, UPTO, CSV, JSON],
+        Name::Away => &[SETUP, STORE, UPTO, CSV, JSON],
+        Name::History => &[SETUP, STORE, THING, UPTO, CSV, JSON],
         Name::Migrate => &[SETUP, STORE],
         Name::Copy => &[SETUP, STORE, TO],
         Name::Explain => &[WORD],
-        Name::Stations => &[SETUP, STORE, CSV, JSON],
-        Name::Where => &[SETUP, STORE, THING, CSV, JSON],
-        Name::Contents => &[SETUP, STORE, CONTAINER, CSV, JSON],
-        Name::Loan => &[SETUP, STORE, LOAN, CSV, JSON],
-        Name::At => &[SETUP, STORE, PLACE, CSV, JSON],
+        Name::Stations => &[SETUP, STORE, UPTO, CSV, JSON],
+        Name::Where => &[SETUP, STORE, THING, UPTO, CSV, JSON],
+        Name::Contents => &[SETUP, STORE, CONTAINER, UPTO, CSV, JSON],
+        Name::Loan => &[SETUP, STORE, LOAN, UPTO, CSV, JSON],
+        Name::At => &[SETUP, STORE, PLACE, UPTO, CSV, JSON],
         Name::Posted => &[
-            SETUP, STORE, FROM, TO_ENTRY, STATION, OF_THING, OF_LOAN, REFUSED, CSV, JSON,
+            SETUP, STORE, FROM, TO_ENTRY, STATION, OF_THING, OF_LOAN, REFUSED, UPTO, CSV, JSON,
         ],
-        Name::Loans => &[SETUP, STORE, ON, BY, OPEN, CSV, JSON],
-        Name::Dues => &[SETUP, STORE, DUE, CSV, JSON],
+        Name::Loans => &[SETUP, STORE, ON, BY, OPEN, UPTO, CSV, JSON],
+        Name::Dues => &[SETUP, STORE, DUE, UPTO, CSV, JSON],
         Name::Help => &[TOPIC],
     }
 }

@@ -85,7 +85,7 @@ error, or there are more or fewer files than stations.",
 
 pub(crate) const COUNT: Help = Help {
     about: "Compares a count list with the record, and lists what is missing",
-    usage: "pairsalder count --setup PATH --store PATH LIST [--csv | --json]",
+    usage: "pairsalder count --setup PATH --store PATH LIST\n       [--upto N] [--csv | --json]",
     more: "\
 For an inventory: someone wrote down what is on the shelves.
 
@@ -106,7 +106,7 @@ error.",
 
 pub(crate) const OVERDUE: Help = Help {
     about: "Lists the loans that are past their last day, with objects not yet returned",
-    usage: "pairsalder overdue --setup PATH --store PATH --on DAY [--csv | --json]",
+    usage: "pairsalder overdue --setup PATH --store PATH --on DAY\n       [--upto N] [--csv | --json]",
     more: "\
 For loan control: which objects partners should have returned, and which the
 museum should have given back.
@@ -123,7 +123,7 @@ DAY is not a valid day.",
 
 pub(crate) const AWAY: Help = Help {
     about: "Lists the own objects that aren't at their normal locations",
-    usage: "pairsalder away --setup PATH --store PATH [--csv | --json]",
+    usage: "pairsalder away --setup PATH --store PATH\n       [--upto N] [--csv | --json]",
     more: "\
 For a check of the stores: objects that are somewhere else, on loan, or have no
 place yet.
@@ -139,7 +139,7 @@ Exit status: 0 done, even if no object is away; 1 a fault; 2 a usage error.",
 
 pub(crate) const HISTORY: Help = Help {
     about: "Lists every place where a thing has been, oldest first",
-    usage: "pairsalder history --setup PATH --store PATH CODE [--csv | --json]",
+    usage: "pairsalder history --setup PATH --store PATH CODE\n       [--upto N] [--csv | --json]",
     more: "\
 For an audit: how an object or container got where it is, including moves inside
 a crate.
@@ -225,7 +225,7 @@ Exit status: 0 the page was printed; 2 a usage error.",
 
 pub(crate) const STATIONS: Help = Help {
     about: "Lists the number that each station has to send next",
-    usage: "pairsalder stations --setup PATH --store PATH [--csv | --json]",
+    usage: "pairsalder stations --setup PATH --store PATH\n       [--upto N] [--csv | --json]",
     more: "\
 For the morning after an import: which station's messages are still missing.
 
@@ -242,7 +242,7 @@ Exit status: 0 done; 1 a fault; 2 a usage error.",
 
 pub(crate) const WHERE: Help = Help {
     about: "Prints where a thing is",
-    usage: "pairsalder where --setup PATH --store PATH CODE [--csv | --json]",
+    usage: "pairsalder where --setup PATH --store PATH CODE\n       [--upto N] [--csv | --json]",
     more: "\
 For fetching an object: its place, and the boxes and crates around it.
 
@@ -258,7 +258,7 @@ Exit status: 0 done; 1 a fault; 2 a usage error, or CODE is not a thing's code."
 
 pub(crate) const CONTENTS: Help = Help {
     about: "Lists what is in a container",
-    usage: "pairsalder contents --setup PATH --store PATH CODE [--csv | --json]",
+    usage: "pairsalder contents --setup PATH --store PATH CODE\n       [--upto N] [--csv | --json]",
     more: "\
 For a packing list: everything in a box or crate, including the boxes inside it.
 
@@ -276,7 +276,7 @@ or CODE is not a thing's code.",
 
 pub(crate) const LOAN: Help = Help {
     about: "Prints a loan: its partner, its dates, and each object's stage",
-    usage: "pairsalder loan --setup PATH --store PATH CODE [--csv | --json]",
+    usage: "pairsalder loan --setup PATH --store PATH CODE\n       [--upto N] [--csv | --json]",
     more: "\
 For a call from the partner: the loan's dates, and which objects are still
 expected, out, here or back.
@@ -293,7 +293,7 @@ Exit status: 0 done; 1 a fault; 2 a usage error, or CODE is not a loan's code.",
 
 pub(crate) const AT: Help = Help {
     about: "Lists everything at a place",
-    usage: "pairsalder at --setup PATH --store PATH PLACE [--csv | --json]",
+    usage: "pairsalder at --setup PATH --store PATH PLACE\n       [--upto N] [--csv | --json]",
     more: "\
 For checking a shelf, a room or a partner: what should be there.
 
@@ -309,7 +309,7 @@ PLACE is not a place's code.",
 
 pub(crate) const POSTED: Help = Help {
     about: "Lists the entries of the record",
-    usage: "pairsalder posted --setup PATH --store PATH [--from N] [--to N]\n       [--station NAME] [--thing CODE] [--loan CODE] [--refused]\n       [--csv | --json]",
+    usage: "pairsalder posted --setup PATH --store PATH [--from N] [--to N]\n       [--station NAME] [--thing CODE] [--loan CODE] [--refused]\n       [--upto N] [--csv | --json]",
     more: "\
 For an audit, and for other programs: every posted message with its verdict,
 including those not applied.
@@ -331,7 +331,7 @@ N is not a number, or CODE is not a code.",
 
 pub(crate) const LOANS: Help = Help {
     about: "Lists the agreed loans, how far they are, and the days left",
-    usage: "pairsalder loans --setup PATH --store PATH [--on DAY] [--by DAY] [--open]\n       [--csv | --json]",
+    usage: "pairsalder loans --setup PATH --store PATH [--on DAY] [--by DAY] [--open]\n       [--upto N] [--csv | --json]",
     more: "\
 For a review of the loans: which are still open, and when each one ends.
 
@@ -352,7 +352,7 @@ DAY is not a day.",
 
 pub(crate) const DUES: Help = Help {
     about: "Lists the objects that are to come back or go back by a day",
-    usage: "pairsalder dues --setup PATH --store PATH --by DAY [--csv | --json]",
+    usage: "pairsalder dues --setup PATH --store PATH --by DAY\n       [--upto N] [--csv | --json]",
     more: "\
 For planning transport: what has to move before the loans end.
 

@@ -7,7 +7,7 @@ use crate::files::{read_feeds, read_setup};
 use crate::help::help;
 use crate::lines::write_line;
 use crate::progress::Progress;
-use crate::request::{form_of, read_question};
+use crate::request::{form_of, number_if, read_question};
 use crate::usage::on_missing;
 use crate::work::{Work, over_store};
 use command_words::words::chosen;
@@ -282,6 +282,7 @@ fn reported<T: Threads + Wait + Sync + Copy + Send + 'static, S: Start, R: BufRe
     output: &mut W,
     notes: &mut String,
 ) -> Result<(), CommandFault> {
+    let upto = number_if(report.upto)?;
     let (setup, question) = read_question(rt, report.setup, asked)?;
     over_store(
         rt,
@@ -289,7 +290,7 @@ fn reported<T: Threads + Wait + Sync + Copy + Send + 'static, S: Start, R: BufRe
         setup,
         Some(report.store),
         start,
-        Work::Print(question, form_of(report.format)),
+        Work::Print(question, form_of(report.format), upto),
         &mut Tally::new(),
         input,
         output,

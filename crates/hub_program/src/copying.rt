@@ -11,8 +11,9 @@ use copy_core::{PourFault, opens_to, pour};
 use hub_core::Hub;
 use nest_core::Setup;
 use posting_core::Ledger;
-use register_store::StoreFault;
+use register_store::{Register, StoreFault};
 use sqlite::{FileFrom, Files, Start};
+use std::alloc::Global;
 use std::fs::{File, OpenOptions, TryLockError};
 use std::io::{ErrorKind, Write};
 use std::os::unix::fs::OpenOptionsExt;
@@ -62,8 +63,8 @@ pub fn copied<S: Start, U: Start, W: Write>(
     writeln!(output, "copied {count} {noun}").map_err(|_| CommandFault::WriteFailed)
 }
 
-/// Opens a hub over the register, and closes it. Returns its ledger and the store's two files,
-/// which stay locked.
+/// Judges the record of a store, and closes it. Returns the ledger and the store's two files, which
+/// stay locked.
 fn closed<S: Start>(
     rt: &HostRuntime,
     path: &str,
@@ -73,16 +74,30 @@ fn closed<S: Start>(
     ensures museum { IfOk result (λ r. r.0.museum ≡ setup) }
     ensures usable { IfOk result (λ r. IsTrue (file_is_usable S.Start r.1.db)) }
 {
-    match Hub::open(rt.alloc(), setup, register) {
-        Ok(hub) => {
-            let (ledger, register) = hub.into_parts();
+    let (register, judged) = judged(rt.alloc(), setup, register);
+    match judged {
+        Ok(ledger) => {
             let files = store::files(rt, path, register)?;
             Ok((ledger, files))
         }
-        Err(failed) => {
-            let fault = CommandFault::from(failed.fault);
-            Err(store::closed_with(rt, path, failed.register, fault))
+        Err(fault) => {
+            let fault = CommandFault::from(fault);
+            Err(store::closed_with(rt, path, register, fault))
         }
+    }
+}
+
+/// Opens a hub over the register, which judges its entries. Returns the register, and the ledger or
+/// the fault.
+fn judged<R: Register>(alloc: Global, setup: Setup, register: R) -> (R, Result<Ledger, StoreFault>)
+    ensures { IfOk result.1 (λ ledger. ledger.museum ≡ setup) }
+{
+    match Hub::open(alloc, setup, register) {
+        Ok(hub) => {
+            let (ledger, register) = hub.into_parts();
+            (register, Ok(ledger))
+        }
+        Err(failed) => (failed.register, Err(failed.fault)),
     }
 }
 
@@ -171,19 +186,28 @@ fn compare<U: Start>(
     requires { setup ≡ ledger.now.museum }
 {
     let (register, _) = store::open(rt, part, again, Begins::Nothing)?;
-    match opens_to(rt.alloc(), setup, register, ledger) {
-        Ok((register, same)) => {
-            store::close(rt, part, register, Ok(()))?;
-            if same {
-                Ok(())
-            } else {
-                Err(CommandFault::File(on_difference(rt, part)))
-            }
-        }
-        Err(failed) => {
-            let fault = CommandFault::from(failed.fault);
-            Err(store::closed_with(rt, part, failed.register, fault))
-        }
+    let (register, same) = compared(rt.alloc(), setup, register, ledger);
+    let ended = match same {
+        Ok(true) => Ok(()),
+        Ok(false) => Err(CommandFault::File(on_difference(rt, part))),
+        Err(fault) => Err(CommandFault::from(fault)),
+    };
+    store::close(rt, part, register, ended)
+}
+
+/// Compares the register's record with the ledger. Returns the register, and whether the record is
+/// the same.
+fn compared<R: Register>(
+    alloc: Global,
+    setup: Setup,
+    register: R,
+    ledger: &Ledger,
+) -> (R, Result<bool, StoreFault>)
+    requires { setup ≡ ledger.now.museum }
+{
+    match opens_to(alloc, setup, register, ledger) {
+        Ok((register, same)) => (register, Ok(same)),
+        Err(failed) => (failed.register, Err(failed.fault)),
     }
 }
 

@@ -35,7 +35,7 @@ pub enum CommandFault {
     Day(CodeFault),
     /// The text is not the code of a thing, a loan or a place.
     Code(CodeFault),
-    /// The text after `--from` or `--to` is not a number.
+    /// The text after `--from`, `--to` or `--upto` is not a number.
     Number,
     /// The word is not explained.
     Name(Advice),

@@ -4,6 +4,7 @@ use crate::visible::add_on_one_line;
 use codes_core::{ThingCode, ThingKind};
 use hub_core::Hub;
 use nest_core::Setup;
+use posting_core::Ledger;
 use register_store::Register;
 use reports::{EntryFilter, Question};
 use std::alloc::AllocError;
@@ -15,13 +16,30 @@ pub fn add_new_store(notes: &mut String, path: &str) -> Result<(), AllocError> {
     notes.push_str("\n")
 }
 
-/// Appends a note if the report on this question prints no row because the setup does not have a
-/// code or a station, or because an object has no contents.
+/// Appends a note if the report is to be about an entry that the record doesn't have yet, and one if
+/// it prints no row because the setup does not have a code or a station, or because an object has no
+/// contents.
 pub fn add_unanswered(
     notes: &mut String,
-    setup: &Setup,
+    ledger: &Ledger,
     question: &Question,
+    upto: Option<u64>,
 ) -> Result<(), AllocError> {
+    let count = ledger.entry_count();
+    if let Some(entry) = upto
+        && entry > count as u64
+    {
+        writeln!(
+            notes,
+            "note: there is no entry {entry} yet; the last is {count}"
+        )?;
+    }
+    add_unknown(notes, ledger.setup(), question)
+}
+
+/// Appends a note if the question has a code or a station that the setup does not have, or asks for
+/// the contents of an object.
+fn add_unknown(notes: &mut String, setup: &Setup, question: &Question) -> Result<(), AllocError> {
     match question {
         Question::At(place) if setup.place(place).is_none() => {
             writeln!(notes, "note: {} is not in the setup", place.as_str())

@@ -122,7 +122,8 @@ fn entry_filter(alloc: Global, entries: Entries<'_>) -> Result<EntryFilter, Comm
     })
 }
 
-fn number_if(text: Option<&str>) -> Result<Option<u64>, CommandFault> {
+/// Returns the number of an entry, if there is one. Fault: Number, if the text is no number.
+pub fn number_if(text: Option<&str>) -> Result<Option<u64>, CommandFault> {
     match text {
         None => Ok(None),
         Some(text) => match text.parse() {

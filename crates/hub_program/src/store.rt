@@ -6,7 +6,7 @@ use crate::advice::{Advice, folder_of};
 use crate::fault::CommandFault;
 use register_sql::{SqlRegister, fault_of};
 use register_store::StoreFault;
-use sqlite::{Connection, Error, ErrorCode, FileFrom, FileStore, Files, Start};
+use sqlite::{Alter, Connection, Error, ErrorCode, FileFrom, FileStore, Files, Start};
 use std::alloc::Global;
 use std::fs;
 use std::fs::OpenOptions;
@@ -315,11 +315,7 @@ fn on_statement(alloc: Global, path: &str, error: Error) -> Advice {
 
 /// The advice on a database with a wrong schema: a table or view that no store has, if there is
 /// one.
-fn on_tables<S: Start>(
-    alloc: Global,
-    path: &str,
-    conn: &mut Connection<FileStore<FileFrom<S>>>,
-) -> Advice {
+fn on_tables<S: Alter>(alloc: Global, path: &str, conn: &mut Connection<S>) -> Advice {
     let rows = conn
         .query_all("SELECT type, name FROM sqlite_schema", &[])
         .ok()?;

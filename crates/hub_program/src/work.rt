@@ -1,6 +1,7 @@
 //! Opens a hub over a store, does the work of a command, and closes the store.
 ghost use Rattle.std.specs.Prelude.{◌≡◌, false, length};
 ghost use Rattle.hub_program.specs.Works.{HasFeeds};
+ghost use Rattle.past_core.specs.Past.{as_of, upto};
 ghost use Rattle.reports.specs.Forms.{Prints};
 ghost use Rattle.reports.specs.Reports.{report_text};
 
@@ -10,9 +11,11 @@ use crate::serving::served;
 use crate::store::{self, Begins};
 use hub_core::{Hub, Watch, replay_watched};
 use nest_core::Setup;
+use past_core::past;
+use posting_core::Ledger;
 use register_sql::SqlRegister;
 use register_store::{PlainRegister, Register};
-use reports::{Form, Question, print};
+use reports::{Form, PrintFault, Question, print};
 use serve_core::TextFeed;
 use sqlite::{Alter, Start};
 use std::alloc::Global;
@@ -25,8 +28,9 @@ use std::thread::Threads;
 pub enum Work {
     /// Answers the lines of the input.
     Replay,
-    /// Prints the answer to a question in this form.
-    Print(Question, Form),
+    /// Prints the answer to a question in this form. With a number, the answer is that of the record
+    /// as it was after this entry.
+    Print(Question, Form, Option<u64>),
     /// Serves all stations, each from its feed, and prints the log.
     Serve(Vec<TextFeed>),
     /// Migrates the store to this version.
@@ -240,7 +244,9 @@ fn done<
 {
     match work {
         Work::Replay => replayed(alloc, hub, watch, input, output, notes),
-        Work::Print(question, form) => printed(alloc, threads, hub, &question, form, output, notes),
+        Work::Print(question, form, upto) => printed(
+            alloc, threads, hub, &question, form, upto, output, notes,
+        ),
         Work::Serve(feeds) => served(alloc, threads, hub, feeds, output, notes),
         // A hub opens only over a store of this version.
         Work::Migrate => (hub.close(), Ok(())),
@@ -264,22 +270,46 @@ fn replayed<S: Register, V: Watch, R: BufRead, W: Write>(
     (hub.close(), ended)
 }
 
-/// Prints the answer to the question. Nothing else is written to the output.
+/// Prints the answer to the question, from the record as it is or as it was after an entry. Nothing
+/// else is written to the output.
 fn printed<T: Threads + Sync, S: Register, W: Write>(
     alloc: Global,
     threads: &T,
     hub: Hub<S>,
     question: &Question,
     form: Form,
+    upto: Option<u64>,
     output: &mut W,
     notes: &mut String,
 ) -> (S, Result<(), CommandFault>)
     ensures { Prints (W.contents output.old) (W.contents output.new) result.1
-        (report_text form hub.book question.now) }
+        (report_text form (as_of upto hub.book) question.now) }
 {
-    if let Err(error) = add_unanswered(notes, hub.ledger().setup(), question) {
+    if let Err(error) = add_unanswered(notes, hub.ledger(), question, upto) {
         return (hub.close(), Err(CommandFault::from(error)));
     }
-    let ended = print(threads, alloc, hub.ledger(), question, form, output);
+    let ended = match upto {
+        None => print(threads, alloc, hub.ledger(), question, form, output),
+        Some(entry) => print_past(threads, alloc, hub.ledger(), entry, question, form, output),
+    };
     (hub.close(), ended.map_err(CommandFault::from))
+}
+
+/// Prints the answer to the question from the record as it was after this entry.
+fn print_past<T: Threads + Sync, W: Write>(
+    threads: &T,
+    alloc: Global,
+    ledger: &Ledger,
+    entry: u64,
+    question: &Question,
+    form: Form,
+    output: &mut W,
+) -> Result<(), PrintFault>
+    ensures { Prints (W.contents output.old) (W.contents output.new) result
+        (report_text form (upto ledger.now entry) question.now) }
+{
+    let past = past(alloc, ledger, entry as usize)?;
+    let ended = print(threads, alloc, &past, question, form, output);
+    drop(past);
+    ended
 }

@@ -12,6 +12,7 @@ mod failing;
 mod fresh;
 mod hub;
 mod lanes;
+mod memory;
 mod messages;
 mod migrations;
 mod nest;

@@ -1,6 +1,6 @@
 //! The setup: the museum's lists, and the lookups in them.
 ghost use Rattle.std.specs.Prelude.{◌≡◌, ◌≢◌, ◌<◌, ◌≤◌, ◌+◌, true, length, None, Some, IfSome};
-ghost use Rattle.std.specs.Prelude.{OnOk, OnErr, IfErr};
+ghost use Rattle.std.specs.Prelude.{OnOk, OnErr, IfErr, IfOk};
 ghost use Rattle.std.specs.Option.{option_and_then};
 ghost use Rattle.nest_core.specs.Museum.{IsMuseum, find_station, find_place, find_thing};
 ghost use Rattle.nest_core.specs.Museum.{station_name_of, place_code_of, thing_code_of, is_inside};
@@ -12,7 +12,7 @@ use crate::setup_fault::SetupFault;
 use crate::setup_row::SetupRow;
 use crate::station_name::StationName;
 use crate::{MOST_PLACES, MOST_STATIONS, MOST_THINGS};
-use codes_core::{PlaceCode, ThingCode, ThingKind};
+use codes_core::{NoMemory, PlaceCode, ThingCode, ThingKind};
 use indexmap::{IndexMap, IndexSet};
 use std::alloc::Global;
 use std::marker::Model;
@@ -73,6 +73,17 @@ impl Setup {
         ensures { IsMuseum self.now }
     {
         let _ = &self.things;
+    }
+
+    /// Returns a setup with the same lists. Fails with `NoMemory`.
+    pub fn copy(&self) -> Result<Setup, NoMemory>
+        ensures { IfOk result (λ copy. copy ≡ self.now) }
+    {
+        Ok(Setup {
+            stations: self.stations.clone()?,
+            places: self.places.clone()?,
+            things: self.things.clone()?,
+        })
     }
 
     /// The number of stations, at most [`MOST_STATIONS`].

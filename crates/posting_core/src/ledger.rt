@@ -116,6 +116,13 @@ impl Ledger {
         &self.setup
     }
 
+    /// The depth limit: how many containers may be above a thing.
+    pub fn depth(&self) -> u32
+        ensures { result ≡ self.now.depth }
+    {
+        self.nest.depth()
+    }
+
     /// The posted entries, oldest first: entry 1 is at index 0. Refused messages are among them.
     pub fn posted(&self) -> &[PostedEntry]
         ensures { reverse result.now ≡ self.now.posted }

@@ -1,4 +1,4 @@
--- The reports that list loans, computed on a small record: a loan of two objects, one of which has
+-- The reports that list loans, computed on a small record: a loan of two objects. The first has
 -- left.
 use Rattle.std.specs.Prelude.{◌≡◌, ◌∷◌, [], List, None, Some, codes, false, negsuc, pos, refl}
 use Rattle.std.specs.Prelude.{true}

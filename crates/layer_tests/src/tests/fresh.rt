@@ -1,11 +1,11 @@
 //! The two sorts of register that tests make: in memory, and over a database in memory. Each test
 //! runs on both.
 
+use super::memory::shut_in_memory;
 use register_sql::SqlRegister;
 use register_store::{PlainRegister, Register, StoreFault};
 use sqlite::MemStore;
 use std::alloc::Global;
-use store_file::shut_in_memory;
 
 /// A register over a database in memory.
 pub(crate) type Stored = SqlRegister<MemStore>;

@@ -3,6 +3,7 @@
 //! their replies. Without input, nothing is answered.
 ghost use Rattle.std.specs.Prelude.{◌≤◌, length};
 
+use super::memory::shut_in_memory;
 use hub_core::{Hub, replay};
 use nest_core::Setup;
 use register_sql::SqlRegister;
@@ -11,7 +12,6 @@ use std::alloc::Global;
 use std::io;
 use std::io::{BufWriter, Read, Write};
 use std::test::Fail;
-use store_file::shut_in_memory;
 
 /// Answers a session as the program does, but over a database in memory. Returns whether it ended
 /// without a fault. The setup ends at the first empty line.
