@@ -12,7 +12,7 @@ pub(crate) struct Help {
 /// it.
 pub(crate) const VERSION: &str = "0.1.0\n\
     Proved: written in Rattle, Rust with contracts, and checked with\n\
-    rattle-kit-13f logic dac8208d650f15bf.";
+    rattle-kit-13b logic dac8208d650f15bf.";
 
 pub(crate) const PROGRAM: Help = Help {
     about: "Records where a museum's objects are, where they have been, and on which\n\
