@@ -19,60 +19,58 @@ use Rattle.reports.specs.CountRows.{answer_row, answer_row_at, count_rows, found
 use Rattle.reports.specs.CountRows.{missing_row}
 use Rattle.reports.proofs.NumberedRows.{behind_at, each_at, front_at, numbered, numbers_alike}
 
-pub count_len : (S : Museum) (form : Form) (rows : List CountRow) (found : List CountAnswer)
+pub count_len : (B : Book) (form : Form) (rows : List CountRow) (found : List CountAnswer)
     (missed : List MissingObject)
-    → length (found_rows S form rows found missed) ≡ length rows + length missed
-count_len S form rows found missed =
-    length-append (map (found_row_at S form rows found) (range_with_len 0 (length rows)))
-    (map (missing_row S form) missed)
-    ∙ (ap (λ n. n + length (map (missing_row S form) missed))
-    (length-map-range_with_len (found_row_at S form rows found) 0 (length rows))
-    ∙ ap (λ n. length rows + n) (length-map missed (missing_row S form)))
+    → length (found_rows B form rows found missed) ≡ length rows + length missed
+count_len B form rows found missed =
+    length-append (map (found_row_at B.museum form rows found) (range_with_len 0 (length rows)))
+    (map (missing_row B form) missed)
+    ∙ (ap (λ n. n + length (map (missing_row B form) missed))
+    (length-map-range_with_len (found_row_at B.museum form rows found) 0 (length rows))
+    ∙ ap (λ n. length rows + n) (length-map missed (missing_row B form)))
 
-pub answered_at : (S : Museum) (form : Form) (rows : List CountRow) (found : List CountAnswer)
+pub answered_at : (B : Book) (form : Form) (rows : List CountRow) (found : List CountAnswer)
     (missed : List MissingObject) (i : ℕ) (row : CountRow) (a : CountAnswer)
     → slice_get rows i ≡ Some row → slice_get found i ≡ Some a → slice_get
-    (found_rows S form rows found missed) i ≡ Some (answer_row S form (i + 1) row a)
-answered_at S form rows found missed i row a here its =
+    (found_rows B form rows found missed) i ≡ Some (answer_row B.museum form (i + 1) row a)
+answered_at B form rows found missed i row a here its =
     let within : i < length rows = slice_get_within rows i row here in
-    let front : i < length (map (found_row_at S form rows found) (range_with_len 0 (length rows)))
+    let front : i < length (map (found_row_at B.museum form rows found) (range_with_len 0 (length rows)))
     = subst (λ n. i < n) (sym
-    (length-map-range_with_len (found_row_at S form rows found) 0 (length rows))) within in
-    front_at (map (found_row_at S form rows found) (range_with_len 0 (length rows)))
-    (map (missing_row S form) missed) i front
-    ∙ (numbered (found_row_at S form rows found) (length rows) i within
-    ∙ ap Some (ap (λ o. option_map_or (λ (r : CountRow). option_map_or (answer_row S form (i + 1) r)
+    (length-map-range_with_len (found_row_at B.museum form rows found) 0 (length rows))) within in
+    front_at (map (found_row_at B.museum form rows found) (range_with_len 0 (length rows)))
+    (map (missing_row B form) missed) i front
+    ∙ (numbered (found_row_at B.museum form rows found) (length rows) i within
+    ∙ ap Some (ap (λ o. option_map_or (λ (r : CountRow). option_map_or (answer_row B.museum form (i + 1) r)
     (slice_get found i) []) o []) here
-    ∙ ap (λ o. option_map_or (answer_row S form (i + 1) row) o []) its))
+    ∙ ap (λ o. option_map_or (answer_row B.museum form (i + 1) row) o []) its))
 
-pub missed_at : (S : Museum) (form : Form) (rows : List CountRow) (found : List CountAnswer)
+pub missed_at : (B : Book) (form : Form) (rows : List CountRow) (found : List CountAnswer)
     (missed : List MissingObject) (i j : ℕ) (m : MissingObject)
     → i ≡ length rows + j → slice_get missed j ≡ Some m
-    → slice_get (found_rows S form rows found missed) i ≡ Some (missing_row S form m)
-missed_at S form rows found missed i j m is here =
+    → slice_get (found_rows B form rows found missed) i ≡ Some (missing_row B form m)
+missed_at B form rows found missed i j m is here =
     let front : List (List Cell) =
-    map (found_row_at S form rows found) (range_with_len 0 (length rows)) in
+    map (found_row_at B.museum form rows found) (range_with_len 0 (length rows)) in
     let many : length front ≡ length rows =
-    length-map-range_with_len (found_row_at S form rows found) 0 (length rows) in
-    ap (slice_get (found_rows S form rows found missed)) (is ∙ ap (λ n. n + j) (sym many))
-    ∙ (behind_at front (map (missing_row S form) missed) j
-    ∙ each_at (missing_row S form) missed j m here)
+    length-map-range_with_len (found_row_at B.museum form rows found) 0 (length rows) in
+    ap (slice_get (found_rows B form rows found missed)) (is ∙ ap (λ n. n + j) (sym many))
+    ∙ (behind_at front (map (missing_row B form) missed) j
+    ∙ each_at (missing_row B form) missed j m here)
 
-pub all_found : (B : Book) (form : Form) (rows : List CountRow) (S : Museum)
-    (found : List CountAnswer) (missed : List MissingObject)
-    → S ≡ B.museum → found ≡ answers B rows → missed ≡ missing B rows
-    → found_rows S form rows found missed ≡ count_rows B form rows
-all_found B form rows S found missed s f m =
-    ap (λ t. found_rows t form rows found missed) s
-    ∙ (ap (λ a. found_rows B.museum form rows a missed) f
+pub all_found : (B : Book) (form : Form) (rows : List CountRow) (found : List CountAnswer)
+    (missed : List MissingObject) → found ≡ answers B rows → missed ≡ missing B rows
+    → found_rows B form rows found missed ≡ count_rows B form rows
+all_found B form rows found missed f m =
+    ap (λ a. found_rows B form rows a missed) f
     ∙ (ap (λ a. map (found_row_at B.museum form rows (answers B rows))
-    (range_with_len 0 (length rows)) ++ map (missing_row B.museum form) a) m
-    ∙ ap (λ front. front ++ map (missing_row B.museum form) (missing B rows))
+    (range_with_len 0 (length rows)) ++ map (missing_row B form) a) m
+    ∙ ap (λ front. front ++ map (missing_row B form) (missing B rows))
     (numbers_alike (found_row_at B.museum form rows (answers B rows)) (answer_row_at B form rows) 0
     (length rows)
     (λ i h. ap (λ o. option_map_or (λ (r : CountRow).
     option_map_or (answer_row B.museum form (i + 1) r) o []) (slice_get rows i) [])
-    (numbered (answer_at B rows) (length rows) i (omega (arith, h)))))))
+    (numbered (answer_at B rows) (length rows) i (omega (arith, h))))))
 
 pub as_many : (B : Book) (rows : List CountRow) (found : List CountAnswer) → found ≡ answers B rows
     → length found ≡ length rows

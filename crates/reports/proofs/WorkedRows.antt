@@ -207,7 +207,8 @@ counted-line : words_line
 unfolding digits
 counted-line = refl
 
-missing-line : words_line (missing_row museum Plain (record { place = 2; object = 2 }))
+missing-line : words_line
+    (missing_row (book []) Plain (record { place = 2; object = 2 }))
     ≡ codes "missing S2 2001.4.1\n"
 missing-line = refl
 

@@ -4,7 +4,7 @@ use Rattle.std.specs.Prelude.{slice_get}
 use Rattle.std.specs.List.{range_with_len}
 use Rattle.std.specs.Option.{option_map_or}
 use Rattle.nest_core.specs.Museum.{Museum}
-use Rattle.posting_core.specs.Book.{Book}
+use Rattle.posting_core.specs.Book.{Book, place_in}
 use Rattle.count_core.specs.declared.answer.CountAnswer.{CountAnswer}
 use Rattle.count_core.specs.declared.answer.CountAnswer.TheVariants.{UnknownPlace, Counted}
 use Rattle.count_core.specs.declared.answer.CountAnswer.TheVariants.{UnknownObject, Again, Unplaced}
@@ -15,7 +15,7 @@ use Rattle.count_core.specs.Counts.{answer_at, missing}
 use Rattle.reports.specs.declared.form.Form.{Form}
 use Rattle.reports.specs.Forms.{by_form}
 use Rattle.reports.specs.Cells.{Cell, nothing, number, text, text_if}
-use Rattle.reports.specs.Texts.{place_text, thing_text}
+use Rattle.reports.specs.Texts.{place_text, place_text_if, thing_text}
 
 abbrev pub answer_word : CountAnswer → List ℕ
 answer_word UnknownPlace = codes "UnknownPlace"
@@ -46,18 +46,19 @@ answer_row_at B form rows i =
     (slice_get rows i) []
 
 -- missing S1 2001.4.3
-abbrev pub missing_row : Museum → Form → MissingObject → List Cell
-missing_row S form missed = by_form form
-    (text (codes "missing") ∷ text (place_text S missed.place)
-    ∷ text (thing_text S missed.object) ∷ [])
-    (nothing ∷ text (place_text S missed.place) ∷ text (thing_text S missed.object)
-    ∷ text (codes "Missing") ∷ nothing ∷ [])
+abbrev pub missing_row : Book → Form → MissingObject → List Cell
+missing_row B form missed = by_form form
+    (text (codes "missing") ∷ text (place_text B.museum missed.place)
+    ∷ text (thing_text B.museum missed.object) ∷ [])
+    (nothing ∷ text (place_text B.museum missed.place) ∷ text (thing_text B.museum missed.object)
+    ∷ text (codes "Missing")
+    ∷ text_if (place_text_if B.museum (place_in B missed.object)) ∷ [])
 
 -- The answer to each row of the list, and then each object that the list misses.
 abbrev pub count_rows : Book → Form → List CountRow → List (List Cell)
 count_rows B form rows =
     map (answer_row_at B form rows) (range_with_len 0 (length rows))
-    ++ map (missing_row B.museum form) (missing B rows)
+    ++ map (missing_row B form) (missing B rows)
 
 -- The same rows for these answers and these missing objects.
 abbrev pub found_row_at : Museum → Form → List CountRow → List CountAnswer → ℕ → List Cell
@@ -65,8 +66,8 @@ found_row_at S form rows answers i = option_map_or
     (λ row. option_map_or (answer_row S form (i + 1) row) (slice_get answers i) [])
     (slice_get rows i) []
 
-abbrev pub found_rows : Museum → Form → List CountRow → List CountAnswer → List MissingObject
+abbrev pub found_rows : Book → Form → List CountRow → List CountAnswer → List MissingObject
     → List (List Cell)
-found_rows S form rows answers missed =
-    map (found_row_at S form rows answers) (range_with_len 0 (length rows))
-    ++ map (missing_row S form) missed
+found_rows B form rows answers missed =
+    map (found_row_at B.museum form rows answers) (range_with_len 0 (length rows))
+    ++ map (missing_row B form) missed

@@ -103,7 +103,16 @@ fn posted(rt: &HostRuntime, alloc: Global) -> Result<InFile<Missing>, Fail> {
 /// Whether the store has the six messages; closes it.
 fn has_all<S: Start>(alloc: Global, register: InFile<S>) -> bool {
     let (register, sent) = over(alloc, register);
-    let is_closed = match register.close() {
+    let doubles = match sent {
+        Some(sent) => sent.doubles,
+        None => 0,
+    };
+    can_close(register) && doubles == COUNT
+}
+
+/// Closes the store, and returns whether that succeeds.
+fn can_close<S: Start>(register: InFile<S>) -> bool {
+    match register.close() {
         Ok(files) => {
             drop(files);
             true
@@ -112,8 +121,7 @@ fn has_all<S: Start>(alloc: Global, register: InFile<S>) -> bool {
             drop(files);
             false
         }
-    };
-    is_closed && sent.is_some_and(|sent| sent.doubles == COUNT)
+    }
 }
 
 /// Copies the two files as they are.

@@ -9,7 +9,7 @@ ghost use Rattle.reports.specs.Cells.{cell_of};
 
 use crate::Form;
 use crate::field::Field;
-use crate::optional_fields::{place_if, thing_if};
+use crate::optional_fields::{place_code_if, place_if, thing_if};
 use crate::rows::Rows;
 use codes_core::{NoMemory, PlaceCode};
 use count_core::{CountAnswer, CountReport, CountRow, MissingObject, check};
@@ -21,20 +21,20 @@ use std::thread::Threads;
 /// The rows of a count list with their answers, and the objects that are missing from it.
 #[derive(Drop)]
 pub(crate) struct Counted<'a> {
-    setup: &'a Setup,
+    ledger: &'a Ledger,
     list: &'a [CountRow],
     answers: Vec<CountAnswer>,
     missing: Vec<MissingObject>,
     ghost many: { length answers.items ≡ length list.now },
     ghost known: { (i p : ℕ) → slice_get answers.items i ≡ Some (answer.Elsewhere p)
-        → p < length setup.now.places },
-    ghost within: { All (IsMissingIn setup.now) missing.items },
+        → p < length ledger.now.museum.places },
+    ghost within: { All (IsMissingIn ledger.now.museum) missing.items },
 }
 
 impl<'a> Rows for Counted<'a> {
     ghost use Rattle.reports.specs.CountRows.{found_rows};
 
-    ghost rows = { λ s form. found_rows s.setup.now form s.list.now s.answers.items
+    ghost rows = { λ s form. found_rows s.ledger.now form s.list.now s.answers.items
         s.missing.items };
 
     fn len(&self, _form: Form) -> usize {
@@ -46,7 +46,7 @@ impl<'a> Rows for Counted<'a> {
             let number = i as u64 + 1;
             answer_row(
                 alloc,
-                self.setup,
+                self.ledger,
                 form,
                 number,
                 &self.list[i],
@@ -54,7 +54,7 @@ impl<'a> Rows for Counted<'a> {
             )
         } else {
             let missed = self.missing[i - self.list.len()];
-            missing_row(alloc, self.setup, form, missed)
+            missing_row(alloc, self.ledger, form, missed)
         }
     }
 }
@@ -68,13 +68,13 @@ impl<'a> Counted<'a> {
         list: &'a [CountRow],
     ) -> Result<Counted<'a>, NoMemory>
         ensures { IfOk result (λ found. (form : Form)
-            → found_rows found.setup.now form found.list.now found.answers.items
+            → found_rows found.ledger.now form found.list.now found.answers.items
             found.missing.items
             ≡ count_rows ledger.entry.now form list.entry.now) }
     {
         let CountReport { answers, missing } = check(threads, alloc, ledger, list)?;
         Ok(Counted {
-            setup: ledger.setup(),
+            ledger,
             list,
             answers,
             missing,
@@ -85,18 +85,19 @@ impl<'a> Counted<'a> {
 /// The row of an answer.
 fn answer_row<'a>(
     alloc: Global,
-    setup: &Setup,
+    ledger: &Ledger,
     form: Form,
     number: u64,
     row: &CountRow,
     answer: CountAnswer,
 ) -> Result<Vec<Field<'a>>, NoMemory>
-    requires { (p : ℕ) → answer ≡ CountAnswer.Elsewhere p → p < length setup.now.places }
-    ensures { IfOk result
-        (λ cells. map cell_of cells.items ≡ answer_row setup.now form number row.now answer) }
+    requires { (p : ℕ) → answer ≡ CountAnswer.Elsewhere p
+        → p < length ledger.now.museum.places }
+    ensures { IfOk result (λ cells. map cell_of cells.items
+        ≡ answer_row ledger.now.museum form number row.now answer) }
 {
     let word = Field::Word(answer_word(answer));
-    let at = place_if(on_record(setup, answer));
+    let at = place_if(on_record(ledger.setup(), answer));
     Ok(match form {
         Form::Plain => vec![in alloc; Field::Word("row"), Field::Number(number), word, at]?,
         Form::Csv | Form::Json => vec![in alloc;
@@ -135,16 +136,18 @@ fn answer_word<'a>(answer: CountAnswer) -> &'a str
     }
 }
 
-/// The row of an object that is missing from the list.
+/// The row of an object that is missing from the list. In the forms with columns it has the place
+/// on record, which may be a place in the one that the list names.
 fn missing_row<'a>(
     alloc: Global,
-    setup: &Setup,
+    ledger: &Ledger,
     form: Form,
     missed: MissingObject,
 ) -> Result<Vec<Field<'a>>, NoMemory>
-    requires { IsMissingIn setup.now missed }
-    ensures { IfOk result (λ row. map cell_of row.items ≡ missing_row setup.now form missed) }
+    requires { IsMissingIn ledger.now.museum missed }
+    ensures { IfOk result (λ row. map cell_of row.items ≡ missing_row ledger.now form missed) }
 {
+    let setup = ledger.setup();
     let place = Field::Place(setup.place_code(missed.place));
     let object = Field::Thing(setup.thing_code(missed.object));
     Ok(match form {
@@ -154,7 +157,7 @@ fn missing_row<'a>(
             place,
             object,
             Field::Word("Missing"),
-            Field::Nothing,
+            place_if(place_code_if(setup, ledger.place_of(missed.object))),
         ]?,
     })
 }
