@@ -40,6 +40,15 @@ pub fn on_target(alloc: Global, path: &str, kind: ErrorKind) -> Advice {
     }
 }
 
+/// Returns the advice on an argument that is not what it has to be.
+pub fn on_value(alloc: Global, value: &str, wanted: &str) -> Advice {
+    let mut text = String::new(alloc);
+    add_quoted(&mut text, value).ok()?;
+    text.push_str(" is not ").ok()?;
+    text.push_str(wanted).ok()?;
+    Some(text)
+}
+
 /// Returns the path of the file's folder.
 pub fn folder_of(path: &str) -> &str {
     match path.rsplit_once('/') {

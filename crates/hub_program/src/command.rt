@@ -282,7 +282,7 @@ fn reported<T: Threads + Wait + Sync + Copy + Send + 'static, S: Start, R: BufRe
     output: &mut W,
     notes: &mut String,
 ) -> Result<(), CommandFault> {
-    let upto = number_if(report.upto)?;
+    let upto = number_if(rt.alloc(), report.upto)?;
     let (setup, question) = read_question(rt, report.setup, asked)?;
     over_store(
         rt,

@@ -31,12 +31,12 @@ pub enum CommandFault {
     Counts(CountFault, Advice),
     /// The store failed, or cannot be used with this setup.
     Store(StoreFault, Advice),
-    /// The text after `--on` is not a day.
-    Day(CodeFault),
+    /// The text after `--on` or `--by` is not a day.
+    Day(CodeFault, Advice),
     /// The text is not the code of a thing, a loan or a place.
-    Code(CodeFault),
+    Code(CodeFault, Advice),
     /// The text after `--from`, `--to` or `--upto` is not a number.
-    Number,
+    Number(Advice),
     /// The word is not explained.
     Name(Advice),
     /// The lines of the station of this name did not come to their end.
@@ -121,9 +121,9 @@ impl CommandFault {
     /// Returns the exit status: 2 for a usage error, otherwise 1.
     pub fn status(&self) -> u8 {
         match self {
-            CommandFault::Day(_)
-            | CommandFault::Code(_)
-            | CommandFault::Number
+            CommandFault::Day(..)
+            | CommandFault::Code(..)
+            | CommandFault::Number(_)
             | CommandFault::Name(_)
             | CommandFault::Feeds
             | CommandFault::Words(_) => 2,
@@ -152,6 +152,9 @@ impl CommandFault {
             | CommandFault::Setup(_, advice)
             | CommandFault::Counts(_, advice)
             | CommandFault::Store(_, advice)
+            | CommandFault::Day(_, advice)
+            | CommandFault::Code(_, advice)
+            | CommandFault::Number(advice)
             | CommandFault::Words(advice) => advice.as_deref(),
             _ => None,
         }
@@ -173,9 +176,9 @@ impl CommandFault {
                 fault.row(),
             ),
             CommandFault::Store(fault, _) => write_store(errors, *fault),
-            CommandFault::Day(fault) => write_code(errors, "day", *fault),
-            CommandFault::Code(fault) => write_code(errors, "code", *fault),
-            CommandFault::Number => writeln!(errors, "fault number"),
+            CommandFault::Day(fault, _) => write_code(errors, "day", *fault),
+            CommandFault::Code(fault, _) => write_code(errors, "code", *fault),
+            CommandFault::Number(_) => writeln!(errors, "fault number"),
             CommandFault::Name(_) => writeln!(errors, "fault name"),
             CommandFault::Unfinished(station) => writeln!(errors, "fault unfinished {station}"),
             CommandFault::Feeds => writeln!(errors, "fault feeds"),

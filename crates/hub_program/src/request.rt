@@ -1,5 +1,6 @@
 //! Turns the words of a report into the question that it answers.
 
+use crate::advice::on_value;
 use crate::fault::CommandFault;
 use crate::files::{read_list, read_setup};
 use codes_core::{Day, LoanCode, PlaceCode, ThingCode};
@@ -25,29 +26,30 @@ pub fn read_question(
     setup: &str,
     asked: Asked<'_>,
 ) -> Result<(Setup, Question), CommandFault> {
+    let alloc = rt.alloc();
     match asked {
         Asked::Count(list) => read_count(rt, setup, list),
-        Asked::Overdue(on) => with_setup(rt, setup, Question::Overdue(day(on)?)),
+        Asked::Overdue(on) => with_setup(rt, setup, Question::Overdue(day(alloc, on)?)),
         Asked::Away => with_setup(rt, setup, Question::Away),
-        Asked::History(code) => with_setup(rt, setup, Question::History(thing(code)?)),
+        Asked::History(code) => with_setup(rt, setup, Question::History(thing(alloc, code)?)),
         Asked::Stations => with_setup(rt, setup, Question::Stations),
-        Asked::Where(code) => with_setup(rt, setup, Question::Where(thing(code)?)),
-        Asked::Contents(code) => with_setup(rt, setup, Question::Contents(thing(code)?)),
-        Asked::Loan(code) => with_setup(rt, setup, Question::Loan(loan(code)?)),
-        Asked::At(code) => with_setup(rt, setup, Question::At(place(code)?)),
+        Asked::Where(code) => with_setup(rt, setup, Question::Where(thing(alloc, code)?)),
+        Asked::Contents(code) => with_setup(rt, setup, Question::Contents(thing(alloc, code)?)),
+        Asked::Loan(code) => with_setup(rt, setup, Question::Loan(loan(alloc, code)?)),
+        Asked::At(code) => with_setup(rt, setup, Question::At(place(alloc, code)?)),
         Asked::Posted(entries) => {
-            let filter = entry_filter(rt.alloc(), entries)?;
+            let filter = entry_filter(alloc, entries)?;
             with_setup(rt, setup, Question::Posted(filter))
         }
         Asked::Loans { on, by, open } => {
             let filter = LoanFilter {
-                on: day_if(on)?,
-                by: day_if(by)?,
+                on: day_if(alloc, on)?,
+                by: day_if(alloc, by)?,
                 open,
             };
             with_setup(rt, setup, Question::Loans(filter))
         }
-        Asked::Dues(by) => with_setup(rt, setup, Question::Dues(day(by)?)),
+        Asked::Dues(by) => with_setup(rt, setup, Question::Dues(day(alloc, by)?)),
     }
 }
 
@@ -82,35 +84,59 @@ fn read_count(
     }
 }
 
-fn day(text: &str) -> Result<Day, CommandFault> {
-    Day::parse(text.as_bytes()).map_err(CommandFault::Day)
+fn day(alloc: Global, text: &str) -> Result<Day, CommandFault> {
+    match Day::parse(text.as_bytes()) {
+        Ok(day) => Ok(day),
+        Err(fault) => {
+            let advice = on_value(alloc, text, "a day such as 2024-06-01");
+            Err(CommandFault::Day(fault, advice))
+        }
+    }
 }
 
-fn day_if(text: Option<&str>) -> Result<Option<Day>, CommandFault> {
+fn day_if(alloc: Global, text: Option<&str>) -> Result<Option<Day>, CommandFault> {
     match text {
-        Some(text) => Ok(Some(day(text)?)),
+        Some(text) => Ok(Some(day(alloc, text)?)),
         None => Ok(None),
     }
 }
 
-fn thing(text: &str) -> Result<ThingCode, CommandFault> {
-    ThingCode::parse(text.as_bytes()).map_err(CommandFault::Code)
+fn thing(alloc: Global, text: &str) -> Result<ThingCode, CommandFault> {
+    match ThingCode::parse(text.as_bytes()) {
+        Ok(code) => Ok(code),
+        Err(fault) => {
+            let advice = on_value(alloc, text, "the code of a thing, such as 2001.4.1 or C17");
+            Err(CommandFault::Code(fault, advice))
+        }
+    }
 }
 
-fn loan(text: &str) -> Result<LoanCode, CommandFault> {
-    LoanCode::parse(text.as_bytes()).map_err(CommandFault::Code)
+fn loan(alloc: Global, text: &str) -> Result<LoanCode, CommandFault> {
+    match LoanCode::parse(text.as_bytes()) {
+        Ok(code) => Ok(code),
+        Err(fault) => {
+            let advice = on_value(alloc, text, "the code of a loan, such as LO2024.1");
+            Err(CommandFault::Code(fault, advice))
+        }
+    }
 }
 
-fn place(text: &str) -> Result<PlaceCode, CommandFault> {
-    PlaceCode::parse(text.as_bytes()).map_err(CommandFault::Code)
+fn place(alloc: Global, text: &str) -> Result<PlaceCode, CommandFault> {
+    match PlaceCode::parse(text.as_bytes()) {
+        Ok(code) => Ok(code),
+        Err(fault) => {
+            let advice = on_value(alloc, text, "the code of a place, such as S1 or S1-A");
+            Err(CommandFault::Code(fault, advice))
+        }
+    }
 }
 
 /// Which entries the words ask for. Faults, in this order: Number, Code. NoMemory can come instead.
 fn entry_filter(alloc: Global, entries: Entries<'_>) -> Result<EntryFilter, CommandFault> {
-    let from = number_if(entries.from)?.unwrap_or(1);
-    let to = number_if(entries.to)?;
-    let thing = thing_if(entries.thing)?;
-    let loan = loan_if(entries.loan)?;
+    let from = number_if(alloc, entries.from)?.unwrap_or(1);
+    let to = number_if(alloc, entries.to)?;
+    let thing = thing_if(alloc, entries.thing)?;
+    let loan = loan_if(alloc, entries.loan)?;
     let station = text_if(alloc, entries.station)?;
     Ok(EntryFilter {
         from,
@@ -123,27 +149,30 @@ fn entry_filter(alloc: Global, entries: Entries<'_>) -> Result<EntryFilter, Comm
 }
 
 /// Returns the number of an entry, if there is one. Fault: Number, if the text is no number.
-pub fn number_if(text: Option<&str>) -> Result<Option<u64>, CommandFault> {
+pub fn number_if(alloc: Global, text: Option<&str>) -> Result<Option<u64>, CommandFault> {
     match text {
         None => Ok(None),
         Some(text) => match text.parse() {
             Ok(number) => Ok(Some(number)),
-            Err(_) => Err(CommandFault::Number),
+            Err(_) => {
+                let advice = on_value(alloc, text, "the number of an entry, such as 17");
+                Err(CommandFault::Number(advice))
+            }
         },
     }
 }
 
-fn thing_if(text: Option<&str>) -> Result<Option<ThingCode>, CommandFault> {
+fn thing_if(alloc: Global, text: Option<&str>) -> Result<Option<ThingCode>, CommandFault> {
     match text {
         None => Ok(None),
-        Some(text) => Ok(Some(thing(text)?)),
+        Some(text) => Ok(Some(thing(alloc, text)?)),
     }
 }
 
-fn loan_if(text: Option<&str>) -> Result<Option<LoanCode>, CommandFault> {
+fn loan_if(alloc: Global, text: Option<&str>) -> Result<Option<LoanCode>, CommandFault> {
     match text {
         None => Ok(None),
-        Some(text) => Ok(Some(loan(text)?)),
+        Some(text) => Ok(Some(loan(alloc, text)?)),
     }
 }
 
