@@ -20,7 +20,7 @@ endef
 
 all: bin/pairsalder
 
-# Proves and builds the program. Results are cached on each machine.
+# Proves and builds the program. Some versions of `rt` keep what they proved.
 bin/pairsalder: $(SOURCES)
 	@mkdir -p bin
 	@RT="$(RT)" packaging/prove.py $@

@@ -2,8 +2,8 @@
 """Proves the program and builds it: each crate that it stands on, as many at once as processors
 and memory allow.
 
-Usage: prove.py PROGRAM. RT names the command `rt`. Each crate that is proved is kept on this
-machine, so that after an interruption only the others are left. The log goes to build.log beside
+Usage: prove.py PROGRAM. RT names the command `rt`. With a version of `rt ci` that keeps its
+proofs, only the other crates are left after an interruption. The log goes to build.log beside
 PROGRAM."""
 import os
 import re
