@@ -4,11 +4,12 @@
 //! judged as it was then, so the answers of the new ledger are those of that time.
 //!
 //! ```text
-//! let then = past(alloc, &ledger, 17)?;     // as it was after entry 17
+//! let mut then = past(alloc, &ledger, 17)?;     // as it was after entry 17
+//! post_next(alloc, &ledger, &mut then, 17)?;    // and after entry 18, which has index 17
 //! ```
 #![tactic(auto)]
 
-ghost use Rattle.std.specs.Prelude.{◌≡◌, ◌∷◌, IfOk, OnOk};
+ghost use Rattle.std.specs.Prelude.{◌≡◌, ◌∷◌, ◌<◌, ◌+◌, IfOk, OnOk, length};
 ghost use Rattle.posting_core.specs.Lawful.{Follows};
 ghost use Rattle.past_core.specs.Past.{upto};
 
@@ -23,13 +24,28 @@ pub fn past(alloc: Global, ledger: &Ledger, count: usize) -> Result<Ledger, NoMe
 {
     let setup = ledger.setup().copy()?;
     let mut past = Ledger::new(alloc, setup, ledger.depth())?;
-    ledger.is_lawful();
-    let entries = ledger.posted();
-    let few = count.min(entries.len());
+    let few = count.min(ledger.posted().len());
     'entries: for i in 0..few {
-        post_again(alloc, &mut past, &entries[i])?;
+        post_next(alloc, ledger, &mut past, i)?;
     }
     Ok(past)
+}
+
+/// Posts entry `i` of the ledger, from 0, to `past`, which must have the entries before it. Fails
+/// with `NoMemory`.
+pub fn post_next(
+    alloc: Global,
+    ledger: &Ledger,
+    past: &mut Ledger,
+    i: usize,
+) -> Result<(), NoMemory>
+    requires within { i < length ledger.now.posted }
+    requires before { past.old ≡ upto ledger.now i }
+    ensures { OnOk result (past.new ≡ upto ledger.now (i + 1)) }
+{
+    ledger.is_lawful();
+    let entries = ledger.posted();
+    post_again(alloc, past, &entries[i])
 }
 
 /// Posts an entry once more. It may follow the entries of the ledger.

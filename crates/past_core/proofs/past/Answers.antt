@@ -1,48 +1,28 @@
-use Rattle.std.proofs.Common.{◌≡◌, ◌∙◌, ℕ, ◌+◌, ◌<◌, ◌≤◌, List, [], ◌∷◌, ◌++◌, length, get_or, take, drop, ap, sym, subst, arith}
-use Rattle.std.specs.Prelude.{reverse}
-use Rattle.std.proofs.lemmas.List.{reverse-append, take_more, take-append-drop}
+use Rattle.std.proofs.Common.{◌≡◌, ◌∙◌, ℕ, ap, [], arith, length, sym, take}
+use Rattle.std.specs.Prelude.{min, reverse}
+use Rattle.std.proofs.lemmas.List.{reverse-reverse, take_min}
 use Rattle.nest_core.specs.Museum.{Museum}
-use Rattle.posting_core.specs.declared.entry.Entry.{Entry}
 use Rattle.posting_core.specs.Book.{Book}
-use Rattle.posting_core.specs.Lawful.{Follows, IsLawful}
 use Rattle.past_core.proofs.past.Goals as goal
 
--- The older entries of a lawful list are lawful.
-lawful_rest : (S : Museum) (depth : ℕ) (newer older : List Entry)
-    → IsLawful S depth (newer ++ older) → IsLawful S depth older
-lawful_rest S depth [] older h = h
-lawful_rest S depth (e ∷ newer) older h = lawful_rest S depth newer older h.1
+-- A record without entries.
+abbrev empty : Museum → ℕ → Book
+empty S depth = record { museum = S; depth = depth; posted = [] }
 
--- The first i + 1 entries, the newest first, are entry i and then the first i.
-reverse-take : (xs : List Entry) (i : ℕ) (d : Entry) → i < length xs
-    → reverse (take (i + 1) xs) ≡ get_or xs i d ∷ reverse (take i xs)
-reverse-take xs i d lt =
-    ap reverse (take_more xs i d lt) ∙ reverse-append (take i xs) (get_or xs i d ∷ [])
+pub entries-init : goal.entries-init
+entries-init c =
+    c.in_ok-past.ensures
+    ∙ (ap (λ S. empty S c.depth.result) (c.in_ok-setup.ensures ∙ c.setup.ensures)
+    ∙ ap (empty c.args.ledger.now.museum) c.depth.ensures)
 
--- Entry i of a lawful list may follow those before it.
-follows_earlier : (S : Museum) (depth : ℕ) (xs : List Entry) (i : ℕ) (d : Entry) → i < length xs
-    → IsLawful S depth (reverse xs) → Follows S depth (reverse (take i xs)) (get_or xs i d)
-follows_earlier S depth xs i d lt lawful =
-    let all : reverse xs ≡ reverse (drop (i + 1) xs) ++ reverse (take (i + 1) xs) =
-    ap reverse (sym (take-append-drop (i + 1) xs))
-    ∙ reverse-append (take (i + 1) xs) (drop (i + 1) xs) in
-    let first : IsLawful S depth (reverse (take (i + 1) xs)) =
-    lawful_rest S depth (reverse (drop (i + 1) xs)) (reverse (take (i + 1) xs))
-    (subst (IsLawful S depth) all lawful) in
-    (subst (IsLawful S depth) (reverse-take xs i d lt) first).0
-
-pub post_again-requires : goal.post_again-requires
-post_again-requires c =
+pub returns : goal.returns
+returns c =
     let L = c.args.ledger.now in
-    let xs = c.posted-entries.result.now in
-    let e = c.index-entries-i.result in
-    let i = c.entries.i in
-    let short : c.min-few.result ≤ length xs = omega (arith, c.min-few.ensures) in
-    let within : i < length xs = omega (arith, c.entries-test.true) in
-    let lawful : IsLawful L.museum L.depth (reverse xs) =
-    subst (IsLawful L.museum L.depth) (sym c.posted-entries.ensures) c.is_lawful.ensures in
-    let then : Follows L.museum L.depth (reverse (take i xs)) (get_or xs i e) =
-    follows_earlier L.museum L.depth xs i e within lawful in
-    subst (λ (B : Book). Follows B.museum B.depth B.posted e) (sym c.entries.invariant)
-    (subst (λ (y : Entry). Follows L.museum L.depth (reverse (take i xs)) y)
-    (sym c.index-entries-i.is) then)
+    let xs = c.posted.result.now in
+    let older : xs ≡ reverse L.posted = sym (reverse-reverse xs) ∙ ap reverse c.posted.ensures in
+    let few : c.entries.i ≡ min c.args.count (length (reverse L.posted)) =
+    omega (arith, c.entries-test.false, c.entries.auto.i-end)
+    ∙ (c.min-few.ensures ∙ ap (λ ys. min c.args.count (length ys)) older) in
+    c.entries.invariant
+    ∙ ap (λ ys. record L { posted = reverse ys })
+    (ap (λ k. take k (reverse L.posted)) few ∙ take_min c.args.count (reverse L.posted))
