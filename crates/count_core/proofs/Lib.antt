@@ -12,4 +12,6 @@ pub mod Ranges
 pub mod ReportLaws
 pub mod RowMarks
 pub mod Unflagged
+pub mod Vouching
 mod Worked
+mod WorkedSealed

@@ -33,7 +33,7 @@ thing_below S code x found =
       length-map S.things (λ (row : List ℕ × Option ℕ). row.0),
     )
 
-named_below : (S : Museum) (o : Option (List ℕ)) (x : ℕ) → option_and_then (find_thing S) o ≡ Some x
+pub named_below : (S : Museum) (o : Option (List ℕ)) (x : ℕ) → option_and_then (find_thing S) o ≡ Some x
     → x < length S.things
 named_below S None x found = absurd (cc)
 named_below S (Some code) x found = thing_below S code x found

@@ -5,3 +5,4 @@ pub mod Counts
 pub mod Inside
 pub mod Marks
 pub mod Reports
+pub mod Sealed

@@ -2,7 +2,8 @@
 //! away from their normal place, and the things in a place.
 //!
 //! [`read_counts`] reads a list of [`CountRow`]s, and [`check`] compares it with the ledger. Its
-//! [`CountReport`] has an answer for each row, and the objects that the list misses. [`overdue`],
+//! [`CountReport`] has an answer for each row, and the objects that the list misses. With
+//! [`check_sealed`], a container that was seen vouches for the objects in it. [`overdue`],
 //! [`away`] and [`in_place`] are the other reports.
 //!
 //! The contracts promise:
@@ -32,6 +33,7 @@ mod marks;
 mod missing;
 mod outer;
 mod reports;
+mod sealed;
 mod unnamed;
 
 pub use answer::{AwayObject, CountAnswer, CountReport, MissingObject};
@@ -40,6 +42,7 @@ pub use count_fault::CountFault;
 pub use count_reader::read_counts;
 pub use count_row::CountRow;
 pub use reports::{away, in_place, overdue};
+pub use sealed::check_sealed;
 
 /// The most rows of a count list, not counting skipped ones.
 pub const MOST_COUNT_ROWS: usize = 100_000;
