@@ -7,7 +7,7 @@ that they name, and each word. With --each only every Nth of these is tried, fro
 a run with few of them each is tried.
 
 What is answered has to be a named fault, on one line of standard error and with status 1 or 2, after whole lines of output; or
-status 0, whole lines, and nothing on standard error but notes; a run with --strict may also end so with status 1. Words that aren't
+status 0, whole lines, and nothing on standard error but notes and, with --why, causes; a run with --strict may also end so with status 1. Words that aren't
 right may have the text of their reader, with status 2, and may ask for help. With a PEER, the plain program that bench/run builds,
 the answer to a session has to be the peer's, to the byte. It prints how many were tried, and the first that is wrong."""
 import os
@@ -25,6 +25,7 @@ import seeds
 
 CASES = pathlib.Path(__file__).resolve().parent.parent / "cases"
 FAULT = re.compile(rb"fault [a-z]+( [A-Za-z0-9]+)?( row [0-9]+)?\n")
+CAUSE = re.compile(rb"[0-9]+ [A-Z0-9-]+ [0-9]+ [a-z]+ .+: .+\n")  # a line of replay --why
 LINES = re.compile("([^\x00-\x1f\x7f\ufffd]*\n)*")  # of UTF-8, where what isn't so becomes U+FFFD
 TURNED = (b"\0", b"\xff", b'"', b"\n")
 FEW = 100  # an input with no more damages is tried with each of them
@@ -45,9 +46,10 @@ def answer(program, words, given, folder):
     return ended.returncode, ended.stdout, ended.stderr
 
 
-def may_be(said, of_words, strict=False):
-    status, out, errors = said
-    errors = b"".join(line for line in errors.splitlines(True) if not line.startswith((b"help: ", b"note: ")))
+def may_be(said, of_words, words=()):
+    (status, out, errors), strict = said, b"--strict" in words
+    lines = [line for line in errors.splitlines(True) if not line.startswith((b"help: ", b"note: "))]
+    errors = b"".join(line for line in lines if not (b"--why" in words and CAUSE.fullmatch(line)))
     if not LINES.fullmatch(out.decode(errors="replace")):
         return of_words and status == 0 and not errors
     if not errors and (status == 0 or (strict and status == 1 and out)):
@@ -114,7 +116,7 @@ class Runs:
                 (folder / where).write_bytes(data)
             given = (folder / self.given).read_bytes() if (folder / self.given).exists() else b""
             said = answer(program, words, given, folder)
-        return may_be(said, of_words, b"--strict" in words) or said
+        return may_be(said, of_words, words) or said
 
     def run(self, program, folder):
         """The run itself, so that the next one stands on it."""

@@ -9,6 +9,7 @@ import subprocess
 import sys
 import tempfile
 
+import plain_causes
 import seeds
 import streams
 from plain import arrival
@@ -130,22 +131,35 @@ class Record:
             for number, entry in enumerate(self.posted, 1)
         ]
 
+    def refused(self):
+        """The number of the first entry with each verdict other than Applied."""
+        first = {}
+        for number, entry in enumerate(self.posted, 1):
+            first.setdefault(entry.verdict, number)
+        return {number for verdict, number in first.items() if verdict != "Applied"}
+
     def entries_by(self, keeps):
         """The lines of the entries for which a test holds, by the station and the message."""
         return [line for line, entry in zip(self.entries(), self.posted) if keeps(entry)]
 
-    def counted(self, rows):
-        """What is said to each row, and what the list misses."""
+    def why(self, number):
+        """The line on the cause of an entry's verdict, if there is the entry."""
+        return [plain_causes.why(self.museum, self.posted, number)] if number <= len(self.posted) else []
+
+    def counted(self, rows, sealed=False):
+        """What is said to each row, and what the list misses: if sealed, not what is in a container that was found."""
         said, named = [], set()
         for sought, thing in rows:
             said.append(self.answer(sought, thing, named))
             named.add(thing)
+        found = {thing for sought, thing in rows if self.answer(sought, thing, ()) == "Found"} if sealed else set()
         mentioned = dict.fromkeys(sought for sought, _ in rows if sought in self.museum.inside)
         missing = [
             f"missing {sought} {thing}"
             for sought in mentioned
             for thing in self.museum.things
             if not is_container(thing) and thing not in named and self.lies(thing, sought)
+            and not found.intersection(chain(self.put, thing))
         ]
         return [f"row {i} {answer}" for i, answer in enumerate(said, 1)] + missing
 
@@ -186,6 +200,9 @@ def count_rows(seed):
 def asked(record, rows):
     """Each command's words, and what it has to print."""
     yield ["count", "list.csv"], record.counted(rows)
+    yield ["count", "list.csv", "--sealed"], record.counted(rows, sealed=True)
+    for number in {*range(1, len(record.posted) + 2, 3), *record.refused()}:
+        yield ["why", str(number)], record.why(number)
     yield ["away"], record.away()
     yield ["posted"], record.entries()
     yield ["posted", "--from", "3", "--to", "9"], record.entries()[2:9]

@@ -29,6 +29,7 @@ has_both Setup name.At other more = refl
 has_both Setup name.Posted other more = refl
 has_both Setup name.Loans other more = refl
 has_both Setup name.Dues other more = refl
+has_both Setup name.Why other more = refl
 has_both Setup name.Help other more = absurd (more refl)
 has_both Store name.Replay other more = refl
 has_both Store name.Serve other more = refl
@@ -47,6 +48,7 @@ has_both Store name.At other more = refl
 has_both Store name.Posted other more = refl
 has_both Store name.Loans other more = refl
 has_both Store name.Dues other more = refl
+has_both Store name.Why other more = refl
 has_both Store name.Help other more = absurd (more refl)
 
 -- explain has neither

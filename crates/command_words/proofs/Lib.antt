@@ -5,3 +5,4 @@ pub mod Settling
 pub mod Missing
 pub mod Filling
 pub mod Tables
+pub mod Lookup

@@ -29,6 +29,7 @@ is_simple name.At = refl
 is_simple name.Posted = refl
 is_simple name.Loans = refl
 is_simple name.Dues = refl
+is_simple name.Why = refl
 is_simple name.Help = refl
 
 is_plain : (n : Name) → (app_by n).top.is_plain ≡ true
@@ -50,6 +51,7 @@ is_plain name.At = refl
 is_plain name.Posted = refl
 is_plain name.Loans = refl
 is_plain name.Dues = refl
+is_plain name.Why = refl
 is_plain name.Help = refl
 
 pub simple_by : (n : Name) (app : App) → app ≡ app_by n → is_simple_and_free app ≡ true
@@ -70,7 +72,7 @@ simple_overview app e = ap is_simple_and_free e ∙ overview_is_simple
 abbrev pub all : List Name
 all = name.Replay ∷ name.Serve ∷ name.Count ∷ name.Overdue ∷ name.Away ∷ name.History
     ∷ name.Migrate ∷ name.Copy ∷ name.Explain ∷ name.Stations ∷ name.Where ∷ name.Contents
-    ∷ name.Loan ∷ name.At ∷ name.Posted ∷ name.Loans ∷ name.Dues ∷ []
+    ∷ name.Loan ∷ name.At ∷ name.Posted ∷ name.Loans ∷ name.Dues ∷ name.Why ∷ []
 
 all_is_overview : with_commands program_alone all ≡ overview
 unfolding app_by
@@ -118,4 +120,5 @@ app_is name.At = refl
 app_is name.Posted = refl
 app_is name.Loans = refl
 app_is name.Dues = refl
+app_is name.Why = refl
 app_is name.Help = refl

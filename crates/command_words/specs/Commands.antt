@@ -1,4 +1,4 @@
--- Defines the eighteen commands: the arguments that `clap` knows of each, and the values that each
+-- Defines the nineteen commands: the arguments that `clap` knows of each, and the values that each
 -- needs.
 use Rattle.std.specs.Prelude.{◌∷◌, [], ℕ, Bool, List, Some, codes, map, true, false}
 use Rattle.clap.specs.Words.{App, Rule, Text, new_app, new_rule, with_rule}
@@ -65,15 +65,17 @@ report form = record form { is_report = true }
 
 abbrev pub replay : Form
 replay = setup_needed
-    (with_rule (with_rule (register_app (codes "replay")) (flag_rule (codes "progress")))
-    (flag_rule (codes "strict")))
+    (with_rule (with_rule (with_rule (register_app (codes "replay")) (flag_rule (codes "progress")))
+    (flag_rule (codes "strict"))) (flag_rule (codes "why")))
 
 abbrev pub serve : Form
 serve = setup_needed (with_rule (register_app (codes "serve")) (words_rule (codes "feeds")))
 
 abbrev pub count : Form
 count = report
-    (all_needed (report_app (with_rule (register_app (codes "count")) (word_rule (codes "list"))))
+    (all_needed
+    (report_app (with_rule (with_rule (register_app (codes "count")) (word_rule (codes "list")))
+    (flag_rule (codes "sealed"))))
     (codes "list"))
 
 abbrev pub overdue : Form
@@ -154,11 +156,16 @@ dues = report
     (report_app (with_rule (register_app (codes "dues")) (option_rule (codes "by"))))
     (codes "by"))
 
+abbrev pub why : Form
+why = report
+    (all_needed (report_app (with_rule (register_app (codes "why")) (word_rule (codes "entry"))))
+    (codes "entry"))
+
 -- The commands other than `help`.
 abbrev pub listed : List Form
 listed = replay ∷ serve ∷ count ∷ overdue ∷ away ∷ history ∷ migrate
     ∷ copy ∷ explain ∷ stations ∷ where_is ∷ contents ∷ loan ∷ at ∷ posted
-    ∷ loans ∷ dues ∷ []
+    ∷ loans ∷ dues ∷ why ∷ []
 
 abbrev pub commands : List Form
 commands = help ∷ listed

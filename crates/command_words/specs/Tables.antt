@@ -2,7 +2,7 @@
 use Rattle.std.specs.Prelude.{◌∷◌, [], List}
 use Rattle.clap.specs.Words.{App, Rule, Text, with_rule, with_subcommand}
 use Rattle.command_words.specs.Commands.{Form, at, away, contents, copy, count, explain, file_rule}
-use Rattle.command_words.specs.Commands.{dues, flag_rule, loans}
+use Rattle.command_words.specs.Commands.{dues, flag_rule, loans, why}
 use Rattle.command_words.specs.Commands.{help, history, loan, migrate, option_rule, overdue, posted}
 use Rattle.command_words.specs.Commands.{replay, serve, stations, where_is, word_rule, words_rule}
 use Rattle.command_words.specs.declared.options.Argument.{Argument}
@@ -48,6 +48,7 @@ app_by name.At = at.app
 app_by name.Posted = posted.app
 app_by name.Loans = loans.app
 app_by name.Dues = dues.app
+app_by name.Why = why.app
 app_by name.Help = help.app
 
 -- The command of this name, with the arguments that it needs.
@@ -69,6 +70,7 @@ form_by name.At = at
 form_by name.Posted = posted
 form_by name.Loans = loans
 form_by name.Dues = dues
+form_by name.Why = why
 form_by name.Help = help
 
 -- The program with these commands added.

@@ -20,7 +20,7 @@ use Rattle.clap.specs.declared.error.kind.ErrorKind.TheVariants.{DisplayVersion,
 use Rattle.command_words.specs.Commands.{Form, at, away, commands, contents, copy, count, explain}
 use Rattle.command_words.specs.Commands.{help, history, loan, migrate, overdue, overview, posted}
 use Rattle.command_words.specs.Commands.{replay, serve}
-use Rattle.command_words.specs.Commands.{dues, loans, stations, where_is}
+use Rattle.command_words.specs.Commands.{dues, loans, stations, where_is, why}
 use Rattle.command_words.specs.declared.reading.Files.{Files}
 use Rattle.command_words.specs.declared.reading.Record.{Record}
 use Rattle.command_words.specs.declared.command.Report.{Report}
@@ -110,8 +110,9 @@ IsReport words name app report = IsNamed words name × HoldsReport (matches_of a
 -- The words ask this question: the first is its command's name, and its value is the one that they
 -- have.
 abbrev pub IsAsked : List Text → Report → Asked → Type 0
-IsAsked words report (asked.Count list) = IsReport words (codes "count") count.app report
+IsAsked words report (asked.Count list sealed) = IsReport words (codes "count") count.app report
     × (value count.app words (codes "list") ≡ Some list.now)
+    × (is_given count.app words (codes "sealed") ≡ sealed)
 IsAsked words report (asked.Overdue on) = IsReport words (codes "overdue") overdue.app report
     × (value overdue.app words (codes "on") ≡ Some on.now)
 IsAsked words report asked.Away = IsReport words (codes "away") away.app report
@@ -134,14 +135,18 @@ IsAsked words report (asked.Loans on by only) = IsReport words (codes "loans") l
     × (is_given loans.app words (codes "open") ≡ only)
 IsAsked words report (asked.Dues by) = IsReport words (codes "dues") dues.app report
     × (value dues.app words (codes "by") ≡ Some by.now)
+IsAsked words report (asked.Why entry) = IsReport words (codes "why") why.app report
+    × (value why.app words (codes "entry") ≡ Some entry.now)
 
 -- The first word is the command's name, and each of its values is the one that the words have.
 abbrev pub IsChosen : List Text → Chosen → Type 0
-IsChosen words (command.Replay setup store progress strict) = IsNamed words (codes "replay")
+IsChosen words (command.Replay setup store progress strict explained) =
+    IsNamed words (codes "replay")
     × (value replay.app words (codes "setup") ≡ Some setup.now)
     × (value replay.app words (codes "store") ≡ text_of store)
     × (is_given replay.app words (codes "progress") ≡ progress)
     × (is_given replay.app words (codes "strict") ≡ strict)
+    × (is_given replay.app words (codes "why") ≡ explained)
 IsChosen words (command.Serve setup store feeds) = IsNamed words (codes "serve")
     × (value serve.app words (codes "setup") ≡ Some setup.now)
     × (value serve.app words (codes "store") ≡ text_of store)

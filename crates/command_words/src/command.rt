@@ -31,8 +31,12 @@ pub struct Report<'a> {
 /// The question that a report answers, with the value that the words have for it.
 #[derive(Clone, Copy)]
 pub enum Asked<'a> {
-    /// How does this count list compare with the record?
-    Count(&'a str),
+    /// How does this count list compare with the record? If `sealed`, a container that was seen
+    /// vouches for its contents.
+    Count {
+        list: &'a str,
+        sealed: bool,
+    },
     /// Which loans are overdue on this day?
     Overdue(&'a str),
     /// Which of the museum's own objects aren't at their normal locations?
@@ -61,6 +65,8 @@ pub enum Asked<'a> {
     },
     /// Which objects are due by this day?
     Dues(&'a str),
+    /// Why did this entry get its verdict?
+    Why(&'a str),
 }
 
 /// Which entries a list has: the numbers of the first and the last, the station's name, the code of
@@ -80,12 +86,14 @@ pub struct Entries<'a> {
 #[derive(Drop)]
 pub enum Chosen<'a> {
     /// Answers the lines of standard input. With `progress` it reports its progress on standard
-    /// error, and with `strict` it fails if any line is bad, refused or not applied.
+    /// error, with `strict` it fails if any line is bad, refused or not applied, and with `why` it
+    /// explains each verdict other than Applied at the end, on standard error.
     Replay {
         setup: &'a str,
         store: Option<&'a str>,
         progress: bool,
         strict: bool,
+        why: bool,
     },
     /// Takes one file of lines for each station, in the setup's order.
     Serve {

@@ -1,10 +1,11 @@
 //! Fills in a default setup and store for words that name none.
 #![tactic(auto)]
 
-ghost use Rattle.std.specs.Prelude.{◌≡◌, ◌++◌, IfOk, OnOk};
+ghost use Rattle.std.specs.Prelude.{◌≡◌, ◌++◌, ◌||◌, IfOk, OnOk, codes};
+ghost use Rattle.std.specs.Str.{bytes_eq};
 ghost use Rattle.command_words.specs.Completion as completion;
-ghost use Rattle.command_words.specs.Completion.{completed, filled_in, has_option, is_settled};
-ghost use Rattle.command_words.specs.Completion.{lacks_option, settles};
+ghost use Rattle.command_words.specs.Completion.{begins, completed, filled_in, has_option};
+ghost use Rattle.command_words.specs.Completion.{is_settled, is_written, lacks_option, settles};
 ghost use Rattle.command_words.specs.Tables.{form_by};
 ghost use Rattle.command_words.specs.Words.{text_of, texts_of};
 
@@ -32,19 +33,32 @@ impl FileOption {
     }
 }
 
+/// Whether the word is an option: its name, its name with a value after `=`, or its letter, with or
+/// without a value. `named` is the name with `=`.
+fn is_option(word: &str, name: &str, named: &str, letter: &str) -> bool
+    requires { named.now ≡ name.now ++ codes "=" }
+    ensures { result ≡ is_written name.now letter.now word.now }
+{
+    // `|` instead of `||` leaves a single path to prove.
+    (word == name) | (word.starts_with(named) | word.starts_with(letter))
+}
+
+/// Whether the word asks for help.
+fn asks_for_help(word: &str) -> bool
+    ensures { result ≡ (bytes_eq word.now (codes "--help") || begins (codes "-h") word.now) }
+{
+    word == "--help" || word.starts_with("-h")
+}
+
 /// Whether the word gives the option, or asks for help.
 fn settles_option(word: &str, option: FileOption) -> bool
     ensures { result ≡ settles option word.now }
 {
     let is_given = match option {
-        FileOption::Setup => {
-            word == "--setup" || word.starts_with("--setup=") || word.starts_with("-s")
-        }
-        FileOption::Store => {
-            word == "--store" || word.starts_with("--store=") || word.starts_with("-d")
-        }
+        FileOption::Setup => is_option(word, "--setup", "--setup=", "-s"),
+        FileOption::Store => is_option(word, "--store", "--store=", "-d"),
     };
-    is_given || word == "--help" || word.starts_with("-h")
+    is_given || asks_for_help(word)
 }
 
 /// Whether any of the words gives the option, or asks for help. Words after `--` are no options.

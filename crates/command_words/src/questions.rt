@@ -99,3 +99,11 @@ pub(crate) fn dues<'a>(alloc: Global, words: &'a [&'a str]) -> Result<Chosen<'a>
     let (report, by) = read_report_and(alloc, Name::Dues, words, "by")?;
     Ok(Chosen::Report(report, Asked::Dues(by)))
 }
+
+pub(crate) fn why<'a>(alloc: Global, words: &'a [&'a str]) -> Result<Chosen<'a>, WordsFault>
+    requires { IsNamed (texts_of words.now) (codes "why") }
+    ensures { Chooses (Some commands.why) (texts_of words.now) result }
+{
+    let (report, entry) = read_report_and(alloc, Name::Why, words, "entry")?;
+    Ok(Chosen::Report(report, Asked::Why(entry)))
+}

@@ -111,7 +111,7 @@ fn read_files<'a>(alloc: Global, name: Name, words: &'a [&'a str]) -> Result<Fil
     Ok(files)
 }
 
-/// Returns the setup and the store, if the words name them, and whether each of two flags is given.
+/// Returns the setup and the store, if the words name them, and whether each of three flags is given.
 /// Faults: as for [`read_by`].
 pub(crate) fn read_files_and_flags<'a>(
     alloc: Global,
@@ -119,19 +119,22 @@ pub(crate) fn read_files_and_flags<'a>(
     words: &'a [&'a str],
     first: &'static str,
     second: &'static str,
-) -> Result<(Files<'a>, bool, bool), WordsFault>
+    third: &'static str,
+) -> Result<(Files<'a>, bool, bool, bool), WordsFault>
     ensures { MatchResult result
         (λ r. GivesFiles (app_by name) (texts_of words.now) r.0
         × (is_given (app_by name) (texts_of words.now) first.now ≡ r.1)
-        × (is_given (app_by name) (texts_of words.now) second.now ≡ r.2))
+        × (is_given (app_by name) (texts_of words.now) second.now ≡ r.2)
+        × (is_given (app_by name) (texts_of words.now) third.now ≡ r.3))
         (IsRefused (app_by name) (texts_of words.now)) }
 {
     let matches = read(alloc, name, words)?;
     let files = files_of(&matches);
     let has_first = is_set(&matches, first);
     let has_second = is_set(&matches, second);
+    let has_third = is_set(&matches, third);
     drop(matches);
-    Ok((files, has_first, has_second))
+    Ok((files, has_first, has_second, has_third))
 }
 
 /// Returns the setup and the store, if the words name them, and all values of one more argument.

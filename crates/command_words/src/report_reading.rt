@@ -53,10 +53,12 @@ fn both_formats(alloc: Global, name: Name) -> Result<Error, AllocError>
     ensures { IfOk result (λ e. kind_of e ≡ ErrorKind.ArgumentConflict) }
 {
     let mut command = bare(alloc, name);
-    command.error(
+    let error = command.error(
         ErrorKind::ArgumentConflict,
         "the argument '--csv' cannot be used with '--json'",
-    )
+    );
+    drop(command);
+    error
 }
 
 /// Returns the setup, the store and the form of a report. Faults: Refused, if `clap` rejects the
@@ -170,4 +172,24 @@ pub(crate) fn read_report_and<'a>(
 {
     let (report, own) = read_report_and_perhaps(alloc, name, words, id)?;
     Ok((report, needed(own)?))
+}
+
+/// Returns what [`read_report_and`] returns, and whether a flag is given. Faults: as for
+/// [`read_report_and`].
+pub(crate) fn read_report_and_flag<'a>(
+    alloc: Global,
+    name: Name,
+    words: &'a [&'a str],
+    id: &'static str,
+    flag: &'static str,
+) -> Result<(Report<'a>, &'a str, bool), WordsFault>
+    ensures { MatchResult result
+        (λ r. GivesReport (app_by name) (texts_of words.now) r.0
+        × (value (app_by name) (texts_of words.now) id.now ≡ Some r.1.now)
+        × (is_given (app_by name) (texts_of words.now) flag.now ≡ r.2))
+        (IsFaultBy (Some (report (all_needed (app_by name) id.now)))
+        (texts_of words.now)) }
+{
+    let (report, own, _, is_given) = read_report_and_options(alloc, name, words, id, id, flag)?;
+    Ok((report, needed(own)?, is_given))
 }

@@ -34,11 +34,12 @@ pub(crate) enum Name {
     Posted,
     Loans,
     Dues,
+    Why,
     Help,
 }
 
 /// The commands in the order of the help. `help` is left out, because `clap` adds it.
-const NAMES: [Name; 17] = [
+const NAMES: [Name; 18] = [
     Name::Replay,
     Name::Serve,
     Name::Count,
@@ -56,6 +57,7 @@ const NAMES: [Name; 17] = [
     Name::Posted,
     Name::Loans,
     Name::Dues,
+    Name::Why,
 ];
 
 const PROGRESS: Argument = Argument {
@@ -72,6 +74,13 @@ const STRICT: Argument = Argument {
     help: "Exit with status 1 if any line was bad, refused or not applied",
 };
 
+const EXPLAINED: Argument = Argument {
+    kind: Kind::Flag,
+    id: "why",
+    value: "",
+    help: "Explain each verdict other than Applied at the end",
+};
+
 const FEEDS: Argument = Argument {
     kind: Kind::Words,
     id: "feeds",
@@ -84,6 +93,13 @@ const LIST: Argument = Argument {
     id: "list",
     value: "LIST",
     help: "The count list",
+};
+
+const SEALED: Argument = Argument {
+    kind: Kind::Flag,
+    id: "sealed",
+    value: "",
+    help: "What is in a container that was seen isn't missing",
 };
 
 const DAY: Argument = Argument {
@@ -212,8 +228,14 @@ const DUE: Argument = Argument {
     help: "The day by which the loans end, for example 2024-06-30",
 };
 
+const ENTRY: Argument = Argument {
+    kind: Kind::Word,
+    id: "entry",
+    value: "ENTRY",
+    help: "The number of an entry, such as 17",
+};
+
 /// The word that names the command.
-#[tactic(auto, unfolding(crate::specs::Tables::app_by, crate::specs::Commands::register_app, crate::specs::Commands::report_app))]
 fn word_of(name: Name) -> &'static str
     ensures { result.now ≡ (app_by name).top.name }
 {
@@ -235,6 +257,7 @@ fn word_of(name: Name) -> &'static str
         Name::Posted => "posted",
         Name::Loans => "loans",
         Name::Dues => "dues",
+        Name::Why => "why",
         Name::Help => "help",
     }
 }
@@ -244,27 +267,15 @@ fn word_of(name: Name) -> &'static str
 pub(crate) fn name_of(word: &str) -> Option<Name>
     ensures { option_map form_by result ≡ form_called word.now }
 {
-    match word {
-        "replay" => Some(Name::Replay),
-        "serve" => Some(Name::Serve),
-        "count" => Some(Name::Count),
-        "overdue" => Some(Name::Overdue),
-        "away" => Some(Name::Away),
-        "history" => Some(Name::History),
-        "migrate" => Some(Name::Migrate),
-        "copy" => Some(Name::Copy),
-        "explain" => Some(Name::Explain),
-        "stations" => Some(Name::Stations),
-        "where" => Some(Name::Where),
-        "contents" => Some(Name::Contents),
-        "loan" => Some(Name::Loan),
-        "at" => Some(Name::At),
-        "posted" => Some(Name::Posted),
-        "loans" => Some(Name::Loans),
-        "dues" => Some(Name::Dues),
-        "help" => Some(Name::Help),
-        _ => None,
+    if word == "help" {
+        return Some(Name::Help);
     }
+    for name in &NAMES {
+        if word == word_of(*name) {
+            return Some(*name);
+        }
+    }
+    None
 }
 
 /// Returns the command that the first word names. None if it names no command.
@@ -290,6 +301,7 @@ pub(crate) fn needs_of(name: Name) -> &'static [&'static str]
             &["setup", "store"]
         }
         Name::Dues => &["setup", "store", "by"],
+        Name::Why => &["setup", "store", "entry"],
         Name::History | Name::Where | Name::Contents | Name::Loan => &["setup", "store", "code"],
         Name::Copy => &["setup", "store", "to"],
         Name::Explain => &["name"],
@@ -318,6 +330,7 @@ fn help_of(name: Name) -> &'static Help {
         Name::Posted => &texts::POSTED,
         Name::Loans => &texts::LOANS,
         Name::Dues => &texts::DUES,
+        Name::Why => &texts::WHY,
         Name::Help => &texts::HELP,
     }
 }
@@ -328,9 +341,9 @@ fn arguments_of(name: Name) -> &'static [Argument]
     ensures { with_arguments (new_app (app_by name).top.name) result.now ≡ app_by name }
 {
     match name {
-        Name::Replay => &[SETUP, STORE, PROGRESS, STRICT],
+        Name::Replay => &[SETUP, STORE, PROGRESS, STRICT, EXPLAINED],
         Name::Serve => &[SETUP, STORE, FEEDS],
-        Name::Count => &[SETUP, STORE, LIST, UPTO, CSV, JSON],
+        Name::Count => &[SETUP, STORE, LIST, SEALED, UPTO, CSV, JSON],
         Name::Overdue => &[SETUP, STORE, DAY, UPTO, CSV, JSON],
         Name::Away => &[SETUP, STORE, UPTO, CSV, JSON],
         Name::History => &[SETUP, STORE, THING, UPTO, CSV, JSON],
@@ -347,6 +360,7 @@ fn arguments_of(name: Name) -> &'static [Argument]
         ],
         Name::Loans => &[SETUP, STORE, ON, BY, OPEN, UPTO, CSV, JSON],
         Name::Dues => &[SETUP, STORE, DUE, UPTO, CSV, JSON],
+        Name::Why => &[SETUP, STORE, ENTRY, UPTO, CSV, JSON],
         Name::Help => &[TOPIC],
     }
 }
@@ -370,12 +384,17 @@ pub(crate) fn command_of<'a>(alloc: Global, name: Name) -> Result<Command<'a>, A
     Ok(command)
 }
 
+/// The program's help. Its long text costs more to prove in a longer function.
+fn program_help() -> &'static Help {
+    &texts::PROGRAM
+}
+
 /// The program without its commands.
 fn program<'a>(alloc: Global) -> Command<'a>
     ensures { app_of result ≡ program_alone }
 {
     let command = Command::new(alloc, PROGRAM).version(texts::VERSION);
-    with_help(command, &texts::PROGRAM)
+    with_help(command, program_help())
 }
 
 /// Returns the program with all commands of [`NAMES`], which reads words that name no command.
@@ -385,7 +404,15 @@ pub(crate) fn overview_command<'a>(alloc: Global) -> Result<Command<'a>, AllocEr
 {
     let mut command = program(alloc);
     for name in &NAMES {
-        command = command.subcommand(command_of(alloc, *name)?)?;
+        let next = match command_of(alloc, *name) {
+            Ok(next) => next,
+            // After `?`, the drop of each field of the command would be proved here.
+            Err(fault) => {
+                drop(command);
+                return Err(fault);
+            }
+        };
+        command = command.subcommand(next)?;
     }
     Ok(command)
 }

@@ -40,7 +40,7 @@ Exit status: 0 done; 1 a fault, with a line on standard error; 2 a usage error."
 
 pub(crate) const REPLAY: Help = Help {
     about: "Reads messages and questions from standard input, and answers each",
-    usage: "pairsalder replay --setup PATH [--store PATH] [--progress] [--strict] < LINES",
+    usage: "pairsalder replay --setup PATH [--store PATH]\n       [--progress] [--strict] [--why] < LINES",
     more: "\
 For the day's work: records each station's messages, once each and in order.
 
@@ -55,10 +55,12 @@ standard error shows once a second and at the end how many lines were answered,
 how many messages were posted, how many of these were not applied, by verdict,
 and the lines per second. With --strict the replies are the same, but the exit
 status is 1 if any line was bad or refused, or was posted with a verdict other
-than Applied.
+than Applied. With --why, standard error explains at the end each verdict of
+these lines other than Applied, as 'pairsalder why' does.
 
 Examples:
   pairsalder replay --setup museum.csv --store museum.db < monday.jsonl
+  pairsalder replay --setup museum.csv --store museum.db --why < monday.jsonl
   pairsalder replay --setup museum.csv --progress < monday.jsonl
 
 Exit status: 0 every line was answered, even bad ones; 1 a fault, or with
@@ -85,7 +87,7 @@ error, or there are more or fewer files than stations.",
 
 pub(crate) const COUNT: Help = Help {
     about: "Compares a count list with the record, and lists what is missing",
-    usage: "pairsalder count --setup PATH --store PATH LIST\n       [--upto N] [--csv | --json]",
+    usage: "pairsalder count --setup PATH --store PATH LIST\n       [--sealed] [--upto N] [--csv | --json]",
     more: "\
 For an inventory: someone wrote down what is on the shelves.
 
@@ -93,9 +95,11 @@ LIST is a file with a row 'PLACE,THING' for each thing that was seen, and a row
 'PLACE' for a place that was looked at. Prints an answer for each row, the first
 that applies: UnknownPlace, Counted, UnknownObject, Again, Unplaced, Found, or
 Elsewhere with the place on record. Then prints a line 'missing' for each object
-that should be at a listed place but has no row. With --csv or --json the fields
-are row, place, thing, answer and on_record. A missing object has no row, and
-the answer Missing.
+that should be at a listed place but has no row. With --sealed, an object in a
+container isn't missing if the container was seen where the record has it, so a
+sealed crate needn't be opened. With --csv or --json the fields are row, place,
+thing, answer and on_record. A missing object has no row, and the answer
+Missing.
 
 Example:
   pairsalder count --setup museum.csv --store museum.db shelves.csv
@@ -367,4 +371,23 @@ Example:
 
 Exit status: 0 done, even if nothing is due; 1 a fault; 2 a usage error, or DAY
 is not a day.",
+};
+
+pub(crate) const WHY: Help = Help {
+    about: "Explains the verdict on an entry",
+    usage: "pairsalder why --setup PATH --store PATH ENTRY\n       [--upto N] [--csv | --json]",
+    more: "\
+For a message that was refused: which object, place or loan is the cause.
+
+Prints a line for entry ENTRY: its number, station, n and kind, what it names,
+and its verdict with the cause, from the record just before the entry. Of several
+objects it names the first: in the order of the loan's list, or of the setup. An
+applied message is shown with the place where it put its thing. With --csv or
+--json the fields are entry, station, n, kind, verdict, culprit and cause.
+
+Example:
+  pairsalder why --setup museum.csv --store museum.db 23
+
+Exit status: 0 done, even if there is no entry ENTRY; 1 a fault; 2 a usage error,
+or ENTRY is not a number.",
 };

@@ -3,17 +3,18 @@
 
 ghost use Rattle.std.specs.Prelude.{◌≡◌, ◌∷◌, [], IfErr, IfOk, None, OnOk, Some, codes};
 ghost use Rattle.command_words.specs.Commands as commands;
+ghost use Rattle.command_words.specs.Tables.{form_by};
 ghost use Rattle.command_words.specs.Words.{Chooses, IsChosen, IsFault, IsNamed, form_named};
 ghost use Rattle.command_words.specs.Words.{refusals, texts_of};
 
 use crate::questions::{
-    at, contents, dues, explain, help, loan, loans, posted, stations, where_is,
+    at, contents, dues, explain, help, loan, loans, posted, stations, where_is, why,
 };
 use crate::reading::{
     needed, read_by, read_files_and_all, read_files_and_flags, read_record, read_record_and,
 };
-use crate::report_reading::{read_report, read_report_and};
-use crate::shapes::{self, Name};
+use crate::report_reading::{read_report, read_report_and, read_report_and_flag};
+use crate::shapes::{self, Name, find_command};
 use crate::{Asked, Chosen, WordsFault};
 use std::alloc::{AllocError, Global};
 
@@ -31,38 +32,37 @@ pub fn chosen<'a>(alloc: Global, words: &'a [&'a str]) -> Result<Chosen<'a>, Wor
     ensures taken { OnOk result (refusals (texts_of words.now) ≡ []) }
     ensures fault { IfErr result (IsFault (texts_of words.now)) }
 {
-    let Some(name) = words.first().copied() else {
-        return no_command(alloc, words);
-    };
-    named(alloc, name, words)
+    match find_command(words) {
+        Some(name) => named(alloc, name, words),
+        None => no_command(alloc, words),
+    }
 }
 
-/// The command that the first word names, with its values. The name is this first word.
-#[tactic(auto, unfolding(crate::specs::Commands::register_app, crate::specs::Commands::report_app))]
-fn named<'a>(alloc: Global, name: &str, words: &'a [&'a str]) -> Result<Chosen<'a>, WordsFault>
-    requires { IsNamed (texts_of words.now) name.now }
+/// The command that the first word names, with its values.
+fn named<'a>(alloc: Global, name: Name, words: &'a [&'a str]) -> Result<Chosen<'a>, WordsFault>
+    requires { Some (form_by name) ≡ form_named (texts_of words.now) }
     ensures { Chooses (form_named (texts_of words.now)) (texts_of words.now) result }
 {
     match name {
-        "replay" => replay(alloc, words),
-        "serve" => serve(alloc, words),
-        "count" => count(alloc, words),
-        "overdue" => overdue(alloc, words),
-        "away" => away(alloc, words),
-        "history" => history(alloc, words),
-        "migrate" => migrate(alloc, words),
-        "copy" => copy(alloc, words),
-        "explain" => explain(alloc, words),
-        "stations" => stations(alloc, words),
-        "where" => where_is(alloc, words),
-        "contents" => contents(alloc, words),
-        "loan" => loan(alloc, words),
-        "at" => at(alloc, words),
-        "posted" => posted(alloc, words),
-        "loans" => loans(alloc, words),
-        "dues" => dues(alloc, words),
-        "help" => help(alloc, words),
-        _ => no_command(alloc, words),
+        Name::Replay => replay(alloc, words),
+        Name::Serve => serve(alloc, words),
+        Name::Count => count(alloc, words),
+        Name::Overdue => overdue(alloc, words),
+        Name::Away => away(alloc, words),
+        Name::History => history(alloc, words),
+        Name::Migrate => migrate(alloc, words),
+        Name::Copy => copy(alloc, words),
+        Name::Explain => explain(alloc, words),
+        Name::Stations => stations(alloc, words),
+        Name::Where => where_is(alloc, words),
+        Name::Contents => contents(alloc, words),
+        Name::Loan => loan(alloc, words),
+        Name::At => at(alloc, words),
+        Name::Posted => posted(alloc, words),
+        Name::Loans => loans(alloc, words),
+        Name::Dues => dues(alloc, words),
+        Name::Why => why(alloc, words),
+        Name::Help => help(alloc, words),
     }
 }
 
@@ -70,18 +70,20 @@ fn replay<'a>(alloc: Global, words: &'a [&'a str]) -> Result<Chosen<'a>, WordsFa
     requires { IsNamed (texts_of words.now) (codes "replay") }
     ensures { Chooses (Some commands.replay) (texts_of words.now) result }
 {
-    let (files, progress, strict) = read_files_and_flags(
+    let (files, progress, strict, why) = read_files_and_flags(
         alloc,
         Name::Replay,
         words,
         "progress",
         "strict",
+        "why",
     )?;
     Ok(Chosen::Replay {
         setup: needed(files.setup)?,
         store: files.store,
         progress,
         strict,
+        why,
     })
 }
 
@@ -101,8 +103,8 @@ fn count<'a>(alloc: Global, words: &'a [&'a str]) -> Result<Chosen<'a>, WordsFau
     requires { IsNamed (texts_of words.now) (codes "count") }
     ensures { Chooses (Some commands.count) (texts_of words.now) result }
 {
-    let (report, list) = read_report_and(alloc, Name::Count, words, "list")?;
-    Ok(Chosen::Report(report, Asked::Count(list)))
+    let (report, list, sealed) = read_report_and_flag(alloc, Name::Count, words, "list", "sealed")?;
+    Ok(Chosen::Report(report, Asked::Count { list, sealed }))
 }
 
 fn overdue<'a>(alloc: Global, words: &'a [&'a str]) -> Result<Chosen<'a>, WordsFault>

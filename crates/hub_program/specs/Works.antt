@@ -5,7 +5,7 @@ use Rattle.hub_program.specs.declared.work.Work.TheVariants.{Replay, Print, Serv
 
 -- To serve n stations takes n feeds. Other work has none.
 abbrev pub HasFeeds : ℕ → Work → Type 0
-HasFeeds n Replay = ⊤
+HasFeeds n (Replay why) = ⊤
 HasFeeds n (Print question form upto) = ⊤
 HasFeeds n (Serve feeds) = vec_len feeds ≡ n
 HasFeeds n Migrate = ⊤

@@ -166,12 +166,14 @@ fn perform<
             store,
             progress,
             strict,
+            why,
         } => {
             let wanted = Replay {
                 setup,
                 store: *store,
                 progress: *progress,
                 strict: *strict,
+                why: *why,
             };
             return replayed(rt, threads, wanted, start, input, output, errors, notes);
         }
@@ -213,6 +215,7 @@ struct Replay<'a> {
     store: Option<&'a str>,
     progress: bool,
     strict: bool,
+    why: bool,
 }
 
 /// Answers the lines of the input. If `progress` is wanted, prints the progress to `errors`.
@@ -241,7 +244,7 @@ fn replayed<
             setup,
             wanted.store,
             start,
-            Work::Replay,
+            Work::Replay { why: wanted.why },
             &mut progress,
             input,
             output,
@@ -256,7 +259,7 @@ fn replayed<
             setup,
             wanted.store,
             start,
-            Work::Replay,
+            Work::Replay { why: wanted.why },
             &mut tally,
             input,
             output,

@@ -6,8 +6,10 @@ use hub_core::Hub;
 use nest_core::Setup;
 use posting_core::Ledger;
 use register_store::Register;
-use reports::{EntryFilter, Question};
-use std::alloc::AllocError;
+use reports::{EntryFilter, Form, PrintFault, Question, print};
+use std::alloc::{AllocError, Global};
+use std::str;
+use std::thread::Threads;
 
 /// Appends the note about a new store.
 pub fn add_new_store(notes: &mut String, path: &str) -> Result<(), AllocError> {
@@ -25,16 +27,23 @@ pub fn add_unanswered(
     question: &Question,
     upto: Option<u64>,
 ) -> Result<(), AllocError> {
-    let count = ledger.entry_count();
-    if let Some(entry) = upto
-        && entry > count as u64
-    {
-        writeln!(
-            notes,
-            "note: there is no entry {entry} yet; the last is {count}"
-        )?;
+    add_no_entry(notes, ledger, upto)?;
+    if let Question::Why(filter) = question {
+        add_no_entry(notes, ledger, Some(filter.from))?;
     }
     add_unknown(notes, ledger.setup(), question)
+}
+
+/// Appends a note if the record doesn't have this entry.
+fn add_no_entry(notes: &mut String, ledger: &Ledger, entry: Option<u64>) -> Result<(), AllocError> {
+    let count = ledger.entry_count();
+    match entry {
+        Some(entry) if entry > u64::from(count) => writeln!(
+            notes,
+            "note: there is no entry {entry} yet; the last is {count}"
+        ),
+        _ => Ok(()),
+    }
 }
 
 /// Appends a note if the question has a code or a station that the setup does not have, or asks for
@@ -99,6 +108,30 @@ pub fn add_held<S: Register>(notes: &mut String, hub: &Hub<S>) -> Result<(), All
                 "note: {name}: {held} messages held, waiting for {awaited}; they are not kept, send them again"
             )?;
         }
+    }
+    Ok(())
+}
+
+/// Appends why each entry from this one on that isn't applied got its verdict, a plain line each.
+pub fn add_causes<T: Threads + Sync>(
+    alloc: Global,
+    threads: &T,
+    notes: &mut String,
+    ledger: &Ledger,
+    from: u64,
+) -> Result<(), PrintFault> {
+    let question = Question::Why(EntryFilter {
+        from,
+        to: None,
+        station: None,
+        thing: None,
+        loan: None,
+        refused: true,
+    });
+    let mut text = Vec::new(alloc);
+    print(threads, alloc, ledger, &question, Form::Plain, &mut text)?;
+    if let Ok(text) = str::from_utf8(&text) {
+        notes.push_str(text)?;
     }
     Ok(())
 }

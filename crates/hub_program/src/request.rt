@@ -28,7 +28,7 @@ pub fn read_question(
 ) -> Result<(Setup, Question), CommandFault> {
     let alloc = rt.alloc();
     match asked {
-        Asked::Count(list) => read_count(rt, setup, list),
+        Asked::Count { list, sealed } => read_count(rt, setup, list, sealed),
         Asked::Overdue(on) => with_setup(rt, setup, Question::Overdue(day(alloc, on)?)),
         Asked::Away => with_setup(rt, setup, Question::Away),
         Asked::History(code) => with_setup(rt, setup, Question::History(thing(alloc, code)?)),
@@ -50,6 +50,7 @@ pub fn read_question(
             with_setup(rt, setup, Question::Loans(filter))
         }
         Asked::Dues(by) => with_setup(rt, setup, Question::Dues(day(alloc, by)?)),
+        Asked::Why(entry) => with_setup(rt, setup, Question::Why(one_entry(alloc, entry)?)),
     }
 }
 
@@ -73,10 +74,11 @@ fn read_count(
     rt: &HostRuntime,
     setup: &str,
     list: &str,
+    sealed: bool,
 ) -> Result<(Setup, Question), CommandFault> {
     let setup = read_setup(rt, rt.alloc(), setup)?;
     match read_list(rt, rt.alloc(), list) {
-        Ok(rows) => Ok((setup, Question::Count(rows))),
+        Ok(rows) => Ok((setup, Question::Count { rows, sealed })),
         Err(fault) => {
             drop(setup);
             Err(fault)
@@ -148,17 +150,35 @@ fn entry_filter(alloc: Global, entries: Entries<'_>) -> Result<EntryFilter, Comm
     })
 }
 
+/// Only the entry of this number. Fault: Number.
+fn one_entry(alloc: Global, text: &str) -> Result<EntryFilter, CommandFault> {
+    let number = number(alloc, text)?;
+    Ok(EntryFilter {
+        from: number,
+        to: Some(number),
+        station: None,
+        thing: None,
+        loan: None,
+        refused: false,
+    })
+}
+
+/// The number of an entry. Fault: Number, if the text is no number.
+fn number(alloc: Global, text: &str) -> Result<u64, CommandFault> {
+    match text.parse() {
+        Ok(number) => Ok(number),
+        Err(_) => {
+            let advice = on_value(alloc, text, "the number of an entry, such as 17");
+            Err(CommandFault::Number(advice))
+        }
+    }
+}
+
 /// Returns the number of an entry, if there is one. Fault: Number, if the text is no number.
 pub fn number_if(alloc: Global, text: Option<&str>) -> Result<Option<u64>, CommandFault> {
     match text {
         None => Ok(None),
-        Some(text) => match text.parse() {
-            Ok(number) => Ok(Some(number)),
-            Err(_) => {
-                let advice = on_value(alloc, text, "the number of an entry, such as 17");
-                Err(CommandFault::Number(advice))
-            }
-        },
+        Some(text) => Ok(Some(number(alloc, text)?)),
     }
 }
 

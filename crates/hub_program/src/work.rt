@@ -1,21 +1,19 @@
 //! Opens a hub over a store, does the work of a command, and closes the store.
 ghost use Rattle.std.specs.Prelude.{◌≡◌, false, length};
 ghost use Rattle.hub_program.specs.Works.{HasFeeds};
-ghost use Rattle.past_core.specs.Past.{as_of, upto};
+ghost use Rattle.past_core.specs.Past.{as_of};
 ghost use Rattle.reports.specs.Forms.{Prints};
 ghost use Rattle.reports.specs.Reports.{report_text};
 
 use crate::fault::CommandFault;
-use crate::notes::{add_held, add_new_store, add_unanswered};
+use crate::notes::{add_causes, add_held, add_new_store, add_unanswered};
 use crate::serving::served;
 use crate::store::{self, Begins};
 use hub_core::{Hub, Watch, replay_watched};
 use nest_core::Setup;
-use past_core::past;
-use posting_core::Ledger;
 use register_sql::SqlRegister;
 use register_store::{PlainRegister, Register};
-use reports::{Form, PrintFault, Question, print};
+use reports::{Form, Question, print_as_of};
 use serve_core::TextFeed;
 use sqlite::{Alter, Start};
 use std::alloc::Global;
@@ -26,8 +24,9 @@ use std::thread::Threads;
 /// The work of a command on a store.
 #[derive(Drop)]
 pub enum Work {
-    /// Answers the lines of the input.
-    Replay,
+    /// Answers the lines of the input. With `why`, a note explains each entry of these lines that
+    /// wasn't applied.
+    Replay { why: bool },
     /// Prints the answer to a question in this form. With a number, the answer is that of the record
     /// as it was after this entry.
     Print(Question, Form, Option<u64>),
@@ -41,7 +40,7 @@ impl Work {
     /// How the work treats a path that has no store yet.
     fn begins(&self) -> Begins {
         match self {
-            Work::Replay | Work::Serve(_) => Begins::Record,
+            Work::Replay { .. } | Work::Serve(_) => Begins::Record,
             Work::Print(..) => Begins::Nothing,
             Work::Migrate => Begins::NoVersion,
         }
@@ -243,7 +242,7 @@ fn done<
     requires up { hub.down ≡ false }
 {
     match work {
-        Work::Replay => replayed(alloc, hub, watch, input, output, notes),
+        Work::Replay { why } => { replayed(alloc, threads, hub, why, watch, input, output, notes) }
         Work::Print(question, form, upto) => printed(
             alloc, threads, hub, &question, form, upto, output, notes,
         ),
@@ -253,9 +252,11 @@ fn done<
     }
 }
 
-fn replayed<S: Register, V: Watch, R: BufRead, W: Write>(
+fn replayed<T: Threads + Sync, S: Register, V: Watch, R: BufRead, W: Write>(
     alloc: Global,
+    threads: &T,
     mut hub: Hub<S>,
+    why: bool,
     watch: &mut V,
     input: &mut R,
     output: &mut W,
@@ -263,11 +264,29 @@ fn replayed<S: Register, V: Watch, R: BufRead, W: Write>(
 ) -> (S, Result<(), CommandFault>)
     requires { hub.down ≡ false }
 {
+    let next = u64::from(hub.ledger().entry_count()) + 1;
     let ended = match replay_watched(alloc, input, output, &mut hub, watch) {
-        Ok(()) => add_held(notes, &hub).map_err(CommandFault::from),
+        Ok(()) => add_ending(alloc, threads, notes, &hub, why, next),
         Err(fault) => Err(CommandFault::from(fault)),
     };
     (hub.close(), ended)
+}
+
+/// Appends the notes after a replay: the held messages and, with `why`, the causes of the refused
+/// entries from this one on.
+fn add_ending<T: Threads + Sync, S: Register>(
+    alloc: Global,
+    threads: &T,
+    notes: &mut String,
+    hub: &Hub<S>,
+    why: bool,
+    from: u64,
+) -> Result<(), CommandFault> {
+    add_held(notes, hub)?;
+    if why {
+        add_causes(alloc, threads, notes, hub.ledger(), from)?;
+    }
+    Ok(())
 }
 
 /// Prints the answer to the question, from the record as it is or as it was after an entry. Nothing
@@ -288,28 +307,6 @@ fn printed<T: Threads + Sync, S: Register, W: Write>(
     if let Err(error) = add_unanswered(notes, hub.ledger(), question, upto) {
         return (hub.close(), Err(CommandFault::from(error)));
     }
-    let ended = match upto {
-        None => print(threads, alloc, hub.ledger(), question, form, output),
-        Some(entry) => print_past(threads, alloc, hub.ledger(), entry, question, form, output),
-    };
+    let ended = print_as_of(threads, alloc, hub.ledger(), upto, question, form, output);
     (hub.close(), ended.map_err(CommandFault::from))
-}
-
-/// Prints the answer to the question from the record as it was after this entry.
-fn print_past<T: Threads + Sync, W: Write>(
-    threads: &T,
-    alloc: Global,
-    ledger: &Ledger,
-    entry: u64,
-    question: &Question,
-    form: Form,
-    output: &mut W,
-) -> Result<(), PrintFault>
-    ensures { Prints (W.contents output.old) (W.contents output.new) result
-        (report_text form (upto ledger.now entry) question.now) }
-{
-    let past = past(alloc, ledger, entry as usize)?;
-    let ended = print(threads, alloc, &past, question, form, output);
-    drop(past);
-    ended
 }

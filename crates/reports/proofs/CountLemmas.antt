@@ -1,6 +1,6 @@
 -- The rows of the report on a count list, by number.
-use Rattle.std.proofs.Common.{◌≡◌, ℕ, ◌+◌, ◌<◌, ◌++◌, All, List, [], length, map, Some, ap, sym}
-use Rattle.std.proofs.Common.{subst, ◌∙◌, arith}
+use Rattle.std.proofs.Common.{◌≡◌, ℕ, ◌+◌, ◌<◌, ◌++◌, All, Bool, List, [], length, map, Some, ap}
+use Rattle.std.proofs.Common.{sym, subst, ◌∙◌, arith}
 use Rattle.std.specs.List.{range_with_len, slice_get}
 use Rattle.std.specs.Option.{option_map_or}
 use Rattle.std.proofs.lemmas.List.{length-append, length-map}
@@ -12,7 +12,8 @@ use Rattle.count_core.specs.declared.answer.CountAnswer.{CountAnswer}
 use Rattle.count_core.specs.declared.answer.CountAnswer.TheVariants.{Elsewhere}
 use Rattle.count_core.specs.declared.answer.MissingObject.{MissingObject}
 use Rattle.count_core.specs.declared.count_row.CountRow.{CountRow}
-use Rattle.count_core.specs.Counts.{IsAnswerIn, answer_at, answers, missing}
+use Rattle.count_core.specs.Counts.{IsAnswerIn, answer_at, answers}
+use Rattle.count_core.specs.Sealed.{missing_unless_sealed}
 use Rattle.reports.specs.declared.form.Form.{Form}
 use Rattle.reports.specs.Cells.{Cell}
 use Rattle.reports.specs.CountRows.{answer_row, answer_row_at, count_rows, found_row_at, found_rows}
@@ -58,14 +59,15 @@ missed_at B form rows found missed i j m is here =
     ∙ (behind_at front (map (missing_row B form) missed) j
     ∙ each_at (missing_row B form) missed j m here)
 
-pub all_found : (B : Book) (form : Form) (rows : List CountRow) (found : List CountAnswer)
-    (missed : List MissingObject) → found ≡ answers B rows → missed ≡ missing B rows
-    → found_rows B form rows found missed ≡ count_rows B form rows
-all_found B form rows found missed f m =
+pub all_found : (B : Book) (form : Form) (sealed : Bool) (rows : List CountRow)
+    (found : List CountAnswer) (missed : List MissingObject) → found ≡ answers B rows
+    → missed ≡ missing_unless_sealed B sealed rows
+    → found_rows B form rows found missed ≡ count_rows B form sealed rows
+all_found B form sealed rows found missed f m =
     ap (λ a. found_rows B form rows a missed) f
     ∙ (ap (λ a. map (found_row_at B.museum form rows (answers B rows))
     (range_with_len 0 (length rows)) ++ map (missing_row B form) a) m
-    ∙ ap (λ front. front ++ map (missing_row B form) (missing B rows))
+    ∙ ap (λ front. front ++ map (missing_row B form) (missing_unless_sealed B sealed rows))
     (numbers_alike (found_row_at B.museum form rows (answers B rows)) (answer_row_at B form rows) 0
     (length rows)
     (λ i h. ap (λ o. option_map_or (λ (r : CountRow).

@@ -1,3 +1,4 @@
+mod EachRows
 mod CountLemmas
 mod NumberedRows
 mod Joins

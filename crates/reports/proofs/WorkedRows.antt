@@ -9,14 +9,15 @@ use Rattle.codes_core.specs.Day.{day_text}
 use Rattle.posting_core.specs.declared.message.Message.TheVariants.{Agree, Pack, SignOff}
 use Rattle.posting_core.specs.declared.entry.Entry.{Entry}
 use Rattle.posting_core.proofs.WorkedRows.{book, gal, may, moved, museum, pack, run}
-use Rattle.count_core.specs.declared.answer.CountAnswer.TheVariants.{Counted, Elsewhere}
+use Rattle.count_core.specs.declared.answer.CountAnswer.TheVariants.{Counted, Elsewhere, Found}
+use Rattle.count_core.specs.declared.count_row.CountRow.{CountRow}
 use Rattle.reports.specs.declared.form.Form.TheVariants.{Csv, Json, Plain}
 use Rattle.reports.specs.declared.field.Field.TheVariants as field
 use Rattle.reports.specs.declared.question.Question.TheVariants as question
 use Rattle.reports.specs.Cells.{Cell, cell_of, flag, flag_text, in_if, is_shown, json, json_text}
 use Rattle.reports.specs.Cells.{member, members, nothing, number, number_if, object_line, or_dash}
 use Rattle.reports.specs.Cells.{plain_text, quoted, text, text_if, texts, words_line}
-use Rattle.reports.specs.CountRows.{answer_row, missing_row}
+use Rattle.reports.specs.CountRows.{answer_row, count_rows, missing_row}
 use Rattle.reports.specs.Forms.{heading, line_text}
 use Rattle.reports.specs.Loans.{unknown_row}
 use Rattle.reports.specs.Reports.{plain_rows, rows}
@@ -225,6 +226,20 @@ small = run [] (
     ∷ (gal, moved (codes "C1") (codes "S2"))
     ∷ (pack, SignOff (codes "Ada"))
     ∷ [])
+
+-- the list has the crate and not the object in it
+
+abbrev crate_seen : CountRow
+crate_seen = record { place = codes "S2"; object = Some (codes "C1") }
+
+small-count : count_rows (book small) Plain false (crate_seen ∷ [])
+    ≡ answer_row museum Plain 1 crate_seen Found
+    ∷ missing_row (book small) Plain (record { place = 2; object = 2 }) ∷ []
+small-count = refl
+
+small-count_sealed : count_rows (book small) Plain true (crate_seen ∷ [])
+    ≡ answer_row museum Plain 1 crate_seen Found ∷ []
+small-count_sealed = refl
 
 small-where : plain_rows (book small) (question.Where (codes "2001.4.1"))
     ≡ place_row Plain (codes "2001.4.1") (codes "at") (Some (codes "S2")) (codes "C1" ∷ []) ∷ []

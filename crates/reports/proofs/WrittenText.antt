@@ -12,7 +12,6 @@ use Rattle.std.specs.Option.{option_to_list}
 use Rattle.std.specs.Result.{IsErrAnd}
 use Rattle.codes_core.proofs.Parts.{all_taken}
 use Rattle.reports.specs.Forms.{Prints}
-use Rattle.reports.specs.Cells.{Cell}
 
 pub appends_kept : (a b c : Option (List ℕ)) (bs : List ℕ) → Appends a b bs → Keeps b c
     → Appends a c bs
@@ -64,7 +63,7 @@ front_past a b c s t p q = let r = past_of q.0 s t in
     (r.0, subst (Appends a c) (sym r.1) (Appends-trans a b c s (take q.0 t) p q.1))
 
 -- one more row
-pub row_taken : (rows : List (List Cell)) (i : ℕ) → take (suc i) rows ≡ take i rows
+pub row_taken : {X : Type 0} (rows : List X) (i : ℕ) → take (suc i) rows ≡ take i rows
     ++ option_to_list (slice_get rows i)
 row_taken [] zero = refl
 row_taken [] (suc i) = refl
@@ -72,7 +71,7 @@ row_taken (row ∷ rows) zero = refl
 row_taken (row ∷ rows) (suc i) = ap (λ l. row ∷ l) (row_taken rows i)
 
 -- the text of the rows through row i
-pub lines_more : (text : List Cell → List ℕ) (rows : List (List Cell)) (i : ℕ)
+pub lines_more : {X : Type 0} (text : X → List ℕ) (rows : List X) (i : ℕ)
     → flat_map text (take (i + 1) rows) ≡ flat_map text (take i rows)
     ++ flat_map text (option_to_list (slice_get rows i))
 lines_more text rows i =
@@ -81,8 +80,7 @@ lines_more text rows i =
     ∙ flat_map-append text (take i rows) (option_to_list (slice_get rows i)))
 
 -- after a fault at row i a front of all rows is written
-pub broken_at : (a b c : Option (List ℕ)) (text : List Cell → List ℕ) (rows : List (List Cell))
-    (i : ℕ)
+pub broken_at : {X : Type 0} (a b c : Option (List ℕ)) (text : X → List ℕ) (rows : List X) (i : ℕ)
     → Appends a b (flat_map text (take i rows)) → Front b c
     (flat_map text (option_to_list (slice_get rows i))) → Front a c (flat_map text rows)
 broken_at a b c text rows i p q =

@@ -29,6 +29,7 @@ cell_of (field.Thing c) = text c
 cell_of (field.Place c) = text c
 cell_of (field.Loan c) = text c
 cell_of (field.Things cs) = texts cs.items
+cell_of (field.Text t) = text (string_bytes t)
 cell_of (field.Json t) = json (string_bytes t)
 
 abbrev pub number_if : Option ℕ → Cell
@@ -69,9 +70,13 @@ is_shown nothing = false
 is_shown (texts []) = false
 is_shown _ = true
 
+-- The words with spaces between them.
+abbrev pub joined_words : List Cell → List ℕ
+joined_words words = join_by plain_text (codes " ") (filter is_shown words)
+
 -- A plain line: the words with spaces between them, and a line feed.
 abbrev pub words_line : List Cell → List ℕ
-words_line words = join_by plain_text (codes " ") (filter is_shown words) ++ codes "\n"
+words_line words = joined_words words ++ codes "\n"
 
 -- The text as a JSON string.
 abbrev pub quoted : List ℕ → List ℕ

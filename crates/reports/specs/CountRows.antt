@@ -1,6 +1,6 @@
 -- Defines the rows of the report on a count list. An example of the plain line is above each.
-use Rattle.std.specs.Prelude.{◌∷◌, ◌++◌, ◌+◌, [], ℕ, List, None, Option, Some, codes, length, map}
-use Rattle.std.specs.Prelude.{slice_get}
+use Rattle.std.specs.Prelude.{◌∷◌, ◌++◌, ◌+◌, [], ℕ, Bool, List, None, Option, Some, codes, length}
+use Rattle.std.specs.Prelude.{map, slice_get}
 use Rattle.std.specs.List.{range_with_len}
 use Rattle.std.specs.Option.{option_map_or}
 use Rattle.nest_core.specs.Museum.{Museum}
@@ -11,7 +11,8 @@ use Rattle.count_core.specs.declared.answer.CountAnswer.TheVariants.{UnknownObje
 use Rattle.count_core.specs.declared.answer.CountAnswer.TheVariants.{Found, Elsewhere}
 use Rattle.count_core.specs.declared.answer.MissingObject.{MissingObject}
 use Rattle.count_core.specs.declared.count_row.CountRow.{CountRow}
-use Rattle.count_core.specs.Counts.{answer_at, missing}
+use Rattle.count_core.specs.Counts.{answer_at}
+use Rattle.count_core.specs.Sealed.{missing_unless_sealed}
 use Rattle.reports.specs.declared.form.Form.{Form}
 use Rattle.reports.specs.Forms.{by_form}
 use Rattle.reports.specs.Cells.{Cell, nothing, number, text, text_if}
@@ -54,11 +55,12 @@ missing_row B form missed = by_form form
     ∷ text (codes "Missing")
     ∷ text_if (place_text_if B.museum (place_in B missed.object)) ∷ [])
 
--- The answer to each row of the list, and then each object that the list misses.
-abbrev pub count_rows : Book → Form → List CountRow → List (List Cell)
-count_rows B form rows =
+-- The answer to each row of the list, and then each object that the list misses, by whether
+-- containers count as sealed.
+abbrev pub count_rows : Book → Form → Bool → List CountRow → List (List Cell)
+count_rows B form sealed rows =
     map (answer_row_at B form rows) (range_with_len 0 (length rows))
-    ++ map (missing_row B form) (missing B rows)
+    ++ map (missing_row B form) (missing_unless_sealed B sealed rows)
 
 -- The same rows for these answers and these missing objects.
 abbrev pub found_row_at : Museum → Form → List CountRow → List CountAnswer → ℕ → List Cell

@@ -10,3 +10,4 @@ pub mod Terms
 pub mod Texts
 pub mod Things
 pub mod Cells
+pub mod Causes

@@ -3,10 +3,10 @@ use Rattle.std.specs.Prelude.{◌∷◌, [], ℕ, List, codes}
 use Rattle.reports.specs.declared.question.Question.{Question}
 use Rattle.reports.specs.declared.question.Question.TheVariants.{Count, Overdue, Away, History}
 use Rattle.reports.specs.declared.question.Question.TheVariants.{Stations, Where, Contents, Loan}
-use Rattle.reports.specs.declared.question.Question.TheVariants.{At, Posted, Loans, Dues}
+use Rattle.reports.specs.declared.question.Question.TheVariants.{At, Posted, Loans, Dues, Why}
 
 abbrev pub names : Question → List (List ℕ)
-names (Count rows) =
+names (Count rows sealed) =
     codes "row" ∷ codes "place" ∷ codes "thing" ∷ codes "answer" ∷ codes "on_record" ∷ []
 names (Overdue day) = codes "loan" ∷ codes "last" ∷ []
 names Away = codes "object" ∷ codes "place" ∷ codes "normal" ∷ []
@@ -26,3 +26,6 @@ names (Loans filter) =
     ∷ codes "days_left" ∷ codes "authorised_by" ∷ []
 names (Dues day) =
     codes "loan" ∷ codes "object" ∷ codes "last" ∷ codes "stage" ∷ codes "partner" ∷ []
+names (Why filter) =
+    codes "entry" ∷ codes "station" ∷ codes "n" ∷ codes "kind" ∷ codes "verdict"
+    ∷ codes "culprit" ∷ codes "cause" ∷ []

@@ -6,7 +6,8 @@ use Rattle.reports.specs.declared.form.Form.TheVariants.{Plain, Csv}
 use Rattle.reports.specs.declared.question.Question.{Question}
 use Rattle.reports.specs.declared.question.Question.TheVariants.{Count, Overdue, Away, History}
 use Rattle.reports.specs.declared.question.Question.TheVariants.{Stations, Where, Contents, Loan}
-use Rattle.reports.specs.declared.question.Question.TheVariants.{At, Posted, Loans, Dues}
+use Rattle.reports.specs.declared.question.Question.TheVariants.{At, Posted, Loans, Dues, Why}
+use Rattle.reports.specs.Causes.{cause_rows}
 use Rattle.reports.specs.CountRows.{count_rows}
 use Rattle.reports.specs.Forms.{rows_text}
 use Rattle.reports.specs.LoanLists.{due_rows, listed_rows}
@@ -20,7 +21,7 @@ use Rattle.std.specs.Prelude.{◌∷◌, []}
 
 -- The rows of a report in this form.
 abbrev pub rows_in : Form → Book → Question → List (List Cell)
-rows_in form B (Count rows) = count_rows B form rows.items
+rows_in form B (Count rows sealed) = count_rows B form sealed rows.items
 rows_in form B (Overdue day) = overdue_rows B day
 rows_in form B Away = away_rows B form
 rows_in form B (History code) = history_rows B code
@@ -32,6 +33,7 @@ rows_in form B (At place) = at_rows B place
 rows_in form B (Posted filter) = posted_rows B filter
 rows_in form B (Loans filter) = listed_rows B form filter
 rows_in form B (Dues day) = due_rows B day
+rows_in form B (Why filter) = cause_rows B form filter
 
 -- The values of a report's rows, by column.
 abbrev pub rows : Book → Question → List (List Cell)

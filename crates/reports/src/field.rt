@@ -22,6 +22,7 @@ pub(crate) enum Field<'a> {
     Loan(LoanCode),
     /// The codes of several things.
     Things(Vec<ThingCode>),
+    Text(String),
     /// The text of a JSON value.
     Json(String),
 }
@@ -51,6 +52,7 @@ pub(crate) fn plain_text(alloc: Global, field: &Field<'_>) -> Result<String, NoM
         Field::Place(code) => Ok(String::from_str(alloc, code.as_str())?),
         Field::Loan(code) => Ok(String::from_str(alloc, code.as_str())?),
         Field::Things(codes) => spaced(alloc, codes.as_slice()),
+        Field::Text(text) => Ok(String::from_str(alloc, text.as_str())?),
         Field::Json(text) => Ok(String::from_str(alloc, text.as_str())?),
     }
 }
@@ -69,6 +71,7 @@ pub(crate) fn json_text(alloc: Global, field: &Field<'_>) -> Result<String, NoMe
         Field::Place(code) => quoted(alloc, code.as_str()),
         Field::Loan(code) => quoted(alloc, code.as_str()),
         Field::Things(codes) => array_text(alloc, codes.as_slice()),
+        Field::Text(text) => quoted(alloc, text.as_str()),
         Field::Json(text) => Ok(String::from_str(alloc, text.as_str())?),
     }
 }

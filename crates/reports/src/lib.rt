@@ -29,5 +29,5 @@ mod writing;
 
 pub use fault::PrintFault;
 pub use form::Form;
-pub use printing::print;
+pub use printing::{print, print_as_of};
 pub use question::{EntryFilter, LoanFilter, Question, names_of};

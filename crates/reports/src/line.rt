@@ -4,7 +4,7 @@ ghost use Rattle.std.specs.List.{filter};
 ghost use Rattle.csv.specs.Writing.{default_writer, row_text};
 ghost use Rattle.reports.specs.Forms.{heading, line_text};
 ghost use Rattle.reports.specs.Cells.{is_shown, member, object_line, plain_text, cell_of};
-ghost use Rattle.reports.specs.Cells.{words_line};
+ghost use Rattle.reports.specs.Cells.{joined_words, words_line};
 
 use crate::Form;
 use crate::field::{Field, is_shown, json_text, plain_text, quoted};
@@ -43,9 +43,17 @@ pub(crate) fn line(
 fn words_line(alloc: Global, words: &[Field<'_>]) -> Result<String, NoMemory>
     ensures { IfOk result (λ line. string_bytes line ≡ words_line (map cell_of words.now)) }
 {
-    let texts = word_texts(alloc, words)?;
-    let line = texts.as_slice().join(alloc, " ")?;
+    let line = joined_words(alloc, words)?;
     Ok([line.as_str(), "\n"].concat(alloc)?)
+}
+
+/// The words that have a text, with spaces between them.
+pub(crate) fn joined_words(alloc: Global, words: &[Field<'_>]) -> Result<String, NoMemory>
+    ensures { IfOk result
+        (λ line. string_bytes line ≡ joined_words (map cell_of words.now)) }
+{
+    let texts = word_texts(alloc, words)?;
+    Ok(texts.as_slice().join(alloc, " ")?)
 }
 
 /// The text of each of these words, if it has one.

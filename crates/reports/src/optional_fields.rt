@@ -5,7 +5,7 @@ ghost use Rattle.reports.specs.Texts.{place_text_if};
 ghost use Rattle.reports.specs.Cells.{day_if, in_if, number_if, or_dash, text_if, cell_of};
 
 use crate::field::Field;
-use codes_core::{Day, Name, PlaceCode, ThingCode};
+use codes_core::{Day, LoanCode, Name, PlaceCode, ThingCode};
 use nest_core::{PlaceNo, Setup};
 
 /// The number, if there is one.
@@ -44,6 +44,16 @@ pub(crate) fn thing_if<'a>(thing: Option<ThingCode>) -> Field<'a>
 {
     match thing {
         Some(thing) => Field::Thing(thing),
+        None => Field::Nothing,
+    }
+}
+
+/// The loan, if there is one.
+pub(crate) fn loan_if<'a>(loan: Option<LoanCode>) -> Field<'a>
+    ensures { cell_of result ≡ text_if loan }
+{
+    match loan {
+        Some(loan) => Field::Loan(loan),
         None => Field::Nothing,
     }
 }

@@ -1,5 +1,6 @@
 //! Prints a report.
 ghost use Rattle.std.specs.Prelude.{map};
+ghost use Rattle.past_core.specs.Past.{as_of, upto};
 ghost use Rattle.reports.specs.Forms.{Prints, rows_text};
 ghost use Rattle.reports.specs.Loans.{loan_rows};
 ghost use Rattle.reports.specs.Things.{content_rows};
@@ -17,9 +18,11 @@ use crate::reports::overdue::Overdue;
 use crate::reports::posted::Posted;
 use crate::reports::stations::Stations;
 use crate::reports::whereabouts::Whereabouts;
+use crate::reports::why::print_causes;
 use crate::rows::print_rows;
 use crate::{Form, PrintFault, Question, names_of};
 use codes_core::{LoanCode, ThingCode};
+use past_core::past;
 use posting_core::Ledger;
 use std::alloc::Global;
 use std::io::Write;
@@ -78,8 +81,8 @@ pub fn print<T: Threads + Sync, W: Write>(
             print_rows(alloc, form, names, &rows, out)
         }
         Question::Contents(code) => print_contents(alloc, ledger, code, form, names, out),
-        Question::Count(list) => {
-            let rows = Counted::find(threads, alloc, ledger, list.as_slice())?;
+        Question::Count { rows, sealed } => {
+            let rows = Counted::find(threads, alloc, ledger, rows.as_slice(), *sealed)?;
             print_rows(alloc, form, names, &rows, out)
         }
         Question::Loan(code) => print_loan(alloc, ledger, code, form, names, out),
@@ -91,7 +94,47 @@ pub fn print<T: Threads + Sync, W: Write>(
             let rows = Dues::find(alloc, ledger, *day)?;
             print_rows(alloc, form, names, &rows, out)
         }
+        Question::Why(filter) => print_causes(alloc, ledger, filter, form, names, out),
     }
+}
+
+/// Prints the answer from the record as it is or, with a number, from the record as it was after this
+/// entry. Fails as [`print`] does. An earlier record takes the time and the memory of another ledger.
+pub fn print_as_of<T: Threads + Sync, W: Write>(
+    threads: &T,
+    alloc: Global,
+    ledger: &Ledger,
+    upto: Option<u64>,
+    question: &Question,
+    form: Form,
+    out: &mut W,
+) -> Result<(), PrintFault>
+    ensures { Prints (W.contents out.old) (W.contents out.new) result
+        (report_text form (as_of upto ledger.now) question.now) }
+{
+    match upto {
+        None => print(threads, alloc, ledger, question, form, out),
+        Some(entry) => print_past(threads, alloc, ledger, entry, question, form, out),
+    }
+}
+
+/// Prints the answer to the question from the record as it was after this entry.
+fn print_past<T: Threads + Sync, W: Write>(
+    threads: &T,
+    alloc: Global,
+    ledger: &Ledger,
+    entry: u64,
+    question: &Question,
+    form: Form,
+    out: &mut W,
+) -> Result<(), PrintFault>
+    ensures { Prints (W.contents out.old) (W.contents out.new) result
+        (report_text form (upto ledger.now entry) question.now) }
+{
+    let past = past(alloc, ledger, entry as usize)?;
+    let ended = print(threads, alloc, &past, question, form, out);
+    drop(past);
+    ended
 }
 
 /// Prints the things in a container, or that the setup doesn't have it.

@@ -9,7 +9,11 @@ use count_core::CountRow;
 #[derive(Drop)]
 pub enum Question {
     /// How does a count list compare with the record?
-    Count(Vec<CountRow>),
+    Count {
+        rows: Vec<CountRow>,
+        /// A container that was seen where the record has it vouches for the objects in it.
+        sealed: bool,
+    },
     /// Which loans are overdue on a day?
     Overdue(Day),
     /// Which of the museum's own objects aren't at their normal locations?
@@ -32,6 +36,8 @@ pub enum Question {
     Loans(LoanFilter),
     /// Which objects are due by a day, to come back or to go back?
     Dues(Day),
+    /// Why did these entries get their verdicts?
+    Why(EntryFilter),
 }
 
 /// Which entries a list has. An entry has to meet all that is asked.
@@ -68,7 +74,7 @@ pub fn names_of(question: &Question) -> &'static [&'static str]
     ensures { map (λ name. name.now) result.now ≡ names question.now }
 {
     match question {
-        Question::Count(_) => &["row", "place", "thing", "answer", "on_record"],
+        Question::Count { .. } => &["row", "place", "thing", "answer", "on_record"],
         Question::Overdue(_) => &["loan", "last"],
         Question::Away => &["object", "place", "normal"],
         Question::History(_) => &["entry", "day", "place"],
@@ -95,5 +101,8 @@ pub fn names_of(question: &Question) -> &'static [&'static str]
             "authorised_by",
         ],
         Question::Dues(_) => &["loan", "object", "last", "stage", "partner"],
+        Question::Why(_) => &[
+            "entry", "station", "n", "kind", "verdict", "culprit", "cause",
+        ],
     }
 }

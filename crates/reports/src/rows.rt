@@ -44,7 +44,7 @@ pub(crate) fn print_rows<R: Rows, W: Write>(
     print_lines(alloc, form, names, rows, out)
 }
 
-fn print_heading<W: Write>(
+pub(crate) fn print_heading<W: Write>(
     alloc: Global,
     form: Form,
     names: &[&str],
@@ -92,7 +92,7 @@ fn print_row<R: Rows, W: Write>(
 }
 
 /// Prints the line of a row with these fields.
-fn print_line<W: Write>(
+pub(crate) fn print_line<W: Write>(
     alloc: Global,
     form: Form,
     names: &[&str],

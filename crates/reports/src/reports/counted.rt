@@ -1,6 +1,7 @@
 //! The comparison of a count list with the record.
 ghost use Rattle.std.specs.Prelude.{◌≡◌, ◌<◌, ℕ, All, IfOk, Some, length, map, slice_get};
-ghost use Rattle.count_core.specs.Counts.{IsMissingIn};
+ghost use Rattle.count_core.specs.Counts.{IsAnswerIn, IsMissingIn, answers};
+ghost use Rattle.count_core.specs.Sealed.{missing_unless_sealed};
 ghost use Rattle.count_core.specs.declared.answer.CountAnswer.TheVariants as answer;
 ghost use Rattle.reports.specs.declared.form.Form.{Form};
 ghost use Rattle.reports.specs.CountRows.{answer_row, answer_word, count_rows, found_rows};
@@ -12,7 +13,7 @@ use crate::field::Field;
 use crate::optional_fields::{place_code_if, place_if, thing_if};
 use crate::rows::Rows;
 use codes_core::{NoMemory, PlaceCode};
-use count_core::{CountAnswer, CountReport, CountRow, MissingObject, check};
+use count_core::{CountAnswer, CountReport, CountRow, MissingObject, check, check_sealed};
 use nest_core::Setup;
 use posting_core::Ledger;
 use std::alloc::Global;
@@ -60,19 +61,20 @@ impl<'a> Rows for Counted<'a> {
 }
 
 impl<'a> Counted<'a> {
-    /// Checks the list.
+    /// Checks the list. If `sealed`, a container that was seen vouches for the objects in it.
     pub(crate) fn find<T: Threads + Sync>(
         threads: &T,
         alloc: Global,
         ledger: &'a Ledger,
         list: &'a [CountRow],
+        sealed: bool,
     ) -> Result<Counted<'a>, NoMemory>
         ensures { IfOk result (λ found. (form : Form)
             → found_rows found.ledger.now form found.list.now found.answers.items
             found.missing.items
-            ≡ count_rows ledger.entry.now form list.entry.now) }
+            ≡ count_rows ledger.entry.now form sealed list.entry.now) }
     {
-        let CountReport { answers, missing } = check(threads, alloc, ledger, list)?;
+        let CountReport { answers, missing } = checked(threads, alloc, ledger, list, sealed)?;
         Ok(Counted {
             ledger,
             list,
@@ -80,6 +82,27 @@ impl<'a> Counted<'a> {
             missing,
         })
     }
+}
+
+fn checked<T: Threads + Sync>(
+    threads: &T,
+    alloc: Global,
+    ledger: &Ledger,
+    list: &[CountRow],
+    sealed: bool,
+) -> Result<CountReport, NoMemory>
+    ensures answers { IfOk result (λ report. report.answers.items ≡ answers ledger.now list.now) }
+    ensures missing { IfOk result
+        (λ report. report.missing.items ≡ missing_unless_sealed ledger.now sealed list.now) }
+    ensures known { IfOk result
+        (λ report. All (IsAnswerIn ledger.now.museum) report.answers.items) }
+    ensures within { IfOk result
+        (λ report. All (IsMissingIn ledger.now.museum) report.missing.items) }
+{
+    if sealed {
+        return check_sealed(threads, alloc, ledger, list);
+    }
+    check(threads, alloc, ledger, list)
 }
 
 /// The row of an answer.

@@ -88,7 +88,7 @@ fn entry_row_at<'a>(
 }
 
 /// The entry at this index, from 0.
-fn entry_at(ledger: &Ledger, at: usize) -> &PostedEntry
+pub(crate) fn entry_at(ledger: &Ledger, at: usize) -> &PostedEntry
     requires { at < length ledger.now.posted }
     ensures { slice_get (reverse ledger.entry.now.posted) at ≡ Some result.now }
 {

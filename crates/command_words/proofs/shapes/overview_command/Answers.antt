@@ -22,9 +22,9 @@ loop-name-init c = whole (app_of c.program-command.result) c.program-command.ens
 pub loop-name-preserved : goal.loop-name-preserved
 loop-name-preserved c =
     let above = app_of c.loop-name.command in
-    let made = c.in_ok-command_of.ensures in
+    let made = c.in-Ok.ensures in
     one_more above (app_of c.in_ok-command.command) all c.loop-name.name-index _
     c.loop-name-test.true
     c.loop-name.invariant
-    (c.in_ok-command.ensures.shape (no_globals _ (plain_by _ c.in_ok-command_of.field-0 made))
+    (c.in_ok-command.ensures.shape (no_globals _ (plain_by _ c.in-Ok.next made))
     ∙ ap (λ (a : App). with_subcommand above a.top) made)

@@ -1,143 +1,214 @@
-use Rattle.std.proofs.Common.{◌≡◌, ◌∙◌, List, Option, Result, Some, ap, codes, refl, subst, sym}
-use Rattle.std.specs.Prelude.{find}
-use Rattle.std.specs.Str.{bytes_eq}
-use Rattle.std.specs.Option.{option_and_then}
-use Rattle.clap.specs.Words.{Text}
-use Rattle.command_words.specs.Commands.{Form, at, away, commands, contents, copy, count, explain}
-use Rattle.command_words.specs.Commands.{help, history, loan, migrate}
-use Rattle.command_words.specs.Commands.{overdue, posted, register_app, replay, report_app, serve}
-use Rattle.command_words.specs.Commands.{dues, loans, stations, where_is}
-use Rattle.command_words.specs.Words.{Chooses, IsNamed, form_named, texts_of}
-use Rattle.command_words.specs.declared.command.Chosen.{Chosen}
-use Rattle.command_words.specs.declared.command.WordsFault.{WordsFault}
+use Rattle.command_words.specs.Commands.{register_app, report_app}
+use Rattle.command_words.specs.Tables.{form_by}
+use Rattle.command_words.specs.Words.{texts_of}
+use Rattle.command_words.proofs.Lookup.{chooses_by, named_by}
 use Rattle.command_words.proofs.words.named.Goals as goal
 
-abbrev form_by : Text → Option Form
-form_by name = find (λ form. bytes_eq name form.app.top.name) commands
+pub replay-requires : goal.replay-requires
+unfolding form_by register_app report_app
+replay-requires c =
+    named_by c.args.name _ (texts_of c.args.words.now) c.requires c.in-Replay.is
 
--- in each arm the name is known, and so is the command
-in_arm : (words : List Text) (name known : Text) (found : Option Form)
-    (result : Result Chosen WordsFault)
-    → IsNamed words name → name ≡ known → form_by known ≡ found
-    → Chooses found words result → Chooses (form_named words) words result
-in_arm words name known found result named is by chosen =
-    let form_is : form_named words ≡ found =
-    ap (λ first. option_and_then form_by first) (named ∙ ap Some is) ∙ by in
-    subst (λ form. Chooses form words result) (sym form_is) chosen
+pub returns-in-Replay : goal.returns-in-Replay
+unfolding form_by
+returns-in-Replay c =
+    chooses_by c.args.name _ (texts_of c.args.words.now) _ c.requires
+    c.in-Replay.is c.replay.ensures
 
-pub returns-in-replay : goal.returns-in-replay
-unfolding register_app report_app
-returns-in-replay c =
-    in_arm (texts_of c.args.words.now) c.args.name.now (codes "replay") (Some replay)
-    c.replay.result
-    c.requires c.in-replay.is refl c.replay.ensures
+pub serve-requires : goal.serve-requires
+unfolding form_by register_app report_app
+serve-requires c =
+    named_by c.args.name _ (texts_of c.args.words.now) c.requires c.in-Serve.is
 
-pub returns-in-serve : goal.returns-in-serve
-unfolding register_app report_app
-returns-in-serve c =
-    in_arm (texts_of c.args.words.now) c.args.name.now (codes "serve") (Some serve) c.serve.result
-    c.requires c.in-serve.is refl c.serve.ensures
+pub returns-in-Serve : goal.returns-in-Serve
+unfolding form_by
+returns-in-Serve c =
+    chooses_by c.args.name _ (texts_of c.args.words.now) _ c.requires
+    c.in-Serve.is c.serve.ensures
 
-pub returns-in-count : goal.returns-in-count
-unfolding register_app report_app
-returns-in-count c =
-    in_arm (texts_of c.args.words.now) c.args.name.now (codes "count") (Some count) c.count.result
-    c.requires c.in-count.is refl c.count.ensures
+pub count-requires : goal.count-requires
+unfolding form_by register_app report_app
+count-requires c =
+    named_by c.args.name _ (texts_of c.args.words.now) c.requires c.in-Count.is
 
-pub returns-in-overdue : goal.returns-in-overdue
-unfolding register_app report_app
-returns-in-overdue c =
-    in_arm (texts_of c.args.words.now) c.args.name.now (codes "overdue") (Some overdue)
-    c.overdue.result
-    c.requires c.in-overdue.is refl c.overdue.ensures
+pub returns-in-Count : goal.returns-in-Count
+unfolding form_by
+returns-in-Count c =
+    chooses_by c.args.name _ (texts_of c.args.words.now) _ c.requires
+    c.in-Count.is c.count.ensures
 
-pub returns-in-away : goal.returns-in-away
-unfolding register_app report_app
-returns-in-away c =
-    in_arm (texts_of c.args.words.now) c.args.name.now (codes "away") (Some away) c.away.result
-    c.requires c.in-away.is refl c.away.ensures
+pub overdue-requires : goal.overdue-requires
+unfolding form_by register_app report_app
+overdue-requires c =
+    named_by c.args.name _ (texts_of c.args.words.now) c.requires c.in-Overdue.is
 
-pub returns-in-history : goal.returns-in-history
-unfolding register_app report_app
-returns-in-history c =
-    in_arm (texts_of c.args.words.now) c.args.name.now (codes "history") (Some history)
-    c.history.result
-    c.requires c.in-history.is refl c.history.ensures
+pub returns-in-Overdue : goal.returns-in-Overdue
+unfolding form_by
+returns-in-Overdue c =
+    chooses_by c.args.name _ (texts_of c.args.words.now) _ c.requires
+    c.in-Overdue.is c.overdue.ensures
 
-pub returns-in-migrate : goal.returns-in-migrate
-unfolding register_app report_app
-returns-in-migrate c =
-    in_arm (texts_of c.args.words.now) c.args.name.now (codes "migrate") (Some migrate)
-    c.migrate.result
-    c.requires c.in-migrate.is refl c.migrate.ensures
+pub away-requires : goal.away-requires
+unfolding form_by register_app report_app
+away-requires c =
+    named_by c.args.name _ (texts_of c.args.words.now) c.requires c.in-Away.is
 
-pub returns-in-copy : goal.returns-in-copy
-unfolding register_app report_app
-returns-in-copy c =
-    in_arm (texts_of c.args.words.now) c.args.name.now (codes "copy") (Some copy) c.copy.result
-    c.requires c.in-copy.is refl c.copy.ensures
+pub returns-in-Away : goal.returns-in-Away
+unfolding form_by
+returns-in-Away c =
+    chooses_by c.args.name _ (texts_of c.args.words.now) _ c.requires
+    c.in-Away.is c.away.ensures
 
-pub returns-in-explain : goal.returns-in-explain
-unfolding register_app report_app
-returns-in-explain c =
-    in_arm (texts_of c.args.words.now) c.args.name.now (codes "explain") (Some explain)
-    c.explain.result
-    c.requires c.in-explain.is refl c.explain.ensures
+pub history-requires : goal.history-requires
+unfolding form_by register_app report_app
+history-requires c =
+    named_by c.args.name _ (texts_of c.args.words.now) c.requires c.in-History.is
 
-pub returns-in-stations : goal.returns-in-stations
-unfolding register_app report_app
-returns-in-stations c =
-    in_arm (texts_of c.args.words.now) c.args.name.now (codes "stations") (Some stations)
-    c.stations.result
-    c.requires c.in-stations.is refl c.stations.ensures
+pub returns-in-History : goal.returns-in-History
+unfolding form_by
+returns-in-History c =
+    chooses_by c.args.name _ (texts_of c.args.words.now) _ c.requires
+    c.in-History.is c.history.ensures
 
-pub returns-in-where : goal.returns-in-where
-unfolding register_app report_app
-returns-in-where c =
-    in_arm (texts_of c.args.words.now) c.args.name.now (codes "where") (Some where_is)
-    c.where_is.result
-    c.requires c.in-where.is refl c.where_is.ensures
+pub migrate-requires : goal.migrate-requires
+unfolding form_by register_app report_app
+migrate-requires c =
+    named_by c.args.name _ (texts_of c.args.words.now) c.requires c.in-Migrate.is
 
-pub returns-in-contents : goal.returns-in-contents
-unfolding register_app report_app
-returns-in-contents c =
-    in_arm (texts_of c.args.words.now) c.args.name.now (codes "contents") (Some contents)
-    c.contents.result
-    c.requires c.in-contents.is refl c.contents.ensures
+pub returns-in-Migrate : goal.returns-in-Migrate
+unfolding form_by
+returns-in-Migrate c =
+    chooses_by c.args.name _ (texts_of c.args.words.now) _ c.requires
+    c.in-Migrate.is c.migrate.ensures
 
-pub returns-in-loan : goal.returns-in-loan
-unfolding register_app report_app
-returns-in-loan c =
-    in_arm (texts_of c.args.words.now) c.args.name.now (codes "loan") (Some loan) c.loan.result
-    c.requires c.in-loan.is refl c.loan.ensures
+pub copy-requires : goal.copy-requires
+unfolding form_by register_app report_app
+copy-requires c =
+    named_by c.args.name _ (texts_of c.args.words.now) c.requires c.in-Copy.is
 
-pub returns-in-at : goal.returns-in-at
-unfolding register_app report_app
-returns-in-at c =
-    in_arm (texts_of c.args.words.now) c.args.name.now (codes "at") (Some at) c.at.result
-    c.requires c.in-at.is refl c.at.ensures
+pub returns-in-Copy : goal.returns-in-Copy
+unfolding form_by
+returns-in-Copy c =
+    chooses_by c.args.name _ (texts_of c.args.words.now) _ c.requires
+    c.in-Copy.is c.copy.ensures
 
-pub returns-in-posted : goal.returns-in-posted
-unfolding register_app report_app
-returns-in-posted c =
-    in_arm (texts_of c.args.words.now) c.args.name.now (codes "posted") (Some posted)
-    c.posted.result
-    c.requires c.in-posted.is refl c.posted.ensures
+pub explain-requires : goal.explain-requires
+unfolding form_by register_app report_app
+explain-requires c =
+    named_by c.args.name _ (texts_of c.args.words.now) c.requires c.in-Explain.is
 
-pub returns-in-loans : goal.returns-in-loans
-unfolding register_app report_app
-returns-in-loans c =
-    in_arm (texts_of c.args.words.now) c.args.name.now (codes "loans") (Some loans) c.loans.result
-    c.requires c.in-loans.is refl c.loans.ensures
+pub returns-in-Explain : goal.returns-in-Explain
+unfolding form_by
+returns-in-Explain c =
+    chooses_by c.args.name _ (texts_of c.args.words.now) _ c.requires
+    c.in-Explain.is c.explain.ensures
 
-pub returns-in-dues : goal.returns-in-dues
-unfolding register_app report_app
-returns-in-dues c =
-    in_arm (texts_of c.args.words.now) c.args.name.now (codes "dues") (Some dues) c.dues.result
-    c.requires c.in-dues.is refl c.dues.ensures
+pub stations-requires : goal.stations-requires
+unfolding form_by register_app report_app
+stations-requires c =
+    named_by c.args.name _ (texts_of c.args.words.now) c.requires c.in-Stations.is
 
-pub returns-in-help : goal.returns-in-help
-unfolding register_app report_app
-returns-in-help c =
-    in_arm (texts_of c.args.words.now) c.args.name.now (codes "help") (Some help) c.help.result
-    c.requires c.in-help.is refl c.help.ensures
+pub returns-in-Stations : goal.returns-in-Stations
+unfolding form_by
+returns-in-Stations c =
+    chooses_by c.args.name _ (texts_of c.args.words.now) _ c.requires
+    c.in-Stations.is c.stations.ensures
+
+pub where_is-requires : goal.where_is-requires
+unfolding form_by register_app report_app
+where_is-requires c =
+    named_by c.args.name _ (texts_of c.args.words.now) c.requires c.in-Where.is
+
+pub returns-in-Where : goal.returns-in-Where
+unfolding form_by
+returns-in-Where c =
+    chooses_by c.args.name _ (texts_of c.args.words.now) _ c.requires
+    c.in-Where.is c.where_is.ensures
+
+pub contents-requires : goal.contents-requires
+unfolding form_by register_app report_app
+contents-requires c =
+    named_by c.args.name _ (texts_of c.args.words.now) c.requires c.in-Contents.is
+
+pub returns-in-Contents : goal.returns-in-Contents
+unfolding form_by
+returns-in-Contents c =
+    chooses_by c.args.name _ (texts_of c.args.words.now) _ c.requires
+    c.in-Contents.is c.contents.ensures
+
+pub loan-requires : goal.loan-requires
+unfolding form_by register_app report_app
+loan-requires c =
+    named_by c.args.name _ (texts_of c.args.words.now) c.requires c.in-Loan.is
+
+pub returns-in-Loan : goal.returns-in-Loan
+unfolding form_by
+returns-in-Loan c =
+    chooses_by c.args.name _ (texts_of c.args.words.now) _ c.requires
+    c.in-Loan.is c.loan.ensures
+
+pub at-requires : goal.at-requires
+unfolding form_by register_app report_app
+at-requires c =
+    named_by c.args.name _ (texts_of c.args.words.now) c.requires c.in-At.is
+
+pub returns-in-At : goal.returns-in-At
+unfolding form_by
+returns-in-At c =
+    chooses_by c.args.name _ (texts_of c.args.words.now) _ c.requires
+    c.in-At.is c.at.ensures
+
+pub posted-requires : goal.posted-requires
+unfolding form_by register_app report_app
+posted-requires c =
+    named_by c.args.name _ (texts_of c.args.words.now) c.requires c.in-Posted.is
+
+pub returns-in-Posted : goal.returns-in-Posted
+unfolding form_by
+returns-in-Posted c =
+    chooses_by c.args.name _ (texts_of c.args.words.now) _ c.requires
+    c.in-Posted.is c.posted.ensures
+
+pub loans-requires : goal.loans-requires
+unfolding form_by register_app report_app
+loans-requires c =
+    named_by c.args.name _ (texts_of c.args.words.now) c.requires c.in-Loans.is
+
+pub returns-in-Loans : goal.returns-in-Loans
+unfolding form_by
+returns-in-Loans c =
+    chooses_by c.args.name _ (texts_of c.args.words.now) _ c.requires
+    c.in-Loans.is c.loans.ensures
+
+pub dues-requires : goal.dues-requires
+unfolding form_by register_app report_app
+dues-requires c =
+    named_by c.args.name _ (texts_of c.args.words.now) c.requires c.in-Dues.is
+
+pub returns-in-Dues : goal.returns-in-Dues
+unfolding form_by
+returns-in-Dues c =
+    chooses_by c.args.name _ (texts_of c.args.words.now) _ c.requires
+    c.in-Dues.is c.dues.ensures
+
+pub why-requires : goal.why-requires
+unfolding form_by register_app report_app
+why-requires c =
+    named_by c.args.name _ (texts_of c.args.words.now) c.requires c.in-Why.is
+
+pub returns-in-Why : goal.returns-in-Why
+unfolding form_by
+returns-in-Why c =
+    chooses_by c.args.name _ (texts_of c.args.words.now) _ c.requires
+    c.in-Why.is c.why.ensures
+
+pub help-requires : goal.help-requires
+unfolding form_by register_app report_app
+help-requires c =
+    named_by c.args.name _ (texts_of c.args.words.now) c.requires c.in-Help.is
+
+pub returns-in-Help : goal.returns-in-Help
+unfolding form_by
+returns-in-Help c =
+    chooses_by c.args.name _ (texts_of c.args.words.now) _ c.requires
+    c.in-Help.is c.help.ensures

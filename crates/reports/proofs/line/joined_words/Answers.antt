@@ -3,7 +3,7 @@ use Rattle.std.specs.List.{filter}
 use Rattle.std.specs.Prelude.{codes, string_bytes}
 use Rattle.reports.specs.Cells.{is_shown, plain_text, cell_of}
 use Rattle.reports.proofs.Joins.{joined_alike}
-use Rattle.reports.proofs.line.words_line.Goals as goal
+use Rattle.reports.proofs.line.joined_words.Goals as goal
 
 pub returns : goal.returns
 returns c =

@@ -1,0 +1,15 @@
+use Rattle.std.proofs.Common.{◌≡◌, length, map, take}
+use Rattle.std.specs.Io.KnownBytes.{Appends}
+use Rattle.std.specs.List.{flat_map}
+use Rattle.past_core.specs.Past.{upto}
+use Rattle.reports.specs.Causes.{cause_rows_at}
+use Rattle.reports.specs.Forms.{lines_text}
+use Rattle.reports.proofs.EachRows.{each}
+use Rattle.reports.proofs.reports.why.print_each.Given as goal
+
+abbrev pub invariant-loop-i : goal.invariant-loop-i
+invariant-loop-i g l =
+    (l.before ≡ upto l.ledger l.i)
+    × Appends (g.W.Write.contents l.fn.out) (g.W.Write.contents l.out)
+    (flat_map (lines_text l.form (map (λ n. n.now) l.names))
+    (take l.i (each (cause_rows_at l.ledger l.form l.asked) (length l.ledger.posted))))
