@@ -1,4 +1,4 @@
--- The definitions, computed on a record: a crate with three objects, of which a loan lists two.
+-- Worked examples: a crate holds three objects, and a loan lists two of them.
 use Rattle.std.specs.Prelude.{ℤ, pos, ◌≡◌, ◌∷◌, [], List, ℕ, None, Some, codes, refl}
 use Rattle.posting_core.specs.declared.entry.Entry.{Entry}
 use Rattle.posting_core.specs.declared.message.Message.{Message}

@@ -1,7 +1,7 @@
 //! What made a message's verdict true.
 //!
-//! A refused message breaks a rule. [`find_culprit`] returns the code that broke it: a thing, a place or
-//! a loan that the message names, or an object that crosses with its thing.
+//! A refused message breaks a rule. [`find_culprit`] returns the code that broke it. The message
+//! names that thing, place or loan, or it is an object that crosses with the message's thing.
 //!
 //! ```text
 //! let culprit = find_culprit(alloc, &ledger, &message, Verdict::NotListed)?;

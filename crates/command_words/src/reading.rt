@@ -111,8 +111,8 @@ fn read_files<'a>(alloc: Global, name: Name, words: &'a [&'a str]) -> Result<Fil
     Ok(files)
 }
 
-/// Returns the setup and the store, if the words name them, and whether each of three flags is given.
-/// Faults: as for [`read_by`].
+/// Returns the setup and the store, if the words name them, and whether each of three flags is
+/// given. Faults: as for [`read_by`].
 pub(crate) fn read_files_and_flags<'a>(
     alloc: Global,
     name: Name,

@@ -1,4 +1,4 @@
--- The text of the rows of several entries, of which each has some rows or none.
+-- The text of several entries' rows. An entry may have no row.
 use Rattle.std.proofs.Common.{◌≡◌, ◌∙◌, ℕ, ◌+◌, ◌<◌, List, [], ◌∷◌, ◌++◌, length, map, take, ap, sym}
 use Rattle.std.proofs.Common.{drop, Result, Ok, Err}
 use Rattle.std.proofs.Common.{refl, subst, Option, Some, arith}
@@ -49,7 +49,7 @@ text_all text rows n i is =
     (omega (arith, is, length-map-range_with_len rows 0 n)))
     ∙ sym (each_text text rows (range_with_len 0 n))
 
--- What was written through entry k is a front of all.
+-- The text up to entry k is the beginning of the whole text.
 pub front_through : {X : Type 0} (a b : Option (List ℕ)) (text : X → List ℕ) (rows : ℕ → List X)
     (n k : ℕ)
     → Appends a b (flat_map (flat_map text) (take k (each rows n)))
@@ -63,7 +63,7 @@ front_through a b text rows n k p =
     ∙ flat_map-append (flat_map text) (take k (each rows n)) (drop k (each rows n))) in
     subst (Front a b) (sym whole) (front_whole a b _ _ p)
 
--- So is a front of entry i after those before it.
+-- So is the beginning of entry i's text, after the entries before it.
 pub broken_within : {X : Type 0} (a b c : Option (List ℕ)) (text : X → List ℕ) (rows : ℕ → List X)
     (n i : ℕ) → i < n
     → Appends a b (flat_map (flat_map text) (take i (each rows n)))

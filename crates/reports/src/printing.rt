@@ -98,8 +98,8 @@ pub fn print<T: Threads + Sync, W: Write>(
     }
 }
 
-/// Prints the answer from the record as it is or, with a number, from the record as it was after this
-/// entry. Fails as [`print`] does. An earlier record takes the time and the memory of another ledger.
+/// Prints the answer from the record as it is or, with `upto`, as it was after this entry. Fails as
+/// [`print`] does. For an earlier record it builds a second ledger, which takes time and memory.
 pub fn print_as_of<T: Threads + Sync, W: Write>(
     threads: &T,
     alloc: Global,
