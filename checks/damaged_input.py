@@ -7,7 +7,7 @@ that they name, and each word. With --each only every Nth of these is tried, fro
 a run with few of them each is tried.
 
 What is answered has to be a named fault, on one line of standard error and with status 1 or 2, after whole lines of output; or
-status 0, whole lines, and nothing on standard error but notes and, with --why, causes; a run with --strict may also end so with status 1. Words that aren't
+status 0, whole lines, and nothing on standard error but notes; a run with --strict may also end so with status 1. Words that aren't
 right may have the text of their reader, with status 2, and may ask for help. With a PEER, the plain program that bench/run builds,
 the answer to a session has to be the peer's, to the byte. It prints how many were tried, and the first that is wrong."""
 import os
@@ -25,7 +25,6 @@ import seeds
 
 CASES = pathlib.Path(__file__).resolve().parent.parent / "cases"
 FAULT = re.compile(rb"fault [a-z]+( [A-Za-z0-9]+)?( row [0-9]+)?\n")
-CAUSE = re.compile(rb"[0-9]+ [A-Z0-9-]+ [0-9]+ [a-z]+ .+: .+\n")  # a line of replay --why
 LINES = re.compile("([^\x00-\x1f\x7f\ufffd]*\n)*")  # of UTF-8, where what isn't so becomes U+FFFD
 TURNED = (b"\0", b"\xff", b'"', b"\n")
 FEW = 100  # an input with no more damages is tried with each of them
@@ -48,8 +47,7 @@ def answer(program, words, given, folder):
 
 def may_be(said, of_words, words=()):
     (status, out, errors), strict = said, b"--strict" in words
-    lines = [line for line in errors.splitlines(True) if not line.startswith((b"help: ", b"note: "))]
-    errors = b"".join(line for line in lines if not (b"--why" in words and CAUSE.fullmatch(line)))
+    errors = b"".join(line for line in errors.splitlines(True) if not line.startswith((b"help: ", b"note: ")))
     if not LINES.fullmatch(out.decode(errors="replace")):
         return of_words and status == 0 and not errors
     if not errors and (status == 0 or (strict and status == 1 and out)):

@@ -240,7 +240,7 @@ def foreign_tables(room):
     conn.execute("DROP TABLE term")
     conn.commit()
     conn.close()
-    return good and same(run(room, "stations", "museum.db"), refused("museum.db", " has unexpected or missing tables"))
+    return good and same(run(room, "stations", "museum.db"), refused("museum.db", " lacks a table, or has its tables in another order or with other columns"))
 
 
 def causes(room):

@@ -23,6 +23,15 @@ def why(museum, posted, number):
     return " ".join([*words, f"{verdict}: {sentence}" if sentence else verdict])
 
 
+def values(museum, posted, number):
+    """The values of an entry, by column. An applied message has no culprit."""
+    entry, before = posted[number - 1], posted[: number - 1]
+    culprit = culprit_of(museum, before, entry.message, entry.verdict)
+    sentence = sentence_on(museum, before, entry.message, entry.verdict, culprit)
+    head = [str(number), entry.station, str(entry.n), entry.message["kind"], entry.verdict]
+    return [*head, culprit if entry.verdict != "Applied" else "", sentence]
+
+
 def culprit_of(museum, before, message, verdict):
     things = message.get("objects", [message.get("thing")])
     if verdict == "UnknownThing":

@@ -8,6 +8,7 @@ import os
 import subprocess
 import sys
 import tempfile
+import unicodedata
 
 import plain_causes
 import seeds
@@ -20,6 +21,10 @@ from plain_text import museum_of, read_line
 NORMAL = {"2001.4.1": "S1-A", "2001.4.2": "S1-A"}
 PLACES = ["S1", "S1-A", "S2", *streams.ELSEWHERE, "S9"]
 STILL_OUT = ("Away", "Here")
+LOANS = "loan state partner first last objects awaiting out back on days_left authorised_by"
+DUES = "loan object last stage partner"
+LOCATIONS = "entry day place containers loan station n kind"
+WHY = "entry station n kind verdict culprit cause"
 
 
 class Record:
@@ -82,17 +87,16 @@ class Record:
         return f"{loan} {state} {terms['partner']} {terms['first']} {last} {objects}, {out} out{left}"
 
     def loan_values(self, by):
-        """The rows of the loans that end by a day, as comma-separated values."""
-        heading = "loan,state,partner,first,last,objects,awaiting,out,back,on,days_left,authorised_by"
-        return [heading, *(self.values_of(loan) for loan in loans(self.posted) if last_day(self.posted, loan) <= by)]
+        """The values of the loans that end by a day, by column."""
+        return [self.values_of(loan) for loan in loans(self.posted) if last_day(self.posted, loan) <= by]
 
     def values_of(self, loan):
         terms, stages = agreement(self.posted, loan), [found for _, found in self.stages(loan)]
         out, awaited = sum(found in STILL_OUT for found in stages), stages.count("Awaiting")
         names = [m["by"] for _, m in applied(self.posted) if m["kind"] == "authorise" and m["loan"] == loan]
-        numbers = f"{len(stages)},{awaited},{out},{len(stages) - awaited - out}"
-        head = f"{loan},{self.state(loan)},{terms['partner']},{terms['first']},{last_day(self.posted, loan)}"
-        return f"{head},{numbers},,,{quoted(names[0]) if names else ''}"
+        numbers = [str(number) for number in (len(stages), awaited, out, len(stages) - awaited - out)]
+        head = [loan, self.state(loan), terms["partner"], terms["first"], last_day(self.posted, loan)]
+        return [*head, *numbers, "", "", names[0] if names else ""]
 
     def dues(self, by):
         return [
@@ -104,19 +108,29 @@ class Record:
         ]
 
     def away(self):
+        return [f"{thing} {at or '-'} normal {normal}" for thing, at, normal in self.away_values()]
+
+    def away_values(self):
         return [
-            f"{thing} {self.place(thing) or '-'} normal {normal}"
+            [thing, self.place(thing) or "", normal]
             for thing, normal in NORMAL.items()
             if self.place(thing) != normal
         ]
 
-    def history(self, thing):
+    def locations(self, thing):
+        """The values of each location of a thing, with the containers right after its entry, and that entry's message."""
         places, number = list(self.museum.inside), self.museum.things.index(thing)
         return [
-            f"{entry} {self.posted[entry - 1].message['day']} {places[at]}"
-            for one, _, entry, at, _ in spots(self.museum, self.posted)
-            if one == number
+            self.location(thing, entry, places[at]) for one, _, entry, at, _ in spots(self.museum, self.posted) if one == number
         ]
+
+    def location(self, thing, number, at):
+        entry, above = self.posted[number - 1], chain(targets(self.posted[:number]), thing)
+        message = entry.message
+        return {
+            "entry": number, "day": message["day"], "place": at, "containers": above, "loan": message.get("loan"),
+            "station": entry.station, "n": entry.n, "kind": message["kind"],
+        }
 
     def at(self, sought):
         return [f"{thing} {self.place(thing)}" for thing in self.museum.things if self.lies(thing, sought)]
@@ -145,6 +159,9 @@ class Record:
     def why(self, number):
         """The line on the cause of an entry's verdict, if there is the entry."""
         return [plain_causes.why(self.museum, self.posted, number)] if number <= len(self.posted) else []
+
+    def why_values(self, number):
+        return [plain_causes.values(self.museum, self.posted, number)] if number <= len(self.posted) else []
 
     def counted(self, rows, sealed=False):
         """What is said to each row, and what the list misses: if sealed, not what is in a container that was found."""
@@ -177,9 +194,57 @@ class Record:
         return "Found" if self.lies(thing, sought) else f"Elsewhere {self.place(thing)}"
 
 
+def history(locations):
+    """The lines on a thing's locations."""
+    return [f"{its['entry']} {its['day']} {its['place']}" for its in locations]
+
+
+def long_history(locations):
+    """The same with the containers, the loan and the message."""
+    return [
+        " ".join([
+            *history([its]), *(["in"] if its["containers"] else []), *its["containers"], *([its["loan"]] if its["loan"] else []),
+            its["station"], str(its["n"]), its["kind"],
+        ])
+        for its in locations
+    ]
+
+
+def long_values(locations):
+    """The same as texts, by column."""
+    return [[str(it) for it in {**its, "containers": " ".join(its["containers"]), "loan": its["loan"] or ""}.values()] for its in locations]
+
+
+def long_objects(locations):
+    """The same as JSON."""
+    return [json.dumps(its, separators=(",", ":")) for its in locations]
+
+
 def quoted(text):
     """A text as a comma-separated value."""
     return '"' + text.replace('"', '""') + '"' if any(mark in text for mark in ',"\r\n') else text
+
+
+def separated(names, rows):
+    """The rows as comma-separated values, below the names of their columns."""
+    return [",".join(map(quoted, row)) for row in [names.split(), *rows]]
+
+
+def table(names, rows):
+    """The rows as aligned columns, below the names of their columns."""
+    lines = [names.split(), *([value or "-" for value in row] for row in rows)]
+    widths = [max(map(width, column)) for column in zip(*lines)]
+    return ["  ".join([*map(filled, line[:-1], widths), line[-1]]) for line in lines]
+
+
+def filled(text, columns):
+    return text + " " * (columns - width(text))
+
+
+def width(text):
+    """The columns that a text takes in a terminal. The crate `unicode_width` has rules for sequences, such as emoji and
+    ligatures, that this hasn't; no text of a random record has one."""
+    return sum(2 if unicodedata.east_asian_width(mark) in "WF" else not unicodedata.combining(mark) for mark in text)
 
 
 def named(message):
@@ -203,7 +268,10 @@ def asked(record, rows):
     yield ["count", "list.csv", "--sealed"], record.counted(rows, sealed=True)
     for number in {*range(1, len(record.posted) + 2, 3), *record.refused()}:
         yield ["why", str(number)], record.why(number)
+    for number in {1, *record.refused()}:
+        yield ["why", str(number), "--table"], table(WHY, record.why_values(number))
     yield ["away"], record.away()
+    yield ["away", "--table"], table("object place normal", record.away_values())
     yield ["posted"], record.entries()
     yield ["posted", "--from", "3", "--to", "9"], record.entries()[2:9]
     yield ["posted", "--refused"], record.entries_by(lambda entry: entry.verdict != "Applied")
@@ -216,10 +284,19 @@ def asked(record, rows):
         yield ["overdue", "--on", day], record.overdue(day)
         yield ["loans", "--on", day], record.loans(day, False)
         yield ["loans", "--open", "--on", day], record.loans(day, True)
-        yield ["loans", "--csv", "--by", day], record.loan_values(day)
+        yield ["loans", "--csv", "--by", day], separated(LOANS, record.loan_values(day))
+        yield ["loans", "--table", "--by", day], table(LOANS, record.loan_values(day))
         yield ["dues", "--by", day], record.dues(day)
+        # These plain lines have a word for each value.
+        yield ["dues", "--table", "--by", day], table(DUES, [line.split() for line in record.dues(day)])
     for thing in ("C1", "C2", *streams.OBJECTS):
-        yield ["history", thing], record.history(thing)
+        locations = record.locations(thing)
+        yield ["history", thing], history(locations)
+        yield ["history", thing, "--long"], long_history(locations)
+        yield ["history", "--long", thing, "--csv"], separated(LOCATIONS, long_values(locations))
+        yield ["history", "--long", thing, "--table"], table(LOCATIONS, long_values(locations))
+        yield ["history", thing, "--long", "--json"], long_objects(locations)
+        yield ["history", thing, "--table"], table("entry day place", [line.split() for line in history(locations)])
     for sought in PLACES[:-1]:
         yield ["at", sought], record.at(sought)
     yield ["contents", "C1"], record.contents("C1")

@@ -12,7 +12,7 @@ use Rattle.command_words.specs.Tables.{with_arguments}
 use Rattle.command_words.specs.Words.{form_named, format_in, is_given, lacks, refusals}
 use Rattle.command_words.specs.Words.{report_kinds}
 use Rattle.command_words.specs.Words.{HoldsReport, IsNoReport, status_of_kind, value, values}
-use Rattle.command_words.specs.declared.command.Format.TheVariants.{Csv, Json, Lines}
+use Rattle.command_words.specs.declared.command.Format.TheVariants.{Csv, Json, Lines, Table}
 use Rattle.command_words.specs.declared.command.WordsFault.TheVariants.{Missing}
 use Rattle.command_words.specs.declared.options.Argument.{Argument}
 use Rattle.command_words.specs.declared.options.Kind.TheVariants.{Word}
@@ -115,7 +115,7 @@ pub copy_has_all : lacks (form_named copy_words) copy_words ≡ false
 unfolding clap_on_literals register_app report_app
 copy_has_all = refl
 
--- away --setup a --store b, as plain lines, as comma-separated values, as JSON
+-- away --setup a --store b, as plain lines, as comma-separated values, as JSON, as a table
 abbrev away_words : List Text
 away_words = codes "away" ∷ codes "--setup=a" ∷ codes "--store=b" ∷ []
 
@@ -131,11 +131,15 @@ pub away_json : format_in away.app (away_words ++ codes "--json" ∷ []) ≡ Som
 unfolding clap_on_literals register_app report_app
 away_json = refl
 
+pub away_table : format_in away.app (away_words ++ codes "--table" ∷ []) ≡ Some Table
+unfolding clap_on_literals register_app report_app
+away_table = refl
+
 pub away_csv_taken : report_kinds away.app (away_words ++ codes "--csv" ∷ []) ≡ []
 unfolding clap_on_literals register_app report_app
 away_csv_taken = refl
 
--- both forms together are an error, which comes after `clap`'s own
+-- two forms together are an error, which comes after `clap`'s own
 abbrev both_forms : List Text
 both_forms = away_words ++ codes "--csv" ∷ codes "--json" ∷ []
 
@@ -146,6 +150,11 @@ both_forms_none = refl
 pub both_forms_refused : report_kinds away.app both_forms ≡ ArgumentConflict ∷ []
 unfolding clap_on_literals register_app report_app
 both_forms_refused = refl
+
+pub table_refused : report_kinds away.app (away_words ++ codes "--csv" ∷ codes "--table" ∷ [])
+    ≡ ArgumentConflict ∷ []
+unfolding clap_on_literals register_app report_app
+table_refused = refl
 
 pub word_refused_first : report_kinds away.app (both_forms ++ codes "x" ∷ []) ≡ UnknownArgument ∷ []
 unfolding clap_on_literals register_app report_app

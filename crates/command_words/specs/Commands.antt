@@ -29,13 +29,13 @@ unfoldable pub register_app : Text → App
 register_app name = with_rule (with_rule (new_app name) (file_rule (codes "setup") 115))
     (file_rule (codes "store") 100)
 
--- A command with --upto, --csv and --json as well.
+-- A command with --upto, --csv, --json and --table as well.
 unfoldable pub report_app : App → App
-report_app app = with_rule (with_rule (with_rule app (option_rule (codes "upto")))
-    (flag_rule (codes "csv"))) (flag_rule (codes "json"))
+report_app app = with_rule (with_rule (with_rule (with_rule app (option_rule (codes "upto")))
+    (flag_rule (codes "csv"))) (flag_rule (codes "json"))) (flag_rule (codes "table"))
 
 -- A command: its arguments, the values that it can't do without, and whether it is a report, which
--- takes at most one of --csv and --json.
+-- takes at most one of --csv, --json and --table.
 pub record Form : Type 0 where
   pub app : App
   pub needed : List Text
@@ -90,7 +90,8 @@ away = report (both_needed (report_app (register_app (codes "away"))))
 abbrev pub history : Form
 history = report
     (all_needed
-    (report_app (with_rule (register_app (codes "history")) (word_rule (codes "code"))))
+    (report_app (with_rule (with_rule (register_app (codes "history")) (word_rule (codes "code")))
+    (flag_rule (codes "long"))))
     (codes "code"))
 
 abbrev pub migrate : Form

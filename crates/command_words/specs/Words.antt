@@ -25,7 +25,7 @@ use Rattle.command_words.specs.declared.reading.Files.{Files}
 use Rattle.command_words.specs.declared.reading.Record.{Record}
 use Rattle.command_words.specs.declared.command.Report.{Report}
 use Rattle.command_words.specs.declared.command.Format.{Format}
-use Rattle.command_words.specs.declared.command.Format.TheVariants.{Csv, Json, Lines}
+use Rattle.command_words.specs.declared.command.Format.TheVariants.{Csv, Json, Lines, Table}
 use Rattle.command_words.specs.declared.command.Asked.{Asked}
 use Rattle.command_words.specs.declared.command.Entries.{Entries}
 use Rattle.command_words.specs.declared.command.Asked.TheVariants as asked
@@ -71,17 +71,20 @@ is_true text = option_map_or (λ t. bytes_eq t (codes "true")) text false
 abbrev pub is_given : App → List Text → Text → Bool
 is_given app words id = is_true (value app words id)
 
--- The form of a report's rows, by whether --csv and --json are given. None if both are.
-abbrev pub format_by : Bool → Bool → Option Format
-format_by true true = None
-format_by true false = Some Csv
-format_by false true = Some Json
-format_by false false = Some Lines
+-- The form of a report's rows, by which of --csv, --json and --table are given. None if more than
+-- one is.
+abbrev pub format_by : Bool → Bool → Bool → Option Format
+format_by false false false = Some Lines
+format_by true false false = Some Csv
+format_by false true false = Some Json
+format_by false false true = Some Table
+format_by _ _ _ = None
 
 -- The form, by `clap`'s matches.
 abbrev pub format_found : List Row → Option Format
 format_found rows =
     format_by (is_true (first_of (codes "csv") rows)) (is_true (first_of (codes "json") rows))
+    (is_true (first_of (codes "table") rows))
 
 -- The form, by the words.
 abbrev pub format_in : App → List Text → Option Format
@@ -116,8 +119,9 @@ IsAsked words report (asked.Count list sealed) = IsReport words (codes "count") 
 IsAsked words report (asked.Overdue on) = IsReport words (codes "overdue") overdue.app report
     × (value overdue.app words (codes "on") ≡ Some on.now)
 IsAsked words report asked.Away = IsReport words (codes "away") away.app report
-IsAsked words report (asked.History code) = IsReport words (codes "history") history.app report
+IsAsked words report (asked.History code long) = IsReport words (codes "history") history.app report
     × (value history.app words (codes "code") ≡ Some code.now)
+    × (is_given history.app words (codes "long") ≡ long)
 IsAsked words report asked.Stations = IsReport words (codes "stations") stations.app report
 IsAsked words report (asked.Where code) = IsReport words (codes "where") where_is.app report
     × (value where_is.app words (codes "code") ≡ Some code.now)
@@ -164,8 +168,8 @@ IsChosen words (command.Help topic) = IsNamed words (codes "help")
     × (value help.app words (codes "topic") ≡ text_of topic)
 IsChosen words (command.Report report question) = IsAsked words report question
 
--- The errors in the words of a report: those of `clap`, and then --csv and --json together,
--- reported like any two options that exclude each other.
+-- The errors in the words of a report: those of `clap`, and then two of --csv, --json and --table
+-- together, reported like any two options that exclude each other.
 abbrev pub report_kinds : App → List Text → Kinds
 report_kinds app words =
     or_else (fault_of app words)

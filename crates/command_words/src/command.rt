@@ -16,6 +16,8 @@ pub enum Format {
     Csv,
     /// One JSON object for each row.
     Json,
+    /// Aligned columns, under a heading.
+    Table,
 }
 
 /// The record that a report is about, and the form in which it is printed. With `upto`, the record
@@ -41,8 +43,12 @@ pub enum Asked<'a> {
     Overdue(&'a str),
     /// Which of the museum's own objects aren't at their normal locations?
     Away,
-    /// Where has this thing been?
-    History(&'a str),
+    /// Where has this thing been? If `long`, each location also has the containers, the loan and
+    /// the message.
+    History {
+        code: &'a str,
+        long: bool,
+    },
     /// Which number does each station have to send next?
     Stations,
     /// Where is this thing?

@@ -9,10 +9,10 @@
 //!
 //! - A chosen command is the one that the first word names, and each of its values is the one that
 //!   `clap` has for the words.
-//! - `clap` accepts the words of a chosen command, and a report has at most one of `--csv` and
-//!   `--json`.
-//! - The error in Refused is of a kind that `clap` can report for the words or, if they have both
-//!   `--csv` and `--json`, the one for options that exclude each other.
+//! - `clap` accepts the words of a chosen command, and a report has at most one of `--csv`,
+//!   `--json` and `--table`.
+//! - The error in Refused is of a kind that `clap` can report for the words or, if they have two of
+//!   `--csv`, `--json` and `--table`, the one for options that exclude each other.
 //! - Missing is returned only if nothing is rejected. NoMemory can come instead of any result.
 //!
 //! ```text
@@ -24,6 +24,7 @@
 //! ```
 #![tactic(auto)]
 
+mod arguments;
 mod command;
 pub mod completion;
 pub mod needs;

@@ -68,6 +68,13 @@ pub(crate) const JSON: Argument = Argument {
     help: "Print one JSON object per line",
 };
 
+pub(crate) const TABLE: Argument = Argument {
+    kind: Kind::Flag,
+    id: "table",
+    value: "",
+    help: "Print aligned columns with a heading",
+};
+
 /// Returns the argument as `clap` takes it.
 pub(crate) fn made<'a>(alloc: Global, argument: &Argument) -> Arg<'a>
     ensures rule { rule_of result ≡ rule_by argument.now }

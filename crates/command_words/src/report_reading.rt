@@ -13,20 +13,22 @@ use clap::error::ErrorKind;
 use clap::{ArgMatches, Error};
 use std::alloc::{AllocError, Global};
 
-/// The form of a report, by whether `--csv` and `--json` are given. None if both are.
-fn format_of(csv: bool, json: bool) -> Option<Format>
-    ensures { result ≡ format_by csv json }
+/// The form of a report, by which of `--csv`, `--json` and `--table` are given. None if more than
+/// one is.
+fn format_of(csv: bool, json: bool, table: bool) -> Option<Format>
+    ensures { result ≡ format_by csv json table }
 {
-    match (csv, json) {
-        (true, true) => None,
-        (true, false) => Some(Format::Csv),
-        (false, true) => Some(Format::Json),
-        (false, false) => Some(Format::Lines),
+    match (csv, json, table) {
+        (false, false, false) => Some(Format::Lines),
+        (true, false, false) => Some(Format::Csv),
+        (false, true, false) => Some(Format::Json),
+        (false, false, true) => Some(Format::Table),
+        _ => None,
     }
 }
 
-/// The setup, the store and the form of a report. `--csv` together with `--json` is rejected with
-/// the error that `clap` has for two options that exclude each other.
+/// The setup, the store and the form of a report. Two of `--csv`, `--json` and `--table` are
+/// rejected with the error that `clap` has for two options that exclude each other.
 fn report_in<'a, 'b>(
     alloc: Global,
     name: Name,
@@ -36,8 +38,10 @@ fn report_in<'a, 'b>(
         (HoldsReport (rows_of (found_of found.now)))
         (IsNoReport (rows_of (found_of found.now))) }
 {
-    let Some(format) = format_of(is_set(found, "csv"), is_set(found, "json")) else {
-        return Err(WordsFault::Refused(both_formats(alloc, name)?));
+    let csv = is_set(found, "csv");
+    let json = is_set(found, "json");
+    let Some(format) = format_of(csv, json, is_set(found, "table")) else {
+        return Err(WordsFault::Refused(both_formats(alloc, name, csv, json)?));
     };
     let files = files_of(found);
     Ok(Report {
@@ -48,22 +52,28 @@ fn report_in<'a, 'b>(
     })
 }
 
-/// `clap`'s error for `--csv` together with `--json`.
-fn both_formats(alloc: Global, name: Name) -> Result<Error, AllocError>
+/// `clap`'s error for two of `--csv`, `--json` and `--table`.
+fn both_formats(alloc: Global, name: Name, csv: bool, json: bool) -> Result<Error, AllocError>
     ensures { IfOk result (λ e. kind_of e ≡ ErrorKind.ArgumentConflict) }
 {
     let mut command = bare(alloc, name);
-    let error = command.error(
-        ErrorKind::ArgumentConflict,
-        "the argument '--csv' cannot be used with '--json'",
-    );
+    let error = command.error(ErrorKind::ArgumentConflict, conflict(csv, json));
     drop(command);
     error
 }
 
+/// The message that names the first two of `--csv`, `--json` and `--table`.
+fn conflict(csv: bool, json: bool) -> &'static str {
+    match (csv, json) {
+        (true, true) => "the argument '--csv' cannot be used with '--json'",
+        (true, false) => "the argument '--csv' cannot be used with '--table'",
+        (false, _) => "the argument '--json' cannot be used with '--table'",
+    }
+}
+
 /// Returns the setup, the store and the form of a report. Faults: Refused, if `clap` rejects the
-/// words, or if they have both `--csv` and `--json`; Missing, if the setup or the store is missing.
-/// NoMemory can come instead of any result.
+/// words, or if they have two of `--csv`, `--json` and `--table`; Missing, if the setup or the
+/// store is missing. NoMemory can come instead of any result.
 pub(crate) fn read_report<'a>(
     alloc: Global,
     name: Name,

@@ -6,7 +6,11 @@ ghost use Rattle.command_words.specs.Completion.{form_called};
 ghost use Rattle.command_words.specs.Tables.{app_by, form_by, with_arguments};
 ghost use Rattle.command_words.specs.Words.{form_named, texts_of};
 
-use crate::options::{Argument, CSV, JSON, Kind, SETUP, STORE, UPTO, made, with_help};
+use crate::arguments::{
+    BY, CONTAINER, DAY, DUE, ENTRY, EXPLAINED, FEEDS, FROM, LIST, LOAN, LONG, OF_LOAN, OF_THING,
+    ON, OPEN, PLACE, PROGRESS, REFUSED, SEALED, STATION, STRICT, THING, TO, TO_ENTRY, TOPIC, WORD,
+};
+use crate::options::{Argument, CSV, JSON, SETUP, STORE, TABLE, UPTO, made, with_help};
 use crate::texts::{self, Help};
 use clap::Command;
 use std::alloc::{AllocError, Global};
@@ -59,181 +63,6 @@ const NAMES: [Name; 18] = [
     Name::Dues,
     Name::Why,
 ];
-
-const PROGRESS: Argument = Argument {
-    kind: Kind::Flag,
-    id: "progress",
-    value: "",
-    help: "Print progress on standard error, once a second",
-};
-
-const STRICT: Argument = Argument {
-    kind: Kind::Flag,
-    id: "strict",
-    value: "",
-    help: "Exit with status 1 if any line was bad, refused or not applied",
-};
-
-const EXPLAINED: Argument = Argument {
-    kind: Kind::Flag,
-    id: "why",
-    value: "",
-    help: "Explain each verdict other than Applied at the end",
-};
-
-const FEEDS: Argument = Argument {
-    kind: Kind::Words,
-    id: "feeds",
-    value: "FEEDS",
-    help: "The file of each station, in the setup's order",
-};
-
-const LIST: Argument = Argument {
-    kind: Kind::Word,
-    id: "list",
-    value: "LIST",
-    help: "The count list",
-};
-
-const SEALED: Argument = Argument {
-    kind: Kind::Flag,
-    id: "sealed",
-    value: "",
-    help: "What is in a container that was seen isn't missing",
-};
-
-const DAY: Argument = Argument {
-    kind: Kind::Valued,
-    id: "on",
-    value: "DAY",
-    help: "The day to check, for example 2024-06-01",
-};
-
-const TO: Argument = Argument {
-    kind: Kind::Valued,
-    id: "to",
-    value: "PATH",
-    help: "The new file for the copy",
-};
-
-const WORD: Argument = Argument {
-    kind: Kind::Word,
-    id: "name",
-    value: "NAME",
-    help: "A word that the program prints, for example NotListed",
-};
-
-const TOPIC: Argument = Argument {
-    kind: Kind::Word,
-    id: "topic",
-    value: "TOPIC",
-    help: "setup, lines, counts, verdicts, files, or a command",
-};
-
-const THING: Argument = Argument {
-    kind: Kind::Word,
-    id: "code",
-    value: "CODE",
-    help: "A thing's code, for example 2001.4.1 or C17",
-};
-
-const CONTAINER: Argument = Argument {
-    kind: Kind::Word,
-    id: "code",
-    value: "CODE",
-    help: "A container's code, for example C17",
-};
-
-const LOAN: Argument = Argument {
-    kind: Kind::Word,
-    id: "code",
-    value: "CODE",
-    help: "A loan's code, for example LO2024.1",
-};
-
-const PLACE: Argument = Argument {
-    kind: Kind::Word,
-    id: "place",
-    value: "PLACE",
-    help: "A place's code, for example S1 or S1-A",
-};
-
-const FROM: Argument = Argument {
-    kind: Kind::Valued,
-    id: "from",
-    value: "N",
-    help: "The first entry to list",
-};
-
-const TO_ENTRY: Argument = Argument {
-    kind: Kind::Valued,
-    id: "to",
-    value: "N",
-    help: "The last entry to list",
-};
-
-const STATION: Argument = Argument {
-    kind: Kind::Valued,
-    id: "station",
-    value: "NAME",
-    help: "Only messages of this station",
-};
-
-const OF_THING: Argument = Argument {
-    kind: Kind::Valued,
-    id: "thing",
-    value: "CODE",
-    help: "Only messages that name this thing",
-};
-
-const OF_LOAN: Argument = Argument {
-    kind: Kind::Valued,
-    id: "loan",
-    value: "CODE",
-    help: "Only messages that name this loan",
-};
-
-const REFUSED: Argument = Argument {
-    kind: Kind::Flag,
-    id: "refused",
-    value: "",
-    help: "Only messages with a verdict other than Applied",
-};
-
-const ON: Argument = Argument {
-    kind: Kind::Valued,
-    id: "on",
-    value: "DAY",
-    help: "The day from which the days left are counted",
-};
-
-const BY: Argument = Argument {
-    kind: Kind::Valued,
-    id: "by",
-    value: "DAY",
-    help: "Only loans that end on this day or before it",
-};
-
-const OPEN: Argument = Argument {
-    kind: Kind::Flag,
-    id: "open",
-    value: "",
-    help: "Only loans that are not closed",
-};
-
-const DUE: Argument = Argument {
-    kind: Kind::Valued,
-    id: "by",
-    value: "DAY",
-    help: "The day by which the loans end, for example 2024-06-30",
-};
-
-const ENTRY: Argument = Argument {
-    kind: Kind::Word,
-    id: "entry",
-    value: "ENTRY",
-    help: "The number of an entry, such as 17",
-};
 
 /// The word that names the command.
 fn word_of(name: Name) -> &'static str
@@ -343,24 +172,25 @@ fn arguments_of(name: Name) -> &'static [Argument]
     match name {
         Name::Replay => &[SETUP, STORE, PROGRESS, STRICT, EXPLAINED],
         Name::Serve => &[SETUP, STORE, FEEDS],
-        Name::Count => &[SETUP, STORE, LIST, SEALED, UPTO, CSV, JSON],
-        Name::Overdue => &[SETUP, STORE, DAY, UPTO, CSV, JSON],
-        Name::Away => &[SETUP, STORE, UPTO, CSV, JSON],
-        Name::History => &[SETUP, STORE, THING, UPTO, CSV, JSON],
+        Name::Count => &[SETUP, STORE, LIST, SEALED, UPTO, CSV, JSON, TABLE],
+        Name::Overdue => &[SETUP, STORE, DAY, UPTO, CSV, JSON, TABLE],
+        Name::Away => &[SETUP, STORE, UPTO, CSV, JSON, TABLE],
+        Name::History => &[SETUP, STORE, THING, LONG, UPTO, CSV, JSON, TABLE],
         Name::Migrate => &[SETUP, STORE],
         Name::Copy => &[SETUP, STORE, TO],
         Name::Explain => &[WORD],
-        Name::Stations => &[SETUP, STORE, UPTO, CSV, JSON],
-        Name::Where => &[SETUP, STORE, THING, UPTO, CSV, JSON],
-        Name::Contents => &[SETUP, STORE, CONTAINER, UPTO, CSV, JSON],
-        Name::Loan => &[SETUP, STORE, LOAN, UPTO, CSV, JSON],
-        Name::At => &[SETUP, STORE, PLACE, UPTO, CSV, JSON],
+        Name::Stations => &[SETUP, STORE, UPTO, CSV, JSON, TABLE],
+        Name::Where => &[SETUP, STORE, THING, UPTO, CSV, JSON, TABLE],
+        Name::Contents => &[SETUP, STORE, CONTAINER, UPTO, CSV, JSON, TABLE],
+        Name::Loan => &[SETUP, STORE, LOAN, UPTO, CSV, JSON, TABLE],
+        Name::At => &[SETUP, STORE, PLACE, UPTO, CSV, JSON, TABLE],
         Name::Posted => &[
             SETUP, STORE, FROM, TO_ENTRY, STATION, OF_THING, OF_LOAN, REFUSED, UPTO, CSV, JSON,
+            TABLE,
         ],
-        Name::Loans => &[SETUP, STORE, ON, BY, OPEN, UPTO, CSV, JSON],
-        Name::Dues => &[SETUP, STORE, DUE, UPTO, CSV, JSON],
-        Name::Why => &[SETUP, STORE, ENTRY, UPTO, CSV, JSON],
+        Name::Loans => &[SETUP, STORE, ON, BY, OPEN, UPTO, CSV, JSON, TABLE],
+        Name::Dues => &[SETUP, STORE, DUE, UPTO, CSV, JSON, TABLE],
+        Name::Why => &[SETUP, STORE, ENTRY, UPTO, CSV, JSON, TABLE],
         Name::Help => &[TOPIC],
     }
 }

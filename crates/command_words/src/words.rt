@@ -23,7 +23,7 @@ use std::alloc::{AllocError, Global};
 ///
 /// Faults, in this order:
 /// - Refused, if `clap` rejects the words, if they ask for help or the version, or if a report has
-///   both `--csv` and `--json`;
+///   two of `--csv`, `--json` and `--table`;
 /// - Missing, if no command is named, or if a value that the command needs is missing.
 ///
 /// NoMemory can come instead of any result.
@@ -127,8 +127,8 @@ fn history<'a>(alloc: Global, words: &'a [&'a str]) -> Result<Chosen<'a>, WordsF
     requires { IsNamed (texts_of words.now) (codes "history") }
     ensures { Chooses (Some commands.history) (texts_of words.now) result }
 {
-    let (report, code) = read_report_and(alloc, Name::History, words, "code")?;
-    Ok(Chosen::Report(report, Asked::History(code)))
+    let (report, code, long) = read_report_and_flag(alloc, Name::History, words, "code", "long")?;
+    Ok(Chosen::Report(report, Asked::History { code, long }))
 }
 
 fn migrate<'a>(alloc: Global, words: &'a [&'a str]) -> Result<Chosen<'a>, WordsFault>

@@ -1,2 +1,0 @@
-pub mod ServingLemmas
-mod WorkedRows

@@ -1,12 +1,12 @@
 //! The `help:` lines about files: the cause of a fault, and what the user can do.
 
-use crate::visible::add_quoted;
 use codes_core::{PlaceCode, ThingCode};
 use count_core::CountFault;
 use csv::{ByteRecord, ReaderBuilder};
 use nest_core::{SetupFault, field, field_count};
 use std::alloc::{AllocError, Global};
 use std::io::ErrorKind;
+use work_core::visible::add_quoted;
 
 /// The text of a `help:` line. None if nothing more is known, or if there is no memory for the
 /// text.

@@ -1,6 +1,10 @@
 //! Does the command that the words choose.
+ghost use Rattle.std.specs.Prelude.{◌≡◌, IfOk, Some};
+ghost use Rattle.command_words.specs.Words.{text_of};
+ghost use Rattle.hub_program.specs.Places.{kept_in, store_of};
 
 use crate::copying::copied;
+use crate::ending::{Ending, noted_status, refuse, status};
 use crate::explain::explain;
 use crate::fault::CommandFault;
 use crate::files::{read_feeds, read_setup};
@@ -8,16 +12,16 @@ use crate::help::help;
 use crate::lines::write_line;
 use crate::progress::Progress;
 use crate::request::{form_of, number_if, read_question};
-use crate::usage::on_missing;
-use crate::work::{Work, over_store};
+use crate::store;
+use crate::work::over_store;
 use command_words::words::chosen;
-use command_words::{Asked, Chosen, Report, WordsFault};
-use hub_core::{Tally, run};
+use command_words::{Asked, Chosen, Report};
+use hub_core::{Tally, Watch, run};
 use sqlite::Start;
-use std::alloc::Global;
 use std::io::{BufRead, Write};
 use std::sync::Wait;
 use std::thread::Threads;
+use work_core::Work;
 
 /// Does the command that the words choose. They are the words after the program's name. If there
 /// are none, reads a setup and lines from the input, and writes the replies to the output.
@@ -58,84 +62,6 @@ pub fn command<
     }
 }
 
-/// How a command without a fault ends.
-#[derive(Clone, Copy, PartialEq, Eq)]
-enum Ending {
-    /// The command is done.
-    Done,
-    /// The command is a strict replay. It is done, but a line was bad, refused or not applied.
-    NotApplied,
-    /// The help is printed, and this is the exit status.
-    Printed(u8),
-}
-
-/// Flushes the output, writes the fault's line or, if there is no fault, the notes, and returns the
-/// exit status.
-fn noted_status<W: Write, E: Write>(
-    ended: Result<Ending, CommandFault>,
-    notes: &str,
-    output: &mut W,
-    errors: &mut E,
-) -> u8 {
-    let (ended, status_if_done) = match ended {
-        Ok(Ending::Done) => (Ok(()), 0),
-        Ok(Ending::NotApplied) => (Ok(()), 1),
-        Ok(Ending::Printed(status)) => return status,
-        Err(fault) => (Err(fault), 1),
-    };
-    match status(ended, output, errors) {
-        0 => {
-            let _ = errors.write_all(notes.as_bytes());
-            status_if_done
-        }
-        status => status,
-    }
-}
-
-/// Flushes the output, writes the fault's line if there is a fault, and returns the exit status. An
-/// output that cannot be flushed is a fault, too.
-pub(crate) fn status<W: Write, E: Write>(
-    ended: Result<(), CommandFault>,
-    output: &mut W,
-    errors: &mut E,
-) -> u8 {
-    let flushed = output.flush();
-    let fault = match ended {
-        Err(fault) => fault,
-        Ok(()) if flushed.is_err() => CommandFault::WriteFailed,
-        Ok(()) => return 0,
-    };
-    let _ = fault.write(errors);
-    fault.status()
-}
-
-/// Prints why the words choose no command, and returns the exit status. Help and the version go to
-/// the output, usage errors to `errors`.
-pub(crate) fn refuse<W: Write, E: Write>(
-    alloc: Global,
-    words: &[&str],
-    fault: &WordsFault,
-    output: &mut W,
-    errors: &mut E,
-) -> u8 {
-    match fault {
-        WordsFault::Refused(error) if fault.status() == 0 => {
-            let told = write!(output, "{error}");
-            let ended = told.map_err(|_| CommandFault::WriteFailed);
-            status(ended, output, errors)
-        }
-        WordsFault::Refused(error) => {
-            let _ = write!(errors, "{error}");
-            fault.status()
-        }
-        WordsFault::Missing => {
-            let advice = on_missing(alloc, words);
-            status(Err(CommandFault::Words(advice)), output, errors)
-        }
-        WordsFault::NoMemory => status(Err(CommandFault::NoMemory), output, errors),
-    }
-}
-
 /// Does the command. Faults, in this order:
 /// - Day, Code or Number, for an argument of a report;
 /// - those of the setup's file, and of the setup;
@@ -143,6 +69,7 @@ pub(crate) fn refuse<W: Write, E: Write>(
 /// - those of opening the store;
 /// - those of the command itself.
 fn perform<
+    'a,
     T: Threads + Wait + Sync + Copy + Send + 'static,
     S: Start,
     U: Start,
@@ -152,15 +79,17 @@ fn perform<
 >(
     rt: &HostRuntime,
     threads: &T,
-    chosen: &Chosen<'_>,
+    chosen: &Chosen<'a>,
     start: S,
     again: U,
     input: &mut R,
     output: &mut W,
     errors: &mut E,
     notes: &mut String,
-) -> Result<Ending, CommandFault> {
-    let ended = match chosen {
+) -> Result<Ending<'a>, CommandFault>
+    ensures { IfOk result (λ ending. kept_in ending ≡ store_of chosen.now) }
+{
+    match chosen {
         Chosen::Replay {
             setup,
             store,
@@ -175,9 +104,12 @@ fn perform<
                 strict: *strict,
                 why: *why,
             };
-            return replayed(rt, threads, wanted, start, input, output, errors, notes);
+            replayed(rt, threads, wanted, start, input, output, errors, notes)
         }
-        Chosen::Explain { name } => explain(rt.alloc(), name, output),
+        Chosen::Explain { name } => {
+            explain(rt.alloc(), name, output)?;
+            Ok(Ending::Done(None))
+        }
         Chosen::Serve {
             setup,
             store,
@@ -193,19 +125,19 @@ fn perform<
             output,
             notes,
         ),
-        Chosen::Migrate { setup, store } => migrated(
-            rt, threads, setup, store, start, input, output, notes,
-        ),
-        Chosen::Copy { setup, store, to } => copied(rt, setup, store, to, start, again, output),
+        Chosen::Migrate { setup, store } => {
+            migrated(rt, setup, store, start, output)?;
+            Ok(Ending::Done(Some(*store)))
+        }
+        Chosen::Copy { setup, store, to } => {
+            copied(rt, setup, store, to, start, again, output)?;
+            Ok(Ending::Done(Some(*store)))
+        }
         Chosen::Report(report, asked) => reported(
             rt, threads, *report, *asked, start, input, output, notes,
         ),
-        Chosen::Help { topic } => {
-            return Ok(Ending::Printed(help(rt.alloc(), *topic, output, errors)));
-        }
-    };
-    ended?;
-    Ok(Ending::Done)
+        Chosen::Help { topic } => Ok(Ending::Printed(help(rt.alloc(), *topic, output, errors))),
+    }
 }
 
 /// The arguments of a replay.
@@ -220,6 +152,7 @@ struct Replay<'a> {
 
 /// Answers the lines of the input. If `progress` is wanted, prints the progress to `errors`.
 fn replayed<
+    'a,
     T: Threads + Wait + Sync + Copy + Send + 'static,
     S: Start,
     R: BufRead,
@@ -228,139 +161,164 @@ fn replayed<
 >(
     rt: &HostRuntime,
     threads: &T,
-    wanted: Replay<'_>,
+    wanted: Replay<'a>,
     start: S,
     input: &mut R,
     output: &mut W,
     errors: &mut E,
     notes: &mut String,
-) -> Result<Ending, CommandFault> {
-    let setup = read_setup(rt, rt.alloc(), wanted.setup)?;
-    let (ended, is_clean) = if wanted.progress {
+) -> Result<Ending<'a>, CommandFault>
+    ensures { IfOk result (λ ending. kept_in ending ≡ text_of wanted.entry.store) }
+{
+    let (store, is_clean) = if wanted.progress {
         let mut progress = Progress::new(rt, errors);
-        let ended = over_store(
+        let ended = watched(
             rt,
             threads,
-            setup,
-            wanted.store,
+            wanted,
             start,
-            Work::Replay { why: wanted.why },
             &mut progress,
             input,
             output,
             notes,
         );
-        (ended, progress.end())
+        let is_clean = progress.end();
+        (ended?, is_clean)
     } else {
         let mut tally = Tally::new();
-        let ended = over_store(
-            rt,
-            threads,
-            setup,
-            wanted.store,
-            start,
-            Work::Replay { why: wanted.why },
-            &mut tally,
-            input,
-            output,
-            notes,
-        );
-        (ended, tally.is_clean())
+        let ended = watched(rt, threads, wanted, start, &mut tally, input, output, notes);
+        (ended?, tally.is_clean())
     };
-    ended?;
     if wanted.strict && !is_clean {
-        return Ok(Ending::NotApplied);
+        return Ok(Ending::NotApplied(store));
     }
-    Ok(Ending::Done)
+    Ok(Ending::Done(store))
 }
 
-/// Prints the report on the record.
-fn reported<T: Threads + Wait + Sync + Copy + Send + 'static, S: Start, R: BufRead, W: Write>(
+/// Answers the lines of the input, and shows the watch their outcomes. Returns the path of the
+/// store, if one is named.
+fn watched<
+    'a,
+    T: Threads + Wait + Sync + Copy + Send + 'static,
+    S: Start,
+    V: Watch,
+    R: BufRead,
+    W: Write,
+>(
     rt: &HostRuntime,
     threads: &T,
-    report: Report<'_>,
-    asked: Asked<'_>,
+    wanted: Replay<'a>,
     start: S,
+    watch: &mut V,
     input: &mut R,
     output: &mut W,
     notes: &mut String,
-) -> Result<(), CommandFault> {
-    let upto = number_if(rt.alloc(), report.upto)?;
-    let (setup, question) = read_question(rt, report.setup, asked)?;
+) -> Result<Option<&'a str>, CommandFault>
+    ensures { IfOk result (λ kept. text_of kept ≡ text_of wanted.entry.store) }
+{
+    let setup = read_setup(rt, rt.alloc(), wanted.setup)?;
+    let work = Work::Replay { why: wanted.why };
     over_store(
         rt,
         threads,
         setup,
-        Some(report.store),
+        wanted.store,
         start,
-        Work::Print(question, form_of(report.format), upto),
-        &mut Tally::new(),
+        work,
+        watch,
         input,
         output,
         notes,
     )
 }
 
-/// Serves the files, one for each station in the setup's order, and prints the log. After a fault
-/// it prints the log up to the fault. Faults, in this order: those of the setup's file, and of the
-/// setup; Feeds, if there are more or fewer files than stations; those of the files; those of
-/// opening the store; those of serving.
-fn served<T: Threads + Wait + Sync + Copy + Send + 'static, S: Start, R: BufRead, W: Write>(
+/// Prints the report on the record.
+fn reported<'a, T: Threads + Wait + Sync + Copy + Send + 'static, S: Start, R: BufRead, W: Write>(
     rt: &HostRuntime,
     threads: &T,
-    setup: &str,
-    store: Option<&str>,
-    files: &[&str],
+    report: Report<'a>,
+    asked: Asked<'_>,
     start: S,
     input: &mut R,
     output: &mut W,
     notes: &mut String,
-) -> Result<(), CommandFault> {
-    let setup = read_setup(rt, rt.alloc(), setup)?;
-    match read_feeds(rt, setup.stations(), files) {
-        Ok(feeds) => over_store(
-            rt,
-            threads,
-            setup,
-            store,
-            start,
-            Work::Serve(feeds),
-            &mut Tally::new(),
-            input,
-            output,
-            notes,
-        ),
-        Err(fault) => {
-            drop(setup);
-            Err(fault)
-        }
-    }
-}
-
-/// Migrates the store, and prints `migrated`. Faults, in this order: those of the setup's file, and
-/// of the setup; those of opening the store; those of migrating it.
-fn migrated<T: Threads + Wait + Sync + Copy + Send + 'static, S: Start, R: BufRead, W: Write>(
-    rt: &HostRuntime,
-    threads: &T,
-    setup: &str,
-    store: &str,
-    start: S,
-    input: &mut R,
-    output: &mut W,
-    notes: &mut String,
-) -> Result<(), CommandFault> {
-    let setup = read_setup(rt, rt.alloc(), setup)?;
-    over_store(
+) -> Result<Ending<'a>, CommandFault>
+    ensures { IfOk result (λ ending. kept_in ending ≡ Some report.entry.store.now) }
+{
+    let upto = number_if(rt.alloc(), report.upto)?;
+    let (setup, question) = read_question(rt, report.setup, asked)?;
+    let work = Work::Print {
+        question,
+        form: form_of(report.format),
+        upto,
+    };
+    let store = over_store(
         rt,
         threads,
         setup,
-        Some(store),
+        Some(report.store),
         start,
-        Work::Migrate,
+        work,
         &mut Tally::new(),
         input,
         output,
         notes,
     )?;
+    Ok(Ending::Done(store))
+}
+
+/// Serves the files, one for each station in the setup's order, and prints the log. After a fault
+/// it prints the log up to the fault. Faults, in this order: those of the setup's file, and of the
+/// setup; Feeds, if there are more or fewer files than stations; those of the files; those of
+/// opening the store; those of serving.
+fn served<'a, T: Threads + Wait + Sync + Copy + Send + 'static, S: Start, R: BufRead, W: Write>(
+    rt: &HostRuntime,
+    threads: &T,
+    setup: &str,
+    store: Option<&'a str>,
+    files: &[&str],
+    start: S,
+    input: &mut R,
+    output: &mut W,
+    notes: &mut String,
+) -> Result<Ending<'a>, CommandFault>
+    ensures { IfOk result (λ ending. kept_in ending ≡ text_of store.entry) }
+{
+    let setup = read_setup(rt, rt.alloc(), setup)?;
+    let feeds = match read_feeds(rt, setup.stations(), files) {
+        Ok(feeds) => feeds,
+        Err(fault) => {
+            drop(setup);
+            return Err(fault);
+        }
+    };
+    let store = over_store(
+        rt,
+        threads,
+        setup,
+        store,
+        start,
+        Work::Serve(feeds),
+        &mut Tally::new(),
+        input,
+        output,
+        notes,
+    )?;
+    Ok(Ending::Done(store))
+}
+
+/// Migrates the store, and prints `migrated`. Faults, in this order: those of the setup's file, and
+/// of the setup; those of opening the store; those of migrating it; those of closing it.
+fn migrated<S: Start, W: Write>(
+    rt: &HostRuntime,
+    setup: &str,
+    store: &str,
+    start: S,
+    output: &mut W,
+) -> Result<(), CommandFault> {
+    let setup = read_setup(rt, rt.alloc(), setup)?;
+    let ended = store::migrate(rt, store, start, &setup);
+    drop(setup);
+    ended?;
     write_line(output, "migrated\n")
 }

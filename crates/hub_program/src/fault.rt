@@ -1,16 +1,16 @@
 //! Why a command stops: a line on standard error, and an exit status.
 
 use crate::advice::Advice;
-use crate::visible::write_on_one_line;
 use codes_core::{CodeFault, NoMemory};
 use count_core::CountFault;
-use hub_core::{ReplayFault, RunFault};
+use hub_core::RunFault;
 use nest_core::SetupFault;
 use register_store::StoreFault;
-use reports::PrintFault;
 use std::alloc::{AllocError, AllocFailed};
 use std::io;
 use std::io::Write;
+use work_core::WorkFault;
+use work_core::visible::write_on_one_line;
 
 /// Why a command stops.
 #[derive(Drop)]
@@ -84,22 +84,14 @@ impl From<SetupFault> for CommandFault {
     }
 }
 
-impl From<ReplayFault> for CommandFault {
-    fn from(fault: ReplayFault) -> CommandFault {
+impl From<WorkFault> for CommandFault {
+    fn from(fault: WorkFault) -> CommandFault {
         match fault {
-            ReplayFault::NoMemory => CommandFault::NoMemory,
-            ReplayFault::Store => CommandFault::Store(StoreFault::Store, None),
-            ReplayFault::ReadFailed => CommandFault::ReadFailed,
-            ReplayFault::WriteFailed => CommandFault::WriteFailed,
-        }
-    }
-}
-
-impl From<PrintFault> for CommandFault {
-    fn from(fault: PrintFault) -> CommandFault {
-        match fault {
-            PrintFault::NoMemory => CommandFault::NoMemory,
-            PrintFault::WriteFailed => CommandFault::WriteFailed,
+            WorkFault::NoMemory => CommandFault::NoMemory,
+            WorkFault::ReadFailed => CommandFault::ReadFailed,
+            WorkFault::WriteFailed => CommandFault::WriteFailed,
+            WorkFault::Store(fault) => CommandFault::from(fault),
+            WorkFault::Unfinished(station) => CommandFault::Unfinished(station),
         }
     }
 }

@@ -1,6 +1,6 @@
 //! Prints the page of a topic, or the help of a command.
 
-use crate::command::{refuse, status};
+use crate::ending::{refuse, status};
 use crate::fault::CommandFault;
 use crate::lines::write_line;
 use command_words::words::chosen;
@@ -47,11 +47,16 @@ fn print_page<W: Write>(topic: Topic, output: &mut W) -> Result<(), CommandFault
     }
 }
 
+/// As many blanks as the column of the verdicts is wide.
+const BLANKS: &str = "                 ";
+
 /// Prints a line for each verdict.
 fn print_verdicts<W: Write>(output: &mut W) -> Result<(), CommandFault> {
     for verdict in VERDICTS {
-        let (word, means) = (verdict.word, verdict.means);
-        writeln!(output, "  {word:<17}  {means}").map_err(|_| CommandFault::WriteFailed)?;
+        let blanks = BLANKS.get(verdict.word.len()..).unwrap_or("");
+        for part in ["  ", verdict.word, blanks, "  ", verdict.means, "\n"] {
+            write_line(output, part)?;
+        }
     }
     Ok(())
 }

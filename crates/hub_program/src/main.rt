@@ -3,13 +3,13 @@
 //!
 //! `main` reads the arguments with `command_words`, fills in `PAIRSALDER_SETUP` and
 //! `PAIRSALDER_STORE`, and calls [`command`](command::command). This reads the files that the
-//! command names, opens a hub over the store, and does the [`Work`](work::Work). Reports
-//! are printed by the crate `reports`. A [`CommandFault`](fault::CommandFault) becomes a line
-//! `fault ..`, a line `help: ..` and an exit status.
+//! command names, opens the store, and has its work done by the crate `work_core`. A
+//! [`CommandFault`](fault::CommandFault) becomes a line `fault ..`, a line `help: ..` and an exit
+//! status.
 //!
-//! The promises are those of the crates below. The contracts here connect them: `serve` gets one
-//! feed for each station, the hub is up when it starts to work, a copy is compared under the setup
-//! of the record, and the output of a report is exactly its text.
+//! The promises are those of the crates below. The contracts here connect them: a command works on
+//! the record in the store that its words name, a serving gets one feed for each station, and a
+//! copy is compared under the setup of the record.
 //!
 //! ```text
 //! $ pairsalder where --setup museum.csv --store museum.db 2001.4.1
@@ -20,20 +20,18 @@
 mod advice;
 mod command;
 mod copying;
+mod ending;
 mod explain;
 mod fault;
 mod files;
 mod help;
 mod lines;
-mod notes;
 mod progress;
 mod request;
-mod serving;
 mod store;
 mod terminal;
 mod usage;
 mod variables;
-mod visible;
 mod work;
 
 use crate::command::command;

@@ -15,6 +15,7 @@ pub fn form_of(format: Format) -> Form {
         Format::Lines => Form::Plain,
         Format::Csv => Form::Csv,
         Format::Json => Form::Json,
+        Format::Table => Form::Table,
     }
 }
 
@@ -31,7 +32,9 @@ pub fn read_question(
         Asked::Count { list, sealed } => read_count(rt, setup, list, sealed),
         Asked::Overdue(on) => with_setup(rt, setup, Question::Overdue(day(alloc, on)?)),
         Asked::Away => with_setup(rt, setup, Question::Away),
-        Asked::History(code) => with_setup(rt, setup, Question::History(thing(alloc, code)?)),
+        Asked::History { code, long } => {
+            with_setup(rt, setup, history_of(thing(alloc, code)?, long))
+        }
         Asked::Stations => with_setup(rt, setup, Question::Stations),
         Asked::Where(code) => with_setup(rt, setup, Question::Where(thing(alloc, code)?)),
         Asked::Contents(code) => with_setup(rt, setup, Question::Contents(thing(alloc, code)?)),
@@ -66,6 +69,15 @@ fn with_setup(
             drop(question);
             Err(fault)
         }
+    }
+}
+
+/// The question where a thing has been.
+fn history_of(thing: ThingCode, long: bool) -> Question {
+    if long {
+        Question::LongHistory(thing)
+    } else {
+        Question::History(thing)
     }
 }
 

@@ -4,9 +4,11 @@ ghost use Rattle.sqlite_std_file.specs.File.{file_is_usable};
 
 use crate::advice::{Advice, folder_of};
 use crate::fault::CommandFault;
+use nest_core::Setup;
 use register_sql::{SqlRegister, fault_of};
 use register_store::StoreFault;
 use sqlite::{Alter, Connection, Error, ErrorCode, FileFrom, FileStore, Files, Start};
+use sqlite_disk::Disk;
 use std::alloc::Global;
 use std::fs;
 use std::fs::OpenOptions;
@@ -71,6 +73,30 @@ pub fn open<S: Start>(
             Err(closed_with(rt, path, register, fault))
         }
         Err(fault) => Err(closed_with(rt, path, register, CommandFault::from(fault))),
+    }
+}
+
+/// Opens the store, migrates it, and closes it. Faults, in this order: those of opening it, of
+/// migrating it, and of closing it.
+pub fn migrate<S: Start>(
+    rt: &HostRuntime,
+    path: &str,
+    start: S,
+    setup: &Setup,
+) -> Result<(), CommandFault> {
+    let (mut register, _) = open(rt, path, start, Begins::NoVersion)?;
+    let ended = migrated(rt.alloc(), &mut register, setup);
+    close(rt, path, register, ended)
+}
+
+fn migrated<S: Alter>(
+    alloc: Global,
+    register: &mut SqlRegister<S>,
+    setup: &Setup,
+) -> Result<(), CommandFault> {
+    match register.migrate(alloc, setup) {
+        Ok(()) => Ok(()),
+        Err(fault) => Err(CommandFault::from(fault)),
     }
 }
 
@@ -184,18 +210,38 @@ fn close_refused<S: Start>(
 ) -> Result<(), CommandFault> {
     let failure = register.failure();
     let mut conn = register.into_connection();
-    let advice = match failure {
-        Some(error) => on_statement(rt.alloc(), path, error),
-        None => on_tables(rt.alloc(), path, &mut conn),
-    };
-    match conn.close_files() {
-        Ok(files) => {
-            remove_log(rt, path);
-            drop(files);
-        }
-        Err((_, store)) => drop(store.close()),
+    let advice = on_refusal(rt.alloc(), path, failure, &mut conn);
+    if is_closed(conn) {
+        remove_log(rt, path);
     }
     Err(CommandFault::Store(StoreFault::Store, advice))
+}
+
+/// The advice on a store that failed: on the statement that failed or, if none did, on its tables.
+fn on_refusal<S: Alter>(
+    alloc: Global,
+    path: &str,
+    failure: Option<Error>,
+    conn: &mut Connection<S>,
+) -> Advice {
+    match failure {
+        Some(error) => on_statement(alloc, path, error),
+        None => on_tables(alloc, path, conn),
+    }
+}
+
+/// Closes the connection, and returns whether the database file has the whole record.
+fn is_closed<D: Disk + Drop>(conn: Connection<FileStore<D>>) -> bool {
+    match conn.close_files() {
+        Ok(files) => {
+            drop(files);
+            true
+        }
+        Err((_, store)) => {
+            drop(store.close());
+            false
+        }
+    }
 }
 
 /// Whether the file cannot be opened because it is not a database, or a damaged one.
@@ -327,7 +373,8 @@ fn on_tables<S: Alter>(alloc: Global, path: &str, conn: &mut Connection<S>) -> A
             return format!(in alloc; "{path} has the {kind} {name}, {what}").ok();
         }
     }
-    format!(in alloc; "{path} has unexpected or missing tables").ok()
+    let what = "lacks a table, or has its tables in another order or with other columns";
+    format!(in alloc; "{path} {what}").ok()
 }
 
 /// Whether a store has a table or an index of this name.

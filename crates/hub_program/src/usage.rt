@@ -44,6 +44,7 @@ fn label(id: &str) -> &'static str {
         "list" => "LIST",
         "place" => "PLACE",
         "name" => "NAME",
+        "entry" => "ENTRY",
         _ => "CODE",
     }
 }

@@ -1,17 +1,18 @@
 -- The text of several entries' rows. An entry may have no row.
-use Rattle.std.proofs.Common.{◌≡◌, ◌∙◌, ℕ, ◌+◌, ◌<◌, List, [], ◌∷◌, ◌++◌, length, map, take, ap, sym}
-use Rattle.std.proofs.Common.{drop, Result, Ok, Err}
-use Rattle.std.proofs.Common.{refl, subst, Option, Some, arith}
+use Rattle.std.proofs.Common.{◌≡◌, ◌∙◌, ℕ, ◌+◌, ◌<◌, List, [], ◌∷◌, ◌++◌, map, take, ap, sym}
+use Rattle.std.proofs.Common.{drop}
+use Rattle.std.proofs.Common.{refl, subst, Option, arith}
 use Rattle.std.proofs.lemmas.Grind.{flat_map-append}
-use Rattle.std.proofs.lemmas.List.{append-nil, take-append-drop, take_all}
+use Rattle.std.proofs.lemmas.List.{append-nil, map-append, take-append-drop, take_all}
 use Rattle.std.specs.Io.KnownBytes.{Appends}
 use Rattle.std.proofs.lemmas.List.FromFn.{length-map-range_with_len}
 use Rattle.std.specs.List.{flat_map, range_with_len, slice_get}
 use Rattle.std.specs.Option.{option_to_list}
-use Rattle.std.specs.Result.{IsErrAnd}
-use Rattle.reports.specs.Forms.{Prints}
+use Rattle.std.specs.Prelude.{IsTrue}
+use Rattle.reports.specs.declared.fault.PrintFault.{PrintFault}
+use Rattle.reports.specs.Forms.{Stops, ends_line}
 use Rattle.reports.proofs.NumberedRows.{numbered}
-use Rattle.reports.proofs.WrittenText.{Front, broken_at, front_whole, lines_more}
+use Rattle.reports.proofs.WrittenText.{lines_end, lines_more, stops_after, stops_at}
 
 -- The rows of n entries.
 abbrev pub each : {X : Type 0} → (ℕ → List X) → ℕ → List (List X)
@@ -40,6 +41,29 @@ text_more text rows n i within =
     lines_more (flat_map text) (each rows n) i
     ∙ ap (λ t. flat_map (flat_map text) (take i (each rows n)) ++ t) (text_at text rows n i within)
 
+-- What is made of the rows through entry i.
+pub pieces_more : {X Y : Type 0} (f : List X → List Y) (rows : ℕ → List X) (n i : ℕ) → i < n
+    → flat_map f (take (i + 1) (each rows n)) ≡ flat_map f (take i (each rows n)) ++ f (rows i)
+pieces_more f rows n i within =
+    lines_more f (each rows n) i
+    ∙ ap (λ t. flat_map f (take i (each rows n)) ++ t)
+    (ap (λ r. flat_map f (option_to_list r)) (numbered rows n i within) ∙ append-nil (f (rows i)))
+
+mapped : {X Y : Type 0} (g : X → Y) (rows : ℕ → List X) (numbers : List ℕ)
+    → flat_map (map g) (map rows numbers) ≡ map g (flat_map rows numbers)
+mapped g rows [] = refl
+mapped g rows (n ∷ numbers) =
+    ap (λ t. map g (rows n) ++ t) (mapped g rows numbers)
+    ∙ sym (map-append g (rows n) (flat_map rows numbers))
+
+-- What is made of each row of all entries.
+pub pieces_all : {X Y : Type 0} (g : X → Y) (rows : ℕ → List X) (n i : ℕ) → n ≡ i
+    → flat_map (map g) (take i (each rows n)) ≡ map g (flat_map rows (range_with_len 0 n))
+pieces_all g rows n i is =
+    ap (flat_map (map g)) (take_all i (each rows n)
+    (omega (arith, is, length-map-range_with_len rows 0 n)))
+    ∙ mapped g rows (range_with_len 0 n)
+
 -- The text of all entries.
 pub text_all : {X : Type 0} (text : X → List ℕ) (rows : ℕ → List X) (n i : ℕ) → n ≡ i
     → flat_map (flat_map text) (take i (each rows n))
@@ -49,33 +73,29 @@ text_all text rows n i is =
     (omega (arith, is, length-map-range_with_len rows 0 n)))
     ∙ sym (each_text text rows (range_with_len 0 n))
 
--- The text up to entry k is the beginning of the whole text.
-pub front_through : {X : Type 0} (a b : Option (List ℕ)) (text : X → List ℕ) (rows : ℕ → List X)
-    (n k : ℕ)
+-- A fault after the entries before k.
+pub stops_through : {X : Type 0} (a b : Option (List ℕ)) (fault : PrintFault) (text : X → List ℕ)
+    → ((x : X) → IsTrue (ends_line (text x))) → (rows : ℕ → List X) (n k : ℕ)
     → Appends a b (flat_map (flat_map text) (take k (each rows n)))
-    → Front a b (flat_map text (flat_map rows (range_with_len 0 n)))
-front_through a b text rows n k p =
+    → Stops a b fault (flat_map text (flat_map rows (range_with_len 0 n)))
+stops_through a b fault text ends rows n k p =
     let whole : flat_map text (flat_map rows (range_with_len 0 n))
     ≡ flat_map (flat_map text) (take k (each rows n))
     ++ flat_map (flat_map text) (drop k (each rows n))
     = each_text text rows (range_with_len 0 n)
     ∙ (ap (flat_map (flat_map text)) (sym (take-append-drop k (each rows n)))
     ∙ flat_map-append (flat_map text) (take k (each rows n)) (drop k (each rows n))) in
-    subst (Front a b) (sym whole) (front_whole a b _ _ p)
+    subst (Stops a b fault) (sym whole)
+    (stops_after a b fault _ _
+    (lines_end (flat_map text) (lines_end text ends) (take k (each rows n))) p)
 
--- So is the beginning of entry i's text, after the entries before it.
-pub broken_within : {X : Type 0} (a b c : Option (List ℕ)) (text : X → List ℕ) (rows : ℕ → List X)
-    (n i : ℕ) → i < n
-    → Appends a b (flat_map (flat_map text) (take i (each rows n)))
-    → Front b c (flat_map text (rows i))
-    → Front a c (flat_map text (flat_map rows (range_with_len 0 n)))
-broken_within a b c text rows n i within p q =
-    subst (Front a c) (sym (each_text text rows (range_with_len 0 n)))
-    (broken_at a b c (flat_map text) (each rows n) i p
-    (subst (Front b c) (sym (text_at text rows n i within)) q))
-
--- A call that failed has left a front of the text.
-pub prints_failed : {F : Type 0} (Is : F → Type 0) (a b : Option (List ℕ)) (r : Result Unit F)
-    (text : List ℕ) → IsErrAnd r Is → Front a b text → Prints a b r text
-prints_failed Is a b (Ok u) text is p = absurd is
-prints_failed Is a b (Err y) text is p = p
+-- A fault at entry i.
+pub stops_at_entry : {X : Type 0} (a b c : Option (List ℕ)) (fault : PrintFault)
+    (text : X → List ℕ) → ((x : X) → IsTrue (ends_line (text x))) → (rows : ℕ → List X) (n i : ℕ)
+    → i < n → Appends a b (flat_map (flat_map text) (take i (each rows n)))
+    → Stops b c fault (flat_map text (rows i))
+    → Stops a c fault (flat_map text (flat_map rows (range_with_len 0 n)))
+stops_at_entry a b c fault text ends rows n i within p q =
+    subst (Stops a c fault) (sym (each_text text rows (range_with_len 0 n)))
+    (stops_at a b c fault (flat_map text) (lines_end text ends) (each rows n) i p
+    (subst (Stops b c fault) (sym (text_at text rows n i within)) q))

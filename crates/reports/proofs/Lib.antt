@@ -1,10 +1,16 @@
 mod EachRows
 mod CountLemmas
+mod Locations
 mod NumberedRows
 mod Joins
+mod LineEnds
 mod Members
 mod Passing
+mod PrintedRows
+mod TableLemmas
 mod WorkedEntries
 mod WorkedLoans
+mod WorkedLocations
 mod WorkedRows
+mod WorkedTables
 mod WrittenText

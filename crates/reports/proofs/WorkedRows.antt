@@ -99,7 +99,7 @@ in_chain = refl
 in_none : in_if [] ≡ nothing
 in_none = refl
 
--- ---- lines in the three forms
+-- ---- lines as comma-separated values and as JSON
 
 abbrev away_names : List (List ℕ)
 away_names = codes "object" ∷ codes "place" ∷ codes "normal" ∷ []
@@ -107,22 +107,22 @@ away_names = codes "object" ∷ codes "place" ∷ codes "normal" ∷ []
 abbrev away_values : List Cell
 away_values = text (codes "2001.4.2") ∷ nothing ∷ text (codes "S1-A") ∷ []
 
-away-heading : heading Csv away_names ≡ codes "object,place,normal\n"
+away-heading : heading Csv away_names [] ≡ codes "object,place,normal\n"
 unfolding fields_text is_blank
 away-heading = refl
 
-away-no_heading : heading Json away_names ≡ []
+away-no_heading : heading Json away_names [] ≡ []
 away-no_heading = refl
 
 away-members : slice_get (members away_names away_values) 2 ≡ Some (codes "\"normal\":\"S1-A\"")
 unfolding serde_json_on_literals
 away-members = refl
 
-away-csv : line_text Csv away_names away_values ≡ codes "2001.4.2,,S1-A\n"
+away-csv : line_text Csv away_names [] away_values ≡ codes "2001.4.2,,S1-A\n"
 unfolding fields_text is_blank
 away-csv = refl
 
-away-json : line_text Json away_names away_values
+away-json : line_text Json away_names [] away_values
     ≡ codes "{\"object\":\"2001.4.2\",\"place\":null,\"normal\":\"S1-A\"}\n"
 unfolding serde_json_on_literals
 away-json = refl
@@ -133,7 +133,7 @@ station_names = codes "station" ∷ codes "next" ∷ codes "signed_off" ∷ []
 abbrev station_values : List Cell
 station_values = standing_row Csv (codes "PACK") (Some 6) false
 
-station-csv : line_text Csv station_names station_values ≡ codes "PACK,6,false\n"
+station-csv : line_text Csv station_names [] station_values ≡ codes "PACK,6,false\n"
 unfolding digits fields_text is_blank
 station-csv = refl
 
@@ -144,12 +144,12 @@ station-json = refl
 
 -- a full station has no next number: empty, or null
 
-full-csv : line_text Csv station_names (standing_row Csv (codes "PACK") None false)
+full-csv : line_text Csv station_names [] (standing_row Csv (codes "PACK") None false)
     ≡ codes "PACK,,false\n"
 unfolding fields_text is_blank
 full-csv = refl
 
-full-json : line_text Json station_names (standing_row Json (codes "PACK") None false)
+full-json : line_text Json station_names [] (standing_row Json (codes "PACK") None false)
     ≡ codes "{\"station\":\"PACK\",\"next\":null,\"signed_off\":false}\n"
 unfolding serde_json_on_literals
 full-json = refl

@@ -2,6 +2,7 @@
 use Rattle.std.proofs.Common.{◌≡◌, ℕ, ◌+◌, ◌-◌, ◌≤◌, List, ◌++◌, [], ◌∷◌, length, take, drop}
 use Rattle.std.proofs.Common.{Option, None, Some, Result, Ok, Err, arith, ap, ◌∙◌, sym, subst, refl}
 use Rattle.std.proofs.Common.{zero, suc, add-one}
+use Rattle.std.specs.Prelude.{IsTrue}
 use Rattle.std.proofs.Math.Seq.{take-add}
 use Rattle.std.proofs.lemmas.List.{length-drop, take-append-drop, take_all}
 use Rattle.std.proofs.lemmas.Grind.{flat_map-append}
@@ -11,7 +12,9 @@ use Rattle.std.specs.List.{flat_map, slice_get}
 use Rattle.std.specs.Option.{option_to_list}
 use Rattle.std.specs.Result.{IsErrAnd}
 use Rattle.codes_core.proofs.Parts.{all_taken}
-use Rattle.reports.specs.Forms.{Prints}
+use Rattle.reports.specs.declared.fault.PrintFault.{PrintFault}
+use Rattle.reports.specs.declared.fault.PrintFault.TheVariants.{NoMemory, WriteFailed}
+use Rattle.reports.specs.Forms.{Prints, Stops, can_end, ends_line}
 
 pub appends_kept : (a b c : Option (List ℕ)) (bs : List ℕ) → Appends a b bs → Keeps b c
     → Appends a c bs
@@ -36,10 +39,6 @@ more_taken a b c text m n p q =
     subst (Appends a c) (sym (take-add m n text))
     (Appends-trans a b c (take m text) (take n (drop m text)) p r)
 
--- A front of a text was written. It is also a front of a longer text.
-abbrev pub Front : Option (List ℕ) → Option (List ℕ) → List ℕ → Type 0
-Front a b text = (k : ℕ) × Appends a b (take k text)
-
 -- that front is a front of the longer text
 front_of : (k : ℕ) (s t : List ℕ) → (j : ℕ) × (take j (s ++ t) ≡ take k s)
 front_of zero s t = (zero, refl)
@@ -50,17 +49,62 @@ past_of : (k : ℕ) (s t : List ℕ) → (j : ℕ) × (take j (s ++ t) ≡ s ++ 
 past_of k [] t = (k, refl)
 past_of k (x ∷ s) t = let r = past_of k s t in (suc r.0, ap (λ l. x ∷ l) r.1)
 
-pub front_longer : (a b : Option (List ℕ)) (s t : List ℕ) → Front a b s → Front a b (s ++ t)
-front_longer a b s t p = let r = front_of p.0 s t in (r.0, subst (Appends a b) (sym r.1) p.1)
+-- a text that ends a line after one that does
+pub ends_line-append : (s t : List ℕ) → IsTrue (ends_line s) → IsTrue (ends_line t)
+    → IsTrue (ends_line (s ++ t))
+ends_line-append [] t p q = q
+ends_line-append (b ∷ []) [] p q = p
+ends_line-append (b ∷ []) (c ∷ t) p q = q
+ends_line-append (b ∷ c ∷ s) t p q = ends_line-append (c ∷ s) t p q
 
-pub front_whole : (a b : Option (List ℕ)) (s t : List ℕ) → Appends a b s → Front a b (s ++ t)
-front_whole a b s t p = front_longer a b s t
-    (length s, subst (Appends a b) (sym (take_all (length s) s (omega arith))) p)
+-- lines that each end one
+pub lines_end : {X : Type 0} (text : X → List ℕ) → ((x : X) → IsTrue (ends_line (text x)))
+    → (xs : List X) → IsTrue (ends_line (flat_map text xs))
+lines_end text ends [] = refl
+lines_end text ends (x ∷ xs) =
+    ends_line-append (text x) (flat_map text xs) (ends x) (lines_end text ends xs)
 
-pub front_past : (a b c : Option (List ℕ)) (s t : List ℕ) → Appends a b s → Front b c t
-    → Front a c (s ++ t)
-front_past a b c s t p q = let r = past_of q.0 s t in
-    (r.0, subst (Appends a c) (sym r.1) (Appends-trans a b c s (take q.0 t) p q.1))
+-- after whole lines every fault can come
+can_end-lines : (fault : PrintFault) (s : List ℕ) → IsTrue (ends_line s) → IsTrue (can_end fault s)
+can_end-lines NoMemory s p = p
+can_end-lines WriteFailed s p = refl
+
+can_end-append : (fault : PrintFault) (s t : List ℕ) → IsTrue (ends_line s)
+    → IsTrue (can_end fault t) → IsTrue (can_end fault (s ++ t))
+can_end-append NoMemory s t p q = ends_line-append s t p q
+can_end-append WriteFailed s t p q = refl
+
+-- what was written of a text is also a front of a longer text
+pub stops_longer : (a b : Option (List ℕ)) (fault : PrintFault) (s t : List ℕ) → Stops a b fault s
+    → Stops a b fault (s ++ t)
+stops_longer a b fault s t p =
+    let r = front_of p.0 s t in (
+      r.0,
+      subst (λ l. IsTrue (can_end fault l)) (sym r.1) p.1,
+      subst (Appends a b) (sym r.1) p.2,
+    )
+
+-- the fault came after whole lines
+pub stops_after : (a b : Option (List ℕ)) (fault : PrintFault) (s t : List ℕ)
+    → IsTrue (ends_line s) → Appends a b s → Stops a b fault (s ++ t)
+stops_after a b fault s t ends p =
+    let all = take_all (length s) s (omega arith) in
+    stops_longer a b fault s t (
+      length s,
+      subst (λ l. IsTrue (can_end fault l)) (sym all) (can_end-lines fault s ends),
+      subst (Appends a b) (sym all) p,
+    )
+
+-- the fault came in a text after whole lines
+pub stops_within : (a b c : Option (List ℕ)) (fault : PrintFault) (s t : List ℕ)
+    → IsTrue (ends_line s) → Appends a b s → Stops b c fault t → Stops a c fault (s ++ t)
+stops_within a b c fault s t ends p q =
+    let r = past_of q.0 s t in (
+      r.0,
+      subst (λ l. IsTrue (can_end fault l)) (sym r.1)
+          (can_end-append fault s (take q.0 t) ends q.1),
+      subst (Appends a c) (sym r.1) (Appends-trans a b c s (take q.0 t) p q.2),
+    )
 
 -- one more row
 pub row_taken : {X : Type 0} (rows : List X) (i : ℕ) → take (suc i) rows ≡ take i rows
@@ -71,7 +115,7 @@ row_taken (row ∷ rows) zero = refl
 row_taken (row ∷ rows) (suc i) = ap (λ l. row ∷ l) (row_taken rows i)
 
 -- the text of the rows through row i
-pub lines_more : {X : Type 0} (text : X → List ℕ) (rows : List X) (i : ℕ)
+pub lines_more : {X Y : Type 0} (text : X → List Y) (rows : List X) (i : ℕ)
     → flat_map text (take (i + 1) rows) ≡ flat_map text (take i rows)
     ++ flat_map text (option_to_list (slice_get rows i))
 lines_more text rows i =
@@ -79,36 +123,33 @@ lines_more text rows i =
     ∙ (ap (flat_map text) (row_taken rows i)
     ∙ flat_map-append text (take i rows) (option_to_list (slice_get rows i)))
 
--- after a fault at row i a front of all rows is written
-pub broken_at : {X : Type 0} (a b c : Option (List ℕ)) (text : X → List ℕ) (rows : List X) (i : ℕ)
-    → Appends a b (flat_map text (take i rows)) → Front b c
-    (flat_map text (option_to_list (slice_get rows i))) → Front a c (flat_map text rows)
-broken_at a b c text rows i p q =
+-- the fault came at row i
+pub stops_at : {X : Type 0} (a b c : Option (List ℕ)) (fault : PrintFault) (text : X → List ℕ)
+    → ((x : X) → IsTrue (ends_line (text x))) → (rows : List X) (i : ℕ)
+    → Appends a b (flat_map text (take i rows))
+    → Stops b c fault (flat_map text (option_to_list (slice_get rows i)))
+    → Stops a c fault (flat_map text rows)
+stops_at a b c fault text ends rows i p q =
     let rest : List ℕ = flat_map text (drop (i + 1) rows) in
     let whole : flat_map text rows ≡ (flat_map text (take i rows)
     ++ flat_map text (option_to_list (slice_get rows i))) ++ rest
     = ap (flat_map text) (sym (take-append-drop (i + 1) rows))
     ∙ (flat_map-append text (take (i + 1) rows) (drop (i + 1) rows)
     ∙ ap (λ t. t ++ rest) (lines_more text rows i)) in
-    subst (Front a c) (sym whole)
-    (front_longer a c
+    subst (Stops a c fault) (sym whole)
+    (stops_longer a c fault
     (flat_map text (take i rows) ++ flat_map text (option_to_list (slice_get rows i))) rest
-    (front_past a b c (flat_map text (take i rows))
-    (flat_map text (option_to_list (slice_get rows i))) p q))
+    (stops_within a b c fault (flat_map text (take i rows))
+    (flat_map text (option_to_list (slice_get rows i))) (lines_end text ends (take i rows)) p q))
 
 -- a call that failed left a front of its text
-pub prints_err : {F : Type 0} (a b : Option (List ℕ)) (r : Result Unit F) (text : List ℕ) (x : F)
-    → IsErrAnd r (λ y. y ≡ x) → Front a b text → Prints a b r text
+pub prints_err : (a b : Option (List ℕ)) (r : Result Unit PrintFault) (text : List ℕ)
+    (x : PrintFault) → IsErrAnd r (λ y. y ≡ x) → Stops a b x text → Prints a b r text
 prints_err a b (Ok u) text x is p = absurd is
-prints_err a b (Err y) text x is p = p
+prints_err a b (Err y) text x is p = subst (λ fault. Stops a b fault text) (sym is) p
 
--- one text after another
-pub prints_after : {F : Type 0} (a b c : Option (List ℕ)) (r : Result Unit F) (s t : List ℕ)
-    → Appends a b s → Prints b c r t → Prints a c r (s ++ t)
-prints_after a b c (Ok u) s t p q = Appends-trans a b c s t p q
-prints_after a b c (Err y) s t p q = front_past a b c s t p q
-
--- the same text
-pub prints_same : {F : Type 0} (a b : Option (List ℕ)) (r : Result Unit F) (s t : List ℕ) → s ≡ t
-    → Prints a b r s → Prints a b r t
-prints_same a b r s t same p = subst (Prints a b r) same p
+-- one text after whole lines
+pub prints_after : (a b c : Option (List ℕ)) (r : Result Unit PrintFault) (s t : List ℕ)
+    → IsTrue (ends_line s) → Appends a b s → Prints b c r t → Prints a c r (s ++ t)
+prints_after a b c (Ok u) s t ends p q = Appends-trans a b c s t p q
+prints_after a b c (Err y) s t ends p q = stops_within a b c y s t ends p q

@@ -1,8 +1,11 @@
+pub mod Aligned
+pub mod Columns
 pub mod CountRows
 pub mod EntryFilters
 pub mod Forms
 pub mod LoanLists
 pub mod Loans
+pub mod LongHistory
 pub mod Names
 pub mod Reports
 pub mod Stations

@@ -12,7 +12,7 @@ use Rattle.posting_core.specs.Agreements.{Agreement, agreement}
 use Rattle.posting_core.specs.Book.{Book, last_day_in, line_in, state_in}
 use Rattle.count_core.specs.Reports.{overdue}
 use Rattle.reports.specs.declared.form.Form.{Form}
-use Rattle.reports.specs.declared.form.Form.TheVariants.{Plain, Csv, Json}
+use Rattle.reports.specs.declared.form.Form.TheVariants.{Plain, Csv, Json, Table}
 use Rattle.reports.specs.Forms.{by_form}
 use Rattle.reports.specs.Cells.{Cell, day_if, nothing, text, text_if}
 
@@ -62,6 +62,7 @@ abbrev pub terms_rows : Form → List Cell → List (List Cell)
 terms_rows Plain words = words ∷ []
 terms_rows Csv words = []
 terms_rows Json words = []
+terms_rows Table words = []
 
 abbrev pub stage_cell : Book → Agreement → List ℕ → Cell
 stage_cell B t object =

@@ -4,6 +4,7 @@ use Rattle.reports.specs.declared.question.Question.{Question}
 use Rattle.reports.specs.declared.question.Question.TheVariants.{Count, Overdue, Away, History}
 use Rattle.reports.specs.declared.question.Question.TheVariants.{Stations, Where, Contents, Loan}
 use Rattle.reports.specs.declared.question.Question.TheVariants.{At, Posted, Loans, Dues, Why}
+use Rattle.reports.specs.declared.question.Question.TheVariants.{LongHistory}
 
 abbrev pub names : Question → List (List ℕ)
 names (Count rows sealed) =
@@ -11,6 +12,9 @@ names (Count rows sealed) =
 names (Overdue day) = codes "loan" ∷ codes "last" ∷ []
 names Away = codes "object" ∷ codes "place" ∷ codes "normal" ∷ []
 names (History code) = codes "entry" ∷ codes "day" ∷ codes "place" ∷ []
+names (LongHistory code) =
+    codes "entry" ∷ codes "day" ∷ codes "place" ∷ codes "containers"
+    ∷ codes "loan" ∷ codes "station" ∷ codes "n" ∷ codes "kind" ∷ []
 names Stations = codes "station" ∷ codes "next" ∷ codes "signed_off" ∷ []
 names (Where code) = codes "thing" ∷ codes "state" ∷ codes "place" ∷ codes "containers" ∷ []
 names (Contents code) = codes "thing" ∷ codes "state" ∷ codes "containers" ∷ []

@@ -7,11 +7,13 @@ use Rattle.reports.specs.declared.question.Question.{Question}
 use Rattle.reports.specs.declared.question.Question.TheVariants.{Count, Overdue, Away, History}
 use Rattle.reports.specs.declared.question.Question.TheVariants.{Stations, Where, Contents, Loan}
 use Rattle.reports.specs.declared.question.Question.TheVariants.{At, Posted, Loans, Dues, Why}
+use Rattle.reports.specs.declared.question.Question.TheVariants.{LongHistory}
 use Rattle.reports.specs.Causes.{cause_rows}
 use Rattle.reports.specs.CountRows.{count_rows}
 use Rattle.reports.specs.Forms.{rows_text}
 use Rattle.reports.specs.LoanLists.{due_rows, listed_rows}
 use Rattle.reports.specs.Loans.{loan_rows, overdue_rows}
+use Rattle.reports.specs.LongHistory.{long_history_rows}
 use Rattle.reports.specs.Names.{names}
 use Rattle.reports.specs.EntryFilters.{posted_rows}
 use Rattle.reports.specs.Stations.{station_rows}
@@ -25,6 +27,7 @@ rows_in form B (Count rows sealed) = count_rows B form sealed rows.items
 rows_in form B (Overdue day) = overdue_rows B day
 rows_in form B Away = away_rows B form
 rows_in form B (History code) = history_rows B code
+rows_in form B (LongHistory code) = long_history_rows B form code
 rows_in form B Stations = station_rows B form
 rows_in form B (Where code) = where_row B form code ∷ []
 rows_in form B (Contents code) = content_rows B code

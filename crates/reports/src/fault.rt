@@ -16,18 +16,33 @@ pub enum PrintFault {
 }
 
 impl From<NoMemory> for PrintFault {
+    ghost use Rattle.std.specs.Prelude.{◌≡◌};
+    ghost use Rattle.reports.specs.declared.fault.PrintFault.TheVariants.{NoMemory};
+
+    ghost from_gives = { λ _ e. e ≡ NoMemory };
+
     fn from(_fault: NoMemory) -> PrintFault {
         PrintFault::NoMemory
     }
 }
 
 impl From<AllocError> for PrintFault {
+    ghost use Rattle.std.specs.Prelude.{◌≡◌};
+    ghost use Rattle.reports.specs.declared.fault.PrintFault.TheVariants.{NoMemory};
+
+    ghost from_gives = { λ _ e. e ≡ NoMemory };
+
     fn from(_error: AllocError) -> PrintFault {
         PrintFault::NoMemory
     }
 }
 
 impl<T: Drop> From<AllocFailed<T>> for PrintFault {
+    ghost use Rattle.std.specs.Prelude.{◌≡◌};
+    ghost use Rattle.reports.specs.declared.fault.PrintFault.TheVariants.{NoMemory};
+
+    ghost from_gives = { λ _ e. e ≡ NoMemory };
+
     fn from(_error: AllocFailed<T>) -> PrintFault {
         PrintFault::NoMemory
     }

@@ -9,4 +9,6 @@ pub enum Form {
     Csv,
     /// A JSON object on each line.
     Json,
+    /// Aligned columns, below a row of the column names.
+    Table,
 }

@@ -1,11 +1,12 @@
-//! The reports on a record, printed as plain lines, comma-separated values or JSON.
+//! The reports on a record, printed as plain lines, comma-separated values, JSON or a table.
 //!
 //! A [`Question`] is what a report answers, such as the location of a thing or the entries from a
 //! number on. [`print`] writes the answer in a [`Form`]. A [`PrintFault`] says why it stopped.
 //!
 //! The contract of [`print`] promises each byte: what is written is the text that `specs/Reports`
-//! defines for the ledger, the question and the form, and after a fault a front of it. The rows
-//! are made one at a time, as they are printed.
+//! defines for the ledger, the question and the form, and after a fault a front of it, which ends
+//! with a whole line if memory ran out. The rows are made one at a time, as they are printed. For a
+//! table they are made once more before, to find how wide its columns are.
 //!
 //! ```text
 //! print(&rt, alloc, hub.ledger(), &Question::Where(code), Form::Plain, &mut out)?;
@@ -16,6 +17,7 @@
 //! rows in `specs/`, a file in `reports/` that builds them, and an arm in [`print`].
 #![tactic(auto)]
 
+mod columns;
 mod fault;
 mod field;
 mod form;
@@ -25,6 +27,7 @@ mod printing;
 mod question;
 mod reports;
 mod rows;
+mod table;
 mod writing;
 
 pub use fault::PrintFault;

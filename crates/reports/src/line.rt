@@ -2,23 +2,29 @@
 ghost use Rattle.std.specs.Prelude.{◌≡◌, IfOk, length, map, string_bytes};
 ghost use Rattle.std.specs.List.{filter};
 ghost use Rattle.csv.specs.Writing.{default_writer, row_text};
+ghost use Rattle.reports.specs.Columns.{names_in};
 ghost use Rattle.reports.specs.Forms.{heading, line_text};
 ghost use Rattle.reports.specs.Cells.{is_shown, member, object_line, plain_text, cell_of};
 ghost use Rattle.reports.specs.Cells.{joined_words, words_line};
 
 use crate::Form;
+use crate::columns::Columns;
 use crate::field::{Field, is_shown, json_text, plain_text, quoted};
+use crate::table::{table_heading, table_line};
 use codes_core::NoMemory;
 use csv::WriterBuilder;
 use std::alloc::Global;
 
-/// The heading: the column names as comma-separated values. Empty in the other forms.
-pub(crate) fn heading(alloc: Global, form: Form, names: &[&str]) -> Result<String, NoMemory>
-    ensures { IfOk result (λ text. string_bytes text ≡ heading form (map (λ n. n.now) names.now)) }
+/// The heading: the column names as a line of comma-separated values or of a table. Empty in the
+/// other forms.
+pub(crate) fn heading(alloc: Global, form: Form, columns: &Columns<'_>) -> Result<String, NoMemory>
+    ensures { IfOk result (λ text. string_bytes text
+        ≡ heading form (names_in columns.now) columns.now.widths.items) }
 {
     match form {
         Form::Plain | Form::Json => Ok(String::new(alloc)),
-        Form::Csv => separated(alloc, names),
+        Form::Csv => separated(alloc, columns.names),
+        Form::Table => table_heading(alloc, columns.widths.as_slice(), columns.names),
     }
 }
 
@@ -26,16 +32,18 @@ pub(crate) fn heading(alloc: Global, form: Form, names: &[&str]) -> Result<Strin
 pub(crate) fn line(
     alloc: Global,
     form: Form,
-    names: &[&str],
+    columns: &Columns<'_>,
     row: &[Field<'_>],
 ) -> Result<String, NoMemory>
     ensures { IfOk result (λ text. string_bytes text
-        ≡ line_text form (map (λ n. n.now) names.now) (map cell_of row.now)) }
+        ≡ line_text form (names_in columns.now) columns.now.widths.items
+        (map cell_of row.now)) }
 {
     match form {
         Form::Plain => words_line(alloc, row),
         Form::Csv => separated_fields(alloc, row),
-        Form::Json => object(alloc, names, row),
+        Form::Json => object(alloc, columns.names, row),
+        Form::Table => table_line(alloc, columns.widths.as_slice(), row),
     }
 }
 

@@ -14,6 +14,7 @@ use crate::reports::dues::Dues;
 use crate::reports::history::History;
 use crate::reports::loan::{Loan, NoLoan, agreed_terms};
 use crate::reports::loans::Loans;
+use crate::reports::long_history::LongHistory;
 use crate::reports::overdue::Overdue;
 use crate::reports::posted::Posted;
 use crate::reports::stations::Stations;
@@ -31,9 +32,10 @@ use std::thread::Threads;
 /// Prints the answer to a question about the record in this ledger. `threads` runs the workers that
 /// check a count list.
 ///
-/// Fails with `NoMemory` or `WriteFailed`; then a front of the report is written. It takes memory
-/// for one row at a time, and a number for each thing, loan or row of a count list that the report
-/// lists.
+/// Fails with `NoMemory`, after whole lines of the report, or with `WriteFailed`, after a front of
+/// it. It takes memory for one row at a time, a number for each thing, loan or row of a count list
+/// that the report lists, and for a table the width of each column. A long history also takes a
+/// number for each container above a location, and a second ledger.
 pub fn print<T: Threads + Sync, W: Write>(
     threads: &T,
     alloc: Global,
@@ -66,6 +68,10 @@ pub fn print<T: Threads + Sync, W: Write>(
         }
         Question::History(code) => {
             let rows = History::find(alloc, ledger, code)?;
+            print_rows(alloc, form, names, &rows, out)
+        }
+        Question::LongHistory(code) => {
+            let rows = LongHistory::find(alloc, ledger, code)?;
             print_rows(alloc, form, names, &rows, out)
         }
         Question::Overdue(day) => {

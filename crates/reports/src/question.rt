@@ -20,6 +20,8 @@ pub enum Question {
     Away,
     /// Where has a thing been?
     History(ThingCode),
+    /// Where has a thing been, in which containers, and by which messages?
+    LongHistory(ThingCode),
     /// Which number does each station have to send next?
     Stations,
     /// Where is a thing, and in which containers?
@@ -78,6 +80,16 @@ pub fn names_of(question: &Question) -> &'static [&'static str]
         Question::Overdue(_) => &["loan", "last"],
         Question::Away => &["object", "place", "normal"],
         Question::History(_) => &["entry", "day", "place"],
+        Question::LongHistory(_) => &[
+            "entry",
+            "day",
+            "place",
+            "containers",
+            "loan",
+            "station",
+            "n",
+            "kind",
+        ],
         Question::Stations => &["station", "next", "signed_off"],
         Question::Where(_) => &["thing", "state", "place", "containers"],
         Question::Contents(_) => &["thing", "state", "containers"],

@@ -73,6 +73,8 @@ fn away_row<'a>(
             Field::Word("normal"),
             place_or_dash(normal),
         ]?,
-        Form::Csv | Form::Json => vec![in alloc; object, place_if(place), place_if(normal)]?,
+        Form::Csv | Form::Json | Form::Table => {
+            vec![in alloc; object, place_if(place), place_if(normal)]?
+        }
     })
 }

@@ -123,7 +123,7 @@ fn answer_row<'a>(
     let at = place_if(on_record(ledger.setup(), answer));
     Ok(match form {
         Form::Plain => vec![in alloc; Field::Word("row"), Field::Number(number), word, at]?,
-        Form::Csv | Form::Json => vec![in alloc;
+        Form::Csv | Form::Json | Form::Table => vec![in alloc;
             Field::Number(number),
             Field::Place(row.place),
             thing_if(row.object),
@@ -175,7 +175,7 @@ fn missing_row<'a>(
     let object = Field::Thing(setup.thing_code(missed.object));
     Ok(match form {
         Form::Plain => vec![in alloc; Field::Word("missing"), place, object]?,
-        Form::Csv | Form::Json => vec![in alloc;
+        Form::Csv | Form::Json | Form::Table => vec![in alloc;
             Field::Nothing,
             place,
             object,

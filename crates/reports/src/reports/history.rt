@@ -53,7 +53,11 @@ impl<'a> History<'a> {
     }
 }
 
-fn spot_row<'a>(alloc: Global, setup: &Setup, spot: Spot) -> Result<Vec<Field<'a>>, NoMemory>
+pub(crate) fn spot_row<'a>(
+    alloc: Global,
+    setup: &Setup,
+    spot: Spot,
+) -> Result<Vec<Field<'a>>, NoMemory>
     requires { spot.place < length setup.now.places }
     ensures { IfOk result (λ row. map cell_of row.items ≡ spot_row setup.now spot) }
 {

@@ -42,7 +42,7 @@ impl<'a> Rows for Loan<'a> {
     fn len(&self, form: Form) -> usize {
         match form {
             Form::Plain => self.terms.objects.len() + 1,
-            Form::Csv | Form::Json => self.terms.objects.len(),
+            Form::Csv | Form::Json | Form::Table => self.terms.objects.len(),
         }
     }
 
@@ -53,7 +53,7 @@ impl<'a> Rows for Loan<'a> {
                 let object = self.terms.objects[i - 1];
                 object_row(alloc, self.ledger, form, &self.terms, object)
             }
-            Form::Csv | Form::Json => {
+            Form::Csv | Form::Json | Form::Table => {
                 let object = self.terms.objects[i];
                 object_row(alloc, self.ledger, form, &self.terms, object)
             }
@@ -130,7 +130,7 @@ fn object_row<'a>(
     let last = day_if(ledger.last_day(&terms.loan));
     Ok(match form {
         Form::Plain => vec![in alloc; Field::Thing(object), stage]?,
-        Form::Csv | Form::Json => vec![in alloc;
+        Form::Csv | Form::Json | Form::Table => vec![in alloc;
             Field::Loan(terms.loan),
             state,
             Field::Place(terms.partner),
@@ -197,7 +197,7 @@ impl Rows for NoLoan {
     fn row(&self, alloc: Global, form: Form, _i: usize) -> Result<Vec<Field<'_>>, NoMemory> {
         Ok(match form {
             Form::Plain => vec![in alloc; Field::Loan(self.code), Field::Word("unknown")]?,
-            Form::Csv | Form::Json => vec![in alloc;
+            Form::Csv | Form::Json | Form::Table => vec![in alloc;
                 Field::Loan(self.code),
                 Field::Word("unknown"),
                 Field::Nothing,

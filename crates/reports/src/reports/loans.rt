@@ -117,7 +117,9 @@ fn listed_row<'a>(
     match (agreed_terms(ledger, &loan), form) {
         (None, _) => Ok(Vec::new(alloc)),
         (Some(terms), Form::Plain) => loan_words(alloc, ledger, on, &terms),
-        (Some(terms), Form::Csv | Form::Json) => loan_values(alloc, ledger, on, &terms),
+        (Some(terms), Form::Csv | Form::Json | Form::Table) => loan_values(
+            alloc, ledger, on, &terms,
+        ),
     }
 }
 

@@ -82,7 +82,7 @@ fn standing_row<'a>(
             vec![in alloc; name, Field::Word("signed"), Field::Word("off")]?
         }
         (Form::Plain, None) => vec![in alloc; name, Field::Word("full")]?,
-        (Form::Csv | Form::Json, next) => {
+        (Form::Csv | Form::Json | Form::Table, next) => {
             vec![in alloc; name, number_if(next), Field::Flag(signed_off)]?
         }
     })

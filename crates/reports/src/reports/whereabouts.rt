@@ -85,7 +85,11 @@ pub(crate) fn containers_of(
 }
 
 /// The codes of things, in their order.
-fn thing_codes(alloc: Global, setup: &Setup, things: &[ThingNo]) -> Result<Vec<ThingCode>, NoMemory>
+pub(crate) fn thing_codes(
+    alloc: Global,
+    setup: &Setup,
+    things: &[ThingNo],
+) -> Result<Vec<ThingCode>, NoMemory>
     requires { All (λ t. t < length setup.now.things) things.now }
     ensures { IfOk result (λ codes. codes.items ≡ map (thing_text setup.now) things.now) }
 {
@@ -116,7 +120,7 @@ fn place_row<'a>(
             inside,
             Field::Things(containers),
         ]?,
-        Form::Csv | Form::Json => vec![in alloc;
+        Form::Csv | Form::Json | Form::Table => vec![in alloc;
             Field::Thing(code),
             Field::Word(state),
             place_if(place),

@@ -1,13 +1,18 @@
 //! Why entries got their verdicts.
-ghost use Rattle.std.specs.Prelude.{◌≡◌, ◌<◌, ◌+◌, IfOk, length, map, not, option_map};
+ghost use Rattle.std.specs.Prelude.{◌≡◌, ◌<◌, ◌+◌, IfOk, OnOk, length, map, not, option_map};
 ghost use Rattle.std.specs.Prelude.{string_bytes};
+ghost use Rattle.std.specs.Option.{option_to_list};
 ghost use Rattle.past_core.specs.Past.{upto};
 ghost use Rattle.reports.specs.Causes.{cause_cell, cause_row, cause_rows, cause_rows_at};
 ghost use Rattle.reports.specs.Causes.{cause_values, cause_words, code_of, entry_words};
 ghost use Rattle.reports.specs.Causes.{is_empty, verdict_word};
 ghost use Rattle.reports.specs.Cells.{cell_of, text_if};
-ghost use Rattle.reports.specs.Forms.{Prints, lines_text, rows_text};
+ghost use Rattle.reports.specs.declared.form.Form.{Form};
+ghost use Rattle.reports.specs.Aligned.{column_widths, row_texts, wider};
+ghost use Rattle.reports.specs.Columns.{names_in};
+ghost use Rattle.reports.specs.Forms.{Prints, lines_text, rows_text, widths_in};
 
+use crate::columns::Columns;
 use crate::field::Field;
 use crate::line::joined_words;
 use crate::optional_fields::{loan_if, place_if, thing_if};
@@ -15,6 +20,7 @@ use crate::reports::cause::{code_field, sentence};
 use crate::reports::entry_filter::is_wanted;
 use crate::reports::posted::{entry_at, station_name};
 use crate::rows::{print_heading, print_line};
+use crate::table::{name_widths, widen_to_row};
 use crate::{EntryFilter, Form, PrintFault};
 use cause_core::{
     Culprit, container_named, find_culprit, kind_name, loan_named, place_named, thing_named,
@@ -27,7 +33,7 @@ use std::alloc::Global;
 use std::io::Write;
 
 /// Prints why the entries that the list has got their verdicts. It goes through the record from its
-/// first entry, and judges each entry on the record before it.
+/// first entry, and judges each entry on the record before it. For a table it does so twice.
 pub(crate) fn print_causes<W: Write>(
     alloc: Global,
     ledger: &Ledger,
@@ -39,8 +45,68 @@ pub(crate) fn print_causes<W: Write>(
     ensures { Prints (W.contents out.old) (W.contents out.new) result
         (rows_text form (map (λ n. n.now) names.now) (cause_rows ledger.now form asked.now)) }
 {
-    print_heading(alloc, form, names, out)?;
-    print_each(alloc, ledger, asked, form, names, out)
+    let columns = cause_columns(alloc, ledger, asked, form, names)?;
+    print_heading(alloc, form, &columns, out)?;
+    print_each(alloc, ledger, asked, form, &columns, out)
+}
+
+/// The columns of the report.
+fn cause_columns<'a>(
+    alloc: Global,
+    ledger: &Ledger,
+    asked: &EntryFilter,
+    form: Form,
+    names: &'a [&'a str],
+) -> Result<Columns<'a>, NoMemory>
+    ensures names { IfOk result
+        (λ columns. names_in columns ≡ map (λ n. n.now) names.entry.now) }
+    ensures widths { IfOk result (λ columns. columns.widths.items ≡ widths_in form
+        (map (λ n. n.now) names.entry.now) (cause_rows ledger.now form asked.now)) }
+{
+    let widths = match form {
+        Form::Plain | Form::Csv | Form::Json => Vec::new(alloc),
+        Form::Table => cause_widths(alloc, ledger, asked, names)?,
+    };
+    Ok(Columns { names, widths })
+}
+
+/// The widths of the columns of a table.
+fn cause_widths(
+    alloc: Global,
+    ledger: &Ledger,
+    asked: &EntryFilter,
+    names: &[&str],
+) -> Result<Vec<usize>, NoMemory>
+    ensures { IfOk result (λ widths. widths.items ≡ widths_in Form.Table
+        (map (λ n. n.now) names.now) (cause_rows ledger.now Form.Table asked.now)) }
+{
+    let mut widths = name_widths(alloc, names)?;
+    let mut before = past(alloc, ledger, 0)?;
+    for i in 0..ledger.entry_count() as usize {
+        widen_to_wanted(alloc, ledger, &before, i, asked, &mut widths)?;
+        post_next(alloc, ledger, &mut before, i)?;
+    }
+    Ok(widths)
+}
+
+/// Widens the columns to the row of the entry at index `i`, if the list has it.
+fn widen_to_wanted(
+    alloc: Global,
+    ledger: &Ledger,
+    before: &Ledger,
+    i: usize,
+    asked: &EntryFilter,
+    widths: &mut Vec<usize>,
+) -> Result<(), NoMemory>
+    requires within { i < length ledger.now.posted }
+    requires before { before.now ≡ upto ledger.now i }
+    ensures { OnOk result (widths.new.items ≡ wider widths.old.items
+        (column_widths (map row_texts (cause_rows_at ledger.now Form.Table asked.now i)))) }
+{
+    match wanted_row(alloc, ledger, before, i, asked, Form::Table)? {
+        None => Ok(()),
+        Some(row) => widen_to_row(alloc, widths, row.as_slice()),
+    }
 }
 
 /// Prints the lines of these entries.
@@ -49,15 +115,16 @@ fn print_each<W: Write>(
     ledger: &Ledger,
     asked: &EntryFilter,
     form: Form,
-    names: &[&str],
+    columns: &Columns<'_>,
     out: &mut W,
 ) -> Result<(), PrintFault>
     ensures { Prints (W.contents out.old) (W.contents out.new) result
-        (lines_text form (map (λ n. n.now) names.now) (cause_rows ledger.now form asked.now)) }
+        (lines_text form (names_in columns.now) columns.now.widths.items
+        (cause_rows ledger.now form asked.now)) }
 {
     let mut before = past(alloc, ledger, 0)?;
     for i in 0..ledger.entry_count() as usize {
-        print_wanted(alloc, ledger, &before, i, asked, form, names, out)?;
+        print_wanted(alloc, ledger, &before, i, asked, form, columns, out)?;
         post_next(alloc, ledger, &mut before, i)?;
     }
     Ok(())
@@ -72,23 +139,42 @@ fn print_wanted<W: Write>(
     i: usize,
     asked: &EntryFilter,
     form: Form,
-    names: &[&str],
+    columns: &Columns<'_>,
     out: &mut W,
 ) -> Result<(), PrintFault>
     requires within { i < length ledger.now.posted }
     requires before { before.now ≡ upto ledger.now i }
     ensures { Prints (W.contents out.old) (W.contents out.new) result
-        (lines_text form (map (λ n. n.now) names.now)
+        (lines_text form (names_in columns.now) columns.now.widths.items
         (cause_rows_at ledger.now form asked.now i)) }
+{
+    match wanted_row(alloc, ledger, before, i, asked, form)? {
+        None => Ok(()),
+        Some(row) => print_line(alloc, form, columns, row.as_slice(), out),
+    }
+}
+
+/// The row of the entry at index `i`, if the list has it.
+fn wanted_row<'a>(
+    alloc: Global,
+    ledger: &Ledger,
+    before: &'a Ledger,
+    i: usize,
+    asked: &EntryFilter,
+    form: Form,
+) -> Result<Option<Vec<Field<'a>>>, NoMemory>
+    requires within { i < length ledger.now.posted }
+    requires before { before.now ≡ upto ledger.now i }
+    ensures { IfOk result (λ row. option_to_list (option_map (λ r. map cell_of r.items) row)
+        ≡ cause_rows_at ledger.now form asked.now i) }
 {
     let _ = ledger.entry_count();
     let number = i as u64 + 1;
     let entry = entry_at(ledger, i);
     if !is_wanted(alloc, ledger.setup(), asked, number, entry)? {
-        return Ok(());
+        return Ok(None);
     }
-    let row = cause_row(alloc, before, form, number, entry)?;
-    print_line(alloc, form, names, row.as_slice(), out)
+    Ok(Some(cause_row(alloc, before, form, number, entry)?))
 }
 
 /// The row of an entry, from the record before it.
@@ -105,7 +191,9 @@ fn cause_row<'a>(
     let message = entry.message().to_message(alloc)?;
     match form {
         Form::Plain => cause_words(alloc, before, number, entry, &message),
-        Form::Csv | Form::Json => cause_values(alloc, before, number, entry, &message),
+        Form::Csv | Form::Json | Form::Table => cause_values(
+            alloc, before, number, entry, &message,
+        ),
     }
 }
 

@@ -1,5 +1,4 @@
 use Rattle.std.proofs.Common.{◌≡◌, ◌++◌, filter, map, take}
-use Rattle.reports.specs.declared.reports.dues.Due.{Due}
 use Rattle.reports.specs.declared.reports.loans.Phase.TheVariants.{Out}
 use Rattle.reports.specs.LoanLists.{is_at}
 use Rattle.reports.specs.Terms.{agreement_with}

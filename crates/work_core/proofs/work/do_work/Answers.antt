@@ -1,0 +1,19 @@
+use Rattle.std.proofs.Common.{inr}
+use Rattle.std.proofs.lemmas.Result.{on_ok_weaker, IfErr-weaker}
+use Rattle.work_core.proofs.work.do_work.Goals as goal
+
+pub returns-in-Ok-clause-did : goal.returns-in-Ok-clause-did
+returns-in-Ok-clause-did g c =
+    on_ok_weaker c.done.result.1
+    (λ done. record { hub = c.in-Ok.hub; opened = c.in-Ok.ensures.opened; done = done })
+    c.done.ensures.does
+
+pub returns-in-Ok-clause-stopped : goal.returns-in-Ok-clause-stopped
+returns-in-Ok-clause-stopped g c =
+    IfErr-weaker c.done.result.1 _ _
+    (λ fault stopped. inr (record {
+      hub = c.in-Ok.hub;
+      opened = c.in-Ok.ensures.opened;
+      stopped = stopped;
+    }))
+    c.done.ensures.stops

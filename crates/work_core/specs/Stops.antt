@@ -1,0 +1,91 @@
+-- Defines how work on a record can stop, and what it leaves then. `i` and `i'` are the bytes that
+-- the reader has left before and after, `o` and `o'` those that the writer holds.
+use Rattle.std.specs.Prelude.{ℕ, ◌≡◌, ◌⊎◌, true, List, Option}
+use Rattle.hub_core.specs.declared.hub.answer.Arrival.{Arrival}
+use Rattle.hub_core.specs.declared.replay_fault.ReplayFault.{ReplayFault}
+use Rattle.hub_core.specs.Openings.{Opened, IsNotOpened}
+use Rattle.hub_core.specs.Replayed as replayed
+use Rattle.hub_core.specs.StandsFor.{State, StandsFor}
+use Rattle.nest_core.specs.Museum.{Museum}
+use Rattle.past_core.specs.Past.{as_of}
+use Rattle.posting_core.specs.declared.entry.Entry.{Entry}
+use Rattle.register_store.specs.Holdings.{Holding, Comes}
+use Rattle.register_store.specs.declared.store_fault.StoreFault.{StoreFault}
+use Rattle.reports.specs.declared.fault.PrintFault.{PrintFault}
+use Rattle.reports.specs.Forms as forms
+use Rattle.reports.specs.Reports.{report_text}
+use Rattle.serve_core.specs.declared.item.Item.{Item}
+use Rattle.serve_core.specs.declared.item.LogLine.{LogLine}
+use Rattle.serve_core.specs.declared.serve_fault.ServeFault.{ServeFault}
+use Rattle.serve_core.specs.Logs.{Serves}
+use Rattle.serve_core.specs.Sending as serving
+use Rattle.work_core.specs.Faults.{of_printing, of_replay, of_store}
+use Rattle.work_core.specs.declared.fault.WorkFault.{WorkFault}
+use Rattle.work_core.specs.declared.fault.WorkFault.TheVariants.{NoMemory}
+use Rattle.work_core.specs.declared.work.Work.{Work}
+use Rattle.work_core.specs.declared.work.Work.TheVariants.{Replay, Print, Serve}
+
+-- A fault came in the lines, or all lines were answered, and there was no memory for the notes.
+abbrev pub LeavesLines : {R : Type 0} → (R → Holding) → State R → State R → List Entry
+    → List Arrival → Option (List ℕ) → Option (List ℕ) → Option (List ℕ) → Option (List ℕ)
+    → WorkFault → Type 0
+LeavesLines holding hub ended O A i i' o o' fault =
+    ((cause : ReplayFault) × (fault ≡ of_replay cause)
+    × replayed.AfterFault hub.book.museum hub.book.depth O A i i' o o' holding ended cause)
+    ⊎ ((fault ≡ NoMemory)
+    × replayed.Answered hub.book.museum hub.book.depth O A i i' o o' holding ended true)
+
+-- A replay stopped. The register is that of the hub as the fault left it.
+pub record StopsReplay {R : Type 0} (holding : R → Holding) (hub : State R) (register : R)
+    (i i' o o' : Option (List ℕ)) (fault : WorkFault) : Type 0 where
+  pub ended : State R
+  pub register_is : ended.register ≡ register
+  pub left : (O : List Entry) (A : List Arrival) → StandsFor holding hub O A
+      → LeavesLines holding hub ended O A i i' o o' fault
+
+-- A report stopped: a front of its text is written, and whole lines of it if memory ran out.
+abbrev pub StopsReport : Option (List ℕ) → Option (List ℕ) → List ℕ → WorkFault → Type 0
+StopsReport o o' text fault =
+    (cause : PrintFault) × (fault ≡ of_printing cause) × forms.Stops o o' cause text
+
+-- A serving stopped. The hub took the messages of a log; some of its lines may not be printed.
+pub record StopsServing {R : Type 0} (holding : R → Holding) (hub : State R) (register : R)
+    (feeds : List (List Item)) : Type 0 where
+  pub ended : State R
+  pub register_is : ended.register ≡ register
+  pub log : List LogLine
+  pub taken : Serves holding hub ended log
+      ⊎ ((cause : ServeFault) × serving.AfterFault holding hub ended feeds log cause)
+
+-- The work stopped, and what it left: the register, and the text that was written.
+abbrev pub Stops : {R : Type 0} → (R → Holding) → State R → R → Work → Option (List ℕ)
+    → Option (List ℕ) → Option (List ℕ) → Option (List ℕ) → WorkFault → Type 0
+Stops holding hub register (Replay why) i i' o o' fault =
+    StopsReplay holding hub register i i' o o' fault
+Stops holding hub register (Print question form upto) i i' o o' fault =
+    (register ≡ hub.register)
+    × StopsReport o o' (report_text form (as_of upto hub.book) question) fault
+Stops holding hub register (Serve feeds) i i' o o' fault =
+    StopsServing holding hub register feeds.items
+
+-- No hub was opened over the register `before`. Nothing was read or written.
+pub record NotOpened {R : Type 0} (holding : R → Holding) (S : Museum) (before register : R)
+    (i i' o o' : Option (List ℕ)) (fault : WorkFault) : Type 0 where
+  pub cause : StoreFault
+  pub is : fault ≡ of_store cause
+  pub comes : Comes (holding before) (holding register) (IsNotOpened S cause)
+  pub unread : i' ≡ i
+  pub unwritten : o' ≡ o
+
+-- A hub was opened over the register `before`, and the work stopped.
+pub record OpenedAndStopped {R : Type 0} (holding : R → Holding) (S : Museum) (before register : R)
+    (work : Work) (i i' o o' : Option (List ℕ)) (fault : WorkFault) : Type 0 where
+  pub hub : State R
+  pub opened : Opened holding S before hub
+  pub stopped : Stops holding hub register work i i' o o' fault
+
+abbrev pub Stopped : {R : Type 0} → (R → Holding) → Museum → R → R → Work → Option (List ℕ)
+    → Option (List ℕ) → Option (List ℕ) → Option (List ℕ) → WorkFault → Type 0
+Stopped holding S before register work i i' o o' fault =
+    NotOpened holding S before register i i' o o' fault
+    ⊎ OpenedAndStopped holding S before register work i i' o o' fault

@@ -1,0 +1,67 @@
+-- Defines the work of a command on a record, and what it leaves. `i` and `i'` are the bytes that
+-- the reader has left before and after, `o` and `o'` those that the writer holds.
+use Rattle.std.specs.Prelude.{ℕ, ◌≡◌, ⊤, List, Option, [], reverse, vec_len}
+use Rattle.std.specs.List.{flat_map}
+use Rattle.std.specs.Io.KnownBytes.{Appends}
+use Rattle.hub_core.specs.declared.hub.answer.Arrival.{Arrival}
+use Rattle.hub_core.specs.declared.outcome.Outcome.{Outcome}
+use Rattle.hub_core.specs.Openings.{Opened}
+use Rattle.hub_core.specs.Outcomes.{Watched}
+use Rattle.hub_core.specs.StandsFor.{State, StandsFor}
+use Rattle.nest_core.specs.Museum.{Museum}
+use Rattle.past_core.specs.Past.{as_of}
+use Rattle.posting_core.specs.declared.entry.Entry.{Entry}
+use Rattle.register_store.specs.Holdings.{Holding}
+use Rattle.reports.specs.Reports.{report_text}
+use Rattle.serve_core.specs.declared.item.Item.{Item}
+use Rattle.serve_core.specs.declared.item.LogLine.{LogLine}
+use Rattle.serve_core.specs.Logs.{Serves}
+use Rattle.serve_core.specs.Sending.{IsMerge}
+use Rattle.serve_core.specs.Wording.{logged_text}
+use Rattle.work_core.specs.declared.work.Work.{Work}
+use Rattle.work_core.specs.declared.work.Work.TheVariants.{Replay, Print, Serve}
+
+-- To serve n stations takes n feeds. Other work has none.
+abbrev pub HasFeeds : ℕ → Work → Type 0
+HasFeeds n (Replay why) = ⊤
+HasFeeds n (Print question form upto) = ⊤
+HasFeeds n (Serve feeds) = vec_len feeds ≡ n
+
+-- All lines that were read are answered, and the watch has seen their outcomes. The register is
+-- that of a hub that has taken the messages of these lines.
+pub record HasReplayed {R : Type 0} (holding : R → Holding) (hub : State R) (register : R)
+    (had_seen has_seen : List Outcome → Type 0) (i i' o o' : Option (List ℕ)) : Type 0 where
+  pub ended : State R
+  pub register_is : ended.register ≡ register
+  pub answered : (O : List Entry) (A : List Arrival) → StandsFor holding hub O A
+      → Watched hub.book.museum hub.book.depth O A i i' o o' holding ended had_seen has_seen
+
+-- All items of the feeds are answered, and the log is written. The register is that of a hub that
+-- has taken the log's messages.
+pub record HasServed {R : Type 0} (holding : R → Holding) (hub : State R) (register : R)
+    (feeds : List (List Item)) (o o' : Option (List ℕ)) : Type 0 where
+  pub ended : State R
+  pub register_is : ended.register ≡ register
+  pub log : List LogLine
+  pub merge : IsMerge feeds log
+  pub serves : Serves holding hub ended log
+  pub written : Appends o o'
+      (flat_map (logged_text ended.book.museum (reverse ended.book.posted)) log)
+
+-- The work that was done with a hub, and what it left: the register, and the text that was written.
+abbrev pub Does : {R : Type 0} → (R → Holding) → State R → R → Work → (List Outcome → Type 0)
+    → (List Outcome → Type 0) → Option (List ℕ) → Option (List ℕ) → Option (List ℕ)
+    → Option (List ℕ) → Type 0
+Does holding hub register (Replay why) had_seen has_seen i i' o o' =
+    HasReplayed holding hub register had_seen has_seen i i' o o'
+Does holding hub register (Print question form upto) had_seen has_seen i i' o o' =
+    (register ≡ hub.register) × Appends o o' (report_text form (as_of upto hub.book) question)
+Does holding hub register (Serve feeds) had_seen has_seen i i' o o' =
+    HasServed holding hub register feeds.items o o'
+
+-- A hub was opened over the register `before`, and did the work.
+pub record Did {R : Type 0} (holding : R → Holding) (S : Museum) (before register : R) (work : Work)
+    (had_seen has_seen : List Outcome → Type 0) (i i' o o' : Option (List ℕ)) : Type 0 where
+  pub hub : State R
+  pub opened : Opened holding S before hub
+  pub done : Does holding hub register work had_seen has_seen i i' o o'

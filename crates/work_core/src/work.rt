@@ -1,0 +1,123 @@
+//! Opens a hub over a register, and does the work of a command with it.
+ghost use Rattle.std.specs.Prelude.{◌≡◌, false, length, OnOk, IfErr};
+ghost use Rattle.work_core.specs.Stops.{Stops, Stopped};
+ghost use Rattle.work_core.specs.Works.{HasFeeds, Does, Did};
+
+use crate::WorkFault;
+use crate::printing::printed;
+use crate::replaying::replayed;
+use crate::serving::served;
+use hub_core::{Hub, Watch};
+use nest_core::Setup;
+use register_store::Register;
+use reports::{Form, Question};
+use serve_core::TextFeed;
+use std::alloc::Global;
+use std::io::{BufRead, Write};
+use std::sync::Wait;
+use std::thread::Threads;
+
+/// The work of a command on a record.
+#[derive(Drop)]
+pub enum Work {
+    /// Answers the lines of the input. With `why`, a note explains each entry of these lines that
+    /// wasn't applied.
+    Replay {
+        why: bool,
+    },
+    /// Prints the answer to a question in this form. With `upto`, the answer is that of the record
+    /// as it was after this entry.
+    Print {
+        question: Question,
+        form: Form,
+        upto: Option<u64>,
+    },
+    /// Serves all stations, each from its feed, and prints the log.
+    Serve(Vec<TextFeed>),
+}
+
+impl Work {
+    /// Returns whether the work begins a record if the store has none.
+    pub fn begins_record(&self) -> bool {
+        !matches!(self, Work::Print { .. })
+    }
+}
+
+/// Opens a hub with this setup over the register, and does the work with it. Returns the register
+/// and, if the work stopped, its fault. A serving needs a feed for each station.
+///
+/// Faults, in this order: those of [`Hub::open`]; those of the work. A replay has those of
+/// [`replay_watched`](hub_core::replay_watched), a report those of
+/// [`print_as_of`](reports::print_as_of), and a serving those of [`serve`](serve_core::serve) and
+/// WriteFailed. NoMemory can come instead of any of them, also for a note at the end.
+pub fn do_work<
+    T: Threads + Wait + Sync + Copy + Send + 'static,
+    S: Register,
+    V: Watch,
+    R: BufRead,
+    W: Write,
+>(
+    threads: &T,
+    alloc: Global,
+    setup: Setup,
+    register: S,
+    work: Work,
+    watch: &mut V,
+    input: &mut R,
+    output: &mut W,
+    notes: &mut String,
+) -> (S, Result<(), WorkFault>)
+    requires { HasFeeds (length setup.stations) work }
+    // The work is done: a hub was opened over the register, and its work has left the result.
+    ensures did { OnOk result.1 (Did S.holding setup register result.0 work
+        (V.has_seen watch.old) (V.has_seen watch.new)
+        (R.remaining input.old) (R.remaining input.new)
+        (W.contents output.old) (W.contents output.new)) }
+    // No hub could be opened, or its work stopped.
+    ensures stopped { IfErr result.1 (Stopped S.holding setup register result.0 work
+        (R.remaining input.old) (R.remaining input.new)
+        (W.contents output.old) (W.contents output.new)) }
+{
+    match Hub::open(alloc, setup, register) {
+        Ok(hub) => done(threads, alloc, hub, work, watch, input, output, notes),
+        Err(failed) => (failed.register, Err(WorkFault::from(failed.fault))),
+    }
+}
+
+/// Does the work with the hub. Returns the hub's register, and the fault if there is one.
+fn done<
+    T: Threads + Wait + Sync + Copy + Send + 'static,
+    S: Register,
+    V: Watch,
+    R: BufRead,
+    W: Write,
+>(
+    threads: &T,
+    alloc: Global,
+    hub: Hub<S>,
+    work: Work,
+    watch: &mut V,
+    input: &mut R,
+    output: &mut W,
+    notes: &mut String,
+) -> (S, Result<(), WorkFault>)
+    requires feeds { HasFeeds (length hub.book.museum.stations) work }
+    requires up { hub.down ≡ false }
+    ensures does { OnOk result.1 (Does S.holding hub result.0 work
+        (V.has_seen watch.old) (V.has_seen watch.new)
+        (R.remaining input.old) (R.remaining input.new)
+        (W.contents output.old) (W.contents output.new)) }
+    ensures stops { IfErr result.1 (Stops S.holding hub result.0 work
+        (R.remaining input.old) (R.remaining input.new)
+        (W.contents output.old) (W.contents output.new)) }
+{
+    match work {
+        Work::Replay { why } => replayed(threads, alloc, hub, why, watch, input, output, notes),
+        Work::Print {
+            question,
+            form,
+            upto,
+        } => printed(threads, alloc, hub, &question, form, upto, output, notes),
+        Work::Serve(feeds) => served(threads, alloc, hub, feeds, output, notes),
+    }
+}
