@@ -82,7 +82,7 @@ def functions(crate):
                 inside = None
             head = HEAD.match(line)
             if head and (inside or not head[1]):
-                # a method stands in the module of its type
-                own = next((it for it in types if inside and inside.name.startswith(it)), None)
+                # a method stands in the module of its type, or in its file's if the type's arguments are in its name
+                own = next((it for it in types if inside and "+" not in inside.name and inside.name.startswith(it)), None)
                 found.append(Function(crate, file, lines, at, inside, homes.get(own, module_of(file))))
     return found

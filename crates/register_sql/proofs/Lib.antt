@@ -9,7 +9,10 @@ pub mod Posted
 pub mod Listings
 pub mod Cells
 pub mod Contents
+pub mod Refusals
+pub mod Failures
 pub mod Ends
+pub mod Steps
 pub mod Wholes
 pub mod Creates
 pub mod Created
@@ -33,6 +36,7 @@ pub mod Raised
 pub mod Migrations
 mod WorkedRows
 mod WorkedFirst
+mod WorkedFailures
 pub mod Runs
 pub mod Blank
 pub mod Newness

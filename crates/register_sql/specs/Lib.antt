@@ -4,6 +4,7 @@ pub mod Tables
 pub mod Rows
 pub mod Changes
 pub mod Posting
+pub mod Failing
 pub mod Shown
 pub mod Making
 pub mod Queries

@@ -8,10 +8,10 @@ ghost use Rattle.register_store.specs.Plain.{held_lines, term_rows};
 ghost use Rattle.register_store.specs.Registers.{is_failure};
 ghost use Rattle.register_store.specs.StoredRows as stored;
 ghost use Rattle.register_store.specs.StoredRows.{HasRows, spot_row, line_row};
+ghost use Rattle.register_sql.specs.Failing.{IsReading};
 ghost use Rattle.register_sql.specs.Fits.{IsNoSpot};
 ghost use Rattle.register_sql.specs.Found.{spots_shown, lines_shown, terms_shown, AreFound};
-ghost use Rattle.register_sql.specs.Posting.{Survived};
-ghost use Rattle.register_sql.specs.Queries.{shown_in, IsPart, IsSame};
+ghost use Rattle.register_sql.specs.Queries.{shown_in, IsPart};
 ghost use Rattle.register_sql.specs.Rows.{AreRows};
 
 use crate::mismatch::are_strange;
@@ -206,13 +206,10 @@ fn compare(
 /// Reads the rows of the loan lines and of the last days.
 fn loan_rows<S: Alter>(conn: &mut Connection<S>) -> Result<(Vec<Row>, Vec<Row>), Error>
     requires part { HasCleanDisk (state S.Store conn.old) → IsPart 6 (state S.Store conn.old) }
-    ensures between { conn.old.in_transaction ≡ false → conn.new.in_transaction ≡ false }
     ensures rows { HasCleanDisk (state S.Store conn.new) → IfOk result (λ rows.
         IsPermutation (shown_in Query.Lines (state S.Store conn.old).now.trees) rows.0.items
         × IsPermutation (shown_in Query.Terms (state S.Store conn.old).now.trees) rows.1.items) }
-    ensures same { HasCleanDisk (state S.Store conn.new)
-        → OnOk result (IsSame (state S.Store conn.old) (state S.Store conn.new)) }
-    ensures survives { Survived (state S.Store conn.old) (state S.Store conn.new) }
+    ensures reading { IsReading (state S.Store conn.old) (state S.Store conn.new) result }
 {
     let lines = read(conn, Query::Lines, 6)?;
     let terms = read(conn, Query::Terms, 6)?;
@@ -227,15 +224,12 @@ pub(crate) fn agrees<S: Alter>(
     ledger: &Ledger,
 ) -> Result<Result<bool, StoreFault>, Error>
     requires part { HasCleanDisk (state S.Store conn.old) → IsPart 6 (state S.Store conn.old) }
-    ensures between { conn.old.in_transaction ≡ false → conn.new.in_transaction ≡ false }
     ensures told { HasCleanDisk (state S.Store conn.new)
         → IfOk result (λ answer. IfOk answer (λ same.
         (c : stored.Content) → AreRows (state S.Store conn.old).now.trees c
         → Decides same (HasRows ledger.now.museum ledger.now.posted c))) }
     ensures faults { IfOk result (λ answer. IfErr answer (λ fault. is_failure fault ≡ true)) }
-    ensures same { HasCleanDisk (state S.Store conn.new)
-        → OnOk result (IsSame (state S.Store conn.old) (state S.Store conn.new)) }
-    ensures survives { Survived (state S.Store conn.old) (state S.Store conn.new) }
+    ensures reading { IsReading (state S.Store conn.old) (state S.Store conn.new) result }
 {
     let spots = read(conn, Query::Spots, 6)?;
     let loans = loan_rows(conn)?;

@@ -1,12 +1,12 @@
 //! Binds a store to a setup: fills a new store, or compares an old one.
-ghost use Rattle.std.specs.Prelude.{◌≡◌, ◌≢◌, ◌≤◌, [], true, false, IfOk, IfErr, OnOk};
+ghost use Rattle.std.specs.Prelude.{◌≡◌, ◌≤◌, [], true, false, IfOk, IfErr};
 ghost use Rattle.std.specs.List.Sorted.{IsPermutation};
 ghost use Rattle.sqlite.specs.Held.{state};
 ghost use Rattle.sqlite.specs.State.{HasCleanDisk, Survives};
 ghost use Rattle.register_sql.specs.Binding.{IsSettled, IsRefused, IsBoundAs, IsNewness};
 ghost use Rattle.register_sql.specs.Binding.{LeavesBound};
-ghost use Rattle.register_sql.specs.Posting.{Survived};
-ghost use Rattle.register_sql.specs.Queries.{shown_in, IsPart, IsSame};
+ghost use Rattle.register_sql.specs.Failing.{Excused, IsReading};
+ghost use Rattle.register_sql.specs.Queries.{shown_in, IsPart};
 ghost use Rattle.register_sql.specs.Rows.{had};
 ghost use Rattle.register_sql.specs.Says.{IsIdentity};
 ghost use Rattle.register_sql.specs.declared.identity.Identity.TheVariants as told;
@@ -46,6 +46,7 @@ fn make_new<S: Alter>(
         (IsRefused setup.now (state S.Store conn.old) (state S.Store conn.new))) }
     ensures crash { Survives (state S.Store conn.old) (state S.Store conn.new)
         (LeavesBound setup.now (state S.Store conn.old)) }
+    ensures excused { Excused (state S.Store conn.old) (state S.Store conn.new) result }
 {
     let apart = are_all_apart(conn, made)?;
     if !apart {
@@ -84,6 +85,7 @@ fn compare<S: Alter>(
         (IsRefused setup.now (state S.Store conn.old) (state S.Store conn.new))) }
     ensures crash { Survives (state S.Store conn.old) (state S.Store conn.new)
         (LeavesBound setup.now (state S.Store conn.old)) }
+    ensures excused { Excused (state S.Store conn.old) (state S.Store conn.new) result }
 {
     let answer = has_setup(alloc, conn, setup, made)?;
     let same = match answer {
@@ -122,6 +124,7 @@ fn bind_told<S: Alter>(
         (IsRefused setup.now (state S.Store conn.old) (state S.Store conn.new))) }
     ensures crash { Survives (state S.Store conn.old) (state S.Store conn.new)
         (LeavesBound setup.now (state S.Store conn.old)) }
+    ensures excused { Excused (state S.Store conn.old) (state S.Store conn.new) result }
 {
     let identity = identity_of(conn, made)?;
     match identity {
@@ -156,6 +159,7 @@ pub(crate) fn bind<S: Alter>(
         (IsRefused setup.now (state S.Store conn.old) (state S.Store conn.new))) }
     ensures crash { Survives (state S.Store conn.old) (state S.Store conn.new)
         (LeavesBound setup.now (state S.Store conn.old)) }
+    ensures excused { Excused (state S.Store conn.old) (state S.Store conn.new) result }
 {
     let found = match tables_made(alloc, conn.schema()) {
         Ok(found) => found,
@@ -183,12 +187,9 @@ pub(crate) fn is_new<S: Alter>(
 ) -> Result<Result<bool, NoMemory>, Error>
     requires settled { HasCleanDisk (state S.Store conn.old) → IsSettled (state S.Store conn.old) }
     requires between { conn.old.in_transaction ≡ false }
-    ensures between { conn.new.in_transaction ≡ false }
     ensures told { HasCleanDisk (state S.Store conn.new)
         → IfOk result (λ answer. IfOk answer (IsNewness (state S.Store conn.old).now)) }
-    ensures same { HasCleanDisk (state S.Store conn.new)
-        → OnOk result (IsSame (state S.Store conn.old) (state S.Store conn.new)) }
-    ensures survives { Survived (state S.Store conn.old) (state S.Store conn.new) }
+    ensures reading { IsReading (state S.Store conn.old) (state S.Store conn.new) result }
 {
     let found = match tables_made(alloc, conn.schema()) {
         Ok(found) => found,

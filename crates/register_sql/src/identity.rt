@@ -1,7 +1,7 @@
 //! Reads the information about a store in its tables `meta` and `setup`: its version, its depth
 //! limit and its setup.
 ghost use Rattle.std.specs.Prelude.{◌≡◌, ◌<◌, ◌≤◌, ◌+◌, ◌∷◌, [], pos, ℕ, ℤ, true, false, map};
-ghost use Rattle.std.specs.Prelude.{codes, length, IfOk, IfSome, IfNone, OnOk, string_bytes};
+ghost use Rattle.std.specs.Prelude.{codes, length, IfOk, IfSome, IfNone, string_bytes};
 ghost use Rattle.std.specs.Bool.{Decides};
 ghost use Rattle.std.specs.List.Sorted.{IsPermutation};
 ghost use Rattle.nest_core.specs.SetupTexts.{setup_rows};
@@ -10,8 +10,8 @@ ghost use Rattle.sqlite.specs.Order.{column};
 ghost use Rattle.sqlite.specs.State.{HasCleanDisk};
 ghost use Rattle.sqlite.specs.declared.types.Value.TheVariants.{Int, Text};
 ghost use Rattle.register_store.specs.StoredRows.{is_depth};
-ghost use Rattle.register_sql.specs.Posting.{Survived};
-ghost use Rattle.register_sql.specs.Queries.{shown_in, IsPart, IsSame};
+ghost use Rattle.register_sql.specs.Failing.{IsReading};
+ghost use Rattle.register_sql.specs.Queries.{shown_in, IsPart};
 ghost use Rattle.register_sql.specs.Says.{IsOther, HasOther, IsWhole, IsIdentity, setup_rows_shown};
 ghost use Rattle.register_sql.specs.Says.{setup_in};
 ghost use Rattle.register_sql.specs.Shown.{setup_shown};
@@ -163,13 +163,10 @@ pub(crate) fn identity_of<S: Alter>(
     requires some { 1 ≤ made }
     requires few { made ≤ 6 }
     requires part { HasCleanDisk (state S.Store conn.old) → IsPart made (state S.Store conn.old) }
-    ensures between { conn.old.in_transaction ≡ false → conn.new.in_transaction ≡ false }
     ensures told { HasCleanDisk (state S.Store conn.new) → IfOk result (λ told. (rows : _)
         × IsPermutation (shown_in Query.Metas (state S.Store conn.old).now.trees) rows
         × IsIdentity rows told) }
-    ensures same { HasCleanDisk (state S.Store conn.new)
-        → OnOk result (IsSame (state S.Store conn.old) (state S.Store conn.new)) }
-    ensures survives { Survived (state S.Store conn.old) (state S.Store conn.new) }
+    ensures reading { IsReading (state S.Store conn.old) (state S.Store conn.new) result }
 {
     let rows = read(conn, Query::Metas, made)?;
     Ok(judge(&rows))
@@ -206,13 +203,10 @@ fn has_texts<S: Alter>(
 ) -> Result<bool, Error>
     requires few { made ≤ 6 }
     requires part { HasCleanDisk (state S.Store conn.old) → IsPart made (state S.Store conn.old) }
-    ensures between { conn.old.in_transaction ≡ false → conn.new.in_transaction ≡ false }
     ensures told { HasCleanDisk (state S.Store conn.new) → IfOk result (λ same. Decides same
         (IsPermutation (setup_rows_shown (map string_bytes texts.now))
         (setup_in made (state S.Store conn.old).now.trees))) }
-    ensures same { HasCleanDisk (state S.Store conn.new)
-        → OnOk result (IsSame (state S.Store conn.old) (state S.Store conn.new)) }
-    ensures survives { Survived (state S.Store conn.old) (state S.Store conn.new) }
+    ensures reading { IsReading (state S.Store conn.old) (state S.Store conn.new) result }
 {
     if made < 2 {
         return Ok(are_setup(&[], texts));
@@ -232,14 +226,11 @@ pub(crate) fn has_setup<S: Alter>(
 ) -> Result<Result<bool, NoMemory>, Error>
     requires few { made ≤ 6 }
     requires part { HasCleanDisk (state S.Store conn.old) → IsPart made (state S.Store conn.old) }
-    ensures between { conn.old.in_transaction ≡ false → conn.new.in_transaction ≡ false }
     ensures told { HasCleanDisk (state S.Store conn.new)
         → IfOk result (λ answer. IfOk answer (λ same. Decides same
         (IsPermutation (setup_rows_shown (setup_rows setup.now))
         (setup_in made (state S.Store conn.old).now.trees)))) }
-    ensures same { HasCleanDisk (state S.Store conn.new)
-        → OnOk result (IsSame (state S.Store conn.old) (state S.Store conn.new)) }
-    ensures survives { Survived (state S.Store conn.old) (state S.Store conn.new) }
+    ensures reading { IsReading (state S.Store conn.old) (state S.Store conn.new) result }
 {
     let texts = match row_texts(alloc, setup) {
         Ok(texts) => texts,

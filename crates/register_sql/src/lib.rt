@@ -15,6 +15,8 @@
 //! - `bind` leaves the rows of an old store as they are. A store with other tables, another version
 //!   or another setup is rejected.
 //! - A register that has stopped, because a statement failed, returns Store from each later call.
+//!   It stops only if memory ran out, the disk failed or refused a call, or the database refused a
+//!   statement.
 //! - After a close the next run has the same rows ([`closed_and_opened`]). After a kill it has only
 //!   rows that this run may have had ([`left_and_opened`]).
 //!
@@ -36,6 +38,7 @@ mod list;
 mod make;
 mod migrate;
 mod mismatch;
+mod opening;
 mod put;
 mod queries;
 mod row_values;

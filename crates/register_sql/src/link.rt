@@ -9,6 +9,7 @@ ghost use Rattle.register_store.specs.Registers.{Stops, is_failure, is_of_listin
 ghost use Rattle.register_store.specs.Registers.{IsListFault};
 ghost use Rattle.register_store.specs.StoredRows.{AreSame, HasList, HasRows, IsBoundTo};
 ghost use Rattle.register_sql.specs.Binding.{IsNewness, IsUnfitFor, LeavesBound};
+ghost use Rattle.register_sql.specs.Failing.{StopsFor};
 ghost use Rattle.register_sql.specs.Migrating.{Migrates, IsNotMigrated, IsCompleted, IsUnfit};
 ghost use Rattle.register_sql.specs.Posting.{LeavesPosted};
 ghost use Rattle.register_sql.specs.Stores.{in_store, IsKept};
@@ -26,7 +27,8 @@ use std::alloc::Global;
 
 /// A connection, whether a setup is bound to its store, and the error of the statement that failed,
 /// if one has. A failed statement may close the connection. So each function below returns Store at
-/// once if an earlier call has stopped the link.
+/// once if an earlier call has stopped the link. It stops the link only for the error of a failed
+/// statement.
 pub(crate) struct Link<S: Alter> {
     pub(crate) conn: Connection<S>,
     pub(crate) bound: bool,
@@ -83,6 +85,8 @@ pub(crate) fn bind_store<S: Alter>(
     ensures crash { Survives (state S.Store link.old.conn) (state S.Store link.new.conn)
         (LeavesBound setup.now (state S.Store link.old.conn)) }
     ensures stops { Stops (is_some link.old.stopped) (is_some link.new.stopped) result }
+    ensures excused { StopsFor (state S.Store link.old.conn) (state S.Store link.new.conn)
+        (is_some link.old.stopped) (is_some link.new.stopped) link.new.stopped result }
 {
     if let Some(_) = link.stopped {
         return Err(StoreFault::Store);
@@ -109,6 +113,8 @@ pub(crate) fn store_is_new<S: Alter>(alloc: Global, link: &mut Link<S>) -> Resul
         (in_store (state S.Store link.new.conn)) AreSame }
     ensures still { link.new.bound ≡ link.old.bound }
     ensures stops { Stops (is_some link.old.stopped) (is_some link.new.stopped) result }
+    ensures excused { StopsFor (state S.Store link.old.conn) (state S.Store link.new.conn)
+        (is_some link.old.stopped) (is_some link.new.stopped) link.new.stopped result }
     ensures store { result ≡ Err StoreFault.Store → is_some link.new.stopped ≡ true }
 {
     if let Some(_) = link.stopped {
@@ -142,6 +148,8 @@ pub(crate) fn migrate_store<S: Alter>(
         → result ≡ Err StoreFault.Store → IsUnfit setup.now (state S.Store link.old.conn).now }
     ensures still { link.new.bound ≡ link.old.bound }
     ensures stops { Stops (is_some link.old.stopped) (is_some link.new.stopped) result }
+    ensures excused { StopsFor (state S.Store link.old.conn) (state S.Store link.new.conn)
+        (is_some link.old.stopped) (is_some link.new.stopped) link.new.stopped result }
 {
     if let Some(_) = link.stopped {
         return Err(StoreFault::Store);
@@ -173,6 +181,8 @@ pub(crate) fn list_store<S: Alter>(
         (in_store (state S.Store link.new.conn)) AreSame }
     ensures still { link.new.bound ≡ link.old.bound }
     ensures stops { Stops (is_some link.old.stopped) (is_some link.new.stopped) result }
+    ensures excused { StopsFor (state S.Store link.old.conn) (state S.Store link.new.conn)
+        (is_some link.old.stopped) (is_some link.new.stopped) link.new.stopped result }
     ensures store { result ≡ Err StoreFault.Store → is_some link.new.stopped ≡ true }
 {
     if let Some(_) = link.stopped {
@@ -205,6 +215,8 @@ pub(crate) fn post_to_store<S: Alter>(
     ensures crash { Survives (state S.Store link.old.conn) (state S.Store link.new.conn)
         (LeavesPosted entry.now changes.now (state S.Store link.old.conn)) }
     ensures stops { Stops (is_some link.old.stopped) (is_some link.new.stopped) result }
+    ensures excused { StopsFor (state S.Store link.old.conn) (state S.Store link.new.conn)
+        (is_some link.old.stopped) (is_some link.new.stopped) link.new.stopped result }
     ensures store { result ≡ Err StoreFault.Store → is_some link.new.stopped ≡ true }
 {
     if let Some(_) = link.stopped {
@@ -237,6 +249,8 @@ pub(crate) fn store_agrees<S: Alter>(
         (in_store (state S.Store link.new.conn)) AreSame }
     ensures still { link.new.bound ≡ link.old.bound }
     ensures stops { Stops (is_some link.old.stopped) (is_some link.new.stopped) result }
+    ensures excused { StopsFor (state S.Store link.old.conn) (state S.Store link.new.conn)
+        (is_some link.old.stopped) (is_some link.new.stopped) link.new.stopped result }
 {
     if let Some(_) = link.stopped {
         return Err(StoreFault::Store);

@@ -1,6 +1,5 @@
 //! Reads the entries of a whole store, in the order of their numbers.
-ghost use Rattle.std.specs.Prelude.{◌≡◌, ◌≢◌, true, false, map, reverse, All, ℕ, List, IfOk, IfErr};
-ghost use Rattle.std.specs.Prelude.{OnOk};
+ghost use Rattle.std.specs.Prelude.{◌≡◌, ◌≢◌, true, map, reverse, All, ℕ, List, IfOk, IfErr};
 ghost use Rattle.sqlite.specs.Held.{state};
 ghost use Rattle.sqlite.specs.State.{HasCleanDisk};
 ghost use Rattle.register_store.specs.Plain.{posting_row};
@@ -8,8 +7,8 @@ ghost use Rattle.register_store.specs.Registers.{is_of_listing, IsOfStation, IsW
 ghost use Rattle.register_store.specs.Registers.{IsListFault};
 ghost use Rattle.register_store.specs.StoredRows as stored;
 ghost use Rattle.register_store.specs.StoredRows.{IsPostingRow, ArePostings, HasList};
-ghost use Rattle.register_sql.specs.Posting.{Survived};
-ghost use Rattle.register_sql.specs.Queries.{IsPart, IsSame};
+ghost use Rattle.register_sql.specs.Failing.{IsReading};
+ghost use Rattle.register_sql.specs.Queries.{IsPart};
 ghost use Rattle.register_sql.specs.Rows.{AreRows};
 ghost use Rattle.register_sql.specs.Shown.{posting_shown, FitsPosting};
 
@@ -106,7 +105,6 @@ pub(crate) fn list<S: Alter>(
     stations: u32,
 ) -> Result<Result<Vec<Entry>, StoreFault>, Error>
     requires part { HasCleanDisk (state S.Store conn.old) → IsPart 6 (state S.Store conn.old) }
-    ensures between { conn.old.in_transaction ≡ false → conn.new.in_transaction ≡ false }
     ensures listed { HasCleanDisk (state S.Store conn.new)
         → IfOk result (λ answer. IfOk answer (λ entries.
         (c : stored.Content) → AreRows (state S.Store conn.old).now.trees c
@@ -119,9 +117,7 @@ pub(crate) fn list<S: Alter>(
         → IfOk result (λ answer. IfErr answer (λ fault.
         (c : stored.Content) → AreRows (state S.Store conn.old).now.trees c
         → IsListFault stations c fault)) }
-    ensures same { HasCleanDisk (state S.Store conn.new)
-        → OnOk result (IsSame (state S.Store conn.old) (state S.Store conn.new)) }
-    ensures survives { Survived (state S.Store conn.old) (state S.Store conn.new) }
+    ensures reading { IsReading (state S.Store conn.old) (state S.Store conn.new) result }
 {
     let rows = read(conn, Query::Postings, 6)?;
     let answer = entries_of(alloc, &rows, stations);

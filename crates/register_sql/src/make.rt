@@ -1,13 +1,14 @@
 //! Creates and fills the tables of a new store, in one transaction.
-ghost use Rattle.std.specs.Prelude.{◌≡◌, ◌<◌, ◌≤◌, ◌+◌, ◌∷◌, [], OnOk, OnErr, IsTrue, false, pos};
-ghost use Rattle.std.specs.Prelude.{map, string_bytes};
+ghost use Rattle.std.specs.Prelude.{◌≡◌, ◌<◌, ◌≤◌, ◌+◌, ◌^◌, ◌∷◌, [], OnOk, OnErr, IsTrue, false};
+ghost use Rattle.std.specs.Prelude.{map, pos, string_bytes};
 ghost use Rattle.sqlite.specs.Held.{state};
 ghost use Rattle.sqlite.specs.State.{HasCleanDisk, Survives};
 ghost use Rattle.register_store.specs.StoredRows.{rows_of_meta};
+ghost use Rattle.register_sql.specs.Failing.{Excused, IsStep};
 ghost use Rattle.register_sql.specs.Making.{create_of, setup_from, IsMaking, Went, Grown};
 ghost use Rattle.register_sql.specs.Making.{ClearsSetup, AddsSetup, ReplacesSetup, AddsMeta, Fills};
 ghost use Rattle.register_sql.specs.Making.{MakesWhole, IsMadeWhole, LeavesMade};
-ghost use Rattle.register_sql.specs.Posting.{Kept, Survived, IsBack};
+ghost use Rattle.register_sql.specs.Posting.{IsBack};
 ghost use Rattle.register_sql.specs.Queries.{IsPart};
 ghost use Rattle.register_sql.specs.Rows.{had, Apart};
 
@@ -41,8 +42,7 @@ pub(crate) fn make_at<S: Alter>(tx: &mut Transaction<'_, S>, at: usize) -> Resul
     ensures same_reference { tx.new.conn.ghost_name ≡ tx.old.conn.ghost_name }
     ensures wrote { Went (state S.Store tx.old.conn.now) (state S.Store tx.new.conn.now) result
         (at + 1) (Grown at (at + 1)) }
-    ensures kept { Kept (state S.Store tx.old.conn.now) (state S.Store tx.new.conn.now) }
-    ensures survives { Survived (state S.Store tx.old.conn.now) (state S.Store tx.new.conn.now) }
+    ensures step { IsStep (state S.Store tx.old.conn.now) (state S.Store tx.new.conn.now) result }
 {
     let text = create_text(at);
     run(tx, text, &[])
@@ -55,8 +55,7 @@ fn make_rest<S: Alter>(tx: &mut Transaction<'_, S>, made: usize) -> Result<(), E
     ensures same_reference { tx.new.conn.ghost_name ≡ tx.old.conn.ghost_name }
     ensures wrote { Went (state S.Store tx.old.conn.now) (state S.Store tx.new.conn.now) result
         6 (Grown made 6) }
-    ensures kept { Kept (state S.Store tx.old.conn.now) (state S.Store tx.new.conn.now) }
-    ensures survives { Survived (state S.Store tx.old.conn.now) (state S.Store tx.new.conn.now) }
+    ensures step { IsStep (state S.Store tx.old.conn.now) (state S.Store tx.new.conn.now) result }
 {
     'tables: for at in made..6 {
         make_at(tx, at)?;
@@ -73,22 +72,21 @@ fn clear_setup<S: Alter>(tx: &mut Transaction<'_, S>) -> Result<(), Error>
     ensures same_reference { tx.new.conn.ghost_name ≡ tx.old.conn.ghost_name }
     ensures wrote { Went (state S.Store tx.old.conn.now) (state S.Store tx.new.conn.now) result
         6 ClearsSetup }
-    ensures kept { Kept (state S.Store tx.old.conn.now) (state S.Store tx.new.conn.now) }
-    ensures survives { Survived (state S.Store tx.old.conn.now) (state S.Store tx.new.conn.now) }
+    ensures step { IsStep (state S.Store tx.old.conn.now) (state S.Store tx.new.conn.now) result }
 {
     run(tx, "DELETE FROM setup", &[])
 }
 
 /// Adds a row of the setup.
 fn add_setup<S: Alter>(tx: &mut Transaction<'_, S>, number: u64, text: &str) -> Result<(), Error>
-    requires { IsMaking 6 (state S.Store tx.old.conn.now) }
+    requires made { IsMaking 6 (state S.Store tx.old.conn.now) }
+    requires small { number < 2 ^ 63 }
     ensures same_reference { tx.new.conn.ghost_name ≡ tx.old.conn.ghost_name }
     ensures wrote { Went (state S.Store tx.old.conn.now) (state S.Store tx.new.conn.now) result
         6 (AddsSetup (record { id = pos number; text = text.now } ∷ [])) }
-    ensures kept { Kept (state S.Store tx.old.conn.now) (state S.Store tx.new.conn.now) }
-    ensures survives { Survived (state S.Store tx.old.conn.now) (state S.Store tx.new.conn.now) }
+    ensures step { IsStep (state S.Store tx.old.conn.now) (state S.Store tx.new.conn.now) result }
 {
-    let id = wide(number)?;
+    let id = wide(number);
     run(
         tx,
         "INSERT INTO setup (id, txt) VALUES (?1, ?2)",
@@ -102,8 +100,7 @@ fn add_setups<S: Alter>(tx: &mut Transaction<'_, S>, texts: &[String]) -> Result
     ensures same_reference { tx.new.conn.ghost_name ≡ tx.old.conn.ghost_name }
     ensures wrote { Went (state S.Store tx.old.conn.now) (state S.Store tx.new.conn.now) result
         6 (AddsSetup (setup_from 1 (map string_bytes texts.now))) }
-    ensures kept { Kept (state S.Store tx.old.conn.now) (state S.Store tx.new.conn.now) }
-    ensures survives { Survived (state S.Store tx.old.conn.now) (state S.Store tx.new.conn.now) }
+    ensures step { IsStep (state S.Store tx.old.conn.now) (state S.Store tx.new.conn.now) result }
 {
     'texts: for at in 0..texts.len() {
         add_setup(tx, at as u64 + 1, texts[at].as_str())?;
@@ -117,8 +114,7 @@ fn add_meta<S: Alter>(tx: &mut Transaction<'_, S>, name: &str, val: u32) -> Resu
     ensures same_reference { tx.new.conn.ghost_name ≡ tx.old.conn.ghost_name }
     ensures wrote { Went (state S.Store tx.old.conn.now) (state S.Store tx.new.conn.now) result
         6 (AddsMeta (record { name = name.now; val = pos val } ∷ [])) }
-    ensures kept { Kept (state S.Store tx.old.conn.now) (state S.Store tx.new.conn.now) }
-    ensures survives { Survived (state S.Store tx.old.conn.now) (state S.Store tx.new.conn.now) }
+    ensures step { IsStep (state S.Store tx.old.conn.now) (state S.Store tx.new.conn.now) result }
 {
     run(
         tx,
@@ -133,8 +129,7 @@ pub(crate) fn add_metas<S: Alter>(tx: &mut Transaction<'_, S>, depth: u32) -> Re
     ensures same_reference { tx.new.conn.ghost_name ≡ tx.old.conn.ghost_name }
     ensures wrote { Went (state S.Store tx.old.conn.now) (state S.Store tx.new.conn.now) result
         6 (AddsMeta (rows_of_meta depth)) }
-    ensures kept { Kept (state S.Store tx.old.conn.now) (state S.Store tx.new.conn.now) }
-    ensures survives { Survived (state S.Store tx.old.conn.now) (state S.Store tx.new.conn.now) }
+    ensures step { IsStep (state S.Store tx.old.conn.now) (state S.Store tx.new.conn.now) result }
 {
     add_meta(tx, "depth", depth)?;
     let version = add_meta(tx, "version", 2);
@@ -150,8 +145,7 @@ fn replace_setup<S: Alter>(tx: &mut Transaction<'_, S>, texts: &[String]) -> Res
     ensures same_reference { tx.new.conn.ghost_name ≡ tx.old.conn.ghost_name }
     ensures wrote { Went (state S.Store tx.old.conn.now) (state S.Store tx.new.conn.now) result
         6 (ReplacesSetup (setup_from 1 (map string_bytes texts.now))) }
-    ensures kept { Kept (state S.Store tx.old.conn.now) (state S.Store tx.new.conn.now) }
-    ensures survives { Survived (state S.Store tx.old.conn.now) (state S.Store tx.new.conn.now) }
+    ensures step { IsStep (state S.Store tx.old.conn.now) (state S.Store tx.new.conn.now) result }
 {
     clear_setup(tx)?;
     add_setups(tx, texts)
@@ -166,8 +160,7 @@ fn fill<S: Alter>(tx: &mut Transaction<'_, S>, texts: &[String], depth: u32) -> 
     ensures same_reference { tx.new.conn.ghost_name ≡ tx.old.conn.ghost_name }
     ensures wrote { Went (state S.Store tx.old.conn.now) (state S.Store tx.new.conn.now) result
         6 (Fills (setup_from 1 (map string_bytes texts.now)) (rows_of_meta depth)) }
-    ensures kept { Kept (state S.Store tx.old.conn.now) (state S.Store tx.new.conn.now) }
-    ensures survives { Survived (state S.Store tx.old.conn.now) (state S.Store tx.new.conn.now) }
+    ensures step { IsStep (state S.Store tx.old.conn.now) (state S.Store tx.new.conn.now) result }
 {
     replace_setup(tx, texts)?;
     add_metas(tx, depth)
@@ -188,8 +181,7 @@ fn make_all<S: Alter>(
     ensures same_reference { tx.new.conn.ghost_name ≡ tx.old.conn.ghost_name }
     ensures wrote { Went (state S.Store tx.old.conn.now) (state S.Store tx.new.conn.now) result
         6 (MakesWhole made (setup_from 1 (map string_bytes texts.now)) (rows_of_meta depth)) }
-    ensures kept { Kept (state S.Store tx.old.conn.now) (state S.Store tx.new.conn.now) }
-    ensures survives { Survived (state S.Store tx.old.conn.now) (state S.Store tx.new.conn.now) }
+    ensures step { IsStep (state S.Store tx.old.conn.now) (state S.Store tx.new.conn.now) result }
 {
     make_rest(tx, made)?;
     fill(tx, texts, depth)
@@ -219,6 +211,7 @@ pub(crate) fn make_whole<S: Alter>(
     ensures crash { Survives (state S.Store conn.old) (state S.Store conn.new)
         (LeavesMade made (setup_from 1 (map string_bytes texts.now)) (rows_of_meta depth)
         (state S.Store conn.old)) }
+    ensures excused { Excused (state S.Store conn.old) (state S.Store conn.new) result }
 {
     let _live = conn.schema();
     let _between = conn.is_autocommit();

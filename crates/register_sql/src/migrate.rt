@@ -10,10 +10,10 @@ ghost use Rattle.sqlite.specs.State.{HasCleanDisk, Survives};
 ghost use Rattle.register_store.specs.StoredRows.{rows_of_terms};
 ghost use Rattle.register_sql.specs.Ages.{IsAged};
 ghost use Rattle.register_sql.specs.Binding.{IsSettled};
+ghost use Rattle.register_sql.specs.Failing.{Excused, IsReading};
 ghost use Rattle.register_sql.specs.Migrating.{days_given, AreFirstApart, IsFirstOf, IsRaisable};
 ghost use Rattle.register_sql.specs.Migrating.{IsRaised, IsLeft, LeavesMoved};
-ghost use Rattle.register_sql.specs.Posting.{Survived};
-ghost use Rattle.register_sql.specs.Queries.{shown_in, IsPart, IsSame};
+ghost use Rattle.register_sql.specs.Queries.{shown_in, IsPart};
 ghost use Rattle.register_sql.specs.declared.version.Age.TheVariants as age;
 
 use crate::identity::has_setup;
@@ -42,12 +42,9 @@ pub fn given_days_are_of_looking_back()
 /// listed: `meta`, the setup, the entries and the loan lines.
 fn are_first_apart<S: Alter>(conn: &mut Connection<S>) -> Result<bool, Error>
     requires part { HasCleanDisk (state S.Store conn.old) → IsPart 5 (state S.Store conn.old) }
-    ensures between { conn.old.in_transaction ≡ false → conn.new.in_transaction ≡ false }
     ensures told { HasCleanDisk (state S.Store conn.new) → IfOk result (λ apart.
         Decides apart (AreFirstApart (state S.Store conn.old).now.trees)) }
-    ensures same { HasCleanDisk (state S.Store conn.new)
-        → OnOk result (IsSame (state S.Store conn.old) (state S.Store conn.new)) }
-    ensures survives { Survived (state S.Store conn.old) (state S.Store conn.new) }
+    ensures reading { IsReading (state S.Store conn.old) (state S.Store conn.new) result }
 {
     let metas = is_apart(conn, Query::MetaIds, 5)?;
     if !metas {
@@ -74,6 +71,7 @@ fn move_entries<S: Alter>(
         (IsLeft setup.now (state S.Store conn.old) (state S.Store conn.new))) }
     ensures crash { Survives (state S.Store conn.old) (state S.Store conn.new)
         (LeavesMoved setup.now (state S.Store conn.old)) }
+    ensures excused { Excused (state S.Store conn.old) (state S.Store conn.new) result }
 {
     let listed = early_list(alloc, conn, setup.stations())?;
     let entries = match listed {
@@ -102,6 +100,7 @@ fn move_first<S: Alter>(
         (IsLeft setup.now (state S.Store conn.old) (state S.Store conn.new))) }
     ensures crash { Survives (state S.Store conn.old) (state S.Store conn.new)
         (LeavesMoved setup.now (state S.Store conn.old)) }
+    ensures excused { Excused (state S.Store conn.old) (state S.Store conn.new) result }
 {
     let apart = are_first_apart(conn)?;
     if !apart {
@@ -134,6 +133,7 @@ fn compare_first<S: Alter>(
         (IsLeft setup.now (state S.Store conn.old) (state S.Store conn.new))) }
     ensures crash { Survives (state S.Store conn.old) (state S.Store conn.new)
         (LeavesMoved setup.now (state S.Store conn.old)) }
+    ensures excused { Excused (state S.Store conn.old) (state S.Store conn.new) result }
 {
     let answer = has_setup(alloc, conn, setup, made)?;
     let same = match answer {
@@ -168,6 +168,7 @@ fn migrate_told<S: Alter>(
         (IsLeft setup.now (state S.Store conn.old) (state S.Store conn.new))) }
     ensures crash { Survives (state S.Store conn.old) (state S.Store conn.new)
         (LeavesMoved setup.now (state S.Store conn.old)) }
+    ensures excused { Excused (state S.Store conn.old) (state S.Store conn.new) result }
 {
     let age = age_in(conn, made)?;
     match age {
@@ -198,6 +199,7 @@ pub(crate) fn migrate<S: Alter>(
         (IsLeft setup.now (state S.Store conn.old) (state S.Store conn.new))) }
     ensures crash { Survives (state S.Store conn.old) (state S.Store conn.new)
         (LeavesMoved setup.now (state S.Store conn.old)) }
+    ensures excused { Excused (state S.Store conn.old) (state S.Store conn.new) result }
 {
     let found = match tables_made(alloc, conn.schema()) {
         Ok(found) => found,

@@ -1,13 +1,14 @@
 //! Adds an entry with its spots, loan lines and last day to a whole store, in one transaction.
-ghost use Rattle.std.specs.Prelude.{◌≡◌, ◌≤◌, ◌^◌, Ok, OnOk, OnErr, IfOk, IfErr, IsTrue, false};
+ghost use Rattle.std.specs.Prelude.{◌≡◌, ◌<◌, ◌^◌, Ok, OnOk, OnErr, IsTrue, false};
 ghost use Rattle.std.specs.Prelude.{pos, ℕ};
 ghost use Rattle.sqlite.specs.Held.{state};
 ghost use Rattle.sqlite.specs.State.{ExecutesInside, HasCleanDisk, Survives};
 ghost use Rattle.sqlite.specs.Values.{bound};
 ghost use Rattle.register_store.specs.Plain.{posting_row};
 ghost use Rattle.register_store.specs.StoredRows.{spot_row, line_row, term_of, with_posted};
+ghost use Rattle.register_sql.specs.Failing.{Excused, IsStep};
 ghost use Rattle.register_sql.specs.Posting as step;
-ghost use Rattle.register_sql.specs.Posting.{IsWithin, Wrote, Kept, Survived, IsReady, IsDone};
+ghost use Rattle.register_sql.specs.Posting.{IsWithin, Wrote, IsReady, IsDone};
 ghost use Rattle.register_sql.specs.Posting.{IsBack, LeavesWhole};
 
 use codes_core::{Day, LoanCode};
@@ -16,15 +17,12 @@ use register_store::{KeptPosting, term_of};
 use sqlite::{Alter, Connection, Error, Transaction, params};
 use sqlite_value::value::ValueRef;
 
-/// The number as a cell takes it. Fails from 2^63 on.
-pub(crate) fn wide(number: u64) -> Result<i64, Error>
-    ensures number { IfOk result (λ n. n ≡ pos number) }
-    ensures none { IfErr result (λ fault. 2 ^ 63 ≤ number) }
+/// The number as a cell takes it.
+pub(crate) fn wide(number: u64) -> i64
+    requires { number < 2 ^ 63 }
+    ensures { result ≡ pos number }
 {
-    match i64::try_from(number) {
-        Ok(n) => Ok(n),
-        Err(_) => Err(Error::IntegralValueOutOfRange(0)),
-    }
+    number as i64
 }
 
 /// Runs a statement inside the transaction.
@@ -38,8 +36,7 @@ pub(crate) fn run<S: Alter>(
         → IsTrue (state S.Store tx.old.conn.now).in_transaction
         → OnOk result ((count : ℕ) × ExecutesInside 0 text.now (bound given.now)
         (state S.Store tx.old.conn.now) (state S.Store tx.new.conn.now) (Ok count)) }
-    ensures kept { Kept (state S.Store tx.old.conn.now) (state S.Store tx.new.conn.now) }
-    ensures survives { Survived (state S.Store tx.old.conn.now) (state S.Store tx.new.conn.now) }
+    ensures step { IsStep (state S.Store tx.old.conn.now) (state S.Store tx.new.conn.now) result }
 {
     tx.execute(text, given)?;
     Ok(())
@@ -47,14 +44,14 @@ pub(crate) fn run<S: Alter>(
 
 /// Adds the row of an entry.
 fn put_posting<S: Alter>(tx: &mut Transaction<'_, S>, row: &KeptPosting) -> Result<(), Error>
-    requires { IsWithin (state S.Store tx.old.conn.now) }
+    requires within { IsWithin (state S.Store tx.old.conn.now) }
+    requires small { row.now.id < 2 ^ 63 }
     ensures same_reference { tx.new.conn.ghost_name ≡ tx.old.conn.ghost_name }
     ensures wrote { Wrote (state S.Store tx.old.conn.now) (state S.Store tx.new.conn.now) result
         (step.with_posting (posting_row row.now)) }
-    ensures kept { Kept (state S.Store tx.old.conn.now) (state S.Store tx.new.conn.now) }
-    ensures survives { Survived (state S.Store tx.old.conn.now) (state S.Store tx.new.conn.now) }
+    ensures step { IsStep (state S.Store tx.old.conn.now) (state S.Store tx.new.conn.now) result }
 {
-    let id = wide(row.id)?;
+    let id = wide(row.id);
     run(
         tx,
         "INSERT INTO posting (id, station, n, body, verdict) VALUES (?1, ?2, ?3, ?4, ?5)",
@@ -74,8 +71,7 @@ fn put_spot<S: Alter>(tx: &mut Transaction<'_, S>, spot: &NewSpot) -> Result<(),
     ensures same_reference { tx.new.conn.ghost_name ≡ tx.old.conn.ghost_name }
     ensures wrote { Wrote (state S.Store tx.old.conn.now) (state S.Store tx.new.conn.now) result
         (step.with_spot (spot_row spot.now)) }
-    ensures kept { Kept (state S.Store tx.old.conn.now) (state S.Store tx.new.conn.now) }
-    ensures survives { Survived (state S.Store tx.old.conn.now) (state S.Store tx.new.conn.now) }
+    ensures step { IsStep (state S.Store tx.old.conn.now) (state S.Store tx.new.conn.now) result }
 {
     run(
         tx,
@@ -96,8 +92,7 @@ fn put_spots<S: Alter>(tx: &mut Transaction<'_, S>, spots: &[NewSpot]) -> Result
     ensures same_reference { tx.new.conn.ghost_name ≡ tx.old.conn.ghost_name }
     ensures wrote { Wrote (state S.Store tx.old.conn.now) (state S.Store tx.new.conn.now) result
         (step.with_each (λ s. step.with_spot (spot_row s)) spots.now) }
-    ensures kept { Kept (state S.Store tx.old.conn.now) (state S.Store tx.new.conn.now) }
-    ensures survives { Survived (state S.Store tx.old.conn.now) (state S.Store tx.new.conn.now) }
+    ensures step { IsStep (state S.Store tx.old.conn.now) (state S.Store tx.new.conn.now) result }
 {
     'spots: for spot in spots {
         put_spot(tx, spot)?;
@@ -111,8 +106,7 @@ fn clear_line<S: Alter>(tx: &mut Transaction<'_, S>, line: &NewLine) -> Result<(
     ensures same_reference { tx.new.conn.ghost_name ≡ tx.old.conn.ghost_name }
     ensures wrote { Wrote (state S.Store tx.old.conn.now) (state S.Store tx.new.conn.now) result
         (step.without_line (line_row line.now)) }
-    ensures kept { Kept (state S.Store tx.old.conn.now) (state S.Store tx.new.conn.now) }
-    ensures survives { Survived (state S.Store tx.old.conn.now) (state S.Store tx.new.conn.now) }
+    ensures step { IsStep (state S.Store tx.old.conn.now) (state S.Store tx.new.conn.now) result }
 {
     run(
         tx,
@@ -127,8 +121,7 @@ fn add_line<S: Alter>(tx: &mut Transaction<'_, S>, line: &NewLine) -> Result<(),
     ensures same_reference { tx.new.conn.ghost_name ≡ tx.old.conn.ghost_name }
     ensures wrote { Wrote (state S.Store tx.old.conn.now) (state S.Store tx.new.conn.now) result
         (step.more_line (line_row line.now)) }
-    ensures kept { Kept (state S.Store tx.old.conn.now) (state S.Store tx.new.conn.now) }
-    ensures survives { Survived (state S.Store tx.old.conn.now) (state S.Store tx.new.conn.now) }
+    ensures step { IsStep (state S.Store tx.old.conn.now) (state S.Store tx.new.conn.now) result }
 {
     run(
         tx,
@@ -147,8 +140,7 @@ fn put_line<S: Alter>(tx: &mut Transaction<'_, S>, line: &NewLine) -> Result<(),
     ensures same_reference { tx.new.conn.ghost_name ≡ tx.old.conn.ghost_name }
     ensures wrote { Wrote (state S.Store tx.old.conn.now) (state S.Store tx.new.conn.now) result
         (step.with_line (line_row line.now)) }
-    ensures kept { Kept (state S.Store tx.old.conn.now) (state S.Store tx.new.conn.now) }
-    ensures survives { Survived (state S.Store tx.old.conn.now) (state S.Store tx.new.conn.now) }
+    ensures step { IsStep (state S.Store tx.old.conn.now) (state S.Store tx.new.conn.now) result }
 {
     clear_line(tx, line)?;
     add_line(tx, line)
@@ -160,8 +152,7 @@ fn put_lines<S: Alter>(tx: &mut Transaction<'_, S>, lines: &[NewLine]) -> Result
     ensures same_reference { tx.new.conn.ghost_name ≡ tx.old.conn.ghost_name }
     ensures wrote { Wrote (state S.Store tx.old.conn.now) (state S.Store tx.new.conn.now) result
         (step.with_each (λ l. step.with_line (line_row l)) lines.now) }
-    ensures kept { Kept (state S.Store tx.old.conn.now) (state S.Store tx.new.conn.now) }
-    ensures survives { Survived (state S.Store tx.old.conn.now) (state S.Store tx.new.conn.now) }
+    ensures step { IsStep (state S.Store tx.old.conn.now) (state S.Store tx.new.conn.now) result }
 {
     'lines: for line in lines {
         put_line(tx, line)?;
@@ -175,8 +166,7 @@ fn clear_term<S: Alter>(tx: &mut Transaction<'_, S>, term: &(LoanCode, Day)) -> 
     ensures same_reference { tx.new.conn.ghost_name ≡ tx.old.conn.ghost_name }
     ensures wrote { Wrote (state S.Store tx.old.conn.now) (state S.Store tx.new.conn.now) result
         (step.without_term (record { loan = term.now.0; day = term.now.1 })) }
-    ensures kept { Kept (state S.Store tx.old.conn.now) (state S.Store tx.new.conn.now) }
-    ensures survives { Survived (state S.Store tx.old.conn.now) (state S.Store tx.new.conn.now) }
+    ensures step { IsStep (state S.Store tx.old.conn.now) (state S.Store tx.new.conn.now) result }
 {
     run(
         tx,
@@ -191,8 +181,7 @@ fn add_term<S: Alter>(tx: &mut Transaction<'_, S>, term: &(LoanCode, Day)) -> Re
     ensures same_reference { tx.new.conn.ghost_name ≡ tx.old.conn.ghost_name }
     ensures wrote { Wrote (state S.Store tx.old.conn.now) (state S.Store tx.new.conn.now) result
         (step.more_term (record { loan = term.now.0; day = term.now.1 })) }
-    ensures kept { Kept (state S.Store tx.old.conn.now) (state S.Store tx.new.conn.now) }
-    ensures survives { Survived (state S.Store tx.old.conn.now) (state S.Store tx.new.conn.now) }
+    ensures step { IsStep (state S.Store tx.old.conn.now) (state S.Store tx.new.conn.now) result }
 {
     run(
         tx,
@@ -207,8 +196,7 @@ fn put_term<S: Alter>(tx: &mut Transaction<'_, S>, term: &(LoanCode, Day)) -> Re
     ensures same_reference { tx.new.conn.ghost_name ≡ tx.old.conn.ghost_name }
     ensures wrote { Wrote (state S.Store tx.old.conn.now) (state S.Store tx.new.conn.now) result
         (step.with_term (record { loan = term.now.0; day = term.now.1 })) }
-    ensures kept { Kept (state S.Store tx.old.conn.now) (state S.Store tx.new.conn.now) }
-    ensures survives { Survived (state S.Store tx.old.conn.now) (state S.Store tx.new.conn.now) }
+    ensures step { IsStep (state S.Store tx.old.conn.now) (state S.Store tx.new.conn.now) result }
 {
     clear_term(tx, term)?;
     add_term(tx, term)
@@ -223,8 +211,7 @@ pub(crate) fn put_some_term<S: Alter>(
     ensures same_reference { tx.new.conn.ghost_name ≡ tx.old.conn.ghost_name }
     ensures wrote { Wrote (state S.Store tx.old.conn.now) (state S.Store tx.new.conn.now) result
         (step.with_some_term (term_of entry.now)) }
-    ensures kept { Kept (state S.Store tx.old.conn.now) (state S.Store tx.new.conn.now) }
-    ensures survives { Survived (state S.Store tx.old.conn.now) (state S.Store tx.new.conn.now) }
+    ensures step { IsStep (state S.Store tx.old.conn.now) (state S.Store tx.new.conn.now) result }
 {
     if let Some(term) = term_of(entry) {
         put_term(tx, &term)?;
@@ -238,13 +225,13 @@ fn put_first<S: Alter>(
     row: &KeptPosting,
     changes: &Changes,
 ) -> Result<(), Error>
-    requires { IsWithin (state S.Store tx.old.conn.now) }
+    requires within { IsWithin (state S.Store tx.old.conn.now) }
+    requires small { row.now.id < 2 ^ 63 }
     ensures same_reference { tx.new.conn.ghost_name ≡ tx.old.conn.ghost_name }
     ensures wrote { Wrote (state S.Store tx.old.conn.now) (state S.Store tx.new.conn.now) result
         (λ c. step.with_each (λ s. step.with_spot (spot_row s)) changes.now.spots
         (step.with_posting (posting_row row.now) c)) }
-    ensures kept { Kept (state S.Store tx.old.conn.now) (state S.Store tx.new.conn.now) }
-    ensures survives { Survived (state S.Store tx.old.conn.now) (state S.Store tx.new.conn.now) }
+    ensures step { IsStep (state S.Store tx.old.conn.now) (state S.Store tx.new.conn.now) result }
 {
     put_posting(tx, row)?;
     put_spots(tx, changes.spots.as_slice())
@@ -261,8 +248,7 @@ fn put_last<S: Alter>(
     ensures wrote { Wrote (state S.Store tx.old.conn.now) (state S.Store tx.new.conn.now) result
         (λ c. step.with_some_term (term_of entry.now)
         (step.with_each (λ l. step.with_line (line_row l)) changes.now.lines c)) }
-    ensures kept { Kept (state S.Store tx.old.conn.now) (state S.Store tx.new.conn.now) }
-    ensures survives { Survived (state S.Store tx.old.conn.now) (state S.Store tx.new.conn.now) }
+    ensures step { IsStep (state S.Store tx.old.conn.now) (state S.Store tx.new.conn.now) result }
 {
     put_lines(tx, changes.lines.as_slice())?;
     put_some_term(tx, entry)
@@ -275,12 +261,12 @@ fn put_rows<S: Alter>(
     entry: &Entry,
     changes: &Changes,
 ) -> Result<(), Error>
-    requires { IsWithin (state S.Store tx.old.conn.now) }
+    requires within { IsWithin (state S.Store tx.old.conn.now) }
+    requires small { row.now.id < 2 ^ 63 }
     ensures same_reference { tx.new.conn.ghost_name ≡ tx.old.conn.ghost_name }
     ensures wrote { Wrote (state S.Store tx.old.conn.now) (state S.Store tx.new.conn.now) result
         (with_posted (posting_row row.now) entry.now changes.now) }
-    ensures kept { Kept (state S.Store tx.old.conn.now) (state S.Store tx.new.conn.now) }
-    ensures survives { Survived (state S.Store tx.old.conn.now) (state S.Store tx.new.conn.now) }
+    ensures step { IsStep (state S.Store tx.old.conn.now) (state S.Store tx.new.conn.now) result }
 {
     put_first(tx, row, changes)?;
     put_last(tx, entry, changes)
@@ -297,6 +283,7 @@ pub(crate) fn put_whole<S: Alter>(
 ) -> Result<(), Error>
     requires ready { HasCleanDisk (state S.Store conn.old) → IsReady (state S.Store conn.old) }
     requires between { (state S.Store conn.old).in_transaction ≡ false }
+    requires small { row.now.id < 2 ^ 63 }
     ensures between { (state S.Store conn.new).in_transaction ≡ false }
     ensures posted { HasCleanDisk (state S.Store conn.new)
         → OnOk result (IsDone (state S.Store conn.old) (state S.Store conn.new)
@@ -306,6 +293,7 @@ pub(crate) fn put_whole<S: Alter>(
     ensures crash { Survives (state S.Store conn.old) (state S.Store conn.new)
         (LeavesWhole (state S.Store conn.old)
         (with_posted (posting_row row.now) entry.now changes.now)) }
+    ensures excused { Excused (state S.Store conn.old) (state S.Store conn.new) result }
 {
     let _between = conn.is_autocommit();
     let mut tx = conn.transaction();

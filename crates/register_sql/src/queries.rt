@@ -1,11 +1,10 @@
 //! The queries that read a store's tables.
-ghost use Rattle.std.specs.Prelude.{◌≡◌, ◌≤◌, false, IfOk, OnOk};
+ghost use Rattle.std.specs.Prelude.{◌≡◌, ◌≤◌, IfOk};
 ghost use Rattle.std.specs.List.Sorted.{IsPermutation};
 ghost use Rattle.sqlite.specs.Held.{state};
 ghost use Rattle.sqlite.specs.State.{HasCleanDisk};
-ghost use Rattle.register_sql.specs.Posting.{Survived};
+ghost use Rattle.register_sql.specs.Failing.{IsReading};
 ghost use Rattle.register_sql.specs.Queries.{text_of, least_of, shown_in, IsInOrder, IsPart};
-ghost use Rattle.register_sql.specs.Queries.{IsSame};
 
 use sqlite::{Alter, Connection, Error, Row};
 
@@ -67,14 +66,11 @@ pub(crate) fn read<S: Alter>(
     requires some { least_of query ≤ made }
     requires few { made ≤ 6 }
     requires part { HasCleanDisk (state S.Store conn.old) → IsPart made (state S.Store conn.old) }
-    ensures between { conn.old.in_transaction ≡ false → conn.new.in_transaction ≡ false }
     ensures rows { HasCleanDisk (state S.Store conn.new) → IfOk result (λ rows.
         IsPermutation (shown_in query (state S.Store conn.old).now.trees) rows.items) }
     ensures order { HasCleanDisk (state S.Store conn.new)
         → IfOk result (λ rows. IsInOrder query rows.items) }
-    ensures same { HasCleanDisk (state S.Store conn.new)
-        → OnOk result (IsSame (state S.Store conn.old) (state S.Store conn.new)) }
-    ensures survives { Survived (state S.Store conn.old) (state S.Store conn.new) }
+    ensures reading { IsReading (state S.Store conn.old) (state S.Store conn.new) result }
 {
     let text = text_of(query);
     conn.query_all(text, &[])

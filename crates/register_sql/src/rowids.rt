@@ -1,14 +1,14 @@
 //! Checks that rowids are distinct numbers. A database made elsewhere could have others, and
 //! deleting a row by its key would then delete more than one.
-ghost use Rattle.std.specs.Prelude.{◌≡◌, ◌≤◌, true, false, IfOk, IfSome, IfNone, OnOk, IsTrue};
+ghost use Rattle.std.specs.Prelude.{◌≡◌, ◌≤◌, true, false, IfOk, IfSome, IfNone, IsTrue};
 ghost use Rattle.std.specs.Bool.{Decides};
 ghost use Rattle.std.specs.List.Sorted.{IsSorted};
 ghost use Rattle.sqlite.specs.Held.{state};
 ghost use Rattle.sqlite.specs.State.{HasCleanDisk};
 ghost use Rattle.sqlite.specs.Tree.{rowid};
 ghost use Rattle.sqlite.specs.declared.types.Value.TheVariants.{Int};
-ghost use Rattle.register_sql.specs.Posting.{Survived};
-ghost use Rattle.register_sql.specs.Queries.{shows_id, IsPart, IsSame, IsApartIn, AreApart};
+ghost use Rattle.register_sql.specs.Failing.{IsReading};
+ghost use Rattle.register_sql.specs.Queries.{shows_id, IsPart, IsApartIn, AreApart};
 ghost use Rattle.register_sql.specs.Rowids.{HasId, IsBelow, IsRising};
 ghost use Rattle.register_sql.specs.Rows.{Apart};
 ghost use Rattle.register_sql.specs.Shown.{id_cmp};
@@ -83,12 +83,9 @@ pub(crate) fn is_apart<S: Alter>(
     requires ids { shows_id query ≡ true }
     requires few { made ≤ 6 }
     requires part { HasCleanDisk (state S.Store conn.old) → IsPart made (state S.Store conn.old) }
-    ensures between { conn.old.in_transaction ≡ false → conn.new.in_transaction ≡ false }
     ensures told { HasCleanDisk (state S.Store conn.new) → IfOk result (λ apart.
         Decides apart (IsApartIn query made (state S.Store conn.old).now.trees)) }
-    ensures same { HasCleanDisk (state S.Store conn.new)
-        → OnOk result (IsSame (state S.Store conn.old) (state S.Store conn.new)) }
-    ensures survives { Survived (state S.Store conn.old) (state S.Store conn.new) }
+    ensures reading { IsReading (state S.Store conn.old) (state S.Store conn.new) result }
 {
     if least_of(query) > made {
         return Ok(true);
@@ -108,13 +105,10 @@ fn are_both_apart<S: Alter>(
     requires other { shows_id other ≡ true }
     requires few { made ≤ 6 }
     requires part { HasCleanDisk (state S.Store conn.old) → IsPart made (state S.Store conn.old) }
-    ensures between { conn.old.in_transaction ≡ false → conn.new.in_transaction ≡ false }
     ensures told { HasCleanDisk (state S.Store conn.new) → IfOk result (λ apart.
         Decides apart (IsApartIn one made (state S.Store conn.old).now.trees
         × IsApartIn other made (state S.Store conn.old).now.trees)) }
-    ensures same { HasCleanDisk (state S.Store conn.new)
-        → OnOk result (IsSame (state S.Store conn.old) (state S.Store conn.new)) }
-    ensures survives { Survived (state S.Store conn.old) (state S.Store conn.new) }
+    ensures reading { IsReading (state S.Store conn.old) (state S.Store conn.new) result }
 {
     let first = is_apart(conn, one, made)?;
     if !first {
@@ -129,12 +123,9 @@ fn are_both_apart<S: Alter>(
 pub(crate) fn are_all_apart<S: Alter>(conn: &mut Connection<S>, made: usize) -> Result<bool, Error>
     requires few { made ≤ 6 }
     requires part { HasCleanDisk (state S.Store conn.old) → IsPart made (state S.Store conn.old) }
-    ensures between { conn.old.in_transaction ≡ false → conn.new.in_transaction ≡ false }
     ensures told { HasCleanDisk (state S.Store conn.new) → IfOk result (λ apart.
         Decides apart (AreApart made (state S.Store conn.old).now.trees)) }
-    ensures same { HasCleanDisk (state S.Store conn.new)
-        → OnOk result (IsSame (state S.Store conn.old) (state S.Store conn.new)) }
-    ensures survives { Survived (state S.Store conn.old) (state S.Store conn.new) }
+    ensures reading { IsReading (state S.Store conn.old) (state S.Store conn.new) result }
 {
     let first = are_both_apart(conn, Query::SetupIds, Query::PostingIds, made)?;
     if !first {

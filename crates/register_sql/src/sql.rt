@@ -1,41 +1,36 @@
 //! The register over a connection to a database.
 ghost use Rattle.std.specs.Prelude.{◌≡◌, ◌⊎◌, true, false, Err, length, IsTrue, IfOk, IfErr, OnOk};
-ghost use Rattle.std.specs.Prelude.{OnErr, is_some};
+ghost use Rattle.std.specs.Prelude.{OnErr, is_some, reverse, All};
+ghost use Rattle.std.specs.Bool.{Decides};
 ghost use Rattle.sqlite.specs.Held.{state};
-ghost use Rattle.sqlite.specs.Files.{file_state, IsClosed};
-ghost use Rattle.sqlite_store.specs.FileStore.{view, log_frames, files as store_files};
-ghost use Rattle.sqlite_trees.specs.View.{IsClean};
-ghost use Rattle.sqlite.specs.State.{HasCleanDisk, Survives, store_error};
-ghost use Rattle.sqlite.specs.Opening.{is_open_error};
-ghost use Rattle.sqlite.specs.Steps.{over_memory};
-ghost use Rattle.register_store.specs.Holdings.{Has, Comes, IsPosted, IsBound, IsNotBound};
-ghost use Rattle.register_store.specs.Registers.{is_failure, CountsRefusal, Stops};
-ghost use Rattle.register_store.specs.StoredRows.{AreSame, IsBoundTo};
-ghost use Rattle.register_sql.specs.Binding.{IsNewness, IsSettled, IsUnfitFor, LeavesBound};
+ghost use Rattle.sqlite.specs.State.{HasCleanDisk, Survives};
+ghost use Rattle.register_store.specs.Holdings.{Each, Has, Comes, IsPosted, IsBound};
+ghost use Rattle.register_store.specs.Holdings.{IsNotBound};
+ghost use Rattle.register_store.specs.Registers.{is_failure, is_of_listing, CountsRefusal, Stops};
+ghost use Rattle.register_store.specs.Registers.{IsListFault, IsOfStation};
+ghost use Rattle.register_store.specs.StoredRows.{AreSame, HasList, HasRows, IsBoundTo};
+ghost use Rattle.register_sql.specs.Binding.{IsNewness, IsUnfitFor, LeavesBound};
 ghost use Rattle.register_sql.specs.Posting.{LeavesPosted};
 ghost use Rattle.register_sql.specs.Migrating.{Migrates, IsNotMigrated, IsCompleted, IsUnfit};
-ghost use Rattle.register_sql.specs.Stores.{in_store, no_rows};
-ghost use Rattle.register_sql.specs.Runs.{HasIts, IsFoundIn, IsCopied, IsLeft};
-ghost use Rattle.sqlite.specs.WalFiles.{image_at};
-ghost use Rattle.sqlite.specs.WalReads.{AreClean};
+ghost use Rattle.register_sql.specs.Stores.{in_store, IsExcusedStop};
+ghost use Rattle.register_sql.specs.Runs.{HasIts};
 
 use crate::link::{
-    Link, bind_store, fault_of, list_store, migrate_store, post_to_store, store_agrees,
-    store_is_new,
+    Link, bind_store, list_store, migrate_store, post_to_store, store_agrees, store_is_new,
 };
 use nest_core::Setup;
 use posting_core::{Changes, Entry, Ledger};
 use register_store::{Register, StoreFault};
-use sqlite::{
-    Alter, Connection, Error, File, FileFrom, FileStore, Files, MemStore, Start, Unknown,
-};
-use sqlite_disk::Disk;
+use sqlite::{Alter, Connection, Error};
 use std::alloc::Global;
 use std::marker::Model;
 
 /// A register whose rows are in a database. When a statement fails, the register stops: it sends no
 /// further statement, and from then on each call returns Store. [`SqlRegister::failure`] returns
 /// the statement's error.
+///
+/// On a clean disk there are three reasons for a stop: memory ran out, the disk failed or refused a
+/// call, or the database refused a statement. An error of the disk comes only for the second.
 pub struct SqlRegister<S: Alter> {
     link: Link<S>,
     stations: u32,
@@ -55,106 +50,12 @@ impl<S: Alter> Model for SqlRegister<S> {
       conn = r.link.conn;
       bound = r.link.bound;
       stopped = is_some r.link.stopped;
+      failure = r.link.stopped;
       stations = r.stations;
       refusals = r.refusals;
     } };
 
     ghost invariant = { λ r. IsKept (state S.Store r.link.conn) r.link.bound r.link.stopped };
-}
-
-impl SqlRegister<MemStore> {
-    /// Opens a register on a new database in memory, which has no rows and needs no file. Fault:
-    /// NoMemory.
-    pub fn in_memory(alloc: Global) -> Result<SqlRegister<MemStore>, StoreFault>
-        ensures new { IfOk result (λ r. (r.bound ≡ false) × (r.stations ≡ 0) × (r.refusals ≡ 0)) }
-        ensures going { IfOk result (λ r. r.stopped ≡ false) }
-        ensures quiet { IfOk result (λ r. HasCleanDisk (state over_memory r.conn)) }
-        ensures empty { IfOk result
-            (λ r. Has (in_store (state over_memory r.conn)) (λ c. c ≡ no_rows)) }
-        ensures memory { IfErr result (λ fault. fault ≡ StoreFault.NoMemory) }
-    {
-        match Connection::open_in_memory(alloc) {
-            Ok(conn) => Ok(SqlRegister::adopt(conn)),
-            Err(_) => Err(StoreFault::NoMemory),
-        }
-    }
-}
-
-impl SqlRegister<FileStore<File>> {
-    /// Opens a register on the database in a file, whatever the file holds: no clause promises
-    /// which rows the store has. Faults: NoMemory or Store, as by [`fault_of`].
-    pub fn on_file(
-        rt: &HostRuntime,
-        alloc: Global,
-        path: &str,
-    ) -> Result<SqlRegister<FileStore<File>>, StoreFault>
-        ensures new { IfOk result (λ r. (r.bound ≡ false) × (r.stations ≡ 0) × (r.refusals ≡ 0)) }
-        ensures going { IfOk result (λ r. r.stopped ≡ false) }
-        ensures open { IfOk result
-            (λ r. HasCleanDisk (file_state r.conn) → IsSettled (file_state r.conn)) }
-        ensures faults { IfErr result (λ fault. is_failure fault ≡ true) }
-    {
-        match SqlRegister::on_file_from(rt, alloc, path, Unknown) {
-            Ok(register) => Ok(register),
-            Err(error) => Err(fault_of(error)),
-        }
-    }
-}
-
-impl<S: Start> SqlRegister<FileStore<FileFrom<S>>> {
-    /// Opens a register on the database in a file. `S` describes what the file and its log hold
-    /// when they are opened; the store then has those rows, or none if they hold no database yet.
-    /// Returns the error of the opening; [`fault_of`] turns it into a fault.
-    pub fn on_file_from(
-        rt: &HostRuntime,
-        _alloc: Global,
-        path: &str,
-        start: S,
-    ) -> Result<SqlRegister<FileStore<FileFrom<S>>>, Error>
-        ensures new { IfOk result (λ r. (r.bound ≡ false) × (r.stations ≡ 0) × (r.refusals ≡ 0)) }
-        ensures going { IfOk result (λ r. r.stopped ≡ false) }
-        ensures open { IfOk result
-            (λ r. HasCleanDisk (file_state r.conn) → IsSettled (file_state r.conn)) }
-        ensures found { IfOk result (λ r. HasCleanDisk (file_state r.conn)
-            → IsFoundIn (image_at S.Start) (in_store (file_state r.conn))) }
-        ensures named { IfErr result (λ error. IsTrue (is_open_error error)) }
-    {
-        match Connection::open_from(rt, path, false, start) {
-            Ok(conn) => Ok(SqlRegister::adopt(conn)),
-            Err((error, _)) => Err(error),
-        }
-    }
-}
-
-impl<D: Disk + Drop> SqlRegister<FileStore<D>> {
-    /// Ends the register without copying the log, and returns its two files as a killed program
-    /// leaves them. Whatever the end of the program, or a crash, leaves of them holds a database
-    /// whose rows the store may have had.
-    pub fn let_go(self) -> Files<D>
-        ensures { AreClean D.Disk result.log result.db
-            → IsLeft D.Disk (in_store (file_state self.conn)) result }
-    {
-        self.into_connection().into_store().close()
-    }
-
-    /// Copies every row from the log into the database file, and returns the two files. From then
-    /// on the database file alone has all rows, and the log is empty. Returns the error of the
-    /// copying with the two files, for which no clause promises more.
-    pub fn close(self) -> Result<Files<D>, (Error, Files<D>)>
-        ensures copied { IfOk result (λ files. AreClean D.Disk files.log files.db
-            → IsCopied D.Disk (in_store (file_state self.conn)) files) }
-        ensures emptied { IfOk result (λ files. (last : _)
-            × (store_files last ≡ (files.log, files.db)) × IsClosed self.conn last
-            × (IsClean (view last) → IsTrue (view last).is_open × (log_frames last ≡ 0))) }
-        ensures usable { IfOk result (λ files. IsTrue (D.Disk.is_usable files.log)
-            × IsTrue (D.Disk.is_usable files.db)) }
-        ensures cause { IfErr result (λ failed. (cause : _) × (failed.0 ≡ store_error cause)) }
-    {
-        match self.into_connection().close_files() {
-            Ok(files) => Ok(files),
-            Err((error, store)) => Err((error, store.close())),
-        }
-    }
 }
 
 impl<S: Alter> SqlRegister<S> {
@@ -199,7 +100,8 @@ impl<S: Alter> SqlRegister<S> {
     ///
     /// NoMemory, and Store after a failed statement, can come instead of any other result; the
     /// store may then have been migrated all the same. After any other fault it is as it was. If
-    /// the register had stopped before, the fault is always Store.
+    /// the register had stopped before, the fault is always Store. If this call stops it, a
+    /// statement failed.
     pub fn migrate(&mut self, alloc: Global, setup: &Setup) -> Result<(), StoreFault>
         ensures migrated { OnOk result
             (Comes (in_store (state S.Store self.old.conn))
@@ -216,6 +118,7 @@ impl<S: Alter> SqlRegister<S> {
             × (self.new.stations ≡ self.old.stations) }
         ensures count { CountsRefusal self.old.refusals self.new.refusals result }
         ensures stops { Stops self.old.stopped self.new.stopped result }
+        ensures excused { IsExcusedStop S.Store self.old self.new result }
     {
         let answer = migrate_store(alloc, &mut self.link, setup);
         self.refusals = recount(self.refusals, &answer);
@@ -224,7 +127,8 @@ impl<S: Alter> SqlRegister<S> {
 
     /// Returns whether the store has no record yet, so that [`bind`](Register::bind) begins one. A
     /// database with other tables than a store's isn't new; `bind` rejects it. The store stays as
-    /// it was. Faults: Store if a statement fails, or failed before; NoMemory.
+    /// it was. Faults: Store if a statement fails, or failed before; NoMemory. If this call stops
+    /// the register, a statement failed.
     pub fn is_new(&mut self, alloc: Global) -> Result<bool, StoreFault>
         ensures told { HasCleanDisk (state S.Store self.new.conn)
             → IfOk result (IsNewness (state S.Store self.old.conn).now) }
@@ -235,6 +139,7 @@ impl<S: Alter> SqlRegister<S> {
             × (self.new.stations ≡ self.old.stations) }
         ensures count { CountsRefusal self.old.refusals self.new.refusals result }
         ensures stops { Stops self.old.stopped self.new.stopped result }
+        ensures excused { IsExcusedStop S.Store self.old self.new result }
         ensures store { result ≡ Err StoreFault.Store → self.new.stopped ≡ true }
     {
         let answer = store_is_new(alloc, &mut self.link);
@@ -245,7 +150,8 @@ impl<S: Alter> SqlRegister<S> {
     /// Returns the error of the statement that stopped the register, or None while it runs. A
     /// stopped register never runs again.
     pub fn failure(&self) -> Option<Error>
-        ensures { is_some result ≡ self.now.stopped }
+        ensures same { result ≡ self.now.failure }
+        ensures stopped { is_some result ≡ self.now.stopped }
     {
         self.link.stopped
     }
@@ -294,6 +200,7 @@ impl<S: Alter> Register for SqlRegister<S> {
     /// - Once the call has returned, whatever it returned, a crash leaves a database that could be
     ///   left before, or one that is bound to the setup.
     /// - If the register had stopped before, the fault is Store, whatever the store holds.
+    /// - If this call stops the register, a statement failed.
     fn bind(&mut self, alloc: Global, setup: &Setup) -> Result<u32, StoreFault>
         ensures bound { IfOk result
             (λ depth. Has (in_store (state S.Store self.new.conn)) (IsBoundTo setup.now depth)) }
@@ -311,6 +218,7 @@ impl<S: Alter> Register for SqlRegister<S> {
         ensures crash { Survives (state S.Store self.old.conn) (state S.Store self.new.conn)
             (LeavesBound setup.now (state S.Store self.old.conn)) }
         ensures stops { Stops self.old.stopped self.new.stopped result }
+        ensures excused { IsExcusedStop S.Store self.old self.new result }
         ensures unfit { HasCleanDisk (state S.Store self.new.conn) → self.new.stopped ≡ false
             → result ≡ Err StoreFault.Store
             → IsUnfitFor setup.now (state S.Store self.old.conn).now }
@@ -323,8 +231,27 @@ impl<S: Alter> Register for SqlRegister<S> {
         answer
     }
 
-    /// Like `all` of any register. If the register had stopped before, the fault is Store.
-    fn all(&mut self, alloc: Global) -> Result<Vec<Entry>, StoreFault> {
+    /// Like `all` of any register. If the register had stopped before, the fault is Store. If this
+    /// call stops it, a statement failed.
+    fn all(&mut self, alloc: Global) -> Result<Vec<Entry>, StoreFault>
+        requires { self.old.bound ≡ true }
+        ensures listed { IfOk result
+            (λ entries.
+            Each (in_store (state S.Store self.new.conn)) (HasList (reverse entries.items))) }
+        ensures stationed { IfOk result
+            (λ entries. All (IsOfStation self.old.stations) entries.items) }
+        ensures cause { IfErr result
+            (λ fault. Each (in_store (state S.Store self.new.conn))
+            (λ c. IsListFault self.old.stations c fault)) }
+        ensures faults { IfErr result (λ fault. is_of_listing fault ≡ true) }
+        ensures unchanged { Comes (in_store (state S.Store self.old.conn))
+            (in_store (state S.Store self.new.conn)) AreSame }
+        ensures still { (self.new.bound ≡ true) × (self.new.stations ≡ self.old.stations) }
+        ensures count { CountsRefusal self.old.refusals self.new.refusals result }
+        ensures stops { Stops self.old.stopped self.new.stopped result }
+        ensures excused { IsExcusedStop S.Store self.old self.new result }
+        ensures store { result ≡ Err StoreFault.Store → self.new.stopped ≡ true }
+    {
         let answer = list_store(alloc, &mut self.link, self.stations);
         self.refusals = recount(self.refusals, &answer);
         answer
@@ -332,7 +259,8 @@ impl<S: Alter> Register for SqlRegister<S> {
 
     /// Like `post` of any register. In addition, once the call has returned, whatever it returned,
     /// a crash leaves a database that could be left before, or one with the entry and all its
-    /// changes. If the register had stopped before, the fault is Store.
+    /// changes. If the register had stopped before, the fault is Store. If this call stops it, a
+    /// statement failed.
     fn post(&mut self, alloc: Global, entry: &Entry, changes: &Changes) -> Result<(), StoreFault>
         requires { self.old.bound ≡ true }
         ensures posted { OnOk result
@@ -346,6 +274,7 @@ impl<S: Alter> Register for SqlRegister<S> {
         ensures still { (self.new.bound ≡ true) × (self.new.stations ≡ self.old.stations) }
         ensures count { CountsRefusal self.old.refusals self.new.refusals result }
         ensures stops { Stops self.old.stopped self.new.stopped result }
+        ensures excused { IsExcusedStop S.Store self.old self.new result }
         ensures store { result ≡ Err StoreFault.Store → self.new.stopped ≡ true }
         ensures crash { Survives (state S.Store self.old.conn) (state S.Store self.new.conn)
             (LeavesPosted entry.now changes.now (state S.Store self.old.conn)) }
@@ -357,8 +286,20 @@ impl<S: Alter> Register for SqlRegister<S> {
 
     /// Like `agrees` of any register. If the register had stopped before, the fault is Store.
     /// Otherwise Store can also mean that two loan lines or two last days have the same key, or
-    /// that a statement failed.
-    fn agrees(&mut self, alloc: Global, ledger: &Ledger) -> Result<bool, StoreFault> {
+    /// that a statement failed. If this call stops the register, a statement failed.
+    fn agrees(&mut self, alloc: Global, ledger: &Ledger) -> Result<bool, StoreFault>
+        requires { self.old.bound ≡ true }
+        ensures told { IfOk result
+            (λ same. Each (in_store (state S.Store self.new.conn))
+            (λ c. Decides same (HasRows ledger.now.museum ledger.now.posted c))) }
+        ensures faults { IfErr result (λ fault. is_failure fault ≡ true) }
+        ensures unchanged { Comes (in_store (state S.Store self.old.conn))
+            (in_store (state S.Store self.new.conn)) AreSame }
+        ensures still { (self.new.bound ≡ true) × (self.new.stations ≡ self.old.stations) }
+        ensures count { CountsRefusal self.old.refusals self.new.refusals result }
+        ensures stops { Stops self.old.stopped self.new.stopped result }
+        ensures excused { IsExcusedStop S.Store self.old self.new result }
+    {
         let answer = store_agrees(alloc, &mut self.link, ledger);
         self.refusals = recount(self.refusals, &answer);
         answer

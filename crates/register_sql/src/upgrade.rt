@@ -3,11 +3,12 @@ ghost use Rattle.std.specs.Prelude.{◌≡◌, OnOk, OnErr, IsTrue, false};
 ghost use Rattle.sqlite.specs.Held.{state};
 ghost use Rattle.sqlite.specs.State.{HasCleanDisk, Survives};
 ghost use Rattle.register_store.specs.StoredRows.{rows_of_meta, term_of};
+ghost use Rattle.register_sql.specs.Failing.{Excused, IsStep};
 ghost use Rattle.register_sql.specs.Making.{IsMaking, Went};
 ghost use Rattle.register_sql.specs.Migrating.{ClearsMeta, RenewsMeta, Raises, IsLifting, IsLifted};
 ghost use Rattle.register_sql.specs.Migrating.{LeavesLifted};
 ghost use Rattle.register_sql.specs.Posting as step;
-ghost use Rattle.register_sql.specs.Posting.{IsWithin, Wrote, Kept, Survived, IsBack};
+ghost use Rattle.register_sql.specs.Posting.{IsWithin, Wrote, IsBack};
 ghost use Rattle.register_sql.specs.Queries.{IsPart};
 ghost use Rattle.register_sql.specs.Rows.{Apart};
 
@@ -28,8 +29,7 @@ fn clear_metas<S: Alter>(tx: &mut Transaction<'_, S>) -> Result<(), Error>
     ensures same_reference { tx.new.conn.ghost_name ≡ tx.old.conn.ghost_name }
     ensures wrote { Went (state S.Store tx.old.conn.now) (state S.Store tx.new.conn.now) result
         6 ClearsMeta }
-    ensures kept { Kept (state S.Store tx.old.conn.now) (state S.Store tx.new.conn.now) }
-    ensures survives { Survived (state S.Store tx.old.conn.now) (state S.Store tx.new.conn.now) }
+    ensures step { IsStep (state S.Store tx.old.conn.now) (state S.Store tx.new.conn.now) result }
 {
     run(tx, "DELETE FROM meta", &[])
 }
@@ -43,8 +43,7 @@ fn renew_metas<S: Alter>(tx: &mut Transaction<'_, S>) -> Result<(), Error>
     ensures same_reference { tx.new.conn.ghost_name ≡ tx.old.conn.ghost_name }
     ensures wrote { Went (state S.Store tx.old.conn.now) (state S.Store tx.new.conn.now) result
         6 (RenewsMeta (rows_of_meta 8)) }
-    ensures kept { Kept (state S.Store tx.old.conn.now) (state S.Store tx.new.conn.now) }
-    ensures survives { Survived (state S.Store tx.old.conn.now) (state S.Store tx.new.conn.now) }
+    ensures step { IsStep (state S.Store tx.old.conn.now) (state S.Store tx.new.conn.now) result }
 {
     clear_metas(tx)?;
     add_metas(tx, FIRST_DEPTH)
@@ -59,8 +58,7 @@ fn raise<S: Alter>(tx: &mut Transaction<'_, S>) -> Result<(), Error>
     ensures same_reference { tx.new.conn.ghost_name ≡ tx.old.conn.ghost_name }
     ensures wrote { Went (state S.Store tx.old.conn.now)
         (state S.Store tx.new.conn.now) result 6 Raises }
-    ensures kept { Kept (state S.Store tx.old.conn.now) (state S.Store tx.new.conn.now) }
-    ensures survives { Survived (state S.Store tx.old.conn.now) (state S.Store tx.new.conn.now) }
+    ensures step { IsStep (state S.Store tx.old.conn.now) (state S.Store tx.new.conn.now) result }
 {
     make_at(tx, 5)?;
     renew_metas(tx)
@@ -73,8 +71,7 @@ fn put_terms<S: Alter>(tx: &mut Transaction<'_, S>, entries: &[Entry]) -> Result
     ensures same_reference { tx.new.conn.ghost_name ≡ tx.old.conn.ghost_name }
     ensures wrote { Wrote (state S.Store tx.old.conn.now) (state S.Store tx.new.conn.now) result
         (step.with_each (λ e. step.with_some_term (term_of e)) entries.now) }
-    ensures kept { Kept (state S.Store tx.old.conn.now) (state S.Store tx.new.conn.now) }
-    ensures survives { Survived (state S.Store tx.old.conn.now) (state S.Store tx.new.conn.now) }
+    ensures step { IsStep (state S.Store tx.old.conn.now) (state S.Store tx.new.conn.now) result }
 {
     'entries: for entry in entries {
         put_some_term(tx, entry)?;
@@ -95,8 +92,7 @@ fn lift<S: Alter>(tx: &mut Transaction<'_, S>, entries: &[Entry]) -> Result<(), 
     ensures wrote { HasCleanDisk (state S.Store tx.new.conn.now)
         → OnOk result
         (IsLifting entries.now (state S.Store tx.old.conn.now) (state S.Store tx.new.conn.now)) }
-    ensures kept { Kept (state S.Store tx.old.conn.now) (state S.Store tx.new.conn.now) }
-    ensures survives { Survived (state S.Store tx.old.conn.now) (state S.Store tx.new.conn.now) }
+    ensures step { IsStep (state S.Store tx.old.conn.now) (state S.Store tx.new.conn.now) result }
 {
     raise(tx)?;
     put_terms(tx, entries)
@@ -119,6 +115,7 @@ pub(crate) fn lift_whole<S: Alter>(conn: &mut Connection<S>, entries: &[Entry]) 
         → OnErr result (IsBack (state S.Store conn.old) (state S.Store conn.new)) }
     ensures crash { Survives (state S.Store conn.old) (state S.Store conn.new)
         (LeavesLifted entries.now (state S.Store conn.old)) }
+    ensures excused { Excused (state S.Store conn.old) (state S.Store conn.new) result }
 {
     let _live = conn.schema();
     let _between = conn.is_autocommit();

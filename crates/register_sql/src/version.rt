@@ -1,12 +1,12 @@
 //! Finds the version of a store, by its rows in `meta`.
-ghost use Rattle.std.specs.Prelude.{◌≡◌, ◌≤◌, pos, codes, false, IfOk, OnOk};
+ghost use Rattle.std.specs.Prelude.{◌≡◌, ◌≤◌, pos, codes, false, IfOk};
 ghost use Rattle.std.specs.Bool.{Decides};
 ghost use Rattle.std.specs.List.Sorted.{IsPermutation};
 ghost use Rattle.sqlite.specs.Held.{state};
 ghost use Rattle.sqlite.specs.State.{HasCleanDisk};
 ghost use Rattle.register_sql.specs.Ages.{version_row, LacksRow, IsFirst, IsAged};
-ghost use Rattle.register_sql.specs.Posting.{Survived};
-ghost use Rattle.register_sql.specs.Queries.{shown_in, IsPart, IsSame};
+ghost use Rattle.register_sql.specs.Failing.{IsReading};
+ghost use Rattle.register_sql.specs.Queries.{shown_in, IsPart};
 ghost use Rattle.register_sql.specs.Rows.{meta_cells};
 ghost use Rattle.register_sql.specs.Says.{HasOther};
 
@@ -91,13 +91,10 @@ pub(crate) fn age_in<S: Alter>(conn: &mut Connection<S>, made: usize) -> Result<
     requires some { 1 ≤ made }
     requires few { made ≤ 6 }
     requires part { HasCleanDisk (state S.Store conn.old) → IsPart made (state S.Store conn.old) }
-    ensures between { conn.old.in_transaction ≡ false → conn.new.in_transaction ≡ false }
     ensures told { HasCleanDisk (state S.Store conn.new) → IfOk result (λ age. (rows : _)
         × IsPermutation (shown_in Query.Metas (state S.Store conn.old).now.trees) rows
         × IsAged rows age) }
-    ensures same { HasCleanDisk (state S.Store conn.new)
-        → OnOk result (IsSame (state S.Store conn.old) (state S.Store conn.new)) }
-    ensures survives { Survived (state S.Store conn.old) (state S.Store conn.new) }
+    ensures reading { IsReading (state S.Store conn.old) (state S.Store conn.new) result }
 {
     let rows = read(conn, Query::Metas, made)?;
     Ok(age_of(&rows))

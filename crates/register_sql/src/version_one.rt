@@ -1,6 +1,5 @@
 //! Reads the entries of a store of version 1, which has no extension and no verdict NotLater.
-ghost use Rattle.std.specs.Prelude.{◌≡◌, ◌≢◌, true, false, map, reverse, All, ℕ, List, IfOk, IfErr};
-ghost use Rattle.std.specs.Prelude.{OnOk};
+ghost use Rattle.std.specs.Prelude.{◌≡◌, ◌≢◌, true, map, reverse, All, ℕ, List, IfOk, IfErr};
 ghost use Rattle.sqlite.specs.Held.{state};
 ghost use Rattle.sqlite.specs.State.{HasCleanDisk};
 ghost use Rattle.register_store.specs.Registers.{is_of_listing};
@@ -8,8 +7,8 @@ ghost use Rattle.register_store.specs.StoredRows as stored;
 ghost use Rattle.register_store.specs.StoredRows.{IsPostingRow, ArePostings, HasList};
 ghost use Rattle.register_sql.specs.Early.{is_early, IsEarlyOf, IsWrongEarly, IsEarlyWrongAt};
 ghost use Rattle.register_sql.specs.Early.{IsFirstEarlyWrong};
-ghost use Rattle.register_sql.specs.Posting.{Survived};
-ghost use Rattle.register_sql.specs.Queries.{IsPart, IsSame};
+ghost use Rattle.register_sql.specs.Failing.{IsReading};
+ghost use Rattle.register_sql.specs.Queries.{IsPart};
 ghost use Rattle.register_sql.specs.Rows.{HasPart};
 ghost use Rattle.register_sql.specs.Shown.{posting_shown};
 
@@ -81,7 +80,6 @@ pub(crate) fn early_list<S: Alter>(
     stations: u32,
 ) -> Result<Result<Vec<Entry>, StoreFault>, Error>
     requires part { HasCleanDisk (state S.Store conn.old) → IsPart 5 (state S.Store conn.old) }
-    ensures between { conn.old.in_transaction ≡ false → conn.new.in_transaction ≡ false }
     ensures listed { HasCleanDisk (state S.Store conn.new)
         → IfOk result (λ answer. IfOk answer (λ entries.
         (c : stored.Content) → HasPart 5 (state S.Store conn.old).now.trees c
@@ -94,9 +92,7 @@ pub(crate) fn early_list<S: Alter>(
         → IfOk result (λ answer. IfErr answer (λ fault. (at : ℕ) → fault ≡ StoreFault.Damaged at
         → (c : stored.Content) → HasPart 5 (state S.Store conn.old).now.trees c
         → IsFirstEarlyWrong stations at c)) }
-    ensures same { HasCleanDisk (state S.Store conn.new)
-        → OnOk result (IsSame (state S.Store conn.old) (state S.Store conn.new)) }
-    ensures survives { Survived (state S.Store conn.old) (state S.Store conn.new) }
+    ensures reading { IsReading (state S.Store conn.old) (state S.Store conn.new) result }
 {
     let rows = read(conn, Query::Postings, 5)?;
     let answer = early_entries(alloc, &rows, stations);

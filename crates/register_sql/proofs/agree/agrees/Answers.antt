@@ -13,8 +13,8 @@ pub returns-clause-told : goal.returns-clause-told
 returns-clause-told g c clean =
     let old = state g.S.Store c.args.conn.now in
     let mid = state g.S.Store c.read.new.conn in
-    let now : HasCleanDisk mid = omega (arith, clean, c.loan_rows.ensures.survives.clean) in
-    let same = (c.in_ok-spots.ensures.same now).now in
+    let now : HasCleanDisk mid = omega (arith, clean, c.loan_rows.ensures.reading.survives.clean) in
+    let same = (c.in_ok-spots.ensures.reading.same now).now in
     let loans = c.in_ok-loans.ensures.rows clean in
     let spots = subst (IsPermutation (shown_in Spots old.now.trees)) (sym c.deref.ensures.value)
     (c.in_ok-spots.ensures.rows now) in

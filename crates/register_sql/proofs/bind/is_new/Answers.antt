@@ -23,7 +23,8 @@ pub returns-in-New-clause-told : goal.returns-in-New-clause-told
 returns-in-New-clause-told g c clean =
     let old = state g.S.Store c.args.conn.now in
     let made = c.in-Some.made in
-    let early : HasCleanDisk old = omega (arith, clean, c.identity_of.ensures.survives.clean) in
+    let early : HasCleanDisk old =
+    omega (arith, clean, c.identity_of.ensures.reading.survives.clean) in
     let some : 1 ≤ made = search rules in
     let few : made ≤ 6 = search rules in
     let part : IsPart made old = search rules in
@@ -33,17 +34,21 @@ returns-in-New-clause-told g c clean =
 
 pub returns-in_default : goal.returns-in_default
 returns-in_default g c = record {
-  between = c.identity_of.ensures.between c.requires.between;
   told = λ clean.
       let old = state g.S.Store c.args.conn.now in
       let made = c.in-Some.made in
-      let early : HasCleanDisk old = omega (arith, clean, c.identity_of.ensures.survives.clean) in
+      let early : HasCleanDisk old =
+      omega (arith, clean, c.identity_of.ensures.reading.survives.clean) in
       let some : 1 ≤ made = search rules in
       let few : made ≤ 6 = search rules in
       let part : IsPart made old = search rules in
       let it = c.in_ok-identity-in-Some.ensures.told clean in
       inr (old_by made some few old it.0 part it.1
       (says_some it.0 c.in_ok-identity-in-Some.identity it.2 c.in_default.not-New));
-  same = c.in_ok-identity-in-Some.ensures.same;
-  survives = c.identity_of.ensures.survives;
+  reading = record {
+    between = c.identity_of.ensures.reading.between;
+    same = c.in_ok-identity-in-Some.ensures.reading.same;
+    survives = c.identity_of.ensures.reading.survives;
+    excused = λ _. tt;
+  };
 }

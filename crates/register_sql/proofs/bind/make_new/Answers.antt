@@ -14,10 +14,11 @@ returns-then-not-apart-clause-refused g c clean =
     let S = c.args.setup.now in
     let old = state g.S.Store c.args.conn.now in
     let mid = state g.S.Store c.are_all_apart.new.conn in
-    let early : HasCleanDisk old = omega (arith, clean, c.are_all_apart.ensures.survives.clean) in
+    let early : HasCleanDisk old =
+    omega (arith, clean, c.are_all_apart.ensures.reading.survives.clean) in
     let other = not_from_Decides c.in_ok-apart.apart (c.in_ok-apart.ensures.told clean)
     (search rules) in
-    refused_unfit S old mid (c.in_ok-apart.ensures.same clean)
+    refused_unfit S old mid (c.in_ok-apart.ensures.reading.same clean)
     (new_unfit S c.args.made c.requires.few old (c.requires.part early)
     (c.requires.new early) other)
 
@@ -26,9 +27,10 @@ returns-in-Err-clause-refused g c clean =
     let S = c.args.setup.now in
     let old = state g.S.Store c.args.conn.now in
     let mid = state g.S.Store c.are_all_apart.new.conn in
-    let early : HasCleanDisk old = omega (arith, clean, c.are_all_apart.ensures.survives.clean) in
+    let early : HasCleanDisk old =
+    omega (arith, clean, c.are_all_apart.ensures.reading.survives.clean) in
     refused_as S c.args.made c.requires.few old mid NoMemory (c.requires.part early)
-    (c.in_ok-apart.ensures.same clean) (λ k held. tt) memory_is_not_store
+    (c.in_ok-apart.ensures.reading.same clean) (λ k held. tt) memory_is_not_store
 
 pub returns-in_err-make_whole-clause-crash : goal.returns-in_err-make_whole-clause-crash
 returns-in_err-make_whole-clause-crash g c =
@@ -39,7 +41,7 @@ returns-in_err-make_whole-clause-crash g c =
     let texts = map string_bytes c.deref.result.now in
     let are : texts ≡ setup_rows S = search rules in
     new_survives S c.args.made c.requires.few old mid new texts are c.requires.part c.requires.new
-    c.are_all_apart.ensures.survives c.in_ok-apart.ensures.same
+    c.are_all_apart.ensures.reading.survives c.in_ok-apart.ensures.reading.same
     (λ clean. (c.in_ok-apart.ensures.told clean).0 (search rules)) c.make_whole.ensures.crash
 
 pub returns-clause-bound : goal.returns-clause-bound
@@ -52,7 +54,7 @@ returns-clause-bound g c clean =
     let are : texts ≡ setup_rows S = search rules in
     let now : HasCleanDisk mid = omega (arith, clean, c.make_whole.ensures.crash.clean) in
     new_is_bound S c.args.made c.requires.few old mid new texts are c.requires.part c.requires.new
-    c.are_all_apart.ensures.survives c.in_ok-apart.ensures.same
+    c.are_all_apart.ensures.reading.survives c.in_ok-apart.ensures.reading.same
     (λ k. (c.in_ok-apart.ensures.told k).0 (search rules)) now
     (c.in_ok-make_whole.ensures.made clean)
 
@@ -65,5 +67,5 @@ returns-clause-crash g c =
     let texts = map string_bytes c.deref.result.now in
     let are : texts ≡ setup_rows S = search rules in
     new_survives S c.args.made c.requires.few old mid new texts are c.requires.part c.requires.new
-    c.are_all_apart.ensures.survives c.in_ok-apart.ensures.same
+    c.are_all_apart.ensures.reading.survives c.in_ok-apart.ensures.reading.same
     (λ clean. (c.in_ok-apart.ensures.told clean).0 (search rules)) c.make_whole.ensures.crash

@@ -18,8 +18,9 @@ returns-in-Ok-clause-listed g c =
       stays = g.met.S.Store.stays store;
       survives = g.met.S.Store.survives store;
     } in
-    read_ok old new c.args.link.now.stopped c.requires c.in_default.is c.list.ensures.survives
-    c.in-Ok.ensures.same after c.in-Ok.answer (λ entries. HasList (reverse entries.items))
+    read_ok old new c.args.link.now.stopped c.requires c.in_default.is
+    c.list.ensures.reading.survives
+    c.in-Ok.ensures.reading.same after c.in-Ok.answer (λ entries. HasList (reverse entries.items))
     c.in-Ok.ensures.listed
 
 pub returns-in-Ok-clause-cause : goal.returns-in-Ok-clause-cause
@@ -32,8 +33,10 @@ returns-in-Ok-clause-cause g c =
       stays = g.met.S.Store.stays store;
       survives = g.met.S.Store.survives store;
     } in
-    read_err old new c.args.link.now.stopped c.requires c.in_default.is c.list.ensures.survives
-    c.in-Ok.ensures.same after c.in-Ok.answer (λ fault k. IsListFault c.args.stations k fault)
+    read_err old new c.args.link.now.stopped c.requires c.in_default.is
+    c.list.ensures.reading.survives
+    c.in-Ok.ensures.reading.same after c.in-Ok.answer
+    (λ fault k. IsListFault c.args.stations k fault)
     c.in-Ok.ensures.cause
 
 pub returns-in-Ok-clause-unchanged : goal.returns-in-Ok-clause-unchanged
@@ -52,7 +55,8 @@ returns-in-Ok-clause-unchanged g c =
       stays = g.met.S.Store.stays store;
       survives = g.met.S.Store.survives store;
     } in
-    same_comes old new before after (c.requires.settled c.in_default.is) c.list.ensures.survives
+    same_comes old new before after (c.requires.settled c.in_default.is)
+    c.list.ensures.reading.survives
 
 pub returns-in-Err-clause-unchanged : goal.returns-in-Err-clause-unchanged
 returns-in-Err-clause-unchanged g c =
@@ -72,4 +76,4 @@ returns-in-Err-clause-unchanged g c =
     } in
     subst (λ conn. Comes (in_store old) (in_store (state g.S.Store conn)) AreSame)
     (sym c.stop.ensures.conn) (same_comes old new before after
-    (c.requires.settled c.in_default.is) c.list.ensures.survives)
+    (c.requires.settled c.in_default.is) c.list.ensures.reading.survives)

@@ -1,4 +1,4 @@
-use Rattle.std.proofs.Common.{◌≡◌, refl, sym, subst}
+use Rattle.std.proofs.Common.{refl, sym, subst}
 use Rattle.std.proofs.lemmas.Result.{IfErr-at_err}
 use Rattle.sqlite.specs.Held.{state}
 use Rattle.register_store.specs.declared.store_fault.StoreFault.TheVariants.{Store}

@@ -18,8 +18,9 @@ returns-in-Ok-clause-told g c =
       stays = g.met.S.Store.stays store;
       survives = g.met.S.Store.survives store;
     } in
-    read_ok old new c.args.link.now.stopped c.requires c.in_default.is c.agrees.ensures.survives
-    c.in-Ok.ensures.same after c.in-Ok.answer
+    read_ok old new c.args.link.now.stopped c.requires c.in_default.is
+    c.agrees.ensures.reading.survives
+    c.in-Ok.ensures.reading.same after c.in-Ok.answer
     (λ same k. Decides same (HasRows c.args.ledger.now.museum c.args.ledger.now.posted k))
     c.in-Ok.ensures.told
 
@@ -39,7 +40,8 @@ returns-in-Ok-clause-unchanged g c =
       stays = g.met.S.Store.stays store;
       survives = g.met.S.Store.survives store;
     } in
-    same_comes old new before after (c.requires.settled c.in_default.is) c.agrees.ensures.survives
+    same_comes old new before after (c.requires.settled c.in_default.is)
+    c.agrees.ensures.reading.survives
 
 pub returns-in-Err-clause-unchanged : goal.returns-in-Err-clause-unchanged
 returns-in-Err-clause-unchanged g c =
@@ -59,4 +61,4 @@ returns-in-Err-clause-unchanged g c =
     } in
     subst (λ conn. Comes (in_store old) (in_store (state g.S.Store conn)) AreSame)
     (sym c.stop.ensures.conn) (same_comes old new before after
-    (c.requires.settled c.in_default.is) c.agrees.ensures.survives)
+    (c.requires.settled c.in_default.is) c.agrees.ensures.reading.survives)

@@ -22,7 +22,8 @@ returns-in-Ok-Ok-clause-unchanged g c =
       stays = g.met.S.Store.stays store;
       survives = g.met.S.Store.survives store;
     } in
-    same_comes old new before after (c.requires.settled c.in_default.is) c.is_new.ensures.survives
+    same_comes old new before after (c.requires.settled c.in_default.is)
+    c.is_new.ensures.reading.survives
 
 pub returns-in-Ok-Err-clause-unchanged : goal.returns-in-Ok-Err-clause-unchanged
 returns-in-Ok-Err-clause-unchanged g c =
@@ -40,7 +41,8 @@ returns-in-Ok-Err-clause-unchanged g c =
       stays = g.met.S.Store.stays store;
       survives = g.met.S.Store.survives store;
     } in
-    same_comes old new before after (c.requires.settled c.in_default.is) c.is_new.ensures.survives
+    same_comes old new before after (c.requires.settled c.in_default.is)
+    c.is_new.ensures.reading.survives
 
 pub returns-in-Err-clause-unchanged : goal.returns-in-Err-clause-unchanged
 returns-in-Err-clause-unchanged g c =
@@ -60,4 +62,5 @@ returns-in-Err-clause-unchanged g c =
     } in
     subst (λ conn. Comes (in_store old) (in_store (state g.S.Store conn)) AreSame)
     (sym c.stop.ensures.conn)
-    (same_comes old new before after (c.requires.settled c.in_default.is) c.is_new.ensures.survives)
+    (same_comes old new before after (c.requires.settled c.in_default.is)
+    c.is_new.ensures.reading.survives)

@@ -29,9 +29,9 @@ texts-preserved g c =
     let all = c.args.texts.now in
     let at = c.texts.at in (
       search rules,
-      survives_on old mid new c.texts.invariant.1 c.add_setup.ensures.survives,
+      survives_on old mid new c.texts.invariant.1 c.add_setup.ensures.step.survives,
       λ clean.
-          let early : HasCleanDisk mid = omega (arith, c.add_setup.ensures.survives.clean) in
+          let early : HasCleanDisk mid = omega (arith, c.add_setup.ensures.step.survives.clean) in
           let had = c.texts.invariant.2 early in
           let text = c.index-texts-at.result in
           let is : get_or all at text ≡ text = search rules in
@@ -43,7 +43,7 @@ texts-preserved g c =
           let left : setup_from (at + 1) (map string_bytes (drop at all))
           ≡ record { id = pos (at + 1); text = c.as_str.result.now } ∷ rest =
           ap (λ l. setup_from (at + 1) (map string_bytes l)) next ∙ rw bytes refl in (
-            kept_then old mid new had.0 (c.add_setup.ensures.kept clean),
+            kept_then old mid new had.0 (c.add_setup.ensures.step.kept clean),
             so_far_on old mid new (setup_from 1 (map string_bytes all))
                 (setup_from (at + 1) (map string_bytes (drop at all))) rest
                 (record { id = pos (at + 1); text = c.as_str.result.now }) left had.1

@@ -4,8 +4,8 @@ use Rattle.sqlite.specs.Held.{state}
 use Rattle.sqlite.specs.State.{HasCleanDisk}
 use Rattle.register_store.specs.StoredRows.{rows_of_meta}
 use Rattle.register_sql.specs.Making.{setup_from, ReplacesSetup, AddsMeta, Fills}
-use Rattle.register_sql.proofs.Ends.{kept_then, survives_on}
 use Rattle.register_sql.proofs.Filled.{goes_then, fills}
+use Rattle.register_sql.proofs.Steps.{step_then}
 use Rattle.register_sql.proofs.make.fill.Goals as goal
 
 pub returns-clause-wrote : goal.returns-clause-wrote
@@ -13,19 +13,12 @@ returns-clause-wrote g c clean =
     let old = state g.S.Store c.args.tx.now.conn.now in
     let mid = state g.S.Store c.replace_setup.new.tx.conn.now in
     let new = state g.S.Store c.add_metas.new.tx.conn.now in
-    let early : HasCleanDisk mid = omega (arith, c.add_metas.ensures.survives.clean) in
+    let early : HasCleanDisk mid = omega (arith, c.add_metas.ensures.step.survives.clean) in
     let s = setup_from 1 (map string_bytes c.args.texts.now) in
     let m = rows_of_meta c.args.depth in
     goes_then 6 6 (ReplacesSetup s) (AddsMeta m) (Fills s m) old mid new
     c.add_metas.result (fills s m)
     (c.in_ok-replace_setup.ensures.wrote early) (c.add_metas.ensures.wrote clean)
 
-pub returns-clause-kept : goal.returns-clause-kept
-returns-clause-kept g c clean =
-    let mid = state g.S.Store c.replace_setup.new.tx.conn.now in
-    let early : HasCleanDisk mid = omega (arith, c.add_metas.ensures.survives.clean) in
-    kept_then _ _ _ (c.replace_setup.ensures.kept early) (c.add_metas.ensures.kept clean)
-
-pub returns-clause-survives : goal.returns-clause-survives
-returns-clause-survives g c = survives_on _ _ _ c.replace_setup.ensures.survives
-    c.add_metas.ensures.survives
+pub returns-clause-step : goal.returns-clause-step
+returns-clause-step g c = step_then _ _ _ _ _ c.replace_setup.ensures.step c.add_metas.ensures.step

@@ -21,11 +21,11 @@ tables-preserved g c =
     let new = state g.S.Store c.make_at.new.tx.conn.now in
     let at = c.tables.at in (
       search rules,
-      survives_on old mid new c.tables.invariant.1 c.make_at.ensures.survives,
+      survives_on old mid new c.tables.invariant.1 c.make_at.ensures.step.survives,
       λ clean.
-          let early : HasCleanDisk mid = omega (arith, c.make_at.ensures.survives.clean) in
+          let early : HasCleanDisk mid = omega (arith, c.make_at.ensures.step.survives.clean) in
           let had = c.tables.invariant.2 early in (
-            kept_then old mid new had.0 (c.make_at.ensures.kept clean),
+            kept_then old mid new had.0 (c.make_at.ensures.step.kept clean),
             grows_then c.args.made at (at + 1) old mid new had.1
                 (c.in_ok-make_at.ensures.wrote clean),
           ),

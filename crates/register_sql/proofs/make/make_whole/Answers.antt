@@ -19,7 +19,7 @@ returns-clause-crash g c =
     subst (λ h. Survives (state g.S.Store old) (state g.S.Store h)
     (LeavesMade c.args.made s m (state g.S.Store old))) same
     (survives_made g.S.Store old mid (state g.S.Store end) c.args.made s m
-    (λ clean. (c.requires.part clean).is_open) (rw begun at c.make_all.ensures.survives)
+    (λ clean. (c.requires.part clean).is_open) (rw begun at c.make_all.ensures.step.survives)
     c.commit.ensures.survives
     (λ clean. rw begun at (c.in_ok-make_all.ensures.wrote clean)))
 

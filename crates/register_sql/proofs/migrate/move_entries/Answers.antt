@@ -18,10 +18,11 @@ returns-in-Err-clause-refused g c clean =
     let S = c.args.setup.now in
     let old = state g.S.Store c.args.conn.now in
     let mid = state g.S.Store c.early_list.new.conn in
-    let early : HasCleanDisk old = omega (arith, clean, c.early_list.ensures.survives.clean) in
+    let early : HasCleanDisk old =
+    omega (arith, clean, c.early_list.ensures.reading.survives.clean) in
     let are : c.stations.result ≡ length S.stations = search rules in
     list_left S c.stations.result c.in-Err.fault old mid are (c.requires.raisable early)
-    (c.in_ok-listed.ensures.same clean)
+    (c.in_ok-listed.ensures.reading.same clean)
     (subst (λ a. IfErr a (λ fault. is_of_listing fault ≡ true)) c.in-Err.is
     c.in_ok-listed.ensures.faults)
     (subst (λ a. IfErr a (λ fault. fault ≢ Store)) c.in-Err.is c.in_ok-listed.ensures.able)
@@ -36,11 +37,13 @@ returns-clause-raised g c clean =
     let mid = state g.S.Store c.early_list.new.conn in
     let new = state g.S.Store c.lift_whole.new.conn in
     let now : HasCleanDisk mid = omega (arith, clean, c.lift_whole.ensures.crash.clean) in
-    let early : HasCleanDisk old = omega (arith, now, c.early_list.ensures.survives.clean) in
+    let early : HasCleanDisk old =
+    omega (arith, now, c.early_list.ensures.reading.survives.clean) in
     let entries = c.in-Ok.entries.items in
     let same : c.deref.result.now ≡ entries = c.deref.ensures.value in
     let are : c.stations.result ≡ length S.stations = search rules in
-    moved_of S entries old mid new (c.requires.raisable early) (c.in_ok-listed.ensures.same now)
+    moved_of S entries old mid new (c.requires.raisable early)
+    (c.in_ok-listed.ensures.reading.same now)
     (subst (λ a. IfOk a (λ es. (k : Content) → HasPart 5 old.now.trees k
     → HasList (reverse es.items) k)) c.in-Ok.is (c.in_ok-listed.ensures.listed now))
     (subst (λ n. All (IsEarlyOf n) entries) are
@@ -57,8 +60,8 @@ returns-clause-crash g c =
     let entries = c.in-Ok.entries.items in
     let same : c.deref.result.now ≡ entries = c.deref.ensures.value in
     let are : c.stations.result ≡ length S.stations = search rules in
-    moved_survives S entries old mid new c.requires.raisable c.early_list.ensures.survives
-    c.in_ok-listed.ensures.same
+    moved_survives S entries old mid new c.requires.raisable c.early_list.ensures.reading.survives
+    c.in_ok-listed.ensures.reading.same
     (λ now. subst (λ a. IfOk a (λ es. (k : Content) → HasPart 5 old.now.trees k
     → HasList (reverse es.items) k)) c.in-Ok.is (c.in_ok-listed.ensures.listed now))
     (subst (λ n. All (IsEarlyOf n) entries) are
@@ -75,8 +78,8 @@ returns-in_err-lift_whole-clause-crash g c =
     let entries = c.in-Ok.entries.items in
     let same : c.deref.result.now ≡ entries = c.deref.ensures.value in
     let are : c.stations.result ≡ length S.stations = search rules in
-    moved_survives S entries old mid new c.requires.raisable c.early_list.ensures.survives
-    c.in_ok-listed.ensures.same
+    moved_survives S entries old mid new c.requires.raisable c.early_list.ensures.reading.survives
+    c.in_ok-listed.ensures.reading.same
     (λ now. subst (λ a. IfOk a (λ es. (k : Content) → HasPart 5 old.now.trees k
     → HasList (reverse es.items) k)) c.in-Ok.is (c.in_ok-listed.ensures.listed now))
     (subst (λ n. All (IsEarlyOf n) entries) are
@@ -88,19 +91,24 @@ pub lift_whole-requires-clause-part : goal.lift_whole-requires-clause-part
 lift_whole-requires-clause-part g c clean =
     let old = state g.S.Store c.args.conn.now in
     let mid = state g.S.Store c.early_list.new.conn in
-    let early : HasCleanDisk old = omega (arith, clean, c.early_list.ensures.survives.clean) in
-    part_same 5 old mid (c.requires.raisable early).part (c.in_ok-listed.ensures.same clean)
+    let early : HasCleanDisk old =
+    omega (arith, clean, c.early_list.ensures.reading.survives.clean) in
+    part_same 5 old mid (c.requires.raisable early).part (c.in_ok-listed.ensures.reading.same clean)
 
 pub lift_whole-requires-clause-metas : goal.lift_whole-requires-clause-metas
 lift_whole-requires-clause-metas g c clean =
     let old = state g.S.Store c.args.conn.now in
     let mid = state g.S.Store c.early_list.new.conn in
-    let early : HasCleanDisk old = omega (arith, clean, c.early_list.ensures.survives.clean) in
-    metas_there old mid (c.in_ok-listed.ensures.same clean) (c.requires.raisable early).meta_apart
+    let early : HasCleanDisk old =
+    omega (arith, clean, c.early_list.ensures.reading.survives.clean) in
+    metas_there old mid (c.in_ok-listed.ensures.reading.same clean)
+    (c.requires.raisable early).meta_apart
 
 pub lift_whole-requires-clause-lines : goal.lift_whole-requires-clause-lines
 lift_whole-requires-clause-lines g c clean =
     let old = state g.S.Store c.args.conn.now in
     let mid = state g.S.Store c.early_list.new.conn in
-    let early : HasCleanDisk old = omega (arith, clean, c.early_list.ensures.survives.clean) in
-    lines_there old mid (c.in_ok-listed.ensures.same clean) (c.requires.raisable early).apart
+    let early : HasCleanDisk old =
+    omega (arith, clean, c.early_list.ensures.reading.survives.clean) in
+    lines_there old mid (c.in_ok-listed.ensures.reading.same clean)
+    (c.requires.raisable early).apart

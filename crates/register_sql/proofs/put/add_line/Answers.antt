@@ -10,7 +10,7 @@ pub returns-clause-wrote : goal.returns-clause-wrote
 returns-clause-wrote g c clean =
     let old = state g.S.Store c.args.tx.now.conn.now in
     let new = state g.S.Store c.run.new.tx.conn.now in
-    let early : HasCleanDisk old = omega (arith, c.run.ensures.survives.clean) in
+    let early : HasCleanDisk old = omega (arith, c.run.ensures.step.survives.clean) in
     let within = c.requires early in
     on_ok c.run.result (c.run.ensures.ran clean within.inside)
     (λ ran. inserts_line old new (line_row c.args.line.now) _ (Ok ran.0) within ran.1

@@ -4,14 +4,15 @@ use Rattle.sqlite.specs.State.{HasCleanDisk}
 use Rattle.register_store.specs.Plain.{posting_row}
 use Rattle.register_store.specs.StoredRows.{spot_row}
 use Rattle.register_sql.specs.Posting.{Makes, with_each, with_posting, with_spot}
-use Rattle.register_sql.proofs.Ends.{kept_then, survives_on, makes_then}
+use Rattle.register_sql.proofs.Ends.{makes_then}
+use Rattle.register_sql.proofs.Steps.{step_then}
 use Rattle.register_sql.proofs.put.put_first.Goals as goal
 
 pub returns-clause-wrote : goal.returns-clause-wrote
 returns-clause-wrote g c clean =
     let mid = state g.S.Store c.put_posting.new.tx.conn.now in
     let new = state g.S.Store c.put_spots.new.tx.conn.now in
-    let early : HasCleanDisk mid = omega (arith, c.put_spots.ensures.survives.clean) in
+    let early : HasCleanDisk mid = omega (arith, c.put_spots.ensures.step.survives.clean) in
     let spots = c.args.changes.now.spots in
     let is : c.as_slice.result.now ≡ spots = search rules in
     makes_then (state g.S.Store c.args.tx.now.conn.now) mid new
@@ -22,12 +23,5 @@ returns-clause-wrote g c clean =
     (Makes mid new (with_each (λ s. with_spot (spot_row s)) l))) is
     (c.put_spots.ensures.wrote clean))
 
-pub returns-clause-kept : goal.returns-clause-kept
-returns-clause-kept g c clean =
-    let mid = state g.S.Store c.put_posting.new.tx.conn.now in
-    let early : HasCleanDisk mid = omega (arith, c.put_spots.ensures.survives.clean) in
-    kept_then _ _ _ (c.put_posting.ensures.kept early) (c.put_spots.ensures.kept clean)
-
-pub returns-clause-survives : goal.returns-clause-survives
-returns-clause-survives g c = survives_on _ _ _ c.put_posting.ensures.survives
-    c.put_spots.ensures.survives
+pub returns-clause-step : goal.returns-clause-step
+returns-clause-step g c = step_then _ _ _ _ _ c.put_posting.ensures.step c.put_spots.ensures.step

@@ -3,7 +3,8 @@ use Rattle.sqlite.specs.Held.{state}
 use Rattle.sqlite.specs.State.{HasCleanDisk}
 use Rattle.register_store.specs.StoredRows.{line_row}
 use Rattle.register_sql.specs.Posting.{without_line, more_line}
-use Rattle.register_sql.proofs.Ends.{kept_then, survives_on, makes_then}
+use Rattle.register_sql.proofs.Ends.{makes_then}
+use Rattle.register_sql.proofs.Steps.{step_then}
 use Rattle.register_sql.proofs.put.put_line.Goals as goal
 
 pub returns-clause-wrote : goal.returns-clause-wrote
@@ -11,17 +12,10 @@ returns-clause-wrote g c clean =
     let old = state g.S.Store c.args.tx.now.conn.now in
     let mid = state g.S.Store c.clear_line.new.tx.conn.now in
     let new = state g.S.Store c.add_line.new.tx.conn.now in
-    let early : HasCleanDisk mid = omega (arith, c.add_line.ensures.survives.clean) in
+    let early : HasCleanDisk mid = omega (arith, c.add_line.ensures.step.survives.clean) in
     makes_then old mid new (without_line (line_row c.args.line.now))
     (more_line (line_row c.args.line.now)) c.add_line.result
     (c.in_ok-clear_line.ensures.wrote early) (c.add_line.ensures.wrote clean)
 
-pub returns-clause-kept : goal.returns-clause-kept
-returns-clause-kept g c clean =
-    let mid = state g.S.Store c.clear_line.new.tx.conn.now in
-    let early : HasCleanDisk mid = omega (arith, c.add_line.ensures.survives.clean) in
-    kept_then _ _ _ (c.clear_line.ensures.kept early) (c.add_line.ensures.kept clean)
-
-pub returns-clause-survives : goal.returns-clause-survives
-returns-clause-survives g c = survives_on _ _ _ c.clear_line.ensures.survives
-    c.add_line.ensures.survives
+pub returns-clause-step : goal.returns-clause-step
+returns-clause-step g c = step_then _ _ _ _ _ c.clear_line.ensures.step c.add_line.ensures.step

@@ -15,16 +15,16 @@ lines-preserved g c =
     let rows = c.args.lines.now in
     let at = c.lines.line-index in (
       search rules,
-      survives_on old mid new c.lines.invariant.1 c.put_line.ensures.survives,
+      survives_on old mid new c.lines.invariant.1 c.put_line.ensures.step.survives,
       λ clean.
-          let early : HasCleanDisk mid = omega (arith, c.put_line.ensures.survives.clean) in
+          let early : HasCleanDisk mid = omega (arith, c.put_line.ensures.step.survives.clean) in
           let row = c.line-item.result in
           let is : get_or rows at row ≡ row = search rules in
           let next = drop_next rows at row (omega (arith, c.lines-test.true)) in
           so_far_on old mid new (with_each (λ l. with_line (line_row l)) rows)
           (λ l. with_line (line_row l)) (drop at rows) (drop (at + 1) rows) row
           (subst (λ r. drop at rows ≡ r ∷ drop (at + 1) rows) is next)
-          (c.lines.invariant.2 early) (c.put_line.ensures.kept clean)
+          (c.lines.invariant.2 early) (c.put_line.ensures.step.kept clean)
           (c.in_ok-put_line.ensures.wrote clean),
     )
 

@@ -5,8 +5,9 @@ use Rattle.register_store.specs.Plain.{posting_row}
 use Rattle.register_store.specs.StoredRows.{spot_row, line_row, term_of, with_posted}
 use Rattle.register_sql.specs.Posting.{with_each, with_posting, with_spot, with_line}
 use Rattle.register_sql.specs.Posting.{with_some_term}
-use Rattle.register_sql.proofs.Ends.{kept_then, survives_on, makes_then, makes_as}
+use Rattle.register_sql.proofs.Ends.{makes_then, makes_as}
 use Rattle.register_sql.proofs.Wholes.{posted_is}
+use Rattle.register_sql.proofs.Steps.{step_then}
 use Rattle.register_sql.proofs.put.put_rows.Goals as goal
 
 pub returns-clause-wrote : goal.returns-clause-wrote
@@ -14,7 +15,7 @@ returns-clause-wrote g c clean =
     let old = state g.S.Store c.args.tx.now.conn.now in
     let mid = state g.S.Store c.put_first.new.tx.conn.now in
     let new = state g.S.Store c.put_last.new.tx.conn.now in
-    let early : HasCleanDisk mid = omega (arith, c.put_last.ensures.survives.clean) in
+    let early : HasCleanDisk mid = omega (arith, c.put_last.ensures.step.survives.clean) in
     let row = posting_row c.args.row.now in
     let changes = c.args.changes.now in
     let e = c.args.entry.now in
@@ -24,12 +25,5 @@ returns-clause-wrote g c clean =
     (with_each (λ l. with_line (line_row l)) changes.lines x))
     c.put_last.result (c.in_ok-put_first.ensures.wrote early) (c.put_last.ensures.wrote clean))
 
-pub returns-clause-kept : goal.returns-clause-kept
-returns-clause-kept g c clean =
-    let mid = state g.S.Store c.put_first.new.tx.conn.now in
-    let early : HasCleanDisk mid = omega (arith, c.put_last.ensures.survives.clean) in
-    kept_then _ _ _ (c.put_first.ensures.kept early) (c.put_last.ensures.kept clean)
-
-pub returns-clause-survives : goal.returns-clause-survives
-returns-clause-survives g c = survives_on _ _ _ c.put_first.ensures.survives
-    c.put_last.ensures.survives
+pub returns-clause-step : goal.returns-clause-step
+returns-clause-step g c = step_then _ _ _ _ _ c.put_first.ensures.step c.put_last.ensures.step

@@ -15,16 +15,16 @@ spots-preserved g c =
     let rows = c.args.spots.now in
     let at = c.spots.spot-index in (
       search rules,
-      survives_on old mid new c.spots.invariant.1 c.put_spot.ensures.survives,
+      survives_on old mid new c.spots.invariant.1 c.put_spot.ensures.step.survives,
       λ clean.
-          let early : HasCleanDisk mid = omega (arith, c.put_spot.ensures.survives.clean) in
+          let early : HasCleanDisk mid = omega (arith, c.put_spot.ensures.step.survives.clean) in
           let row = c.spot-item.result in
           let is : get_or rows at row ≡ row = search rules in
           let next = drop_next rows at row (omega (arith, c.spots-test.true)) in
           so_far_on old mid new (with_each (λ s. with_spot (spot_row s)) rows)
           (λ s. with_spot (spot_row s)) (drop at rows) (drop (at + 1) rows) row
           (subst (λ r. drop at rows ≡ r ∷ drop (at + 1) rows) is next)
-          (c.spots.invariant.2 early) (c.put_spot.ensures.kept clean)
+          (c.spots.invariant.2 early) (c.put_spot.ensures.step.kept clean)
           (c.in_ok-put_spot.ensures.wrote clean),
     )
 

@@ -18,7 +18,7 @@ returns-clause-crash g c =
     subst (λ h. Survives (state g.S.Store old) (state g.S.Store h)
     (LeavesWhole (state g.S.Store old) change)) same
     (survives_makes g.S.Store old mid (state g.S.Store end) change c.requires.ready
-    (rw begun at c.put_rows.ensures.survives) c.commit.ensures.survives
+    (rw begun at c.put_rows.ensures.step.survives) c.commit.ensures.survives
     (λ clean. rw begun at (c.in_ok-put_rows.ensures.wrote clean)))
 
 pub returns-clause-posted : goal.returns-clause-posted
@@ -34,6 +34,6 @@ returns-clause-posted g c clean =
     let early : HasCleanDisk mid = omega (arith, c.commit.ensures.survives.clean, clean') in
     subst (λ h. OnOk c.commit.result (IsDone (state g.S.Store old) (state g.S.Store h) change)) same
     (done_by_commit (state g.S.Store old) mid end change c.commit.result
-    (kept_begin g.S.Store old mid (rw begun at c.put_rows.ensures.kept early))
+    (kept_begin g.S.Store old mid (rw begun at c.put_rows.ensures.step.kept early))
     (makes_begin g.S.Store old mid change (rw begun at c.in_ok-put_rows.ensures.wrote early))
     (c.commit.ensures.ok clean'))

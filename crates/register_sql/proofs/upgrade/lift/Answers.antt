@@ -1,8 +1,8 @@
 use Rattle.std.proofs.Common.{arith}
 use Rattle.sqlite.specs.Held.{state}
 use Rattle.sqlite.specs.State.{HasCleanDisk}
-use Rattle.register_sql.proofs.Ends.{kept_then, survives_on}
 use Rattle.register_sql.proofs.Raised.{within_raised, lifts}
+use Rattle.register_sql.proofs.Steps.{step_then}
 use Rattle.register_sql.proofs.upgrade.lift.Goals as goal
 
 pub returns-clause-wrote : goal.returns-clause-wrote
@@ -10,7 +10,7 @@ returns-clause-wrote g c clean =
     let old = state g.S.Store c.args.tx.now.conn.now in
     let mid = state g.S.Store c.raise.new.tx.conn.now in
     let new = state g.S.Store c.put_terms.new.tx.conn.now in
-    let early : HasCleanDisk mid = omega (arith, c.put_terms.ensures.survives.clean) in
+    let early : HasCleanDisk mid = omega (arith, c.put_terms.ensures.step.survives.clean) in
     lifts c.args.entries.now old mid new c.put_terms.result (c.in_ok-raise.ensures.wrote early)
     (c.put_terms.ensures.wrote clean)
 
@@ -18,16 +18,9 @@ pub put_terms-requires : goal.put_terms-requires
 put_terms-requires g c clean =
     let old = state g.S.Store c.args.tx.now.conn.now in
     let mid = state g.S.Store c.raise.new.tx.conn.now in
-    let early : HasCleanDisk old = omega (arith, clean, c.raise.ensures.survives.clean) in
-    within_raised old mid (c.raise.ensures.kept clean) (c.requires.lines early)
+    let early : HasCleanDisk old = omega (arith, clean, c.raise.ensures.step.survives.clean) in
+    within_raised old mid (c.raise.ensures.step.kept clean) (c.requires.lines early)
     (c.in_ok-raise.ensures.wrote clean)
 
-pub returns-clause-kept : goal.returns-clause-kept
-returns-clause-kept g c clean =
-    let mid = state g.S.Store c.raise.new.tx.conn.now in
-    let early : HasCleanDisk mid = omega (arith, c.put_terms.ensures.survives.clean) in
-    kept_then _ _ _ (c.raise.ensures.kept early) (c.put_terms.ensures.kept clean)
-
-pub returns-clause-survives : goal.returns-clause-survives
-returns-clause-survives g c = survives_on _ _ _ c.raise.ensures.survives
-    c.put_terms.ensures.survives
+pub returns-clause-step : goal.returns-clause-step
+returns-clause-step g c = step_then _ _ _ _ _ c.raise.ensures.step c.put_terms.ensures.step

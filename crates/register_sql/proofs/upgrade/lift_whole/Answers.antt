@@ -16,7 +16,7 @@ returns-clause-crash g c =
     subst (λ h. Survives (state g.S.Store old) (state g.S.Store h)
     (LeavesLifted entries (state g.S.Store old))) same
     (survives_lifted g.S.Store entries old mid (state g.S.Store end)
-    (λ clean. (c.requires.part clean).is_open) (rw begun at c.lift.ensures.survives)
+    (λ clean. (c.requires.part clean).is_open) (rw begun at c.lift.ensures.step.survives)
     c.commit.ensures.survives
     (λ clean. rw begun at (c.in_ok-lift.ensures.wrote clean)))
 

@@ -15,16 +15,17 @@ entries-preserved g c =
     let rows = c.args.entries.now in
     let at = c.entries.entry-index in (
       search rules,
-      survives_on old mid new c.entries.invariant.1 c.put_some_term.ensures.survives,
+      survives_on old mid new c.entries.invariant.1 c.put_some_term.ensures.step.survives,
       λ clean.
-          let early : HasCleanDisk mid = omega (arith, c.put_some_term.ensures.survives.clean) in
+          let early : HasCleanDisk mid =
+          omega (arith, c.put_some_term.ensures.step.survives.clean) in
           let row = c.entry-item.result in
           let is : get_or rows at row ≡ row = search rules in
           let next = drop_next rows at row (omega (arith, c.entries-test.true)) in
           so_far_on old mid new (with_each (λ e. with_some_term (term_of e)) rows)
           (λ e. with_some_term (term_of e)) (drop at rows) (drop (at + 1) rows) row
           (subst (λ r. drop at rows ≡ r ∷ drop (at + 1) rows) is next)
-          (c.entries.invariant.2 early) (c.put_some_term.ensures.kept clean)
+          (c.entries.invariant.2 early) (c.put_some_term.ensures.step.kept clean)
           (c.in_ok-put_some_term.ensures.wrote clean),
     )
 

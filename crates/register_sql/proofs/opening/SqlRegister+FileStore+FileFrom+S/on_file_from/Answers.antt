@@ -5,7 +5,7 @@ use Rattle.sqlite.specs.WalFiles.{image_at}
 use Rattle.register_sql.specs.Runs.{IsFoundIn}
 use Rattle.register_sql.specs.Stores.{in_store}
 use Rattle.register_sql.proofs.Runs.{found_in}
-use Rattle.register_sql.proofs.sql.SqlRegister+FileStore+FileFrom+S.on_file_from.Goals as goal
+use Rattle.register_sql.proofs.opening.SqlRegister+FileStore+FileFrom+S.on_file_from.Goals as goal
 
 pub returns-in-Ok-clause-found : goal.returns-in-Ok-clause-found
 returns-in-Ok-clause-found g c =

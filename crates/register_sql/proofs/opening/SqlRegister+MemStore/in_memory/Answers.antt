@@ -5,7 +5,7 @@ use Rattle.sqlite_trees.specs.View.{doubt}
 use Rattle.register_store.specs.Holdings.{Has}
 use Rattle.register_sql.specs.Stores.{in_store, no_rows}
 use Rattle.register_sql.proofs.Holds.{empty_has}
-use Rattle.register_sql.proofs.sql.SqlRegister+MemStore.in_memory.Goals as goal
+use Rattle.register_sql.proofs.opening.SqlRegister+MemStore.in_memory.Goals as goal
 
 pub returns-in-Ok-clause-quiet : goal.returns-in-Ok-clause-quiet
 unfolding doubt

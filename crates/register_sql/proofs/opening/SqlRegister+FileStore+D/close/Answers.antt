@@ -4,7 +4,7 @@ use Rattle.sqlite.specs.Files.{file_state, IsClosed}
 use Rattle.register_sql.specs.Runs.{HasIts}
 use Rattle.register_sql.specs.Stores.{in_store}
 use Rattle.register_sql.proofs.Runs.{rows_alone}
-use Rattle.register_sql.proofs.sql.SqlRegister+FileStore+D.close.Goals as goal
+use Rattle.register_sql.proofs.opening.SqlRegister+FileStore+D.close.Goals as goal
 
 pub returns-in-Ok-clause-copied : goal.returns-in-Ok-clause-copied
 returns-in-Ok-clause-copied g c clean =

@@ -10,7 +10,7 @@ use Rattle.sqlite_trees.proofs.Doubt.{no_doubt}
 use Rattle.sqlite_trees.specs.View.{IsClean}
 use Rattle.register_sql.specs.Runs.{IsLeft}
 use Rattle.register_sql.specs.Stores.{in_store}
-use Rattle.register_sql.proofs.sql.SqlRegister+FileStore+D.let_go.Goals as goal
+use Rattle.register_sql.proofs.opening.SqlRegister+FileStore+D.let_go.Goals as goal
 
 pub returns : goal.returns
 returns g c honest =
