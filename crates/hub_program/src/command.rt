@@ -1,7 +1,7 @@
 //! Does the command that the words choose.
 ghost use Rattle.std.specs.Prelude.{◌≡◌, IfOk, Some};
 ghost use Rattle.command_words.specs.Words.{text_of};
-ghost use Rattle.hub_program.specs.Places.{kept_in, store_of};
+ghost use Rattle.hub_program.specs.Places.{kept_in, path_of, store_of};
 
 use crate::copying::copied;
 use crate::ending::{Ending, noted_status, refuse, status};
@@ -12,7 +12,7 @@ use crate::help::help;
 use crate::lines::write_line;
 use crate::progress::Progress;
 use crate::request::{form_of, number_if, read_question};
-use crate::store;
+use crate::store::{self, Begins, ClosedStore, open, open_if};
 use crate::work::over_store;
 use command_words::words::chosen;
 use command_words::{Asked, Chosen, Report};
@@ -126,12 +126,12 @@ fn perform<
             notes,
         ),
         Chosen::Migrate { setup, store } => {
-            migrated(rt, setup, store, start, output)?;
-            Ok(Ending::Done(Some(*store)))
+            let closed = migrated(rt, setup, store, start, output)?;
+            Ok(Ending::Done(Some(closed)))
         }
         Chosen::Copy { setup, store, to } => {
-            copied(rt, setup, store, to, start, again, output)?;
-            Ok(Ending::Done(Some(*store)))
+            let closed = copied(rt, setup, store, to, start, again, output)?;
+            Ok(Ending::Done(Some(closed)))
         }
         Chosen::Report(report, asked) => reported(
             rt, threads, *report, *asked, start, input, output, notes,
@@ -195,8 +195,8 @@ fn replayed<
     Ok(Ending::Done(store))
 }
 
-/// Answers the lines of the input, and shows the watch their outcomes. Returns the path of the
-/// store, if one is named.
+/// Answers the lines of the input, and shows the watch their outcomes. Returns the store, if one is
+/// named.
 fn watched<
     'a,
     T: Threads + Wait + Sync + Copy + Send + 'static,
@@ -213,23 +213,13 @@ fn watched<
     input: &mut R,
     output: &mut W,
     notes: &mut String,
-) -> Result<Option<&'a str>, CommandFault>
-    ensures { IfOk result (λ kept. text_of kept ≡ text_of wanted.entry.store) }
+) -> Result<Option<ClosedStore<'a>>, CommandFault>
+    ensures { IfOk result (λ kept. path_of kept ≡ text_of wanted.entry.store) }
 {
     let setup = read_setup(rt, rt.alloc(), wanted.setup)?;
+    let store = open_if(rt, wanted.store, start, Begins::Record)?;
     let work = Work::Replay { why: wanted.why };
-    over_store(
-        rt,
-        threads,
-        setup,
-        wanted.store,
-        start,
-        work,
-        watch,
-        input,
-        output,
-        notes,
-    )
+    over_store(rt, threads, setup, store, work, watch, input, output, notes)
 }
 
 /// Prints the report on the record.
@@ -252,19 +242,19 @@ fn reported<'a, T: Threads + Wait + Sync + Copy + Send + 'static, S: Start, R: B
         form: form_of(report.format),
         upto,
     };
-    let store = over_store(
+    let store = open(rt, report.store, start, Begins::Nothing)?;
+    let closed = over_store(
         rt,
         threads,
         setup,
-        Some(report.store),
-        start,
+        Some(store),
         work,
         &mut Tally::new(),
         input,
         output,
         notes,
     )?;
-    Ok(Ending::Done(store))
+    Ok(Ending::Done(closed))
 }
 
 /// Serves the files, one for each station in the setup's order, and prints the log. After a fault
@@ -292,33 +282,36 @@ fn served<'a, T: Threads + Wait + Sync + Copy + Send + 'static, S: Start, R: Buf
             return Err(fault);
         }
     };
-    let store = over_store(
+    let store = open_if(rt, store, start, Begins::Record)?;
+    let closed = over_store(
         rt,
         threads,
         setup,
         store,
-        start,
         Work::Serve(feeds),
         &mut Tally::new(),
         input,
         output,
         notes,
     )?;
-    Ok(Ending::Done(store))
+    Ok(Ending::Done(closed))
 }
 
 /// Migrates the store, and prints `migrated`. Faults, in this order: those of the setup's file, and
 /// of the setup; those of opening the store; those of migrating it; those of closing it.
-fn migrated<S: Start, W: Write>(
+fn migrated<'a, S: Start, W: Write>(
     rt: &HostRuntime,
     setup: &str,
-    store: &str,
+    store: &'a str,
     start: S,
     output: &mut W,
-) -> Result<(), CommandFault> {
+) -> Result<ClosedStore<'a>, CommandFault>
+    ensures { IfOk result (λ closed. closed.path ≡ store.entry) }
+{
     let setup = read_setup(rt, rt.alloc(), setup)?;
     let ended = store::migrate(rt, store, start, &setup);
     drop(setup);
-    ended?;
-    write_line(output, "migrated\n")
+    let closed = ended?;
+    write_line(output, "migrated\n")?;
+    Ok(closed)
 }

@@ -1,18 +1,18 @@
 //! Copies a store to one new file, and checks the copy.
 ghost use Rattle.std.specs.Prelude.{◌≡◌, IfOk, IsTrue};
-ghost use Rattle.sqlite_std_file.specs.File.{file_is_usable};
 ghost use Rattle.nest_core.specs.SetupRows.{museum_of, rows_of};
 
 use crate::advice::{Advice, folder_of, on_target};
 use crate::fault::CommandFault;
 use crate::files::{read_file, setup_in};
-use crate::store::{self, Begins, FileRegister};
+use crate::store::{Begins, ClosedStore, OpenStore, open};
 use copy_core::{PourFault, opens_to, pour};
 use hub_core::Hub;
 use nest_core::Setup;
 use posting_core::Ledger;
 use register_store::{Register, StoreFault};
-use sqlite::{FileFrom, Files, Start};
+use sqlite::{Files, Start};
+use sqlite_disk::Disk;
 use std::alloc::Global;
 use std::fs::{File, OpenOptions, TryLockError};
 use std::io::{ErrorKind, Write};
@@ -36,23 +36,25 @@ use std::{fs, io};
 ///
 /// NoMemory can come instead of any of them. `S` and `U` stand for the contents of the files of the
 /// store, and of the copy.
-pub fn copied<S: Start, U: Start, W: Write>(
+pub fn copied<'a, S: Start, U: Start, W: Write>(
     rt: &HostRuntime,
     setup: &str,
-    store: &str,
+    path: &'a str,
     to: &str,
     start: S,
     again: U,
     output: &mut W,
-) -> Result<(), CommandFault> {
+) -> Result<ClosedStore<'a>, CommandFault>
+    ensures { IfOk result (λ closed. closed.path ≡ path.entry) }
+{
     let alloc = rt.alloc();
     let bytes = read_file(rt, setup)?;
     let first = setup_in(alloc, setup, bytes.as_slice())?;
     refuse_target(rt, to)?;
-    let (register, _) = store::open(rt, store, start, Begins::Nothing)?;
-    let (ledger, mut files) = closed(rt, store, first, register)?;
+    let store = open(rt, path, start, Begins::Nothing)?;
+    let (ledger, mut files, closed) = judged_and_closed(rt, first, store)?;
     let part = format!(in alloc; "{to}.part")?;
-    let held = write_part(rt, store, &part, &mut files)?;
+    let held = write_part(rt, path, &part, &mut files)?;
     drop(files);
     let second = setup_in(alloc, setup, bytes.as_slice())?;
     compare(rt, &part, again, second, &ledger)?;
@@ -60,30 +62,31 @@ pub fn copied<S: Start, U: Start, W: Write>(
     drop(held);
     let count = ledger.entry_count();
     let noun = if count == 1 { "entry" } else { "entries" };
-    writeln!(output, "copied {count} {noun}").map_err(|_| CommandFault::WriteFailed)
+    match writeln!(output, "copied {count} {noun}") {
+        Ok(()) => Ok(closed),
+        Err(_) => Err(CommandFault::WriteFailed),
+    }
 }
 
-/// Judges the record of a store, and closes it. Returns the ledger and the store's two files, which
-/// stay locked.
-fn closed<S: Start>(
+/// Judges the record of a store, and closes it. Returns the ledger, the store's two files, which
+/// stay locked, and the closed store.
+fn judged_and_closed<'a, D: Disk + Drop>(
     rt: &HostRuntime,
-    path: &str,
     setup: Setup,
-    register: FileRegister<S>,
-) -> Result<(Ledger, Files<FileFrom<S>>), CommandFault>
+    mut store: OpenStore<'a, D>,
+) -> Result<(Ledger, Files<D>, ClosedStore<'a>), CommandFault>
     ensures museum { IfOk result (λ r. r.0.museum ≡ setup) }
-    ensures usable { IfOk result (λ r. IsTrue (file_is_usable S.Start r.1.db)) }
+    ensures usable { IfOk result (λ r. IsTrue (D.Disk.is_usable r.1.db)) }
+    ensures named { IfOk result (λ r. r.2.path ≡ store.entry.path) }
 {
-    let (register, judged) = judged(rt.alloc(), setup, register);
+    let (register, judged) = judged(rt.alloc(), setup, store.register);
+    store.register = register;
     match judged {
         Ok(ledger) => {
-            let files = store::files(rt, path, register)?;
-            Ok((ledger, files))
+            let (files, closed) = store.into_files(rt)?;
+            Ok((ledger, files, closed))
         }
-        Err(fault) => {
-            let fault = CommandFault::from(fault);
-            Err(store::closed_with(rt, path, register, fault))
-        }
+        Err(fault) => Err(store.closed_with(rt, CommandFault::from(fault))),
     }
 }
 
@@ -119,13 +122,13 @@ fn refuse_target(rt: &HostRuntime, to: &str) -> Result<(), CommandFault> {
 
 /// Writes the bytes of the database file to the part file, and syncs it. The returned file is
 /// locked, so that no other copy writes to it.
-fn write_part<S: Start>(
+fn write_part<D: Disk>(
     rt: &HostRuntime,
     store: &str,
     part: &str,
-    files: &mut Files<FileFrom<S>>,
+    files: &mut Files<D>,
 ) -> Result<File, CommandFault>
-    requires { IsTrue (file_is_usable S.Start files.old.db) }
+    requires { IsTrue (D.Disk.is_usable files.old.db) }
 {
     let mut file = open_part(rt, store, part)?;
     match pour(rt.alloc(), &mut files.db, &mut file) {
@@ -185,14 +188,30 @@ fn compare<U: Start>(
 ) -> Result<(), CommandFault>
     requires { setup ≡ ledger.now.museum }
 {
-    let (register, _) = store::open(rt, part, again, Begins::Nothing)?;
-    let (register, same) = compared(rt.alloc(), setup, register, ledger);
-    let ended = match same {
-        Ok(true) => Ok(()),
-        Ok(false) => Err(CommandFault::File(on_difference(rt, part))),
-        Err(fault) => Err(CommandFault::from(fault)),
+    let store = open(rt, part, again, Begins::Nothing)?;
+    compare_open(rt, store, setup, ledger)
+}
+
+/// Compares the record in the open part file with the ledger, and closes the part file.
+fn compare_open<D: Disk + Drop>(
+    rt: &HostRuntime,
+    mut store: OpenStore<'_, D>,
+    setup: Setup,
+    ledger: &Ledger,
+) -> Result<(), CommandFault>
+    requires { setup ≡ ledger.now.museum }
+{
+    let (register, same) = compared(rt.alloc(), setup, store.register, ledger);
+    store.register = register;
+    let fault = match same {
+        Ok(true) => {
+            store.close(rt)?;
+            return Ok(());
+        }
+        Ok(false) => CommandFault::File(on_difference(rt, store.path())),
+        Err(fault) => CommandFault::from(fault),
     };
-    store::close(rt, part, register, ended)
+    Err(store.closed_with(rt, fault))
 }
 
 /// Compares the register's record with the ledger. Returns the register, and whether the record is

@@ -1,19 +1,20 @@
 //! How a command ends: what goes to standard error, and the exit status.
 
 use crate::fault::CommandFault;
+use crate::store::ClosedStore;
 use crate::usage::on_missing;
 use command_words::WordsFault;
 use std::alloc::Global;
 use std::io::Write;
 
-/// How a command without a fault ends, with the path of the store that has its record, if there is
-/// one. The store is closed again.
+/// How a command without a fault ends, with the store that has its record, if there is one. The store
+/// was opened and is closed again.
 #[derive(Clone, Copy)]
 pub enum Ending<'a> {
     /// The command is done.
-    Done(Option<&'a str>),
+    Done(Option<ClosedStore<'a>>),
     /// The command is a strict replay. It is done, but a line was bad, refused or not applied.
-    NotApplied(Option<&'a str>),
+    NotApplied(Option<ClosedStore<'a>>),
     /// The help is printed, and this is the exit status.
     Printed(u8),
 }

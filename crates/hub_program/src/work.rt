@@ -1,14 +1,16 @@
-//! Opens the store of a command, has its work done on the record, and closes the store.
-ghost use Rattle.std.specs.Prelude.{◌≡◌, length, IfOk, Some};
-ghost use Rattle.command_words.specs.Words.{text_of};
+//! Has the work of a command done on the record, and closes the store.
+ghost use Rattle.std.specs.Prelude.{◌≡◌, length, IfOk, OnOk, OnErr, MatchOption, option_map};
+ghost use Rattle.hub_program.specs.Places.{path_of, IsDoneAndKept, IsDoneInMemory, IsKeptAlone};
+ghost use Rattle.register_sql.specs.Stores.{in_store};
+ghost use Rattle.sqlite.specs.Files.{file_state};
 ghost use Rattle.work_core.specs.Works.{HasFeeds};
 
 use crate::fault::CommandFault;
-use crate::store::{self, Begins, FileRegister};
+use crate::store::{ClosedStore, OpenStore};
 use hub_core::Watch;
 use nest_core::Setup;
 use register_store::PlainRegister;
-use sqlite::Start;
+use sqlite_disk::Disk;
 use std::alloc::AllocError;
 use std::io::{BufRead, Write};
 use std::sync::Wait;
@@ -16,25 +18,15 @@ use std::thread::Threads;
 use work_core::visible::add_on_one_line;
 use work_core::{Work, WorkFault, do_work};
 
-/// How a command treats a path that has no store yet.
-fn begins(work: &Work) -> Begins {
-    if work.begins_record() {
-        Begins::Record
-    } else {
-        Begins::Nothing
-    }
-}
-
-/// Does the work on the record in the store, and returns the path of the store that was opened and
-/// closed. If no store is named, the record is empty, and in memory. Notes for the user are
-/// appended to `notes`; print them only if there is no fault.
+/// Does the work on the record in the open store, and closes the store. Without a store the record is
+/// empty, and in memory. Notes for the user are appended to `notes`; print them only if there is no
+/// fault.
 ///
-/// Faults, in this order: those of opening the store; those of the work, as of [`do_work`]; those
-/// of closing the store. `S` stands for the contents of the store's files.
+/// Faults, in this order: those of the work, as of [`do_work`]; those of closing the store.
 pub fn over_store<
     'a,
     T: Threads + Wait + Sync + Copy + Send + 'static,
-    S: Start,
+    D: Disk + Drop,
     V: Watch,
     R: BufRead,
     W: Write,
@@ -42,25 +34,34 @@ pub fn over_store<
     rt: &HostRuntime,
     threads: &T,
     setup: Setup,
-    store: Option<&'a str>,
-    start: S,
+    store: Option<OpenStore<'a, D>>,
     work: Work,
     watch: &mut V,
     input: &mut R,
     output: &mut W,
     notes: &mut String,
-) -> Result<Option<&'a str>, CommandFault>
+) -> Result<Option<ClosedStore<'a>>, CommandFault>
     requires { HasFeeds (length setup.stations) work }
-    ensures { IfOk result (λ kept. text_of kept ≡ text_of store.entry) }
+    ensures named { IfOk result (λ kept.
+        path_of kept ≡ option_map (λ s. s.path.now) store.entry) }
+    ensures done { OnOk result (MatchOption store.entry
+        (IsDoneInMemory setup work (V.has_seen watch.old) (V.has_seen watch.new)
+        (R.remaining input.old) (R.remaining input.new)
+        (W.contents output.old) (W.contents output.new))
+        (λ s. IsDoneAndKept (λ r. in_store (file_state r.conn)) D.Disk setup s.register work
+        (V.has_seen watch.old) (V.has_seen watch.new)
+        (R.remaining input.old) (R.remaining input.new)
+        (W.contents output.old) (W.contents output.new))) }
 {
     match store {
         None => {
             in_memory(rt, threads, setup, work, watch, input, output, notes)?;
             Ok(None)
         }
-        Some(path) => in_file(
-            rt, threads, setup, path, start, work, watch, input, output, notes,
-        ),
+        Some(store) => {
+            let closed = in_file(rt, threads, setup, store, work, watch, input, output, notes)?;
+            Ok(Some(closed))
+        }
     }
 }
 
@@ -75,6 +76,10 @@ fn in_memory<T: Threads + Wait + Sync + Copy + Send + 'static, V: Watch, R: BufR
     notes: &mut String,
 ) -> Result<(), CommandFault>
     requires { HasFeeds (length setup.stations) work }
+    ensures { OnOk result (IsDoneInMemory setup work
+        (V.has_seen watch.old) (V.has_seen watch.new)
+        (R.remaining input.old) (R.remaining input.new)
+        (W.contents output.old) (W.contents output.new)) }
 {
     let alloc = rt.alloc();
     let register = PlainRegister::new(alloc);
@@ -84,14 +89,18 @@ fn in_memory<T: Threads + Wait + Sync + Copy + Send + 'static, V: Watch, R: BufR
 }
 
 /// Drops the register, and returns the end of the work with the command's fault.
-fn ended_of<R: Drop>(done: (R, Result<(), WorkFault>)) -> Result<(), CommandFault> {
+fn ended_of<R: Drop>(done: (R, Result<(), WorkFault>)) -> Result<(), CommandFault>
+    ensures { OnErr done.1 (OnOk result ⊥) }
+{
     let (register, ended) = done;
     drop(register);
     with_command_fault(ended)
 }
 
 /// The end of the work with the command's fault.
-fn with_command_fault(ended: Result<(), WorkFault>) -> Result<(), CommandFault> {
+fn with_command_fault(ended: Result<(), WorkFault>) -> Result<(), CommandFault>
+    ensures { OnErr ended (OnOk result ⊥) }
+{
     match ended {
         Ok(()) => Ok(()),
         Err(fault) => Err(CommandFault::from(fault)),
@@ -101,7 +110,7 @@ fn with_command_fault(ended: Result<(), WorkFault>) -> Result<(), CommandFault> 
 fn in_file<
     'a,
     T: Threads + Wait + Sync + Copy + Send + 'static,
-    S: Start,
+    D: Disk + Drop,
     V: Watch,
     R: BufRead,
     W: Write,
@@ -109,48 +118,54 @@ fn in_file<
     rt: &HostRuntime,
     threads: &T,
     setup: Setup,
-    path: &'a str,
-    start: S,
+    mut store: OpenStore<'a, D>,
     work: Work,
     watch: &mut V,
     input: &mut R,
     output: &mut W,
     notes: &mut String,
-) -> Result<Option<&'a str>, CommandFault>
+) -> Result<ClosedStore<'a>, CommandFault>
     requires { HasFeeds (length setup.stations) work }
-    ensures { IfOk result (λ kept. text_of kept ≡ Some path.now) }
+    ensures named { IfOk result (λ closed. closed.path ≡ store.entry.path) }
+    ensures done { OnOk result (IsDoneAndKept (λ r. in_store (file_state r.conn)) D.Disk setup
+        store.entry.register work (V.has_seen watch.old) (V.has_seen watch.new)
+        (R.remaining input.old) (R.remaining input.new)
+        (W.contents output.old) (W.contents output.new)) }
 {
-    match store::open(rt, path, start, begins(&work)) {
-        Ok((register, is_new)) => {
-            let alloc = rt.alloc();
-            let (register, ended) = do_work(
-                threads, alloc, setup, register, work, watch, input, output, notes,
-            );
-            finish(rt, path, register, is_new, ended, notes)?;
-            Ok(Some(path))
-        }
-        Err(fault) => {
-            drop(setup);
-            drop(work);
-            Err(fault)
-        }
+    let (register, ended) = do_work(
+        threads,
+        rt.alloc(),
+        setup,
+        store.register,
+        work,
+        watch,
+        input,
+        output,
+        notes,
+    );
+    store.register = register;
+    match ended {
+        Ok(()) => finish(rt, store, notes),
+        Err(fault) => Err(store.closed_with(rt, CommandFault::from(fault))),
     }
 }
 
-/// Closes the store after the work ended in this way, and adds the note about a new store.
-fn finish<S: Start>(
+/// Closes the store after the work, and adds the note about a new store.
+fn finish<'a, D: Disk + Drop>(
     rt: &HostRuntime,
-    path: &str,
-    register: FileRegister<S>,
-    is_new: bool,
-    ended: Result<(), WorkFault>,
+    store: OpenStore<'a, D>,
     notes: &mut String,
-) -> Result<(), CommandFault> {
-    store::close(rt, path, register, with_command_fault(ended))?;
+) -> Result<ClosedStore<'a>, CommandFault>
+    ensures named { IfOk result (λ closed. closed.path ≡ store.entry.path) }
+    ensures kept { OnOk result
+        (IsKeptAlone D.Disk (in_store (file_state store.entry.register.conn))) }
+{
+    let is_new = store.is_new();
+    let closed = store.close(rt)?;
     if is_new {
-        add_new_store(notes, path)?;
+        add_new_store(notes, closed.path())?;
     }
-    Ok(())
+    Ok(closed)
 }
 
 /// Appends the note about a new store.

@@ -36,13 +36,6 @@ pub enum Work {
     Serve(Vec<TextFeed>),
 }
 
-impl Work {
-    /// Returns whether the work begins a record if the store has none.
-    pub fn begins_record(&self) -> bool {
-        !matches!(self, Work::Print { .. })
-    }
-}
-
 /// Opens a hub with this setup over the register, and does the work with it. Returns the register
 /// and, if the work stopped, its fault. A serving needs a feed for each station.
 ///
