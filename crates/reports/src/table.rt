@@ -1,6 +1,6 @@
 //! A table: the widths of its columns, and its lines.
-ghost use Rattle.std.specs.Prelude.{◌≡◌, ◌<◌, IfOk, OnOk, Some, length, map, slice_get};
-ghost use Rattle.std.specs.Prelude.{string_bytes};
+ghost use Rattle.std.specs.Prelude.{◌≡◌, ◌<◌, ◌≤◌, ◌∷◌, ◌++◌, [], IfOk, OnOk, Some, get_or, length};
+ghost use Rattle.std.specs.Prelude.{map, max, set, slice_get, string_bytes};
 ghost use Rattle.reports.specs.Aligned.{aligned_line, cell_text, filled, filled_texts, row_texts};
 ghost use Rattle.reports.specs.Aligned.{wider, width};
 ghost use Rattle.reports.specs.Cells.{cell_of};
@@ -101,12 +101,21 @@ fn widen(widths: &mut Vec<usize>, texts: &[String]) -> Result<(), NoMemory>
         ≡ wider widths.old.items (map width (map string_bytes texts.now))) }
 {
     for i in 0..texts.len() {
-        let width = width(texts[i].as_str());
-        if i < widths.len() {
-            widths[i] = widths[i].max(width);
-        } else {
-            widths.push(width)?;
-        }
+        widen_column(widths, i, width(texts[i].as_str()))?;
+    }
+    Ok(())
+}
+
+/// Widens the column at index `i`, or adds it after the last one.
+fn widen_column(widths: &mut Vec<usize>, i: usize, width: usize) -> Result<(), NoMemory>
+    ensures within { i < length widths.old.items → OnOk result (widths.new.items
+        ≡ set widths.old.items i (max (get_or widths.old.items i 0) width)) }
+    ensures past { length widths.old.items ≤ i
+        → OnOk result (widths.new.items ≡ widths.old.items ++ width ∷ []) }
+{
+    match widths.get_mut(i) {
+        Some(old) => *old = width.max(*old),
+        None => widths.push(width)?,
     }
     Ok(())
 }

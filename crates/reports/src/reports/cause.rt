@@ -1,6 +1,5 @@
 //! The sentence on why a message got its verdict.
 ghost use Rattle.std.specs.Prelude.{◌≡◌, IfOk, map, option_map};
-ghost use Rattle.posting_core.specs.Agreements.{agreement};
 ghost use Rattle.reports.specs.Causes.{code_of, destination, details, direction_of, direction_word, inside};
 ghost use Rattle.reports.specs.Causes.{last_day_of, location_of, or_no_place, owner_of, owner_word};
 ghost use Rattle.reports.specs.Causes.{phrase};
@@ -11,7 +10,7 @@ ghost use Rattle.reports.specs.Loans.{stage_word};
 
 use crate::field::Field;
 use crate::optional_fields::{day_if, loan_if, place_code_if, place_if, thing_if};
-use crate::reports::loan::{agreed_terms, stage_field};
+use crate::reports::loan::{partner_of, stage_field};
 use cause_core::{Culprit, container_named, find_culprit, loan_named, thing_named};
 use codes_core::{Day, LoanCode, NoMemory, PlaceCode, ThingCode, ThingKind};
 use posting_core::{Ledger, LineStage, Message, Verdict};
@@ -187,16 +186,6 @@ fn destination<'a>(ledger: &Ledger, message: &Message) -> Field<'a>
         Message::Return { place, .. } => Field::Place(*place),
         Message::Receive { place, .. } => Field::Place(*place),
         _ => Field::Nothing,
-    }
-}
-
-/// The place of a loan's partner, if the loan is agreed.
-fn partner_of(ledger: &Ledger, loan: &LoanCode) -> Option<PlaceCode>
-    ensures { result ≡ option_map (λ t. t.partner) (agreement ledger.now.posted loan.now) }
-{
-    match agreed_terms(ledger, loan) {
-        Some(terms) => Some(terms.partner),
-        None => None,
     }
 }
 

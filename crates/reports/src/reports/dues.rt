@@ -2,17 +2,17 @@
 ghost use Rattle.std.specs.Prelude.{◌≡◌, ◌++◌, [], IfOk, OnOk, map};
 ghost use Rattle.std.specs.Option.{option_map_or};
 ghost use Rattle.posting_core.specs.Agreements.{agreement};
-ghost use Rattle.reports.specs.LoanLists.{due_row, due_rows, dues, dues_of, partner_of};
+ghost use Rattle.reports.specs.LoanLists.{due_row, due_rows, dues, dues_of};
 ghost use Rattle.reports.specs.Terms.{agreement_with};
 ghost use Rattle.reports.specs.Cells.{cell_of};
 
 use crate::Form;
 use crate::field::Field;
 use crate::optional_fields::{day_if, place_if};
-use crate::reports::loan::{Terms, agreed_terms, stage_field, stage_of};
+use crate::reports::loan::{Terms, agreed_terms, partner_of, stage_field, stage_of};
 use crate::reports::loans::{Phase, ends_by, is_at};
 use crate::rows::Rows;
-use codes_core::{Day, LoanCode, NoMemory, PlaceCode, ThingCode};
+use codes_core::{Day, LoanCode, NoMemory, ThingCode};
 use posting_core::Ledger;
 use std::alloc::Global;
 
@@ -110,14 +110,4 @@ fn due_row<'a>(alloc: Global, ledger: &Ledger, due: Due) -> Result<Vec<Field<'a>
         stage,
         partner,
     ]?)
-}
-
-/// The partner of a loan, if it is agreed.
-fn partner_of(ledger: &Ledger, loan: &LoanCode) -> Option<PlaceCode>
-    ensures { result ≡ partner_of ledger.now loan.now }
-{
-    match agreed_terms(ledger, loan) {
-        Some(terms) => Some(terms.partner),
-        None => None,
-    }
 }

@@ -4,6 +4,7 @@ ghost use Rattle.std.specs.Option.{option_and_then};
 ghost use Rattle.nest_core.specs.Museum.{find_thing};
 ghost use Rattle.posting_core.specs.Agreements.{agreement, agreement_by};
 ghost use Rattle.posting_core.specs.Book.{line_in};
+ghost use Rattle.reports.specs.LoanLists.{partner_of};
 ghost use Rattle.reports.specs.Loans.{object_row, stage_word, state_word, terms_words};
 ghost use Rattle.reports.specs.Terms.{agreement_with};
 ghost use Rattle.reports.specs.Cells.{text_if, cell_of};
@@ -66,6 +67,16 @@ pub(crate) fn agreed_terms<'a>(ledger: &'a Ledger, loan: &LoanCode) -> Option<Te
     ensures { option_map agreement_with result ≡ agreement ledger.entry.now.posted loan.now }
 {
     terms_in(ledger.agreement(loan)?)
+}
+
+/// The partner of a loan, if it is agreed.
+pub(crate) fn partner_of(ledger: &Ledger, loan: &LoanCode) -> Option<PlaceCode>
+    ensures { result ≡ partner_of ledger.now loan.now }
+{
+    match agreed_terms(ledger, loan) {
+        Some(terms) => Some(terms.partner),
+        None => None,
+    }
 }
 
 /// The terms that an entry agrees, if it agrees a loan.
