@@ -21,8 +21,6 @@ use Rattle.command_words.specs.Commands.{Form, at, away, commands, contents, cop
 use Rattle.command_words.specs.Commands.{help, history, loan, migrate, overdue, overview, posted}
 use Rattle.command_words.specs.Commands.{replay, serve}
 use Rattle.command_words.specs.Commands.{dues, loans, stations, where_is, why}
-use Rattle.command_words.specs.declared.reading.Files.{Files}
-use Rattle.command_words.specs.declared.reading.Record.{Record}
 use Rattle.command_words.specs.declared.command.Report.{Report}
 use Rattle.command_words.specs.declared.command.Format.{Format}
 use Rattle.command_words.specs.declared.command.Format.TheVariants.{Csv, Json, Lines, Table}
@@ -208,18 +206,6 @@ FromRefusal error NoMemory = kind_of error ≡ OutOfMemory
 -- `clap` accepts the words, and these are its matches.
 abbrev pub IsRead : App → List Text → List Row → Type 0
 IsRead app words rows = (fault_of app words ≡ []) × (rows ≡ matches_of app words)
-
--- `clap` accepts the words, and they name these files.
-abbrev pub GivesFiles : App → List Text → Files → Type 0
-GivesFiles app words files = (fault_of app words ≡ [])
-    × (value app words (codes "setup") ≡ text_of files.setup)
-    × (value app words (codes "store") ≡ text_of files.store)
-
--- `clap` accepts the words, and they name both files.
-abbrev pub GivesRecord : App → List Text → Record → Type 0
-GivesRecord app words files = (fault_of app words ≡ [])
-    × (value app words (codes "setup") ≡ Some files.setup.now)
-    × (value app words (codes "store") ≡ Some files.store.now)
 
 -- The words of a report have no error, and name both files and one form.
 abbrev pub GivesReport : App → List Text → Report → Type 0

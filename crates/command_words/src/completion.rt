@@ -110,9 +110,8 @@ fn fill_in<'a>(
 {
     match value {
         Some(value) if !value.is_empty() && lacks(words, option) => {
-            line.push(option.name())?;
-            line.push(value)?;
-            Ok(())
+            let name: &'a str = option.name();
+            line.extend_from_slice(&[name, value])
         }
         _ => Ok(()),
     }
@@ -130,11 +129,8 @@ pub fn complete<'a>(
     ensures words { IfOk result (λ line. texts_of line.items
         ≡ completed (texts_of words.now) (text_of setup.entry) (text_of store.entry)) }
 {
-    let mut line = Vec::new(alloc);
-    let Some((name, rest)) = words.split_first() else {
-        return Ok(line);
-    };
-    line.push(*name)?;
+    let (first, rest) = words.split_at(words.len().min(1));
+    let mut line = first.to_vec(alloc)?;
     fill_in(&mut line, words, FileOption::Setup, setup)?;
     fill_in(&mut line, words, FileOption::Store, store)?;
     line.extend_from_slice(rest)?;

@@ -1,5 +1,5 @@
 //! The arguments of commands, and how they are built for `clap`.
-ghost use Rattle.std.specs.Prelude.{◌≡◌, false};
+ghost use Rattle.std.specs.Prelude.{◌≡◌, Some, false};
 ghost use Rattle.clap.specs.Words.{app_of, rule_of};
 ghost use Rattle.command_words.specs.Commands.{file_rule, flag_rule, option_rule};
 ghost use Rattle.command_words.specs.Commands.{word_rule, words_rule};
@@ -75,26 +75,31 @@ pub(crate) const TABLE: Argument = Argument {
     help: "Print aligned columns with a heading",
 };
 
+/// What `clap` does with the argument's values.
+fn action_of(argument: &Argument) -> ArgAction
+    ensures { (rule_by argument.now).action ≡ Some result }
+{
+    match argument.kind {
+        Kind::File(_) | Kind::Valued | Kind::Word => ArgAction::Set,
+        Kind::Flag => ArgAction::SetTrue,
+        Kind::Words => ArgAction::Append,
+    }
+}
+
 /// Returns the argument as `clap` takes it.
 pub(crate) fn made<'a>(alloc: Global, argument: &Argument) -> Arg<'a>
     ensures rule { rule_of result ≡ rule_by argument.now }
     ensures local { result.global ≡ false }
 {
     let id = argument.id;
-    let made = Arg::new(alloc, id).help(argument.help);
+    let made = Arg::new(alloc, id)
+        .help(argument.help)
+        .action(action_of(argument));
     match argument.kind {
-        Kind::File(letter) => made
-            .long(id)
-            .short(letter)
-            .value_name(argument.value)
-            .action(ArgAction::Set),
-        Kind::Valued => made
-            .long(id)
-            .value_name(argument.value)
-            .action(ArgAction::Set),
-        Kind::Flag => made.long(id).action(ArgAction::SetTrue),
-        Kind::Word => made.value_name(argument.value).action(ArgAction::Set),
-        Kind::Words => made.value_name(argument.value).action(ArgAction::Append),
+        Kind::File(letter) => made.long(id).short(letter).value_name(argument.value),
+        Kind::Valued => made.long(id).value_name(argument.value),
+        Kind::Flag => made.long(id),
+        Kind::Word | Kind::Words => made.value_name(argument.value),
     }
 }
 

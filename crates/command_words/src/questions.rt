@@ -5,10 +5,8 @@ ghost use Rattle.std.specs.Prelude.{Some, codes};
 ghost use Rattle.command_words.specs.Commands as commands;
 ghost use Rattle.command_words.specs.Words.{Chooses, IsNamed, texts_of};
 
-use crate::reading::{read_word, read_word_if};
-use crate::report_reading::{
-    read_report, read_report_and, read_report_and_entries, read_report_and_options,
-};
+use crate::reading::{is_set, needed, one, read, read_word};
+use crate::report_reading::{entries_of, read_report, read_report_and, report_in};
 use crate::shapes::Name;
 use crate::{Asked, Chosen, WordsFault};
 use std::alloc::Global;
@@ -18,14 +16,16 @@ pub(crate) fn explain<'a>(alloc: Global, words: &'a [&'a str]) -> Result<Chosen<
     ensures { Chooses (Some commands.explain) (texts_of words.now) result }
 {
     let name = read_word(alloc, Name::Explain, words, "name")?;
-    Ok(Chosen::Explain { name })
+    Ok(Chosen::Explain {
+        name: needed(name)?,
+    })
 }
 
 pub(crate) fn help<'a>(alloc: Global, words: &'a [&'a str]) -> Result<Chosen<'a>, WordsFault>
     requires { IsNamed (texts_of words.now) (codes "help") }
     ensures { Chooses (Some commands.help) (texts_of words.now) result }
 {
-    let topic = read_word_if(alloc, Name::Help, words, "topic")?;
+    let topic = read_word(alloc, Name::Help, words, "topic")?;
     Ok(Chosen::Help { topic })
 }
 
@@ -73,23 +73,24 @@ pub(crate) fn posted<'a>(alloc: Global, words: &'a [&'a str]) -> Result<Chosen<'
     requires { IsNamed (texts_of words.now) (codes "posted") }
     ensures { Chooses (Some commands.posted) (texts_of words.now) result }
 {
-    let (report, entries) = read_report_and_entries(alloc, Name::Posted, words)?;
-    Ok(Chosen::Report(report, Asked::Posted(entries)))
+    let matches = read(alloc, Name::Posted, words)?;
+    let entries = entries_of(&matches);
+    let report = report_in(alloc, Name::Posted, &matches);
+    drop(matches);
+    Ok(Chosen::Report(report?, Asked::Posted(entries)))
 }
 
 pub(crate) fn loans<'a>(alloc: Global, words: &'a [&'a str]) -> Result<Chosen<'a>, WordsFault>
     requires { IsNamed (texts_of words.now) (codes "loans") }
     ensures { Chooses (Some commands.loans) (texts_of words.now) result }
 {
-    let (report, on, by, open) = read_report_and_options(
-        alloc,
-        Name::Loans,
-        words,
-        "on",
-        "by",
-        "open",
-    )?;
-    Ok(Chosen::Report(report, Asked::Loans { on, by, open }))
+    let matches = read(alloc, Name::Loans, words)?;
+    let on = one(&matches, "on");
+    let by = one(&matches, "by");
+    let open = is_set(&matches, "open");
+    let report = report_in(alloc, Name::Loans, &matches);
+    drop(matches);
+    Ok(Chosen::Report(report?, Asked::Loans { on, by, open }))
 }
 
 pub(crate) fn dues<'a>(alloc: Global, words: &'a [&'a str]) -> Result<Chosen<'a>, WordsFault>

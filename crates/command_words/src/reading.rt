@@ -1,14 +1,11 @@
 //! Reads the values of a command's arguments.
-ghost use Rattle.std.specs.Prelude.{◌≡◌, [], IfOk, MatchResult, None, Some, codes, true};
+ghost use Rattle.std.specs.Prelude.{◌≡◌, ◌&&◌, [], IfOk, MatchResult, None, Some, codes, false};
+ghost use Rattle.std.specs.Prelude.{is_some, true};
 ghost use Rattle.clap.specs.Faults.{fault_of, is_simple_and_free};
 ghost use Rattle.clap.specs.Words.{app_of, first_of, found_of, rows_of};
-ghost use Rattle.command_words.specs.Commands.{all_needed, both_needed, one_needed};
 ghost use Rattle.command_words.specs.Tables.{app_by};
-ghost use Rattle.command_words.specs.Words.{GivesFiles, GivesRecord};
-ghost use Rattle.command_words.specs.Words.{IsFaultBy};
 ghost use Rattle.command_words.specs.Words.{IsRead, IsRefused, all_in};
-ghost use Rattle.command_words.specs.Words.{is_given};
-ghost use Rattle.command_words.specs.Words.{is_true, text_of, texts_of, value, values};
+ghost use Rattle.command_words.specs.Words.{is_true, text_of, texts_of, value};
 ghost use Rattle.command_words.specs.declared.command.WordsFault.TheVariants.{Missing, NoMemory};
 
 use crate::WordsFault;
@@ -75,8 +72,8 @@ pub(crate) fn files_of<'a, 'b>(found: &'b ArgMatches<'a>) -> Files<'a>
     }
 }
 
-/// All values of an argument.
-fn all<'a, 'b>(
+/// Returns all values of an argument. Fault: AllocError, if memory runs out.
+pub(crate) fn all<'a, 'b>(
     alloc: Global,
     matches: &'b ArgMatches<'a>,
     id: &'static str,
@@ -99,64 +96,6 @@ pub(crate) fn is_set(matches: &ArgMatches<'_>, id: &'static str) -> bool
     }
 }
 
-/// The setup and the store, if the words name them.
-fn read_files<'a>(alloc: Global, name: Name, words: &'a [&'a str]) -> Result<Files<'a>, WordsFault>
-    ensures { MatchResult result
-        (GivesFiles (app_by name) (texts_of words.now))
-        (IsRefused (app_by name) (texts_of words.now)) }
-{
-    let matches = read(alloc, name, words)?;
-    let files = files_of(&matches);
-    drop(matches);
-    Ok(files)
-}
-
-/// Returns the setup and the store, if the words name them, and whether each of three flags is
-/// given. Faults: as for [`read_by`].
-pub(crate) fn read_files_and_flags<'a>(
-    alloc: Global,
-    name: Name,
-    words: &'a [&'a str],
-    first: &'static str,
-    second: &'static str,
-    third: &'static str,
-) -> Result<(Files<'a>, bool, bool, bool), WordsFault>
-    ensures { MatchResult result
-        (λ r. GivesFiles (app_by name) (texts_of words.now) r.0
-        × (is_given (app_by name) (texts_of words.now) first.now ≡ r.1)
-        × (is_given (app_by name) (texts_of words.now) second.now ≡ r.2)
-        × (is_given (app_by name) (texts_of words.now) third.now ≡ r.3))
-        (IsRefused (app_by name) (texts_of words.now)) }
-{
-    let matches = read(alloc, name, words)?;
-    let files = files_of(&matches);
-    let has_first = is_set(&matches, first);
-    let has_second = is_set(&matches, second);
-    let has_third = is_set(&matches, third);
-    drop(matches);
-    Ok((files, has_first, has_second, has_third))
-}
-
-/// Returns the setup and the store, if the words name them, and all values of one more argument.
-/// Faults: as for [`read_by`].
-pub(crate) fn read_files_and_all<'a>(
-    alloc: Global,
-    name: Name,
-    words: &'a [&'a str],
-    id: &'static str,
-) -> Result<(Files<'a>, Vec<&'a str>), WordsFault>
-    ensures { MatchResult result
-        (λ r. GivesFiles (app_by name) (texts_of words.now) r.0
-        × (values (app_by name) (texts_of words.now) id.now ≡ texts_of r.1.items))
-        (IsRefused (app_by name) (texts_of words.now)) }
-{
-    let matches = read(alloc, name, words)?;
-    let files = files_of(&matches);
-    let given = all(alloc, &matches, id);
-    drop(matches);
-    Ok((files, given?))
-}
-
 /// Returns the value. Fault: Missing, exactly if there is none.
 pub(crate) fn needed(value: Option<&str>) -> Result<&str, WordsFault>
     ensures { MatchResult result
@@ -169,71 +108,22 @@ pub(crate) fn needed(value: Option<&str>) -> Result<&str, WordsFault>
     }
 }
 
-/// Returns the setup and the store of a command that needs both. Faults: Refused, if `clap` rejects
-/// the words; Missing, if either is missing. NoMemory can come instead of any result.
-pub(crate) fn read_record<'a>(
-    alloc: Global,
-    name: Name,
-    words: &'a [&'a str],
-) -> Result<Record<'a>, WordsFault>
+/// Returns the setup and the store. Fault: Missing, exactly if either is missing.
+pub(crate) fn record_of(files: Files<'_>) -> Result<Record<'_>, WordsFault>
     ensures { MatchResult result
-        (GivesRecord (app_by name) (texts_of words.now))
-        (IsFaultBy (Some (both_needed (app_by name))) (texts_of words.now)) }
+        (λ r. (files.entry.setup ≡ Some r.setup) × (files.entry.store ≡ Some r.store))
+        (λ fault. (fault ≡ Missing)
+        × (is_some (text_of files.entry.setup) && is_some (text_of files.entry.store) ≡ false)) }
 {
-    let files = read_files(alloc, name, words)?;
     Ok(Record {
         setup: needed(files.setup)?,
         store: needed(files.store)?,
     })
 }
 
-/// Returns the setup, the store and one more value of a command that needs all three. Faults:
-/// Refused, if `clap` rejects the words; Missing, if one of the three is missing. NoMemory can come
-/// instead of any result.
-pub(crate) fn read_record_and<'a>(
-    alloc: Global,
-    name: Name,
-    words: &'a [&'a str],
-    id: &'static str,
-) -> Result<(Record<'a>, &'a str), WordsFault>
-    ensures { MatchResult result
-        (λ r. GivesRecord (app_by name) (texts_of words.now) r.0
-        × (value (app_by name) (texts_of words.now) id.now ≡ Some r.1.now))
-        (IsFaultBy (Some (all_needed (app_by name) id.now)) (texts_of words.now)) }
-{
-    let matches = read(alloc, name, words)?;
-    let files = files_of(&matches);
-    let own = one(&matches, id);
-    drop(matches);
-    let record = Record {
-        setup: needed(files.setup)?,
-        store: needed(files.store)?,
-    };
-    Ok((record, needed(own)?))
-}
-
-/// Returns the value of the only argument of a command, which is needed. Faults: Refused, if `clap`
-/// rejects the words; Missing, if there is no value. NoMemory can come instead of any result.
-pub(crate) fn read_word<'a>(
-    alloc: Global,
-    name: Name,
-    words: &'a [&'a str],
-    id: &'static str,
-) -> Result<&'a str, WordsFault>
-    ensures { MatchResult result
-        (λ r. (fault_of (app_by name) (texts_of words.now) ≡ [])
-        × (value (app_by name) (texts_of words.now) id.now ≡ Some r.now))
-        (IsFaultBy (Some (one_needed (app_by name) id.now)) (texts_of words.now)) }
-{
-    let matches = read(alloc, name, words)?;
-    let own = one(&matches, id);
-    drop(matches);
-    needed(own)
-}
-
 /// Returns the value of the only argument of a command, None if it has none. Faults: as for
 /// [`read_by`].
-pub(crate) fn read_word_if<'a>(
+pub(crate) fn read_word<'a>(
     alloc: Global,
     name: Name,
     words: &'a [&'a str],

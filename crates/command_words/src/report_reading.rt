@@ -1,12 +1,12 @@
 //! Reads the words of reports.
 ghost use Rattle.std.specs.Prelude.{◌≡◌, IfOk, MatchResult, None, Some};
-ghost use Rattle.clap.specs.Words.{found_of, kind_of, matches_of, rows_of};
+ghost use Rattle.clap.specs.Words.{found_of, kind_of, rows_of};
 ghost use Rattle.command_words.specs.Commands.{all_needed, both_needed, report};
 ghost use Rattle.command_words.specs.Tables.{app_by};
 ghost use Rattle.command_words.specs.Words.{GivesReport, HoldsEntries, HoldsReport, IsFaultBy};
-ghost use Rattle.command_words.specs.Words.{IsNoReport, format_by, is_given, text_of, texts_of, value};
+ghost use Rattle.command_words.specs.Words.{IsNoReport, format_by, is_given, texts_of, value};
 
-use crate::reading::{files_of, is_set, needed, one, read};
+use crate::reading::{files_of, is_set, needed, one, read, record_of};
 use crate::shapes::{Name, bare};
 use crate::{Entries, Format, Report, WordsFault};
 use clap::error::ErrorKind;
@@ -29,7 +29,7 @@ fn format_of(csv: bool, json: bool, table: bool) -> Option<Format>
 
 /// The setup, the store and the form of a report. Two of `--csv`, `--json` and `--table` are
 /// rejected with the error that `clap` has for two options that exclude each other.
-fn report_in<'a, 'b>(
+pub(crate) fn report_in<'a, 'b>(
     alloc: Global,
     name: Name,
     found: &'b ArgMatches<'a>,
@@ -43,10 +43,10 @@ fn report_in<'a, 'b>(
     let Some(format) = format_of(csv, json, is_set(found, "table")) else {
         return Err(WordsFault::Refused(both_formats(alloc, name, csv, json)?));
     };
-    let files = files_of(found);
+    let record = record_of(files_of(found))?;
     Ok(Report {
-        setup: needed(files.setup)?,
-        store: needed(files.store)?,
+        setup: record.setup,
+        store: record.store,
         upto: one(found, "upto"),
         format,
     })
@@ -84,31 +84,13 @@ pub(crate) fn read_report<'a>(
         (IsFaultBy (Some (report (both_needed (app_by name)))) (texts_of words.now)) }
 {
     let matches = read(alloc, name, words)?;
-    report_in(alloc, name, &matches)
-}
-
-/// Returns what [`read_report`] returns, and the value of one more argument, None if it has none.
-/// Faults: as for [`read_report`].
-pub(crate) fn read_report_and_perhaps<'a>(
-    alloc: Global,
-    name: Name,
-    words: &'a [&'a str],
-    id: &'static str,
-) -> Result<(Report<'a>, Option<&'a str>), WordsFault>
-    ensures { MatchResult result
-        (λ r. GivesReport (app_by name) (texts_of words.now) r.0
-        × (value (app_by name) (texts_of words.now) id.now ≡ text_of r.1))
-        (IsFaultBy (Some (report (both_needed (app_by name)))) (texts_of words.now)) }
-{
-    let matches = read(alloc, name, words)?;
     let report = report_in(alloc, name, &matches);
-    let own = one(&matches, id);
     drop(matches);
-    Ok((report?, own))
+    report
 }
 
 /// Which entries the words ask for.
-fn entries_of<'a, 'b>(found: &'b ArgMatches<'a>) -> Entries<'a>
+pub(crate) fn entries_of<'a, 'b>(found: &'b ArgMatches<'a>) -> Entries<'a>
     ensures { HoldsEntries (rows_of (found_of found.now)) result }
 {
     Entries {
@@ -119,51 +101,6 @@ fn entries_of<'a, 'b>(found: &'b ArgMatches<'a>) -> Entries<'a>
         loan: one(found, "loan"),
         refused: is_set(found, "refused"),
     }
-}
-
-/// Returns what [`read_report`] returns, and which entries the words ask for. Faults: as for
-/// [`read_report`].
-pub(crate) fn read_report_and_entries<'a>(
-    alloc: Global,
-    name: Name,
-    words: &'a [&'a str],
-) -> Result<(Report<'a>, Entries<'a>), WordsFault>
-    ensures { MatchResult result
-        (λ r. GivesReport (app_by name) (texts_of words.now) r.0
-        × HoldsEntries (matches_of (app_by name) (texts_of words.now)) r.1)
-        (IsFaultBy (Some (report (both_needed (app_by name)))) (texts_of words.now)) }
-{
-    let matches = read(alloc, name, words)?;
-    let report = report_in(alloc, name, &matches);
-    let entries = entries_of(&matches);
-    drop(matches);
-    Ok((report?, entries))
-}
-
-/// Returns what [`read_report`] returns, the values of two more arguments, None for one that has
-/// none, and whether a flag is given. Faults: as for [`read_report`].
-pub(crate) fn read_report_and_options<'a>(
-    alloc: Global,
-    name: Name,
-    words: &'a [&'a str],
-    first: &'static str,
-    second: &'static str,
-    flag: &'static str,
-) -> Result<(Report<'a>, Option<&'a str>, Option<&'a str>, bool), WordsFault>
-    ensures { MatchResult result
-        (λ r. GivesReport (app_by name) (texts_of words.now) r.0
-        × (value (app_by name) (texts_of words.now) first.now ≡ text_of r.1)
-        × (value (app_by name) (texts_of words.now) second.now ≡ text_of r.2)
-        × (is_given (app_by name) (texts_of words.now) flag.now ≡ r.3))
-        (IsFaultBy (Some (report (both_needed (app_by name)))) (texts_of words.now)) }
-{
-    let matches = read(alloc, name, words)?;
-    let report = report_in(alloc, name, &matches);
-    let first = one(&matches, first);
-    let second = one(&matches, second);
-    let is_given = is_set(&matches, flag);
-    drop(matches);
-    Ok((report?, first, second, is_given))
 }
 
 /// Returns what [`read_report`] returns, and the value of one more argument, which is needed.
@@ -180,8 +117,8 @@ pub(crate) fn read_report_and<'a>(
         (IsFaultBy (Some (report (all_needed (app_by name) id.now)))
         (texts_of words.now)) }
 {
-    let (report, own) = read_report_and_perhaps(alloc, name, words, id)?;
-    Ok((report, needed(own)?))
+    let (report, own, _) = read_report_and_flag(alloc, name, words, id, id)?;
+    Ok((report, own))
 }
 
 /// Returns what [`read_report_and`] returns, and whether a flag is given. Faults: as for
@@ -200,6 +137,10 @@ pub(crate) fn read_report_and_flag<'a>(
         (IsFaultBy (Some (report (all_needed (app_by name) id.now)))
         (texts_of words.now)) }
 {
-    let (report, own, _, is_given) = read_report_and_options(alloc, name, words, id, id, flag)?;
-    Ok((report, needed(own)?, is_given))
+    let matches = read(alloc, name, words)?;
+    let own = one(&matches, id);
+    let is_given = is_set(&matches, flag);
+    let report = report_in(alloc, name, &matches);
+    drop(matches);
+    Ok((report?, needed(own)?, is_given))
 }

@@ -10,9 +10,7 @@ ghost use Rattle.command_words.specs.Words.{refusals, texts_of};
 use crate::questions::{
     at, contents, dues, explain, help, loan, loans, posted, stations, where_is, why,
 };
-use crate::reading::{
-    needed, read_by, read_files_and_all, read_files_and_flags, read_record, read_record_and,
-};
+use crate::reading::{all, files_of, is_set, needed, one, read, read_by, record_of};
 use crate::report_reading::{read_report, read_report_and, read_report_and_flag};
 use crate::shapes::{self, Name, find_command};
 use crate::{Asked, Chosen, WordsFault};
@@ -70,14 +68,12 @@ fn replay<'a>(alloc: Global, words: &'a [&'a str]) -> Result<Chosen<'a>, WordsFa
     requires { IsNamed (texts_of words.now) (codes "replay") }
     ensures { Chooses (Some commands.replay) (texts_of words.now) result }
 {
-    let (files, progress, strict, why) = read_files_and_flags(
-        alloc,
-        Name::Replay,
-        words,
-        "progress",
-        "strict",
-        "why",
-    )?;
+    let matches = read(alloc, Name::Replay, words)?;
+    let files = files_of(&matches);
+    let progress = is_set(&matches, "progress");
+    let strict = is_set(&matches, "strict");
+    let why = is_set(&matches, "why");
+    drop(matches);
     Ok(Chosen::Replay {
         setup: needed(files.setup)?,
         store: files.store,
@@ -91,11 +87,14 @@ fn serve<'a>(alloc: Global, words: &'a [&'a str]) -> Result<Chosen<'a>, WordsFau
     requires { IsNamed (texts_of words.now) (codes "serve") }
     ensures { Chooses (Some commands.serve) (texts_of words.now) result }
 {
-    let (files, feeds) = read_files_and_all(alloc, Name::Serve, words, "feeds")?;
+    let matches = read(alloc, Name::Serve, words)?;
+    let files = files_of(&matches);
+    let feeds = all(alloc, &matches, "feeds");
+    drop(matches);
     Ok(Chosen::Serve {
         setup: needed(files.setup)?,
         store: files.store,
-        feeds,
+        feeds: feeds?,
     })
 }
 
@@ -135,7 +134,10 @@ fn migrate<'a>(alloc: Global, words: &'a [&'a str]) -> Result<Chosen<'a>, WordsF
     requires { IsNamed (texts_of words.now) (codes "migrate") }
     ensures { Chooses (Some commands.migrate) (texts_of words.now) result }
 {
-    let record = read_record(alloc, Name::Migrate, words)?;
+    let matches = read(alloc, Name::Migrate, words)?;
+    let files = files_of(&matches);
+    drop(matches);
+    let record = record_of(files)?;
     Ok(Chosen::Migrate {
         setup: record.setup,
         store: record.store,
@@ -146,11 +148,15 @@ fn copy<'a>(alloc: Global, words: &'a [&'a str]) -> Result<Chosen<'a>, WordsFaul
     requires { IsNamed (texts_of words.now) (codes "copy") }
     ensures { Chooses (Some commands.copy) (texts_of words.now) result }
 {
-    let (record, to) = read_record_and(alloc, Name::Copy, words, "to")?;
+    let matches = read(alloc, Name::Copy, words)?;
+    let files = files_of(&matches);
+    let to = one(&matches, "to");
+    drop(matches);
+    let record = record_of(files)?;
     Ok(Chosen::Copy {
         setup: record.setup,
         store: record.store,
-        to,
+        to: needed(to)?,
     })
 }
 

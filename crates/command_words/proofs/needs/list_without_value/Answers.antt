@@ -1,4 +1,5 @@
-use Rattle.std.proofs.Common.{◌++◌, ◌+◌, ◌∙◌, Global, List, Vec, ap, drop, not}
+use Rattle.std.proofs.Common.{◌++◌, ◌+◌, ◌∙◌, Global, List, Vec, ap, arith, drop, not, sym}
+use Rattle.std.proofs.lemmas.List.{append-nil, at_drop_all}
 use Rattle.std.specs.Borrow.{Bor}
 use Rattle.clap.specs.Words.{Text, found_of, rows_of}
 use Rattle.command_words.specs.Needs.{without_value}
@@ -25,3 +26,12 @@ loop-id-preserved c =
           ∙ is_passed rows c.args.ids.now c.loop-id.id-index _ c.loop-id-test.true
           c.loop-id.without.items c.loop-id.invariant (has ∙ ap not w.if-is_none.false)
     ]
+
+pub returns : goal.returns
+returns c =
+    let rows = rows_of (found_of c.args.matches.now) in
+    let items = c.loop-id.without.items in
+    sym (append-nil (texts_of items))
+    ∙ (sym (at_drop_all (λ ids. texts_of items ++ without_value rows (texts_of ids))
+    c.args.ids.now c.loop-id.id-index (omega (arith, c.loop-id-test.false)))
+    ∙ c.loop-id.invariant)

@@ -1,16 +1,17 @@
 use Rattle.std.proofs.Common.{Some, ap}
 use Rattle.clap.specs.Words.{Rule}
-use Rattle.clap.specs.declared.builder.action.ArgAction.TheVariants.{Append, Set, SetTrue}
+use Rattle.clap.specs.declared.builder.action.ArgAction.TheVariants.{Set, SetTrue}
 use Rattle.command_words.proofs.options.made.Goals as goal
 
 pub returns-in-File-clause-rule : goal.returns-in-File-clause-rule
 returns-in-File-clause-rule c =
     rw (
-      c.action.ensures,
       c.value_name.ensures,
       c.short.ensures,
       c.long.ensures,
-      c.help-made.ensures,
+      c.action-made.ensures,
+      c.help.ensures,
+      ← c.action_of.ensures,
       c.in-File.is,
     )
     (ap (λ (rule : Rule). record rule {
@@ -24,10 +25,11 @@ returns-in-File-clause-rule c =
 pub returns-in-Valued-clause-rule : goal.returns-in-Valued-clause-rule
 returns-in-Valued-clause-rule c =
     rw (
-      c.action-in-Valued.ensures,
       c.value_name-in-Valued.ensures,
       c.long-in-Valued.ensures,
-      c.help-made.ensures,
+      c.action-made.ensures,
+      c.help.ensures,
+      ← c.action_of.ensures,
       c.in-Valued.is,
     )
     (ap (λ (rule : Rule). record rule {
@@ -39,23 +41,14 @@ returns-in-Valued-clause-rule c =
 
 pub returns-in-Flag-clause-rule : goal.returns-in-Flag-clause-rule
 returns-in-Flag-clause-rule c =
-    rw (c.action-in-Flag.ensures, c.long-in-Flag.ensures, c.help-made.ensures, c.in-Flag.is)
+    rw (
+      c.long-in-Flag.ensures,
+      c.action-made.ensures,
+      c.help.ensures,
+      ← c.action_of.ensures,
+      c.in-Flag.is,
+    )
     (ap (λ (rule : Rule). record rule {
       long = Some c.args.argument.now.id.now;
       action = Some SetTrue;
     }) c.new.ensures.rule)
-
-pub returns-in-Word-clause-rule : goal.returns-in-Word-clause-rule
-returns-in-Word-clause-rule c =
-    rw (c.action-in-Word.ensures, c.value_name-in-Word.ensures, c.help-made.ensures, c.in-Word.is)
-    (ap (λ (rule : Rule). record rule { value_names = 1; action = Some Set }) c.new.ensures.rule)
-
-pub returns-in-Words-clause-rule : goal.returns-in-Words-clause-rule
-returns-in-Words-clause-rule c =
-    rw (
-      c.action-in-Words.ensures,
-      c.value_name-in-Words.ensures,
-      c.help-made.ensures,
-      c.in-Words.is,
-    )
-    (ap (λ (rule : Rule). record rule { value_names = 1; action = Some Append }) c.new.ensures.rule)

@@ -15,5 +15,5 @@ returns-in_err-matches c =
 
 pub returns : goal.returns
 returns c =
-    report_read (app_by c.args.name) (texts_of c.args.words.now) _ c.report_in.result
-    c.in_ok-matches.ensures c.report_in.ensures
+    report_read (app_by c.args.name) (texts_of c.args.words.now) _ c.report_in-report.result
+    c.in_ok-matches.ensures c.report_in-report.ensures

@@ -1,4 +1,5 @@
-use Rattle.std.proofs.Common.{◌∙◌, ap}
+use Rattle.std.proofs.Common.{◌∙◌, ap, arith, sym}
+use Rattle.std.proofs.lemmas.List.{at_drop_all}
 use Rattle.clap.specs.Words.{app_of, with_rule}
 use Rattle.command_words.specs.Tables.{with_arguments}
 use Rattle.command_words.proofs.Tables.{one_argument_more}
@@ -16,3 +17,9 @@ loop-argument-preserved c =
     c.loop-argument-test.true c.loop-argument.invariant
     (c.in_ok-command.ensures.shape c.made.ensures.local
     ∙ ap (with_rule (app_of c.loop-argument.command)) c.made.ensures.rule)
+
+pub returns : goal.returns
+returns c =
+    sym (at_drop_all (with_arguments (app_of c.loop-argument.command)) _
+    c.loop-argument.argument-index (omega (arith, c.loop-argument-test.false)))
+    ∙ c.loop-argument.invariant

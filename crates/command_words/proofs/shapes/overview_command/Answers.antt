@@ -1,7 +1,9 @@
-use Rattle.std.proofs.Common.{◌≡◌, ◌∙◌, ◌&&◌, Bool, ap, arith, false, not, refl, true}
+use Rattle.std.proofs.Common.{◌≡◌, ◌∙◌, ◌&&◌, Bool, ap, arith, false, not, refl, sym, true}
+use Rattle.std.proofs.lemmas.List.{at_drop_all}
 use Rattle.clap.specs.Words.{App, app_of, shape_of, with_subcommand}
 use Rattle.clap.specs.declared.builder.command.Command.{Command}
 use Rattle.clap.specs.declared.builder.command.Command.TheViews.{out-Command as fields_of}
+use Rattle.command_words.specs.Tables.{with_commands}
 use Rattle.command_words.proofs.Tables.{all, one_more, plain_by, whole}
 use Rattle.command_words.proofs.shapes.overview_command.Goals as goal
 
@@ -28,3 +30,9 @@ loop-name-preserved c =
     c.loop-name.invariant
     (c.in_ok-command.ensures.shape (no_globals _ (plain_by _ c.in-Ok.next made))
     ∙ ap (λ (a : App). with_subcommand above a.top) made)
+
+pub returns : goal.returns
+returns c =
+    sym (at_drop_all (with_commands (app_of c.loop-name.command)) all c.loop-name.name-index
+    (omega (arith, c.loop-name-test.false)))
+    ∙ c.loop-name.invariant
