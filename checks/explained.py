@@ -1,5 +1,5 @@
 #!/usr/bin/env python3
-"""Whether `explain` knows each word that docs/FORMATS.md and the sources of the replies, reports and faults know, in any letter
+"""Whether `explain` knows each word that the reference and the sources of the replies, reports and faults know, in any letter
 case, and suggests it for a slip.
 
 Usage: explained.py PROGRAM. It prints each word that is not explained, or not in three or four lines of 80 columns."""
@@ -11,6 +11,8 @@ import subprocess
 import sys
 
 ROOT = os.path.dirname(os.path.dirname(os.path.abspath(__file__)))
+# the pages of the reference, in docs/
+PAGES = ("FORMATS", "REPLIES", "COMMANDS", "REPORTS", "FAULTS", "STORE")
 NAME = r"[A-Z][A-Za-z]+"
 # names one after the other, each with what it means, from these words to the end of the paragraph
 LISTS = ("The faults of a text, ", "Faults of a line, ", "Refusals, ", "Why it isn't opened, ")
@@ -132,12 +134,13 @@ def suggestion(word):
 
 
 def main():
-    program, formats, words = os.path.abspath(sys.argv[1]), text_of("docs", "FORMATS.md"), explained_words()
+    program, words = os.path.abspath(sys.argv[1]), explained_words()
+    formats = "\n".join(text_of("docs", f"{page}.md") for page in PAGES)
     lowered = [word.lower() for word in words]
     wrong = [f"{word}: twice" for word in set(lowered) if lowered.count(word) > 1]
     wanted = formats_names(formats) | source_names() | set(REPLIES)
     wrong += [f"{word}: not explained" for word in wanted if word.lower() not in lowered]
-    wrong += [f"{word}: not in docs/FORMATS.md" for word in words if not re.search(rf"\b{word}\b", formats, re.I)]
+    wrong += [f"{word}: not in the reference" for word in words if not re.search(rf"\b{word}\b", formats, re.I)]
     for word in words:
         said = ran(program, word)
         if not is_explained(said, word):

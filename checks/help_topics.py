@@ -1,5 +1,5 @@
 #!/usr/bin/env python3
-"""Whether the program accepts each example on the pages of its help, and whether the pages have every kind that docs/FORMATS.md
+"""Whether the program accepts each example on the pages of its help, and whether the pages have every kind that the reference
 lists.
 
 Usage: help_topics.py PROGRAM. It prints what is wrong, and how many pages it has read."""
@@ -11,6 +11,8 @@ import sys
 import tempfile
 
 ROOT = os.path.dirname(os.path.dirname(os.path.abspath(__file__)))
+# the pages of the reference, in docs/, whose tables are compared
+REFERENCE = ["FORMATS", "REPLIES", "REPORTS"]
 TOPICS = ["setup", "lines", "counts", "verdicts", "files"]
 WIDTH, HEIGHT = 80, 40
 # what the loan in of a page needs before its object can come
@@ -18,6 +20,11 @@ BEFORE = [
     '{"kind":"agree","loan":"LI2024.1","partner":"MUSEUM-X","objects":["L1999.7"],"first":"2024-05-01","last":"2024-05-31"}',
     '{"kind":"authorise","loan":"LI2024.1","by":"Ann"}',
 ]
+
+
+def text_of(*path):
+    with open(os.path.join(ROOT, *path), encoding="utf-8") as file:
+        return file.read()
 
 
 def table(formats, head):
@@ -30,8 +37,7 @@ class Pages:
     def __init__(self, program, folder):
         self.program, self.folder = os.path.abspath(program), folder
         os.symlink(self.program, self.path("pairsalder"))
-        with open(os.path.join(ROOT, "docs", "FORMATS.md"), encoding="utf-8") as file:
-            self.formats = file.read()
+        self.formats = "\n".join(text_of("docs", f"{page}.md") for page in REFERENCE)
 
     def path(self, name):
         return os.path.join(self.folder, name)

@@ -24,7 +24,7 @@ PR_CAPBSET_DROP, CAP_DAC_OVERRIDE, CAP_DAC_READ_SEARCH = 24, 1, 2
 
 
 def tables(room):
-    """The tables and columns that docs/FORMATS.md tells, the fifteen and two that may not be NULL among them, and the rows
+    """The tables and columns that docs/STORE.md tells, the fifteen and two that may not be NULL among them, and the rows
     that the definitions give the posted list."""
     room.made(LOAN)
     rows, shapes, sound = read(room.store)
