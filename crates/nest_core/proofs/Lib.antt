@@ -24,3 +24,5 @@ pub mod Whole
 pub mod Blanks
 pub mod NestLaws
 pub mod Alone
+pub mod Growing
+pub mod FurtherRows

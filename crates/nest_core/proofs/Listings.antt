@@ -1,16 +1,15 @@
 -- The item that a row lists, and the fault of a row, from the values read.
 use Rattle.std.specs.Prelude.{◌≡◌, ℕ, ◌==◌, ◌&&◌, Bool, true, false, not, cond, List, [], ◌∷◌}
-use Rattle.std.specs.Prelude.{Option, Some, None, refl}
+use Rattle.std.specs.Prelude.{Option, Some, None, option_map, refl}
 use Rattle.std.proofs.lemmas.Bool.Decides.{nat_tests}
 use Rattle.std.proofs.Common.{arith, ap, sym, ◌∙◌}
 use Rattle.codes_core.specs.Thing.{thing_kind}
 use Rattle.codes_core.specs.declared.thing.ThingKind.{ThingKind}
 use Rattle.codes_core.specs.declared.thing.ThingKind.TheVariants.{Own, Borrowed, Container}
-use Rattle.nest_core.specs.Museum.{Museum}
 use Rattle.nest_core.specs.SetupRows.{Fields, field, field_count, fields_of_kind, has_word}
 use Rattle.nest_core.specs.SetupRows.{has_codes, has_normal, is_of_kind, is_place_code, is_right}
-use Rattle.nest_core.specs.SetupRows.{is_thing_code, listed, listing_fault, kind_fault, row_fault}
-use Rattle.nest_core.specs.SetupRows.{row_kind, with_kind, with_listed, with_row}
+use Rattle.nest_core.specs.SetupRows.{is_thing_code, item_of, listed, kind_fault, own_fault}
+use Rattle.nest_core.specs.SetupRows.{row_kind}
 use Rattle.nest_core.specs.InOrder.{◌if◌, first_or}
 use Rattle.nest_core.specs.declared.setup_fault.SetupFault.{SetupFault}
 use Rattle.nest_core.specs.declared.setup_fault.SetupFault.TheVariants.{BadFields, BadCode}
@@ -50,24 +49,25 @@ listed_right kind.Box row h = box_right _ (thing_kind (field row 1)) h
 listed_right kind.Own row h = own_right _ _ (thing_kind (field row 1)) (field row 2) h
 listed_right kind.Lent row h = lent_right _ (thing_kind (field row 1)) h
 
--- the fault of a row by its parts
-pub fault_of : (S : Museum) (n : ℕ) (row : Fields) (t : Bool) (k : Option RowKind)
+-- the fault and the item of a row by its parts
+fault_of : (n : ℕ) (row : Fields) (t : Bool) (k : Option RowKind)
     → (field_count row == 0) ≡ t → row_kind (field row 0) ≡ k
-    → row_fault S n row ≡ cond t None (kind_fault S n row k)
-fault_of S n row t k e f =
-    ap (λ b. cond b None (kind_fault S n row (row_kind (field row 0)))) e
-    ∙ ap (λ q. cond t None (kind_fault S n row q)) f
+    → own_fault n row ≡ cond t None (kind_fault n row k)
+fault_of n row t k e f =
+    ap (λ b. cond b None (kind_fault n row (row_kind (field row 0)))) e
+    ∙ ap (λ q. cond t None (kind_fault n row q)) f
 
-pub row_of : (S : Museum) (row : Fields) (t : Bool) (k : Option RowKind)
+item_by : (row : Fields) (t : Bool) (k : Option RowKind)
     → (field_count row == 0) ≡ t → row_kind (field row 0) ≡ k
-    → with_row S row ≡ cond t S (with_kind S row k)
-row_of S row t k e f =
-    ap (λ b. cond b S (with_kind S row (row_kind (field row 0)))) e
-    ∙ ap (λ q. cond t S (with_kind S row q)) f
+    → item_of row ≡ cond t None (option_map (λ k. listed k row) k)
+item_by row t k e f =
+    ap (λ b. cond b None (option_map (λ k. listed k row) (row_kind (field row 0)))) e
+    ∙ ap (λ q. cond t None (option_map (λ k. listed k row) q)) f
 
-faults_over : (n : ℕ) (a b : Bool) (o : Option SetupFault) → a ≡ true → b ≡ true
-    → first_or o ((Some (BadFields n) if not a) ∷ (Some (BadCode n) if not b) ∷ []) ≡ o
-faults_over n a b o e f = rw (e, f) refl
+no_faults : (n : ℕ) (a b : Bool) → a ≡ true → b ≡ true
+    → ◌≡◌ {A = Option SetupFault}
+    (first_or None ((Some (BadFields n) if not a) ∷ (Some (BadCode n) if not b) ∷ [])) None
+no_faults n a b e f = rw (e, f) refl
 
 -- the values read from a row that lists an item
 pub record IsRead (row : Fields) (k : RowKind) (item : SetupRow) : Type 0 where
@@ -106,17 +106,15 @@ is_read row k item count wanted word counted some kind_is wants enough has right
       item_is = codes.1;
     }
 
-pub fault_read : (S : Museum) (n : ℕ) (row : Fields) (k : RowKind) (item : SetupRow)
-    → IsRead row k item → row_fault S n row ≡ listing_fault S n item
-fault_read S n row k item is =
-    fault_of S n row false (Some k) is.some is.kind_is
-    ∙ faults_over n _ _ (listing_fault S n (listed k row)) is.fields is.codes
-    ∙ ap (listing_fault S n) (sym is.item_is)
+pub none_own : (n : ℕ) (row : Fields) (k : RowKind) (item : SetupRow)
+    → IsRead row k item → own_fault n row ≡ None
+none_own n row k item is =
+    fault_of n row false (Some k) is.some is.kind_is ∙ no_faults n _ _ is.fields is.codes
 
-pub with_read : (S : Museum) (row : Fields) (k : RowKind) (item : SetupRow) → IsRead row k item
-    → with_row S row ≡ with_listed S item
-with_read S row k item is = row_of S row false (Some k) is.some is.kind_is ∙ ap (with_listed S)
-    (sym is.item_is)
+pub item_read : (row : Fields) (k : RowKind) (item : SetupRow) → IsRead row k item
+    → ◌≡◌ {A = Option SetupRow} (Some item) (item_of row)
+item_read row k item is =
+    ap Some is.item_is ∙ sym (item_by row false (Some k) is.some is.kind_is)
 
 -- the item that a row of this kind lists, if its codes are valid
 abbrev chosen : RowKind → Fields → Option SetupRow

@@ -14,12 +14,15 @@ use Rattle.codes_core.specs.Thing.{thing_fault, thing_kind}
 use Rattle.codes_core.specs.declared.thing.ThingKind.{ThingKind}
 use Rattle.codes_core.specs.declared.thing.ThingKind.TheVariants.{Own, Borrowed, Container}
 use Rattle.nest_core.specs.declared.TheConstants.{MOST_STATIONS, MOST_PLACES, MOST_THINGS}
-use Rattle.nest_core.specs.Museum.{Museum, IsMuseum, find_station, find_place, find_thing}
+use Rattle.nest_core.specs.declared.growth.Growth.{Growth}
+use Rattle.nest_core.specs.declared.growth.Listed.{Listed}
+use Rattle.nest_core.specs.Museum.{Museum, IsMuseum, NeverFell, find_station, find_place, find_thing}
 use Rattle.nest_core.specs.Museum.{place_codes, thing_codes, has_right_normal, is_place_row}
-use Rattle.nest_core.specs.Museum.{is_thing_row}
+use Rattle.nest_core.specs.Museum.{is_thing_row, listed_now}
 use Rattle.nest_core.specs.SetupRows.{has_normal, is_right, lacks_normal, listing_fault}
 use Rattle.nest_core.specs.SetupRows.{with_listed}
-use Rattle.nest_core.specs.declared.setup_fault.SetupFault.TheVariants.{TooMany, UnknownNormal}
+use Rattle.nest_core.specs.declared.setup_fault.SetupFault.TheVariants.{Repeated, TooMany}
+use Rattle.nest_core.specs.declared.setup_fault.SetupFault.TheVariants.{UnknownNormal}
 use Rattle.nest_core.specs.StationName.{is_station_name}
 use Rattle.nest_core.specs.declared.setup_row.SetupRow.TheVariants as lists
 use Rattle.nest_core.proofs.Positions.{passes_at, all_push, all_more, EachFound, EachFound-push}
@@ -60,6 +63,13 @@ thing_row_more n m row h e =
     (has_right_normal n (thing_kind row.0) row.1) e in
     rw (both.0, normal_more n m (thing_kind row.0) row.1 h both.1) refl
 
+-- growths that fit what is listed fit a setup that lists more
+pub fell_more : (gs : List Growth) (less more : Listed) → less.places ≤ more.places
+    → less.things ≤ more.things → NeverFell gs less → NeverFell gs more
+fell_more [] less more p t fell = tt
+fell_more (g ∷ gs) less more p t fell =
+    (omega (arith, fell.0), omega (arith, fell.1), fell.2)
+
 -- one more station
 pub IsMuseum-station : (S : Museum) (name : List ℕ) → IsMuseum S → is_station_name name ≡ true
     → find_station S name ≡ None → length S.stations < MOST_STATIONS
@@ -73,7 +83,9 @@ IsMuseum-station S name is right none few = record {
   each_thing = is.each_thing;
   few_stations = omega (arith, length-append S.stations (name ∷ []));
   few_places = is.few_places;
+  few_growths = is.few_growths;
   few_things = is.few_things;
+  never_fell = is.never_fell;
 }
 
 -- one more place
@@ -97,7 +109,11 @@ IsMuseum-place S code inside is right none few =
       each_thing = is.each_thing;
       few_stations = is.few_stations;
       few_places = omega arith;
+      few_growths = is.few_growths;
       few_things = is.few_things;
+      never_fell = fell_more S.growths (listed_now S)
+          (listed_now (record S { places = S.places ++ (code, inside) ∷ [] }))
+          (omega arith) (omega arith) is.never_fell;
     }
 
 -- one more thing
@@ -120,7 +136,11 @@ IsMuseum-thing S code normal is right none few =
           (EachFound-push (thing_codes S) code is.each_thing none);
       few_stations = is.few_stations;
       few_places = is.few_places;
+      few_growths = is.few_growths;
       few_things = omega arith;
+      never_fell = fell_more S.growths (listed_now S)
+          (listed_now (record S { things = S.things ++ (code, normal) ∷ [] }))
+          (omega arith) (omega arith) is.never_fell;
     }
 
 lacking : (found : Option ℕ) → is_none found ≡ false → (p : ℕ) × (found ≡ Some p)
@@ -171,6 +191,11 @@ thing_fits : (S : Museum) (n : ℕ) (code : List ℕ) (normal : Option (List ℕ
     → listing_fault S n (lists.Thing code normal) ≡ None
 thing_fits S n code normal none found few =
     rw (none, found, few_left (length S.things) MOST_THINGS few) refl
+
+pub thing_repeated : (S : Museum) (n : ℕ) (code : List ℕ) (normal : Option (List ℕ))
+    → is_some (find_thing S code) ≡ true
+    → listing_fault S n (lists.Thing code normal) ≡ Some (Repeated n)
+thing_repeated S n code normal there = rw there refl
 
 -- an item without a fault is added last
 pub place_added : (S B : Museum) (n : ℕ) (code : List ℕ) (inside : Bool) → S ≡ B

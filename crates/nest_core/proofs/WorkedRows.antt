@@ -27,6 +27,7 @@ museum = record {
   stations = codes "GAL" ∷ [];
   places = (codes "S1", true) ∷ (codes "MUSEUM-X", false) ∷ [];
   things = (codes "C1", None) ∷ (codes "2001.4.1", Some 0) ∷ (codes "L1999.7", None) ∷ [];
+  growths = [];
 }
 
 most_stations : MOST_STATIONS ≡ 64

@@ -8,3 +8,4 @@ pub mod SetupTexts
 pub mod Puts
 pub mod Nest
 pub mod Records
+pub mod SetupGrowing

@@ -1,7 +1,8 @@
 -- Defines a setup: the stations, places and things of a museum, each with its position in its list,
 -- from 0, as its number.
 use Rattle.std.specs.Prelude.{ℕ, ◌≡◌, ◌+◌, ◌≤◌, ◌&&◌, Bool, true, false, not, nat_lt, List, []}
-use Rattle.std.specs.Prelude.{length, map, Option, Some, None, is_none, option_map, slice_get}
+use Rattle.std.specs.Prelude.{length, map, ◌∷◌, Option, Some, None, is_none, option_map, slice_get}
+use Rattle.std.specs.Prelude.{if◌then◌else◌}
 use Rattle.std.specs.List.{position, list_all}
 use Rattle.std.specs.Option.{option_map_or, option_and_then}
 use Rattle.std.specs.Str.{bytes_eq}
@@ -10,18 +11,23 @@ use Rattle.codes_core.specs.Place.{place_fault}
 use Rattle.codes_core.specs.declared.thing.ThingKind.{ThingKind}
 use Rattle.codes_core.specs.declared.thing.ThingKind.TheVariants.{Own, Borrowed, Container}
 use Rattle.nest_core.specs.declared.TheConstants.{MOST_STATIONS, MOST_PLACES, MOST_THINGS}
+use Rattle.nest_core.specs.declared.TheConstants.{MOST_GROWTHS}
+use Rattle.nest_core.specs.declared.growth.Growth.{Growth}
+use Rattle.nest_core.specs.declared.growth.Listed.{Listed}
 use Rattle.nest_core.specs.StationName.{is_station_name}
 
 -- Stations by name; places by code, each inside the museum (true) or elsewhere, at a partner;
 -- things by code, an own object with its normal place. Numbers are the positions in these lists.
+-- Last, how the setup grew, the newest growth first.
 pub record Museum : Type 0 where
   pub stations : List (List ℕ)
   pub places : List (List ℕ × Bool)
   pub things : List (List ℕ × Option ℕ)
+  pub growths : List Growth
 
 -- A setup without any rows.
 abbrev pub no_museum : Museum
-no_museum = record { stations = []; places = []; things = [] }
+no_museum = record { stations = []; places = []; things = []; growths = [] }
 
 abbrev pub place_codes : Museum → List (List ℕ)
 place_codes S = map (λ row. row.0) S.places
@@ -40,6 +46,36 @@ find_place S code = position (bytes_eq code) (place_codes S)
 -- The number of the thing with this code.
 abbrev pub find_thing : Museum → List ℕ → Option ℕ
 find_thing S code = position (bytes_eq code) (thing_codes S)
+
+-- How much was listed when this many entries had been posted: what the next growth found, or what
+-- is listed now if there was no growth since.
+abbrev pub listed_by : List Growth → ℕ → Listed → Listed
+listed_by [] posted now = now
+listed_by (g ∷ gs) posted now = if nat_lt posted g.after then listed_by gs posted g.listed else now
+
+abbrev pub listed_now : Museum → Listed
+listed_now S = record { places = length S.places; things = length S.things }
+
+abbrev pub listed_at : Museum → ℕ → Listed
+listed_at S posted = listed_by S.growths posted (listed_now S)
+
+-- No growth found more listed than there was after it.
+abbrev pub NeverFell : List Growth → Listed → Type 0
+NeverFell [] now = Unit {0}
+NeverFell (g ∷ gs) now =
+    (g.listed.places ≤ now.places) × (g.listed.things ≤ now.things) × NeverFell gs g.listed
+
+-- The number, if it is less than the count.
+abbrev pub among_first : ℕ → Option ℕ → Option ℕ
+among_first count found = option_and_then (λ i. if nat_lt i count then Some i else None) found
+
+-- The number of the place with this code, if it was listed when this many entries had been posted.
+abbrev pub find_place_at : Museum → ℕ → List ℕ → Option ℕ
+find_place_at S posted code = among_first (listed_at S posted).places (find_place S code)
+
+-- The number of the thing with this code, if it was listed when this many entries had been posted.
+abbrev pub find_thing_at : Museum → ℕ → List ℕ → Option ℕ
+find_thing_at S posted code = among_first (listed_at S posted).things (find_thing S code)
 
 -- The name of station s.
 abbrev pub station_name_of : Museum → ℕ → Option (List ℕ)
@@ -93,9 +129,10 @@ is_container S x = option_map_or is_container_kind (kind_of S x) false
 abbrev pub normal_of : Museum → ℕ → Option ℕ
 normal_of S x = option_and_then (λ row. row.1) (slice_get S.things x)
 
--- The number of rows that list the setup.
+-- The number of rows that list the setup and its growths.
 abbrev pub row_count : Museum → ℕ
-row_count S = length S.stations + length S.places + length S.things
+row_count S =
+    length S.stations + length S.places + length S.things + length S.growths
 
 -- An own object has a normal place, one of this many places; other things have none.
 abbrev pub has_right_normal : ℕ → ThingKind → Option ℕ → Bool
@@ -114,7 +151,7 @@ is_thing_row places row =
     is_none (thing_fault row.0) && has_right_normal places (thing_kind row.0) row.1
 
 -- The invariant of every setup: valid names and codes, none listed twice, and at most 64 stations,
--- 10,000 places and 100,000 things.
+-- 10,000 places, 100,000 things and 10,000 growths.
 pub record IsMuseum (S : Museum) : Type 0 where
   pub names : list_all is_station_name S.stations ≡ true
   pub codes_of_places : list_all is_place_row S.places ≡ true
@@ -129,3 +166,5 @@ pub record IsMuseum (S : Museum) : Type 0 where
   pub few_stations : length S.stations ≤ MOST_STATIONS
   pub few_places : length S.places ≤ MOST_PLACES
   pub few_things : length S.things ≤ MOST_THINGS
+  pub few_growths : length S.growths ≤ MOST_GROWTHS
+  pub never_fell : NeverFell S.growths (listed_now S)

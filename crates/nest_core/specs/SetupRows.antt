@@ -2,7 +2,7 @@
 -- from 1.
 use Rattle.std.specs.Prelude.{ℕ, ◌+◌, ◌≡◌, ◌≢◌, ◌==◌, ◌&&◌, ◌||◌, Bool, true, false, not, nat_le}
 use Rattle.std.specs.Prelude.{List, [], ◌∷◌, ◌++◌, length, fold, Option, Some, None, is_some}
-use Rattle.std.specs.Prelude.{is_none, unwrap_or, slice_get, codes, if◌then◌else◌}
+use Rattle.std.specs.Prelude.{is_none, option_map, unwrap_or, slice_get, codes, if◌then◌else◌}
 use Rattle.std.specs.Option.{option_map_or, option_and_then, option_or}
 use Rattle.std.specs.Str.{bytes_eq, is_utf8}
 use Rattle.csv.specs.Reading.{records, default_config, strip_bom}
@@ -142,26 +142,31 @@ listing_fault S n item = first_or None (
     ∷ (Some (UnknownNormal n) if lacks_normal S item)
     ∷ (Some (TooMany n) if is_full S item) ∷ [])
 
--- The first fault of row n: BadKind, BadFields, BadCode, and then those of the item that it lists.
-abbrev pub kind_fault : Museum → ℕ → Fields → Option RowKind → Option SetupFault
-kind_fault S n row None = Some (BadKind n)
-kind_fault S n row (Some k) = first_or (listing_fault S n (listed k row)) (
+-- The first fault that a row has whatever is listed before it: BadKind, BadFields, BadCode.
+abbrev pub kind_fault : ℕ → Fields → Option RowKind → Option SetupFault
+kind_fault n row None = Some (BadKind n)
+kind_fault n row (Some k) = first_or None (
     (Some (BadFields n) if not ((field_count row == fields_of_kind k) && has_word k row))
     ∷ (Some (BadCode n) if not (has_codes k row)) ∷ [])
 
--- The first fault of row n. A row with no fields is skipped and has none.
+-- That of row n. A row with no fields is skipped and has none.
+abbrev pub own_fault : ℕ → Fields → Option SetupFault
+own_fault n row =
+    if field_count row == 0 then None else kind_fault n row (row_kind (field row 0))
+
+-- The item that a row without such a fault lists. A row that is skipped lists none.
+abbrev pub item_of : Fields → Option SetupRow
+item_of row =
+    if field_count row == 0 then None else option_map (λ k. listed k row) (row_kind (field row 0))
+
+-- The first fault of row n: its own, and then those of the item that it lists.
 abbrev pub row_fault : Museum → ℕ → Fields → Option SetupFault
 row_fault S n row =
-    if field_count row == 0 then None else kind_fault S n row (row_kind (field row 0))
+    option_or (own_fault n row) (option_and_then (listing_fault S n) (item_of row))
 
 -- The setup with the item of one more row.
-abbrev pub with_kind : Museum → Fields → Option RowKind → Museum
-with_kind S row None = S
-with_kind S row (Some k) = with_listed S (listed k row)
-
--- The setup with one more row. A row with no fields is skipped.
 abbrev pub with_row : Museum → Fields → Museum
-with_row S row = if field_count row == 0 then S else with_kind S row (row_kind (field row 0))
+with_row S row = option_map_or (with_listed S) (item_of row) S
 
 -- The row isn't skipped, and has no fault after the rows of S. A reader that runs out of memory may
 -- stop only before a row like this one, or at the point where `csv` stopped.

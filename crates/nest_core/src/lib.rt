@@ -1,9 +1,10 @@
 //! The museum's setup, and the nest: which thing is in which container, and at which place.
 //!
 //! [`Setup`] lists the stations, places and things of the museum and numbers them. It is read from
-//! a CSV file (or rejected with a [`SetupFault`]) and doesn't change afterwards. [`Nest`] keeps
-//! where each thing was last put: directly at a place, or directly in a container. It returns a
-//! thing's place through all its containers, these containers, and the things that it carries.
+//! a CSV file (or rejected with a [`SetupFault`]), and may grow by a further file: what it lists
+//! keeps its number. [`Nest`] keeps where each thing was last put: directly at a place, or directly
+//! in a container. It returns a thing's place through all its containers, these containers, and the
+//! things that it carries.
 //!
 //! The answers of a nest are those of looking back through the list of all puts. No thing is ever
 //! in itself, no thing has more containers above it than the depth limit, and everything that a
@@ -23,11 +24,14 @@
 //! ```
 #![tactic(auto)]
 
+mod grow_fault;
+mod growth;
 mod nest;
 mod put;
 mod records;
 mod setup;
 mod setup_fault;
+mod setup_growing;
 mod setup_reader;
 mod setup_row;
 mod setup_text;
@@ -35,10 +39,13 @@ mod station_name;
 mod steps;
 mod thing_nos;
 
+pub use grow_fault::GrowFault;
+pub use growth::{Growth, Listed};
 pub use nest::{Nest, PackBar, laws};
 pub use put::{Put, Target};
 pub use setup::{PlaceNo, Setup, StationNo, ThingNo};
 pub use setup_fault::SetupFault;
+pub use setup_growing::taking_keeps_numbers;
 pub use setup_row::{field, field_count};
 pub use steps::Steps;
 pub use thing_nos::{Moved, ThingNos};
@@ -51,3 +58,6 @@ pub const MOST_PLACES: usize = 10_000;
 
 /// The most things that a setup can have.
 pub const MOST_THINGS: usize = 100_000;
+
+/// The most growths of a setup.
+pub const MOST_GROWTHS: usize = 10_000;

@@ -1,21 +1,26 @@
 //! The setup: the museum's lists, and the lookups in them.
 ghost use Rattle.std.specs.Prelude.{◌≡◌, ◌≢◌, ◌<◌, ◌≤◌, ◌+◌, true, length, None, Some, IfSome};
-ghost use Rattle.std.specs.Prelude.{OnOk, OnErr, IfErr, IfOk};
+ghost use Rattle.std.specs.Prelude.{OnOk, OnErr, IfErr, IfOk, is_some};
 ghost use Rattle.std.specs.Option.{option_and_then};
 ghost use Rattle.nest_core.specs.Museum.{IsMuseum, find_station, find_place, find_thing};
 ghost use Rattle.nest_core.specs.Museum.{station_name_of, place_code_of, thing_code_of, is_inside};
-ghost use Rattle.nest_core.specs.Museum.{kind_of, normal_of, row_count, no_museum};
+ghost use Rattle.nest_core.specs.Museum.{kind_of, normal_of, row_count, no_museum, is_thing_row};
 ghost use Rattle.nest_core.specs.SetupRows.{is_place_code, is_right, listing_fault, with_listed};
+ghost use Rattle.nest_core.specs.SetupGrowing.{rehomed, taking_fault, with_taken};
 ghost use Rattle.nest_core.specs.StationName.{is_station_name};
 
+use crate::grow_fault::GrowFault;
+use crate::growth::Growth;
 use crate::setup_fault::SetupFault;
 use crate::setup_row::SetupRow;
 use crate::station_name::StationName;
-use crate::{MOST_PLACES, MOST_STATIONS, MOST_THINGS};
+use crate::{MOST_GROWTHS, MOST_PLACES, MOST_STATIONS, MOST_THINGS};
 use codes_core::{NoMemory, PlaceCode, ThingCode, ThingKind};
 use indexmap::{IndexMap, IndexSet};
 use std::alloc::Global;
 use std::marker::Model;
+
+mod growths;
 
 /// A thing's number, from 0 in the order of the setup's rows.
 pub type ThingNo = u32;
@@ -26,12 +31,13 @@ pub type PlaceNo = u32;
 /// A station's number, from 0 in the order of the setup's rows.
 pub type StationNo = u32;
 
-/// The museum's stations, places and things. A setup doesn't change. Contracts see it as its three
-/// lists, in the order of the numbers.
+/// The museum's stations, places and things, and how the setup grew. Contracts see it as its lists,
+/// in the order of the numbers, and its growths, the newest first.
 pub struct Setup {
     stations: IndexSet<StationName>,
     places: IndexMap<PlaceCode, bool>,
     things: IndexMap<ThingCode, Option<PlaceNo>>,
+    growths: Vec<Growth>,
 }
 
 impl Model for Setup {
@@ -45,11 +51,16 @@ impl Model for Setup {
           stations = s.stations.keys;
           places = s.places.entries;
           things = s.things.entries;
+          growths = s.growths.items;
         } };
 
     ghost invariant = { λ s.
-        IsMuseum (record
-        { stations = s.stations.keys; places = s.places.entries; things = s.things.entries }) };
+        IsMuseum (record {
+          stations = s.stations.keys;
+          places = s.places.entries;
+          things = s.things.entries;
+          growths = s.growths.items;
+        }) };
 }
 
 /// Manual `Drop`: a derived one is inlined at every return and slows the proof.
@@ -59,10 +70,12 @@ impl Drop for Setup {
             stations,
             places,
             things,
+            growths,
         } = self;
         drop(stations);
         drop(places);
         drop(things);
+        drop(growths);
     }
 }
 
@@ -83,6 +96,7 @@ impl Setup {
             stations: self.stations.clone()?,
             places: self.places.clone()?,
             things: self.things.clone()?,
+            growths: self.growths.clone()?,
         })
     }
 
@@ -110,12 +124,21 @@ impl Setup {
         self.things.len() as u32
     }
 
-    /// The number of rows that list the setup: one for each station, place and thing.
+    /// The number of rows that list the setup: one for each station, place and thing, and one for
+    /// each growth.
     pub fn rows(&self) -> u32
         ensures count { result ≡ row_count self.now }
-        ensures few { result ≤ MOST_STATIONS + MOST_PLACES + MOST_THINGS }
+        ensures few { result ≤ MOST_STATIONS + MOST_PLACES + MOST_THINGS + MOST_GROWTHS }
     {
-        self.stations() + self.places() + self.things()
+        self.stations() + self.places() + self.things() + self.growth_count()
+    }
+
+    /// The number of growths, at most [`MOST_GROWTHS`].
+    pub fn growth_count(&self) -> u32
+        ensures count { result ≡ length self.now.growths }
+        ensures few { result ≤ MOST_GROWTHS }
+    {
+        self.growths.len() as u32
     }
 
     /// The number of the station with this name, or `None` if there is none.
@@ -204,6 +227,7 @@ impl Setup {
             stations: IndexSet::new(alloc),
             places: IndexMap::new(alloc),
             things: IndexMap::new(alloc),
+            growths: Vec::new(alloc),
         }
     }
 
@@ -280,6 +304,47 @@ impl Setup {
             Some(place) => self.place(&place),
             None => None,
         }
+    }
+
+    /// Gives the thing with this code, which must be listed, the normal location of row `number`.
+    /// Fails with `UnknownNormal` or `NoMemory`, and then nothing changes.
+    pub(crate) fn rehome(
+        &mut self,
+        number: u64,
+        code: ThingCode,
+        normal: Option<PlaceCode>,
+    ) -> Result<(), GrowFault>
+        requires right { is_right (SetupRow.Thing code normal) ≡ true }
+        requires listed { is_some (find_thing self.old code) ≡ true }
+        ensures ok { OnOk result
+            ((taking_fault self.old number (SetupRow.Thing code normal) ≡ None)
+            × (self.new ≡ with_taken self.old (SetupRow.Thing code normal))) }
+        ensures fault { IfErr result
+            (λ fault. fault ≢ GrowFault.Setup SetupFault.NoMemory
+            → taking_fault self.old number (SetupRow.Thing code normal) ≡ Some fault) }
+        ensures unchanged { OnErr result (self.new ≡ self.old) }
+    {
+        let normal_no = self.normal_no(normal);
+        if normal.is_some() && normal_no.is_none() {
+            return Err(GrowFault::Setup(SetupFault::UnknownNormal(number)));
+        }
+        match self.set_normal(code, normal_no) {
+            Ok(()) => Ok(()),
+            Err(fault) => Err(GrowFault::Setup(fault)),
+        }
+    }
+
+    /// Gives the thing with this code, which must be listed, this normal location.
+    fn set_normal(&mut self, code: ThingCode, normal: Option<PlaceNo>) -> Result<(), SetupFault>
+        requires right { is_thing_row (length self.old.places) (code, normal) ≡ true }
+        requires listed { is_some (find_thing self.old code) ≡ true }
+        ensures ok { OnOk result
+            (self.new ≡ record self.old { things = rehomed self.old.things code normal }) }
+        ensures err { IfErr result (λ fault. fault ≡ SetupFault.NoMemory) }
+        ensures unchanged { OnErr result (self.new ≡ self.old) }
+    {
+        self.things.insert(code, normal)?;
+        Ok(())
     }
 
     fn add_thing(

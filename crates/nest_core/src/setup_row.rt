@@ -1,12 +1,10 @@
 //! One row of a setup file: its fields, and the item that it lists.
 ghost use Rattle.std.specs.Prelude.{◌≡◌, ◌≢◌, ◌==◌, is_none, true, None, Some, IfOk, IfErr};
-ghost use Rattle.std.specs.Prelude.{MatchOption, if◌then◌else◌};
+ghost use Rattle.std.specs.Prelude.{IfSome, if◌then◌else◌};
 ghost use Rattle.csv.specs.Records.{fields_of};
-ghost use Rattle.nest_core.specs.Museum.{Museum};
 ghost use Rattle.nest_core.specs.SetupRows.{field, field_count, fields_of_kind, has_word};
 ghost use Rattle.nest_core.specs.SetupRows.{has_codes, is_thing_code, is_place_code, is_right};
-ghost use Rattle.nest_core.specs.SetupRows.{listed, listing_fault, row_fault, row_kind};
-ghost use Rattle.nest_core.specs.SetupRows.{with_listed, with_row};
+ghost use Rattle.nest_core.specs.SetupRows.{item_of, listed, own_fault, row_kind};
 
 use crate::setup_fault::SetupFault;
 use crate::station_name::StationName;
@@ -148,20 +146,15 @@ impl SetupRow {
     /// Returns the item that row `number` lists, or `None` if the row has no fields and is skipped.
     /// Fails with the first of `BadKind`, `BadFields` and `BadCode` that applies.
     pub fn read(number: u64, row: &ByteRecord) -> Result<Option<SetupRow>, SetupFault>
-        // S is the setup that the rows before this one list, whatever they are.
-        ensures ok { IfOk result (λ read. MatchOption read
-            ((S : Museum)
-            → (row_fault S number (fields_of row.now) ≡ None)
-            × (with_row S (fields_of row.now) ≡ S))
-            (λ item. (is_right item ≡ true)
-            × ((S : Museum)
-            → (row_fault S number (fields_of row.now) ≡ listing_fault S number item)
-            × (with_row S (fields_of row.now) ≡ with_listed S item)))) }
+        ensures ok { IfOk result
+            (λ read. (own_fault number (fields_of row.now) ≡ None)
+            × (read ≡ item_of (fields_of row.now))) }
+        ensures right { IfOk result (λ read. IfSome read (λ item. is_right item ≡ true)) }
         ensures skips { IfOk result
             (λ read. (field_count (fields_of row.now) == 0) ≡ is_none read) }
         ensures told { IfErr result (λ fault. fault ≢ SetupFault.NoMemory) }
         ensures fault { IfErr result
-            (λ fault. (S : Museum) → row_fault S number (fields_of row.now) ≡ Some fault) }
+            (λ fault. own_fault number (fields_of row.now) ≡ Some fault) }
     {
         let count = field_count(row);
         if count == 0 {

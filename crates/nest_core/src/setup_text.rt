@@ -3,7 +3,7 @@ ghost use Rattle.std.specs.Prelude.{◌≡◌, ◌-◌, ◌<◌, ◌≤◌, leng
 ghost use Rattle.std.specs.Prelude.{string_bytes};
 ghost use Rattle.nest_core.specs.Museum.{row_count};
 ghost use Rattle.nest_core.specs.SetupTexts.{joined, kind_word, place_fields, setup_rows};
-ghost use Rattle.nest_core.specs.SetupTexts.{station_fields, thing_fields};
+ghost use Rattle.nest_core.specs.SetupTexts.{growth_fields, station_fields, thing_fields};
 
 use crate::setup::{PlaceNo, Setup, StationNo, ThingNo};
 use codes_core::{NoMemory, ThingKind};
@@ -12,7 +12,7 @@ use std::alloc::Global;
 impl Setup {
     /// Returns row `i` of the rows that list the setup, from 1, as in a setup file: stations, then
     /// places, then things, each in the order of their numbers, with the fields joined by commas.
-    /// Fails with `NoMemory`.
+    /// Growths come last, the newest first. Fails with `NoMemory`.
     pub fn row_text(&self, alloc: Global, i: u32) -> Result<String, NoMemory>
         requires from_one { 1 ≤ i }
         requires within { i ≤ row_count self.now }
@@ -27,7 +27,25 @@ impl Setup {
         if place < self.places() {
             return self.place_text(alloc, place);
         }
-        self.thing_text(alloc, place - self.places())
+        let thing = place - self.places();
+        if thing < self.things() {
+            return self.thing_text(alloc, thing);
+        }
+        self.growth_text(alloc, (thing - self.things()) as usize)
+    }
+
+    fn growth_text(&self, alloc: Global, growth: usize) -> Result<String, NoMemory>
+        requires { growth < length self.now.growths }
+        ensures { IfOk result
+            (λ text. slice_get (map (λ g. joined (growth_fields g)) self.now.growths) growth
+            ≡ Some (string_bytes text)) }
+    {
+        let growth = &self.growths()[growth];
+        let after = growth.after;
+        let places = growth.listed.places;
+        let things = growth.listed.things;
+        let text = format!(in alloc; "grew,{after},{places},{things}")?;
+        Ok(text)
     }
 
     fn station_text(&self, alloc: Global, station: StationNo) -> Result<String, NoMemory>

@@ -12,6 +12,7 @@ invariant_of-self-2 c =
       stations = fields.stations.keys;
       places = fields.places.entries;
       things = fields.things.entries;
+      growths = fields.growths.items;
     } in
     let none : find_place S c.args.code ≡ None =
     sym c.get_index_of.ensures.index ∙ not_found _ _ c.is_some.ensures c.if-is_some.false in
@@ -26,6 +27,7 @@ returns-clause-ok c =
       stations = fields.stations.keys;
       places = fields.places.entries;
       things = fields.things.entries;
+      growths = fields.growths.items;
     } in
     let none : find_place S c.args.code ≡ None =
     sym c.get_index_of.ensures.index ∙ not_found _ _ c.is_some.ensures c.if-is_some.false in

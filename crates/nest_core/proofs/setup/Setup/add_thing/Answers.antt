@@ -1,12 +1,12 @@
 use Rattle.std.proofs.Common.{rules, ◌≡◌, ◌<◌, ◌≤◌, true, is_none, sym, subst, ◌∙◌, None, false}
-use Rattle.std.proofs.Common.{length, arith}
+use Rattle.std.proofs.Common.{length, arith, ap, is_some}
 use Rattle.std.specs.Option.{option_and_then}
 use Rattle.nest_core.specs.declared.TheConstants.{MOST_THINGS}
 use Rattle.nest_core.specs.Museum.{Museum, find_place, find_thing}
 use Rattle.nest_core.specs.SetupRows.{lacks_normal}
 use Rattle.nest_core.specs.declared.setup_row.SetupRow.TheVariants as lists
 use Rattle.nest_core.proofs.Museums.{IsMuseum-thing, normal_missing, normal_there, normal_unasked}
-use Rattle.nest_core.proofs.Museums.{thing_added, thing_row_right, things_full}
+use Rattle.nest_core.proofs.Museums.{thing_added, thing_repeated, thing_row_right, things_full}
 use Rattle.nest_core.proofs.Positions.{insert_new, not_found}
 use Rattle.nest_core.proofs.setup.Setup.add_thing.Goals as goal
 use Rattle.nest_core.proofs.setup.Setup.add_thing.Goals.{
@@ -21,6 +21,7 @@ invariant_of-self-2 c =
       stations = fields.stations.keys;
       places = fields.places.entries;
       things = fields.things.entries;
+      growths = fields.growths.items;
     } in
     let none : find_thing S c.args.code ≡ None =
     sym c.get_index_of.ensures.index ∙ not_found _ _ c.is_some.ensures c.if-is_some.false in
@@ -53,6 +54,7 @@ returns-clause-ok c =
       stations = fields.stations.keys;
       places = fields.places.entries;
       things = fields.things.entries;
+      growths = fields.growths.items;
     } in
     let none : find_thing S c.args.code ≡ None =
     sym c.get_index_of.ensures.index ∙ not_found _ _ c.is_some.ensures c.if-is_some.false in
@@ -85,6 +87,7 @@ returns-in_err-insert-clause-gives_up c =
       stations = fields.stations.keys;
       places = fields.places.entries;
       things = fields.things.entries;
+      growths = fields.growths.items;
     } in
     let none : find_thing S c.args.code ≡ None =
     sym c.get_index_of.ensures.index ∙ not_found _ _ c.is_some.ensures c.if-is_some.false in
@@ -111,6 +114,7 @@ returns-then-is_none-clause-fault c =
       stations = fields.stations.keys;
       places = fields.places.entries;
       things = fields.things.entries;
+      growths = fields.growths.items;
     } in
     let none : find_thing S c.args.code ≡ None =
     sym c.get_index_of.ensures.index ∙ not_found _ _ c.is_some.ensures c.if-is_some.false in
@@ -128,6 +132,7 @@ returns-then-len-ge-MOST_THINGS-clause-fault c =
       stations = fields.stations.keys;
       places = fields.places.entries;
       things = fields.things.entries;
+      growths = fields.growths.items;
     } in
     let none : find_thing S c.args.code ≡ None =
     sym c.get_index_of.ensures.index ∙ not_found _ _ c.is_some.ensures c.if-is_some.false in
@@ -145,3 +150,17 @@ returns-then-len-ge-MOST_THINGS-clause-fault c =
     λ other. things_full c.args.self.now c.args.number c.args.code c.args.normal
     (subst (λ (m : Museum). find_thing m c.args.code ≡ None) c.self.view_is none) found
     (subst (λ (m : Museum). MOST_THINGS ≤ length m.things) c.self.view_is most)
+
+pub returns-then-is_some-clause-fault : goal.returns-then-is_some-clause-fault
+returns-then-is_some-clause-fault c =
+    let fields = c.self.inside in
+    let S : Museum = record {
+      stations = fields.stations.keys;
+      places = fields.places.entries;
+      things = fields.things.entries;
+      growths = fields.growths.items;
+    } in
+    let there : is_some (find_thing S c.args.code) ≡ true = ap is_some (sym
+    c.get_index_of.ensures.index) ∙ sym c.is_some.ensures ∙ c.if-is_some.true in
+    λ other. thing_repeated c.args.self.now c.args.number c.args.code c.args.normal (subst (λ (m :
+    Museum). is_some (find_thing m c.args.code) ≡ true) c.self.view_is there)

@@ -1,0 +1,5 @@
+use Rattle.nest_core.proofs.Growing.{all_extends}
+use Rattle.nest_core.proofs.setup_growing.taking_keeps_numbers.Goals as goal
+
+pub returns : goal.returns
+returns c = λ S items. all_extends S items
