@@ -13,11 +13,13 @@ use Rattle.std.proofs.lemmas.Slice.Eq.{bytes_eq-Decides}
 use Rattle.indexmap.specs.IndexMap.{insert_entry}
 use Rattle.nest_core.specs.Museum.{Museum, IsMuseum, NeverFell, find_place}
 use Rattle.nest_core.specs.Museum.{find_thing, thing_codes, is_thing_row}
-use Rattle.nest_core.specs.SetupRows.{Fields, field_count, is_repeated, item_of, lacks_normal, is_full}
+use Rattle.nest_core.specs.SetupRows.{Fields, field_count, is_repeated, item_of, lacks_normal}
+use Rattle.nest_core.specs.SetupRows.{is_full}
 use Rattle.nest_core.specs.SetupRows.{CanBeListed, listing_fault, own_fault, row_fault, with_listed}
 use Rattle.nest_core.specs.declared.TheConstants.{MOST_GROWTHS}
 use Rattle.nest_core.specs.SetupGrowing.{grown, is_other_side, taking_fault, rehomed, kept_with}
-use Rattle.nest_core.specs.SetupGrowing.{with_taken, with_further, Extends}
+use Rattle.nest_core.specs.SetupGrowing.{with_taken, with_further, further_fault, Extends}
+use Rattle.nest_core.specs.SetupGrowing.{CanBeTaken}
 use Rattle.nest_core.specs.declared.setup_fault.SetupFault.TheVariants.{UnknownNormal, TooMany}
 use Rattle.nest_core.specs.declared.grow_fault.GrowFault.TheVariants.{Setup}
 use Rattle.nest_core.specs.declared.setup_row.SetupRow.{SetupRow}
@@ -215,7 +217,8 @@ kept_extends S (lists.Thing code normal) = record {
   places = sym (append-nil S.places);
   more_things = [];
   things =
-      codes_kept S.things code (option_and_then (find_place S) normal) ∙ sym (append-nil (thing_codes
+      codes_kept S.things code (option_and_then (find_place S) normal) ∙ sym (append-nil
+          (thing_codes
       S));
   growths = refl;
 }
@@ -293,4 +296,18 @@ can_be_listed S T n row item found own is some none same skips =
       (λ zero. grind (arith, nat_tests)),
       n,
       subst (λ (M : Museum). row_fault M n row ≡ None) (sym same) fault,
+    )
+
+pub can_be_taken : (S T : Museum) (n : ℕ) (row : Fields) (item : SetupRow)
+    (found : Option SetupRow) → own_fault n row ≡ None → found ≡ item_of row → found ≡ Some item
+    → taking_fault S n item ≡ None → T ≡ S → (field_count row == 0) ≡ is_none found
+    → CanBeTaken T row
+can_be_taken S T n row item found own is some none same skips =
+    let fields : (field_count row == 0) ≡ false = skips ∙ ap is_none some in
+    let fault : further_fault S n row ≡ None =
+    ap (λ f. option_or (option_map Setup f) (option_and_then (taking_fault S n) (item_of row))) own
+    ∙ ap (option_and_then (taking_fault S n)) (sym is ∙ some) ∙ none in (
+      (λ zero. grind (arith, nat_tests)),
+      n,
+      subst (λ (M : Museum). further_fault M n row ≡ None) (sym same) fault,
     )

@@ -9,6 +9,7 @@ pub mod Reading
 pub mod RowTexts
 pub mod Tables
 pub mod WorkedRows
+pub mod WorkedGrowth
 pub mod NestWords
 pub mod Trees
 pub mod Chains

@@ -16,7 +16,8 @@ use Rattle.codes_core.specs.declared.thing.ThingKind.TheVariants.{Own, Borrowed,
 use Rattle.nest_core.specs.declared.TheConstants.{MOST_STATIONS, MOST_PLACES, MOST_THINGS}
 use Rattle.nest_core.specs.declared.growth.Growth.{Growth}
 use Rattle.nest_core.specs.declared.growth.Listed.{Listed}
-use Rattle.nest_core.specs.Museum.{Museum, IsMuseum, NeverFell, find_station, find_place, find_thing}
+use Rattle.nest_core.specs.Museum.{Museum, IsMuseum, NeverFell, find_station, find_place}
+use Rattle.nest_core.specs.Museum.{find_thing}
 use Rattle.nest_core.specs.Museum.{place_codes, thing_codes, has_right_normal, is_place_row}
 use Rattle.nest_core.specs.Museum.{is_thing_row, listed_now}
 use Rattle.nest_core.specs.SetupRows.{has_normal, is_right, lacks_normal, listing_fault}

@@ -1,13 +1,14 @@
 -- Defines how a setup grows by the rows of a further file: what is listed keeps its number, and
 -- what is new goes last. Rows are counted from 1.
-use Rattle.std.specs.Prelude.{ℕ, ◌≡◌, ◌+◌, ◌&&◌, Bool, false, not, List, [], ◌∷◌, ◌++◌, fold}
+use Rattle.std.specs.Prelude.{ℕ, ◌≡◌, ◌≢◌, ◌+◌, ◌&&◌, Bool, false, not, List, [], ◌∷◌, ◌++◌, fold}
 use Rattle.std.specs.Prelude.{Option, Some, None, option_map, if◌then◌else◌}
 use Rattle.std.specs.Option.{option_map_or, option_and_then, option_or}
 use Rattle.std.specs.Str.{bytes_eq, is_utf8}
 use Rattle.nest_core.specs.Museum.{Museum, thing_codes, find_place, is_inside, is_elsewhere}
 use Rattle.nest_core.specs.Museum.{listed_now}
 use Rattle.nest_core.specs.InOrder.{◌if◌, first_or}
-use Rattle.nest_core.specs.SetupRows.{Fields, is_repeated, is_full, item_of, lacks_normal}
+use Rattle.nest_core.specs.SetupRows.{Fields, field_count, is_repeated, is_full, item_of}
+use Rattle.nest_core.specs.SetupRows.{lacks_normal}
 use Rattle.nest_core.specs.SetupRows.{own_fault, rows_of, with_listed}
 use Rattle.nest_core.specs.declared.setup_fault.SetupFault.TheVariants.{NotCsv, UnknownNormal}
 use Rattle.nest_core.specs.declared.setup_fault.SetupFault.TheVariants.{TooMany}
@@ -56,7 +57,13 @@ with_further S row = option_map_or (with_taken S) (item_of row) S
 -- The first fault of row n, in the setup with the rows before it.
 abbrev pub further_fault : Museum → ℕ → Fields → Option GrowFault
 further_fault S n row =
-    option_or (option_map Setup (own_fault n row)) (option_and_then (taking_fault S n) (item_of row))
+    option_or (option_map Setup (own_fault n row))
+    (option_and_then (taking_fault S n) (item_of row))
+
+-- The row isn't skipped, and has no fault in the setup S. A reader that runs out of memory may stop
+-- only before a row like this one, or at the point where `csv` stopped.
+abbrev pub CanBeTaken : Museum → Fields → Type 0
+CanBeTaken S row = (field_count row ≢ 0) × (n : ℕ) × (further_fault S n row ≡ None)
 
 -- The first fault of the rows, of which the first is row n.
 abbrev pub rows_fault : Museum → ℕ → List Fields → Option GrowFault

@@ -322,6 +322,8 @@ impl Setup {
         ensures fault { IfErr result
             (λ fault. fault ≢ GrowFault.Setup SetupFault.NoMemory
             → taking_fault self.old number (SetupRow.Thing code normal) ≡ Some fault) }
+        ensures gives_up { result ≡ Err (GrowFault.Setup SetupFault.NoMemory)
+            → taking_fault self.old number (SetupRow.Thing code normal) ≡ None }
         ensures unchanged { OnErr result (self.new ≡ self.old) }
     {
         let normal_no = self.normal_no(normal);

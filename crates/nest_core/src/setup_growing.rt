@@ -1,12 +1,13 @@
 //! Grows a setup by the rows of a further file.
-ghost use Rattle.std.specs.Prelude.{◌≡◌, ◌≢◌, ◌<◌, true, false, None, Some, Err, Ok, length};
+ghost use Rattle.std.specs.Prelude.{◌≡◌, ◌≢◌, ◌⊎◌, true, false, None, Some, Err};
 ghost use Rattle.std.specs.Prelude.{OnOk, OnErr, IfOk, IfErr, MatchResult, List, fold};
 ghost use Rattle.std.specs.Str.{is_utf8};
+ghost use Rattle.csv.specs.Reading.{has_failed};
 ghost use Rattle.csv.specs.Records.{fields_of};
 ghost use Rattle.nest_core.specs.Museum.{Museum};
 ghost use Rattle.nest_core.specs.RowReading.{ReadsRows};
 ghost use Rattle.nest_core.specs.SetupRows.{Fields, is_repeated, is_right, rows_of};
-ghost use Rattle.nest_core.specs.SetupGrowing.{Extends, further_fault, grow_fault, grown};
+ghost use Rattle.nest_core.specs.SetupGrowing.{CanBeTaken, Extends, further_fault, grow_fault};
 ghost use Rattle.nest_core.specs.SetupGrowing.{rows_fault, taking_fault, with_file};
 ghost use Rattle.nest_core.specs.SetupGrowing.{with_further, with_taken};
 
@@ -55,6 +56,8 @@ impl Setup {
         ensures fault { IfErr result
             (λ fault. fault ≢ GrowFault.Setup SetupFault.NoMemory
             → taking_fault self.old number item ≡ Some fault) }
+        ensures gives_up { result ≡ Err (GrowFault.Setup SetupFault.NoMemory)
+            → taking_fault self.old number item ≡ None }
         ensures unchanged { OnErr result (self.new ≡ self.old) }
     {
         match item {
@@ -88,6 +91,8 @@ impl Setup {
         ensures fault { IfErr result
             (λ fault. fault ≢ GrowFault.Setup SetupFault.NoMemory
             → taking_fault self.old number item ≡ Some fault) }
+        ensures gives_up { result ≡ Err (GrowFault.Setup SetupFault.NoMemory)
+            → taking_fault self.old number item ≡ None }
         ensures unchanged { OnErr result (self.new ≡ self.old) }
     {
         match self.add(number, item) {
@@ -120,7 +125,8 @@ fn take_file(alloc: Global, setup: &mut Setup, bytes: &[u8]) -> Result<(), GrowF
 }
 
 /// Takes in the rows, and reads each into `row`. Fails with the fault of the first row that has
-/// one, or with `NoMemory`.
+/// one. Fails with `NoMemory` if the reader ran out of memory, or if a row without a fault couldn't
+/// be taken in.
 fn take_rows(
     setup: &mut Setup,
     reader: &mut Reader<&[u8]>,
@@ -128,11 +134,13 @@ fn take_rows(
     bytes: &[u8],
 ) -> Result<(), GrowFault>
     requires { ReadsRows reader.old bytes.now }
-    ensures { MatchResult result
+    ensures exact { MatchResult result
         (λ _. (rows_fault setup.old 1 (rows_of bytes.now) ≡ None)
         × (setup.new ≡ with_file setup.old bytes.now))
         (λ fault. fault ≢ GrowFault.Setup SetupFault.NoMemory
         → rows_fault setup.old 1 (rows_of bytes.now) ≡ Some fault) }
+    ensures gives_up { result ≡ Err (GrowFault.Setup SetupFault.NoMemory)
+        → (has_failed reader.new ≡ true) ⊎ CanBeTaken setup.new (fields_of row.new) }
 {
     // Each row has at least one byte, so there are no more rows than bytes.
     for before in 0..bytes.len() as u64 {
@@ -154,6 +162,8 @@ fn take_row(setup: &mut Setup, number: u64, row: &ByteRecord) -> Result<(), Grow
     ensures fault { IfErr result
         (λ fault. fault ≢ GrowFault.Setup SetupFault.NoMemory
         → further_fault setup.old number (fields_of row.now) ≡ Some fault) }
+    ensures gives_up { result ≡ Err (GrowFault.Setup SetupFault.NoMemory)
+        → CanBeTaken setup.new (fields_of row.now) }
 {
     match SetupRow::read(number, row) {
         Ok(Some(item)) => setup.take(number, item),

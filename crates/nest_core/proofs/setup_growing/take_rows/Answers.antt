@@ -42,8 +42,8 @@ loop-before-preserved c =
       omega (arith, less, kept.4),
     )
 
-pub returns-in-Ok-false : goal.returns-in-Ok-false
-returns-in-Ok-false c =
+pub returns-in-Ok-false-clause-exact : goal.returns-in-Ok-false-clause-exact
+returns-in-Ok-false-clause-exact c =
     let kept = c.loop-before.invariant in
     let takes = kept.0 in
     let read = rw c.in-Ok-false.field-0-test at (c.in-Ok-false.ensures.reads takes.0 takes.1) in
@@ -52,15 +52,16 @@ returns-in-Ok-false c =
     (rows-end (λ (s : Bor (List ℕ)). Some s.now) c.loop-before.reader c.read_byte_record.new.self _
     default_config kept.1 takes.2 kept.2 read)
 
-pub returns : goal.returns
-returns c =
+pub returns-clause-exact : goal.returns-clause-exact
+returns-clause-exact c =
     let kept = c.loop-before.invariant in
     let none : length kept.1 ≡ 0 = omega (arith, kept.4) in
     at_end (strip_bom c.args.bytes.now) c.args.setup.now c.loop-before.setup
     (c.loop-before.before + 1) _ kept.1 kept.3 (spent _ kept.1 kept.3.rests none)
 
-pub returns-in_err-take_row-in-Ok-true : goal.returns-in_err-take_row-in-Ok-true
-returns-in_err-take_row-in-Ok-true c =
+pub returns-in_err-take_row-in-Ok-true-clause-exact :
+    goal.returns-in_err-take_row-in-Ok-true-clause-exact
+returns-in_err-take_row-in-Ok-true-clause-exact c =
     let kept = c.loop-before.invariant in
     let takes = kept.0 in
     let read = rw c.in-Ok-true.field-0-test at (c.in-Ok-true.ensures.reads takes.0 takes.1) in
