@@ -6,7 +6,6 @@ use Rattle.std.specs.List.{find, list_any, AllByRecursion}
 use Rattle.std.specs.Option.{option_or, option_to_list}
 use Rattle.std.specs.Str.{bytes_eq}
 use Rattle.std.proofs.Common.{ap, ◌∙◌, sym, subst, rules}
-use Rattle.std.proofs.lemmas.Bool.{not-false}
 use Rattle.std.proofs.lemmas.Bool.Decides.{same_from_decides}
 use Rattle.std.proofs.lemmas.List.{append-nil}
 use Rattle.std.proofs.lemmas.List.Folds.{find-append}
@@ -31,6 +30,7 @@ use Rattle.posting_core.specs.Verdicts.{is_of_wrong_owner, repeats, agree_rows, 
 use Rattle.posting_core.specs.Verdicts.{exit_rows, return_rows, receive_rows, extend_rows}
 use Rattle.posting_core.specs.Lawful.{IsLawful}
 use Rattle.posting_core.proofs.AppliedRows.{none_holds, applied_is}
+use Rattle.posting_core.proofs.Known.{all_known_in, place_known_in}
 
 -- two spellings compare the same either way
 pub bytes_eq-sym : (a b : List ℕ) → bytes_eq a b ≡ bytes_eq b a
@@ -64,8 +64,8 @@ agree_applied S depth P (Agree first last loan partner objects) t applied is =
     subst (λ u. (agreement P u.loan ≡ None) × IsSound S u) (same_Some _ _ is) (
       new,
       record {
-        known = none.0;
-        partner = not-false (is_known_place S partner) none.1.0;
+        known = all_known_in S P objects none.0;
+        partner = place_known_in S P partner none.1.0;
         elsewhere = none.1.1.1.0;
         objects = none.1.1.1.1.1.0;
         once = none.1.1.1.1.1.1.0;

@@ -115,7 +115,7 @@ target_place S None within = tt
 target_place S (Some (At p)) within = within p refl
 target_place S (Some (Within c)) within = tt
 
-place_within : (S : Museum) (depth : ℕ) (P : List Entry) (x : ℕ) → IsLawful S depth P
+pub place_within : (S : Museum) (depth : ℕ) (P : List Entry) (x : ℕ) → IsLawful S depth P
     → IfSome (place_at S P x) (λ p. p < length S.places)
 place_within S depth P x lawful =
     let z : ℕ = outermost x (above (last (puts S P)) (length S.things) x) in

@@ -9,9 +9,16 @@ pub mod Bounds
 pub mod Carried
 pub mod Differences
 pub mod Few
+pub mod GrownAnswers
+pub mod GrownLists
+pub mod GrownNests
+pub mod GrownRows
+pub mod GrownSetups
+pub mod GrownVerdicts
 pub mod Guests
 pub mod Homes
 pub mod KeptLoans
+pub mod Known
 pub mod LastSpots
 pub mod Lined
 pub mod LoanAnswers
@@ -31,6 +38,7 @@ pub mod Turns
 mod WorkedAccounts
 mod WorkedCrossings
 mod WorkedForms
+pub mod WorkedGrowth
 mod WorkedLoanOrder
 mod WorkedLoansIn
 mod WorkedLoansOut

@@ -13,7 +13,8 @@ use Rattle.std.proofs.lemmas.Option.{none-some}
 use Rattle.nest_core.specs.declared.put.Target.{Target}
 use Rattle.nest_core.specs.declared.put.Target.TheVariants.{At, Within}
 use Rattle.nest_core.specs.declared.put.Put.{Put}
-use Rattle.nest_core.specs.Museum.{Museum, find_thing, thing_codes, place_codes, is_container}
+use Rattle.nest_core.specs.Museum.{Museum, among_first, listed_at, find_thing, thing_codes}
+use Rattle.nest_core.specs.Museum.{place_codes, is_container}
 use Rattle.nest_core.specs.Nest.{Nested, StandsFor, MayGo, put_at}
 use Rattle.nest_core.specs.Puts.{last, with_put, container_of, place_of, above, place_by}
 use Rattle.nest_core.specs.Puts.{is_carried}
@@ -38,6 +39,7 @@ use Rattle.posting_core.specs.Book.{Book, verdict_in, place_after}
 use Rattle.posting_core.specs.Rows.{place_to}
 use Rattle.posting_core.proofs.AppliedRows.{none_holds, applied_is}
 use Rattle.posting_core.proofs.Agreed.{agreement_sound}
+use Rattle.posting_core.proofs.Known.{known_in, place_known_in}
 
 found_below : (xs : List (List ℕ)) (code : List ℕ) (n : ℕ) → n ≡ length xs
     → is_some (position (bytes_eq code) xs) ≡ true → unwrap_or (position (bytes_eq code) xs) n < n
@@ -57,8 +59,10 @@ place_below S p known = found_below (place_codes S) p (length S.places)
     (sym (length-map S.places (λ row. row.0))) known
 
 -- a container of the setup is known
-container_known : (S : Museum) (c : List ℕ) → is_known_container S c ≡ true → is_known S c ≡ true
-container_known S c = elim (find_thing S c) as (λ o. option_map_or (is_container S) o false ≡ true
+pub container_known : (S : Museum) (P : List Entry) (c : List ℕ) → is_known_container S P c ≡ true
+    → is_known S c ≡ true
+container_known S P c = elim (find_thing S c) as (λ o.
+    option_map_or (is_container S) (among_first (listed_at S (length P)).things o) false ≡ true
     → is_some o ≡ true) [ None ↦ λ h. h | Some i ↦ λ h. refl ]
 
 -- The put of an applied message: a known thing, to a known place or into a container that has room
@@ -91,37 +95,37 @@ put_applied : (S : Museum) (depth : ℕ) (P : List Entry) (m : Message) → IsLa
 put_applied S depth P (Move day x p) lawful h =
     let none = none_holds (move_rows S P x p) refl h in
     record {
-      thing = thing_below S x (not-false (is_known S x) none.0);
-      place = place_below S p (not-false (is_known_place S p) none.1.0);
+      thing = thing_below S x (known_in S P x none.0);
+      place = place_below S p (place_known_in S P p none.1.0);
       room = tt;
     }
 put_applied S depth P (Pack day x c) lawful h =
     let none = none_holds (pack_rows S depth P x c) refl h in
     record {
-      thing = thing_below S x (not-false (is_known S x) none.0);
+      thing = thing_below S x (known_in S P x none.0);
       place = tt;
       room = (
-        thing_below S c (container_known S c (not-false (is_known_container S c) none.1.0)),
+        thing_below S c (container_known S P c
+            (not-false (is_known_container S P c) none.1.0)),
         none.1.1.1.1.0,
         none.1.1.1.1.1.0,
       );
     }
 put_applied S depth P (Exit day x loan) lawful h =
     leaves_to S depth P x loan day lawful
-    (thing_below S x (not-false (is_known S x)
-    (none_holds (exit_rows S P x loan day) refl h).0))
+    (thing_below S x (known_in S P x (none_holds (exit_rows S P x loan day) refl h).0))
 put_applied S depth P (Return day x loan p) lawful h =
     let none = none_holds (return_rows S P x loan p) refl h in
     record {
-      thing = thing_below S x (not-false (is_known S x) none.0);
-      place = place_below S p (not-false (is_known_place S p) none.1.0);
+      thing = thing_below S x (known_in S P x none.0);
+      place = place_below S p (place_known_in S P p none.1.0);
       room = tt;
     }
 put_applied S depth P (Receive day x loan p) lawful h =
     let none = none_holds (receive_rows S P x loan p day) refl h in
     record {
-      thing = thing_below S x (not-false (is_known S x) none.0);
-      place = place_below S p (not-false (is_known_place S p) none.1.0);
+      thing = thing_below S x (known_in S P x none.0);
+      place = place_below S p (place_known_in S P p none.1.0);
       room = tt;
     }
 put_applied S depth P (Agree first final loan partner objects) lawful h = tt

@@ -22,10 +22,11 @@ use Rattle.posting_core.specs.Agreements.{Agreement, agreement, is_agreed}
 use Rattle.posting_core.specs.History.{puts, put_in, place_at}
 use Rattle.posting_core.specs.Loans.{Crossing, crossing_in, exit_of, stage}
 use Rattle.posting_core.specs.Verdicts.{verdict, first_of, move_rows, pack_rows, exit_rows}
-use Rattle.posting_core.specs.Verdicts.{return_rows, receive_rows, is_known_place, is_away}
+use Rattle.posting_core.specs.Verdicts.{return_rows, receive_rows, is_known_place_at, is_away}
 use Rattle.posting_core.specs.Verdicts.{stands_inside, carries_unlisted, carries_wrong_stage}
 use Rattle.posting_core.specs.Rows.{place_to}
 use Rattle.posting_core.proofs.AppliedRows.{none_holds}
+use Rattle.posting_core.proofs.Known.{place_known_in}
 use Rattle.posting_core.proofs.Placed.{place_below}
 use Rattle.posting_core.proofs.Accounted.{IsApplied, IsLeft, GoesWith, HasCrossed, IsReady}
 use Rattle.posting_core.proofs.Accounted.{nothing_put, by_carried, carried_among, apart_not_among}
@@ -63,14 +64,14 @@ inside_is S None h = absurd (false≢true h)
 inside_is S (Some p) h = record { at = p; is = refl; inside = h }
 
 -- the place of a message is known and isn't elsewhere
-comes_inside : (S : Museum) (p : List ℕ) → not (is_known_place S p) ≡ false
+comes_inside : (S : Museum) (P : List Entry) (p : List ℕ) → not (is_known_place_at S P p) ≡ false
     → is_elsewhere S (place_no S p) ≡ false → IsInside S (Some (place_no S p))
-comes_inside S p known there =
+comes_inside S P p known there =
     record {
       at = place_no S p;
       is = refl;
       inside = inside_if_not_elsewhere S (place_no S p)
-          (place_below S p (not-false (is_known_place S p) known)) there;
+          (place_below S p (place_known_in S P p known)) there;
     }
 
 -- an object of the setup
@@ -206,7 +207,7 @@ module _ {S : Museum} {depth : ℕ} {P : List Entry} {e : Entry} {o : ℕ} (a : 
         x = x;
         loan = loan;
         loan_out = not-false (is_out loan) none.1.1.1.1.1.0;
-        after = subst (IsInside S) (sym goes.after) (comes_inside S p none.1.0 none.1.1.0);
+        after = subst (IsInside S) (sym goes.after) (comes_inside S P p none.1.0 none.1.1.0);
         crossed = crossed;
         ready = ready;
       }))
@@ -223,7 +224,7 @@ module _ {S : Museum} {depth : ℕ} {P : List Entry} {e : Entry} {o : ℕ} (a : 
         loan = loan;
         loan_in = none.1.1.1.1.1.1.0;
         before = ap (λ o. option_map_or (is_inside S) o false) goes.before ∙ none.1.1.1.1.1.1.1.0;
-        after = subst (IsInside S) (sym goes.after) (comes_inside S p none.1.0 none.1.1.0);
+        after = subst (IsInside S) (sym goes.after) (comes_inside S P p none.1.0 none.1.1.0);
         crossed = crossed;
         ready = ready;
       }))
@@ -232,7 +233,7 @@ module _ {S : Museum} {depth : ℕ} {P : List Entry} {e : Entry} {o : ℕ} (a : 
   by (Move day x p) is h =
       let none = none_holds (move_rows S P x p) refl h in
       moves (record { thing = thing_no S x; to = At (place_no S p) }) (ap (put_in S P) is)
-      (ap crossing_in is) none.1.1.1.0 (comes_inside S p none.1.0 none.1.1.0)
+      (ap crossing_in is) none.1.1.1.0 (comes_inside S P p none.1.0 none.1.1.0)
   by (Pack day x c) is h =
       let none = none_holds (pack_rows S depth P x c) refl h in
       moves (record { thing = thing_no S x; to = Within (thing_no S c) }) (ap (put_in S P) is)

@@ -87,6 +87,7 @@ found_rows = refl
 is_found : IsFound museum two_loans (codes "C1") loan_1 crate_1 0 row_1
 is_found = record {
   thing = refl;
+  listed = refl;
   known = omega arith;
   number = refl;
   agreed = refl;

@@ -29,6 +29,7 @@ museum = record {
       ∷ (codes "MUSEUM-X", false) ∷ (codes "LENDER-Y", false) ∷ [];
   things = (codes "C1", None) ∷ (codes "C2", None) ∷ (codes "2001.4.1", Some 1)
       ∷ (codes "2001.4.2", Some 1) ∷ (codes "2001.4.3", Some 1) ∷ (codes "L1999.7", None) ∷ [];
+  growths = [];
 }
 
 -- numbers in it
@@ -215,7 +216,7 @@ held_then_posted-refused = refl
 
 -- tour_of_verdicts: refused Moves keep their numbers and place nothing
 
-abbrev tour : List Entry
+abbrev pub tour : List Entry
 tour = run held_then_posted (
     (pack, moved (codes "2001.4.1") (codes "MUSEUM-X"))
     ∷ (pack, moved (codes "2001.4.1") (codes "S9"))

@@ -1,7 +1,7 @@
 -- Defines the facts about a crossing that are established before its loan lines are checked.
 use Rattle.std.specs.Prelude.{ℕ, ◌≡◌, ◌<◌, true, not, List, ◌∷◌, length, Some}
 use Rattle.std.specs.Option.{option_map}
-use Rattle.nest_core.specs.Museum.{Museum, find_thing, is_elsewhere}
+use Rattle.nest_core.specs.Museum.{Museum, find_thing, find_thing_at, is_elsewhere}
 use Rattle.nest_core.specs.InOrder.{Row, ◌if◌}
 use Rattle.posting_core.specs.declared.entry.Entry.{Entry}
 use Rattle.posting_core.specs.declared.verdict.Verdict.{Verdict}
@@ -10,7 +10,7 @@ use Rattle.posting_core.specs.declared.verdict.Verdict.TheVariants.{ElsewherePla
 use Rattle.posting_core.specs.Messages.{place_no}
 use Rattle.posting_core.specs.Agreements.{agreement, loan_no, is_agreed, is_authorised, last_day}
 use Rattle.posting_core.specs.Loans.{line}
-use Rattle.posting_core.specs.Verdicts.{is_known, is_known_place}
+use Rattle.posting_core.specs.Verdicts.{is_known_at, is_known_place_at}
 use Rattle.posting_core.specs.LoanRows.{LoanRow, line_of}
 
 -- The thing has number x, the loan is agreed with number i, and the row agrees with looking back:
@@ -18,6 +18,7 @@ use Rattle.posting_core.specs.LoanRows.{LoanRow, line_of}
 pub record IsFound (S : Museum) (P : List Entry) (code loan : List ℕ) (x i : ℕ)
     (row : LoanRow) : Type 0 where
   pub thing : find_thing S code ≡ Some x
+  pub listed : find_thing_at S (length P) code ≡ Some x
   pub known : x < length S.things
   pub number : loan_no P loan ≡ Some i
   pub agreed : is_agreed P loan ≡ true
@@ -30,8 +31,8 @@ pub record IsFound (S : Museum) (P : List Entry) (code loan : List ℕ) (x i : �
 abbrev pub incoming_rows : Museum → List Entry → List ℕ → List ℕ → List ℕ → List (Row Verdict)
     → List (Row Verdict)
 incoming_rows S P x loan p rest =
-    (UnknownThing if not (is_known S x))
-    ∷ (UnknownPlace if not (is_known_place S p))
+    (UnknownThing if not (is_known_at S P x))
+    ∷ (UnknownPlace if not (is_known_place_at S P p))
     ∷ (ElsewherePlace if is_elsewhere S (place_no S p))
     ∷ (UnknownLoan if not (is_agreed P loan))
     ∷ rest

@@ -1,6 +1,7 @@
 pub mod VerdictNames
 pub mod Messages
 pub mod Agreements
+pub mod Growing
 pub mod History
 pub mod Loans
 pub mod SpotRows

@@ -8,9 +8,9 @@ use Rattle.std.specs.Str.{bytes_eq}
 use Rattle.codes_core.specs.Loan.{is_out}
 use Rattle.codes_core.specs.Thing.{thing_kind}
 use Rattle.nest_core.specs.declared.put.Target.TheVariants.{Within}
-use Rattle.nest_core.specs.Museum.{Museum, find_thing, find_place, is_inside, is_elsewhere}
-use Rattle.nest_core.specs.Museum.{is_borrowed, is_container, is_own_kind, is_borrowed_kind}
-use Rattle.nest_core.specs.Museum.{is_container_kind}
+use Rattle.nest_core.specs.Museum.{Museum, find_thing, find_place, find_thing_at, find_place_at}
+use Rattle.nest_core.specs.Museum.{is_inside, is_elsewhere, is_borrowed, is_container}
+use Rattle.nest_core.specs.Museum.{is_own_kind, is_borrowed_kind, is_container_kind}
 use Rattle.nest_core.specs.InOrder.{Row, ◌if◌, first_or}
 use Rattle.nest_core.specs.Puts.{last, is_among}
 use Rattle.nest_core.specs.Nest.{put_at, is_too_deep, is_same_place}
@@ -44,13 +44,21 @@ use Rattle.posting_core.specs.Loans.{Crossing, exit_of, return_of, receive_of, o
 abbrev pub first_of : List (Row Verdict) → Verdict
 first_of rows = first_or Applied rows
 
--- The setup has the thing.
+-- The setup lists the thing.
 abbrev pub is_known : Museum → List ℕ → Bool
 is_known S x = is_some (find_thing S x)
 
--- The setup has the place.
+-- The setup lists the place.
 abbrev pub is_known_place : Museum → List ℕ → Bool
 is_known_place S p = is_some (find_place S p)
+
+-- The setup listed the thing when the entries P were posted.
+abbrev pub is_known_at : Museum → List Entry → List ℕ → Bool
+is_known_at S P x = is_some (find_thing_at S (length P) x)
+
+-- The setup listed the place then.
+abbrev pub is_known_place_at : Museum → List Entry → List ℕ → Bool
+is_known_place_at S P p = is_some (find_place_at S (length P) p)
 
 -- Thing x with this place is not in the museum: the place is elsewhere, or a borrowed object has
 -- not arrived yet.
@@ -65,15 +73,15 @@ is_not_here S P x = is_away S (thing_no S x) (place_at S P (thing_no S x))
 -- A Move of thing x to place p.
 abbrev pub move_rows : Museum → List Entry → List ℕ → List ℕ → List (Row Verdict)
 move_rows S P x p =
-    (UnknownThing if not (is_known S x))
-    ∷ (UnknownPlace if not (is_known_place S p))
+    (UnknownThing if not (is_known_at S P x))
+    ∷ (UnknownPlace if not (is_known_place_at S P p))
     ∷ (ElsewherePlace if is_elsewhere S (place_no S p))
     ∷ (NotHere if is_not_here S P x)
     ∷ []
 
--- The setup has it, and it is a container.
-abbrev pub is_known_container : Museum → List ℕ → Bool
-is_known_container S c = option_map_or (is_container S) (find_thing S c) false
+-- The setup listed it then, and it is a container.
+abbrev pub is_known_container : Museum → List Entry → List ℕ → Bool
+is_known_container S P c = option_map_or (is_container S) (find_thing_at S (length P) c) false
 
 -- The thing's place is inside the museum. A thing without a place is neither inside nor elsewhere:
 -- so an own object that was never placed can be moved, but not lent, and a crate that was never
@@ -94,8 +102,8 @@ is_deep_with S depth P x c =
 -- A Pack of thing x into container c.
 abbrev pub pack_rows : Museum → ℕ → List Entry → List ℕ → List ℕ → List (Row Verdict)
 pack_rows S depth P x c =
-    (UnknownThing if not (is_known S x))
-    ∷ (UnknownContainer if not (is_known_container S c))
+    (UnknownThing if not (is_known_at S P x))
+    ∷ (UnknownContainer if not (is_known_container S P c))
     ∷ (NotHere if is_not_here S P x)
     ∷ (ContainerNotHere if not (stands_inside S P c))
     ∷ (Cycle if is_cycle S P x c)
@@ -124,8 +132,8 @@ is_empty (x ∷ xs) = false
 abbrev pub agree_rows : Museum → List Entry → List ℕ → List ℕ → List (List ℕ) → ℤ → ℤ
     → List (Row Verdict)
 agree_rows S P loan partner objects first last =
-    (UnknownThing if list_any (λ x. not (is_known S x)) objects)
-    ∷ (UnknownPlace if not (is_known_place S partner))
+    (UnknownThing if list_any (λ x. not (is_known_at S P x)) objects)
+    ∷ (UnknownPlace if not (is_known_place_at S P partner))
     ∷ (LoanKnown if is_agreed P loan)
     ∷ (InsidePartner if is_inside S (place_no S partner))
     ∷ (NoObjects if is_empty objects)
@@ -202,7 +210,7 @@ is_over P loan day = option_map_or (λ last. int_lt last day) (last_day P loan) 
 -- TermOver).
 abbrev pub exit_rows : Museum → List Entry → List ℕ → List ℕ → ℤ → List (Row Verdict)
 exit_rows S P x loan day =
-    (UnknownThing if not (is_known S x))
+    (UnknownThing if not (is_known_at S P x))
     ∷ (UnknownLoan if not (is_agreed P loan))
     ∷ (NotObject if not (is_out loan) && is_container_code x)
     ∷ (NotAuthorised if not (is_authorised P loan))
@@ -221,8 +229,8 @@ is_with_partner S P x loan =
 -- A Return of thing x under a loan to place p. It is never late.
 abbrev pub return_rows : Museum → List Entry → List ℕ → List ℕ → List ℕ → List (Row Verdict)
 return_rows S P x loan p =
-    (UnknownThing if not (is_known S x))
-    ∷ (UnknownPlace if not (is_known_place S p))
+    (UnknownThing if not (is_known_at S P x))
+    ∷ (UnknownPlace if not (is_known_place_at S P p))
     ∷ (ElsewherePlace if is_elsewhere S (place_no S p))
     ∷ (UnknownLoan if not (is_agreed P loan))
     ∷ (NotAuthorised if not (is_authorised P loan))
@@ -235,8 +243,8 @@ return_rows S P x loan p =
 -- A Receive of thing x under a loan at place p.
 abbrev pub receive_rows : Museum → List Entry → List ℕ → List ℕ → List ℕ → ℤ → List (Row Verdict)
 receive_rows S P x loan p day =
-    (UnknownThing if not (is_known S x))
-    ∷ (UnknownPlace if not (is_known_place S p))
+    (UnknownThing if not (is_known_at S P x))
+    ∷ (UnknownPlace if not (is_known_place_at S P p))
     ∷ (ElsewherePlace if is_elsewhere S (place_no S p))
     ∷ (UnknownLoan if not (is_agreed P loan))
     ∷ (NotObject if is_container_code x)

@@ -2,13 +2,19 @@
 ghost use Rattle.std.specs.Prelude.{◌≡◌, ◌≢◌, ◌⊎◌, ◌↔◌, ◌<◌, ◌∷◌, ◌++◌, ℕ, List, [], length, None};
 ghost use Rattle.std.specs.Prelude.{Some, true, false, IfSome, All, is_some};
 ghost use Rattle.std.specs.List.{last_or, AllAdjacentBelow};
-ghost use Rattle.std.specs.Option.{option_map};
-ghost use Rattle.nest_core.specs.Museum.{is_own, is_borrowed};
+ghost use Rattle.std.specs.Option.{option_map, option_map_or};
+ghost use Rattle.nest_core.specs.Museum.{Museum, find_thing, is_own, is_borrowed, is_container};
+ghost use Rattle.nest_core.specs.Museum.{listed_now, NeverFell};
+ghost use Rattle.nest_core.specs.SetupGrowing.{Extends, grown};
 ghost use Rattle.nest_core.specs.Puts.{last};
 ghost use Rattle.posting_core.specs.declared.stage.LoanState.TheVariants.{Closed};
 ghost use Rattle.posting_core.specs.declared.entry.Entry.{Entry};
 ghost use Rattle.posting_core.specs.VerdictNames.{is_applied};
+ghost use Rattle.posting_core.specs.Growing.{HasGrown};
 ghost use Rattle.posting_core.specs.History.{puts};
+ghost use Rattle.posting_core.specs.Lawful.{IsLawful};
+ghost use Rattle.posting_core.specs.Verdicts.{is_known, is_known_at, is_known_container};
+ghost use Rattle.posting_core.specs.Verdicts.{is_known_place, is_known_place_at};
 ghost use Rattle.posting_core.specs.Book.{Book, place_in, spots_in, line_in, state_in, last_day_in};
 ghost use Rattle.posting_core.specs.Book.{changes_of};
 ghost use Rattle.posting_core.specs.Accountability.{IsHome, IsLent, IsWithLender, IsGuest, IsOver};
@@ -135,3 +141,26 @@ pub fn what_was_put_has_a_place(ledger: &Ledger)
 {
     ledger.is_lawful();
 }
+
+/// A growth of the setup changes no verdict and no answer about the entries posted before it.
+pub fn growing_changes_no_answer()
+    ensures lawful { (S T : Museum) (depth : ℕ) (P : List Entry)
+        → NeverFell S.growths (listed_now S) → Extends S T → IsLawful S depth P
+        → IsLawful (grown (length P) S T) depth P }
+    ensures answers { (S T : Museum) (depth : ℕ) (P : List Entry)
+        → NeverFell S.growths (listed_now S) → Extends S T → IsLawful S depth P
+        → AnswerAlike (record { museum = grown (length P) S T; depth = depth; posted = P })
+        (record { museum = S; depth = depth; posted = P }) }
+{}
+
+/// After the last growth, everything that the setup lists is known. In a setup that never grew, it
+/// always is.
+pub fn after_the_growths_all_is_known()
+    ensures things { (S : Museum) (P : List Entry) (x : List ℕ) → HasGrown S.growths (length P)
+        → is_known_at S P x ≡ is_known S x }
+    ensures places { (S : Museum) (P : List Entry) (p : List ℕ) → HasGrown S.growths (length P)
+        → is_known_place_at S P p ≡ is_known_place S p }
+    ensures containers { (S : Museum) (P : List Entry) (c : List ℕ)
+        → HasGrown S.growths (length P)
+        → is_known_container S P c ≡ option_map_or (is_container S) (find_thing S c) false }
+{}

@@ -2,6 +2,7 @@
 ghost use Rattle.std.specs.Prelude.{◌≡◌, ◌<◌, ◌≤◌, ◌∷◌, [], length, reverse, All, IfOk, OnOk};
 ghost use Rattle.std.specs.Prelude.{OnErr, IfSome, ℕ, Some, slice_get, is_some, true};
 ghost use Rattle.std.specs.Option.{option_map};
+ghost use Rattle.nest_core.specs.Museum.{find_thing, find_place, find_thing_at, find_place_at};
 ghost use Rattle.nest_core.specs.Puts.{is_among};
 ghost use Rattle.posting_core.specs.Lawful.{Follows, IsLawful, count_at, is_signed_off};
 ghost use Rattle.posting_core.specs.Messages.{place_no};
@@ -31,7 +32,7 @@ use crate::{
     Changes, Entry, EntryNo, LAST_NUMBER, LineStage, LoanState, MOST_ENTRIES, Message, PostedEntry,
     Spots, Verdict,
 };
-use codes_core::{Day, LoanCode, NoMemory};
+use codes_core::{Day, LoanCode, NoMemory, PlaceCode, ThingCode};
 use nest_core::{Nest, PlaceNo, Setup, StationNo, ThingNo, ThingNos};
 use std::alloc::Global;
 use std::marker::Model;
@@ -397,6 +398,26 @@ impl Ledger {
             Message::SignOff { .. } => Ok(unput(Verdict::Applied)),
             Message::Extend { last, loan } => Ok(self.judge_extend(loan, *last)),
         }
+    }
+
+    /// The number of a thing, or `None` if the setup doesn't list it yet.
+    pub(crate) fn thing(&self, code: &ThingCode) -> Option<ThingNo>
+        ensures found { result
+            ≡ find_thing_at self.now.museum (length self.now.posted) code.now }
+        ensures listed { IfSome result (λ x. find_thing self.now.museum code.now ≡ Some x) }
+        ensures within { IfSome result (λ x. x < length self.now.museum.things) }
+    {
+        self.setup.thing_at(code, self.entry_count())
+    }
+
+    /// The number of a place, or `None` if the setup doesn't list it yet.
+    pub(crate) fn place(&self, code: &PlaceCode) -> Option<PlaceNo>
+        ensures found { result
+            ≡ find_place_at self.now.museum (length self.now.posted) code.now }
+        ensures listed { IfSome result (λ p. find_place self.now.museum code.now ≡ Some p) }
+        ensures within { IfSome result (λ p. p < length self.now.museum.places) }
+    {
+        self.setup.place_at(code, self.entry_count())
     }
 
     /// An agreed loan and its number. `None` if the loan isn't agreed.

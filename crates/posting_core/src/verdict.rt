@@ -8,13 +8,14 @@ ghost use Rattle.posting_core.specs.VerdictNames.{verdict_number, verdict_name};
 pub enum Verdict {
     /// No rule is broken: the message takes effect.
     Applied,
-    /// The setup doesn't have the thing, or one of the loan's objects.
+    /// The setup didn't list the thing, or one of the loan's objects, when the message was posted.
     UnknownThing,
-    /// The setup doesn't have the place, or the partner's place.
+    /// The setup didn't list the place, or the partner's place, when the message was posted.
     UnknownPlace,
     /// The place is a partner's, not the museum's.
     ElsewherePlace,
-    /// The setup doesn't have the container, or the code isn't a container's.
+    /// The setup didn't list the container when the message was posted, or the code isn't a
+    /// container's.
     UnknownContainer,
     /// The loan isn't agreed.
     UnknownLoan,

@@ -8,7 +8,7 @@ ghost use Rattle.posting_core.specs.declared.verdict.Verdict.{Verdict};
 ghost use Rattle.posting_core.specs.History.{put_by, carried_with, holds_at};
 ghost use Rattle.posting_core.specs.Messages.{thing_no};
 ghost use Rattle.posting_core.specs.Loans.{line, wanted_by_exit, objects_with};
-ghost use Rattle.nest_core.specs.Museum.{is_container, is_elsewhere, find_place};
+ghost use Rattle.nest_core.specs.Museum.{is_container, is_elsewhere, find_place, find_place_at};
 ghost use Rattle.nest_core.specs.InOrder.{Row};
 ghost use Rattle.posting_core.specs.Verdicts.{first_of, exit_rows, return_rows, receive_rows};
 ghost use Rattle.posting_core.specs.Verdicts.{stage_eq, is_over, any_unlisted, any_not_at};
@@ -80,7 +80,7 @@ impl Ledger {
             (λ refusal. (is_applied refusal ≡ false)
             × ((day : ℤ) → first_of (exit_rows S P thing.now loan.now day) ≡ refusal)) }
     {
-        let Some(x) = self.setup.thing(thing) else {
+        let Some(x) = self.thing(thing) else {
             return Err(Verdict::UnknownThing);
         };
         let Some((number, kept)) = self.loan(loan) else {
@@ -251,14 +251,16 @@ impl Ledger {
     ) -> Result<(ThingNo, PlaceNo, usize, &KeptLoan), Verdict>
         ensures { let S = self.now.museum in let P = self.now.posted in MatchResult result
             (λ asked. IsFound S P thing.now loan.now asked.0 asked.2 asked.3.now
-            × (find_place S place.now ≡ Some asked.1) × (is_elsewhere S asked.1 ≡ false))
+            × (find_place S place.now ≡ Some asked.1)
+            × (find_place_at S (length P) place.now ≡ Some asked.1)
+            × (is_elsewhere S asked.1 ≡ false))
             (λ refusal. (is_applied refusal ≡ false) × ((rest : List (Row Verdict))
             → first_of (incoming_rows S P thing.now loan.now place.now rest) ≡ refusal)) }
     {
-        let Some(x) = self.setup.thing(thing) else {
+        let Some(x) = self.thing(thing) else {
             return Err(Verdict::UnknownThing);
         };
-        let Some(p) = self.setup.place(place) else {
+        let Some(p) = self.place(place) else {
             return Err(Verdict::UnknownPlace);
         };
         if !self.setup.is_inside(p) {

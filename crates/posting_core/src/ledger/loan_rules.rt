@@ -12,14 +12,14 @@ ghost use Rattle.posting_core.specs.Agreements.{loan_no, is_agreed};
 ghost use Rattle.posting_core.specs.LoanRows.{AreOnce};
 ghost use Rattle.posting_core.specs.Messages.{thing_no};
 ghost use Rattle.posting_core.specs.Verdicts.{first_of, agree_rows, authorise_rows, extend_rows};
-ghost use Rattle.posting_core.specs.Verdicts.{is_known, is_container_code, is_of_wrong_owner};
+ghost use Rattle.posting_core.specs.Verdicts.{is_known_at, is_container_code, is_of_wrong_owner};
 ghost use Rattle.posting_core.specs.Verdicts.{is_empty, repeats};
 
 use super::Ledger;
 use super::judged::{Judged, going_on, unput};
 use crate::{MOST_OBJECTS, Verdict};
 use codes_core::{Day, LoanCode, PlaceCode, ThingCode, ThingKind};
-use nest_core::{Setup, ThingNo};
+use nest_core::ThingNo;
 
 impl Ledger {
     pub(crate) fn judge_agree(
@@ -36,10 +36,10 @@ impl Ledger {
             first last) }
     {
         let mut numbers = [0; MOST_OBJECTS];
-        if any_unknown(&self.setup, objects, &mut numbers) {
+        if self.any_unknown(objects, &mut numbers) {
             return Verdict::UnknownThing;
         }
-        let Some(place) = self.setup.place(partner) else {
+        let Some(place) = self.place(partner) else {
             return Verdict::UnknownPlace;
         };
         if self.is_agreed(loan) {
@@ -51,6 +51,25 @@ impl Ledger {
         // Different codes have different numbers, so that comparing numbers is enough.
         let repeated = !are_once(&numbers[..objects.len()]);
         judge_terms(loan, objects, repeated, first, last)
+    }
+
+    /// Whether the setup doesn't list one of these codes yet. If it lists all, `numbers` begins with
+    /// their numbers.
+    fn any_unknown(&self, codes: &[ThingCode], numbers: &mut [ThingNo]) -> bool
+        requires { length codes.now ≤ length numbers.old }
+        ensures unknown { result
+            ≡ list_any (λ x. not (is_known_at self.now.museum self.now.posted x)) codes.now }
+        ensures numbers { result ≡ false
+            → take (length codes.now) numbers.new ≡ map (thing_no self.now.museum) codes.now }
+        ensures room { length numbers.new ≡ length numbers.old }
+    {
+        for i in 0..codes.len() {
+            let Some(x) = self.thing(&codes[i]) else {
+                return true;
+            };
+            numbers[i] = x;
+        }
+        false
     }
 
     /// Whether the loan is agreed.
@@ -94,23 +113,6 @@ impl Ledger {
         }
         going_on(number)
     }
-}
-
-/// Whether the setup lacks one of these codes. If not, `numbers` begins with the numbers of all.
-fn any_unknown(setup: &Setup, codes: &[ThingCode], numbers: &mut [ThingNo]) -> bool
-    requires { length codes.now ≤ length numbers.old }
-    ensures unknown { result ≡ list_any (λ x. not (is_known setup.now x)) codes.now }
-    ensures numbers { result ≡ false
-        → take (length codes.now) numbers.new ≡ map (thing_no setup.now) codes.now }
-    ensures room { length numbers.new ≡ length numbers.old }
-{
-    for i in 0..codes.len() {
-        let Some(x) = setup.thing(&codes[i]) else {
-            return true;
-        };
-        numbers[i] = x;
-    }
-    false
 }
 
 /// Checks the rows of an agreement that need neither the setup nor the entries: those of its

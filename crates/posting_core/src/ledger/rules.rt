@@ -26,10 +26,10 @@ impl Ledger {
         ensures carried { result.carried ≡ None }
         ensures loan { result.loan ≡ None }
     {
-        let Some(x) = self.setup.thing(thing) else {
+        let Some(x) = self.thing(thing) else {
             return unput(Verdict::UnknownThing);
         };
-        let Some(p) = self.setup.place(place) else {
+        let Some(p) = self.place(place) else {
             return unput(Verdict::UnknownPlace);
         };
         if !self.setup.is_inside(p) {
@@ -51,7 +51,7 @@ impl Ledger {
         ensures carried { result.carried ≡ None }
         ensures loan { result.loan ≡ None }
     {
-        let Some(x) = self.setup.thing(thing) else {
+        let Some(x) = self.thing(thing) else {
             return unput(Verdict::UnknownThing);
         };
         let Some(c) = self.container(container) else {
@@ -70,14 +70,15 @@ impl Ledger {
         }
     }
 
-    /// The number of a container, or `None` if the setup has no container with this code.
+    /// The number of a container, or `None` if the code isn't a container's or the setup doesn't list
+    /// it yet.
     fn container(&self, code: &ThingCode) -> Option<ThingNo>
         ensures found { result
-            ≡ (if is_known_container self.now.museum code.now
+            ≡ (if is_known_container self.now.museum self.now.posted code.now
             then find_thing self.now.museum code.now else None) }
         ensures within { IfSome result (λ c. c < length self.now.museum.things) }
     {
-        let thing = self.setup.thing(code)?;
+        let thing = self.thing(code)?;
         match self.setup.kind(thing) {
             ThingKind::Container => Some(thing),
             _ => None,
