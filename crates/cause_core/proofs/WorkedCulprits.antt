@@ -6,6 +6,7 @@ use Rattle.posting_core.specs.declared.message.Message.TheVariants.{Agree, Autho
 use Rattle.posting_core.specs.declared.verdict.Verdict.TheVariants.{Applied, NotListed, Repeated}
 use Rattle.posting_core.specs.declared.verdict.Verdict.TheVariants.{TermOver, UnknownThing}
 use Rattle.posting_core.specs.declared.verdict.Verdict.TheVariants.{WrongOwner, WrongStage}
+use Rattle.posting_core.proofs.WorkedGrowth.{grown_museum}
 use Rattle.posting_core.proofs.WorkedRows.{book, may, moved, pack, run}
 use Rattle.cause_core.specs.declared.culprit.Culprit.TheVariants.{Thing, Loan}
 use Rattle.cause_core.specs.Culprits.{culprit}
@@ -62,6 +63,11 @@ repeated = refl
 unknown : culprit (book []) (agreed (codes "2001.4.3" ∷ codes "2001.4.9" ∷ [])) UnknownThing
     ≡ Some (Thing (codes "2001.4.9"))
 unknown = refl
+
+-- 2009.1 is listed only after eight entries.
+listed_later : culprit (record { museum = grown_museum; depth = 8; posted = [] })
+    (agreed (codes "2001.4.3" ∷ codes "2009.1" ∷ [])) UnknownThing ≡ Some (Thing (codes "2009.1"))
+listed_later = refl
 
 -- A loan out can't list a borrowed object.
 wrong_owner : culprit (book []) (agreed (codes "2001.4.3" ∷ codes "L1999.7" ∷ [])) WrongOwner

@@ -25,7 +25,8 @@ use Rattle.posting_core.specs.declared.verdict.Verdict.TheVariants.{WrongStage, 
 use Rattle.posting_core.specs.Book.{Book, line_in}
 use Rattle.posting_core.specs.History.{carried_at}
 use Rattle.posting_core.specs.Loans.{crossing_in}
-use Rattle.posting_core.specs.Verdicts.{is_container_code, is_known, is_of_wrong_owner, stage_eq}
+use Rattle.posting_core.specs.Verdicts.{is_container_code, is_known_at, is_of_wrong_owner}
+use Rattle.posting_core.specs.Verdicts.{stage_eq}
 use Rattle.cause_core.specs.declared.culprit.Culprit.{Culprit}
 use Rattle.cause_core.specs.declared.culprit.Culprit.TheVariants.{Thing, Place, Loan}
 use Rattle.cause_core.specs.Named.{container_named, loan_named, place_named, thing_named}
@@ -40,9 +41,9 @@ a_place code = option_map Place code
 abbrev pub a_loan : Option (List ℕ) → Option Culprit
 a_loan code = option_map Loan code
 
--- The setup doesn't have the thing.
-abbrev pub is_unknown : Museum → List ℕ → Bool
-is_unknown S x = not (is_known S x)
+-- The setup didn't list the thing by the record's last entry.
+abbrev pub is_unknown : Book → List ℕ → Bool
+is_unknown B x = not (is_known_at B.museum B.posted x)
 
 -- The first code that comes again later in the list.
 abbrev pub first_repeated : List (List ℕ) → Option (List ℕ)
@@ -87,7 +88,7 @@ first_crossing_off B m any_stage =
 -- What made this verdict on a message true, in the record before it. Nothing, if it is applied.
 abbrev pub culprit : Book → Message → Verdict → Option Culprit
 culprit B m Applied = None
-culprit B m UnknownThing = a_thing (find (is_unknown B.museum) (things_named m))
+culprit B m UnknownThing = a_thing (find (is_unknown B) (things_named m))
 culprit B m UnknownPlace = a_place (place_named m)
 culprit B m ElsewherePlace = a_place (place_named m)
 culprit B m UnknownContainer = a_thing (container_named m)

@@ -75,13 +75,16 @@ fn a_loan(code: Option<LoanCode>) -> Option<Culprit>
     Some(Culprit::Loan(code?))
 }
 
-/// The first of these that the setup doesn't have.
+/// The first of these that the setup didn't list by the record's last entry.
 fn first_unknown<'a>(ledger: &Ledger, codes: &'a [ThingCode]) -> Option<&'a ThingCode>
     ensures { option_map (λ x. x.now) result
-        ≡ find (is_unknown ledger.now.museum) codes.now }
+        ≡ find (is_unknown ledger.now) codes.now }
 {
     let setup = ledger.setup();
-    codes.iter().find(|code| setup.thing(code).is_none())
+    let posted = ledger.entry_count();
+    codes
+        .iter()
+        .find(|code| setup.thing_at(code, posted).is_none())
 }
 
 fn first_container(codes: &[ThingCode]) -> Option<&ThingCode>
