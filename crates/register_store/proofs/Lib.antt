@@ -18,6 +18,7 @@ pub mod SpotRows
 pub mod SpotOrder
 pub mod Kept
 pub mod WholeLists
+pub mod GrownRows
 pub mod WorkedTexts
 pub mod WorkedRows
 mod WorkedLoans

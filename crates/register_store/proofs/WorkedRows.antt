@@ -49,6 +49,7 @@ museum = record {
       ∷ (codes "MUSEUM-X", false) ∷ (codes "LENDER-Y", false) ∷ [];
   things = (codes "C1", None) ∷ (codes "C2", None) ∷ (codes "2001.4.1", Some 1)
       ∷ (codes "2001.4.2", Some 1) ∷ (codes "2001.4.3", Some 1) ∷ (codes "L1999.7", None) ∷ [];
+  growths = [];
 }
 
 -- numbers in it
@@ -210,7 +211,8 @@ three-posted :
 three-posted = refl
 
 -- an old store stays as it is, whatever it is bound to
-old-bound : bound_to (record { stations = []; places = []; things = [] }) posted ≡ posted
+old-bound :
+    bound_to (record { stations = []; places = []; things = []; growths = [] }) posted ≡ posted
 old-bound = refl
 
 -- these are the stored rows of the list, in the order of tables too

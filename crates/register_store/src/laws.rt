@@ -1,13 +1,17 @@
 //! Laws of messages' texts, of stored rows and of registers. The functions do nothing: their
 //! contracts are the laws.
-ghost use Rattle.std.specs.Prelude.{◌≡◌, ℕ, List, All};
+ghost use Rattle.std.specs.Prelude.{◌≡◌, ℕ, List, All, length};
 ghost use Rattle.std.specs.List.Sorted.{IsPermutation};
+ghost use Rattle.nest_core.specs.Museum.{Museum, listed_now, NeverFell};
+ghost use Rattle.nest_core.specs.SetupGrowing.{Extends, grown};
+ghost use Rattle.posting_core.specs.Lawful.{IsLawful};
 ghost use Rattle.posting_core.specs.declared.entry.Changes.{Changes};
 ghost use Rattle.posting_core.specs.declared.entry.Entry.{Entry};
 ghost use Rattle.posting_core.specs.declared.message.Message.{Message};
 ghost use Rattle.register_store.specs.declared.store_fault.StoreFault.{StoreFault};
 ghost use Rattle.register_store.specs.MessageText.{IsTextOf};
-ghost use Rattle.register_store.specs.StoredRows.{Content, HasList, spots_by_thing, all_written};
+ghost use Rattle.register_store.specs.StoredRows.{Content, HasList, HasRows, IsStoreOf};
+ghost use Rattle.register_store.specs.StoredRows.{rows_of_setup, spots_by_thing, all_written};
 ghost use Rattle.register_store.specs.Registers.{IsOfStation, IsListFault};
 ghost use Rattle.register_store.specs.Holdings.{Comes, IsEmpty, IsPosted};
 ghost use Rattle.register_store.specs.Plain.{in_memory};
@@ -64,3 +68,20 @@ pub fn memory_is_quiet(register: &PlainRegister)
 {
     let _ = register;
 }
+
+/// A growth of the setup changes no stored row of spots, lines or terms.
+pub fn growing_changes_no_row()
+    ensures { (S T : Museum) (depth : ℕ) (P : List Entry) (c : Content)
+        → NeverFell S.growths (listed_now S) → Extends S T → IsLawful S depth P → HasRows S P c
+        → HasRows (grown (length P) S T) P c }
+{}
+
+/// A store with the rows of the grown setup in place of the old ones is a store of the same entries
+/// under the grown setup.
+pub fn growing_keeps_the_store()
+    ensures { (S T : Museum) (depth : ℕ) (P : List Entry) (c : Content)
+        → NeverFell S.growths (listed_now S) → Extends S T → IsLawful S depth P
+        → IsStoreOf S depth P c
+        → IsStoreOf (grown (length P) S T) depth P
+        (record c { setup = rows_of_setup (grown (length P) S T) }) }
+{}
