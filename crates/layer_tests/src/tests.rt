@@ -10,6 +10,7 @@ mod counts;
 mod disks;
 mod failing;
 mod fresh;
+mod growth;
 mod hub;
 mod lanes;
 mod memory;
