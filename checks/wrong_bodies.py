@@ -3,7 +3,7 @@
 An edit begins with its title and with the function whose contract refuses it:
 
   wrong: binds a store of another setup
-  refused by: compare, bound
+  refused by: compare, complete
 
 After the function come the clauses that refuse the edit, if they have names. A third line, `because: ...`, is for a remark.
 
