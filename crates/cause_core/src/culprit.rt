@@ -4,7 +4,8 @@ ghost use Rattle.std.specs.List.{find, list_any};
 ghost use Rattle.std.specs.Str.{bytes_eq};
 ghost use Rattle.posting_core.specs.Book.{crosses_with};
 ghost use Rattle.posting_core.specs.Verdicts.{is_container_code, is_of_wrong_owner};
-ghost use Rattle.cause_core.specs.Culprits.{a_loan, a_place, a_thing, culprit, first_of_wrong_owner};
+ghost use Rattle.cause_core.specs.Culprits.{a_loan, a_place, a_thing, culprit};
+ghost use Rattle.cause_core.specs.Culprits.{first_of_wrong_owner};
 ghost use Rattle.cause_core.specs.Culprits.{first_repeated, is_unknown};
 ghost use Rattle.cause_core.specs.Named.{things_named};
 

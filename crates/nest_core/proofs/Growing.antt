@@ -26,78 +26,85 @@ use Rattle.nest_core.specs.declared.setup_row.SetupRow.{SetupRow}
 use Rattle.nest_core.specs.declared.setup_row.SetupRow.TheVariants as lists
 use Rattle.nest_core.proofs.Positions.{EachFound}
 
+abbrev Thing : Type 0
+Thing = List ℕ × Option ℕ
+
+abbrev codes_of : List Thing → List (List ℕ)
+codes_of es = map (λ e. e.0) es
+
 -- a key that is there keeps its place
-by_place : (es : List (List ℕ × Option ℕ)) (code : List ℕ) (normal : Option ℕ) → position_or_len
-    (bytes_eq code) (map (λ e. e.0) es) < length (map (λ e. e.0) es) → insert_entry bytes_eq es code
-    normal ≡ rehomed es code normal
+by_place : (es : List Thing) (code : List ℕ) (normal : Option ℕ)
+    → position_or_len (bytes_eq code) (codes_of es) < length (codes_of es)
+    → insert_entry bytes_eq es code normal ≡ rehomed es code normal
 by_place [] code normal h = absurd (omega arith)
-by_place (e ∷ es) code normal h = elim (bytes_eq code e.0) as (λ t. cond (not t) (1 +
-    position_or_len (bytes_eq code) (map (λ q. q.0) es)) 0 < suc (length (map (λ q. q.0) es)) →
-    cond t ((e.0, normal) ∷ es) (e ∷ insert_entry bytes_eq es code normal) ≡ cond t ((e.0, normal) ∷
-    es) (e ∷ rehomed es code normal)) [
+by_place (e ∷ es) code normal h =
+    elim (bytes_eq code e.0) as (λ t.
+    cond (not t) (1 + position_or_len (bytes_eq code) (codes_of es)) 0 < suc (length (codes_of es))
+    → cond t ((e.0, normal) ∷ es) (e ∷ insert_entry bytes_eq es code normal)
+    ≡ cond t ((e.0, normal) ∷ es) (e ∷ rehomed es code normal)) [
       | true ↦ λ k. refl
       | false ↦ λ k. ap (λ rest. e ∷ rest) (by_place es code normal (omega arith))
     ] h
 
-found_before : (p : List ℕ → Bool) (xs : List (List ℕ)) → is_some (position p xs) ≡ true →
-    position_or_len p xs < length xs
-found_before p xs = elim (nat_lt (position_or_len p xs) (length xs)) as (λ t. nat_lt
-    (position_or_len p xs) (length xs) ≡ t → is_some (cond t (Some (position_or_len p xs)) None) ≡
-    true → position_or_len p xs < length xs) [
+found_before : (p : List ℕ → Bool) (xs : List (List ℕ)) → is_some (position p xs) ≡ true
+    → position_or_len p xs < length xs
+found_before p xs =
+    elim (nat_lt (position_or_len p xs) (length xs)) as (λ t.
+    nat_lt (position_or_len p xs) (length xs) ≡ t
+    → is_some (cond t (Some (position_or_len p xs)) None) ≡ true
+    → position_or_len p xs < length xs) [
       | true ↦ λ t h. grind (arith, nat_tests)
       | false ↦ λ t h. absurd (false≢true h)
     ] refl
 
-pub inserted : (S : Museum) (code : List ℕ) (normal : Option ℕ) → is_some (find_thing S code) ≡ true
+pub inserted : (S : Museum) (code : List ℕ) (normal : Option ℕ)
+    → is_some (find_thing S code) ≡ true
     → insert_entry bytes_eq S.things code normal ≡ rehomed S.things code normal
-inserted S code normal there = by_place S.things code normal (found_before (bytes_eq code)
-    (thing_codes S) there)
+inserted S code normal there =
+    by_place S.things code normal (found_before (bytes_eq code) (thing_codes S) there)
 
-pub codes_kept : (es : List (List ℕ × Option ℕ)) (code : List ℕ) (normal : Option ℕ) → map (λ e.
-    e.0) (rehomed es code normal) ≡ map (λ e. e.0) es
+pub codes_kept : (es : List Thing) (code : List ℕ) (normal : Option ℕ)
+    → codes_of (rehomed es code normal) ≡ codes_of es
 codes_kept [] code normal = refl
-codes_kept (e ∷ es) code normal = elim (bytes_eq code e.0) as (λ t. map (λ (q : List ℕ × Option ℕ).
-    q.0) (cond t ((e.0, normal) ∷ es) (e ∷ rehomed es code normal)) ≡ map (λ (q : List ℕ × Option
-    ℕ). q.0) (e ∷ es)) [
+codes_kept (e ∷ es) code normal =
+    elim (bytes_eq code e.0) as (λ t.
+    codes_of (cond t ((e.0, normal) ∷ es) (e ∷ rehomed es code normal)) ≡ codes_of (e ∷ es)) [
       | true ↦ refl
       | false ↦ ap (λ rest. e.0 ∷ rest) (codes_kept es code normal)
     ]
 
-rows_right : (n : ℕ) (es : List (List ℕ × Option ℕ)) (code : List ℕ) (normal : Option ℕ) → list_all
-    (is_thing_row n) es ≡ true → is_thing_row n (code, normal) ≡ true → list_all (is_thing_row n)
-    (rehomed es code normal) ≡ true
+rows_right : (n : ℕ) (es : List Thing) (code : List ℕ) (normal : Option ℕ)
+    → list_all (is_thing_row n) es ≡ true → is_thing_row n (code, normal) ≡ true
+    → list_all (is_thing_row n) (rehomed es code normal) ≡ true
 rows_right n [] code normal all right = refl
 rows_right n (e ∷ es) code normal all right =
     let both = and_parts (is_thing_row n e) (list_all (is_thing_row n) es) all in
-    elim (bytes_eq code e.0) as (λ t. bytes_eq code e.0 ≡ t → list_all (is_thing_row n) (cond t
-    ((e.0, normal) ∷ es) (e ∷ rehomed es code normal)) ≡ true) [
+    elim (bytes_eq code e.0) as (λ t. bytes_eq code e.0 ≡ t
+    → list_all (is_thing_row n) (cond t ((e.0, normal) ∷ es) (e ∷ rehomed es code normal))
+    ≡ true) [
       | true ↦ λ k.
           let same : code ≡ e.0 = (bytes_eq-Decides code e.0).0 k in
-          let first : is_thing_row n (e.0, normal) ≡ true = subst (λ x. is_thing_row n (x, normal) ≡
-          true) same right in
+          let first : is_thing_row n (e.0, normal) ≡ true =
+          subst (λ x. is_thing_row n (x, normal) ≡ true) same right in
           rw (first, both.1) refl
       | false ↦ λ k. rw (both.0, rows_right n es code normal both.1 right) refl
     ] refl
 
-rehomed_count : (S : Museum) (code : List ℕ) (normal : Option ℕ) → length S.things ≡ length (rehomed
-    S.things code normal)
+rehomed_count : (S : Museum) (code : List ℕ) (normal : Option ℕ)
+    → length S.things ≡ length (rehomed S.things code normal)
 rehomed_count S code normal = omega (
   arith,
   ap length (codes_kept S.things code normal),
-  length-map
-      (rehomed S.things code normal) (λ (e : List ℕ × Option ℕ). e.0),
-  length-map S.things (λ (e :
-      List ℕ × Option ℕ). e.0),
+  length-map (rehomed S.things code normal) (λ (e : Thing). e.0),
+  length-map S.things (λ (e : Thing). e.0),
 )
 
-pub IsMuseum-rehomed : (S : Museum) (code : List ℕ) (normal : Option ℕ) → IsMuseum S → is_thing_row
-    (length S.places) (code, normal) ≡ true → IsMuseum (record S {
-      things = rehomed S.things code
-          normal;
-    })
+pub IsMuseum-rehomed : (S : Museum) (code : List ℕ) (normal : Option ℕ) → IsMuseum S
+    → is_thing_row (length S.places) (code, normal) ≡ true
+    → IsMuseum (record S { things = rehomed S.things code normal })
 IsMuseum-rehomed S code normal is right =
-    let codes : map (λ e. e.0) (rehomed S.things code normal) ≡ thing_codes S = codes_kept S.things
-    code normal in
+    let codes : codes_of (rehomed S.things code normal) ≡ thing_codes S =
+    codes_kept S.things code normal in
     record {
       names = is.names;
       codes_of_places = is.codes_of_places;
@@ -108,42 +115,45 @@ IsMuseum-rehomed S code normal is right =
       few_stations = is.few_stations;
       few_places = is.few_places;
       few_growths = is.few_growths;
-      never_fell = subst (λ n. NeverFell S.growths (record {
-        places = length S.places;
-        things = n;
-      })) (rehomed_count S code normal) is.never_fell;
       few_things = omega (arith, is.few_things, rehomed_count S code normal);
+      never_fell =
+          subst (λ n. NeverFell S.growths (record { places = length S.places; things = n }))
+          (rehomed_count S code normal) is.never_fell;
     }
 
--- what is new is never on the other side
-new_side : (o : Option ℕ) (side : ℕ → Bool) → is_some o ≡ false → option_map_or side o false ≡ false
+-- a new item is never on the other side
+new_side : (o : Option ℕ) (side : ℕ → Bool) → is_some o ≡ false
+    → option_map_or side o false ≡ false
 new_side None side new = refl
 new_side (Some p) side new = absurd (false≢true (sym new))
 
-not_otherwise : (S : Museum) (item : SetupRow) → is_repeated S item ≡ false → is_other_side S item ≡
-    false
-not_otherwise S (lists.Station name) new = refl
-not_otherwise S (lists.Place code inside) new = new_side (find_place S code) _ new
-not_otherwise S (lists.Thing code normal) new = refl
+same_side : (S : Museum) (item : SetupRow) → is_repeated S item ≡ false
+    → is_other_side S item ≡ false
+same_side S (lists.Station name) new = refl
+same_side S (lists.Place code inside) new = new_side (find_place S code) _ new
+same_side S (lists.Thing code normal) new = refl
 
-pub new_fault : (S : Museum) (n : ℕ) (item : SetupRow) → is_repeated S item ≡ false → taking_fault S
-    n item ≡ option_map Setup (listing_fault S n item)
-new_fault S n item new = let other = not_otherwise S item new in rw (other, new) (by (lacks_normal S
-    item) (is_full S item))
+-- a new item has the faults of an item of a setup file
+pub new_fault : (S : Museum) (n : ℕ) (item : SetupRow) → is_repeated S item ≡ false
+    → taking_fault S n item ≡ option_map Setup (listing_fault S n item)
+new_fault S n item new =
+    let side = same_side S item new in
+    rw (side, new) (by (lacks_normal S item) (is_full S item))
   where
-    by : (a b : Bool) → (if a then Some (Setup (UnknownNormal n)) else if b then Some (Setup
-        (TooMany n)) else None) ≡ option_map Setup (if a then Some (UnknownNormal n) else if b then
-        Some (TooMany n) else None)
+    by : (a b : Bool)
+        → (if a then Some (Setup (UnknownNormal n)) else if b then Some (Setup (TooMany n))
+        else None)
+        ≡ option_map Setup (if a then Some (UnknownNormal n) else if b then Some (TooMany n)
+        else None)
     by true b = refl
     by false true = refl
     by false false = refl
 
-pub new_taken : (S : Museum) (item : SetupRow) → is_repeated S item ≡ false → with_taken S item ≡
-    with_listed S item
+pub new_taken : (S : Museum) (item : SetupRow) → is_repeated S item ≡ false
+    → with_taken S item ≡ with_listed S item
 new_taken S item new = rw new refl
 
 -- a setup that takes in rows lists what it listed
-
 pub same_extends : (S : Museum) → Extends S S
 same_extends S = record {
   more_stations = [];
@@ -158,14 +168,14 @@ same_extends S = record {
 pub then_extends : (S T U : Museum) → Extends S T → Extends T U → Extends S U
 then_extends S T U a b = record {
   more_stations = a.more_stations ++ b.more_stations;
-  stations = b.stations ∙ ap (λ xs. xs ++ b.more_stations) a.stations ∙ append_assoc S.stations
-      a.more_stations b.more_stations;
+  stations = b.stations ∙ ap (λ xs. xs ++ b.more_stations) a.stations
+      ∙ append_assoc S.stations a.more_stations b.more_stations;
   more_places = a.more_places ++ b.more_places;
-  places = b.places ∙ ap (λ xs. xs ++ b.more_places) a.places ∙ append_assoc S.places a.more_places
-      b.more_places;
+  places = b.places ∙ ap (λ xs. xs ++ b.more_places) a.places
+      ∙ append_assoc S.places a.more_places b.more_places;
   more_things = a.more_things ++ b.more_things;
-  things = b.things ∙ ap (λ xs. xs ++ b.more_things) a.things ∙ append_assoc (thing_codes S)
-      a.more_things b.more_things;
+  things = b.things ∙ ap (λ xs. xs ++ b.more_things) a.things
+      ∙ append_assoc (thing_codes S) a.more_things b.more_things;
   growths = b.growths ∙ a.growths;
 }
 
@@ -176,56 +186,52 @@ listed_extends S (lists.Station name) = record {
   more_places = [];
   places = sym (append-nil S.places);
   more_things = [];
-  things = sym (append-nil
-      (thing_codes S));
+  things = sym (append-nil (thing_codes S));
   growths = refl;
 }
 listed_extends S (lists.Place code inside) = record {
   more_stations = [];
-  stations = sym (append-nil
-      S.stations);
+  stations = sym (append-nil S.stations);
   more_places = (code, inside) ∷ [];
   places = refl;
   more_things = [];
-  things = sym
-      (append-nil (thing_codes S));
+  things = sym (append-nil (thing_codes S));
   growths = refl;
 }
-listed_extends S (lists.Thing code normal) = record {
-  more_stations = [];
-  stations = sym (append-nil
-      S.stations);
-  more_places = [];
-  places = sym (append-nil S.places);
-  more_things = code ∷ [];
-  things = map-append (λ (row : List ℕ × Option ℕ). row.0) S.things ((
-    code,
-    option_and_then
-        (find_place S) normal,
-  ) ∷ []);
-  growths = refl;
-}
+listed_extends S (lists.Thing code normal) =
+    let row : Thing = (code, option_and_then (find_place S) normal) in
+    record {
+      more_stations = [];
+      stations = sym (append-nil S.stations);
+      more_places = [];
+      places = sym (append-nil S.places);
+      more_things = code ∷ [];
+      things = map-append (λ (e : Thing). e.0) S.things (row ∷ []);
+      growths = refl;
+    }
 
 kept_extends : (S : Museum) (item : SetupRow) → Extends S (kept_with S item)
 kept_extends S (lists.Station name) = same_extends S
 kept_extends S (lists.Place code inside) = same_extends S
-kept_extends S (lists.Thing code normal) = record {
-  more_stations = [];
-  stations = sym (append-nil
-      S.stations);
-  more_places = [];
-  places = sym (append-nil S.places);
-  more_things = [];
-  things =
-      codes_kept S.things code (option_and_then (find_place S) normal) ∙ sym (append-nil
-          (thing_codes
-      S));
-  growths = refl;
-}
+kept_extends S (lists.Thing code normal) =
+    let place = option_and_then (find_place S) normal in
+    record {
+      more_stations = [];
+      stations = sym (append-nil S.stations);
+      more_places = [];
+      places = sym (append-nil S.places);
+      more_things = [];
+      things = codes_kept S.things code place ∙ sym (append-nil (thing_codes S));
+      growths = refl;
+    }
 
 pub taken_extends : (S : Museum) (item : SetupRow) → Extends S (with_taken S item)
-taken_extends S item = elim (is_repeated S item) as (λ b. Extends S (if b then kept_with S item else
-    with_listed S item)) [ true ↦ kept_extends S item | false ↦ listed_extends S item ]
+taken_extends S item =
+    elim (is_repeated S item) as (λ b.
+    Extends S (if b then kept_with S item else with_listed S item)) [
+      | true ↦ kept_extends S item
+      | false ↦ listed_extends S item
+    ]
 
 further_extends : (S : Museum) (row : Fields) → Extends S (with_further S row)
 further_extends S row = elim (item_of row) as (λ o. Extends S (option_map_or (with_taken S) o S)) [
@@ -235,20 +241,20 @@ further_extends S row = elim (item_of row) as (λ o. Extends S (option_map_or (w
 
 pub all_extends : (S : Museum) (rows : List Fields) → Extends S (fold with_further S rows)
 all_extends S [] = same_extends S
-all_extends S (row ∷ rows) = then_extends S (with_further S row) (fold with_further (with_further S
-    row) rows) (further_extends S row) (all_extends (with_further S row) rows)
+all_extends S (row ∷ rows) =
+    let T = with_further S row in
+    then_extends S T (fold with_further T rows) (further_extends S row) (all_extends T rows)
 
 -- a thing that is listed takes its normal place
-pub rehomes : (S : Museum) (n : ℕ) (code : List ℕ) (normal : Option (List ℕ)) → is_some (find_thing
-    S code) ≡ true → lacks_normal S (lists.Thing code normal) ≡ false
-    → (taking_fault S n (lists.Thing code normal) ≡ None) × (record S {
-      things = rehomed S.things
-          code (option_and_then (find_place S) normal);
-    } ≡ with_taken S (lists.Thing code normal))
+pub rehomes : (S : Museum) (n : ℕ) (code : List ℕ) (normal : Option (List ℕ))
+    → is_some (find_thing S code) ≡ true → lacks_normal S (lists.Thing code normal) ≡ false
+    → (taking_fault S n (lists.Thing code normal) ≡ None)
+    × (record S { things = rehomed S.things code (option_and_then (find_place S) normal) }
+    ≡ with_taken S (lists.Thing code normal))
 rehomes S n code normal there found = (rw (found, there) refl, rw there refl)
 
-pub rehome_fails : (S : Museum) (n : ℕ) (code : List ℕ) (normal : Option (List ℕ)) → lacks_normal S
-    (lists.Thing code normal) ≡ true
+pub rehome_fails : (S : Museum) (n : ℕ) (code : List ℕ) (normal : Option (List ℕ))
+    → lacks_normal S (lists.Thing code normal) ≡ true
     → taking_fault S n (lists.Thing code normal) ≡ Some (Setup (UnknownNormal n))
 rehome_fails S n code normal lacks = rw lacks refl
 
@@ -276,8 +282,8 @@ IsMuseum-grown posted S T of is more few =
           arith,
           things,
           length-append (thing_codes S) more.more_things,
-          length-map S.things (λ (e : List ℕ × Option ℕ). e.0),
-          length-map T.things (λ (e : List ℕ × Option ℕ). e.0),
+          length-map S.things (λ (e : Thing). e.0),
+          length-map T.things (λ (e : Thing). e.0),
         ),
         of.never_fell,
       );

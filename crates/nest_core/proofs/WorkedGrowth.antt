@@ -8,7 +8,6 @@ use Rattle.nest_core.specs.Museum.{Museum, find_place_at, find_thing_at, listed_
 use Rattle.nest_core.specs.SetupGrowing.{grown, rows_fault, with_file}
 use Rattle.nest_core.specs.SetupRows.{rows_of}
 use Rattle.nest_core.specs.SetupTexts.{setup_rows}
-use Rattle.nest_core.specs.declared.growth.Growth.{Growth}
 use Rattle.nest_core.specs.declared.setup_fault.SetupFault.TheVariants.{BadKind, UnknownNormal}
 use Rattle.nest_core.specs.declared.grow_fault.GrowFault.TheVariants.{OtherSide, Setup}
 
@@ -73,7 +72,8 @@ other_side : rows_fault museum 1 (rows_of (codes "place,S3,inside\nplace,S1,else
 unfolding next_record records_from strip_bom
 other_side = refl
 
-unknown_normal : rows_fault museum 1 (rows_of (codes "own,2024.9.1,S9\n")) ≡ Some (Setup (UnknownNormal 1))
+unknown_normal : rows_fault museum 1 (rows_of (codes "own,2024.9.1,S9\n"))
+    ≡ Some (Setup (UnknownNormal 1))
 unfolding next_record records_from strip_bom
 unknown_normal = refl
 

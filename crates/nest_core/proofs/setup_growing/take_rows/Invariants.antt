@@ -8,5 +8,6 @@ use Rattle.nest_core.proofs.setup_growing.take_rows.Given as goal
 abbrev pub invariant-loop-before : goal.invariant-loop-before
 invariant-loop-before l = TakesRows l.reader
     × (xs : List ℕ) × (source_of (λ s. Some s.now) l.reader ≡ Some xs)
-    × IsFurtherTo (strip_bom l.fn.bytes) l.fn.setup l.setup (l.before + 1) (reader_state l.reader) xs
+    × IsFurtherTo (strip_bom l.fn.bytes) l.fn.setup l.setup (l.before + 1)
+    (reader_state l.reader) xs
     × (l.before + length xs ≤ length l.fn.bytes)
