@@ -1,16 +1,20 @@
 -- The rows of a store of version 1, in either order, and rows without a version.
 use Rattle.std.proofs.Common.{zero, suc, Bool, true, false, ltb, ltb-true, ltb-false, ◌≤◌}
 use Rattle.std.proofs.Common.{slice_index_or, ◌≡◌, ◌≢◌, ◌⊎◌, inl, inr, ◌<◌, ◌+◌, ℕ, pos, List, []}
-use Rattle.std.proofs.Common.{◌∷◌, length, codes, refl, sym, ap, subst, ◌∙◌, arith}
+use Rattle.std.proofs.Common.{◌∷◌, length, codes, refl, sym, ap, subst, ◌∙◌, arith, map}
 use Rattle.std.specs.Bool.{Decides}
 use Rattle.std.specs.List.{AllByRecursion}
+use Rattle.std.specs.List.Sorted.{IsPermutation}
 use Rattle.std.proofs.lemmas.List.Sorted.{IsPermutation-refl, IsPermutation-sym}
 use Rattle.std.proofs.lemmas.List.Sorted.{IsPermutation-middle, length_permutation}
 use Rattle.sqlite_trees.proofs.ListLemmas.{all-permutation}
-use Rattle.sqlite.specs.Order.{Row}
+use Rattle.sqlite.specs.Order.{Row, column}
+use Rattle.sqlite.specs.Edit.{id_in}
+use Rattle.sqlite_value.specs.Order.{bytes}
 use Rattle.register_store.specs.StoredRows.{MetaRow}
 use Rattle.register_sql.specs.Ages.{version_row, LacksRow, IsFirst}
 use Rattle.register_sql.specs.Rows.{meta_cells}
+use Rattle.register_sql.specs.Migrating.{Lacks}
 
 default_free : (rows : List Row) (i : ℕ) (d e : Row) → i < length rows
     → slice_index_or rows i d ≡ slice_index_or rows i e
@@ -111,3 +115,43 @@ one_says version rows at row inside is fit = (
   (λ f. absurd (let e : false ≡ true = f in cc)),
   λ lacks. absurd (lacks at row inside (sym is ∙ fit)),
 )
+
+-- ---- the same of the rows of a content
+
+all_lack : (v : ℕ) (rows : List Row) → LacksRow v rows
+    → AllByRecursion (λ r. r ≢ meta_cells (version_row v)) rows
+all_lack v [] h = tt
+all_lack v (r ∷ rows) h =
+    (h 0 r (omega arith), all_lack v rows (λ k d low. h (suc k) d (omega (arith, low))))
+
+each_lacks : (v : ℕ) (rows : List Row) → AllByRecursion (λ r. r ≢ meta_cells (version_row v)) rows
+    → LacksRow v rows
+each_lacks v [] h k d low = absurd (omega (arith, low))
+each_lacks v (r ∷ rows) h zero d low = h.0
+each_lacks v (r ∷ rows) h (suc k) d low = each_lacks v rows h.1 k d (omega (arith, low))
+
+meta_of : Row → MetaRow
+meta_of r = record { name = bytes (column r 0); val = id_in (column r 1) }
+
+one_meta : (m n : MetaRow) → meta_cells m ≡ meta_cells n → m ≡ n
+unfolding meta_of
+one_meta m n same = ap meta_of same
+
+rows_lack : (v : ℕ) (ms : List MetaRow) → Lacks v ms
+    → AllByRecursion (λ r. r ≢ meta_cells (version_row v)) (map meta_cells ms)
+rows_lack v [] h = tt
+rows_lack v (m ∷ ms) h = (λ same. h.0 (one_meta m (version_row v) same), rows_lack v ms h.1)
+
+metas_lack : (v : ℕ) (ms : List MetaRow)
+    → AllByRecursion (λ r. r ≢ meta_cells (version_row v)) (map meta_cells ms) → Lacks v ms
+metas_lack v [] h = tt
+metas_lack v (m ∷ ms) h = (λ same. h.0 (ap meta_cells same), metas_lack v ms h.1)
+
+pub lacks_in : (v : ℕ) (ms : List MetaRow) (rows : List Row)
+    → IsPermutation (map meta_cells ms) rows → LacksRow v rows → Lacks v ms
+lacks_in v ms rows held h =
+    metas_lack v ms (all-permutation _ _ _ (IsPermutation-sym _ _ held) (all_lack v rows h))
+
+pub lacks_out : (v : ℕ) (ms : List MetaRow) (rows : List Row)
+    → IsPermutation (map meta_cells ms) rows → Lacks v ms → LacksRow v rows
+lacks_out v ms rows held h = each_lacks v rows (all-permutation _ _ _ held (rows_lack v ms h))

@@ -1,258 +1,36 @@
--- The store's information about itself is that of its rows, and binding changes these as a register
--- promises.
-use Rattle.std.proofs.Common.{◌≡◌, ◌≢◌, ◌≤◌, ℕ, zero, suc, pos, List, [], ◌∷◌, ◌++◌, length, map}
-use Rattle.std.proofs.Common.{drop, reverse, slice_index_or, codes, Bool, true, false, not, ◌&&◌}
-use Rattle.std.proofs.Common.{◌||◌, Ok, Err, Result, IfOk, IfErr, refl, sym, ap, subst, ◌∙◌, arith}
+-- Binding changes a store's rows as a register promises.
+use Rattle.std.proofs.Common.{◌≡◌, ◌≢◌, ◌≤◌, ℕ, List, [], ◌∷◌, ◌++◌, map, drop, true, false, Ok}
+use Rattle.std.proofs.Common.{Err, Result, IfOk, IfErr, refl, sym, ap, subst, ◌∙◌, arith}
 use Rattle.std.proofs.Common.{append-nil}
-use Rattle.std.specs.Bool.{Decides}
-use Rattle.std.specs.List.{AllByRecursion, list_any}
 use Rattle.std.specs.List.Sorted.{IsPermutation}
-use Rattle.std.specs.Ordering.{int_eq}
-use Rattle.std.specs.Str.{bytes_eq}
-use Rattle.std.proofs.lemmas.Bool.{and_parts}
-use Rattle.std.proofs.lemmas.Bool.Decides.{Decides-int_eq}
-use Rattle.std.proofs.lemmas.List.{reverse-reverse}
-use Rattle.std.proofs.lemmas.List.Sorted.{IsPermutation-refl, IsPermutation-sym}
-use Rattle.std.proofs.lemmas.List.Sorted.{IsPermutation-trans, IsPermutation-map}
-use Rattle.std.proofs.lemmas.List.Sorted.{length_permutation, list_any-IsPermutation}
-use Rattle.std.proofs.lemmas.Slice.Eq.{bytes_eq-Decides}
+use Rattle.std.proofs.lemmas.List.Sorted.{IsPermutation-refl, IsPermutation-trans}
+use Rattle.std.proofs.lemmas.List.Sorted.{IsPermutation-map, length_permutation}
 use Rattle.nest_core.specs.Museum.{Museum}
 use Rattle.nest_core.specs.SetupTexts.{setup_rows}
 use Rattle.sqlite.proofs.StateLemmas.{survives_then, survives_weaker}
-use Rattle.sqlite.specs.Edit.{id_in}
 use Rattle.sqlite.specs.Effect.{Database}
-use Rattle.sqlite.specs.Order.{Row, column}
+use Rattle.sqlite.specs.Order.{Row}
 use Rattle.sqlite.specs.State.{State, HasCleanDisk, Survives}
 use Rattle.sqlite.specs.Tree.{Trees}
-use Rattle.sqlite.specs.declared.types.Value.TheVariants.{Int, Text}
 use Rattle.sqlite_catalog.specs.Listing.{IsSound}
-use Rattle.sqlite_trees.proofs.ListLemmas.{all-permutation}
-use Rattle.sqlite_value.specs.Order.{bytes}
-use Rattle.register_store.specs.Registers.{is_new, is_failure, has_other_version, bound_by}
-use Rattle.register_store.specs.Registers.{bound_to, IsBindFault}
-use Rattle.register_store.specs.StoredRows.{Content, SetupRow, MetaRow, AreSame, IsBoundTo}
-use Rattle.register_store.specs.StoredRows.{rows_of_setup, rows_of_meta}
+use Rattle.register_store.specs.Registers.{is_new, is_failure, bound_by, bound_to, IsBindFault}
+use Rattle.register_store.specs.StoredRows.{Content, MetaRow, AreSame, IsBoundTo, rows_of_setup}
+use Rattle.register_store.specs.StoredRows.{rows_of_meta}
 use Rattle.register_store.specs.declared.store_fault.StoreFault.{StoreFault}
-use Rattle.register_store.specs.declared.store_fault.StoreFault.TheVariants.{OtherSetup, Damaged}
-use Rattle.register_store.specs.declared.store_fault.StoreFault.TheVariants.{OtherVersion, Store}
+use Rattle.register_store.specs.declared.store_fault.StoreFault.TheVariants.{Store}
 use Rattle.register_sql.specs.Binding.{IsRefused, IsBoundAs, IsUnfitFor, LeavesBound, ComesBound}
 use Rattle.register_sql.specs.Making.{MakesWhole, IsMadeWhole, LeavesMade, setup_from}
 use Rattle.register_sql.specs.Posting.{IsWhole}
-use Rattle.register_sql.specs.Queries.{shown_in, IsPart, IsSame, AreApart}
+use Rattle.register_sql.specs.Profiles.{IsProfile, IsComplete}
+use Rattle.register_sql.specs.Queries.{IsPart, IsSame, AreApart}
 use Rattle.register_sql.specs.Rows.{HasPart, AreRows, IsStored, had, meta_cells, setup_cells}
-use Rattle.register_sql.specs.Says.{IsOther, HasOther, IsIdentity, setup_rows_shown, setup_in}
-use Rattle.register_sql.specs.Shown.{shown_meta, shown_setup, setup_shown}
+use Rattle.register_sql.specs.Says.{IsIdentity, HasSetup, metas_in}
 use Rattle.register_sql.specs.Tables.{prefix}
-use Rattle.register_sql.specs.declared.queries.Query.TheVariants.{Metas}
 use Rattle.register_sql.specs.declared.identity.Identity.TheVariants as told
-use Rattle.register_sql.proofs.Contents.{content_in, same_part, one_prefix, unmapped}
-use Rattle.register_sql.proofs.Removed.{map_twice}
-use Rattle.register_sql.proofs.Rising.{here, part_same}
-use Rattle.register_sql.proofs.Setups.{numbered_are}
-
--- ---- reading `meta`
-
-pick : Row → Row
-pick r = column r 0 ∷ column r 1 ∷ []
-
-picked : (r : Row) → pick (drop 1 r) ≡ shown_meta r
-unfolding pick
-picked [] = refl
-picked (v ∷ r) = refl
-
-all_picked : (rows : List Row) → map pick (map (drop 1) rows) ≡ map shown_meta rows
-all_picked [] = refl
-all_picked (r ∷ rows) = rw (picked r, all_picked rows) refl
-
-cells_picked : (ms : List MetaRow) → map pick (map meta_cells ms) ≡ map meta_cells ms
-unfolding pick
-cells_picked [] = refl
-cells_picked (m ∷ ms) = ap (λ l. meta_cells m ∷ l) (cells_picked ms)
-
-pub metas_read : (made : ℕ) → 1 ≤ made → (db : Trees) (c : Content) (rows : List Row)
-    → HasPart made db c → IsPermutation (shown_in Metas db) rows
-    → IsPermutation (map meta_cells c.meta) rows
-metas_read made some db c rows held read =
-    let there : IsPermutation (map meta_cells c.meta) (map (drop 1) (db 0)) =
-    subst (λ l. IsPermutation (map meta_cells c.meta) (map (drop 1) l))
-    (here 1 made (db 0) some) held.meta in
-    let picks : IsPermutation (map pick (map meta_cells c.meta)) (map pick (map (drop 1) (db 0))) =
-    IsPermutation-map pick _ _ there in
-    IsPermutation-trans _ (map shown_meta (db 0)) _
-    (subst (IsPermutation (map meta_cells c.meta)) (all_picked (db 0))
-    (subst (λ l. IsPermutation l (map pick (map (drop 1) (db 0)))) (cells_picked c.meta) picks))
-    read
-
-meta_back : Row → MetaRow
-meta_back r = record { name = bytes (column r 0); val = id_in (column r 1) }
-
--- the same rows of `meta`
-pub same_metas : (xs ys : List MetaRow) (rows : List Row) → IsPermutation (map meta_cells xs) rows
-    → IsPermutation (map meta_cells ys) rows → IsPermutation xs ys
-unfolding meta_back
-same_metas xs ys rows = unmapped meta_cells meta_back (λ m. refl) xs ys rows
-
-pub none_new : (ms : List MetaRow) → IsPermutation (map meta_cells ms) [] → ms ≡ []
-none_new [] h = refl
-none_new (m ∷ ms) h = absurd (omega (arith, length_permutation _ _ h))
-
-pub some_old : (ms : List MetaRow) (rows : List Row) → rows ≢ []
-    → IsPermutation (map meta_cells ms) rows → is_new ms ≡ false
-some_old [] rows some h = absurd (some (empty rows (length_permutation _ _ h)))
-  where
-    empty : (rs : List Row) → length rs ≡ length (map meta_cells []) → rs ≡ []
-    empty [] len = refl
-    empty (r ∷ rs) len = absurd (omega (arith, len))
-some_old (m ∷ ms) rows some h = refl
-
--- a row of another version, by its cells
-other : Row → Bool
-other r = bytes_eq (bytes (column r 0)) (codes "version") && not
-    (int_eq (id_in (column r 1)) (pos 2))
-
-others_are : (ms : List MetaRow) → list_any other (map meta_cells ms) ≡ has_other_version ms
-unfolding other
-others_are [] = refl
-others_are (m ∷ ms) =
-    ap (λ b. (bytes_eq m.name (codes "version") && not (int_eq m.val (pos 2))) || b) (others_are ms)
-
-is_other : (row : Row) → IsOther row → other row ≡ true
-unfolding other
-is_other row is =
-    let name : bytes_eq (codes "version") (codes "version") ≡ true =
-    (bytes_eq-Decides (codes "version") (codes "version")).1 refl in
-    let val : int_eq is.0 (pos 2) ≡ false =
-    differ (int_eq is.0 (pos 2)) (Decides-int_eq is.0 (pos 2)) in
-    ap (λ r. bytes_eq (bytes (column r 0)) (codes "version") && not
-    (int_eq (id_in (column r 1)) (pos 2))) is.1 ∙ rw (name, val) refl
-  where
-    differ : (b : Bool) → Decides b (is.0 ≡ pos 2) → b ≡ false
-    differ true d = absurd (is.2 (d.0 refl))
-    differ false d = refl
-
-any_at : (rows : List Row) (k : ℕ) (row : Row) → suc k ≤ length rows
-    → row ≡ slice_index_or rows k row → other row ≡ true → list_any other rows ≡ true
-any_at [] k row low is fit = absurd (omega (arith, low))
-any_at (r ∷ rows) zero row low is fit = rw (ap other (sym is) ∙ fit) refl
-any_at (r ∷ rows) (suc k) row low is fit =
-    last (other r) (any_at rows k row (omega (arith, low)) is fit)
-  where
-    last : (b : Bool) → list_any other rows ≡ true → (b || list_any other rows) ≡ true
-    last true h = refl
-    last false h = h
-
--- and the other way round, for rows that have the cells of `meta`
-other_at : (m : MetaRow) → other (meta_cells m) ≡ true → IsOther (meta_cells m)
-unfolding other
-other_at m fit =
-    let parts = and_parts (bytes_eq m.name (codes "version")) _ fit in (
-      m.val,
-      ap (λ n. Text n ∷ Int m.val ∷ [])
-          ((bytes_eq-Decides m.name (codes "version")).0 parts.0),
-      λ two. absurd (let bad : not (int_eq m.val (pos 2)) ≡ false = ap not
-          ((Decides-int_eq m.val (pos 2)).1 two) in let e : true ≡ false = sym parts.1 ∙ bad in cc),
-    )
-
-found_in : (rs : List Row) → AllByRecursion (λ r. (m : MetaRow) × (r ≡ meta_cells m)) rs
-    → list_any other rs ≡ true → HasOther rs
-found_in [] all fit = absurd (let e : false ≡ true = fit in cc)
-found_in (r ∷ rs) all fit = pick_one (other r) refl fit (found_in rs all.1)
-  where
-    pick_one : (b : Bool) → other r ≡ b → (b || list_any other rs) ≡ true
-        → (list_any other rs ≡ true → HasOther rs) → HasOther (r ∷ rs)
-    pick_one true is h next = (
-      0,
-      r,
-      omega arith,
-      refl,
-      subst IsOther (sym all.0.1)
-          (other_at all.0.0 (ap other (sym all.0.1) ∙ is)),
-    )
-    pick_one false is h next = let it = next h in (suc it.0, it.1, omega (arith, it.2), it.3, it.4)
-
-pub none_other : (rows : List Row) (ms : List MetaRow) → IsPermutation (map meta_cells ms) rows
-    → ¬ HasOther rows → has_other_version ms ≡ false
-none_other rows ms held none = go (list_any other rows) refl
-  where
-    each : (xs : List MetaRow) → AllByRecursion (λ r. (m : MetaRow) × (r ≡ meta_cells m))
-        (map meta_cells xs)
-    each [] = tt
-    each (x ∷ xs) = ((x, refl), each xs)
-
-    go : (b : Bool) → list_any other rows ≡ b → has_other_version ms ≡ false
-    go true is = absurd (none (found_in rows (all-permutation _ _ _ held (each ms)) is))
-    go false is = sym (others_are ms) ∙ list_any-IsPermutation other _ rows held ∙ is
-
--- the store is rejected because of its rows about itself
-pub told_other : (S : Museum) (made : ℕ) → 1 ≤ made → (db : Trees) (rows : List Row)
-    → IsPermutation (shown_in Metas db) rows → IsIdentity rows told.OtherVersion → (c : Content)
-    → HasPart made db c → IsBindFault S c OtherVersion
-told_other S made some db rows read is c held =
-    sym (others_are c.meta) ∙ list_any-IsPermutation other _ rows
-    (metas_read made some db c rows held read) ∙ any_at rows is.0 is.1 (omega (arith, is.2))
-    is.3 (is_other is.1 is.4)
-
-pub told_damaged : (S : Museum) (made : ℕ) → 1 ≤ made → (db : Trees) (rows : List Row)
-    → IsPermutation (shown_in Metas db) rows → IsIdentity rows told.Damaged → (c : Content)
-    → HasPart made db c → IsBindFault S c (Damaged 0)
-told_damaged S made some db rows read is c held =
-    let metas = metas_read made some db c rows held read in (
-      refl,
-      some_old c.meta rows is.0 metas,
-      none_other rows c.meta metas is.1,
-      λ whole. is.2 whole.0 whole.1 (IsPermutation-trans _ _ _
-          (IsPermutation-map meta_cells _ _ whole.2) metas),
-    )
-
--- a store without rows about itself
-pub told_new : (db : Trees) (rows : List Row) → IsPermutation (shown_in Metas db) rows
-    → IsIdentity rows told.New → db 0 ≡ []
-told_new db rows read is = none (db 0) (subst (IsPermutation (shown_in Metas db)) is read)
-  where
-    none : (table : List Row) → IsPermutation (map shown_meta table) [] → table ≡ []
-    none [] h = refl
-    none (r ∷ table) h = absurd (omega (arith, length_permutation _ _ h))
-
-pub whole_meta : (made : ℕ) → 1 ≤ made → (db : Trees) (rows : List Row) (depth : ℕ)
-    → IsPermutation (shown_in Metas db) rows → IsIdentity rows (told.Bound depth) → (c : Content)
-    → HasPart made db c → IsPermutation (rows_of_meta depth) c.meta
-whole_meta made some db rows depth read is c held =
-    same_metas _ _ rows is.1 (metas_read made some db c rows held read)
-
--- ---- the setup
-
-pub setup_back : Row → SetupRow
-setup_back r = record { id = id_in (column r 0); text = bytes (column r 1) }
-
-pub setups_shown : (made : ℕ) (db : Trees) (c : Content) → HasPart made db c
-    → IsPermutation (map setup_shown c.setup) (setup_in made db)
-setups_shown made db c held = subst (λ l. IsPermutation l (setup_in made db))
-    (map_twice shown_setup setup_cells c.setup) (IsPermutation-map shown_setup _ _ held.setup)
-
-pub setup_rows_are : (S : Museum) → IsPermutation (rows_of_setup S) (setup_from 1 (setup_rows S))
-setup_rows_are S = subst (λ l. IsPermutation (rows_of_setup S) (setup_from 1 l))
-    (reverse-reverse (setup_rows S)) (numbered_are (reverse (setup_rows S)))
-
-pub has_the_setup : (S : Museum) (made : ℕ) (db : Trees)
-    → Decides true (IsPermutation (setup_rows_shown (setup_rows S)) (setup_in made db))
-    → (c : Content) → HasPart made db c → IsPermutation (rows_of_setup S) c.setup
-unfolding setup_back
-has_the_setup S made db is c held =
-    IsPermutation-trans _ _ _ (setup_rows_are S)
-    (unmapped setup_shown setup_back (λ r. refl) (setup_from 1 (setup_rows S)) c.setup
-    (setup_in made db) (is.0 refl) (setups_shown made db c held))
-
-pub other_setup : (S : Museum) (made : ℕ) → 1 ≤ made → (db : Trees) (rows : List Row) (depth : ℕ)
-    → IsPermutation (shown_in Metas db) rows → IsIdentity rows (told.Bound depth)
-    → Decides false (IsPermutation (setup_rows_shown (setup_rows S)) (setup_in made db))
-    → (c : Content) → HasPart made db c → IsBindFault S c OtherSetup
-other_setup S made some db rows depth read is differs c held = (
-  (depth, is.0, whole_meta made some db rows depth read is c held),
-  λ same. absurd (let e : false ≡ true = differs.1
-      (IsPermutation-trans _ _ _ (IsPermutation-map setup_shown _ _
-      (IsPermutation-trans _ _ _ (IsPermutation-sym _ _ (setup_rows_are S)) same))
-      (setups_shown made db c held)) in cc),
-)
+use Rattle.register_sql.proofs.Contents.{content_in, same_part, one_prefix}
+use Rattle.register_sql.proofs.Rising.{part_same, same_then, trees_same}
+use Rattle.register_sql.proofs.Profiles.{none_new, told_new, whole_meta, setup_rows_are}
+use Rattle.register_sql.proofs.Profiles.{has_the_setup}
 
 -- ---- bound
 
@@ -299,11 +77,11 @@ pub sound_in : (made : ℕ) (s : State) → IsPart made s → IsSound (prefix ma
 sound_in made s part = subst (λ k. IsSound k s.now.trees) part.schema part.sound
 
 -- an old store of this version, with this setup
-pub bound_old : (S : Museum) (depth : ℕ) (old new : State) (rows : List Row) → IsPart 6 old
-    → IsPermutation (shown_in Metas old.now.trees) rows → IsIdentity rows (told.Bound depth)
-    → Decides true (IsPermutation (setup_rows_shown (setup_rows S)) (setup_in 6 old.now.trees))
-    → AreApart 6 old.now.trees → IsSame old new → IsBoundAs S depth old new
-bound_old S depth old new rows part read is has apart same =
+complete_old : (S : Museum) (depth : ℕ) (old new : State) (rows : List Row) → IsPart 6 old
+    → IsPermutation (metas_in 6 old.now.trees) rows → IsIdentity rows (told.Bound depth)
+    → HasSetup S 6 old.now.trees → AreApart 6 old.now.trees → IsSame old new
+    → IsBoundAs S depth old new
+complete_old S depth old new rows part read is has apart same =
     let db = old.now.trees in
     let sound = sound_in 6 old part in
     let back : new.now ≡ old.now = same.now in
@@ -316,7 +94,7 @@ bound_old S depth old new rows part read is has apart same =
     let on : (d : Content) → AreRows new.now.trees d → AreRows db d =
     λ d h. subst (λ (k : Database). AreRows k.trees d) back h in
     let metas : (d : Content) → AreRows db d → IsPermutation (rows_of_meta depth) d.meta =
-    whole_meta 6 (omega arith) db rows depth read is in
+    whole_meta 6 db rows depth read is in
     let first = content_in 6 (omega arith) db sound apart.setup.ints apart.postings.ints in
     record {
       was_open = same.was_open;
@@ -337,6 +115,17 @@ bound_old S depth old new rows part read is has apart same =
         limit = is.0;
       };
     }
+
+pub bound_old : (S : Museum) (made depth : ℕ) (old mid new : State) (rows : List Row)
+    → IsProfile old made rows → IsIdentity rows (told.Bound depth) → IsSame old mid
+    → IsComplete S made 6 mid.now.trees → IsSame mid new → IsBoundAs S depth old new
+bound_old S made depth old mid new rows profile is first complete second =
+    let there : IsComplete S made 6 old.now.trees =
+    subst (IsComplete S made 6) (trees_same old mid first) complete in
+    complete_old S depth old new rows (subst (λ k. IsPart k old) there.tables profile.part)
+    (subst (λ k. IsPermutation (metas_in k old.now.trees) rows) there.tables profile.read) is
+    (subst (λ k. HasSetup S k old.now.trees) there.tables there.setup) there.apart
+    (same_then old mid new first second)
 
 -- the rows of a new store after binding
 made_rows : (S : Museum) (made : ℕ) (db next : Trees) (c : Content) → had 1 made (db 0) ≡ []
@@ -510,17 +299,14 @@ module _ (S : Museum) (made : ℕ) (few : made ≤ 6) (old mid new : State) (tex
       (none_there now) (apart_there made old mid (same now) (apart now))
       (subst (λ ts. IsMadeWhole made (setup_from 1 ts) (rows_of_meta 12) mid new) are is))
 
-pub is_six : (made : ℕ) (s : State) → made ≤ 6 → 6 ≤ made → IsPart made s → IsPart 6 s
-is_six made s few many part = let six : made ≡ 6 = omega arith in subst (λ k. IsPart k s) six part
-
 -- ---- the rows about the store decide
 
-pub new_there : (made : ℕ) → 1 ≤ made → (old mid : State) → IsSame old mid → (rows : List Row)
-    → IsPermutation (shown_in Metas old.now.trees) rows → IsIdentity rows told.New
+pub new_there : (made : ℕ) (old mid : State) → IsSame old mid → (rows : List Row)
+    → IsPermutation (metas_in made old.now.trees) rows → IsIdentity rows told.New
     → had 1 made (mid.now.trees 0) ≡ []
-new_there made some old mid same rows read is =
-    here 1 made (mid.now.trees 0) some ∙ ap (λ (k : Database). k.trees 0) same.now
-    ∙ told_new old.now.trees rows read is
+new_there made old mid same rows read is =
+    ap (λ db. had 1 made (db 0)) (trees_same old mid same)
+    ∙ told_new made old.now.trees rows read is
 
 -- an answer's clauses, weakened
 pub weaker : {X E : Type 0} (P Q : X → Type 0) → ((x : X) → P x → Q x)

@@ -23,6 +23,7 @@ pub mod Rising
 pub mod Ascending
 pub mod Pairs
 pub mod Setups
+pub mod Profiles
 pub mod Postings
 pub mod Binds
 pub mod Unfit

@@ -1,54 +1,47 @@
 -- The version of a store decides whether it is migrated, and which rows it then has.
-use Rattle.std.proofs.Common.{◌≡◌, ◌≢◌, inl, inr, ◌≤◌, ℕ, zero, suc, List, [], ◌∷◌, length, map}
-use Rattle.std.proofs.Common.{reverse, Bool, true, false, All, Ok, Err, Result, IfOk, OnOk, refl}
-use Rattle.std.proofs.Common.{sym, ap, subst, ◌∙◌, arith}
-use Rattle.std.specs.Bool.{Decides}
-use Rattle.std.specs.List.{AllByRecursion}
+use Rattle.std.proofs.Common.{◌≡◌, ◌≢◌, ◌⊎◌, inl, inr, ◌≤◌, ℕ, List, [], ◌∷◌, length, map, reverse}
+use Rattle.std.proofs.Common.{true, false, All, Ok, Err, Result, IfOk, OnOk, refl, sym, ap, subst}
+use Rattle.std.proofs.Common.{◌∙◌, arith}
 use Rattle.std.specs.List.Sorted.{IsPermutation}
 use Rattle.std.proofs.lemmas.List.Sorted.{IsPermutation-refl, IsPermutation-sym}
 use Rattle.std.proofs.lemmas.List.Sorted.{IsPermutation-trans, IsPermutation-map}
 use Rattle.std.proofs.lemmas.List.Sorted.{IsPermutation-reverse, All-permutation}
 use Rattle.nest_core.specs.Museum.{Museum}
-use Rattle.nest_core.specs.SetupTexts.{setup_rows}
 use Rattle.posting_core.specs.Lawful.{IsLawful}
 use Rattle.posting_core.specs.declared.entry.Entry.{Entry}
 use Rattle.sqlite.proofs.StateLemmas.{survives_then}
-use Rattle.sqlite.specs.Edit.{id_in}
 use Rattle.sqlite.specs.Effect.{Database}
-use Rattle.sqlite.specs.Order.{Row, column}
+use Rattle.sqlite.specs.Order.{Row}
 use Rattle.sqlite.specs.State.{State, HasCleanDisk, Survives}
 use Rattle.sqlite.specs.Tree.{Trees}
-use Rattle.sqlite.specs.declared.error.Error.{Error}
-use Rattle.sqlite_trees.proofs.ListLemmas.{all-permutation}
-use Rattle.sqlite_value.specs.Order.{bytes}
 use Rattle.register_store.proofs.TermRows.{next_terms}
 use Rattle.register_store.specs.Registers.{is_new, is_of_listing}
-use Rattle.register_store.specs.StoredRows.{Content, MetaRow, HasList, rows_of_setup, rows_of_terms}
+use Rattle.register_store.specs.StoredRows.{Content, HasList, rows_of_setup, rows_of_terms}
 use Rattle.register_store.specs.declared.store_fault.StoreFault.{StoreFault}
 use Rattle.register_store.specs.declared.store_fault.StoreFault.TheVariants.{NoMemory, Store}
 use Rattle.register_store.specs.declared.store_fault.StoreFault.TheVariants.{OtherSetup, Damaged}
 use Rattle.register_store.specs.declared.store_fault.StoreFault.TheVariants.{OtherVersion}
-use Rattle.register_sql.specs.Ages.{version_row, first_meta, LacksRow, IsAged}
-use Rattle.register_sql.specs.Binding.{IsSettled}
+use Rattle.register_sql.specs.Ages.{first_meta, IsFirst, IsAged}
 use Rattle.register_sql.specs.Early.{IsEarlyOf, IsFirstEarlyWrong}
 use Rattle.register_sql.specs.Migrating.{Lacks, IsOfFirst, IsMigrateFault, AreFirstApart, IsUnfit}
 use Rattle.register_sql.specs.Migrating.{IsFirstOf, IsRaisable, IsRaised, IsLeft, LeavesMoved}
 use Rattle.register_sql.specs.Migrating.{ComesMigrated, IsLifted, LeavesLifted, days_given}
 use Rattle.register_sql.specs.Migrating.{migrated, lifted}
-use Rattle.register_sql.specs.Queries.{shown_in, IsPart, IsSame, IsApartIn, AreApart}
+use Rattle.register_sql.specs.Profiles.{IsProfile, IsProfileFault, IsComplete, IsCompareFault}
+use Rattle.register_sql.specs.Queries.{IsPart, IsSame, AreApart}
 use Rattle.register_sql.specs.Rows.{HasPart, AreRows, IsStored, Apart, meta_cells}
-use Rattle.register_sql.specs.Says.{HasOther, setup_rows_shown, setup_in}
-use Rattle.register_sql.specs.Shown.{setup_shown}
-use Rattle.register_sql.specs.Tables.{IsNoStore}
+use Rattle.register_sql.specs.Says.{HasOther, HasSetup, metas_in}
+use Rattle.register_sql.specs.Tables.{prefix}
 use Rattle.register_sql.specs.declared.version.Age.TheVariants as age
-use Rattle.register_sql.specs.declared.queries.Query.TheVariants.{Metas, MetaIds}
-use Rattle.register_sql.proofs.Binds.{metas_read, same_metas, none_new, some_old, none_other}
-use Rattle.register_sql.proofs.Binds.{told_other, setup_rows_are, setups_shown, has_the_setup}
+use Rattle.register_sql.proofs.Profiles.{metas_read, same_metas, none_new, some_old, none_other}
+use Rattle.register_sql.proofs.Profiles.{told_other, has_the_setup, lacks_the_setup}
 use Rattle.register_sql.proofs.Binds.{part_of, sound_in, other_fault}
 use Rattle.register_sql.proofs.Contents.{content_in, same_part}
 use Rattle.register_sql.proofs.Prefixes.{same_count}
 use Rattle.register_sql.proofs.Raised.{lifted_is}
 use Rattle.register_sql.proofs.Rising.{part_same, same_then, trees_same}
+use Rattle.register_sql.proofs.Unfit.{memory_is_not_store}
+use Rattle.register_sql.proofs.Ages.{lacks_in, lacks_out}
 
 -- ---- the law
 
@@ -59,83 +52,34 @@ given_are_of_looking_back S depth (e ∷ P) lawful =
     next_terms S depth P e (days_given P) lawful.0 lawful.1
     (given_are_of_looking_back S depth P lawful.1)
 
--- ---- no row has a version
-
-all_lack : (v : ℕ) (rows : List Row) → LacksRow v rows
-    → AllByRecursion (λ r. r ≢ meta_cells (version_row v)) rows
-all_lack v [] h = tt
-all_lack v (r ∷ rows) h =
-    (h 0 r (omega arith), all_lack v rows (λ k d low. h (suc k) d (omega (arith, low))))
-
-each_lacks : (v : ℕ) (rows : List Row) → AllByRecursion (λ r. r ≢ meta_cells (version_row v)) rows
-    → LacksRow v rows
-each_lacks v [] h k d low = absurd (omega (arith, low))
-each_lacks v (r ∷ rows) h zero d low = h.0
-each_lacks v (r ∷ rows) h (suc k) d low = each_lacks v rows h.1 k d (omega (arith, low))
-
-meta_of : Row → MetaRow
-meta_of r = record { name = bytes (column r 0); val = id_in (column r 1) }
-
-one_meta : (m n : MetaRow) → meta_cells m ≡ meta_cells n → m ≡ n
-unfolding meta_of
-one_meta m n same = ap meta_of same
-
-rows_lack : (v : ℕ) (ms : List MetaRow) → Lacks v ms
-    → AllByRecursion (λ r. r ≢ meta_cells (version_row v)) (map meta_cells ms)
-rows_lack v [] h = tt
-rows_lack v (m ∷ ms) h = (λ same. h.0 (one_meta m (version_row v) same), rows_lack v ms h.1)
-
-metas_lack : (v : ℕ) (ms : List MetaRow)
-    → AllByRecursion (λ r. r ≢ meta_cells (version_row v)) (map meta_cells ms) → Lacks v ms
-metas_lack v [] h = tt
-metas_lack v (m ∷ ms) h = (λ same. h.0 (ap meta_cells same), metas_lack v ms h.1)
-
-lacks_in : (v : ℕ) (ms : List MetaRow) (rows : List Row) → IsPermutation (map meta_cells ms) rows
-    → LacksRow v rows → Lacks v ms
-lacks_in v ms rows held h =
-    metas_lack v ms (all-permutation _ _ _ (IsPermutation-sym _ _ held) (all_lack v rows h))
-
-lacks_out : (v : ℕ) (ms : List MetaRow) (rows : List Row) → IsPermutation (map meta_cells ms) rows
-    → Lacks v ms → LacksRow v rows
-lacks_out v ms rows held h = each_lacks v rows (all-permutation _ _ _ held (rows_lack v ms h))
-
 -- ---- the version decides
 
-no_table : (S : Museum) (db : Trees) (c : Content) → HasPart 0 db c
-    → IsMigrateFault S c OtherVersion
-no_table S db c held = inl (ap is_new (none_new c.meta held.meta))
-
-module _ (S : Museum) (made : ℕ) (some : 1 ≤ made) (db : Trees) (rows : List Row)
-    (read : IsPermutation (shown_in Metas db) rows) where
+module _ (S : Museum) (made : ℕ) (db : Trees) (rows : List Row)
+    (read : IsPermutation (metas_in made db) rows) where
   pub says_nothing : IsAged rows age.New → (c : Content) → HasPart made db c
       → IsMigrateFault S c OtherVersion
   says_nothing is c held =
       inl (ap is_new (none_new c.meta
-      (subst (IsPermutation (map meta_cells c.meta)) is
-      (metas_read made some db c rows held read))))
+      (subst (IsPermutation (map meta_cells c.meta)) is (metas_read made db c rows held read))))
 
   pub says_other : IsAged rows age.Other → (c : Content) → HasPart made db c
       → IsMigrateFault S c OtherVersion
   says_other is c held =
-      let metas = metas_read made some db c rows held read in
+      let metas = metas_read made db c rows held read in
       inr (
-        told_other S made some db rows read is.0 c held,
+        told_other S made db rows read is.0 c held,
         lacks_in 1 c.meta rows metas is.1,
         lacks_in 2 c.meta rows metas is.2,
       )
 
   pub says_second : IsAged rows age.Second → (c : Content) → HasPart made db c → ¬ Lacks 2 c.meta
   says_second is c held lacks =
-      is (lacks_out 2 c.meta rows (metas_read made some db c rows held read) lacks)
-
-  pub says_first : IsAged rows age.First → (c : Content) → HasPart made db c
-      → IsPermutation first_meta c.meta
-  says_first is c held = same_metas _ _ rows is (metas_read made some db c rows held read)
+      is (lacks_out 2 c.meta rows (metas_read made db c rows held read) lacks)
 
   pub says_damaged : IsAged rows age.Damaged → (c : Content) → HasPart made db c
       → IsMigrateFault S c (Damaged 0)
   says_damaged is c held =
-      let metas = metas_read made some db c rows held read in
+      let metas = metas_read made db c rows held read in
       inl (
         refl,
         record {
@@ -150,23 +94,18 @@ module _ (S : Museum) (made : ℕ) (some : 1 ≤ made) (db : Trees) (rows : List
         },
       )
 
-  pub has_another_setup : IsAged rows age.First
-      → Decides false (IsPermutation (setup_rows_shown (setup_rows S)) (setup_in made db))
-      → (c : Content) → HasPart made db c → IsMigrateFault S c OtherSetup
-  has_another_setup is differs c held = (
-    says_first is c held,
-    λ same. absurd (let e : false ≡ true = differs.1
-        (IsPermutation-trans _ _ _ (IsPermutation-map setup_shown _ _
-        (IsPermutation-trans _ _ _ (IsPermutation-sym _ _ (setup_rows_are S)) same))
-        (setups_shown made db c held)) in cc),
-  )
+pub first_there : (made : ℕ) (old mid : State) → IsSame old mid → (rows : List Row)
+    → IsPermutation (metas_in made old.now.trees) rows → IsAged rows age.First
+    → IsFirst (metas_in made mid.now.trees)
+first_there made old mid same rows read is =
+    subst (λ db. IsFirst (metas_in made db)) (sym (trees_same old mid same))
+    (IsPermutation-trans _ _ _ is (IsPermutation-sym _ _ read))
 
-pub first_of : (S : Museum) (db : Trees) (rows : List Row) → IsPermutation (shown_in Metas db) rows
-    → IsAged rows age.First
-    → Decides true (IsPermutation (setup_rows_shown (setup_rows S)) (setup_in 5 db))
-    → IsFirstOf S db
-first_of S db rows read is has =
-    record { meta = says_first S 5 (omega arith) db rows read is; setup = has_the_setup S 5 db has }
+first_metas : (made : ℕ) (db : Trees) → IsFirst (metas_in made db) → (c : Content)
+    → HasPart made db c → IsPermutation first_meta c.meta
+first_metas made db is c held =
+    same_metas _ _ (metas_in made db) is
+    (metas_read made db c (metas_in made db) held (IsPermutation-refl _))
 
 pub left_as : (S : Museum) (made : ℕ) → made ≤ 6 → (old new : State) (fault : StoreFault)
     → IsPart made old → IsSame old new
@@ -185,54 +124,72 @@ pub left_unfit : (S : Museum) (old new : State) → IsSame old new → IsUnfit S
     → IsLeft S old new Store
 left_unfit S old new same unfit = record { same = same; cause = λ c held. tt; unfit = λ is. unfit }
 
-pub left_no_store : (S : Museum) (old : State) → IsSettled old → IsNoStore old.now
-    → IsLeft S old old Store
-left_no_store S old settled other =
-    left_unfit S old old (record {
-      was_open = settled.is_open;
-      is_open = settled.is_open;
-      now = refl;
-      committed = refl;
-    }) (inl other)
+pub left_no_profile : (S : Museum) (old new : State) (fault : StoreFault) → IsSame old new
+    → IsProfileFault old.now fault → IsLeft S old new fault
+left_no_profile S old new NoMemory same why =
+    record { same = same; cause = λ c held. tt; unfit = λ is. absurd (memory_is_not_store is) }
+left_no_profile S old new Store same why = left_unfit S old new same (inl why)
+left_no_profile S old new OtherSetup same why = absurd why
+left_no_profile S old new (Damaged at) same why = absurd why
+left_no_profile S old new OtherVersion same why = absurd why
 
-pub other_tables : (S : Museum) (made : ℕ) → 1 ≤ made → made ≤ 6 → (old : State) (rows : List Row)
-    → IsPart made old → IsPermutation (shown_in Metas old.now.trees) rows → IsAged rows age.First
-    → Decides true (IsPermutation (setup_rows_shown (setup_rows S)) (setup_in made old.now.trees))
-    → made ≢ 5 → IsUnfit S old.now
-other_tables S made some few old rows part read is has other =
-    let held : (c : Content) → IsStored old.now.trees c → HasPart made old.now.trees c =
-    part_of made few old.now.trees (sound_in made old part) in
+-- a store of version 1 that can't be migrated
+pub unfit_first : (S : Museum) (made : ℕ) → made ≤ 6 → (old : State) → IsPart made old
+    → IsFirst (metas_in made old.now.trees) → HasSetup S made old.now.trees
+    → (made ≢ 5) ⊎ (¬ AreFirstApart old.now.trees) → IsUnfit S old.now
+unfit_first S made few old part first has unfit =
+    let db = old.now.trees in
+    let held : (c : Content) → IsStored db c → HasPart made db c =
+    part_of made few db (sound_in made old part) in
     inr (record {
-      meta = λ c stored. says_first S made some old.now.trees rows read is c (held c stored);
-      setup = λ c stored. has_the_setup S made old.now.trees has c (held c stored);
-      unfit = inl (λ five. other (same_count made 5 few (omega arith) (sym part.schema ∙ five)));
+      meta = λ c stored. first_metas made db first c (held c stored);
+      setup = λ c stored. has_the_setup S made db has c (held c stored);
+      unfit = unfit_tables unfit;
     })
+  where
+    unfit_tables : (made ≢ 5) ⊎ (¬ AreFirstApart old.now.trees)
+        → (old.now.schema ≢ prefix 5) ⊎ (¬ AreFirstApart old.now.trees)
+    unfit_tables (inl other) =
+        inl (λ five. other (same_count made 5 few (omega arith) (sym part.schema ∙ five)))
+    unfit_tables (inr other) = inr other
 
-pub other_rowids : (S : Museum) (old : State) → IsPart 5 old → IsFirstOf S old.now.trees
-    → ¬ AreFirstApart old.now.trees → IsUnfit S old.now
-other_rowids S old part first other =
-    let held : (c : Content) → IsStored old.now.trees c → HasPart 5 old.now.trees c =
-    part_of 5 (omega arith) old.now.trees (sound_in 5 old part) in
-    inr (record {
-      meta = λ c stored. first.meta c (held c stored);
-      setup = λ c stored. first.setup c (held c stored);
-      unfit = inr other;
-    })
+pub left_first : (S : Museum) (made : ℕ) → made ≤ 6 → (old new : State) (fault : StoreFault)
+    → IsPart made old → IsFirst (metas_in made old.now.trees) → IsSame old new
+    → IsCompareFault S made 5 old.now.trees fault → IsLeft S old new fault
+left_first S made few old new NoMemory part first same why =
+    left_no_profile S old new NoMemory same tt
+left_first S made few old new Store part first same why =
+    left_unfit S old new same (unfit_first S made few old part first why.0 (unfit why.1))
+  where
+    unfit : (made ≢ 5) ⊎ (¬ AreApart 5 old.now.trees)
+        → (made ≢ 5) ⊎ (¬ AreFirstApart old.now.trees)
+    unfit (inl other) = inl other
+    unfit (inr other) = inr (λ apart. other apart.1)
+left_first S made few old new OtherSetup part first same why =
+    left_as S made few old new OtherSetup part same (λ c held. (
+      first_metas made old.now.trees first c held,
+      lacks_the_setup S made old.now.trees why c held,
+    )) (other_fault OtherSetup refl)
+left_first S made few old new (Damaged at) part first same why = absurd why
+left_first S made few old new OtherVersion part first same why = absurd why
 
-pub left_without_tables : (S : Museum) (old : State) → IsPart 0 old → IsSame old old
-    → IsLeft S old old OtherVersion
-left_without_tables S old part same =
-    left_as S 0 (omega arith) old old OtherVersion part same (no_table S old.now.trees)
-    (other_fault OtherVersion refl)
+-- one with equal rowids in `meta`
+pub left_apart : (S : Museum) (made : ℕ) (old mid new : State) → IsPart made old
+    → IsFirst (metas_in made old.now.trees) → IsComplete S made 5 old.now.trees → IsSame old mid
+    → IsSame mid new → ¬ Apart (mid.now.trees 0) → IsLeft S old new Store
+left_apart S made old mid new part first complete same then other =
+    left_unfit S old new (same_then old mid new same then)
+    (unfit_first S made (omega (arith, complete.tables)) old part first complete.setup
+    (inr (λ apart. other (subst (λ (k : Database). Apart (k.trees 0)) (sym same.now) apart.0))))
 
-pub second_as : (made : ℕ) → 1 ≤ made → made ≤ 6 → (old new : State) (rows : List Row)
-    → IsPart made old → IsSame old new → IsPermutation (shown_in Metas old.now.trees) rows
-    → IsAged rows age.Second → (S : Museum) → IsRaised S old new
-second_as made some few old new rows part same read is S =
+pub second_as : (S : Museum) (made : ℕ) → made ≤ 6 → (old new : State) (rows : List Row)
+    → IsProfile old made rows → IsSame old new → IsAged rows age.Second → IsRaised S old new
+second_as S made few old new rows profile same is =
+    let db = old.now.trees in
     inr (record {
       same = same;
-      second = λ c held. says_second S made some old.now.trees rows read is
-          c (part_of made few old.now.trees (sound_in made old part) c held);
+      second = λ c held. says_second S made db rows profile.read is c
+          (part_of made few db (sound_in made old profile.part) c held);
     })
 
 -- ---- the rows that the transaction writes
@@ -309,24 +266,23 @@ moved_survives S entries old mid new is first same listed known second =
     leaves_of S entries old mid (is (omega (arith, first.clean, now))) (same now) (listed now) known
     db did) first second
 
-pub raisable_on : (S : Museum) (old mid : State) → IsPart 5 old → IsFirstOf S old.now.trees
-    → IsSame old mid → Apart (old.now.trees 0) → AreApart 5 old.now.trees → IsRaisable S mid
-raisable_on S old mid part first same metas apart =
-    let back : (c : Content) → HasPart 5 mid.now.trees c → HasPart 5 old.now.trees c =
-    λ c h. subst (λ (k : Database). HasPart 5 k.trees c) same.now h in
+pub raisable_on : (S : Museum) (made : ℕ) (old mid new : State) → IsPart made old
+    → IsFirst (metas_in made old.now.trees) → IsComplete S made 5 old.now.trees → IsSame old mid
+    → IsSame mid new → Apart (mid.now.trees 0) → IsRaisable S new
+raisable_on S made old mid new part first complete same then metas =
+    let both = same_then old mid new same then in
+    let db = old.now.trees in
+    let five : IsFirst (metas_in 5 db) =
+    subst (λ k. IsFirst (metas_in k db)) complete.tables first in
+    let has : HasSetup S 5 db = subst (λ k. HasSetup S k db) complete.tables complete.setup in
+    let there : IsFirstOf S db =
+    record { meta = first_metas 5 db five; setup = has_the_setup S 5 db has } in
     record {
-      part = part_same 5 old mid part same;
-      meta_apart = subst (λ (k : Database). Apart (k.trees 0)) (sym same.now) metas;
-      apart = subst (λ (k : Database). AreApart 5 k.trees) (sym same.now) apart;
-      first = record {
-        meta = λ c h. first.meta c (back c h);
-        setup = λ c h. first.setup c (back c h);
-      };
+      part = part_same 5 old new (subst (λ k. IsPart k old) complete.tables part) both;
+      meta_apart = subst (λ (k : Database). Apart (k.trees 0)) (sym then.now) metas;
+      apart = subst (λ (k : Database). AreApart 5 k.trees) (sym both.now) complete.apart;
+      first = subst (λ (k : Database). IsFirstOf S k.trees) (sym both.now) there;
     }
-
-pub first_on : (S : Museum) (old mid : State) → IsSame old mid → IsFirstOf S old.now.trees
-    → IsFirstOf S mid.now.trees
-first_on S old mid same first = subst (λ (k : Database). IsFirstOf S k.trees) (sym same.now) first
 
 pub metas_there : (old mid : State) → IsSame old mid → Apart (old.now.trees 0)
     → Apart (mid.now.trees 0)
@@ -359,26 +315,7 @@ list_left S stations fault old new are raisable same is other why =
     (λ at fit. subst (λ n. IsFirstEarlyWrong n at c) are (why at fit c held)))
     other
 
-pub metas_and_others : (old mid : State) (r : Result Bool Error) → IsSame old mid
-    → IsApartIn MetaIds 5 old.now.trees → IfOk r (λ b. Decides b (AreApart 5 mid.now.trees))
-    → IfOk r (λ b. Decides b (AreFirstApart old.now.trees))
-metas_and_others old mid (Err e) same metas others = tt
-metas_and_others old mid (Ok b) same metas others =
-    let told : Decides b (AreApart 5 old.now.trees) =
-    subst (λ db. Decides b (AreApart 5 db)) (trees_same old mid same) others in
-    ((λ is. (metas, told.0 is)), λ both. told.1 both.1)
-
 -- ---- after a read that changed nothing
-
-pub told_on : (old mid : State) → IsSame old mid → (rows : List Row)
-    → IsPermutation (shown_in Metas old.now.trees) rows → IsAged rows age.First → (rows : List Row)
-    × IsPermutation (shown_in Metas mid.now.trees) rows × IsAged rows age.First
-told_on old mid same rows read is = (
-  rows,
-  subst (λ (k : Database). IsPermutation (shown_in Metas k.trees) rows)
-      (sym same.now) read,
-  is,
-)
 
 pub raised_on : (S : Museum) (old mid new : State) → IsSame old mid → IsRaised S mid new
     → IsRaised S old new

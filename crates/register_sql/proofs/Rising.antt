@@ -211,14 +211,6 @@ same_then a b c p q = record {
   committed = q.committed ∙ p.committed;
 }
 
-pub same_still : (made : ℕ) (s : State) → IsPart made s → IsSame s s
-same_still made s part = record {
-  was_open = part.is_open;
-  is_open = part.is_open;
-  now = refl;
-  committed = refl;
-}
-
 -- ---- one table after another
 
 pub on_same : {T : Type 0} (old mid new : State) (r : Result T Error) → IsSame old mid

@@ -80,6 +80,17 @@ pub step_then : {T U : Type 0} (a b c : State) (q : Result T Error) (r : Result 
     → IsStep a b q → IsStep b c r → IsStep a c r
 step_then a b c q r first = step_on a b c r first.survives first.kept
 
+-- a reading that succeeded, with another answer
+pub reading_as : {T U : Type 0} (a b : State) (x : T) (y : U)
+    → IsReading a b (let q : Result T Error = Ok x in q)
+    → IsReading a b (let r : Result U Error = Ok y in r)
+reading_as a b x y reading = record {
+  between = reading.between;
+  same = reading.same;
+  survives = reading.survives;
+  excused = λ _. tt;
+}
+
 -- a reading after another that succeeded
 pub reading_then : {T U : Type 0} (a b c : State) (x : T) (r : Result U Error)
     → IsReading a b (let q : Result T Error = Ok x in q) → IsReading b c r → IsReading a c r

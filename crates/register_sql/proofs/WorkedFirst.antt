@@ -30,10 +30,12 @@ use Rattle.sqlite_value.specs.Order.{value_cmp}
 use Rattle.register_store.proofs.WorkedTexts.{may, may-text, end_of_may, end_of_may-text}
 use Rattle.register_store.specs.StoredRows.{Content, SetupRow, PostingRow, TermRow, IsPostingRow}
 use Rattle.register_store.specs.StoredRows.{HasList, rows_of_setup, rows_of_meta}
+use Rattle.register_store.specs.declared.store_fault.StoreFault.TheVariants.{Store}
 use Rattle.register_sql.specs.Ages.{first_meta}
 use Rattle.register_sql.specs.Early.{IsEarlyOf}
 use Rattle.register_sql.specs.Binding.{IsUnfitFor}
 use Rattle.register_sql.specs.Migrating.{AreFirstApart, IsMigrated, IsOfFirst, IsUnfit, days_given}
+use Rattle.register_sql.specs.Profiles.{IsProfileFault, IsComplete, IsCompareFault}
 use Rattle.register_sql.specs.Rows.{HasPart, IsStored}
 use Rattle.register_sql.specs.Tables.{of_tables, prefix, term, IsNoStore}
 
@@ -209,6 +211,9 @@ apart = (
 is_store : IsNoStore database → ⊥
 is_store h = h 5 refl
 
+complete : IsComplete museum 5 5 tables
+complete = record { setup = IsPermutation-refl _; tables = refl; apart = apart.1 }
+
 fit : IsUnfit museum database → ⊥
 fit (inl h) = is_store h
 fit (inr h) = ⊎_elim (λ other. other refl) (λ not. not apart) h.unfit
@@ -234,7 +239,14 @@ no_store (suc (suc (suc (suc (suc zero))))) e =
 no_store (suc (suc (suc (suc (suc (suc made)))))) e =
     absurd (omega (arith, ap (λ (s : Schema). length s.indexes) e))
 
--- nor can it be bound
+no_profile : IsProfileFault (record { schema = of_tables (term ∷ []) []; trees = tables }) Store
+no_profile = no_store
+
+-- a store of version 1 lacks a table of version 2
+lacks_a_table : IsCompareFault museum 5 6 tables Store
+lacks_a_table = (complete.setup, inl (λ same. absurd (omega (arith, same))))
+
+-- nor can a database with another table be bound
 unbound : (S : Museum) → IsUnfitFor S (record { schema = of_tables (term ∷ []) []; trees = tables })
 unbound S = inl no_store
 

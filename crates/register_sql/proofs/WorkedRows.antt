@@ -28,7 +28,7 @@ use Rattle.register_sql.specs.Posting.{with_posting, with_spot, with_line, witho
 use Rattle.register_sql.specs.Posting.{with_some_term}
 use Rattle.register_sql.specs.Queries.{shown_in, AreApart}
 use Rattle.register_sql.specs.Rows.{HasPart, AreRows, had, spot_cells, line_cells, same_id}
-use Rattle.register_sql.specs.Says.{IsOther, IsIdentity, setup_in, setup_rows_shown}
+use Rattle.register_sql.specs.Says.{IsOther, IsIdentity, metas_in, setup_in, setup_rows_shown}
 use Rattle.register_sql.specs.Stores.{in_store, no_rows, counted}
 use Rattle.register_sql.specs.Tables.{hub_schema, table_at, index_at, all_tables, all_indexes}
 use Rattle.register_sql.specs.Tables.{index_count}
@@ -210,6 +210,9 @@ shown-ids = refl
 
 setup-unmade : map (λ made. setup_in made tables) (1 ∷ 2 ∷ []) ≡ [] ∷ setup_rows_shown texts ∷ []
 setup-unmade = refl
+
+metas-unmade : map (λ made. metas_in made tables) (0 ∷ 1 ∷ []) ≡ [] ∷ shown_in Metas tables ∷ []
+metas-unmade = refl
 
 -- ---- rowids
 

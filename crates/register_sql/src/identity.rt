@@ -1,19 +1,18 @@
-//! Reads the information about a store in its tables `meta` and `setup`: its version, its depth
+//! Checks the information about a store in its tables `meta` and `setup`: its version, its depth
 //! limit and its setup.
 ghost use Rattle.std.specs.Prelude.{◌≡◌, ◌<◌, ◌≤◌, ◌+◌, ◌∷◌, [], pos, ℕ, ℤ, true, false, map};
 ghost use Rattle.std.specs.Prelude.{codes, length, IfOk, IfSome, IfNone, string_bytes};
 ghost use Rattle.std.specs.Bool.{Decides};
 ghost use Rattle.std.specs.List.Sorted.{IsPermutation};
-ghost use Rattle.nest_core.specs.SetupTexts.{setup_rows};
 ghost use Rattle.sqlite.specs.Held.{state};
 ghost use Rattle.sqlite.specs.Order.{column};
 ghost use Rattle.sqlite.specs.State.{HasCleanDisk};
 ghost use Rattle.sqlite.specs.declared.types.Value.TheVariants.{Int, Text};
 ghost use Rattle.register_store.specs.StoredRows.{is_depth};
 ghost use Rattle.register_sql.specs.Failing.{IsReading};
-ghost use Rattle.register_sql.specs.Queries.{shown_in, IsPart};
+ghost use Rattle.register_sql.specs.Queries.{IsPart};
 ghost use Rattle.register_sql.specs.Says.{IsOther, HasOther, IsWhole, IsIdentity, setup_rows_shown};
-ghost use Rattle.register_sql.specs.Says.{setup_in};
+ghost use Rattle.register_sql.specs.Says.{setup_in, HasSetup};
 ghost use Rattle.register_sql.specs.Shown.{setup_shown};
 
 use crate::queries::{Query, read};
@@ -140,7 +139,7 @@ fn depth_of(rows: &[Row]) -> Option<u32>
 }
 
 /// Checks the rows of `meta`.
-fn judge(rows: &[Row]) -> Identity
+pub(crate) fn judge(rows: &[Row]) -> Identity
     ensures { IsIdentity rows.now result }
 {
     if rows.is_empty() {
@@ -153,23 +152,6 @@ fn judge(rows: &[Row]) -> Identity
         Some(depth) => Identity::Bound(depth),
         None => Identity::Damaged,
     }
-}
-
-/// Reads and checks `meta` in a store of the first `made` tables.
-pub(crate) fn identity_of<S: Alter>(
-    conn: &mut Connection<S>,
-    made: usize,
-) -> Result<Identity, Error>
-    requires some { 1 ≤ made }
-    requires few { made ≤ 6 }
-    requires part { HasCleanDisk (state S.Store conn.old) → IsPart made (state S.Store conn.old) }
-    ensures told { HasCleanDisk (state S.Store conn.new) → IfOk result (λ told. (rows : _)
-        × IsPermutation (shown_in Query.Metas (state S.Store conn.old).now.trees) rows
-        × IsIdentity rows told) }
-    ensures reading { IsReading (state S.Store conn.old) (state S.Store conn.new) result }
-{
-    let rows = read(conn, Query::Metas, made)?;
-    Ok(judge(&rows))
 }
 
 /// Whether the row of `setup` has this number and text.
@@ -228,8 +210,7 @@ pub(crate) fn has_setup<S: Alter>(
     requires part { HasCleanDisk (state S.Store conn.old) → IsPart made (state S.Store conn.old) }
     ensures told { HasCleanDisk (state S.Store conn.new)
         → IfOk result (λ answer. IfOk answer (λ same. Decides same
-        (IsPermutation (setup_rows_shown (setup_rows setup.now))
-        (setup_in made (state S.Store conn.old).now.trees)))) }
+        (HasSetup setup.now made (state S.Store conn.old).now.trees))) }
     ensures reading { IsReading (state S.Store conn.old) (state S.Store conn.new) result }
 {
     let texts = match row_texts(alloc, setup) {

@@ -39,6 +39,7 @@ mod make;
 mod migrate;
 mod mismatch;
 mod opening;
+mod profile;
 mod put;
 mod queries;
 mod row_values;

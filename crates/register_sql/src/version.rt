@@ -1,18 +1,12 @@
 //! Finds the version of a store, by its rows in `meta`.
-ghost use Rattle.std.specs.Prelude.{◌≡◌, ◌≤◌, pos, codes, false, IfOk};
+ghost use Rattle.std.specs.Prelude.{◌≡◌, pos, codes};
 ghost use Rattle.std.specs.Bool.{Decides};
-ghost use Rattle.std.specs.List.Sorted.{IsPermutation};
-ghost use Rattle.sqlite.specs.Held.{state};
-ghost use Rattle.sqlite.specs.State.{HasCleanDisk};
 ghost use Rattle.register_sql.specs.Ages.{version_row, LacksRow, IsFirst, IsAged};
-ghost use Rattle.register_sql.specs.Failing.{IsReading};
-ghost use Rattle.register_sql.specs.Queries.{shown_in, IsPart};
 ghost use Rattle.register_sql.specs.Rows.{meta_cells};
 ghost use Rattle.register_sql.specs.Says.{HasOther};
 
 use crate::identity::{has_other, is_meta};
-use crate::queries::{Query, read};
-use sqlite::{Alter, Connection, Error, Row};
+use sqlite::Row;
 
 /// The version of a store.
 #[derive(Clone, Copy, Debug, PartialEq, Eq)]
@@ -68,7 +62,7 @@ fn says_another(rows: &[Row]) -> bool
 }
 
 /// Finds the version in the rows of `meta`.
-fn age_of(rows: &[Row]) -> Age
+pub(crate) fn age_of(rows: &[Row]) -> Age
     ensures { IsAged rows.now result }
 {
     if rows.is_empty() {
@@ -84,18 +78,4 @@ fn age_of(rows: &[Row]) -> Age
         return Age::Other;
     }
     Age::Damaged
-}
-
-/// Reads the version of a store of the first `made` tables. The store stays as it was.
-pub(crate) fn age_in<S: Alter>(conn: &mut Connection<S>, made: usize) -> Result<Age, Error>
-    requires some { 1 ≤ made }
-    requires few { made ≤ 6 }
-    requires part { HasCleanDisk (state S.Store conn.old) → IsPart made (state S.Store conn.old) }
-    ensures told { HasCleanDisk (state S.Store conn.new) → IfOk result (λ age. (rows : _)
-        × IsPermutation (shown_in Query.Metas (state S.Store conn.old).now.trees) rows
-        × IsAged rows age) }
-    ensures reading { IsReading (state S.Store conn.old) (state S.Store conn.new) result }
-{
-    let rows = read(conn, Query::Metas, made)?;
-    Ok(age_of(&rows))
 }

@@ -1,54 +1,17 @@
-use Rattle.std.proofs.Common.{◌≤◌, refl, inl, inr, arith, rules, subst}
+use Rattle.std.proofs.Common.{◌≡◌, ◌==◌, [], IfOk, inr, length, rules, subst, sym}
+use Rattle.std.specs.Bool.{Decides}
 use Rattle.sqlite.specs.Held.{state}
-use Rattle.sqlite.specs.State.{HasCleanDisk}
-use Rattle.register_sql.specs.Queries.{IsPart}
-use Rattle.register_sql.specs.Says.{IsIdentity}
-use Rattle.register_sql.specs.Tables.{IsNoStore}
-use Rattle.register_sql.specs.declared.identity.Identity.TheVariants as told
-use Rattle.register_sql.proofs.Newness.{new_without_tables, new_by, old_by, says_some}
+use Rattle.register_sql.specs.Profiles.{IsProfile}
+use Rattle.register_sql.proofs.Newness.{is_empty, new_by}
 use Rattle.register_sql.proofs.bind.is_new.Goals as goal
 
-pub returns-in-None-clause-told : goal.returns-in-None-clause-told
-returns-in-None-clause-told g c clean =
-    let other : IsNoStore (state g.S.Store c.args.conn.now).now = search rules in
-    inl (other, refl)
-
-pub returns-in-Some-eq0-clause-told : goal.returns-in-Some-eq0-clause-told
-returns-in-Some-eq0-clause-told g c clean =
+pub returns-in-Ok-clause-told : goal.returns-in-Ok-clause-told
+returns-in-Ok-clause-told g c clean =
     let old = state g.S.Store c.args.conn.now in
-    let part : IsPart 0 old = search rules in
-    inr (new_without_tables old part)
-
-pub returns-in-New-clause-told : goal.returns-in-New-clause-told
-returns-in-New-clause-told g c clean =
-    let old = state g.S.Store c.args.conn.now in
-    let made = c.in-Some.made in
-    let early : HasCleanDisk old =
-    omega (arith, clean, c.identity_of.ensures.reading.survives.clean) in
-    let some : 1 ≤ made = search rules in
-    let few : made ≤ 6 = search rules in
-    let part : IsPart made old = search rules in
-    let it = c.in_ok-identity-in-Some.ensures.told clean in
-    let none : IsIdentity it.0 told.New = subst (IsIdentity it.0) c.in-New.is it.2 in
-    inr (new_by made some few old it.0 part it.1 none)
-
-pub returns-in_default : goal.returns-in_default
-returns-in_default g c = record {
-  told = λ clean.
-      let old = state g.S.Store c.args.conn.now in
-      let made = c.in-Some.made in
-      let early : HasCleanDisk old =
-      omega (arith, clean, c.identity_of.ensures.reading.survives.clean) in
-      let some : 1 ≤ made = search rules in
-      let few : made ≤ 6 = search rules in
-      let part : IsPart made old = search rules in
-      let it = c.in_ok-identity-in-Some.ensures.told clean in
-      inr (old_by made some few old it.0 part it.1
-      (says_some it.0 c.in_ok-identity-in-Some.identity it.2 c.in_default.not-New));
-  reading = record {
-    between = c.identity_of.ensures.reading.between;
-    same = c.in_ok-identity-in-Some.ensures.reading.same;
-    survives = c.identity_of.ensures.reading.survives;
-    excused = λ _. tt;
-  };
-}
+    let made = c.in-Ok.profile.made in
+    let rows = c.in-Ok.profile.metas.items in
+    let it = subst (λ a. IfOk a (λ p. IsProfile old p.made p.metas.items)) c.in-Ok.is
+    (c.in_ok-found.ensures.profile clean) in
+    let empty : c.is_empty.result ≡ (length rows == 0) = search rules in
+    inr (new_by c.is_empty.result old made c.in-Ok.profile.few rows it
+    (subst (λ b. Decides b (rows ≡ [])) (sym empty) (is_empty rows)))
