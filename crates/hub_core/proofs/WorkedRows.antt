@@ -35,6 +35,7 @@ museum = record {
   stations = codes "GAL" ∷ [];
   places = (codes "S1", true) ∷ [];
   things = (codes "2001.4.1", Some 0) ∷ [];
+  growths = [];
 }
 
 longest_line : LONGEST_LINE ≡ 16384

@@ -227,23 +227,31 @@ failed_comes S fault old new fails before after up survives = record {
       ];
 }
 
--- ---- posted
+-- ---- changed
 
-pub posted_comes : (e : Entry) (changes : Changes) (row : PostingRow) (old new : State) (P : Trees
-    → Type 0) → IsPostingRow changes.entry e row → Laws old → Laws new
-    → (HasCleanDisk old → IsReady old)
+pub comes_weaker : {A B : Content → Content → Type 0} (old new : State)
+    → ((c d : Content) → A c d → B c d) → Comes (in_store old) (in_store new) A
+    → Comes (in_store old) (in_store new) B
+comes_weaker old new weaker comes = record {
+  quiet = comes.quiet;
+  some = comes.some;
+  from = λ clean d held.
+      let came = comes.from clean d held in (came.0, came.1, weaker came.0 d came.2);
+}
+
+pub done_comes : (change : Content → Content) (old new : State) (P : Trees → Type 0)
+    → Laws old → Laws new → (HasCleanDisk old → IsReady old)
     → (HasCleanDisk old → (c : Content) × AreRows old.now.trees c) → Survives old new P
-    → (HasCleanDisk new → IsDone old new (with_posted row e changes))
-    → Comes (in_store old) (in_store new) (IsPosted e changes)
-posted_comes e changes row old new P keeps before after ready content survives done = record {
+    → (HasCleanDisk new → IsDone old new change)
+    → Comes (in_store old) (in_store new) (λ c d. AreSame (change c) d)
+done_comes change old new P before after ready content survives done = record {
   quiet = λ clean. omega (arith, survives.clean, clean);
   some = λ clean none. absurd (
       let early : HasCleanDisk old = omega (arith, survives.clean, clean) in
       let it = done clean in
       let had = content early in
-      none (with_posted row e changes had.0)
-      (rows_held new after (now_ready it) (with_posted row e changes had.0)
-      (it.rows had.0 had.1)));
+      none (change had.0)
+      (rows_held new after (now_ready it) (change had.0) (it.rows had.0 had.1)));
   from = λ clean d held.
       let early : HasCleanDisk old = omega (arith, survives.clean, clean) in
       let it = done clean in
@@ -251,25 +259,20 @@ posted_comes e changes row old new P keeps before after ready content survives d
       let rows = held_rows new after (now_ready it) d held in (
         had.0,
         rows_held old before (ready early) had.0 had.1,
-        (
-          row,
-          keeps,
-          same_part 6 new.now.trees (with_posted row e changes had.0) d
-              (it.rows had.0 had.1) rows,
-        ),
+        same_part 6 new.now.trees (change had.0) d (it.rows had.0 had.1) rows,
       );
 }
   where
-    now_ready : IsDone old new (with_posted row e changes) → IsReady new
+    now_ready : IsDone old new change → IsReady new
     now_ready it = record { is_open = it.is_open; settled = sym it.committed; whole = it.whole }
 
-pub unposted_comes : (e : Entry) (changes : Changes) (row : PostingRow) (old new : State)
-    → IsPostingRow changes.entry e row → Laws old → Laws new
+-- a statement failed, so the change is made or not
+pub undone_comes : (change : Content → Content) (old new : State) → Laws old → Laws new
     → (HasCleanDisk old → IsReady old)
     → (HasCleanDisk old → (c : Content) × AreRows old.now.trees c)
-    → Survives old new (LeavesWhole old (with_posted row e changes))
-    → Comes (in_store old) (in_store new) (λ c d. AreSame c d ⊎ IsPosted e changes c d)
-unposted_comes e changes row old new keeps before after ready content survives = record {
+    → Survives old new (LeavesWhole old change)
+    → Comes (in_store old) (in_store new) (λ c d. AreSame c d ⊎ AreSame (change c) d)
+undone_comes change old new before after ready content survives = record {
   quiet = λ clean. omega (arith, survives.clean, clean);
   some = λ clean none c held.
       let early : HasCleanDisk old = omega (arith, survives.clean, clean) in
@@ -284,7 +287,7 @@ unposted_comes e changes row old new keeps before after ready content survives =
                   (before.settled held.0 was.is_open held.1
                   ∙ sym (before.settled left.0 was.is_open same)) held.2,
             )
-        | inr whole ↦ none (with_posted row e changes had.0) (
+        | inr whole ↦ none (change had.0) (
           left.0,
           left.1,
           record {
@@ -303,15 +306,36 @@ unposted_comes e changes row old new keeps before after ready content survives =
         | inr whole ↦ (
           had.0,
           rows_held old before (ready early) had.0 had.1,
-          inr (
-            row,
-            keeps,
-            same_part 6 held.0 (with_posted row e changes had.0) d (whole.rows had.0 had.1)
-                (part_of 6 (omega arith) held.0 whole.sound d held.2),
-          ),
+          inr (same_part 6 held.0 (change had.0) d (whole.rows had.0 had.1)
+              (part_of 6 (omega arith) held.0 whole.sound d held.2)),
         )
       ];
 }
+
+-- ---- posted
+
+pub posted_comes : (e : Entry) (changes : Changes) (row : PostingRow) (old new : State) (P : Trees
+    → Type 0) → IsPostingRow changes.entry e row → Laws old → Laws new
+    → (HasCleanDisk old → IsReady old)
+    → (HasCleanDisk old → (c : Content) × AreRows old.now.trees c) → Survives old new P
+    → (HasCleanDisk new → IsDone old new (with_posted row e changes))
+    → Comes (in_store old) (in_store new) (IsPosted e changes)
+posted_comes e changes row old new P keeps before after ready content survives done =
+    comes_weaker old new (λ c d same. (row, keeps, same))
+    (done_comes (with_posted row e changes) old new P before after ready content survives done)
+
+pub unposted_comes : (e : Entry) (changes : Changes) (row : PostingRow) (old new : State)
+    → IsPostingRow changes.entry e row → Laws old → Laws new
+    → (HasCleanDisk old → IsReady old)
+    → (HasCleanDisk old → (c : Content) × AreRows old.now.trees c)
+    → Survives old new (LeavesWhole old (with_posted row e changes))
+    → Comes (in_store old) (in_store new) (λ c d. AreSame c d ⊎ IsPosted e changes c d)
+unposted_comes e changes row old new keeps before after ready content survives =
+    comes_weaker old new (λ c d either. elim either [
+      | inl same ↦ inl same
+      | inr posted ↦ inr (row, keeps, posted)
+    ])
+    (undone_comes (with_posted row e changes) old new before after ready content survives)
 
 pub still_unposted : (e : Entry) (changes : Changes) (s : State)
     → Comes (in_store s) (in_store s) (λ c d. AreSame c d ⊎ IsPosted e changes c d)

@@ -35,6 +35,7 @@ pub mod Ages
 pub mod Earlier
 pub mod Raised
 pub mod Migrations
+pub mod Regrown
 mod WorkedRows
 mod WorkedFirst
 mod WorkedFailures

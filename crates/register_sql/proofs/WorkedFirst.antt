@@ -46,6 +46,7 @@ museum = record {
   stations = codes "PACK" ∷ [];
   places = (codes "S1", true) ∷ (codes "MUSEUM-X", false) ∷ [];
   things = (codes "2001.4.1", Some 0) ∷ [];
+  growths = [];
 }
 
 abbrev entry : ℕ → Message → Verdict → Entry

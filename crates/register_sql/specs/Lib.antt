@@ -18,3 +18,4 @@ pub mod Ages
 pub mod Early
 pub mod Migrating
 pub mod Runs
+pub mod Growing

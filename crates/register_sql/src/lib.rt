@@ -32,6 +32,7 @@
 mod again;
 mod agree;
 mod bind;
+mod grow;
 mod identity;
 mod link;
 mod list;

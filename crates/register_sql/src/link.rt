@@ -10,12 +10,15 @@ ghost use Rattle.register_store.specs.Registers.{IsListFault};
 ghost use Rattle.register_store.specs.StoredRows.{AreSame, HasList, HasRows, IsBoundTo};
 ghost use Rattle.register_sql.specs.Binding.{IsNewness, IsUnfitFor, LeavesBound};
 ghost use Rattle.register_sql.specs.Failing.{StopsFor};
+ghost use Rattle.register_sql.specs.Growing.{with_setup, IsGrown};
 ghost use Rattle.register_sql.specs.Migrating.{Migrates, IsNotMigrated, IsCompleted, IsUnfit};
-ghost use Rattle.register_sql.specs.Posting.{LeavesPosted};
+ghost use Rattle.register_sql.specs.Posting.{LeavesPosted, LeavesWhole};
+ghost use Rattle.register_sql.specs.Queries.{AreApart};
 ghost use Rattle.register_sql.specs.Stores.{in_store, IsKept};
 
 use crate::agree::agrees;
 use crate::bind::{bind, is_new};
+use crate::grow::grow;
 use crate::list::list;
 use crate::migrate::migrate;
 use crate::put::put_whole;
@@ -256,6 +259,43 @@ pub(crate) fn store_agrees<S: Alter>(
         return Err(StoreFault::Store);
     }
     match agrees(alloc, &mut link.conn, ledger) {
+        Ok(answer) => answer,
+        Err(error) => Err(stop(link, error)),
+    }
+}
+
+/// Replaces the setup of a bound store by this one, which has grown. Store if the link has stopped,
+/// or if rowids aren't distinct numbers.
+pub(crate) fn grow_store<S: Alter>(
+    alloc: Global,
+    link: &mut Link<S>,
+    setup: &Setup,
+) -> Result<(), StoreFault>
+    requires { IsKept (state S.Store link.old.conn) true link.old.stopped }
+    ensures invariant { IsKept (state S.Store link.new.conn) true link.new.stopped }
+    ensures grown { OnOk result
+        (Comes (in_store (state S.Store link.old.conn)) (in_store (state S.Store link.new.conn))
+        (IsGrown setup.now)) }
+    ensures failed { OnErr result
+        (Comes (in_store (state S.Store link.old.conn)) (in_store (state S.Store link.new.conn))
+        (λ c d. AreSame c d ⊎ IsGrown setup.now c d)) }
+    ensures unchanged { IsNone link.new.stopped → OnErr result
+        (Comes (in_store (state S.Store link.old.conn)) (in_store (state S.Store link.new.conn))
+        AreSame) }
+    ensures faults { IfErr result (λ fault. is_failure fault ≡ true) }
+    ensures unfit { HasCleanDisk (state S.Store link.new.conn) → IsNone link.new.stopped
+        → result ≡ Err StoreFault.Store → ¬ AreApart 6 (state S.Store link.old.conn).now.trees }
+    ensures still { link.new.bound ≡ link.old.bound }
+    ensures crash { Survives (state S.Store link.old.conn) (state S.Store link.new.conn)
+        (LeavesWhole (state S.Store link.old.conn) (with_setup setup.now)) }
+    ensures stops { Stops (is_some link.old.stopped) (is_some link.new.stopped) result }
+    ensures excused { StopsFor (state S.Store link.old.conn) (state S.Store link.new.conn)
+        (is_some link.old.stopped) (is_some link.new.stopped) link.new.stopped result }
+{
+    if let Some(_) = link.stopped {
+        return Err(StoreFault::Store);
+    }
+    match grow(alloc, &mut link.conn, setup) {
         Ok(answer) => answer,
         Err(error) => Err(stop(link, error)),
     }

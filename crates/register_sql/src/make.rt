@@ -137,7 +137,10 @@ pub(crate) fn add_metas<S: Alter>(tx: &mut Transaction<'_, S>, depth: u32) -> Re
 }
 
 /// Replaces the rows of the setup.
-fn replace_setup<S: Alter>(tx: &mut Transaction<'_, S>, texts: &[String]) -> Result<(), Error>
+pub(crate) fn replace_setup<S: Alter>(
+    tx: &mut Transaction<'_, S>,
+    texts: &[String],
+) -> Result<(), Error>
     requires made { IsMaking 6 (state S.Store tx.old.conn.now) }
     requires apart { HasCleanDisk (state S.Store tx.old.conn.now)
         → IsTrue (state S.Store tx.old.conn.now).is_open

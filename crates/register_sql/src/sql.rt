@@ -10,13 +10,16 @@ ghost use Rattle.register_store.specs.Registers.{is_failure, is_of_listing, Coun
 ghost use Rattle.register_store.specs.Registers.{IsListFault, IsOfStation};
 ghost use Rattle.register_store.specs.StoredRows.{AreSame, HasList, HasRows, IsBoundTo};
 ghost use Rattle.register_sql.specs.Binding.{IsNewness, IsUnfitFor, LeavesBound};
-ghost use Rattle.register_sql.specs.Posting.{LeavesPosted};
+ghost use Rattle.register_sql.specs.Growing.{with_setup, IsGrown};
+ghost use Rattle.register_sql.specs.Posting.{LeavesPosted, LeavesWhole};
+ghost use Rattle.register_sql.specs.Queries.{AreApart};
 ghost use Rattle.register_sql.specs.Migrating.{Migrates, IsNotMigrated, IsCompleted, IsUnfit};
 ghost use Rattle.register_sql.specs.Stores.{in_store, IsExcusedStop};
 ghost use Rattle.register_sql.specs.Runs.{HasIts};
 
 use crate::link::{
-    Link, bind_store, list_store, migrate_store, post_to_store, store_agrees, store_is_new,
+    Link, bind_store, grow_store, list_store, migrate_store, post_to_store, store_agrees,
+    store_is_new,
 };
 use nest_core::Setup;
 use posting_core::{Changes, Entry, Ledger};
@@ -144,6 +147,47 @@ impl<S: Alter> SqlRegister<S> {
     {
         let answer = store_is_new(alloc, &mut self.link);
         self.refusals = recount(self.refusals, &answer);
+        answer
+    }
+
+    /// Replaces the setup in a bound store by one that has grown, in one transaction; everything else
+    /// stays. The register is then bound to the new setup. The call doesn't compare the two setups:
+    /// the caller takes what [`Setup::grown`](nest_core::Setup::grown) returned.
+    ///
+    /// Faults: Store if rowids aren't distinct numbers, or if a statement fails or failed before;
+    /// NoMemory. Unless the register has stopped, the store is then as it was. Otherwise a later
+    /// opening finds either setup whole. If the register had stopped before, the fault is Store. If
+    /// this call stops it, a statement failed.
+    pub fn grow(&mut self, alloc: Global, setup: &Setup) -> Result<(), StoreFault>
+        requires { self.old.bound ≡ true }
+        ensures grown { OnOk result
+            (Comes (in_store (state S.Store self.old.conn))
+            (in_store (state S.Store self.new.conn)) (IsGrown setup.now)) }
+        ensures failed { OnErr result
+            (Comes (in_store (state S.Store self.old.conn))
+            (in_store (state S.Store self.new.conn))
+            (λ c d. AreSame c d ⊎ IsGrown setup.now c d)) }
+        ensures unchanged { self.new.stopped ≡ false → OnErr result
+            (Comes (in_store (state S.Store self.old.conn))
+            (in_store (state S.Store self.new.conn)) AreSame) }
+        ensures faults { IfErr result (λ fault. is_failure fault ≡ true) }
+        ensures unfit { HasCleanDisk (state S.Store self.new.conn) → self.new.stopped ≡ false
+            → result ≡ Err StoreFault.Store
+            → ¬ AreApart 6 (state S.Store self.old.conn).now.trees }
+        ensures ready { OnOk result (self.new.stations ≡ length setup.now.stations) }
+        ensures not_ready { OnErr result (self.new.stations ≡ self.old.stations) }
+        ensures still { self.new.bound ≡ true }
+        ensures count { CountsRefusal self.old.refusals self.new.refusals result }
+        ensures crash { Survives (state S.Store self.old.conn) (state S.Store self.new.conn)
+            (LeavesWhole (state S.Store self.old.conn) (with_setup setup.now)) }
+        ensures stops { Stops self.old.stopped self.new.stopped result }
+        ensures excused { IsExcusedStop S.Store self.old self.new result }
+    {
+        let answer = grow_store(alloc, &mut self.link, setup);
+        self.refusals = recount(self.refusals, &answer);
+        if answer.is_ok() {
+            self.stations = setup.stations();
+        }
         answer
     }
 

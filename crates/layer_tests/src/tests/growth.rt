@@ -1,11 +1,12 @@
-//! A hub whose setup has grown. Each message is judged by what was listed when it was posted, also
-//! when the hub is opened again.
+//! A hub whose setup has grown: each message is judged by what was listed when it was posted, also
+//! when the hub is opened again. And a store whose setup grows.
+use super::fresh::{Fresh, Stored};
 use super::hub::send;
 use super::{kept, setup_of};
 use hub_core::{Answer, Hub};
 use nest_core::{Growth, Listed, Setup, StationNo};
 use posting_core::Verdict;
-use register_store::PlainRegister;
+use register_store::{PlainRegister, Register, StoreFault};
 use std::alloc::Global;
 use std::process::Abort;
 use std::test::Fail;
@@ -68,5 +69,40 @@ fn known_after_the_growth(rt: HostRuntime) -> Result<(), Fail> {
     drop(hub);
     assert!(rt; first);
     assert!(rt; again);
+    Ok(())
+}
+
+/// The setup before it grew.
+const SMALL: &str = "station,GAL\nplace,S1,inside\nown,2001.4.1,S1\n";
+
+/// The file that it grows by.
+const FURTHER: &str = "place,S3,inside\nown,2009.1,S3\nown,2001.4.1,S3\n";
+
+/// The setup that this one becomes after one entry.
+fn grown_by_file(alloc: Global, small: &Setup) -> Option<Setup> {
+    let further = small.with_file(alloc, FURTHER.as_bytes()).ok()?;
+    small.grown(further, 1).ok()
+}
+
+/// Binds the store to the first setup and makes it grow to the second.
+fn grows(alloc: Global, register: &mut Stored, small: &Setup, large: &Setup) -> bool {
+    match register.bind(alloc, small) {
+        Ok(_) => register.grow(alloc, large).is_ok(),
+        Err(_) => false,
+    }
+}
+
+#[test]
+fn store_has_the_grown_setup(rt: HostRuntime) -> Result<(), Fail> {
+    let small = setup_of(rt.alloc(), SMALL)?;
+    let large = grown_by_file(rt.alloc(), &small).ok_or("not grown")?;
+    let mut register = Stored::fresh(rt.alloc()).ok().ok_or("no register")?;
+    let grew = grows(rt.alloc(), &mut register, &small, &large);
+    let before = register.bind(rt.alloc(), &small);
+    let after = register.bind(rt.alloc(), &large);
+    register.shut();
+    assert!(rt; grew);
+    assert!(rt; before == Err(StoreFault::OtherSetup));
+    assert!(rt; after.is_ok());
     Ok(())
 }
