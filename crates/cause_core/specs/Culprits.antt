@@ -41,7 +41,7 @@ a_place code = option_map Place code
 abbrev pub a_loan : Option (List ℕ) → Option Culprit
 a_loan code = option_map Loan code
 
--- The setup didn't list the thing by the record's last entry.
+-- The thing wasn't listed yet after the record's last entry.
 abbrev pub is_unknown : Book → List ℕ → Bool
 is_unknown B x = not (is_known_at B.museum B.posted x)
 

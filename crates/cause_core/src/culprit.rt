@@ -76,7 +76,7 @@ fn a_loan(code: Option<LoanCode>) -> Option<Culprit>
     Some(Culprit::Loan(code?))
 }
 
-/// The first of these that the setup didn't list by the record's last entry.
+/// The first of these that wasn't listed yet after the record's last entry.
 fn first_unknown<'a>(ledger: &Ledger, codes: &'a [ThingCode]) -> Option<&'a ThingCode>
     ensures { option_map (λ x. x.now) result
         ≡ find (is_unknown ledger.now) codes.now }

@@ -52,11 +52,11 @@ is_known S x = is_some (find_thing S x)
 abbrev pub is_known_place : Museum → List ℕ → Bool
 is_known_place S p = is_some (find_place S p)
 
--- The setup listed the thing when the entries P were posted.
+-- The thing was listed when the message after P was posted.
 abbrev pub is_known_at : Museum → List Entry → List ℕ → Bool
 is_known_at S P x = is_some (find_thing_at S (length P) x)
 
--- The setup listed the place then.
+-- The place was listed then.
 abbrev pub is_known_place_at : Museum → List Entry → List ℕ → Bool
 is_known_place_at S P p = is_some (find_place_at S (length P) p)
 
@@ -79,7 +79,7 @@ move_rows S P x p =
     ∷ (NotHere if is_not_here S P x)
     ∷ []
 
--- The setup listed it then, and it is a container.
+-- It was listed then, and it is a container.
 abbrev pub is_known_container : Museum → List Entry → List ℕ → Bool
 is_known_container S P c = option_map_or (is_container S) (find_thing_at S (length P) c) false
 

@@ -53,8 +53,8 @@ impl Ledger {
         judge_terms(loan, objects, repeated, first, last)
     }
 
-    /// Whether the setup doesn't list one of these codes yet. If it lists all, `numbers` begins with
-    /// their numbers.
+    /// Whether the setup doesn't list one of these codes yet. If it lists all, `numbers` begins
+    /// with their numbers.
     fn any_unknown(&self, codes: &[ThingCode], numbers: &mut [ThingNo]) -> bool
         requires { length codes.now ≤ length numbers.old }
         ensures unknown { result

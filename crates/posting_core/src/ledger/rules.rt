@@ -70,8 +70,8 @@ impl Ledger {
         }
     }
 
-    /// The number of a container, or `None` if the code isn't a container's or the setup doesn't list
-    /// it yet.
+    /// The number of a container, or `None` if the code isn't a container's or the setup doesn't
+    /// list it yet.
     fn container(&self, code: &ThingCode) -> Option<ThingNo>
         ensures found { result
             ≡ (if is_known_container self.now.museum self.now.posted code.now
