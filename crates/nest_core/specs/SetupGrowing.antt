@@ -65,7 +65,7 @@ further_fault S n row =
 abbrev pub CanBeTaken : Museum → Fields → Type 0
 CanBeTaken S row = (field_count row ≢ 0) × (n : ℕ) × (further_fault S n row ≡ None)
 
--- The first fault of the rows, of which the first is row n.
+-- The first fault of these rows; the first is row n.
 abbrev pub rows_fault : Museum → ℕ → List Fields → Option GrowFault
 rows_fault S n [] = None
 rows_fault S n (row ∷ rows) =

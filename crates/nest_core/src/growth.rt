@@ -7,7 +7,7 @@ pub struct Listed {
     pub things: u32,
 }
 
-/// A growth of the setup: the number of entries posted before it, and what was listed until then.
+/// A growth: how many entries came before it, and what the setup listed until then.
 /// Each entry is judged by what was listed when it was posted.
 #[derive(Clone, Copy, Debug, PartialEq, Eq)]
 pub struct Growth {

@@ -1,22 +1,21 @@
 //! The ledger: the posted entries, and the answers from looking back through them.
 ghost use Rattle.std.specs.Prelude.{◌≡◌, ◌<◌, ◌≤◌, ◌∷◌, [], length, reverse, All, IfOk, OnOk};
-ghost use Rattle.std.specs.Prelude.{OnErr, IfSome, ℕ, Some, slice_get, is_some, true};
+ghost use Rattle.std.specs.Prelude.{OnErr, IfSome, ℕ, Some, is_some, true};
 ghost use Rattle.std.specs.Option.{option_map};
 ghost use Rattle.nest_core.specs.Museum.{find_thing, find_place, find_thing_at, find_place_at};
-ghost use Rattle.nest_core.specs.Puts.{is_among};
 ghost use Rattle.posting_core.specs.Lawful.{Follows, IsLawful, count_at, is_signed_off};
 ghost use Rattle.posting_core.specs.Messages.{place_no};
 ghost use Rattle.posting_core.specs.History.{put_by, carried_at, carried_with, holds_at};
-ghost use Rattle.posting_core.specs.Agreements.{agreement, agreement_by, loan_no, loan_by};
+ghost use Rattle.posting_core.specs.Agreements.{agreement, loan_no, loan_by};
 ghost use Rattle.posting_core.specs.Agreements.{is_agreed, is_authorised, last_day};
 ghost use Rattle.posting_core.specs.Loans.{line, loan_state};
 ghost use Rattle.posting_core.specs.LoanRows.{line_of, state_of};
 ghost use Rattle.posting_core.specs.Book.{place_in, chain_in, spots_in, verdict_in, changes_of};
-ghost use Rattle.posting_core.specs.Book.{asks_lines, asks_memory, loans_in, objects_of_loan};
-ghost use Rattle.posting_core.specs.Book.{line_in, state_in, last_day_in};
+ghost use Rattle.posting_core.specs.Book.{asks_lines, asks_memory};
 
 mod crossings;
 mod judged;
+mod loan_answers;
 mod loan_rules;
 mod planning;
 mod rules;
@@ -29,10 +28,9 @@ use crate::recording::{note_agreement, record};
 use crate::spot_rows::SpotRows;
 use crate::standing::{Standing, count_entry, new_standings};
 use crate::{
-    Changes, Entry, EntryNo, LAST_NUMBER, LineStage, LoanState, MOST_ENTRIES, Message, PostedEntry,
-    Spots, Verdict,
+    Changes, Entry, EntryNo, LAST_NUMBER, MOST_ENTRIES, Message, PostedEntry, Spots, Verdict,
 };
-use codes_core::{Day, LoanCode, NoMemory, PlaceCode, ThingCode};
+use codes_core::{LoanCode, NoMemory, PlaceCode, ThingCode};
 use nest_core::{Nest, PlaceNo, Setup, StationNo, ThingNo, ThingNos};
 use std::alloc::Global;
 use std::marker::Model;
@@ -212,69 +210,6 @@ impl Ledger {
     {
         self.setup.is_museum();
         self.spots.of(thing)
-    }
-
-    /// The number of agreed loans.
-    pub fn loan_count(&self) -> usize
-        ensures { result ≡ length (loans_in self.now) }
-    {
-        self.loans.len()
-    }
-
-    /// The code of loan `i`. Loans are numbered from 0, in the order of their agreements. `i` must
-    /// be below [`loan_count`](Self::loan_count).
-    pub fn loan_at(&self, i: usize) -> LoanCode
-        requires { i < length (loans_in self.now) }
-        ensures loan { slice_get (loans_in self.now) i ≡ Some result }
-        ensures agreed { is_agreed self.now.posted result ≡ true }
-    {
-        self.loans.at(i).loan()
-    }
-
-    /// The objects of loan `i` by number, in the order of its agreement. `i` must be below
-    /// [`loan_count`](Self::loan_count).
-    pub fn objects(&self, i: usize) -> &[ThingNo]
-        requires { i < length (loans_in self.now) }
-        ensures objects { option_map (objects_of_loan self.now) (slice_get (loans_in self.now) i)
-            ≡ Some result.now }
-        ensures within { All (λ o. o < length self.now.museum.things) result.now }
-    {
-        self.loans.at(i).objects()
-    }
-
-    /// The stage of an object's line. `None` if the loan isn't agreed or doesn't list the object.
-    pub fn line(&self, loan: &LoanCode, object: ThingNo) -> Option<LineStage>
-        ensures line { result ≡ line_in self.now loan.now object }
-        ensures listed { is_some result ≡ is_among object (objects_of_loan self.now loan.now) }
-    {
-        self.loan(loan)?.1.stage_of(object)
-    }
-
-    /// The entry that agreed a loan. `None` if the loan isn't agreed.
-    pub fn agreement(&self, loan: &LoanCode) -> Option<&PostedEntry>
-        ensures agreement { option_map (λ e. agreement_by e.now.verdict e.now.message) result
-            ≡ option_map Some (agreement self.now.posted loan.now) }
-        ensures agreed { is_some result ≡ is_agreed self.now.posted loan.now }
-    {
-        let (i, _) = self.loan(loan)?;
-        let number = self.agreed[i];
-        Some(&self.posted[number as usize - 1])
-    }
-
-    /// The state of a loan. `None` if it isn't agreed.
-    pub fn loan_state(&self, loan: &LoanCode) -> Option<LoanState>
-        ensures state { result ≡ state_in self.now loan.now }
-        ensures agreed { is_some result ≡ is_agreed self.now.posted loan.now }
-    {
-        Some(self.loan(loan)?.1.state())
-    }
-
-    /// The last day of a loan. `None` if it isn't agreed.
-    pub fn last_day(&self, loan: &LoanCode) -> Option<Day>
-        ensures day { result ≡ last_day_in self.now loan.now }
-        ensures agreed { is_some result ≡ is_agreed self.now.posted loan.now }
-    {
-        Some(self.loan(loan)?.1.last())
     }
 
     /// Returns the verdict that the message would get if it were posted now. Fails with `NoMemory`,

@@ -129,8 +129,7 @@ impl Setup {
     }
 }
 
-/// What was listed when `posted` entries had been posted, if these are the growths and `now` is
-/// listed after them.
+/// What was listed after `posted` entries, by these growths and what is listed now.
 fn listed_by(growths: &[Growth], posted: u32, now: Listed) -> Listed
     ensures { result ≡ listed_by growths.now posted now }
 {
