@@ -2,8 +2,8 @@
 from plain_book import agreement, is_container, is_out, last_day, objects_in, place, stage, targets
 
 FIXED = {
-    "UnknownThing": "is not in the setup", "UnknownPlace": "is not in the setup", "ElsewherePlace": "is outside the museum",
-    "UnknownContainer": "is not a container in the setup", "UnknownLoan": "is not agreed", "LoanKnown": "is already agreed",
+    "UnknownThing": "was not in the setup", "UnknownPlace": "was not in the setup", "ElsewherePlace": "is outside the museum",
+    "UnknownContainer": "was not a container in the setup", "UnknownLoan": "is not agreed", "LoanKnown": "is already agreed",
     "InsidePartner": "is inside the museum", "NoObjects": "lists no objects", "NotObject": "is a container",
     "Repeated": "is listed twice", "BadTerm": "ends before it begins", "AlreadyAuthorised": "is already authorised",
     "NotAuthorised": "is not authorised", "Cycle": "would be inside itself",

@@ -50,10 +50,10 @@ use Rattle.reports.specs.Texts.{place_text_if, station_text}
 -- thing that the message puts.
 abbrev pub phrase : Verdict → List ℕ
 phrase Applied = codes "went to"
-phrase UnknownThing = codes "is not in the setup"
-phrase UnknownPlace = codes "is not in the setup"
+phrase UnknownThing = codes "was not in the setup"
+phrase UnknownPlace = codes "was not in the setup"
 phrase ElsewherePlace = codes "is outside the museum"
-phrase UnknownContainer = codes "is not a container in the setup"
+phrase UnknownContainer = codes "was not a container in the setup"
 phrase UnknownLoan = codes "is not agreed"
 phrase LoanKnown = codes "is already agreed"
 phrase InsidePartner = codes "is inside the museum"

@@ -115,9 +115,9 @@ fn phrase(verdict: Verdict) -> &'static str
 {
     match verdict {
         Verdict::Applied => "went to",
-        Verdict::UnknownThing | Verdict::UnknownPlace => "is not in the setup",
+        Verdict::UnknownThing | Verdict::UnknownPlace => "was not in the setup",
         Verdict::ElsewherePlace => "is outside the museum",
-        Verdict::UnknownContainer => "is not a container in the setup",
+        Verdict::UnknownContainer => "was not a container in the setup",
         Verdict::UnknownLoan => "is not agreed",
         Verdict::LoanKnown => "is already agreed",
         Verdict::InsidePartner => "is inside the museum",
