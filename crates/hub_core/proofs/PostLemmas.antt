@@ -201,6 +201,11 @@ posted_list L L' S depth r is museum limit =
     ∙ (ap (λ (S' : Museum). post S' L.depth L.posted r) museum
     ∙ ap (λ d. post S d L.posted r) limit)
 
+pub posted_longer : (L L' : Book) (r : Arrived Message) (n : ℕ) → IsPosted L L' r
+    → n ≤ length L.posted → n ≤ length L'.posted
+posted_longer L L' r n is less =
+    subst (λ (b : Book). n ≤ length b.posted) (sym is) (omega (arith, less))
+
 pub posted_step : (L L' : Book) (r : Arrived Message) (all all' : List (Series Message))
     (q : Series Message) → IsPosted L L' r → InStep all L.museum L.posted → r.station < length all
     → IsWritten all all' r.station q →

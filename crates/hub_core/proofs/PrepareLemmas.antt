@@ -1,12 +1,14 @@
 -- The opening of a store, call by call.
 use Rattle.std.proofs.Common.{◌≡◌, ℕ, List, length, Bool, Result, Err, true, false, inl, inr, subst}
-use Rattle.std.proofs.Common.{sym}
-use Rattle.std.specs.Prelude.{All}
+use Rattle.std.proofs.Common.{sym, refl}
+use Rattle.std.specs.Prelude.{All, reverse}
 use Rattle.std.specs.Result.{IsErrAnd}
+use Rattle.std.proofs.lemmas.List.{length-reverse}
 use Rattle.std.proofs.lemmas.Result.{err_from_is_err_and}
 use Rattle.nest_core.specs.Museum.{Museum}
 use Rattle.posting_core.specs.declared.entry.Entry.{Entry}
 use Rattle.posting_core.specs.Book.{Book}
+use Rattle.posting_core.specs.Growing.{HasGrown}
 use Rattle.posting_core.specs.Lawful.{IsLawful}
 use Rattle.station_core.specs.declared.Start.{Start}
 use Rattle.register_store.specs.declared.store_fault.StoreFault.{StoreFault}
@@ -100,51 +102,74 @@ not_listed old new S depth stations fault is bound still each =
     λ quiet c held. list_fault S depth stations c fault is
     ((bound_still old new S depth still bound).each quiet c held) (each quiet c held)
 
+-- the entries in the other order
+pub back_grown : (S : Museum) (xs : List Entry) → HasGrown S.growths (length xs)
+    → HasGrown S.growths (length (reverse xs))
+back_grown S xs grown = subst (λ n. HasGrown S.growths n) (sym (length-reverse xs)) grown
+
+-- too few entries
+pub not_enough : (store : Holding) (S : Museum) (depth : ℕ) (P : List Entry)
+    → IsListed store S depth P → All (IsOfStation (length S.stations)) P
+    → (HasGrown S.growths (length P) → ⊥) → Each store (λ c. IsRestoreFault S c (Damaged 0))
+not_enough store S depth P listed of few =
+    λ quiet c held. inr (inl (record {
+      zero = refl;
+      depth = depth;
+      bound = listed.bound.each quiet c held;
+      entries = P;
+      list = listed.list quiet c held;
+      stationed = of;
+      few = few;
+    }))
+
 -- a wrong entry
 judge_fault : (S : Museum) (depth : ℕ) (c : Content) (P : List Entry) (fault : StoreFault)
     → IsBoundTo S depth c → HasList P c → All (IsOfStation (length S.stations)) P
-    → IsJudgeFault S depth P fault → IsRestoreFault S c fault
-judge_fault S depth c P NoMemory bound list of h = tt
-judge_fault S depth c P Store bound list of h = absurd h
-judge_fault S depth c P OtherVersion bound list of h = h
-judge_fault S depth c P OtherSetup bound list of h = h
-judge_fault S depth c P (Damaged at) bound list of h =
-    inr (inl (record {
+    → HasGrown S.growths (length P) → IsJudgeFault S depth P fault → IsRestoreFault S c fault
+judge_fault S depth c P NoMemory bound list of grown h = tt
+judge_fault S depth c P Store bound list of grown h = absurd h
+judge_fault S depth c P OtherVersion bound list of grown h = h
+judge_fault S depth c P OtherSetup bound list of grown h = h
+judge_fault S depth c P (Damaged at) bound list of grown h =
+    inr (inr (inl (record {
       depth = depth;
       bound = bound;
       entries = P;
       list = list;
       stationed = of;
+      grown = grown;
       wrong = h;
-    }))
+    })))
 
 pub not_judged : (store : Holding) (S : Museum) (depth : ℕ) (P : List Entry) (fault : StoreFault)
     → IsListed store S depth P → All (IsOfStation (length S.stations)) P
-    → IsJudgeFault S depth P fault
+    → HasGrown S.growths (length P) → IsJudgeFault S depth P fault
     → Each store (λ c. IsRestoreFault S c fault)
-not_judged store S depth P fault listed of wrong =
+not_judged store S depth P fault listed of grown wrong =
     λ quiet c held. judge_fault S depth c P fault (listed.bound.each quiet c held)
-    (listed.list quiet c held) of wrong
+    (listed.list quiet c held) of grown wrong
 
 -- facts about a ledger with the list
 module _ (L : Book) (P : List Entry) (starts : List Start) (L' : Book)
     (judged : IsJudged L P starts L') where
-  rows_fault : (c : Content) (fault : StoreFault) → IsBoundTo L.museum L.depth c → HasList P c
+  rows_fault : (c : Content) (fault : StoreFault) → HasGrown L.museum.growths (length P)
+      → IsBoundTo L.museum L.depth c → HasList P c
       → IsRowsFault L'.museum L'.posted c fault → IsRestoreFault L.museum c fault
-  rows_fault c NoMemory bound list h = tt
-  rows_fault c Store bound list h = tt
-  rows_fault c OtherVersion bound list h = h
-  rows_fault c OtherSetup bound list h = h
-  rows_fault c (Damaged at) bound list h = inr (inr (record {
+  rows_fault c NoMemory grown bound list h = tt
+  rows_fault c Store grown bound list h = tt
+  rows_fault c OtherVersion grown bound list h = h
+  rows_fault c OtherSetup grown bound list h = h
+  rows_fault c (Damaged at) grown bound list h = inr (inr (inr (record {
     zero = h.0;
     depth = L.depth;
     bound = bound;
     entries = P;
     list = list;
     lawful = lawful;
+    grown = grown;
     wrong = λ has. h.1 (subst (λ (S : Museum). HasRows S L'.posted c) (sym judged.museum)
         (subst (λ (Q : List Entry). HasRows L.museum Q c) (sym judged.posted) has));
-  }))
+  })))
     where
       lawful : IsLawful L.museum L.depth P
       lawful = subst (λ (S : Museum). IsLawful S L.depth P) judged.museum
@@ -152,11 +177,17 @@ module _ (L : Book) (P : List Entry) (starts : List Start) (L' : Book)
           (subst (λ (Q : List Entry). IsLawful L'.museum L'.depth Q) judged.posted judged.lawful))
 
   pub not_agreed : (store : Holding) (fault : StoreFault) → IsListed store L.museum L.depth P
-      → Each store (λ c. IsRowsFault L'.museum L'.posted c fault)
+      → HasGrown L.museum.growths (length P) → Each store (λ c. IsRowsFault L'.museum L'.posted c fault)
       → Each store (λ c. IsRestoreFault L.museum c fault)
-  not_agreed store fault listed wrong =
-      λ quiet c held. rows_fault c fault (listed.bound.each quiet c held) (listed.list quiet c held)
-      (wrong quiet c held)
+  not_agreed store fault listed grown wrong =
+      λ quiet c held. rows_fault c fault grown (listed.bound.each quiet c held)
+      (listed.list quiet c held) (wrong quiet c held)
+
+  pub judged_grown : HasGrown L.museum.growths (length P)
+      → HasGrown L'.museum.growths (length L'.posted)
+  judged_grown grown = subst (λ (S : Museum). HasGrown S.growths (length L'.posted))
+      (sym judged.museum) (subst (λ (Q : List Entry). HasGrown L.museum.growths (length Q))
+      (sym judged.posted) grown)
 
   pub restored_store : (store : Holding) → IsListed store L.museum L.depth P
       → Each store (HasRows L'.museum L'.posted) → HasStore store L'
@@ -180,22 +211,33 @@ same_fault S c d OtherVersion same h = h
 same_fault S c d (Damaged at) same (inl h) =
     inl (h.0, same_bound c d same S h.0 h.1, same_wrong c d same (length S.stations) at h.2)
 same_fault S c d (Damaged at) same (inr (inl h)) = inr (inl (record {
+  zero = h.zero;
   depth = h.depth;
   bound = same_bound c d same S h.depth h.bound;
   entries = h.entries;
   list = same_list c d same h.entries h.list;
   stationed = h.stationed;
-  wrong = h.wrong;
+  few = h.few;
 }))
-same_fault S c d (Damaged at) same (inr (inr h)) = inr (inr (record {
+same_fault S c d (Damaged at) same (inr (inr (inl h))) = inr (inr (inl (record {
+  depth = h.depth;
+  bound = same_bound c d same S h.depth h.bound;
+  entries = h.entries;
+  list = same_list c d same h.entries h.list;
+  stationed = h.stationed;
+  grown = h.grown;
+  wrong = h.wrong;
+})))
+same_fault S c d (Damaged at) same (inr (inr (inr h))) = inr (inr (inr (record {
   zero = h.zero;
   depth = h.depth;
   bound = same_bound c d same S h.depth h.bound;
   entries = h.entries;
   list = same_list c d same h.entries h.list;
   lawful = h.lawful;
+  grown = h.grown;
   wrong = λ has. h.wrong (same_rows_held d c (same_back _ _ same) S h.entries has);
-}))
+})))
 
 restore_fault : (S : Museum) (c : Content) (fault : StoreFault)
     → IsRestoreFault S (bound_to S c) fault → IsOpenFault S c fault

@@ -1,18 +1,20 @@
 -- A store that has a lawful list can be opened.
-use Rattle.std.proofs.Common.{◌≡◌, ◌⊎◌, inl, inr, Bool, ℕ, true, false, List, [], ◌∷◌, ◌++◌, length}
-use Rattle.std.proofs.Common.{refl, sym, subst, ap, ◌∙◌, arith}
+use Rattle.std.proofs.Common.{◌≡◌, ◌≤◌, ◌⊎◌, inl, inr, Bool, ℕ, true, false, List, [], ◌∷◌, ◌++◌}
+use Rattle.std.proofs.Common.{length, refl, sym, subst, ap, ◌∙◌, arith}
 use Rattle.std.proofs.lemmas.Bool.{false≢true}
 use Rattle.std.specs.List.{AllByRecursion}
 use Rattle.std.specs.List.Sorted.{IsPermutation}
 use Rattle.std.proofs.lemmas.List.Elements.{All-from_recursion}
 use Rattle.std.proofs.lemmas.List.Sorted.{IsPermutation-sym, IsPermutation-trans}
 use Rattle.std.proofs.lemmas.List.Sorted.{length_permutation, list_any-IsPermutation}
+use Rattle.nest_core.specs.declared.growth.Growth.{Growth}
 use Rattle.nest_core.specs.Museum.{Museum}
 use Rattle.posting_core.specs.declared.entry.Entry.{Entry}
 use Rattle.posting_core.specs.declared.message.Message.{Message}
 use Rattle.posting_core.specs.declared.entry.Changes.{Changes}
 use Rattle.posting_core.specs.declared.verdict.Verdict.{Verdict}
 use Rattle.posting_core.specs.Book.{Book, changes_of}
+use Rattle.posting_core.specs.Growing.{HasGrown}
 use Rattle.posting_core.specs.Lawful.{Follows, IsLawful}
 use Rattle.register_store.specs.declared.store_fault.StoreFault.{StoreFault}
 use Rattle.register_store.specs.declared.store_fault.StoreFault.TheVariants.{NoMemory, Store}
@@ -32,8 +34,19 @@ use Rattle.hub_core.proofs.StoreLemmas.{stored_book}
 use Rattle.hub_core.specs.Points.{arrival_of, entry_of, post}
 use Rattle.hub_core.specs.Posting.{Posts, LeavesUnposted}
 use Rattle.hub_core.specs.StandsFor.{HasStore, HasSomeStore, HasEither}
-use Rattle.hub_core.specs.Openings.{IsFirstUnlawful, HasWrongRow, HasWrongEntry, HasOtherRows}
-use Rattle.hub_core.specs.Openings.{IsOpenFault, OpensAgain, IsNotOpened}
+use Rattle.hub_core.specs.Openings.{IsFirstUnlawful, HasWrongRow, HasTooFew, HasWrongEntry}
+use Rattle.hub_core.specs.Openings.{HasOtherRows, IsOpenFault, OpensAgain, IsNotOpened}
+
+-- more entries come after the newest growth, too
+pub still_grown : (gs : List Growth) (m n : ℕ) → m ≤ n → HasGrown gs m → HasGrown gs n
+still_grown [] m n more grown = tt
+still_grown (g ∷ gs) m n more grown = omega (arith, more, grown)
+
+pub grown_on : (L L' : Book) → L'.museum ≡ L.museum → length L.posted ≤ length L'.posted
+    → HasGrown L.museum.growths (length L.posted) → HasGrown L'.museum.growths (length L'.posted)
+grown_on L L' same more grown =
+    subst (λ (S : Museum). HasGrown S.growths (length L'.posted)) (sym same)
+    (still_grown L.museum.growths (length L.posted) (length L'.posted) more grown)
 
 -- the entries of a lawful list are of its stations
 of_stations : (S : Museum) (depth : ℕ) (P : List Entry) → IsLawful S depth P
@@ -84,6 +97,11 @@ module _ (S : Museum) (depth : ℕ) (P : List Entry) (c : Content) (law : IsLawf
       wrong.wrong (follows_in S depth wrong.before wrong.after wrong.entry
       (subst (IsLawful S depth) wrong.all law))
 
+  no_too_few : (at : ℕ) → HasGrown S.growths (length P) → HasTooFew S c at → ⊥
+  no_too_few at grown h =
+      let list : h.entries ≡ P = one_list h.entries P c h.list store.list in
+      h.few (subst (λ (O : List Entry). HasGrown S.growths (length O)) (sym list) grown)
+
   no_other_rows : (at : ℕ) → HasOtherRows S c at → ⊥
   no_other_rows at h =
       let list : h.entries ≡ P = one_list h.entries P c h.list store.list in
@@ -91,20 +109,25 @@ module _ (S : Museum) (depth : ℕ) (P : List Entry) (c : Content) (law : IsLawf
 
 -- the store of a lawful list has none of the causes
 pub opens : (S : Museum) (depth : ℕ) (P : List Entry) (c : Content) (fault : StoreFault)
-    → IsLawful S depth P → IsStoreOf S depth P c → IsOpenFault S c fault → is_failure fault ≡ true
-opens S depth P c NoMemory law store h = refl
-opens S depth P c Store law store h = refl
-opens S depth P c OtherVersion law store h = absurd (no_other_version S depth P c law store h)
-opens S depth P c OtherSetup law store h = absurd (h.1 store.bound.setup)
-opens S depth P c (Damaged at) law store (inl h) =
+    → IsLawful S depth P → HasGrown S.growths (length P) → IsStoreOf S depth P c
+    → IsOpenFault S c fault → is_failure fault ≡ true
+opens S depth P c NoMemory law grown store h = refl
+opens S depth P c Store law grown store h = refl
+opens S depth P c OtherVersion law grown store h =
+    absurd (no_other_version S depth P c law store h)
+opens S depth P c OtherSetup law grown store h = absurd (h.1 store.bound.setup)
+opens S depth P c (Damaged at) law grown store (inl h) =
     absurd (h.3 (depth, store.bound.limit, store.bound.meta))
-opens S depth P c (Damaged at) law store (inr (inl h)) =
+opens S depth P c (Damaged at) law grown store (inr (inl h)) =
     absurd (no_wrong_row S depth P c law store at
     (subst (λ (d : Content). HasWrongRow S d at) (stays S depth P c law store) h))
-opens S depth P c (Damaged at) law store (inr (inr (inl h))) =
+opens S depth P c (Damaged at) law grown store (inr (inr (inl h))) =
+    absurd (no_too_few S depth P c law store at grown
+    (subst (λ (d : Content). HasTooFew S d at) (stays S depth P c law store) h))
+opens S depth P c (Damaged at) law grown store (inr (inr (inr (inl h)))) =
     absurd (no_wrong_entry S depth P c law store at
     (subst (λ (d : Content). HasWrongEntry S d at) (stays S depth P c law store) h))
-opens S depth P c (Damaged at) law store (inr (inr (inr h))) =
+opens S depth P c (Damaged at) law grown store (inr (inr (inr (inr h)))) =
     absurd (no_other_rows S depth P c law store at
     (subst (λ (d : Content). HasOtherRows S d at) (stays S depth P c law store) h))
 
@@ -113,8 +136,9 @@ module _ (store : Holding) where
   pub some_of_store : (book : Book) → IsLawful book.museum book.depth book.posted
       → HasStore store book → HasSomeStore store book
   some_of_store book law has = has_more store _ (λ c. (P : List Entry)
-      × IsLawful book.museum book.depth P × IsStoreOf book.museum book.depth P c)
-      (λ c is. (book.posted, law, is)) has
+      × (length book.posted ≤ length P) × IsLawful book.museum book.depth P
+      × IsStoreOf book.museum book.depth P c)
+      (λ c is. (book.posted, omega arith, law, is)) has
 
   -- a store with a ledger's list, or with that list and one entry that may follow
   some_of_either : (L L' : Book) (next : Arrived Message) → IsLawful L.museum L.depth L.posted
@@ -122,18 +146,20 @@ module _ (store : Holding) where
       → L' ≡ L → HasEither store L.museum L.depth L.posted next → HasSomeStore store L'
   some_of_either L L' next law follows same either =
       subst (λ (b : Book). HasSomeStore store b) (sym same)
-      (has_more store _ (λ c. (P : List Entry) × IsLawful L.museum L.depth P
-      × IsStoreOf L.museum L.depth P c) (λ c has. elim has [
-        | inl is ↦ (L.posted, law, is)
-        | inr is ↦ (post L.museum L.depth L.posted next, (follows, law), is)
+      (has_more store _ (λ c. (P : List Entry) × (length L.posted ≤ length P)
+      × IsLawful L.museum L.depth P × IsStoreOf L.museum L.depth P c) (λ c has. elim has [
+        | inl is ↦ (L.posted, omega arith, law, is)
+        | inr is ↦ (post L.museum L.depth L.posted next, omega arith, (follows, law), is)
       ]) either)
 
-  -- a store with a lawful list opens again
-  pub some_opens : (book : Book) → HasSomeStore store book → OpensAgain store book.museum
-  some_opens book has =
+  -- a store with a lawful list that is as long opens again
+  pub some_opens : (book : Book) → HasGrown book.museum.growths (length book.posted)
+      → HasSomeStore store book → OpensAgain store book.museum
+  some_opens book grown has =
       has_more store _ (λ c. (fault : StoreFault) → IsOpenFault book.museum c fault
       → is_failure fault ≡ true) (λ c some fault h. opens book.museum book.depth some.0 c fault
-      some.1 some.2 h) has
+      some.2 (still_grown book.museum.growths (length book.posted) (length some.0) some.1 grown)
+      some.3 h) has
 
 -- a message that isn't posted leaves a store with a lawful list
 pub unposted : (old new : Holding) (L L' : Book) (next : Arrived Message)

@@ -6,6 +6,7 @@ use Rattle.posting_core.specs.declared.entry.Entry.{Entry}
 use Rattle.posting_core.specs.declared.message.Message.{Message}
 use Rattle.posting_core.specs.Messages.{is_sign_off}
 use Rattle.posting_core.specs.Book.{Book}
+use Rattle.posting_core.specs.Growing.{HasGrown}
 use Rattle.posting_core.specs.Lawful.{Follows, IsLawful}
 use Rattle.station_core.specs.Series.{Series, opened}
 use Rattle.station_core.specs.Progress.{AllMatch}
@@ -58,18 +59,31 @@ may_send (Some start) n = (n == start.posted + 1) && (nat_le n LAST && not start
 abbrev pub HasWrongRow : Museum → Content → ℕ → Type 0
 HasWrongRow S c at = (depth : ℕ) × IsBoundTo S depth c × IsFirstWrong (length S.stations) at c
 
--- The store is bound to the setup and has a list of entries of its stations, and entry `at` breaks
--- the rules.
+-- The store is bound to the setup and has a list of entries of its stations, but fewer than came
+-- before the newest growth: the later ones are gone. The fault is Damaged(0).
+pub record HasTooFew (S : Museum) (c : Content) (at : ℕ) : Type 0 where
+  pub zero : at ≡ 0
+  pub depth : ℕ
+  pub bound : IsBoundTo S depth c
+  pub entries : List Entry
+  pub list : HasList entries c
+  pub stationed : All (IsOfStation (length S.stations)) entries
+  pub few : HasGrown S.growths (length entries) → ⊥
+
+-- The store is bound to the setup and has a list of entries of its stations, all those before the
+-- newest growth among them, and entry `at` breaks the rules.
 pub record HasWrongEntry (S : Museum) (c : Content) (at : ℕ) : Type 0 where
   pub depth : ℕ
   pub bound : IsBoundTo S depth c
   pub entries : List Entry
   pub list : HasList entries c
   pub stationed : All (IsOfStation (length S.stations)) entries
+  pub grown : HasGrown S.growths (length entries)
   pub wrong : IsFirstUnlawful S depth entries at
 
--- The store is bound to the setup and has a lawful list, but its rows of spots, loan lines and last
--- days are not those of looking back. The fault is Damaged(0).
+-- The store is bound to the setup and has a lawful list with all entries before the newest growth,
+-- but its rows of spots, loan lines and last days are not those of looking back. The fault is
+-- Damaged(0).
 pub record HasOtherRows (S : Museum) (c : Content) (at : ℕ) : Type 0 where
   pub zero : at ≡ 0
   pub depth : ℕ
@@ -77,12 +91,14 @@ pub record HasOtherRows (S : Museum) (c : Content) (at : ℕ) : Type 0 where
   pub entries : List Entry
   pub list : HasList entries c
   pub lawful : IsLawful S depth entries
+  pub grown : HasGrown S.growths (length entries)
   pub wrong : HasRows S entries c → ⊥
 
--- The list of a bound store is wrong: in a row, in an entry, or in the rows kept beside the
--- entries.
+-- The list of a bound store is wrong: in a row, in its length, in an entry, or in the rows kept
+-- beside the entries.
 abbrev pub HasWrongList : Museum → Content → ℕ → Type 0
-HasWrongList S c at = HasWrongRow S c at ⊎ (HasWrongEntry S c at ⊎ HasOtherRows S c at)
+HasWrongList S c at =
+    HasWrongRow S c at ⊎ (HasTooFew S c at ⊎ (HasWrongEntry S c at ⊎ HasOtherRows S c at))
 
 -- Why the list of a bound store can't be restored in a ledger.
 abbrev pub IsRestoreFault : Museum → Content → StoreFault → Type 0
@@ -110,17 +126,19 @@ IsOpenFault S c (Damaged at) = IsBindFault S c (Damaged at) ⊎ HasWrongList S (
 
 -- If the store is quiet, only a lack of memory or a failing store keeps it from being opened with
 -- the setup: no other fault has its cause. By law (`laws::stored_list_opens`) the rows of a lawful
--- list are so.
+-- list are so, if it has all entries before the newest growth.
 abbrev pub OpensAgain : Holding → Museum → Type 0
 OpensAgain store S =
     Has store (λ c. (fault : StoreFault) → IsOpenFault S c fault → is_failure fault ≡ true)
 
--- The hub stands for the list that the store had. The store is bound to its setup, and otherwise as
--- it was.
+-- The hub stands for the list that the store had, which has all entries before the newest growth of
+-- the setup: so the next entry is judged by all that the setup lists. The store is bound to its
+-- setup, and otherwise as it was.
 pub record Opened {R : Type 0} (holding : R → Holding) (S : Museum) (register : R)
     (hub : State R) : Type 0 where
   pub setup : hub.book.museum ≡ S
   pub stands : StandsFor holding hub hub.book.posted []
+  pub grown : HasGrown S.growths (length hub.book.posted)
   pub comes : Comes (holding register) (holding hub.register)
       (λ c d. HasList hub.book.posted c × IsBound S c d)
 
@@ -138,19 +156,22 @@ pub record GoesOn (sequences : List (Series Message)) (book : Book) : Type 0 whe
   pub in_step : InStep sequences book.museum book.posted
   pub series : AllMatch is_sign_off (map arrival_of (reverse book.posted)) sequences
 
--- A new ledger has the store's list, and the stations go on from it.
+-- A new ledger has the store's list, with all entries before the newest growth, and the stations go
+-- on from it.
 pub record IsRestored (store : Holding) (old : Book) (sequences : List (Series Message))
     (new : Book) : Type 0 where
   pub museum : new.museum ≡ old.museum
   pub goes_on : GoesOn sequences new
+  pub grown : HasGrown new.museum.growths (length new.posted)
   pub stored : HasStore store new
 
--- A ledger of the setup has the list that the store had, the store is bound to the setup, and the
--- stations go on from that list.
+-- A ledger of the setup has the list that the store had, with all entries before the newest growth,
+-- the store is bound to the setup, and the stations go on from that list.
 pub record IsPrepared (old new : Holding) (S : Museum) (sequences : List (Series Message))
     (book : Book) : Type 0 where
   pub museum : book.museum ≡ S
   pub goes_on : GoesOn sequences book
+  pub grown : HasGrown S.growths (length book.posted)
   pub stored : HasStore new book
   pub comes : Comes old new (λ c d. HasList book.posted c × IsBound S c d)
 

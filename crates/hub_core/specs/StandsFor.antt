@@ -1,6 +1,6 @@
 -- Defines a hub and the arrivals that it stands for, which the contracts of its calls are about.
-use Rattle.std.specs.Prelude.{ℕ, ◌≡◌, ◌-◌, ◌<◌, ◌⊎◌, ◌++◌, ◌∷◌, Bool, true, false, List, length}
-use Rattle.std.specs.Prelude.{fold, take}
+use Rattle.std.specs.Prelude.{ℕ, ◌≡◌, ◌-◌, ◌<◌, ◌≤◌, ◌⊎◌, ◌++◌, ◌∷◌, Bool, true, false, List}
+use Rattle.std.specs.Prelude.{length, fold, take}
 use Rattle.nest_core.specs.Museum.{Museum}
 use Rattle.posting_core.specs.declared.message.Message.{Message}
 use Rattle.posting_core.specs.declared.entry.Entry.{Entry}
@@ -27,11 +27,12 @@ pub record State (R : Type 0) : Type 0 where
 abbrev pub HasStore : Holding → Book → Type 0
 HasStore store book = Has store (IsStoreOf book.museum book.depth book.posted)
 
--- If the store is quiet, its rows are those of some lawful list.
+-- If the store is quiet, its rows are those of some lawful list, with no fewer entries than are
+-- posted.
 abbrev pub HasSomeStore : Holding → Book → Type 0
 HasSomeStore store book =
-    Has store (λ c. (P : List Entry) × IsLawful book.museum book.depth P
-    × IsStoreOf book.museum book.depth P c)
+    Has store (λ c. (P : List Entry) × (length book.posted ≤ length P)
+    × IsLawful book.museum book.depth P × IsStoreOf book.museum book.depth P c)
 
 -- If the store is quiet, its rows are those of P, or of P with the next message posted.
 abbrev pub HasEither : Holding → Museum → ℕ → List Entry → Arrived Message → Type 0

@@ -40,7 +40,8 @@ pub struct Hub<R: Register> {
 }
 
 impl<R: Register> Model for Hub<R> {
-    ghost use Rattle.std.specs.Prelude.{◌≡◌, true, false};
+    ghost use Rattle.std.specs.Prelude.{◌≡◌, true, false, length};
+    ghost use Rattle.posting_core.specs.Growing.{HasGrown};
     ghost use Rattle.hub_core.specs.StandsFor.{State, InStep, HasStore, HasSomeStore};
 
     ghost Value = { State R };
@@ -51,7 +52,8 @@ impl<R: Register> Model for Hub<R> {
     ghost invariant = { λ h. (h.down ≡ false → InStep h.sequences h.ledger.museum h.ledger.posted)
         × (R.is_bound h.register ≡ true)
         × (h.down ≡ false → HasStore (R.holding h.register) h.ledger)
-        × (h.down ≡ true → HasSomeStore (R.holding h.register) h.ledger) };
+        × (h.down ≡ true → HasSomeStore (R.holding h.register) h.ledger)
+        × HasGrown h.ledger.museum.growths (length h.ledger.posted) };
 }
 
 /// Manual `Drop`: a derived one is inlined at every return and slows the proof.
@@ -85,6 +87,7 @@ impl<R: Register> Hub<R> {
     ///
     /// Faults, in this order:
     /// - those of [`Register::bind`] and then of [`Register::all`];
+    /// - Damaged(0), if there are fewer entries than came before the newest growth of the setup;
     /// - Damaged(i), for the first entry, counted from 1, whose station, number or verdict isn't
     ///   the one that the rules give;
     /// - Damaged(0), if the rows aren't those of the entries.
@@ -246,10 +249,11 @@ impl<R: Register> Hub<R> {
         self.down
     }
 
-    /// Ends the hub, and returns its ledger and its register as they are.
+    /// Ends the hub, and returns its ledger and its register, which is bound, as they are.
     pub fn into_parts(self) -> (Ledger, R)
         ensures ledger { result.0 ≡ self.book }
         ensures register { result.1 ≡ self.register }
+        ensures bound { R.is_bound result.1 ≡ true }
     {
         let Hub {
             sequences,

@@ -5,6 +5,7 @@ ghost use Rattle.nest_core.specs.Museum.{Museum};
 ghost use Rattle.posting_core.specs.declared.message.Message.{Message};
 ghost use Rattle.posting_core.specs.declared.entry.Entry.{Entry};
 ghost use Rattle.posting_core.specs.Book.{Book, changes_of};
+ghost use Rattle.posting_core.specs.Growing.{HasGrown};
 ghost use Rattle.posting_core.specs.Messages.{is_sign_off};
 ghost use Rattle.posting_core.specs.Lawful.{Follows, IsLawful};
 ghost use Rattle.posting_core.specs.Accountability.{AnswerAlike};
@@ -73,11 +74,12 @@ pub fn same_taken_same_posted()
         cut s (point T limit Q B).posted ≡ cut s (point S depth O A).posted }
 {}
 
-/// A store with the rows of a lawful list can be opened: only NoMemory or Store can prevent it.
+/// A store with the rows of a lawful list that has all entries before the newest growth can be
+/// opened: only NoMemory or Store can prevent it.
 pub fn stored_list_opens()
     ensures { (S : Museum) (depth : ℕ) (P : List Entry) (c : Content) (fault : StoreFault)
-        → IsLawful S depth P → IsStoreOf S depth P c → IsOpenFault S c fault
-        → is_failure fault ≡ true }
+        → IsLawful S depth P → HasGrown S.growths (length P) → IsStoreOf S depth P c
+        → IsOpenFault S c fault → is_failure fault ≡ true }
 {}
 
 /// A store that has the rows of a lawful list has, after the next entry was posted with Ok, the

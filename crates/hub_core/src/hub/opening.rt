@@ -1,14 +1,16 @@
 //! Opens a hub over the entries of a register.
-ghost use Rattle.std.specs.Prelude.{◌≡◌, [], true, length, OnOk, IfOk, IfErr};
-ghost use Rattle.register_store.specs.StoredRows.{AreSame, HasRows, IsBoundTo};
-ghost use Rattle.register_store.specs.Registers.{CountsRefusal};
+ghost use Rattle.std.specs.Prelude.{◌≡◌, [], true, length, reverse, All, OnOk, IfOk, IfErr};
+ghost use Rattle.std.specs.Bool.{Decides};
+ghost use Rattle.posting_core.specs.Growing.{HasGrown};
+ghost use Rattle.register_store.specs.StoredRows.{AreSame, HasList, HasRows, IsBoundTo};
+ghost use Rattle.register_store.specs.Registers.{CountsRefusal, IsOfStation};
 ghost use Rattle.register_store.specs.Holdings.{Comes, Each, Has, IsBound};
 ghost use Rattle.hub_core.specs.Openings.{IsNotOpened, IsPrepared, IsRestored, IsRestoreFault};
 ghost use Rattle.hub_core.specs.Openings.{IsRowsFault};
 
 use crate::hub::reposting::judged;
 use nest_core::Setup;
-use posting_core::{Ledger, Message};
+use posting_core::{Entry, Ledger, Message};
 use register_store::{Register, StoreFault};
 use station_core::Sequences;
 use std::alloc::Global;
@@ -81,10 +83,50 @@ fn restore<R: Register>(
     ensures bound { R.is_bound register.new ≡ true }
     ensures count { CountsRefusal (R.refusals register.old) (R.refusals register.new) result }
 {
-    let entries = register.all(alloc)?;
+    let entries = all_entries(alloc, ledger, register)?;
     let starts = judged(alloc, ledger, entries)?;
     compare(alloc, ledger, register)?;
     Ok(Sequences::new(alloc, &starts)?)
+}
+
+/// Reads the register's entries. Faults: those of [`Register::all`]; Damaged(0), if there are fewer
+/// than came before the newest growth of the setup.
+fn all_entries<R: Register>(
+    alloc: Global,
+    ledger: &Ledger,
+    register: &mut R,
+) -> Result<Vec<Entry>, StoreFault>
+    requires ready { (R.is_bound register.old ≡ true)
+        × (R.stations register.old ≡ length ledger.now.museum.stations) }
+    requires bound { Has (R.holding register.old) (IsBoundTo ledger.now.museum ledger.now.depth) }
+    ensures listed { IfOk result
+        (λ entries. Each (R.holding register.new) (HasList (reverse entries.items))) }
+    ensures stationed { IfOk result
+        (λ entries. All (IsOfStation (length ledger.now.museum.stations)) entries.items) }
+    ensures grown { IfOk result
+        (λ entries. HasGrown ledger.now.museum.growths (length entries.items)) }
+    ensures fault { IfErr result
+        (λ fault. Each (R.holding register.new) (λ c. IsRestoreFault ledger.now.museum c fault)) }
+    ensures unchanged { Comes (R.holding register.old) (R.holding register.new) AreSame }
+    ensures bound { R.is_bound register.new ≡ true }
+    ensures count { CountsRefusal (R.refusals register.old) (R.refusals register.new) result }
+{
+    let entries = register.all(alloc)?;
+    if has_grown(ledger.setup(), entries.len()) {
+        return Ok(entries);
+    }
+    drop(entries);
+    Err(StoreFault::Damaged(0))
+}
+
+/// Whether the newest growth of the setup came after at most this many entries.
+fn has_grown(setup: &Setup, entries: usize) -> bool
+    ensures { Decides result (HasGrown setup.now.growths entries) }
+{
+    match setup.growths().first() {
+        Some(newest) => newest.after as usize <= entries,
+        None => true,
+    }
 }
 
 /// Compares the register's rows of spots, loan lines and last days with those of the ledger.

@@ -1,5 +1,5 @@
 //! Posts the messages that are due.
-ghost use Rattle.std.specs.Prelude.{◌≡◌, ◌<◌, ◌⊎◌, false, true, length, OnOk, OnErr, IfErr};
+ghost use Rattle.std.specs.Prelude.{◌≡◌, ◌<◌, ◌≤◌, ◌⊎◌, false, true, length, OnOk, OnErr, IfErr};
 ghost use Rattle.posting_core.specs.Messages.{is_sign_off};
 ghost use Rattle.posting_core.specs.Book.{changes_of};
 ghost use Rattle.posting_core.specs.Lawful.{Follows, IsLawful};
@@ -32,6 +32,7 @@ pub(crate) fn post_due<R: Register>(
     requires bound { R.is_bound register.old ≡ true }
     ensures museum { ledger.new.museum ≡ ledger.old.museum }
     ensures depth { ledger.new.depth ≡ ledger.old.depth }
+    ensures longer { length ledger.old.posted ≤ length ledger.new.posted }
     ensures stations { length sequences.new ≡ length sequences.old }
     ensures posted { OnOk result
         (PostsDue (R.holding register.old)

@@ -1,5 +1,5 @@
 //! A run: a setup and lines in, replies out.
-ghost use Rattle.std.specs.Prelude.{◌≡◌, ◌≢◌, ◌≤◌, ◌<◌, ◌+◌, false, OnOk, IfOk, IfErr, IfSome};
+ghost use Rattle.std.specs.Prelude.{◌≡◌, ◌≢◌, ◌≤◌, ◌<◌, ◌+◌, [], false, OnOk, IfOk, IfErr, IfSome};
 ghost use Rattle.std.specs.Io.KnownBytes.{Appends, IsAtEnd};
 ghost use Rattle.hub_core.specs.Lines.{head};
 ghost use Rattle.hub_core.specs.WholeRun.{head_fault, run_text, AfterRun, OpensHub, IsFresh};
@@ -82,8 +82,9 @@ fn opened<R: BufRead>(
     }
 }
 
-/// Opens a hub with this setup and nothing posted. Fault: NoMemory.
+/// Opens a hub with this setup, which never grew, and nothing posted. Fault: NoMemory.
 fn new_hub(alloc: Global, setup: Setup) -> Result<Hub<PlainRegister>, StoreFault>
+    requires { setup.growths ≡ [] }
     ensures fresh { IfOk result (λ hub. IsFresh hub setup) }
     ensures fault { IfErr result (λ fault. fault ≡ StoreFault.NoMemory) }
 {

@@ -11,6 +11,7 @@ use Rattle.hub_core.specs.declared.hub.answer.Answer.TheVariants.{Refused, Poste
 use Rattle.hub_core.specs.Points.{reply, due_with}
 use Rattle.hub_core.specs.StandsFor.{State, StandsFor, Stopped}
 use Rattle.hub_core.proofs.PostLemmas.{written, step_held, taken_unsigned}
+use Rattle.hub_core.proofs.ReopenLemmas.{grown_on}
 use Rattle.hub_core.proofs.StandLemmas.{refused_by, stands_refused, stands_taken, stands_stopped}
 use Rattle.hub_core.proofs.StandLemmas.{reply_due, reply_counted, length_back}
 use Rattle.hub_core.proofs.hub.Hub.arrive.Goals as goal
@@ -189,6 +190,8 @@ invariant_of-self g c = (
   c.in-Err.ensures.bound,
   λ up. absurd (true≢false up),
   λ _. c.in-Err.ensures.stopped.lawful (c.self.invariant.2 c.if-self.false),
+  grown_on c.self.inside.ledger c.post_due.new.ledger c.in-Err.ensures.museum
+      c.in-Err.ensures.longer c.self.invariant.4,
 )
 
 pub returns-clause-closed : goal.returns-clause-closed

@@ -10,6 +10,6 @@ returns-clause-opens_again g c =
     let hub = c.self.inside in
     subst (λ (h : State g.row.R.Denot). OpensAgain (g.R.Register.holding hub.register)
     h.book.museum) c.self.view_is
-    (some_opens (g.R.Register.holding hub.register) hub.ledger
+    (some_opens (g.R.Register.holding hub.register) hub.ledger c.self.invariant.4
     (⊎_elim c.self.invariant.3 (λ up. some_of_store (g.R.Register.holding hub.register) hub.ledger
     c.is_lawful.ensures (c.self.invariant.2 up)) (cases_Bool hub.down)))

@@ -12,5 +12,6 @@ returns-in-Ok-clause-opened g c =
         series = prepared.goes_on.series;
         stored = prepared.stored;
       };
+      grown = prepared.grown;
       comes = prepared.comes;
     }

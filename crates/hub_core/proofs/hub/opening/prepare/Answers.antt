@@ -1,5 +1,6 @@
 use Rattle.std.proofs.Common.{◌∙◌, ap, sym, subst, length}
 use Rattle.nest_core.specs.Museum.{Museum}
+use Rattle.posting_core.specs.Growing.{HasGrown}
 use Rattle.register_store.specs.StoredRows.{IsBoundTo}
 use Rattle.register_store.specs.Holdings.{Each, Has}
 use Rattle.hub_core.specs.Openings.{IsRestoreFault}
@@ -38,6 +39,8 @@ returns-in-Ok-clause-prepared g c =
     record {
       museum = restored.museum ∙ c.in_ok-ledger.ensures.new.0;
       goes_on = restored.goes_on;
+      grown = subst (λ (S : Museum). HasGrown S.growths (length c.restore.new.ledger.posted))
+          (restored.museum ∙ c.in_ok-ledger.ensures.new.0) restored.grown;
       stored = restored.stored;
       comes = restored_from old mid new c.args.setup c.restore.new.ledger
           c.in_ok-ledger.ensures.kept c.in-Ok.ensures.unchanged restored.stored;

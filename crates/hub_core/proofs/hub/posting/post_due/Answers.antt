@@ -5,7 +5,7 @@ use Rattle.hub_core.specs.Posting.{StopsDue}
 use Rattle.posting_core.specs.declared.message.Message.{Message}
 use Rattle.posting_core.specs.Book.{Book}
 use Rattle.hub_core.proofs.PostLemmas.{IsPosted, written, written_again, posted_list, posted_step}
-use Rattle.hub_core.proofs.PostLemmas.{caught_next, done_sign, next_follows}
+use Rattle.hub_core.proofs.PostLemmas.{posted_longer, caught_next, done_sign, next_follows}
 use Rattle.hub_core.proofs.StopLemmas.{stopped_at}
 use Rattle.hub_core.proofs.StoreLemmas.{counts_ok}
 use Rattle.hub_core.proofs.Written.{on_err}
@@ -86,6 +86,7 @@ loop-n-preserved g c =
     record {
       museum = ap (λ (b : Book). b.museum) is ∙ c.loop-n.invariant.museum;
       depth = ap (λ (b : Book). b.depth) is ∙ c.loop-n.invariant.depth;
+      longer = posted_longer L c.post_next.new.ledger r _ is c.loop-n.invariant.longer;
       stations = one.same_length ∙ c.loop-n.invariant.stations;
       unsigned = ap (λ (x : Series Message). x.signed) one.here ∙ c.loop-n.invariant.unsigned;
       in_step = posted_step L c.post_next.new.ledger r all c.next_due.new.self

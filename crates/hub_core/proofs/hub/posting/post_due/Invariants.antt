@@ -1,4 +1,4 @@
-use Rattle.std.proofs.Common.{◌≡◌, ◌-◌, List, length, true, false}
+use Rattle.std.proofs.Common.{◌≡◌, ◌≤◌, ◌-◌, List, length, true, false}
 use Rattle.posting_core.specs.declared.message.Message.{Message}
 use Rattle.posting_core.specs.Messages.{is_sign_off}
 use Rattle.station_core.specs.Series.{series_at}
@@ -12,6 +12,7 @@ abbrev pub invariant-loop-n : goal.invariant-loop-n
 invariant-loop-n g l = record {
   museum : l.ledger.museum ≡ l.fn.ledger.museum;
   depth : l.ledger.depth ≡ l.fn.ledger.depth;
+  longer : length l.fn.ledger.posted ≤ length l.ledger.posted;
   stations : length l.sequences ≡ length l.fn.sequences;
   unsigned : (series_at l.sequences l.station).signed ≡ false;
   in_step : InStep l.sequences l.ledger.museum l.ledger.posted;
