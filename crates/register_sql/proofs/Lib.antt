@@ -42,3 +42,4 @@ mod WorkedFailures
 pub mod Runs
 pub mod Blank
 pub mod Newness
+pub mod StoredSetups

@@ -235,9 +235,12 @@ has_the_setup S made db has c held =
     (unmapped setup_shown setup_back (λ r. refl) (setup_from 1 (setup_rows S)) c.setup
     (setup_in made db) has (setups_shown made db c held))
 
+pub has_setup : (S : Museum) (made : ℕ) (db : Trees) (c : Content) → HasPart made db c
+    → IsPermutation (rows_of_setup S) c.setup → HasSetup S made db
+has_setup S made db c held same = IsPermutation-trans _ _ _ (IsPermutation-map setup_shown _ _
+    (IsPermutation-trans _ _ _ (IsPermutation-sym _ _ (setup_rows_are S)) same))
+    (setups_shown made db c held)
+
 pub lacks_the_setup : (S : Museum) (made : ℕ) (db : Trees) → ¬ HasSetup S made db
     → (c : Content) → HasPart made db c → ¬ IsPermutation (rows_of_setup S) c.setup
-lacks_the_setup S made db other c held same =
-    other (IsPermutation-trans _ _ _ (IsPermutation-map setup_shown _ _
-    (IsPermutation-trans _ _ _ (IsPermutation-sym _ _ (setup_rows_are S)) same))
-    (setups_shown made db c held))
+lacks_the_setup S made db other c held same = other (has_setup S made db c held same)

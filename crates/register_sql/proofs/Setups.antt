@@ -3,6 +3,7 @@ use Rattle.std.proofs.Common.{◌≡◌, ◌≢◌, ◌<◌, ◌≤◌, ◌+◌,
 use Rattle.std.proofs.Common.{length, map, reverse, take, get_or, Bool, true, false, refl, sym, ap}
 use Rattle.std.proofs.Common.{subst, ◌∙◌, arith, lt→ltb, append-nil}
 use Rattle.std.specs.Bool.{Decides}
+use Rattle.std.specs.Prelude.{◌↔◌}
 use Rattle.std.specs.Cmp.{int_cmp_is}
 use Rattle.std.specs.List.{AllByRecursion}
 use Rattle.std.specs.List.Sorted.{IsPermutation, IsSorted}
@@ -44,16 +45,22 @@ rising n [] = tt
 rising n (t ∷ texts) = (above n (n + 1) texts _ t (omega arith) refl, rising (n + 1) texts)
 
 -- so rows read in their order are these, or the table has others
+pub rows_told : (texts : List (List ℕ)) (db : Trees) (rows : List Row)
+    → IsPermutation (shown_in Setups db) rows → IsSorted id_cmp rows
+    → (rows ≡ setup_rows_shown texts) ↔ IsPermutation (setup_rows_shown texts) (shown_in Setups db)
+rows_told texts db rows read sorted = (
+  λ are. subst (λ l. IsPermutation l (shown_in Setups db)) are (IsPermutation-sym _ _ read),
+  λ alike. sorted_unique id_cmp (on_total (λ (r : Row). column r 0) value_cmp_total)
+      (setup_rows_shown texts) rows (rising 1 texts) (IsPermutation-trans _ _ _ alike read) sorted,
+)
+
 pub setup_told : (same : Bool) (texts : List (List ℕ)) (db : Trees) (rows : List Row)
     → Decides same (rows ≡ setup_rows_shown texts) → IsPermutation (shown_in Setups db) rows
     → IsSorted id_cmp rows
     → Decides same (IsPermutation (setup_rows_shown texts) (shown_in Setups db))
-setup_told same texts db rows told read sorted = (
-  λ yes. subst (λ l. IsPermutation l (shown_in Setups db)) (told.0 yes)
-      (IsPermutation-sym _ _ read),
-  λ alike. told.1 (sorted_unique id_cmp (on_total (λ (r : Row). column r 0) value_cmp_total)
-      (setup_rows_shown texts) rows (rising 1 texts) (IsPermutation-trans _ _ _ alike read) sorted),
-)
+setup_told same texts db rows told read sorted =
+    let to = rows_told texts db rows read sorted in
+    (λ yes. to.0 (told.0 yes), λ alike. told.1 (to.1 alike))
 
 -- ... in a store of the first `made` tables
 pub setup_part : (same : Bool) (texts : List (List ℕ)) (made : ℕ) (db : Trees) → 2 ≤ made
@@ -91,7 +98,7 @@ from_end k (t ∷ texts) text =
     (from_end (k + 1) texts text ∙ ap
     (λ n. setup_from (k + 1) texts ++ record { id = pos n; text = text } ∷ []) e)
 
-got_from : (k : ℕ) (texts : List (List ℕ)) (i : ℕ) (d : Row) (t : List ℕ) → i < length texts
+pub got_from : (k : ℕ) (texts : List (List ℕ)) (i : ℕ) (d : Row) (t : List ℕ) → i < length texts
     → get_or (map setup_shown (setup_from k texts)) i d ≡ setup_shown
     (record { id = pos (k + i); text = get_or texts i t })
 got_from k [] i d t low = absurd (omega (arith, low))
@@ -101,7 +108,7 @@ got_from k (x ∷ texts) (suc i) d t low = let e : k + 1 + i ≡ k + suc i = ome
     got_from (k + 1) texts i d t (omega (arith, low))
     ∙ ap (λ n. setup_shown (record { id = pos n; text = get_or texts i t })) e
 
-shown_length : (k : ℕ) (texts : List (List ℕ))
+pub shown_length : (k : ℕ) (texts : List (List ℕ))
     → length (map setup_shown (setup_from k texts)) ≡ length texts
 shown_length k [] = refl
 shown_length k (x ∷ texts) = ap suc (shown_length (k + 1) texts)

@@ -10,6 +10,7 @@ pub mod Making
 pub mod Queries
 pub mod Rowids
 pub mod Says
+pub mod StoredSetups
 pub mod Profiles
 pub mod Binding
 pub mod Stores

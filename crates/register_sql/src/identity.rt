@@ -162,7 +162,7 @@ fn is_setup(row: &Row, id: u64, text: &str) -> bool
 }
 
 /// Whether these are the rows of `setup` with these texts, numbered from 1.
-fn are_setup(rows: &[Row], texts: &[String]) -> bool
+pub(crate) fn are_setup(rows: &[Row], texts: &[String]) -> bool
     ensures { Decides result (rows.now ≡ setup_rows_shown (map string_bytes texts.now)) }
 {
     if rows.len() != texts.len() {

@@ -47,6 +47,7 @@ mod row_values;
 mod rowids;
 mod schema;
 mod sql;
+mod stored_setup;
 mod table;
 mod upgrade;
 mod version;

@@ -1,6 +1,6 @@
 //! A connection to a store that sends no further statement once one has failed.
 ghost use Rattle.std.specs.Prelude.{◌≡◌, ◌≢◌, ◌⊎◌, true, Some, Err, reverse, All, IsNone, is_some};
-ghost use Rattle.std.specs.Prelude.{IfOk, IfErr, OnOk, OnErr};
+ghost use Rattle.std.specs.Prelude.{IfOk, IfErr, OnOk, OnErr, IfSome};
 ghost use Rattle.std.specs.Bool.{Decides};
 ghost use Rattle.sqlite.specs.Held.{state};
 ghost use Rattle.sqlite.specs.State.{HasCleanDisk, Survives};
@@ -14,6 +14,7 @@ ghost use Rattle.register_sql.specs.Growing.{with_setup, IsGrown};
 ghost use Rattle.register_sql.specs.Migrating.{Migrates, IsNotMigrated, IsCompleted, IsUnfit};
 ghost use Rattle.register_sql.specs.Posting.{LeavesPosted, LeavesWhole};
 ghost use Rattle.register_sql.specs.Queries.{AreApart};
+ghost use Rattle.register_sql.specs.StoredSetups.{AreGrowthsIn, HoldsSetup};
 ghost use Rattle.register_sql.specs.Stores.{in_store, IsKept};
 
 use crate::agree::agrees;
@@ -22,7 +23,8 @@ use crate::grow::grow;
 use crate::list::list;
 use crate::migrate::migrate;
 use crate::put::put_whole;
-use nest_core::Setup;
+use crate::stored_setup::{growths, setup};
+use nest_core::{Growth, Setup};
 use posting_core::{Changes, Entry, Ledger};
 use register_store::{StoreFault, row_of};
 use sqlite::{Alter, Connection, Error, ErrorCode};
@@ -297,6 +299,63 @@ pub(crate) fn grow_store<S: Alter>(
     }
     match grow(alloc, &mut link.conn, setup) {
         Ok(answer) => answer,
+        Err(error) => Err(stop(link, error)),
+    }
+}
+
+/// Returns how the setup of the store grew, the newest growth first. Store if the link has stopped.
+pub(crate) fn growths_of_store<S: Alter>(
+    alloc: Global,
+    link: &mut Link<S>,
+) -> Result<Vec<Growth>, StoreFault>
+    requires { IsKept (state S.Store link.old.conn) link.old.bound link.old.stopped }
+    ensures invariant { IsKept (state S.Store link.new.conn) link.new.bound link.new.stopped }
+    ensures growths { HasCleanDisk (state S.Store link.new.conn) → IfOk result
+        (λ growths. AreGrowthsIn (state S.Store link.old.conn).now growths.items) }
+    ensures faults { IfErr result (λ fault. is_failure fault ≡ true) }
+    ensures unchanged { Comes (in_store (state S.Store link.old.conn))
+        (in_store (state S.Store link.new.conn)) AreSame }
+    ensures still { link.new.bound ≡ link.old.bound }
+    ensures stops { Stops (is_some link.old.stopped) (is_some link.new.stopped) result }
+    ensures excused { StopsFor (state S.Store link.old.conn) (state S.Store link.new.conn)
+        (is_some link.old.stopped) (is_some link.new.stopped) link.new.stopped result }
+    ensures store { result ≡ Err StoreFault.Store → is_some link.new.stopped ≡ true }
+{
+    if let Some(_) = link.stopped {
+        return Err(StoreFault::Store);
+    }
+    match growths(alloc, &mut link.conn) {
+        Ok(Ok(found)) => Ok(found),
+        Ok(Err(_)) => Err(StoreFault::NoMemory),
+        Err(error) => Err(stop(link, error)),
+    }
+}
+
+/// Returns the setup that the store holds, and None if its rows are those of no setup. Store if the
+/// link has stopped.
+pub(crate) fn setup_of_store<S: Alter>(
+    alloc: Global,
+    link: &mut Link<S>,
+) -> Result<Option<Setup>, StoreFault>
+    requires { IsKept (state S.Store link.old.conn) link.old.bound link.old.stopped }
+    ensures invariant { IsKept (state S.Store link.new.conn) link.new.bound link.new.stopped }
+    ensures held { HasCleanDisk (state S.Store link.new.conn) → IfOk result
+        (λ found. IfSome found (HoldsSetup (state S.Store link.old.conn).now)) }
+    ensures faults { IfErr result (λ fault. is_failure fault ≡ true) }
+    ensures unchanged { Comes (in_store (state S.Store link.old.conn))
+        (in_store (state S.Store link.new.conn)) AreSame }
+    ensures still { link.new.bound ≡ link.old.bound }
+    ensures stops { Stops (is_some link.old.stopped) (is_some link.new.stopped) result }
+    ensures excused { StopsFor (state S.Store link.old.conn) (state S.Store link.new.conn)
+        (is_some link.old.stopped) (is_some link.new.stopped) link.new.stopped result }
+    ensures store { result ≡ Err StoreFault.Store → is_some link.new.stopped ≡ true }
+{
+    if let Some(_) = link.stopped {
+        return Err(StoreFault::Store);
+    }
+    match setup(alloc, &mut link.conn) {
+        Ok(Ok(found)) => Ok(found),
+        Ok(Err(_)) => Err(StoreFault::NoMemory),
         Err(error) => Err(stop(link, error)),
     }
 }

@@ -17,6 +17,8 @@ ghost use Rattle.register_sql.specs.Migrating.{Migrates, IsNotMigrated, IsComple
 ghost use Rattle.register_sql.specs.Stores.{in_store, IsExcusedStop};
 ghost use Rattle.register_sql.specs.Runs.{HasIts};
 
+mod stored;
+
 use crate::link::{
     Link, bind_store, grow_store, list_store, migrate_store, post_to_store, store_agrees,
     store_is_new,
