@@ -1,0 +1,59 @@
+-- Which refused messages name something that is listed now, computed on worked rows. The setup
+-- grows from `before` to `after`: 2024.9.1, C2 and S3 are new.
+use Rattle.std.specs.Prelude.{◌≡◌, ◌++◌, ◌∷◌, [], List, ℕ, ℤ, codes, length, pos, refl}
+use Rattle.std.specs.Fmt.{digits}
+use Rattle.posting_core.specs.declared.entry.Entry.{Entry}
+use Rattle.posting_core.specs.declared.message.Message.{Message}
+use Rattle.posting_core.specs.declared.message.Message.TheVariants.{Agree, Move, Pack}
+use Rattle.posting_core.specs.declared.verdict.Verdict.{Verdict}
+use Rattle.posting_core.specs.declared.verdict.Verdict.TheVariants.{Applied, UnknownContainer}
+use Rattle.posting_core.specs.declared.verdict.Verdict.TheVariants.{UnknownPlace, UnknownThing}
+use Rattle.posting_core.specs.Book.{Book}
+use Rattle.cause_core.specs.Culprits.{culprit}
+use Rattle.setup_reports.specs.NowKnown.{now_known_text, unknown_code}
+use Rattle.setup_reports.proofs.WorkedGrowth.{before, after}
+
+abbrev day : ℤ
+day = pos 0
+
+-- An entry of GAL.
+abbrev gal : ℕ → Message → Verdict → Entry
+gal n message verdict = record { station = 0; n = n; message = message; verdict = verdict }
+
+-- Entry 2 names an object, entry 4 a place and entry 5 a crate that are new. Entry 3 names an
+-- object that is not listed yet. Entry 6 took an object for a crate.
+abbrev entries : List Entry
+entries =
+    gal 1 (Move day (codes "2001.4.1") (codes "S1")) Applied
+    ∷ gal 2 (Move day (codes "2024.9.1") (codes "S1")) UnknownThing
+    ∷ gal 3 (Move day (codes "2024.9.2") (codes "S1")) UnknownThing
+    ∷ gal 4 (Move day (codes "2001.4.1") (codes "S3")) UnknownPlace
+    ∷ gal 5 (Pack day (codes "2001.4.1") (codes "C2")) UnknownContainer
+    ∷ gal 6 (Pack day (codes "2001.4.1") (codes "2024.9.1")) UnknownContainer ∷ []
+
+now_known : now_known_text before after entries
+    ≡ codes "entry 2 GAL 2 UnknownThing 2024.9.1: send it again under a new number\n"
+    ++ codes "entry 4 GAL 4 UnknownPlace S3: send it again under a new number\n"
+    ++ codes "entry 5 GAL 5 UnknownContainer C2: send it again under a new number\n"
+unfolding digits
+now_known = refl
+
+-- An agreement is printed for the first of its objects that was unknown.
+agreement : now_known_text before after
+    (gal 1 (Agree day day (codes "LO2024.1") (codes "MUSEUM-X")
+    (codes "2001.4.1" ∷ codes "2024.9.1" ∷ codes "2024.9.2" ∷ [])) UnknownThing ∷ [])
+    ≡ codes "entry 1 GAL 1 UnknownThing 2024.9.1: send it again under a new number\n"
+unfolding digits
+agreement = refl
+
+none : now_known_text before before entries ≡ []
+none = refl
+
+-- An unknown thing or place is what made the verdict true, in the record before the message.
+unknown_thing : (B : Book) (m : Message)
+    → unknown_code B.museum (length B.posted) m UnknownThing ≡ culprit B m UnknownThing
+unknown_thing B m = refl
+
+unknown_place : (B : Book) (m : Message)
+    → unknown_code B.museum (length B.posted) m UnknownPlace ≡ culprit B m UnknownPlace
+unknown_place B m = refl

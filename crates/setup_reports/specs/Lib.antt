@@ -1,0 +1,5 @@
+pub mod Lines
+pub mod SetupFiles
+pub mod GrowthTexts
+pub mod Writing
+pub mod NowKnown
