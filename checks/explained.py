@@ -27,6 +27,7 @@ ENUMS = {
     "station_core/src/lib.rt": ["Refusal"],
     "codes_core/src/fault.rt": ["CodeFault"],
     "nest_core/src/setup_fault.rt": ["SetupFault"],
+    "nest_core/src/grow_fault.rt": ["GrowFault"],
     "count_core/src/count_fault.rt": ["CountFault"],
     "count_core/src/answer.rt": ["CountAnswer"],
     "register_store/src/fault.rt": ["ReadFault"],
@@ -36,7 +37,7 @@ ENUMS = {
 UNPRINTED = {"NoMemory"}
 # lower words of replies and reports, which no table of the formats lists
 REPLIES = ["held", "posted", "refused", "bad", "ask", "at", "in", "unknown", "unplaced", "missing", "row", "normal", "next", "full"]
-REPLIES += ["signed off", "copied", "migrated", "note", "fault", "store", "counts", "setup", "day", "code"]
+REPLIES += ["signed off", "copied", "migrated", "grown", "grew", "note", "fault", "store", "counts", "setup", "day", "code"]
 
 
 def text_of(*path):

@@ -137,7 +137,8 @@ def database_alone(room):
     # after a fault too
     good &= same(run(room, "replay", "museum.db", given="", stdout=None)[0], 0)
     room.write("setup.csv", SETUP + "box,C3\n")
-    good &= same(run(room, "stations", "museum.db"), (1, "", "fault store OtherSetup\n"))
+    wanted_help = " has another setup: print it with pairsalder setup --store museum.db"
+    good &= same(run(room, "stations", "museum.db"), refused("museum.db", wanted_help, "store OtherSetup"))
     good &= not os.path.exists(room.store + "-wal")
     return good and same(read(room.store), wanted)
 

@@ -83,8 +83,11 @@ class Pages:
             yield "--help doesn't list the topics"
         commands = re.findall(r"^  (\w+)  +\w", overview.partition("Commands:")[2].partition("Options:")[0], re.M)
         for command in commands:
-            if self.run("help", command) != self.run(command, "--help"):
+            # a name of both is the topic's
+            if command not in TOPICS and self.run("help", command) != self.run(command, "--help"):
                 yield f"help {command} isn't {command} --help"
+        if any(topic not in self.run("help", "nothing")[2] for topic in TOPICS):
+            yield "help nothing doesn't list the topics"
         for words in (["nothing"], ["setup", "lines"], [""]):
             if self.run("help", *words)[0] != 2:
                 yield f"help {words}: {self.run('help', *words)}"

@@ -102,7 +102,7 @@ def main():
     overview = printed(program, "--help")
     listed = overview.partition("Commands:")[2].partition("Options:")[0]
     names = re.findall(r"^  (\w+)  +\w", listed, re.M)
-    helps = {"": overview} | {name: printed(program, "help", name) for name in names}
+    helps = {"": overview} | {name: printed(program, name, "--help") for name in names}
     with tempfile.TemporaryDirectory() as folder:
         generate = os.path.join(ROOT, "packaging", "generate.py")
         subprocess.run([generate, program, folder], check=True)

@@ -81,11 +81,10 @@ def arrival(museum, taken, posted, station, n, message):
     return said
 
 
-def replies(session):
-    """What is said to a session: a setup without fault, an empty line, and lines."""
-    head, _, rest = session.partition(b"\n\n")
-    museum, taken, posted, said = museum_of(head.decode()), [], [], []
-    for number, text in enumerate(rest.split(b"\n"), 1):
+def answers(museum, taken, posted, lines):
+    """The replies to these lines, after what was taken and posted."""
+    said = []
+    for number, text in enumerate(lines.split(b"\n"), 1):
         text = text.removesuffix(b"\r")
         if not text:
             continue
@@ -99,6 +98,12 @@ def replies(session):
         else:
             said += arrival(museum, taken, posted, line["station"], line["n"], line["message"])
     return said
+
+
+def replies(session):
+    """What is said to a session: a setup without fault, an empty line, and lines."""
+    head, _, rest = session.partition(b"\n\n")
+    return answers(museum_of(head.decode()), [], [], rest)
 
 
 EVENTS = ["Applied", "UnknownThing", "UnknownPlace", "ElsewherePlace", "UnknownContainer", "UnknownLoan", "LoanKnown",

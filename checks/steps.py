@@ -2,9 +2,9 @@
 """Runs the cases that take several runs of the program, as days over one store.
 
 Usage: steps.py PROGRAM CASE.. A case is a folder whose files are copied to where the program runs. Run K has its words in
-K.args, one a line, of which a last one `< FILE` names what it is given, and may have K.stdin, K.stdout, K.stderr and K.status:
-nothing, nothing, nothing and 0 where they aren't there. It may have environment variables in K.env, as lines NAME=VALUE; no
-other variable PAIRSALDER_.. is set. Each case prints its name and ok or FAILED; the last line is 'N passed, M failed'."""
+K.args, one a line. A last one `< FILE` names what it is given, and a last one `> FILE` the file that gets its output. It may have
+K.stdin, K.stdout, K.stderr and K.status: nothing, nothing, nothing and 0 where they aren't there. It may have environment variables
+in K.env, as lines NAME=VALUE; no other variable PAIRSALDER_.. is set. Each case prints its name and ok or FAILED; the last line is 'N passed, M failed'."""
 import os
 import shutil
 import subprocess
@@ -28,12 +28,17 @@ def environment(folder, step):
 
 def is_right(program, folder, step):
     """Whether a run writes and answers what it has to."""
-    words, given = text(folder, f"{step}.args").decode().splitlines(), f"{step}.stdin"
+    words, given, target = text(folder, f"{step}.args").decode().splitlines(), f"{step}.stdin", None
     if words and words[-1].startswith("< "):
         given = words.pop()[2:]
+    if words and words[-1].startswith("> "):
+        target = words.pop()[2:]
     ran = subprocess.run(
         [program, *words], cwd=folder, env=environment(folder, step), input=text(folder, given), capture_output=True
     )
+    if target:
+        with open(os.path.join(folder, target), "wb") as file:
+            file.write(ran.stdout)
     wanted = (int(text(folder, f"{step}.status") or b"0"), text(folder, f"{step}.stdout"), text(folder, f"{step}.stderr"))
     said = (ran.returncode, ran.stdout, ran.stderr)
     if said != wanted:

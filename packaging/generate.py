@@ -64,7 +64,7 @@ def argument(term, told, names):
     listed = choices[1].split(", ") if choices else []
     if value and value[1] == "TOPIC":
         # 'setup, lines, or a command'
-        listed = [*told.split(", ")[:-1], *names]
+        listed = [*dict.fromkeys([*told.split(", ")[:-1], *names])]
     told = told.replace(choices[0], "") if choices else told
     named = re.findall(r"--?\w[\w-]*", term)
     return Argument(named, value[1] if value else "", "..." in term, told, listed)
@@ -87,7 +87,8 @@ def read(program):
     """The program as a whole, and each of its commands."""
     text = printed(program, "--help")
     about = dict(rows(text, "Commands"))
-    commands = [command(name, printed(program, "help", name), [*about]) for name in about]
+    # `help setup` is the page of the topic
+    commands = [command(name, printed(program, name, "--help"), [*about]) for name in about]
     for it in commands:
         it.about = about[it.name]
     return command(NAME, text), commands

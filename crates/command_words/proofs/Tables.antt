@@ -20,6 +20,8 @@ is_simple name.Away = refl
 is_simple name.History = refl
 is_simple name.Migrate = refl
 is_simple name.Copy = refl
+is_simple name.Grow = refl
+is_simple name.Setup = refl
 is_simple name.Explain = refl
 is_simple name.Stations = refl
 is_simple name.Where = refl
@@ -42,6 +44,8 @@ is_plain name.Away = refl
 is_plain name.History = refl
 is_plain name.Migrate = refl
 is_plain name.Copy = refl
+is_plain name.Grow = refl
+is_plain name.Setup = refl
 is_plain name.Explain = refl
 is_plain name.Stations = refl
 is_plain name.Where = refl
@@ -71,8 +75,8 @@ simple_overview app e = ap is_simple_and_free e ∙ overview_is_simple
 -- the commands of the overview, in its order
 abbrev pub all : List Name
 all = name.Replay ∷ name.Serve ∷ name.Count ∷ name.Overdue ∷ name.Away ∷ name.History
-    ∷ name.Migrate ∷ name.Copy ∷ name.Explain ∷ name.Stations ∷ name.Where ∷ name.Contents
-    ∷ name.Loan ∷ name.At ∷ name.Posted ∷ name.Loans ∷ name.Dues ∷ name.Why ∷ []
+    ∷ name.Migrate ∷ name.Copy ∷ name.Grow ∷ name.Setup ∷ name.Explain ∷ name.Stations
+    ∷ name.Where ∷ name.Contents ∷ name.Loan ∷ name.At ∷ name.Posted ∷ name.Loans ∷ name.Dues ∷ name.Why ∷ []
 
 all_is_overview : with_commands program_alone all ≡ overview
 unfolding app_by
@@ -111,6 +115,8 @@ app_is name.Away = refl
 app_is name.History = refl
 app_is name.Migrate = refl
 app_is name.Copy = refl
+app_is name.Grow = refl
+app_is name.Setup = refl
 app_is name.Explain = refl
 app_is name.Stations = refl
 app_is name.Where = refl

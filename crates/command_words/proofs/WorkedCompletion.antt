@@ -128,3 +128,14 @@ pub count_missing : missing_values (codes "count" ∷ codes "--store=b" ∷ [])
     ≡ codes "setup" ∷ codes "list" ∷ []
 unfolding clap_on_literals register_app report_app
 count_missing = refl
+
+-- only the store is filled in for setup
+pub setup_store_filled : completed (codes "setup" ∷ []) own_setup own_store
+    ≡ codes "setup" ∷ codes "--store" ∷ codes "m.db" ∷ []
+unfolding register_app report_app
+setup_store_filled = refl
+
+-- setup alone: the store is missing
+pub setup_missing : missing_values (codes "setup" ∷ []) ≡ codes "store" ∷ []
+unfolding clap_on_literals register_app report_app
+setup_missing = refl

@@ -6,8 +6,8 @@ use Rattle.clap.specs.Words.{Text, matches_of, new_app}
 use Rattle.clap.proofs.OnLiterals.{clap_on_literals}
 use Rattle.clap.specs.declared.error.kind.ErrorKind.TheVariants.{ArgumentConflict, InvalidValue}
 use Rattle.clap.specs.declared.error.kind.ErrorKind.TheVariants.{UnknownArgument}
-use Rattle.command_words.specs.Commands.{away, copy, explain, help, posted, register_app, replay}
-use Rattle.command_words.specs.Commands.{report_app, serve}
+use Rattle.command_words.specs.Commands.{away, copy, explain, grow, help, posted, print_setup}
+use Rattle.command_words.specs.Commands.{register_app, replay, report_app, serve}
 use Rattle.command_words.specs.Tables.{with_arguments}
 use Rattle.command_words.specs.Words.{form_named, format_in, is_given, lacks, refusals}
 use Rattle.command_words.specs.Words.{report_kinds}
@@ -239,3 +239,33 @@ name_word = record {
 
 pub explain_arguments : with_arguments (new_app (codes "explain")) (name_word ∷ []) ≡ explain.app
 explain_arguments = refl
+
+-- grow --setup a --store b --check, and without the flag
+abbrev grow_words : List Text
+grow_words = codes "grow" ∷ codes "--setup=a" ∷ codes "--store=b" ∷ []
+
+pub grow_checks : is_given grow.app (grow_words ++ codes "--check" ∷ []) (codes "check") ≡ true
+unfolding clap_on_literals register_app report_app
+grow_checks = refl
+
+pub grow_adds : is_given grow.app grow_words (codes "check") ≡ false
+unfolding clap_on_literals register_app report_app
+grow_adds = refl
+
+pub grow_has_all : lacks (form_named grow_words) grow_words ≡ false
+unfolding clap_on_literals register_app report_app
+grow_has_all = refl
+
+-- setup --store b, and setup alone; it has no --setup
+pub setup_store : value print_setup.app (codes "setup" ∷ codes "-d" ∷ codes "b" ∷ [])
+    (codes "store") ≡ Some (codes "b")
+unfolding clap_on_literals
+setup_store = refl
+
+pub setup_alone_lacks : lacks (form_named (codes "setup" ∷ [])) (codes "setup" ∷ []) ≡ true
+unfolding clap_on_literals register_app report_app
+setup_alone_lacks = refl
+
+pub setup_of_a_setup : refusals (codes "setup" ∷ codes "--setup=a" ∷ []) ≡ UnknownArgument ∷ []
+unfolding clap_on_literals register_app report_app
+setup_of_a_setup = refl

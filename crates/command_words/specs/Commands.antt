@@ -1,4 +1,4 @@
--- Defines the nineteen commands: the arguments that `clap` knows of each, and the values that each
+-- Defines the twenty-one commands: the arguments that `clap` knows of each, and the values that each
 -- needs.
 use Rattle.std.specs.Prelude.{◌∷◌, [], ℕ, Bool, List, Some, codes, map, true, false}
 use Rattle.clap.specs.Words.{App, Rule, Text, new_app, new_rule, with_rule}
@@ -100,6 +100,14 @@ migrate = both_needed (register_app (codes "migrate"))
 abbrev pub copy : Form
 copy = all_needed (with_rule (register_app (codes "copy")) (option_rule (codes "to"))) (codes "to")
 
+abbrev pub grow : Form
+grow = both_needed (with_rule (register_app (codes "grow")) (flag_rule (codes "check")))
+
+-- The command `setup`, which has a store only.
+abbrev pub print_setup : Form
+print_setup = one_needed (with_rule (new_app (codes "setup")) (file_rule (codes "store") 100))
+    (codes "store")
+
 abbrev pub explain : Form
 explain = one_needed (with_rule (new_app (codes "explain")) (word_rule (codes "name")))
     (codes "name")
@@ -165,7 +173,7 @@ why = report
 -- The commands other than `help`.
 abbrev pub listed : List Form
 listed = replay ∷ serve ∷ count ∷ overdue ∷ away ∷ history ∷ migrate
-    ∷ copy ∷ explain ∷ stations ∷ where_is ∷ contents ∷ loan ∷ at ∷ posted
+    ∷ copy ∷ grow ∷ print_setup ∷ explain ∷ stations ∷ where_is ∷ contents ∷ loan ∷ at ∷ posted
     ∷ loans ∷ dues ∷ why ∷ []
 
 abbrev pub commands : List Form

@@ -2,7 +2,7 @@
 use Rattle.std.specs.Prelude.{◌∷◌, [], List}
 use Rattle.clap.specs.Words.{App, Rule, Text, with_rule, with_subcommand}
 use Rattle.command_words.specs.Commands.{Form, at, away, contents, copy, count, explain, file_rule}
-use Rattle.command_words.specs.Commands.{dues, flag_rule, loans, why}
+use Rattle.command_words.specs.Commands.{dues, flag_rule, grow, loans, print_setup, why}
 use Rattle.command_words.specs.Commands.{help, history, loan, migrate, option_rule, overdue, posted}
 use Rattle.command_words.specs.Commands.{replay, serve, stations, where_is, word_rule, words_rule}
 use Rattle.command_words.specs.declared.options.Argument.{Argument}
@@ -39,6 +39,8 @@ app_by name.Away = away.app
 app_by name.History = history.app
 app_by name.Migrate = migrate.app
 app_by name.Copy = copy.app
+app_by name.Grow = grow.app
+app_by name.Setup = print_setup.app
 app_by name.Explain = explain.app
 app_by name.Stations = stations.app
 app_by name.Where = where_is.app
@@ -61,6 +63,8 @@ form_by name.Away = away
 form_by name.History = history
 form_by name.Migrate = migrate
 form_by name.Copy = copy
+form_by name.Grow = grow
+form_by name.Setup = print_setup
 form_by name.Explain = explain
 form_by name.Stations = stations
 form_by name.Where = where_is

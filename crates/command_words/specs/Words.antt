@@ -20,7 +20,7 @@ use Rattle.clap.specs.declared.error.kind.ErrorKind.TheVariants.{DisplayVersion,
 use Rattle.command_words.specs.Commands.{Form, at, away, commands, contents, copy, count, explain}
 use Rattle.command_words.specs.Commands.{help, history, loan, migrate, overdue, overview, posted}
 use Rattle.command_words.specs.Commands.{replay, serve}
-use Rattle.command_words.specs.Commands.{dues, loans, stations, where_is, why}
+use Rattle.command_words.specs.Commands.{dues, grow, loans, print_setup, stations, where_is, why}
 use Rattle.command_words.specs.declared.command.Report.{Report}
 use Rattle.command_words.specs.declared.command.Format.{Format}
 use Rattle.command_words.specs.declared.command.Format.TheVariants.{Csv, Json, Lines, Table}
@@ -160,6 +160,12 @@ IsChosen words (command.Copy setup store to) = IsNamed words (codes "copy")
     × (value copy.app words (codes "setup") ≡ Some setup.now)
     × (value copy.app words (codes "store") ≡ Some store.now)
     × (value copy.app words (codes "to") ≡ Some to.now)
+IsChosen words (command.Grow setup store check) = IsNamed words (codes "grow")
+    × (value grow.app words (codes "setup") ≡ Some setup.now)
+    × (value grow.app words (codes "store") ≡ Some store.now)
+    × (is_given grow.app words (codes "check") ≡ check)
+IsChosen words (command.Setup store) = IsNamed words (codes "setup")
+    × (value print_setup.app words (codes "store") ≡ Some store.now)
 IsChosen words (command.Explain name) = IsNamed words (codes "explain")
     × (value explain.app words (codes "name") ≡ Some name.now)
 IsChosen words (command.Help topic) = IsNamed words (codes "help")

@@ -58,11 +58,18 @@ pub(crate) const TO: Argument = Argument {
     help: "The new file for the copy",
 };
 
+pub(crate) const CHECK: Argument = Argument {
+    kind: Kind::Flag,
+    id: "check",
+    value: "",
+    help: "Print what would be added, and change nothing",
+};
+
 pub(crate) const WORD: Argument = Argument {
     kind: Kind::Word,
     id: "name",
     value: "NAME",
-    help: "A word that the program prints, for example NotListed",
+    help: "A word of a reply, a report or a fault, for example NotListed",
 };
 
 pub(crate) const TOPIC: Argument = Argument {

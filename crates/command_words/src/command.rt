@@ -118,6 +118,17 @@ pub enum Chosen<'a> {
         store: &'a str,
         to: &'a str,
     },
+    /// Adds what the setup file lists to the store's setup. With `check` it prints what it would
+    /// add, and changes nothing.
+    Grow {
+        setup: &'a str,
+        store: &'a str,
+        check: bool,
+    },
+    /// Prints the store's setup.
+    Setup {
+        store: &'a str,
+    },
     /// Explains a word that the program prints.
     Explain {
         name: &'a str,

@@ -83,6 +83,10 @@ fn takes_option(name: Name, option: FileOption) -> bool
     match name {
         Name::Explain => false,
         Name::Help => false,
+        Name::Setup => match option {
+            FileOption::Setup => false,
+            FileOption::Store => true,
+        },
         _ => true,
     }
 }

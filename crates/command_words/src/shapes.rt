@@ -7,10 +7,12 @@ ghost use Rattle.command_words.specs.Tables.{app_by, form_by, with_arguments};
 ghost use Rattle.command_words.specs.Words.{form_named, texts_of};
 
 use crate::arguments::{
-    BY, CONTAINER, DAY, DUE, ENTRY, EXPLAINED, FEEDS, FROM, LIST, LOAN, LONG, OF_LOAN, OF_THING,
-    ON, OPEN, PLACE, PROGRESS, REFUSED, SEALED, STATION, STRICT, THING, TO, TO_ENTRY, TOPIC, WORD,
+    BY, CHECK, CONTAINER, DAY, DUE, ENTRY, EXPLAINED, FEEDS, FROM, LIST, LOAN, LONG, OF_LOAN,
+    OF_THING, ON, OPEN, PLACE, PROGRESS, REFUSED, SEALED, STATION, STRICT, THING, TO, TO_ENTRY,
+    TOPIC, WORD,
 };
 use crate::options::{Argument, CSV, JSON, SETUP, STORE, TABLE, UPTO, made, with_help};
+use crate::report_texts;
 use crate::texts::{self, Help};
 use clap::Command;
 use std::alloc::{AllocError, Global};
@@ -29,6 +31,8 @@ pub(crate) enum Name {
     History,
     Migrate,
     Copy,
+    Grow,
+    Setup,
     Explain,
     Stations,
     Where,
@@ -43,7 +47,7 @@ pub(crate) enum Name {
 }
 
 /// The commands in the order of the help. `help` is left out, because `clap` adds it.
-const NAMES: [Name; 18] = [
+const NAMES: [Name; 20] = [
     Name::Replay,
     Name::Serve,
     Name::Count,
@@ -52,6 +56,8 @@ const NAMES: [Name; 18] = [
     Name::History,
     Name::Migrate,
     Name::Copy,
+    Name::Grow,
+    Name::Setup,
     Name::Explain,
     Name::Stations,
     Name::Where,
@@ -77,6 +83,8 @@ fn word_of(name: Name) -> &'static str
         Name::History => "history",
         Name::Migrate => "migrate",
         Name::Copy => "copy",
+        Name::Grow => "grow",
+        Name::Setup => "setup",
         Name::Explain => "explain",
         Name::Stations => "stations",
         Name::Where => "where",
@@ -126,7 +134,8 @@ pub(crate) fn needs_of(name: Name) -> &'static [&'static str]
         Name::Replay | Name::Serve => &["setup"],
         Name::Count => &["setup", "store", "list"],
         Name::Overdue => &["setup", "store", "on"],
-        Name::Away | Name::Migrate | Name::Stations | Name::Posted | Name::Loans => {
+        Name::Setup => &["store"],
+        Name::Away | Name::Migrate | Name::Grow | Name::Stations | Name::Posted | Name::Loans => {
             &["setup", "store"]
         }
         Name::Dues => &["setup", "store", "by"],
@@ -144,22 +153,24 @@ fn help_of(name: Name) -> &'static Help {
     match name {
         Name::Replay => &texts::REPLAY,
         Name::Serve => &texts::SERVE,
-        Name::Count => &texts::COUNT,
-        Name::Overdue => &texts::OVERDUE,
-        Name::Away => &texts::AWAY,
-        Name::History => &texts::HISTORY,
+        Name::Count => &report_texts::COUNT,
+        Name::Overdue => &report_texts::OVERDUE,
+        Name::Away => &report_texts::AWAY,
+        Name::History => &report_texts::HISTORY,
         Name::Migrate => &texts::MIGRATE,
         Name::Copy => &texts::COPY,
+        Name::Grow => &texts::GROW,
+        Name::Setup => &texts::SETUP,
         Name::Explain => &texts::EXPLAIN,
-        Name::Stations => &texts::STATIONS,
-        Name::Where => &texts::WHERE,
-        Name::Contents => &texts::CONTENTS,
-        Name::Loan => &texts::LOAN,
-        Name::At => &texts::AT,
-        Name::Posted => &texts::POSTED,
-        Name::Loans => &texts::LOANS,
-        Name::Dues => &texts::DUES,
-        Name::Why => &texts::WHY,
+        Name::Stations => &report_texts::STATIONS,
+        Name::Where => &report_texts::WHERE,
+        Name::Contents => &report_texts::CONTENTS,
+        Name::Loan => &report_texts::LOAN,
+        Name::At => &report_texts::AT,
+        Name::Posted => &report_texts::POSTED,
+        Name::Loans => &report_texts::LOANS,
+        Name::Dues => &report_texts::DUES,
+        Name::Why => &report_texts::WHY,
         Name::Help => &texts::HELP,
     }
 }
@@ -178,6 +189,8 @@ fn arguments_of(name: Name) -> &'static [Argument]
         Name::History => &[SETUP, STORE, THING, LONG, UPTO, CSV, JSON, TABLE],
         Name::Migrate => &[SETUP, STORE],
         Name::Copy => &[SETUP, STORE, TO],
+        Name::Grow => &[SETUP, STORE, CHECK],
+        Name::Setup => &[STORE],
         Name::Explain => &[WORD],
         Name::Stations => &[SETUP, STORE, UPTO, CSV, JSON, TABLE],
         Name::Where => &[SETUP, STORE, THING, UPTO, CSV, JSON, TABLE],

@@ -10,7 +10,7 @@ ghost use Rattle.command_words.specs.Words.{refusals, texts_of};
 use crate::questions::{
     at, contents, dues, explain, help, loan, loans, posted, stations, where_is, why,
 };
-use crate::reading::{all, files_of, is_set, needed, one, read, read_by, record_of};
+use crate::reading::{all, files_of, is_set, needed, one, read, read_by, read_word, record_of};
 use crate::report_reading::{read_report, read_report_and, read_report_and_flag};
 use crate::shapes::{self, Name, find_command};
 use crate::{Asked, Chosen, WordsFault};
@@ -50,6 +50,8 @@ fn named<'a>(alloc: Global, name: Name, words: &'a [&'a str]) -> Result<Chosen<'
         Name::History => history(alloc, words),
         Name::Migrate => migrate(alloc, words),
         Name::Copy => copy(alloc, words),
+        Name::Grow => grow(alloc, words),
+        Name::Setup => print_setup(alloc, words),
         Name::Explain => explain(alloc, words),
         Name::Stations => stations(alloc, words),
         Name::Where => where_is(alloc, words),
@@ -157,6 +159,32 @@ fn copy<'a>(alloc: Global, words: &'a [&'a str]) -> Result<Chosen<'a>, WordsFaul
         setup: record.setup,
         store: record.store,
         to: needed(to)?,
+    })
+}
+
+fn grow<'a>(alloc: Global, words: &'a [&'a str]) -> Result<Chosen<'a>, WordsFault>
+    requires { IsNamed (texts_of words.now) (codes "grow") }
+    ensures { Chooses (Some commands.grow) (texts_of words.now) result }
+{
+    let matches = read(alloc, Name::Grow, words)?;
+    let files = files_of(&matches);
+    let check = is_set(&matches, "check");
+    drop(matches);
+    let record = record_of(files)?;
+    Ok(Chosen::Grow {
+        setup: record.setup,
+        store: record.store,
+        check,
+    })
+}
+
+fn print_setup<'a>(alloc: Global, words: &'a [&'a str]) -> Result<Chosen<'a>, WordsFault>
+    requires { IsNamed (texts_of words.now) (codes "setup") }
+    ensures { Chooses (Some commands.print_setup) (texts_of words.now) result }
+{
+    let store = read_word(alloc, Name::Setup, words, "store")?;
+    Ok(Chosen::Setup {
+        store: needed(store)?,
     })
 }
 

@@ -73,6 +73,18 @@ pub(crate) const INPUT_FAULTS: &[Meaning] = &[
         action: "split the list. A museum over the limits needs two records.",
     },
     Meaning {
+        word: "OtherSide",
+        means: "the record has this place with the other word, inside or elsewhere",
+        cause: "the wrong word in the row, or a code that another place has already.",
+        action: "correct the word. A new place needs a code of its own.",
+    },
+    Meaning {
+        word: "TooManyGrowths",
+        means: "the record's setup has grown 10000 times, the limit",
+        cause: "a program calls 'pairsalder grow' for every single row.",
+        action: "begin a new record. Add many rows at a time.",
+    },
+    Meaning {
         word: "NoStation",
         means: "the setup lists no station",
         cause: "the file is empty, or has no row like station,GAL.",
@@ -163,14 +175,14 @@ pub(crate) const RUN_FAULTS: &[Meaning] = &[
     },
     Meaning {
         word: "number",
-        means: "the text after --from is not a number",
-        cause: "a typing error, or the number of a message instead of an entry.",
-        action: "write the number of an entry, for example --from 100.",
+        means: "the text after --from, --to, --upto or why is not a number",
+        cause: "a typing error, for example a letter O in place of a 0.",
+        action: "write the number of an entry, for example --from 100 or why 17.",
     },
     Meaning {
         word: "name",
         means: "explain does not know this word",
-        cause: "a typing error, or a word that the program does not print.",
+        cause: "a typing error, or the word is not of a reply, a report or a fault.",
         action: "copy the word from the reply. The help: line suggests a similar one.",
     },
     Meaning {

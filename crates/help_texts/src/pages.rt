@@ -27,8 +27,9 @@ station, place and thing of the museum:
   lent,L1999.7               a borrowed object
 
 Put a place before the objects that have it as their normal location. The limits
-are 64 stations, 10000 places and 100000 things. A record keeps the setup that
-it began with: list everything, and keep the file.
+are 64 stations, 10000 places and 100000 things. To add rows to the setup of a
+record, use 'pairsalder grow'. Every other command needs the whole setup, which
+'pairsalder setup' prints.
 
 Each code has one spelling. A number is 1 to 999999, without leading
 zeros.
@@ -41,8 +42,9 @@ zeros.
   loan        LO2024.1, LI2024.1    LO out, LI in; year and number
   day         2024-05-31            year, month and day
 
-Example: begin a record, and see whether a row of the setup is wrong
+Examples: begin a record, and see whether a row is wrong; print a record's setup
   pairsalder replay --setup museum.csv --store museum.db < /dev/null
+  pairsalder setup --store museum.db > museum.csv
 ";
 
 const LINES: &str = "\
@@ -121,7 +123,8 @@ number.
 
 const FILES: &str = "\
 Between runs the store is one file, here museum.db, and it is the whole record.
-Keep the setup with it, here museum.csv: every command needs both.
+Keep the setup with it, here museum.csv: every command needs both. If it is
+lost, 'pairsalder setup --store museum.db > museum.csv' prints it again.
 
 Back up. This checks the whole record, and writes it to one new file:
 

@@ -8,7 +8,8 @@ pub(crate) const REFUSALS: &[Meaning] = &[
         word: "UnknownStation",
         means: "the setup does not list the station",
         cause: "a mistyped name. Capitals and dashes count.",
-        action: "correct the name, and send the line again.",
+        action: "correct the name, or add the station with 'pairsalder grow'; then send the\n\
+            line again.",
     },
     Meaning {
         word: "BadNumber",

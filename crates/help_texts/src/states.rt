@@ -25,8 +25,8 @@ pub(crate) const ANSWERS: &[Meaning] = &[
     Meaning {
         word: "unknown",
         means: "the setup does not list the thing, or the loan is not agreed",
-        cause: "a mistyped code, or the setup of another record.",
-        action: "correct the code.",
+        cause: "a mistyped code, or a thing that is not in the setup yet.",
+        action: "correct the code, or add the thing with 'pairsalder grow'.",
     },
     Meaning {
         word: "ask",
@@ -50,7 +50,7 @@ pub(crate) const ANSWERS: &[Meaning] = &[
         word: "full",
         means: "the station has used number 999999, its last",
         cause: "it has sent as many messages as a station can.",
-        action: "send from another station of the setup.",
+        action: "send from another station. 'pairsalder grow' adds one.",
     },
     Meaning {
         word: "signed off",
@@ -155,6 +155,6 @@ pub(crate) const COUNT_ANSWERS: &[Meaning] = &[
         word: "UnknownObject",
         means: "the setup does not list the thing",
         cause: "a mistyped code on the list, or a thing that is not in the setup.",
-        action: "correct the code, and count again.",
+        action: "correct the code, or add the thing with 'pairsalder grow'; then count again.",
     },
 ];

@@ -2,7 +2,7 @@
 
 use crate::Meaning;
 
-/// The faults of a store, and the words `copied`, `migrated` and `note`.
+/// The faults of a store, and the words `copied`, `migrated`, `grown`, `grew` and `note`.
 pub(crate) const STORE_FAULTS: &[Meaning] = &[
     Meaning {
         word: "Store",
@@ -13,10 +13,10 @@ pub(crate) const STORE_FAULTS: &[Meaning] = &[
     },
     Meaning {
         word: "OtherSetup",
-        means: "the record began with another setup",
-        cause: "the setup file was changed, or is that of another record.",
-        action: "use the setup file that the record began with. To list more things, begin\n\
-            a new record.",
+        means: "the store has another setup",
+        cause: "the file was changed, is of another record, or lacks what was added.",
+        action: "use the file that 'pairsalder setup --store FILE' prints, with your store as\n\
+            FILE. To add to the setup, use 'pairsalder grow'.",
     },
     Meaning {
         word: "OtherVersion",
@@ -42,6 +42,18 @@ pub(crate) const STORE_FAULTS: &[Meaning] = &[
         means: "the store has version 2",
         cause: "it was migrated now, or already had it.",
         action: "nothing.",
+    },
+    Meaning {
+        word: "grown",
+        means: "the record's setup has grown, after the entry of this number",
+        cause: "'pairsalder grow' found new rows, or new normal locations.",
+        action: "print the whole list with 'pairsalder setup', and use it from now on.",
+    },
+    Meaning {
+        word: "grew",
+        means: "a row of the store's table setup: how the setup grew",
+        cause: "'pairsalder grow'. The row has the entries, places and things until then.",
+        action: "nothing. A setup file has no row of this kind.",
     },
     Meaning {
         word: "note",

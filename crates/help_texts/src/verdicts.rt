@@ -14,15 +14,16 @@ pub const VERDICTS: &[Meaning] = &[
     Meaning {
         word: "UnknownThing",
         means: "the setup does not list the thing, or one of the objects",
-        cause: "a mistyped number, or a thing that is not in the setup.",
-        action: "send the right number under the station's next number. The setup of a\n\
-            record is fixed: for a new thing, begin a new record.",
+        cause: "a mistyped number, or a thing that was not in the setup yet.",
+        action: "correct the number, or add the thing with 'pairsalder grow'; then send the\n\
+            message again, under the station's next number.",
     },
     Meaning {
         word: "UnknownPlace",
         means: "the setup does not list the place, or the partner's",
-        cause: "a mistyped code, in a message or a count list.",
-        action: "correct the code; send the message under the station's next number.",
+        cause: "a mistyped code, or a place that was not in the setup yet.",
+        action: "correct the code, or add the place with 'pairsalder grow'; then send the\n\
+            message again, under the station's next number, or count again.",
     },
     Meaning {
         word: "ElsewherePlace",
@@ -34,8 +35,9 @@ pub const VERDICTS: &[Meaning] = &[
     Meaning {
         word: "UnknownContainer",
         means: "the setup does not list the container, or it is an object",
-        cause: "a mistyped code, or an object's number in place of a crate's.",
-        action: "send the pack with the right code, under the station's next number.",
+        cause: "a mistyped code, an object's number, or a crate not in the setup yet.",
+        action: "correct the code, or add the container with 'pairsalder grow'; then send the\n\
+            pack again, under the station's next number.",
     },
     Meaning {
         word: "UnknownLoan",

@@ -4,12 +4,14 @@ use Rattle.std.specs.Prelude.{ℕ, ◌≡◌, List, Option, Some, None}
 use Rattle.command_words.specs.Words.{text_of}
 use Rattle.command_words.specs.declared.command.Chosen.{Chosen}
 use Rattle.command_words.specs.declared.command.Chosen.TheVariants.{Replay, Serve, Migrate, Copy}
-use Rattle.command_words.specs.declared.command.Chosen.TheVariants.{Report, Explain, Help}
+use Rattle.command_words.specs.declared.command.Chosen.TheVariants.{Grow, Setup, Report, Explain}
+use Rattle.command_words.specs.declared.command.Chosen.TheVariants.{Help}
 use Rattle.hub_core.specs.declared.outcome.Outcome.{Outcome}
 use Rattle.hub_program.specs.declared.ending.Ending.{Ending}
 use Rattle.hub_program.specs.declared.ending.Ending.TheVariants.{Done, NotApplied, Printed}
 use Rattle.hub_program.specs.declared.store.ClosedStore.{ClosedStore}
 use Rattle.nest_core.specs.Museum.{Museum}
+use Rattle.nest_core.specs.declared.growth.Growth.{Growth}
 use Rattle.register_sql.specs.Migrating.{Migrates}
 use Rattle.register_sql.specs.Runs.{IsCopied, IsFoundIn}
 use Rattle.register_sql.specs.Stores.{no_rows}
@@ -29,6 +31,8 @@ store_of (Replay setup store progress strict why) = text_of store
 store_of (Serve setup store feeds) = text_of store
 store_of (Migrate setup store) = Some store.now
 store_of (Copy setup store to) = Some store.now
+store_of (Grow setup store check) = Some store.now
+store_of (Setup store) = Some store.now
 store_of (Report report asked) = Some report.store.now
 store_of (Explain name) = None
 store_of (Help topic) = None
@@ -42,6 +46,10 @@ abbrev pub kept_in : Ending → Option (List ℕ)
 kept_in (Done store) = path_of store
 kept_in (NotApplied store) = path_of store
 kept_in (Printed status) = None
+
+-- The setup of a record: it lists what the setup file lists, and has grown as the store says.
+abbrev pub grown_by : List Growth → Museum → Museum
+grown_by growths S = record S { growths = growths }
 
 -- The register has the record that the files held, and has changed none of its rows.
 pub record IsRecordIn {R : Type 0} (holding : R → Holding) (image : Image) (register : R)

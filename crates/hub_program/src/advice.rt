@@ -3,7 +3,7 @@
 use codes_core::{PlaceCode, ThingCode};
 use count_core::CountFault;
 use csv::{ByteRecord, ReaderBuilder};
-use nest_core::{SetupFault, field, field_count};
+use nest_core::{GrowFault, MOST_GROWTHS, SetupFault, field, field_count};
 use std::alloc::{AllocError, Global};
 use std::io::ErrorKind;
 use work_core::visible::add_quoted;
@@ -70,6 +70,34 @@ pub fn on_setup(alloc: Global, path: &str, bytes: &[u8], fault: SetupFault) -> A
     let mut text = format!(in alloc; "{path} row {number}: ").ok()?;
     add_on_setup_row(&mut text, &row, fault).ok()?;
     Some(text)
+}
+
+/// Returns the advice on a file by which a setup can't grow: the field that is wrong, and what it
+/// has to be.
+pub fn on_growth(alloc: Global, path: &str, bytes: &[u8], fault: GrowFault) -> Advice {
+    match fault {
+        GrowFault::Setup(fault) => on_setup(alloc, path, bytes, fault),
+        GrowFault::OtherSide(number) => {
+            let row = row(alloc, bytes, number)?;
+            let mut text = format!(in alloc; "{path} row {number}: ").ok()?;
+            add_on_other_side(&mut text, &row).ok()?;
+            Some(text)
+        }
+        GrowFault::TooManyGrowths => {
+            format!(in alloc; "a setup can grow {MOST_GROWTHS} times: begin a new store").ok()
+        }
+    }
+}
+
+/// Appends that the store has the place with the other word.
+fn add_on_other_side(text: &mut String, row: &ByteRecord) -> Result<(), AllocError> {
+    add_field(text, row, 1)?;
+    text.push_str(" is on record as ")?;
+    text.push_str(match field(row, 2) {
+        b"inside" => "elsewhere",
+        _ => "inside",
+    })?;
+    text.push_str(", which can't change: give the new place another code")
 }
 
 /// Returns the advice on a faulty count list: the field that is wrong, and what it has to be.

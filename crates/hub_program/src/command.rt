@@ -8,6 +8,7 @@ use crate::ending::{Ending, noted_status, refuse, status};
 use crate::explain::explain;
 use crate::fault::CommandFault;
 use crate::files::{read_feeds, read_setup};
+use crate::growing::{grown, listed};
 use crate::help::help;
 use crate::lines::write_line;
 use crate::progress::Progress;
@@ -131,6 +132,18 @@ fn perform<
         }
         Chosen::Copy { setup, store, to } => {
             let closed = copied(rt, setup, store, to, start, again, output)?;
+            Ok(Ending::Done(Some(closed)))
+        }
+        Chosen::Grow {
+            setup,
+            store,
+            check,
+        } => {
+            let closed = grown(rt, setup, store, *check, start, output)?;
+            Ok(Ending::Done(Some(closed)))
+        }
+        Chosen::Setup { store } => {
+            let closed = listed(rt, store, start, output)?;
             Ok(Ending::Done(Some(closed)))
         }
         Chosen::Report(report, asked) => reported(
@@ -309,9 +322,7 @@ fn migrated<'a, S: Start, W: Write>(
     ensures { IfOk result (λ closed. closed.path ≡ store.entry) }
 {
     let setup = read_setup(rt, rt.alloc(), setup)?;
-    let ended = store::migrate(rt, store, start, &setup);
-    drop(setup);
-    let closed = ended?;
+    let closed = store::migrate(rt, store, start, setup)?;
     write_line(output, "migrated\n")?;
     Ok(closed)
 }

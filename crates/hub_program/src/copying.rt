@@ -1,13 +1,12 @@
 //! Copies a store to one new file, and checks the copy.
 ghost use Rattle.std.specs.Prelude.{◌≡◌, IfOk, IsTrue};
-ghost use Rattle.nest_core.specs.SetupRows.{museum_of, rows_of};
 
 use crate::advice::{Advice, folder_of, on_target};
 use crate::fault::CommandFault;
-use crate::files::{read_file, setup_in};
-use crate::store::{Begins, ClosedStore, OpenStore, open};
+use crate::files::read_setup;
+use crate::judging::judged;
+use crate::store::{Begins, ClosedStore, OpenStore, open, other_setup};
 use copy_core::{PourFault, opens_to, pour};
-use hub_core::Hub;
 use nest_core::Setup;
 use posting_core::Ledger;
 use register_store::{Register, StoreFault};
@@ -48,16 +47,14 @@ pub fn copied<'a, S: Start, U: Start, W: Write>(
     ensures { IfOk result (λ closed. closed.path ≡ path.entry) }
 {
     let alloc = rt.alloc();
-    let bytes = read_file(rt, setup)?;
-    let first = setup_in(alloc, setup, bytes.as_slice())?;
+    let setup = read_setup(rt, alloc, setup)?;
     refuse_target(rt, to)?;
     let store = open(rt, path, start, Begins::Nothing)?;
-    let (ledger, mut files, closed) = judged_and_closed(rt, first, store)?;
+    let (ledger, mut files, closed) = judged_and_closed(rt, setup, store)?;
     let part = format!(in alloc; "{to}.part")?;
     let held = write_part(rt, path, &part, &mut files)?;
     drop(files);
-    let second = setup_in(alloc, setup, bytes.as_slice())?;
-    compare(rt, &part, again, second, &ledger)?;
+    compare(rt, &part, again, ledger.setup().copy()?, &ledger)?;
     publish(rt, &part, to)?;
     drop(held);
     let count = ledger.entry_count();
@@ -75,11 +72,13 @@ fn judged_and_closed<'a, D: Disk + Drop>(
     setup: Setup,
     mut store: OpenStore<'a, D>,
 ) -> Result<(Ledger, Files<D>, ClosedStore<'a>), CommandFault>
-    ensures museum { IfOk result (λ r. r.0.museum ≡ setup) }
     ensures usable { IfOk result (λ r. IsTrue (D.Disk.is_usable r.1.db)) }
     ensures named { IfOk result (λ r. r.2.path ≡ store.entry.path) }
 {
-    let (register, judged) = judged(rt.alloc(), setup, store.register);
+    let Some(grown) = store.grown(rt, setup) else {
+        return Err(store.closed_with(rt, other_setup()));
+    };
+    let (register, judged) = judged(rt.alloc(), grown, store.register);
     store.register = register;
     match judged {
         Ok(ledger) => {
@@ -87,20 +86,6 @@ fn judged_and_closed<'a, D: Disk + Drop>(
             Ok((ledger, files, closed))
         }
         Err(fault) => Err(store.closed_with(rt, CommandFault::from(fault))),
-    }
-}
-
-/// Opens a hub over the register, which judges its entries. Returns the register, and the ledger or
-/// the fault.
-fn judged<R: Register>(alloc: Global, setup: Setup, register: R) -> (R, Result<Ledger, StoreFault>)
-    ensures { IfOk result.1 (λ ledger. ledger.museum ≡ setup) }
-{
-    match Hub::open(alloc, setup, register) {
-        Ok(hub) => {
-            let (ledger, register) = hub.into_parts();
-            (register, Ok(ledger))
-        }
-        Err(failed) => (failed.register, Err(failed.fault)),
     }
 }
 

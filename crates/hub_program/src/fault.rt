@@ -4,8 +4,9 @@ use crate::advice::Advice;
 use codes_core::{CodeFault, NoMemory};
 use count_core::CountFault;
 use hub_core::RunFault;
-use nest_core::SetupFault;
+use nest_core::{GrowFault, SetupFault};
 use register_store::StoreFault;
+use setup_reports::PrintFault;
 use std::alloc::{AllocError, AllocFailed};
 use std::io;
 use std::io::Write;
@@ -27,6 +28,8 @@ pub enum CommandFault {
     HeadTooLong,
     /// The first fault of the setup.
     Setup(SetupFault, Advice),
+    /// Why the setup of the store can't grow by the file.
+    Growth(GrowFault, Advice),
     /// The first fault of the count list.
     Counts(CountFault, Advice),
     /// The store failed, or cannot be used with this setup.
@@ -80,6 +83,15 @@ impl From<SetupFault> for CommandFault {
         match fault {
             SetupFault::NoMemory => CommandFault::NoMemory,
             _ => CommandFault::Setup(fault, None),
+        }
+    }
+}
+
+impl From<PrintFault> for CommandFault {
+    fn from(fault: PrintFault) -> CommandFault {
+        match fault {
+            PrintFault::NoMemory => CommandFault::NoMemory,
+            PrintFault::WriteFailed => CommandFault::WriteFailed,
         }
     }
 }
@@ -142,6 +154,7 @@ impl CommandFault {
             CommandFault::File(advice)
             | CommandFault::Name(advice)
             | CommandFault::Setup(_, advice)
+            | CommandFault::Growth(_, advice)
             | CommandFault::Counts(_, advice)
             | CommandFault::Store(_, advice)
             | CommandFault::Day(_, advice)
@@ -161,6 +174,7 @@ impl CommandFault {
             CommandFault::File(_) => writeln!(errors, "fault file"),
             CommandFault::HeadTooLong => writeln!(errors, "fault head"),
             CommandFault::Setup(fault, _) => write_row(errors, "setup", fault.name(), fault.row()),
+            CommandFault::Growth(fault, _) => write_growth(errors, *fault),
             CommandFault::Counts(fault, _) => write_row(
                 errors,
                 "counts",
@@ -184,6 +198,15 @@ fn write_row<W: Write>(errors: &mut W, what: &str, name: &str, row: Option<u64>)
     match row {
         Some(row) => writeln!(errors, "fault {what} {name} row {row}"),
         None => writeln!(errors, "fault {what} {name}"),
+    }
+}
+
+/// Writes the line of a fault by which the setup can't grow.
+fn write_growth<W: Write>(errors: &mut W, fault: GrowFault) -> io::Result<()> {
+    match fault {
+        GrowFault::Setup(fault) => write_row(errors, "setup", fault.name(), fault.row()),
+        GrowFault::OtherSide(row) => write_row(errors, "setup", "OtherSide", Some(row)),
+        GrowFault::TooManyGrowths => write_row(errors, "setup", "TooManyGrowths", None),
     }
 }
 

@@ -11,7 +11,7 @@ ghost use Rattle.register_sql.specs.Runs.{IsCopied};
 ghost use Rattle.register_sql.specs.Stores.{in_store};
 ghost use Rattle.register_store.specs.Holdings.{Comes};
 ghost use Rattle.register_store.specs.StoredRows.{AreSame};
-ghost use Rattle.hub_program.specs.Places.{IsRecordIn, IsKeptAlone, IsMigratedAndKept};
+ghost use Rattle.hub_program.specs.Places.{IsRecordIn, IsKeptAlone, IsMigratedAndKept, grown_by};
 
 mod advice;
 mod paths;
@@ -19,15 +19,16 @@ mod paths;
 use crate::advice::Advice;
 use crate::fault::CommandFault;
 use crate::store::advice::{
-    is_no_database, on_no_record, on_opening, on_refusal, on_statement, store_fault,
+    is_no_database, on_no_record, on_opening, on_other_setup, on_refusal, on_statement, store_fault,
 };
 use crate::store::paths::{look, remove_log};
-use nest_core::Setup;
+use nest_core::{Growth, Setup};
 use register_sql::SqlRegister;
 use register_store::StoreFault;
 use sqlite::{Alter, Connection, FileFrom, FileStore, Files, Start};
 use sqlite_disk::Disk;
 use std::alloc::Global;
+use std::mem;
 
 /// How a command treats a path that has no store yet.
 #[derive(Clone, Copy, PartialEq, Eq)]
@@ -51,10 +52,12 @@ impl Begins {
     }
 }
 
-/// A store that is open: its path, whether it is new, and a register over its two files.
+/// A store that is open: its path, whether it is new, how its setup grew, the newest growth first,
+/// and a register over its two files.
 pub struct OpenStore<'a, D: Disk + Drop> {
     path: &'a str,
     is_new: bool,
+    growths: Vec<Growth>,
     pub register: SqlRegister<FileStore<D>>,
 }
 
@@ -116,11 +119,13 @@ pub fn open<'a, S: Start>(
     match SqlRegister::on_file_from(rt, rt.alloc(), path, start) {
         Ok(register) => {
             let is_new = false;
+            let growths = Vec::new(rt.alloc());
             with_record(
                 rt,
                 OpenStore {
                     path,
                     is_new,
+                    growths,
                     register,
                 },
                 begins,
@@ -135,8 +140,8 @@ pub fn open<'a, S: Start>(
     }
 }
 
-/// Finds out whether the store is new. A store without a record is closed again if the command reads
-/// one.
+/// Finds out whether the store is new, and how its setup grew. A store without a record is closed
+/// again if the command reads one.
 fn with_record<'a, D: Disk + Drop>(
     rt: &HostRuntime,
     mut store: OpenStore<'a, D>,
@@ -149,12 +154,30 @@ fn with_record<'a, D: Disk + Drop>(
     let fault = match store.register.is_new(rt.alloc()) {
         Ok(is_new) if !is_new || begins != Begins::Nothing => {
             store.is_new = is_new;
-            return Ok(store);
+            return with_growths(rt, store);
         }
         Ok(_) => CommandFault::Store(StoreFault::Store, on_no_record(rt.alloc(), store.path)),
         Err(fault) => CommandFault::from(fault),
     };
     Err(store.closed_with(rt, fault))
+}
+
+/// Reads how the setup of the store grew.
+fn with_growths<'a, D: Disk + Drop>(
+    rt: &HostRuntime,
+    mut store: OpenStore<'a, D>,
+) -> Result<OpenStore<'a, D>, CommandFault>
+    ensures named { IfOk result (λ r. r.path ≡ store.entry.path) }
+    ensures same { IfOk result (λ r. Comes (in_store (file_state store.entry.register.conn))
+        (in_store (file_state r.register.conn)) AreSame) }
+{
+    match store.register.growths(rt.alloc()) {
+        Ok(growths) => {
+            store.growths = growths;
+            Ok(store)
+        }
+        Err(fault) => Err(store.closed_with(rt, CommandFault::from(fault))),
+    }
 }
 
 /// Opens the store, migrates it, and closes it. Faults, in this order: those of opening it, of
@@ -163,11 +186,17 @@ pub fn migrate<'a, S: Start>(
     rt: &HostRuntime,
     path: &'a str,
     start: S,
-    setup: &Setup,
+    setup: Setup,
 ) -> Result<ClosedStore<'a>, CommandFault>
     ensures named { IfOk result (λ closed. closed.path ≡ path.entry) }
 {
-    open(rt, path, start, Begins::NoVersion)?.migrated(rt, setup)
+    match open(rt, path, start, Begins::NoVersion) {
+        Ok(store) => store.migrated(rt, setup),
+        Err(fault) => {
+            drop(setup);
+            Err(fault)
+        }
+    }
 }
 
 impl<'a, D: Disk + Drop> OpenStore<'a, D> {
@@ -181,13 +210,27 @@ impl<'a, D: Disk + Drop> OpenStore<'a, D> {
         self.is_new
     }
 
+    /// Returns the setup that lists what this one lists, and has grown as that of the store. None
+    /// if the growths of the store don't fit what is listed: the store then has another setup.
+    pub fn grown(&mut self, rt: &HostRuntime, setup: Setup) -> Option<Setup>
+        ensures grown { IfSome result (λ grown. grown ≡ grown_by self.old.growths.items setup) }
+        ensures register { self.new.register ≡ self.old.register }
+        ensures path { self.new.path ≡ self.old.path }
+    {
+        let growths = mem::replace(&mut self.growths, Vec::new(rt.alloc()));
+        setup.with_growths(growths)
+    }
+
     /// Migrates the store, and closes it.
-    fn migrated(mut self, rt: &HostRuntime, setup: &Setup) -> Result<ClosedStore<'a>, CommandFault>
+    fn migrated(mut self, rt: &HostRuntime, setup: Setup) -> Result<ClosedStore<'a>, CommandFault>
         ensures named { IfOk result (λ closed. closed.path ≡ self.entry.path) }
         ensures migrated { OnOk result (IsMigratedAndKept (λ r. in_store (file_state r.conn))
-            D.Disk setup.now self.entry.register) }
+            D.Disk (grown_by self.entry.growths.items setup) self.entry.register) }
     {
-        match self.register.migrate(rt.alloc(), setup) {
+        let Some(setup) = self.grown(rt, setup) else {
+            return Err(self.closed_with(rt, other_setup()));
+        };
+        match self.register.migrate(rt.alloc(), &setup) {
             Ok(()) => self.close(rt),
             Err(fault) => Err(self.closed_with(rt, CommandFault::from(fault))),
         }
@@ -205,15 +248,22 @@ impl<'a, D: Disk + Drop> OpenStore<'a, D> {
     }
 
     /// Closes the store after a fault, and returns the fault with which the command ends: this one.
-    /// Store without advice gets the cause as advice, if that is known.
+    /// Store without advice gets the cause as advice, if that is known. OtherSetup gets the command
+    /// that prints the store's own setup.
     pub fn closed_with(self, rt: &HostRuntime, fault: CommandFault) -> CommandFault {
         if let CommandFault::Store(StoreFault::Store, None) = fault {
             return self.refused(rt);
         }
+        let path = self.path;
         if let Ok((files, _)) = self.into_files(rt) {
             drop(files);
         }
-        fault
+        match fault {
+            CommandFault::Store(StoreFault::OtherSetup, None) => {
+                CommandFault::Store(StoreFault::OtherSetup, on_other_setup(rt.alloc(), path))
+            }
+            fault => fault,
+        }
     }
 
     /// Closes the store, removes the name of its log, and returns its two files. The database file
@@ -228,6 +278,7 @@ impl<'a, D: Disk + Drop> OpenStore<'a, D> {
         let OpenStore {
             path,
             is_new: _,
+            growths: _,
             register,
         } = self;
         match register.close() {
@@ -247,6 +298,7 @@ impl<'a, D: Disk + Drop> OpenStore<'a, D> {
         let OpenStore {
             path,
             is_new: _,
+            growths: _,
             register,
         } = self;
         let (conn, advice) = failed(rt.alloc(), path, register);
@@ -255,6 +307,11 @@ impl<'a, D: Disk + Drop> OpenStore<'a, D> {
         }
         CommandFault::Store(StoreFault::Store, advice)
     }
+}
+
+/// The fault of a store that has another setup.
+pub fn other_setup() -> CommandFault {
+    CommandFault::Store(StoreFault::OtherSetup, None)
 }
 
 /// The connection of a register that failed, and the advice on its store.

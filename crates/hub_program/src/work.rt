@@ -1,12 +1,13 @@
 //! Has the work of a command done on the record, and closes the store.
 ghost use Rattle.std.specs.Prelude.{◌≡◌, length, IfOk, OnOk, OnErr, MatchOption, option_map};
 ghost use Rattle.hub_program.specs.Places.{path_of, IsDoneAndKept, IsDoneInMemory, IsKeptAlone};
+ghost use Rattle.hub_program.specs.Places.{grown_by};
 ghost use Rattle.register_sql.specs.Stores.{in_store};
 ghost use Rattle.sqlite.specs.Files.{file_state};
 ghost use Rattle.work_core.specs.Works.{HasFeeds};
 
 use crate::fault::CommandFault;
-use crate::store::{ClosedStore, OpenStore};
+use crate::store::{ClosedStore, OpenStore, other_setup};
 use hub_core::Watch;
 use nest_core::Setup;
 use register_store::PlainRegister;
@@ -18,11 +19,12 @@ use std::thread::Threads;
 use work_core::visible::add_on_one_line;
 use work_core::{Work, WorkFault, do_work};
 
-/// Does the work on the record in the open store, and closes the store. Without a store the record is
-/// empty, and in memory. Notes for the user are appended to `notes`; print them only if there is no
-/// fault.
+/// Does the work on the record in the open store, and closes the store. The record's setup is this
+/// one, with the growths of the store. Without a store the record is empty, and in memory. Notes for
+/// the user are appended to `notes`; print them only if there is no fault.
 ///
-/// Faults, in this order: those of the work, as of [`do_work`]; those of closing the store.
+/// Faults, in this order: OtherSetup, if the growths of the store don't fit the setup; those of the
+/// work, as of [`do_work`]; those of closing the store.
 pub fn over_store<
     'a,
     T: Threads + Wait + Sync + Copy + Send + 'static,
@@ -48,7 +50,8 @@ pub fn over_store<
         (IsDoneInMemory setup work (V.has_seen watch.old) (V.has_seen watch.new)
         (R.remaining input.old) (R.remaining input.new)
         (W.contents output.old) (W.contents output.new))
-        (λ s. IsDoneAndKept (λ r. in_store (file_state r.conn)) D.Disk setup s.register work
+        (λ s. IsDoneAndKept (λ r. in_store (file_state r.conn)) D.Disk
+        (grown_by s.growths.items setup) s.register work
         (V.has_seen watch.old) (V.has_seen watch.new)
         (R.remaining input.old) (R.remaining input.new)
         (W.contents output.old) (W.contents output.new))) }
@@ -127,15 +130,20 @@ fn in_file<
 ) -> Result<ClosedStore<'a>, CommandFault>
     requires { HasFeeds (length setup.stations) work }
     ensures named { IfOk result (λ closed. closed.path ≡ store.entry.path) }
-    ensures done { OnOk result (IsDoneAndKept (λ r. in_store (file_state r.conn)) D.Disk setup
-        store.entry.register work (V.has_seen watch.old) (V.has_seen watch.new)
+    ensures done { OnOk result (IsDoneAndKept (λ r. in_store (file_state r.conn)) D.Disk
+        (grown_by store.entry.growths.items setup) store.entry.register work
+        (V.has_seen watch.old) (V.has_seen watch.new)
         (R.remaining input.old) (R.remaining input.new)
         (W.contents output.old) (W.contents output.new)) }
 {
+    let Some(grown) = store.grown(rt, setup) else {
+        drop(work);
+        return Err(store.closed_with(rt, other_setup()));
+    };
     let (register, ended) = do_work(
         threads,
         rt.alloc(),
-        setup,
+        grown,
         store.register,
         work,
         watch,

@@ -24,6 +24,12 @@ pub fn on_no_record(alloc: Global, path: &str) -> Advice {
     format!(in alloc; "{path} has no record yet: replay and serve start one").ok()
 }
 
+/// Returns the advice on a store that has another setup than the one that is named.
+pub fn on_other_setup(alloc: Global, path: &str) -> Advice {
+    let print = "print it with pairsalder setup --store";
+    format!(in alloc; "{path} has another setup: {print} {path}").ok()
+}
+
 /// Returns the advice on a store that failed: on the statement that failed or, if none did, on its
 /// tables.
 pub fn on_refusal<S: Alter>(

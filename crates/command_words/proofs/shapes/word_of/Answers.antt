@@ -36,6 +36,14 @@ pub returns-in-Copy : goal.returns-in-Copy
 unfolding app_by register_app report_app
 returns-in-Copy c = ap (λ (n : Name). (app_by n).top.name) (sym c.in-Copy.is)
 
+pub returns-in-Grow : goal.returns-in-Grow
+unfolding app_by register_app report_app
+returns-in-Grow c = ap (λ (n : Name). (app_by n).top.name) (sym c.in-Grow.is)
+
+pub returns-in-Setup : goal.returns-in-Setup
+unfolding app_by register_app report_app
+returns-in-Setup c = ap (λ (n : Name). (app_by n).top.name) (sym c.in-Setup.is)
+
 pub returns-in-Explain : goal.returns-in-Explain
 unfolding app_by register_app report_app
 returns-in-Explain c = ap (λ (n : Name). (app_by n).top.name) (sym c.in-Explain.is)

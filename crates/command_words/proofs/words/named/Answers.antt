@@ -92,6 +92,28 @@ returns-in-Copy c =
     chooses_by c.args.name _ (texts_of c.args.words.now) _ c.requires
     c.in-Copy.is c.copy.ensures
 
+pub grow-requires : goal.grow-requires
+unfolding form_by register_app report_app
+grow-requires c =
+    named_by c.args.name _ (texts_of c.args.words.now) c.requires c.in-Grow.is
+
+pub returns-in-Grow : goal.returns-in-Grow
+unfolding form_by
+returns-in-Grow c =
+    chooses_by c.args.name _ (texts_of c.args.words.now) _ c.requires
+    c.in-Grow.is c.grow.ensures
+
+pub print_setup-requires : goal.print_setup-requires
+unfolding form_by register_app report_app
+print_setup-requires c =
+    named_by c.args.name _ (texts_of c.args.words.now) c.requires c.in-Setup.is
+
+pub returns-in-Setup : goal.returns-in-Setup
+unfolding form_by
+returns-in-Setup c =
+    chooses_by c.args.name _ (texts_of c.args.words.now) _ c.requires
+    c.in-Setup.is c.print_setup.ensures
+
 pub explain-requires : goal.explain-requires
 unfolding form_by register_app report_app
 explain-requires c =
