@@ -1,0 +1,6 @@
+pub mod Texts
+pub mod Verbs
+pub mod Desks
+pub mod Codes
+pub mod Messages
+pub mod DeskStep
