@@ -15,14 +15,12 @@ use Rattle.sqlite_pool.proofs.ResealLemmas.{adopts_of}
 use Rattle.sqlite_pool.specs.File.{in_use, version_in}
 use Rattle.sqlite_pool.specs.Opening.{IsFirstPage}
 use Rattle.sqlite_pool.specs.Stored.{Recovers, AreSealed, sealed, trimmed}
-use Rattle.sqlite_pool.specs.StoredLaws.{trimmed_whole}
 use Rattle.sqlite_store.proofs.BuildLemmas.{new_is_empty}
 use Rattle.sqlite_store.proofs.ListingLemmas.{past_version, named_tree}
 use Rattle.sqlite_store.specs.Db.{trees_in}
 use Rattle.sqlite_store.specs.Listed.{catalog_rows}
 use Rattle.sqlite_store.specs.Listing.{all_trees, file_trees, IsOurs}
 use Rattle.sqlite_wal.proofs.CreateLemmas.{pages_of_one}
-use Rattle.sqlite_wal.specs.PageSize.{IsPageSize}
 use Rattle.sqlite_wal.specs.Recovery.{IsIgnored, AreWhole, only_page}
 use Rattle.sqlite_wal.specs.Recovery as raw
 use Rattle.register_store.specs.Holdings.{Holding, Has}

@@ -16,7 +16,7 @@ use Rattle.sqlite.specs.Tree.{Trees}
 use Rattle.sqlite.specs.declared.error.Error.{Error}
 use Rattle.sqlite_catalog.specs.Listing.{IsSound}
 use Rattle.register_store.specs.StoredRows.{SetupRow, MetaRow}
-use Rattle.register_sql.specs.Changes.{Adds, Removes}
+use Rattle.register_sql.specs.Changes.{Adds}
 use Rattle.register_sql.specs.Changes as changes
 use Rattle.register_sql.specs.Making.{IsMade, Goes, Grown, Spares, ClearsSetup, AddsSetup}
 use Rattle.register_sql.specs.Making.{ReplacesSetup, AddsMeta, Fills, MakesWhole, SoFarSetup}

@@ -29,6 +29,7 @@ pub mod Binds
 pub mod Unfit
 pub mod Holds
 pub mod Links
+pub mod OnlyReading
 pub mod Moved
 pub mod Stranger
 pub mod Ages
@@ -39,7 +40,9 @@ pub mod Regrown
 mod WorkedRows
 mod WorkedFirst
 mod WorkedFailures
+mod WorkedGrowth
 pub mod Runs
 pub mod Blank
 pub mod Newness
 pub mod StoredSetups
+pub mod SetupFiles

@@ -1,5 +1,5 @@
 -- Facts about a register's connection after a call.
-use Rattle.std.proofs.Common.{◌≡◌, ℕ, Bool, true, false, Option, None, Some, IfSome, refl, sym}
+use Rattle.std.proofs.Common.{◌≡◌, ℕ, Bool, true, false, Option, None, Some, refl, sym}
 use Rattle.std.proofs.Common.{subst, ◌∙◌, arith, Ok, Err, Result, IfOk, IfErr}
 use Rattle.std.proofs.lemmas.Option.{none-some}
 use Rattle.nest_core.specs.Museum.{Museum}

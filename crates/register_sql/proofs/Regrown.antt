@@ -1,13 +1,12 @@
 -- What replacing the setup of a whole store leaves.
 use Rattle.std.proofs.Common.{◌≡◌, ◌⊎◌, inl, [], false, true, Ok, Err, Result, OnOk, OnErr}
 use Rattle.std.proofs.Common.{IsTrue, sym, subst}
-use Rattle.std.proofs.Common.{◌∙◌, arith, map}
-use Rattle.std.specs.List.Sorted.{IsPermutation}
+use Rattle.std.proofs.Common.{◌∙◌, arith}
 use Rattle.std.proofs.lemmas.List.Sorted.{IsPermutation-map, IsPermutation-trans}
 use Rattle.nest_core.specs.Museum.{Museum}
 use Rattle.nest_core.specs.SetupTexts.{setup_rows}
 use Rattle.sqlite.proofs.StateLemmas.{survives_then}
-use Rattle.sqlite.specs.Effect.{Database, IsDatabase}
+use Rattle.sqlite.specs.Effect.{Database}
 use Rattle.sqlite.specs.Held.{Held, state}
 use Rattle.sqlite.specs.State.{State, KeepsCounts, Shows, HasCleanDisk, Survives}
 use Rattle.sqlite.specs.Store.{Ghosts}
@@ -15,7 +14,7 @@ use Rattle.sqlite.specs.Tree.{Trees}
 use Rattle.sqlite.specs.declared.error.Error.{Error}
 use Rattle.sqlite_catalog.specs.Listing.{IsSound}
 use Rattle.register_store.specs.Holdings.{Comes}
-use Rattle.register_store.specs.StoredRows.{AreSame, Content, rows_of_setup}
+use Rattle.register_store.specs.StoredRows.{AreSame, Content}
 use Rattle.register_store.specs.declared.store_fault.StoreFault.{StoreFault}
 use Rattle.register_sql.specs.Binding.{IsSettled}
 use Rattle.register_sql.specs.Growing.{with_setup, IsGrown}
@@ -24,7 +23,6 @@ use Rattle.register_sql.specs.Queries.{IsSame}
 use Rattle.register_sql.specs.Posting.{IsDone, IsReady, IsWhole, LeavesWhole, Turns}
 use Rattle.register_sql.specs.Rows.{AreRows, Apart, IsStored, setup_cells}
 use Rattle.register_sql.specs.Stores.{in_store}
-use Rattle.register_sql.specs.Tables.{hub_schema}
 use Rattle.register_sql.proofs.Binds.{same_all}
 use Rattle.register_sql.proofs.Holds.{Laws, comes_weaker, done_comes, still_comes, held_shown}
 use Rattle.register_sql.proofs.Holds.{shown_held, open_ready}
@@ -137,7 +135,8 @@ same_comes_on old new P before after ready survives same = record {
 }
   where
     still : IsSame old new → IsSettled old → IsSettled new
-    still it was = record { is_open = it.is_open; settled = it.now ∙ was.settled ∙ sym it.committed }
+    still it was =
+        record { is_open = it.is_open; settled = it.now ∙ was.settled ∙ sym it.committed }
 
 pub answer_same : {T : Type 0} (old new : State) (P : Trees → Type 0) (r : Result T StoreFault)
     → Laws old → Laws new → (HasCleanDisk old → IsReady old) → Survives old new P

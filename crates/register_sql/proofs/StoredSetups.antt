@@ -1,9 +1,10 @@
 -- The growths among the rows of a setup: their texts read back, and no other row is one.
-use Rattle.std.proofs.Common.{◌≡◌, ◌≢◌, ◌<◌, ◌≤◌, ◌+◌, ◌-◌, ◌==◌, ◌^◌, ◌⊎◌, inl, inr, ℕ, zero, suc, pos}
-use Rattle.std.proofs.Common.{List, [], ◌∷◌, ◌++◌, length, map, take, drop, get_or, Bool, true, false}
-use Rattle.std.proofs.Common.{Bor, Option, Some, None, All, refl, sym, ap, subst, ◌∙◌, arith, ltb}
-use Rattle.std.proofs.Common.{ltb-true, ltb-false, rules}
-use Rattle.std.specs.Prelude.{IfSome, if◌then◌else◌, codes, decimal, not, cond, MatchOption, ◌↔◌}
+use Rattle.std.proofs.Common.{◌≡◌, ◌≢◌, ◌<◌, ◌≤◌, ◌+◌, ◌-◌, ◌==◌, ◌^◌, ◌⊎◌, inl, inr, ℕ, zero, suc}
+use Rattle.std.proofs.Common.{pos, List, [], ◌∷◌, ◌++◌, length, map, take, drop, get_or, Bool, true}
+use Rattle.std.proofs.Common.{false, Bor, Option, Some, None, All, refl, sym, ap, subst, ◌∙◌, arith}
+use Rattle.std.proofs.Common.{ltb, ltb-true, ltb-false, rules}
+use Rattle.std.specs.Prelude.{IfSome, IfNone, if◌then◌else◌, codes, decimal, not, cond, MatchOption}
+use Rattle.std.specs.Prelude.{◌↔◌}
 use Rattle.std.specs.List.Sorted.{IsPermutation, IsSorted}
 use Rattle.std.proofs.lemmas.List.Sorted.{IsPermutation-refl, length_permutation}
 use Rattle.std.specs.List.{AllByRecursion, after_first, before_first, position_or_len, prefix_len}
@@ -20,7 +21,7 @@ use Rattle.codes_core.specs.Thing.{thing_kind}
 use Rattle.codes_core.specs.declared.thing.ThingKind.{ThingKind}
 use Rattle.codes_core.specs.declared.thing.ThingKind.TheVariants.{Own, Borrowed, Container}
 use Rattle.nest_core.specs.Museum.{Museum}
-use Rattle.nest_core.specs.SetupTexts.{growth_fields, joined, kind_word, normal_fields}
+use Rattle.nest_core.specs.SetupTexts.{joined, kind_word, normal_fields}
 use Rattle.nest_core.specs.SetupTexts.{place_fields, setup_rows}
 use Rattle.nest_core.specs.SetupTexts.{station_fields, thing_fields}
 use Rattle.nest_core.specs.declared.growth.Growth.{Growth}
@@ -36,7 +37,8 @@ use Rattle.register_sql.specs.Shown.{id_cmp, setup_shown, shown_setup}
 use Rattle.register_sql.specs.Tables.{prefix}
 use Rattle.register_sql.specs.declared.queries.Query.TheVariants.{Setups}
 use Rattle.register_sql.specs.StoredSetups.{AreGrowthsIn, AreSetupRows, FitsGrowth, HoldsSetup}
-use Rattle.register_sql.specs.StoredSetups.{IsPlain, growth_text}
+use Rattle.register_sql.specs.StoredSetups.{IsPlain, LacksSetup, ReadsBack, growth_text}
+use Rattle.register_sql.specs.StoredSetups.{plain_rows}
 use Rattle.register_sql.proofs.Binds.{part_of}
 use Rattle.register_sql.proofs.Profiles.{has_setup, has_the_setup}
 use Rattle.register_sql.proofs.Rising.{here, gone}
@@ -120,11 +122,6 @@ cut word rest text (Some x) free is at = (
 
 -- ---- the rows of a setup but those of its growths
 
-abbrev pub plain_rows : Museum → List (List ℕ)
-plain_rows S = map (λ name. joined (station_fields name)) S.stations
-    ++ map (λ row. joined (place_fields row)) S.places
-    ++ map (λ row. joined (thing_fields S row)) S.things
-
 pub rows_split : (S : Museum) → setup_rows S ≡ plain_rows S ++ map growth_text S.growths
 rows_split S = refl
 
@@ -132,13 +129,19 @@ plain_word : (word rest : List ℕ) → Free word → word ≢ codes "grew" → 
 plain_word word rest free other is = other (sym (first_part word rest free) ∙ is)
 
 kind_free : (k : ThingKind) → Free (kind_word k) × (kind_word k ≢ codes "grew")
-kind_free Own = ((refl, (refl, (refl, tt))), λ is. absurd (let e : 3 ≡ 4 = ap length is in omega (arith, e)))
+kind_free Own = (
+  (refl, (refl, (refl, tt))),
+  λ is. absurd (let e : 3 ≡ 4 = ap length is in omega (arith, e)),
+)
 kind_free Borrowed = (
   (refl, (refl, (refl, (refl, tt)))),
   λ is.
       absurd (let e : 108 ≡ 103 = ap (λ l. get_or l 0 0) is in omega (arith, e)),
 )
-kind_free Container = ((refl, (refl, (refl, tt))), λ is. absurd (let e : 3 ≡ 4 = ap length is in omega (arith, e)))
+kind_free Container = (
+  (refl, (refl, (refl, tt))),
+  λ is. absurd (let e : 3 ≡ 4 = ap length is in omega (arith, e)),
+)
 
 all_append : {X : Type 0} (P : X → Type 0) (xs ys : List X) → AllByRecursion P xs
     → AllByRecursion P ys → AllByRecursion P (xs ++ ys)
@@ -174,28 +177,26 @@ all_plain S = all_append IsPlain _ _ (all_append IsPlain _ _ stations places) th
 
 -- ---- one row after another
 
-at_plain : (rows : List (List ℕ)) (i : ℕ) (d : List ℕ) → i < length rows
+pub at_plain : (rows : List (List ℕ)) (i : ℕ) (d : List ℕ) → i < length rows
     → AllByRecursion IsPlain rows → IsPlain (get_or rows i d)
 at_plain [] i d low all = absurd (omega (arith, low))
 at_plain (r ∷ rows) zero d low all = all.0
 at_plain (r ∷ rows) (suc i) d low all = at_plain rows i d (omega (arith, low)) all.1
 
--- what reading row i finds
-abbrev pub Finds : Museum → ℕ → Option Growth → Type 0
-Finds S i r =
+-- row i is that of a station, place or thing, or that of a growth
+abbrev pub IsRow : Museum → ℕ → Row → Type 0
+IsRow S i row =
     let first = length (plain_rows S) in
-    ((i < first) × (r ≡ None))
-    ⊎ ((first ≤ i) × (i - first < length S.growths)
-    × ((d : Growth) → r ≡ Some (get_or S.growths (i - first) d)))
+    ((i < first) × ((d : List ℕ)
+    → row ≡ setup_shown (record { id = pos (1 + i); text = get_or (plain_rows S) i d })))
+    ⊎ ((first ≤ i) × (i - first < length S.growths) × ((d : Growth)
+    → let text = growth_text (get_or S.growths (i - first) d) in
+    row ≡ setup_shown (record { id = pos (1 + i); text = text })))
 
-pub found : (S : Museum) (rows : List Row) (i : ℕ) (row : Row) (r : Option Growth)
-    → ((n : _) (g : Growth) → FitsGrowth g
-    → row ≡ setup_shown (record { id = n; text = growth_text g }) → r ≡ Some g)
-    → ((n : _) (text : List ℕ) → IsPlain text
-    → row ≡ setup_shown (record { id = n; text = text }) → r ≡ None)
-    → All FitsGrowth S.growths → rows ≡ setup_rows_shown (setup_rows S) → i < length rows
-    → row ≡ get_or rows i row → Finds S i r
-found S rows i row r growth plain fits are low is = go (ltb i first) refl
+pub row_is : (S : Museum) (rows : List Row) (i : ℕ) (row : Row)
+    → rows ≡ setup_rows_shown (setup_rows S) → i < length rows → row ≡ get_or rows i row
+    → IsRow S i row
+row_is S rows i row are low is = go (ltb i first) refl
   where
     first : ℕ
     first = length (plain_rows S)
@@ -212,15 +213,13 @@ found S rows i row r growth plain fits are low is = go (ltb i first) refl
     here : (t : List ℕ) → row ≡ setup_shown (record { id = pos (1 + i); text = get_or texts i t })
     here t = is ∙ ap (λ l. get_or l i row) all ∙ got_from 1 texts i row t many
 
-    go : (b : Bool) → ltb i first ≡ b → Finds S i r
+    go : (b : Bool) → ltb i first ≡ b → IsRow S i row
     go true before =
         let less : i < first = ltb-true i first before in
         inl (
           less,
-          plain (pos (1 + i)) (get_or (plain_rows S) i [])
-              (at_plain (plain_rows S) i [] less (all_plain S))
-              (here [] ∙ ap (λ t. setup_shown (record { id = pos (1 + i); text = t }))
-              (get_or_append_left (plain_rows S) (map growth_text S.growths) [] i less)),
+          λ d. here d ∙ ap (λ t. setup_shown (record { id = pos (1 + i); text = t }))
+              (get_or_append_left (plain_rows S) (map growth_text S.growths) d i less),
         )
     go false other =
         let more : first ≤ i = ltb-false i first other in
@@ -236,11 +235,42 @@ found S rows i row r growth plain fits are low is = go (ltb i first) refl
         inr (
           more,
           few,
-          λ d. growth (pos (1 + i)) (get_or S.growths j d) (fits j d few)
-              (here (growth_text d) ∙ ap (λ t. setup_shown (record { id = pos (1 + i); text = t }))
+          λ d. here (growth_text d)
+              ∙ ap (λ t. setup_shown (record { id = pos (1 + i); text = t }))
               (ap (λ n. get_or texts n (growth_text d)) (sym at)
               ∙ get_or-append-add (plain_rows S) (map growth_text S.growths) j (growth_text d)
-              ∙ get_or-map growth_text S.growths j d (growth_text d) few)),
+              ∙ get_or-map growth_text S.growths j d (growth_text d) few),
+        )
+
+-- what reading row i finds
+abbrev pub Finds : Museum → ℕ → Option Growth → Type 0
+Finds S i r =
+    let first = length (plain_rows S) in
+    ((i < first) × (r ≡ None))
+    ⊎ ((first ≤ i) × (i - first < length S.growths)
+    × ((d : Growth) → r ≡ Some (get_or S.growths (i - first) d)))
+
+pub found : (S : Museum) (rows : List Row) (i : ℕ) (row : Row) (r : Option Growth)
+    → ((n : _) (g : Growth) → FitsGrowth g
+    → row ≡ setup_shown (record { id = n; text = growth_text g }) → r ≡ Some g)
+    → ((n : _) (text : List ℕ) → IsPlain text
+    → row ≡ setup_shown (record { id = n; text = text }) → r ≡ None)
+    → All FitsGrowth S.growths → rows ≡ setup_rows_shown (setup_rows S) → i < length rows
+    → row ≡ get_or rows i row → Finds S i r
+found S rows i row r growth plain fits are low is = go (row_is S rows i row are low is)
+  where
+    go : IsRow S i row → Finds S i r
+    go (inl (less, here)) = inl (
+      less,
+      plain (pos (1 + i)) (get_or (plain_rows S) i [])
+          (at_plain (plain_rows S) i [] less (all_plain S)) (here []),
+    )
+    go (inr (more, few, here)) =
+        let j = i - length (plain_rows S) in
+        inr (
+          more,
+          few,
+          λ d. growth (pos (1 + i)) (get_or S.growths j d) (fits j d few) (here d),
         )
 
 -- reading goes on
@@ -338,3 +368,11 @@ pub setup_held : (db : Database) (rows : List Row) (found : Option Museum) → A
 setup_held db rows None held is = tt
 setup_held db rows (Some S) (inl none) is = inl none
 setup_held db rows (Some S) (inr held) is = inr (λ c stored. (held S c stored).0 is)
+
+pub none_held : (db : Database) (rows : List Row) (found : Option Museum) → AreSetupRows db rows
+    → IfNone found ((S : Museum) → ReadsBack S → rows ≡ setup_rows_shown (setup_rows S) → ⊥)
+    → IfNone found (LacksSetup db)
+none_held db rows (Some S) held none = tt
+none_held db rows None (inl other) none = inl other
+none_held db rows None (inr held) none =
+    inr (λ S c reads stored same. none S reads ((held S c stored).1 same))

@@ -1,6 +1,6 @@
 -- Defines the fields of a register over a connection, and the rows that its store may hold.
 use Rattle.std.specs.Prelude.{◌≡◌, ℕ, ◌+◌, ◌-◌, ◌^◌, min, Bool, true, false, [], Option, None}
-use Rattle.std.specs.Prelude.{Result, refl}
+use Rattle.std.specs.Prelude.{Result, Err, IfErr, is_some, refl}
 use Rattle.std.specs.Coded.{Coded, code_by, coded×, coded_ℕ, coded_bool, coded_option}
 use Rattle.sqlite.specs.Held.{Held, held_code, state}
 use Rattle.sqlite.specs.Store.{Ghosts}
@@ -8,8 +8,9 @@ use Rattle.sqlite.specs.contracts.error.Error as error
 use Rattle.sqlite.specs.declared.error.Error.{Error}
 use Rattle.sqlite.specs.State.{State, HasCleanDisk}
 use Rattle.sqlite.specs.Tree.{Trees}
-use Rattle.register_store.specs.Holdings.{Holding}
-use Rattle.register_store.specs.StoredRows.{Content}
+use Rattle.register_store.specs.Holdings.{Holding, Comes}
+use Rattle.register_store.specs.Registers.{is_failure, Stops}
+use Rattle.register_store.specs.StoredRows.{Content, AreSame}
 use Rattle.register_store.specs.declared.store_fault.StoreFault.{StoreFault}
 use Rattle.register_store.specs.declared.store_fault.StoreFault.TheVariants.{NoMemory, Store}
 use Rattle.register_store.specs.declared.store_fault.StoreFault.TheVariants.{OtherSetup, Damaged}
@@ -71,6 +72,18 @@ abbrev pub IsExcusedStop : {S T : Type 0} → Ghosts S → Kept S → Kept S →
     → Type 0
 IsExcusedStop g old new r =
     StopsFor (state g old.conn) (state g new.conn) old.stopped new.stopped new.failure r
+
+-- What a call that only reads the store leaves. The store may have the same rows as before. The
+-- call fails only with NoMemory, or with Store because the register has stopped, in this call or
+-- before. A stop in this call is for an error that is excused. `was` and `is` are the error that
+-- had stopped the register before the call, and the one after it.
+pub record OnlyReads {T : Type 0} (old new : State) (was is : Option Error)
+    (r : Result T StoreFault) : Type 0 where
+  pub unchanged : Comes (in_store old) (in_store new) AreSame
+  pub faults : IfErr r (λ fault. is_failure fault ≡ true)
+  pub store : r ≡ Err Store → is_some is ≡ true
+  pub stops : Stops (is_some was) (is_some is) r
+  pub excused : StopsFor old new (is_some was) (is_some is) is r
 
 -- How often the register has returned Store after this fault.
 abbrev pub counted : ℕ → StoreFault → ℕ

@@ -50,8 +50,8 @@ fn grow_whole<S: Alter>(
 }
 
 /// Replaces the setup of a whole store by this one, which has grown. The inner fault is Store if
-/// rowids aren't distinct numbers, or NoMemory; the store is then as it was. The outer error is that
-/// of a failed statement, after which the connection may be closed.
+/// rowids aren't distinct numbers, or NoMemory; the store is then as it was. The outer error is
+/// that of a failed statement, after which the connection may be closed.
 pub(crate) fn grow<S: Alter>(
     alloc: Global,
     conn: &mut Connection<S>,

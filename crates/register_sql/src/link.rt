@@ -1,6 +1,6 @@
 //! A connection to a store that sends no further statement once one has failed.
 ghost use Rattle.std.specs.Prelude.{◌≡◌, ◌≢◌, ◌⊎◌, true, Some, Err, reverse, All, IsNone, is_some};
-ghost use Rattle.std.specs.Prelude.{IfOk, IfErr, OnOk, OnErr, IfSome};
+ghost use Rattle.std.specs.Prelude.{IfOk, IfErr, OnOk, OnErr, IfSome, IfNone};
 ghost use Rattle.std.specs.Bool.{Decides};
 ghost use Rattle.sqlite.specs.Held.{state};
 ghost use Rattle.sqlite.specs.State.{HasCleanDisk, Survives};
@@ -14,8 +14,8 @@ ghost use Rattle.register_sql.specs.Growing.{with_setup, IsGrown};
 ghost use Rattle.register_sql.specs.Migrating.{Migrates, IsNotMigrated, IsCompleted, IsUnfit};
 ghost use Rattle.register_sql.specs.Posting.{LeavesPosted, LeavesWhole};
 ghost use Rattle.register_sql.specs.Queries.{AreApart};
-ghost use Rattle.register_sql.specs.StoredSetups.{AreGrowthsIn, HoldsSetup};
-ghost use Rattle.register_sql.specs.Stores.{in_store, IsKept};
+ghost use Rattle.register_sql.specs.StoredSetups.{AreGrowthsIn, HoldsSetup, LacksSetup};
+ghost use Rattle.register_sql.specs.Stores.{in_store, IsKept, OnlyReads};
 
 use crate::agree::agrees;
 use crate::bind::{bind, is_new};
@@ -113,14 +113,9 @@ pub(crate) fn store_is_new<S: Alter>(alloc: Global, link: &mut Link<S>) -> Resul
     ensures invariant { IsKept (state S.Store link.new.conn) link.new.bound link.new.stopped }
     ensures told { HasCleanDisk (state S.Store link.new.conn)
         → IfOk result (IsNewness (state S.Store link.old.conn).now) }
-    ensures faults { IfErr result (λ fault. is_failure fault ≡ true) }
-    ensures unchanged { Comes (in_store (state S.Store link.old.conn))
-        (in_store (state S.Store link.new.conn)) AreSame }
     ensures still { link.new.bound ≡ link.old.bound }
-    ensures stops { Stops (is_some link.old.stopped) (is_some link.new.stopped) result }
-    ensures excused { StopsFor (state S.Store link.old.conn) (state S.Store link.new.conn)
-        (is_some link.old.stopped) (is_some link.new.stopped) link.new.stopped result }
-    ensures store { result ≡ Err StoreFault.Store → is_some link.new.stopped ≡ true }
+    ensures reads { OnlyReads (state S.Store link.old.conn) (state S.Store link.new.conn)
+        link.old.stopped link.new.stopped result }
 {
     if let Some(_) = link.stopped {
         return Err(StoreFault::Store);
@@ -312,14 +307,9 @@ pub(crate) fn growths_of_store<S: Alter>(
     ensures invariant { IsKept (state S.Store link.new.conn) link.new.bound link.new.stopped }
     ensures growths { HasCleanDisk (state S.Store link.new.conn) → IfOk result
         (λ growths. AreGrowthsIn (state S.Store link.old.conn).now growths.items) }
-    ensures faults { IfErr result (λ fault. is_failure fault ≡ true) }
-    ensures unchanged { Comes (in_store (state S.Store link.old.conn))
-        (in_store (state S.Store link.new.conn)) AreSame }
     ensures still { link.new.bound ≡ link.old.bound }
-    ensures stops { Stops (is_some link.old.stopped) (is_some link.new.stopped) result }
-    ensures excused { StopsFor (state S.Store link.old.conn) (state S.Store link.new.conn)
-        (is_some link.old.stopped) (is_some link.new.stopped) link.new.stopped result }
-    ensures store { result ≡ Err StoreFault.Store → is_some link.new.stopped ≡ true }
+    ensures reads { OnlyReads (state S.Store link.old.conn) (state S.Store link.new.conn)
+        link.old.stopped link.new.stopped result }
 {
     if let Some(_) = link.stopped {
         return Err(StoreFault::Store);
@@ -341,14 +331,11 @@ pub(crate) fn setup_of_store<S: Alter>(
     ensures invariant { IsKept (state S.Store link.new.conn) link.new.bound link.new.stopped }
     ensures held { HasCleanDisk (state S.Store link.new.conn) → IfOk result
         (λ found. IfSome found (HoldsSetup (state S.Store link.old.conn).now)) }
-    ensures faults { IfErr result (λ fault. is_failure fault ≡ true) }
-    ensures unchanged { Comes (in_store (state S.Store link.old.conn))
-        (in_store (state S.Store link.new.conn)) AreSame }
+    ensures none { HasCleanDisk (state S.Store link.new.conn) → IfOk result
+        (λ found. IfNone found (LacksSetup (state S.Store link.old.conn).now)) }
     ensures still { link.new.bound ≡ link.old.bound }
-    ensures stops { Stops (is_some link.old.stopped) (is_some link.new.stopped) result }
-    ensures excused { StopsFor (state S.Store link.old.conn) (state S.Store link.new.conn)
-        (is_some link.old.stopped) (is_some link.new.stopped) link.new.stopped result }
-    ensures store { result ≡ Err StoreFault.Store → is_some link.new.stopped ≡ true }
+    ensures reads { OnlyReads (state S.Store link.old.conn) (state S.Store link.new.conn)
+        link.old.stopped link.new.stopped result }
 {
     if let Some(_) = link.stopped {
         return Err(StoreFault::Store);

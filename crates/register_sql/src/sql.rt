@@ -152,9 +152,9 @@ impl<S: Alter> SqlRegister<S> {
         answer
     }
 
-    /// Replaces the setup in a bound store by one that has grown, in one transaction; everything else
-    /// stays. The register is then bound to the new setup. The call doesn't compare the two setups:
-    /// the caller takes what [`Setup::grown`](nest_core::Setup::grown) returned.
+    /// Replaces the setup in a bound store by one that has grown, in one transaction; everything
+    /// else stays. The register is then bound to the new setup. The call doesn't compare the two
+    /// setups: the caller takes what [`Setup::grown`](nest_core::Setup::grown) returned.
     ///
     /// Faults: Store if rowids aren't distinct numbers, or if a statement fails or failed before;
     /// NoMemory. Unless the register has stopped, the store is then as it was. Otherwise a later

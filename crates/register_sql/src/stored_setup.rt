@@ -1,6 +1,6 @@
 //! Reads the setup that a store holds, and how it grew.
-ghost use Rattle.std.specs.Prelude.{◌≡◌, ◌≢◌, ◌<◌, ◌^◌, ℕ, ℤ, List, All, None, Some, IfOk, IfSome};
-ghost use Rattle.std.specs.Prelude.{IfNone, decimal};
+ghost use Rattle.std.specs.Prelude.{◌≡◌, ◌≢◌, ◌<◌, ◌^◌, ◌++◌, ◌∷◌, [], ℕ, ℤ, List, All, None, Some};
+ghost use Rattle.std.specs.Prelude.{IfOk, IfSome, IfNone, OnOk, decimal, string_bytes};
 ghost use Rattle.std.specs.Str.{IsUtf8};
 ghost use Rattle.nest_core.specs.declared.growth.Growth.{Growth};
 ghost use Rattle.nest_core.specs.Museum.{Museum};
@@ -14,7 +14,8 @@ ghost use Rattle.register_sql.specs.Failing.{IsReading};
 ghost use Rattle.register_sql.specs.Says.{setup_rows_shown};
 ghost use Rattle.register_sql.specs.Shown.{setup_shown};
 ghost use Rattle.register_sql.specs.StoredSetups.{AreGrowthsIn, AreSetupRows, FitsGrowth};
-ghost use Rattle.register_sql.specs.StoredSetups.{HoldsSetup, IsPlain, growth_text};
+ghost use Rattle.register_sql.specs.StoredSetups.{HoldsSetup, IsPlain, LacksSetup, ReadsBack};
+ghost use Rattle.register_sql.specs.StoredSetups.{file_of, growth_text, plain_rows};
 
 use crate::identity::are_setup;
 use crate::queries::{Query, read};
@@ -95,23 +96,46 @@ fn growths_in(alloc: Global, rows: &[Row]) -> Result<Vec<Growth>, NoMemory>
     Ok(growths)
 }
 
+/// Adds the text of a row of the setup to a setup file, unless the row describes a growth. Fails
+/// with `NoMemory`.
+fn add_line(file: &mut String, row: &Row) -> Result<(), NoMemory>
+    ensures plain { (id : ℤ) (text : List ℕ) → IsPlain text → IsUtf8 text
+        → row.now ≡ setup_shown (record { id = id; text = text })
+        → OnOk result (string_bytes file.new ≡ string_bytes file.old ++ text ++ 10 ∷ []) }
+    ensures growth { (id : ℤ) (g : Growth) → FitsGrowth g
+        → row.now ≡ setup_shown (record { id = id; text = growth_text g })
+        → OnOk result (string_bytes file.new ≡ string_bytes file.old) }
+{
+    if growth_in(row).is_some() {
+        return Ok(());
+    }
+    if let Some(text) = text_of(row) {
+        file.push_str(text)?;
+        file.push_str("\n")?;
+    }
+    Ok(())
+}
+
 /// Returns the rows that aren't those of growths, as the text of a setup file. Fails with
 /// `NoMemory`.
-fn plain_text(alloc: Global, rows: &[Row]) -> Result<String, NoMemory> {
+fn plain_text(alloc: Global, rows: &[Row]) -> Result<String, NoMemory>
+    ensures { IfOk result (λ file. (S : Museum) → All IsUtf8 (plain_rows S)
+        → All FitsGrowth S.growths → rows.now ≡ setup_rows_shown (setup_rows S)
+        → string_bytes file ≡ file_of (plain_rows S)) }
+{
     let mut file = String::new(alloc);
-    for row in rows {
-        if growth_in(row).is_none() {
-            file.push_str(text_of(row).unwrap_or(""))?;
-            file.push_str("\n")?;
-        }
+    'rows: for i in 0..rows.len() {
+        add_line(&mut file, &rows[i])?;
     }
     Ok(file)
 }
 
 /// Returns the setup that has these rows. None if there is none. Fails with `NoMemory`.
 fn setup_in(alloc: Global, rows: &[Row]) -> Result<Option<Setup>, NoMemory>
-    ensures { IfOk result (λ found. IfSome found
+    ensures some { IfOk result (λ found. IfSome found
         (λ setup. rows.now ≡ setup_rows_shown (setup_rows setup))) }
+    ensures none { IfOk result (λ found. IfNone found ((S : Museum) → ReadsBack S
+        → rows.now ≡ setup_rows_shown (setup_rows S) → ⊥)) }
 {
     let growths = growths_in(alloc, rows)?;
     let file = plain_text(alloc, rows)?;
@@ -131,8 +155,8 @@ fn setup_in(alloc: Global, rows: &[Row]) -> Result<Option<Setup>, NoMemory>
     }
 }
 
-/// Returns the rows of the table `setup`, in the order of their numbers; none if the database has no
-/// such table. The store stays as it was. The inner fault is NoMemory, the outer error that of a
+/// Returns the rows of the table `setup`, in the order of their numbers; none if the database has
+/// no such table. The store stays as it was. The inner fault is NoMemory, the outer error that of a
 /// failed statement, after which the connection may be closed.
 fn setup_rows<S: Alter>(
     alloc: Global,
@@ -188,6 +212,8 @@ pub(crate) fn setup<S: Alter>(
     requires settled { HasCleanDisk (state S.Store conn.old) → IsSettled (state S.Store conn.old) }
     ensures held { HasCleanDisk (state S.Store conn.new) → IfOk result (λ answer. IfOk answer
         (λ found. IfSome found (HoldsSetup (state S.Store conn.old).now))) }
+    ensures none { HasCleanDisk (state S.Store conn.new) → IfOk result (λ answer. IfOk answer
+        (λ found. IfNone found (LacksSetup (state S.Store conn.old).now))) }
     ensures reading { IsReading (state S.Store conn.old) (state S.Store conn.new) result }
 {
     let found = setup_rows(alloc, conn)?;

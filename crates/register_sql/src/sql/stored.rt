@@ -1,11 +1,11 @@
 //! What a register tells of the setup that its store holds.
-ghost use Rattle.std.specs.Prelude.{◌≡◌, true, Err, IfOk, IfErr, IfSome};
+ghost use Rattle.std.specs.Prelude.{◌≡◌, true, Err, IfOk, IfErr, IfSome, IfNone};
 ghost use Rattle.sqlite.specs.Held.{state};
 ghost use Rattle.sqlite.specs.State.{HasCleanDisk};
 ghost use Rattle.register_store.specs.Holdings.{Comes};
 ghost use Rattle.register_store.specs.Registers.{is_failure, CountsRefusal, Stops};
 ghost use Rattle.register_store.specs.StoredRows.{AreSame};
-ghost use Rattle.register_sql.specs.StoredSetups.{AreGrowthsIn, HoldsSetup};
+ghost use Rattle.register_sql.specs.StoredSetups.{AreGrowthsIn, HoldsSetup, LacksSetup};
 ghost use Rattle.register_sql.specs.Stores.{in_store, IsExcusedStop};
 
 use super::{SqlRegister, recount};
@@ -48,6 +48,8 @@ impl<S: Alter> SqlRegister<S> {
     pub fn setup(&mut self, alloc: Global) -> Result<Option<Setup>, StoreFault>
         ensures held { HasCleanDisk (state S.Store self.new.conn) → IfOk result
             (λ found. IfSome found (HoldsSetup (state S.Store self.old.conn).now)) }
+        ensures none { HasCleanDisk (state S.Store self.new.conn) → IfOk result
+            (λ found. IfNone found (LacksSetup (state S.Store self.old.conn).now)) }
         ensures faults { IfErr result (λ fault. is_failure fault ≡ true) }
         ensures unchanged { Comes (in_store (state S.Store self.old.conn))
             (in_store (state S.Store self.new.conn)) AreSame }

@@ -1,10 +1,7 @@
-use Rattle.std.proofs.Common.{◌≡◌, OnOk, arith, sym, subst, rules, map}
-use Rattle.std.specs.Prelude.{string_bytes}
-use Rattle.nest_core.specs.SetupTexts.{setup_rows}
+use Rattle.std.proofs.Common.{◌≡◌, OnOk, arith, sym, subst, rules}
 use Rattle.sqlite.specs.Held.{state}
 use Rattle.sqlite.specs.State.{HasCleanDisk, Survives}
 use Rattle.register_sql.specs.Growing.{with_setup}
-use Rattle.register_sql.specs.Making.{Goes, ReplacesSetup, setup_from}
 use Rattle.register_sql.specs.Posting.{IsDone, LeavesWhole}
 use Rattle.register_sql.proofs.Filled.{goes_begin}
 use Rattle.register_sql.proofs.Regrown.{survives_grown, grown_by_commit}

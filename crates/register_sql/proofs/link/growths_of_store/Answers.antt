@@ -1,32 +1,19 @@
-use Rattle.std.proofs.Common.{sym, subst}
+use Rattle.std.proofs.Common.{◌≡◌, false, Ok, Err, ap, refl, sym, subst}
+use Rattle.std.specs.Prelude.{is_some}
 use Rattle.sqlite.specs.Held.{state}
-use Rattle.register_store.specs.Holdings.{Comes}
-use Rattle.register_store.specs.StoredRows.{AreSame}
-use Rattle.register_sql.specs.Stores.{in_store}
-use Rattle.register_sql.proofs.Holds.{Laws, same_comes}
+use Rattle.register_store.specs.declared.store_fault.StoreFault.TheVariants.{NoMemory}
+use Rattle.register_sql.specs.Stores.{OnlyReads}
+use Rattle.register_sql.proofs.Holds.{Laws}
+use Rattle.register_sql.proofs.OnlyReading.{reads_none, reads_on, reads_stopped}
 use Rattle.register_sql.proofs.link.growths_of_store.Goals as goal
 
-pub returns-in-Ok-Ok-clause-unchanged : goal.returns-in-Ok-Ok-clause-unchanged
-returns-in-Ok-Ok-clause-unchanged g c =
-    let old = state g.S.Store c.args.link.now.conn in
-    let new = state g.S.Store c.growths.new.conn in
-    let first = c.args.link.now.conn.store in
-    let store = c.growths.new.conn.store in
-    let before : Laws old = record {
-      settled = g.met.S.Store.settled first;
-      stays = g.met.S.Store.stays first;
-      survives = g.met.S.Store.survives first;
-    } in
-    let after : Laws new = record {
-      settled = g.met.S.Store.settled store;
-      stays = g.met.S.Store.stays store;
-      survives = g.met.S.Store.survives store;
-    } in
-    same_comes old new before after (c.requires.settled c.in_default.is)
-    c.growths.ensures.reading.survives
+pub returns-in-Some-clause-reads : goal.returns-in-Some-clause-reads
+returns-in-Some-clause-reads g c =
+    reads_none (state g.S.Store c.args.link.now.conn) c.args.link.now.stopped _
+    (ap is_some c.in-Some.is) refl
 
-pub returns-in-Ok-Err-clause-unchanged : goal.returns-in-Ok-Err-clause-unchanged
-returns-in-Ok-Err-clause-unchanged g c =
+pub returns-in-Ok-Ok-clause-reads : goal.returns-in-Ok-Ok-clause-reads
+returns-in-Ok-Ok-clause-reads g c =
     let old = state g.S.Store c.args.link.now.conn in
     let new = state g.S.Store c.growths.new.conn in
     let first = c.args.link.now.conn.store in
@@ -41,11 +28,12 @@ returns-in-Ok-Err-clause-unchanged g c =
       stays = g.met.S.Store.stays store;
       survives = g.met.S.Store.survives store;
     } in
-    same_comes old new before after (c.requires.settled c.in_default.is)
-    c.growths.ensures.reading.survives
+    let on : is_some c.args.link.now.stopped ≡ false = ap is_some c.in_default.is in
+    reads_on old new c.args.link.now.stopped c.args.link.now.stopped (Ok c.in-Ok-Ok.found) on before
+    after (c.requires.settled c.in_default.is) c.growths.ensures.reading.survives on (λ is. cc) tt
 
-pub returns-in-Err-clause-unchanged : goal.returns-in-Err-clause-unchanged
-returns-in-Err-clause-unchanged g c =
+pub returns-in-Ok-Err-clause-reads : goal.returns-in-Ok-Err-clause-reads
+returns-in-Ok-Err-clause-reads g c =
     let old = state g.S.Store c.args.link.now.conn in
     let new = state g.S.Store c.growths.new.conn in
     let first = c.args.link.now.conn.store in
@@ -60,7 +48,31 @@ returns-in-Err-clause-unchanged g c =
       stays = g.met.S.Store.stays store;
       survives = g.met.S.Store.survives store;
     } in
-    subst (λ conn. Comes (in_store old) (in_store (state g.S.Store conn)) AreSame)
-    (sym c.stop.ensures.conn)
-    (same_comes old new before after (c.requires.settled c.in_default.is)
-    c.growths.ensures.reading.survives)
+    let on : is_some c.args.link.now.stopped ≡ false = ap is_some c.in_default.is in
+    reads_on old new c.args.link.now.stopped c.args.link.now.stopped (Err NoMemory) on before after
+    (c.requires.settled c.in_default.is) c.growths.ensures.reading.survives on (λ is. cc) refl
+
+pub returns-in-Err-clause-reads : goal.returns-in-Err-clause-reads
+returns-in-Err-clause-reads g c =
+    let old = state g.S.Store c.args.link.now.conn in
+    let new = state g.S.Store c.growths.new.conn in
+    let first = c.args.link.now.conn.store in
+    let store = c.growths.new.conn.store in
+    let before : Laws old = record {
+      settled = g.met.S.Store.settled first;
+      stays = g.met.S.Store.stays first;
+      survives = g.met.S.Store.survives first;
+    } in
+    let after : Laws new = record {
+      settled = g.met.S.Store.settled store;
+      stays = g.met.S.Store.stays store;
+      survives = g.met.S.Store.survives store;
+    } in
+    subst (λ conn. OnlyReads old (state g.S.Store conn) c.args.link.now.stopped
+    c.stop.new.link.stopped (Err c.stop.result)) (sym c.stop.ensures.conn)
+    (reads_stopped old new c.args.link.now.stopped c.stop.new.link.stopped (Err c.stop.result)
+    (ap is_some c.in_default.is) before after (c.requires.settled c.in_default.is)
+    c.growths.ensures.reading.survives c.in-Err.error c.stop.result c.stop.ensures.stopped refl
+    c.stop.ensures.failure
+    (record { memory = c.stop.ensures.memory; store = c.stop.ensures.store })
+    c.in-Err.ensures.reading.excused)

@@ -1,5 +1,5 @@
-use Rattle.std.proofs.Common.{◌≡◌, ◌<◌, ◌^◌, ◌∷◌, ◌++◌, ℕ, List, Bor, Option, arith, Some, None}
-use Rattle.std.proofs.Common.{rules, refl, subst, sym, ap, ◌∙◌}
+use Rattle.std.proofs.Common.{◌≡◌, ◌<◌, ◌^◌, ◌∷◌, ◌++◌, arith, Some, None}
+use Rattle.std.proofs.Common.{rules, refl, subst, sym, ◌∙◌}
 use Rattle.std.specs.Prelude.{codes, decimal}
 use Rattle.register_sql.proofs.StoredSetups.{IsCut, cut, decimal_free}
 use Rattle.register_sql.proofs.stored_setup.growth_in_text.Goals as goal
@@ -86,7 +86,8 @@ returns-in_err-number_in-2-clause-growth c g fits is =
     (c.split_once-3.ensures.byte (omega arith) (λ w o h. h)) in
     let three : c.split_once-3.result ≡ Some (c.in_ok-places.places, c.in_ok-places.things) =
     search rules in
-    let places = subst (IsCut (decimal g.listed.places) (decimal g.listed.things)) three places-cut in
+    let places =
+    subst (IsCut (decimal g.listed.places) (decimal g.listed.things)) three places-cut in
     let p : c.number_in-2.result ≡ Some g.listed.places =
     c.number_in-2.ensures g.listed.places fits.places places.0 in
     let none : c.number_in-2.result ≡ None = search rules in
@@ -114,7 +115,8 @@ returns-in_err-number_in-3-clause-growth c g fits is =
     (c.split_once-3.ensures.byte (omega arith) (λ w o h. h)) in
     let three : c.split_once-3.result ≡ Some (c.in_ok-places.places, c.in_ok-places.things) =
     search rules in
-    let places = subst (IsCut (decimal g.listed.places) (decimal g.listed.things)) three places-cut in
+    let places =
+    subst (IsCut (decimal g.listed.places) (decimal g.listed.things)) three places-cut in
     let t : c.number_in-3.result ≡ Some g.listed.things =
     c.number_in-3.ensures g.listed.things fits.things places.1 in
     let none : c.number_in-3.result ≡ None = search rules in
@@ -142,7 +144,8 @@ returns-clause-growth c g fits is =
     (c.split_once-3.ensures.byte (omega arith) (λ w o h. h)) in
     let three : c.split_once-3.result ≡ Some (c.in_ok-places.places, c.in_ok-places.things) =
     search rules in
-    let places = subst (IsCut (decimal g.listed.places) (decimal g.listed.things)) three places-cut in
+    let places =
+    subst (IsCut (decimal g.listed.places) (decimal g.listed.things)) three places-cut in
     let a : c.number_in.result ≡ Some g.after =
     c.number_in.ensures g.after fits.after after.0 in
     let p : c.number_in-2.result ≡ Some g.listed.places =

@@ -1,7 +1,6 @@
-use Rattle.std.proofs.Common.{◌≡◌, IfOk, arith, inl, inr, rules, subst, ◌∙◌}
+use Rattle.std.proofs.Common.{◌≡◌, IfOk, rules, subst, ◌∙◌}
 use Rattle.std.proofs.lemmas.Result.{IfOk-weaker}
 use Rattle.sqlite.specs.Held.{state}
-use Rattle.sqlite.specs.State.{HasCleanDisk}
 use Rattle.register_sql.specs.StoredSetups.{AreSetupRows}
 use Rattle.register_sql.proofs.StoredSetups.{growths_held}
 use Rattle.register_sql.proofs.stored_setup.growths.Goals as goal

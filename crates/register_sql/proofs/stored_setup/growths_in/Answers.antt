@@ -1,4 +1,4 @@
-use Rattle.std.proofs.Common.{◌≡◌, ◌++◌, ◌∷◌, [], Some, None, length, rules, subst, sym, ◌∙◌, arith}
+use Rattle.std.proofs.Common.{◌≡◌, ◌++◌, ◌∷◌, [], Some, None, rules, subst, ◌∙◌, arith}
 use Rattle.register_sql.proofs.StoredSetups.{Finds, found, next_some, next_none, read_all}
 use Rattle.register_sql.proofs.stored_setup.growths_in.Goals as goal
 use Rattle.register_sql.proofs.stored_setup.growths_in.Goals.{in-Some+in_ok-push, in_default}

@@ -2,8 +2,7 @@ use Rattle.std.proofs.Common.{◌≡◌, ◌-◌, All, length, take}
 use Rattle.nest_core.specs.Museum.{Museum}
 use Rattle.nest_core.specs.SetupTexts.{setup_rows}
 use Rattle.register_sql.specs.Says.{setup_rows_shown}
-use Rattle.register_sql.specs.StoredSetups.{FitsGrowth}
-use Rattle.register_sql.proofs.StoredSetups.{plain_rows}
+use Rattle.register_sql.specs.StoredSetups.{FitsGrowth, plain_rows}
 use Rattle.register_sql.proofs.stored_setup.growths_in.Given as goal
 
 abbrev pub invariant-rows : goal.invariant-rows

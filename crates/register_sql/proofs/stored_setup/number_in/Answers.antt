@@ -1,4 +1,4 @@
-use Rattle.std.proofs.Common.{◌≡◌, ◌<◌, ◌^◌, ℕ, Ok, Err, Result, Some, arith, ap, rules, sym, ◌∙◌}
+use Rattle.std.proofs.Common.{◌≡◌, Ok, Err, arith, rules, sym, ◌∙◌}
 use Rattle.std.proofs.lemmas.Fmt.{parse-decimal}
 use Rattle.register_sql.proofs.stored_setup.number_in.Goals as goal
 
