@@ -1,6 +1,7 @@
 -- Which refused messages name something that is listed now, computed on worked rows. The setup
 -- grows from `before` to `after`: 2024.9.1, C2 and S3 are new.
-use Rattle.std.specs.Prelude.{◌≡◌, ◌++◌, ◌∷◌, [], List, ℕ, ℤ, codes, length, pos, refl}
+use Rattle.std.specs.Prelude.{◌≡◌, ◌++◌, ◌∷◌, [], List, ℕ, ℤ, Some, codes, false, length, pos, refl}
+use Rattle.std.specs.Prelude.{true}
 use Rattle.std.specs.Fmt.{digits}
 use Rattle.posting_core.specs.declared.entry.Entry.{Entry}
 use Rattle.posting_core.specs.declared.message.Message.{Message}
@@ -10,7 +11,9 @@ use Rattle.posting_core.specs.declared.verdict.Verdict.TheVariants.{Applied, Unk
 use Rattle.posting_core.specs.declared.verdict.Verdict.TheVariants.{UnknownPlace, UnknownThing}
 use Rattle.posting_core.specs.Book.{Book}
 use Rattle.cause_core.specs.Culprits.{culprit}
-use Rattle.setup_reports.specs.NowKnown.{now_known_text, unknown_code}
+use Rattle.nest_core.specs.Museum.{Museum}
+use Rattle.cause_core.specs.Named.{place_named, things_named}
+use Rattle.setup_reports.specs.NowKnown.{is_new_place, knows_all, new_code_of, now_known_text}
 use Rattle.setup_reports.proofs.WorkedGrowth.{before, after}
 
 abbrev day : ℤ
@@ -38,22 +41,31 @@ now_known : now_known_text before after entries
 unfolding digits
 now_known = refl
 
--- An agreement is printed for the first of its objects that was unknown.
+-- An agreement is printed once all its objects are listed, for the first that was unknown.
+abbrev agree : List (List ℕ) → List Entry
+agree things =
+    gal 1 (Agree day day (codes "LO2024.1") (codes "MUSEUM-X") things) UnknownThing ∷ []
+
 agreement : now_known_text before after
-    (gal 1 (Agree day day (codes "LO2024.1") (codes "MUSEUM-X")
-    (codes "2001.4.1" ∷ codes "2024.9.1" ∷ codes "2024.9.2" ∷ [])) UnknownThing ∷ [])
+    (agree (codes "2001.4.1" ∷ codes "2024.9.1" ∷ codes "C2" ∷ []))
     ≡ codes "entry 1 GAL 1 UnknownThing 2024.9.1: send it again under a new number\n"
 unfolding digits
 agreement = refl
 
+one_lacking : now_known_text before after
+    (agree (codes "2001.4.1" ∷ codes "2024.9.1" ∷ codes "2024.9.2" ∷ [])) ≡ []
+one_lacking = refl
+
 none : now_known_text before before entries ≡ []
 none = refl
 
--- An unknown thing or place is what made the verdict true, in the record before the message.
-unknown_thing : (B : Book) (m : Message)
-    → unknown_code B.museum (length B.posted) m UnknownThing ≡ culprit B m UnknownThing
-unknown_thing B m = refl
+-- A new thing or place is what made the verdict true, in the record before the message.
+new_thing : (B : Book) (T : Museum) (m : Message) → knows_all T (things_named m) ≡ true
+    → knows_all B.museum (things_named m) ≡ false
+    → new_code_of B.museum T (length B.posted) m UnknownThing ≡ culprit B m UnknownThing
+new_thing B T m all some = rw (all, some) refl
 
-unknown_place : (B : Book) (m : Message)
-    → unknown_code B.museum (length B.posted) m UnknownPlace ≡ culprit B m UnknownPlace
-unknown_place B m = refl
+new_place : (B : Book) (T : Museum) (m : Message) (code : List ℕ) → place_named m ≡ Some code
+    → is_new_place B.museum T code ≡ true
+    → new_code_of B.museum T (length B.posted) m UnknownPlace ≡ culprit B m UnknownPlace
+new_place B T m code named new = rw (named, new) refl

@@ -1,8 +1,8 @@
 -- Defines which refused messages name something that a growth from S to T lists, and how they are
 -- printed.
-use Rattle.std.specs.Prelude.{ℕ, ◌+◌, ◌++◌, ◌∷◌, ◌&&◌, [], Bool, false, List, Option, Some, None}
+use Rattle.std.specs.Prelude.{ℕ, ◌+◌, ◌++◌, ◌∷◌, ◌&&◌, [], Bool, List, Option, Some, None}
 use Rattle.std.specs.Prelude.{codes, decimal, if◌then◌else◌, is_some, not, option_map, unwrap_or}
-use Rattle.std.specs.List.{find}
+use Rattle.std.specs.List.{find, list_all}
 use Rattle.std.specs.Option.{option_and_then, option_to_list}
 use Rattle.nest_core.specs.Museum.{Museum, find_thing_at, station_name_of}
 use Rattle.posting_core.specs.declared.entry.Entry.{Entry}
@@ -26,27 +26,32 @@ kept_if test found = option_and_then (λ x. if test x then Some x else None) fou
 abbrev pub was_unlisted : Museum → ℕ → List ℕ → Bool
 was_unlisted S k x = not (is_some (find_thing_at S k x))
 
--- The code for which the message after k entries was refused as unknown. A pack into an object that
--- is no container has none: it stays refused even when the object is listed.
-abbrev pub unknown_code : Museum → ℕ → Message → Verdict → Option Culprit
-unknown_code S k m UnknownThing = a_thing (find (was_unlisted S k) (things_named m))
-unknown_code S k m UnknownPlace = a_place (place_named m)
-unknown_code S k m UnknownContainer = a_thing (kept_if is_container_code (container_named m))
-unknown_code S k m _ = None
+-- The setup lists all of these things.
+abbrev pub knows_all : Museum → List (List ℕ) → Bool
+knows_all S things = list_all (is_known S) things
 
--- The setup lists the code.
-abbrev pub lists : Museum → Culprit → Bool
-lists S (Thing code) = is_known S code
-lists S (Place code) = is_known_place S code
-lists S (Loan code) = false
+-- T lists the thing or the place, and S doesn't.
+abbrev pub is_new_thing : Museum → Museum → List ℕ → Bool
+is_new_thing S T code = is_known T code && not (is_known S code)
 
--- T lists the code, and S doesn't.
-abbrev pub is_new : Museum → Museum → Culprit → Bool
-is_new S T code = lists T code && not (lists S code)
+abbrev pub is_new_place : Museum → Museum → List ℕ → Bool
+is_new_place S T code = is_known_place T code && not (is_known_place S code)
+
+-- The code for which the message after k entries was refused as unknown, if T lists what it lacked
+-- and S doesn't. A message about several things has one only if T lists them all. A pack into an
+-- object that is no container has none: it stays refused even when the object is listed.
+abbrev pub new_code_of : Museum → Museum → ℕ → Message → Verdict → Option Culprit
+new_code_of S T k m UnknownThing =
+    if knows_all T (things_named m) && not (knows_all S (things_named m))
+    then a_thing (find (was_unlisted S k) (things_named m)) else None
+new_code_of S T k m UnknownPlace = a_place (kept_if (is_new_place S T) (place_named m))
+new_code_of S T k m UnknownContainer =
+    a_thing (kept_if (is_new_thing S T) (kept_if is_container_code (container_named m)))
+new_code_of S T k m _ = None
 
 -- The code for which the entry after k others was refused, if it is new in T.
 abbrev pub new_code : Museum → Museum → ℕ → Entry → Option Culprit
-new_code S T k e = kept_if (is_new S T) (unknown_code S k e.message e.verdict)
+new_code S T k e = new_code_of S T k e.message e.verdict
 
 abbrev pub code_of : Culprit → List ℕ
 code_of (Thing code) = code

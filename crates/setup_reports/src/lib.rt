@@ -8,7 +8,7 @@
 //! The contracts promise each byte: `specs/` defines the text that is written.
 //!
 //! ```text
-//! let after = before.with_file(alloc, bytes)?;
+//! let after = before.with_file(alloc, bytes)?.setup;
 //! print_growth(alloc, &before, &after, ledger.entry_count(), &mut output)?;
 //! print_now_known(alloc, &before, &after, ledger.posted(), &mut output)?;
 //! ```

@@ -18,9 +18,9 @@ use posting_core::{MOST_ENTRIES, PostedEntry, Verdict};
 use std::alloc::Global;
 use std::io::Write;
 
-/// Prints a line for each entry that was refused as unknown and whose unknown code `after` lists
-/// and `before` doesn't. The entries are those of the record, oldest first. An agreement is printed
-/// if the first of its objects that was unknown is listed now.
+/// Prints a line for each entry that was refused for an unknown code, if `after` lists what it
+/// lacked and `before` doesn't. The entries are those of the record, oldest first. An agreement is
+/// printed once all its objects are listed.
 ///
 /// Fails with `NoMemory`, and then nothing is written, or with `WriteFailed`, after a front of the
 /// text. It takes memory for the whole text.

@@ -1,10 +1,10 @@
 //! The code for which a message was refused as unknown.
-ghost use Rattle.std.specs.Prelude.{◌≡◌, IfOk, option_map};
+ghost use Rattle.std.specs.Prelude.{◌≡◌, ◌&&◌, IfOk, None, if◌then◌else◌, not, option_map};
 ghost use Rattle.std.specs.List.{find};
 ghost use Rattle.posting_core.specs.Verdicts.{is_container_code};
 ghost use Rattle.cause_core.specs.Culprits.{a_place, a_thing};
-ghost use Rattle.setup_reports.specs.NowKnown.{code_of, is_new, kept_if, lists, new_code};
-ghost use Rattle.setup_reports.specs.NowKnown.{unknown_code, was_unlisted};
+ghost use Rattle.setup_reports.specs.NowKnown.{code_of, is_new_place, is_new_thing, kept_if};
+ghost use Rattle.setup_reports.specs.NowKnown.{knows_all, new_code, was_unlisted};
 
 use cause_core::{Culprit, container_named, place_named, things_named};
 use codes_core::{NoMemory, PlaceCode, ThingCode, ThingKind};
@@ -12,8 +12,8 @@ use nest_core::Setup;
 use posting_core::{PostedEntry, Verdict};
 use std::alloc::Global;
 
-/// The code for which the entry after `earlier` others was refused as unknown, if `after` lists it
-/// and `before` doesn't. Fails with `NoMemory`.
+/// The code for which the entry after `earlier` others was refused as unknown, if `after` lists what
+/// it lacked and `before` doesn't. Fails with `NoMemory`.
 pub(crate) fn new_code(
     alloc: Global,
     before: &Setup,
@@ -23,37 +23,66 @@ pub(crate) fn new_code(
 ) -> Result<Option<Culprit>, NoMemory>
     ensures { IfOk result (λ code. code ≡ new_code before.now after.now earlier entry.now) }
 {
-    match unknown_code(alloc, before, earlier, entry)? {
-        Some(code) if is_new(before, after, &code) => Ok(Some(code)),
+    match entry.verdict() {
+        Verdict::UnknownThing => {
+            let message = entry.message().to_message(alloc)?;
+            Ok(new_thing(before, after, earlier, things_named(&message)))
+        }
+        Verdict::UnknownPlace => {
+            let message = entry.message().to_message(alloc)?;
+            Ok(new_place(before, after, place_named(&message)))
+        }
+        Verdict::UnknownContainer => {
+            let message = entry.message().to_message(alloc)?;
+            Ok(new_container(before, after, container_named(&message)))
+        }
         _ => Ok(None),
     }
 }
 
-/// The code for which the entry after `earlier` others was refused as unknown.
-fn unknown_code(
-    alloc: Global,
-    setup: &Setup,
-    earlier: u32,
-    entry: &PostedEntry,
-) -> Result<Option<Culprit>, NoMemory>
-    ensures { IfOk result
-        (λ code. code ≡ unknown_code setup.now earlier entry.now.message entry.now.verdict) }
+/// The first of the things that wasn't listed yet when `posted` entries had been posted, if `after`
+/// lists them all and `before` doesn't.
+fn new_thing(before: &Setup, after: &Setup, posted: u32, things: &[ThingCode]) -> Option<Culprit>
+    ensures { result
+        ≡ (if knows_all after.now things.now && not (knows_all before.now things.now)
+        then a_thing (find (was_unlisted before.now posted) things.now) else None) }
 {
-    match entry.verdict() {
-        Verdict::UnknownThing => {
-            let message = entry.message().to_message(alloc)?;
-            let thing = first_unlisted(setup, earlier, things_named(&message)).copied();
-            Ok(as_thing(thing))
-        }
-        Verdict::UnknownPlace => {
-            let message = entry.message().to_message(alloc)?;
-            Ok(as_place(place_named(&message)))
-        }
-        Verdict::UnknownContainer => {
-            let message = entry.message().to_message(alloc)?;
-            Ok(as_thing(if_container(container_named(&message))))
-        }
-        _ => Ok(None),
+    if knows_all(after, things) && !knows_all(before, things) {
+        as_thing(first_unlisted(before, posted, things).copied())
+    } else {
+        None
+    }
+}
+
+/// Whether the setup lists all of these things.
+fn knows_all(setup: &Setup, things: &[ThingCode]) -> bool
+    ensures { result ≡ knows_all setup.now things.now }
+{
+    things.iter().all(|thing| setup.thing(thing).is_some())
+}
+
+/// The place, if `after` lists it and `before` doesn't.
+fn new_place(before: &Setup, after: &Setup, place: Option<PlaceCode>) -> Option<Culprit>
+    ensures { result ≡ a_place (kept_if (is_new_place before.now after.now) place) }
+{
+    let place = place?;
+    if after.place(&place).is_some() && before.place(&place).is_none() {
+        Some(Culprit::Place(place))
+    } else {
+        None
+    }
+}
+
+/// The container, if its code is a container's, `after` lists it and `before` doesn't.
+fn new_container(before: &Setup, after: &Setup, code: Option<ThingCode>) -> Option<Culprit>
+    ensures { result
+        ≡ a_thing (kept_if (is_new_thing before.now after.now) (kept_if is_container_code code)) }
+{
+    let code = if_container(code)?;
+    if after.thing(&code).is_some() && before.thing(&code).is_none() {
+        Some(Culprit::Thing(code))
+    } else {
+        None
     }
 }
 
@@ -82,30 +111,6 @@ fn as_thing(code: Option<ThingCode>) -> Option<Culprit>
     ensures { result ≡ a_thing code }
 {
     Some(Culprit::Thing(code?))
-}
-
-fn as_place(code: Option<PlaceCode>) -> Option<Culprit>
-    ensures { result ≡ a_place code }
-{
-    Some(Culprit::Place(code?))
-}
-
-/// Whether `after` lists the code and `before` doesn't.
-fn is_new(before: &Setup, after: &Setup, code: &Culprit) -> bool
-    ensures { result ≡ is_new before.now after.now code.now }
-{
-    lists(after, code) && !lists(before, code)
-}
-
-/// Whether the setup lists the code.
-fn lists(setup: &Setup, code: &Culprit) -> bool
-    ensures { result ≡ lists setup.now code.now }
-{
-    match code {
-        Culprit::Thing(thing) => setup.thing(thing).is_some(),
-        Culprit::Place(place) => setup.place(place).is_some(),
-        Culprit::Loan(_) => false,
-    }
 }
 
 /// The code as text.
