@@ -76,7 +76,8 @@ simple_overview app e = ap is_simple_and_free e ∙ overview_is_simple
 abbrev pub all : List Name
 all = name.Replay ∷ name.Serve ∷ name.Count ∷ name.Overdue ∷ name.Away ∷ name.History
     ∷ name.Migrate ∷ name.Copy ∷ name.Grow ∷ name.Setup ∷ name.Explain ∷ name.Stations
-    ∷ name.Where ∷ name.Contents ∷ name.Loan ∷ name.At ∷ name.Posted ∷ name.Loans ∷ name.Dues ∷ name.Why ∷ []
+    ∷ name.Where ∷ name.Contents ∷ name.Loan ∷ name.At ∷ name.Posted ∷ name.Loans ∷ name.Dues
+    ∷ name.Why ∷ []
 
 all_is_overview : with_commands program_alone all ≡ overview
 unfolding app_by

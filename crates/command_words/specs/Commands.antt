@@ -1,5 +1,5 @@
--- Defines the twenty-one commands: the arguments that `clap` knows of each, and the values that each
--- needs.
+-- Defines the twenty-one commands: the arguments that `clap` knows of each, and the values that
+-- each needs.
 use Rattle.std.specs.Prelude.{◌∷◌, [], ℕ, Bool, List, Some, codes, map, true, false}
 use Rattle.clap.specs.Words.{App, Rule, Text, new_app, new_rule, with_rule}
 use Rattle.clap.specs.declared.builder.action.ArgAction.TheVariants.{Set, SetTrue, Append}

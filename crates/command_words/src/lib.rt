@@ -1,7 +1,7 @@
 //! Reads the words of a command line, and returns the command that they choose.
 //!
-//! [`words::chosen`] returns a [`Chosen`]: one of twenty-one commands with its values, among them the
-//! [`Format`] of a report. `clap` does the reading; a [`WordsFault`] carries its error and has the
+//! [`words::chosen`] returns a [`Chosen`]: one of twenty-one commands with its values, among them
+//! the [`Format`] of a report. `clap` does the reading; a [`WordsFault`] carries its error and has the
 //! program's exit status. [`completion::complete`] adds a default setup and store to the words, and
 //! [`needs::list_missing`] lists the arguments that they lack.
 //!

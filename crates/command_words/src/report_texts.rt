@@ -28,8 +28,8 @@ pub(crate) const OVERDUE: Help = Help {
     about: "Lists the loans that are past their last day, with objects not yet returned",
     usage: "pairsalder overdue --setup PATH --store PATH --on DAY\n       [--upto N] [--csv | --json | --table]",
     more: "\
-For loan control: which objects partners should have returned, and which the
-museum should have given back.
+For loan control: the loans whose objects a partner should have returned, or the
+museum should have given back. 'pairsalder dues' lists the objects.
 
 Prints a line for each loan, its code and its last day, in the order of the
 agreements. With --csv, --json or --table the fields are loan and last.
@@ -233,7 +233,7 @@ pub(crate) const WHY: Help = Help {
     about: "Explains the verdict on an entry",
     usage: "pairsalder why --setup PATH --store PATH ENTRY\n       [--upto N] [--csv | --json | --table]",
     more: "\
-For a message that was refused: which object, place or loan is the cause.
+For a message that was not applied: which object, place or loan is the cause.
 
 Prints a line for entry ENTRY: its number, station, n and kind, what it names,
 and its verdict with the cause, from the record just before the entry. Of

@@ -72,7 +72,8 @@ pub(crate) const SERVE: Help = Help {
 For an evening's import: all stations' files are read at once into one record.
 
 FEEDS are as many files as the setup has stations, in the setup's order. Each
-has the lines of its station. Prints the replies in the order in which the
+has the lines of its station; the station in a line is ignored. A station with
+no messages needs an empty file. Prints the replies in the order in which the
 messages were processed. With --store or PAIRSALDER_STORE, the record is kept in
 that file. Without a store, nothing is kept.
 
@@ -126,7 +127,7 @@ For new objects, shelves and desks: adds them to the setup of the record.
 
 --setup names a setup file: your whole list, or only what is new. What the
 record has keeps its number, and what is new goes last, in the order of its
-rows. An own object that is listed again gets the normal location of its row.
+rows. An own object that the record has gets the normal location of its row.
 Nothing is removed, and no earlier verdict or location changes.
 
 Prints '+' with the row of each addition, '~' with the row of each object whose
@@ -135,9 +136,9 @@ add'. Then prints a line for each entry that was not applied because the setup
 lacked a thing or a place that it now has: send the message again under a new
 number. With --check, prints the same and changes nothing.
 
-If a row has a fault, nothing is added. One such fault is OtherSide: the record
-has the place with the other word, inside or elsewhere. After a growth, every
-other command needs the whole list, which 'pairsalder setup' prints.
+If rows have faults, prints all of them and adds nothing. OtherSide means that
+the record has the place with the other word, inside or elsewhere. After a
+growth, every other command needs the whole list: 'pairsalder setup' prints it.
 
 Examples:
   pairsalder grow --setup museum.csv --store museum.db --check

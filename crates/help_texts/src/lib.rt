@@ -18,6 +18,7 @@
 //! ```
 #![tactic(auto)]
 
+mod columns;
 mod faults;
 mod meaning;
 mod nearest;

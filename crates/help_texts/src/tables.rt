@@ -2,6 +2,7 @@
 ghost use Rattle.std.specs.Prelude.{IfOk};
 ghost use Rattle.help_texts.specs.Distances.{IsFoundBy};
 
+use crate::columns::COLUMNS;
 use crate::faults::{INPUT_FAULTS, RUN_FAULTS};
 use crate::nearest::nearest_in;
 use crate::refusals::REFUSALS;
@@ -22,6 +23,7 @@ enum Subject {
     Answers,
     Stages,
     CountAnswers,
+    Columns,
 }
 
 /// All subjects.
@@ -34,6 +36,7 @@ const SUBJECTS: &[Subject] = &[
     Subject::Answers,
     Subject::Stages,
     Subject::CountAnswers,
+    Subject::Columns,
 ];
 
 /// The words of a subject. No two of all words differ only in the case of their letters. One table
@@ -48,6 +51,7 @@ fn words_of(subject: Subject) -> &'static [Meaning] {
         Subject::Answers => ANSWERS,
         Subject::Stages => STAGES,
         Subject::CountAnswers => COUNT_ANSWERS,
+        Subject::Columns => COLUMNS,
     }
 }
 

@@ -1,4 +1,5 @@
-use Rattle.std.proofs.Common.{◌≡◌, ◌++◌, ◌∙◌, ◌∷◌, List, [], ap, ap₂, arith, drop, length, refl, take}
+use Rattle.std.proofs.Common.{◌≡◌, ◌++◌, ◌∙◌, ◌∷◌, List, [], ap, ap₂, arith, drop, length, refl}
+use Rattle.std.proofs.Common.{take}
 use Rattle.std.proofs.Common.{ℕ}
 use Rattle.std.specs.Prelude.{min}
 use Rattle.std.specs.Borrow.{Bor}
