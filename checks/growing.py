@@ -15,7 +15,7 @@ import sys
 
 import seeds
 from growing_changes import changed_growths, cut_below_a_growth
-from growing_kills import full_disk, killed, killed_at_each_call, together
+from growing_kills import failing_at_each_call, full_disk, killed, killed_at_each_call, together
 from growing_records import random_records
 from growing_room import MORE, asks, file_of, grows, lists, plain_line, prints, run, same, story
 from growing_years import years
@@ -38,6 +38,7 @@ def by_hand(room):
     listed = record.setup.rows()
     new = ["place,S5,inside", "own,2001.4.9,S5", "station,DOOR", "lent,L2000.1", "box,C9", "own,2001.4.1,S5"]
     wanted = record.grow(file_of(new).encode())
+    added = new[:-1]
     changed = [row.replace("2001.4.1,S1-A", "2001.4.1,S5") for row in listed]
     quoted = [",".join(f'"{field}"' for field in row.split(",")) for row in new]
     files = [
@@ -48,12 +49,10 @@ def by_hand(room):
         "\ufeff" + file_of(new).replace("\n", ",,\r\n"),
         file_of(quoted),
         file_of(new).replace("\n", "\n\n,,\n"),
-        file_of(new * 2),
         # the whole list, with what is new at its end or at its start, or in any order
-        file_of(listed + new),
-        file_of(new[:1] + changed + new[1:]),
-        file_of(new + changed),
-        file_of(new[:1] + sorted(changed, key=lambda row: (not row.startswith("place,"), row[::-1])) + new[1:]),
+        file_of(added[:1] + changed + added[1:]),
+        file_of(added + changed),
+        file_of(added[:1] + sorted(changed, key=lambda row: (not row.startswith("place,"), row[::-1])) + added[1:]),
     ]
     good = True
     for file in files:
@@ -82,13 +81,15 @@ def mixed_up(room):
 # Growths that are refused
 
 OTHER_SIDE = "is on record as {}, which can't change: give the new place another code"
-NOT_ABOVE = "'S9' is not listed above: list a place before its objects"
+NOT_ABOVE = "'S9' is neither on record nor listed above: list a place before its objects"
+TWICE = "is listed twice: delete one row"
 NO_KIND = "is not station, place, box, own or lent"
 REFUSED = [
     ("place,S9,inside\nplace,S1,elsewhere\n", "OtherSide row 2", "'S1' " + OTHER_SIDE.format("inside")),
     ("place,MUSEUM-X,inside\n", "OtherSide row 1", "'MUSEUM-X' " + OTHER_SIDE.format("elsewhere")),
-    ("place,S9,inside\nplace,S9,elsewhere\n", "OtherSide row 2", "'S9' " + OTHER_SIDE.format("inside")),
-    ("place,S1,elsewhere\nown,L1999.7,S1\n", "OtherSide row 1", "'S1' " + OTHER_SIDE.format("inside")),
+    ("place,S9,inside\nplace,S9,elsewhere\n", "Repeated row 2", "'S9' " + TWICE),
+    ("own,2001.4.1,S1\nown,2001.4.1,S2\n", "Repeated row 2", "'2001.4.1' " + TWICE),
+    ("station,PACK\n\nstation,PACK\n", "Repeated row 2", "'PACK' " + TWICE),
     ("box,C9\nown,2001.4.1,S9\n", "UnknownNormal row 2", NOT_ABOVE),
     ("own,2009.1,S9\nplace,S9,inside\n", "UnknownNormal row 1", NOT_ABOVE),
     ("box,C9\n,,\n\nbox,C01\n", "BadCode row 3", "'C01' is not a container's code such as C17"),
@@ -104,7 +105,23 @@ REFUSED = [
         "'S-62' exceeds the limit of 64 stations, 10000 places and 100000 things",
     ),
 ]
+NO_OWN = "'L1999.7' is not the number of an own object such as 2001.4.1"
+# a place and an object that the others name are in rows with faults, so they aren't listed
+MANY_FAULTS = [
+    ("place,S1,elsewhere\n\nown,L1999.7,S1\n", "OtherSide row 1", "'S1' " + OTHER_SIDE.format("inside")),
+    ("shelf,S9\nplace,S7,inside\nown,2009.1,S9\n", "BadCode row 2", NO_OWN),
+    ("own,2009.1,S7\nown,2009.1,S7\nbox,C9\nown,2009.2,S8\n", "BadKind row 3", "'shelf' " + NO_KIND),
+    ("place,S8,inside\nplace,S7,elsewhere\n", "UnknownNormal row 5", NOT_ABOVE),
+    ("", "Repeated row 7", "'2009.1' " + TWICE),
+    ("", "UnknownNormal row 9", NOT_ABOVE.replace("S9", "S8")),
+    ("", "Repeated row 11", "'S7' " + TWICE),
+]
 NO_TEXT = [b"\xff", b"box,C9\nstation,\xc3", "box,C9\n".encode("utf-16"), b"PK\3\4\x14\0\x06\0\x08\0\xe9"]
+
+
+def fault_lines(fault, why):
+    """The lines of a fault in a row of the file."""
+    return f"fault setup {fault}\nhelp: new.csv {fault.split(' ', 1)[1]}: {why}\n"
 
 
 def refused_growths(room):
@@ -112,9 +129,11 @@ def refused_growths(room):
     bytes_of, record = story(room)
     if bytes_of is None:
         return False
-    runs = [(file.encode(), fault, f"new.csv {fault.split(' ', 1)[1]}: {why}") for file, fault, why in REFUSED]
-    runs += [(file, "NotCsv", "new.csv is not UTF-8 text: save it as CSV in UTF-8") for file in NO_TEXT]
-    runs = [(file, (1, "", f"fault setup {fault}\nhelp: {why}\n")) for file, fault, why in runs]
+    runs = [(file.encode(), (1, "", fault_lines(fault, why))) for file, fault, why in REFUSED]
+    texts, *faults = zip(*MANY_FAULTS)
+    runs.append(("".join(texts).encode(), (1, "", "".join(map(fault_lines, *faults)))))
+    encoded = "fault setup NotCsv\nhelp: new.csv is not UTF-8 text: save it as CSV in UTF-8\n"
+    runs += [(file, (1, "", encoded)) for file in NO_TEXT]
     listed = record.setup.file().encode()
     runs += [(file, (0, "nothing to add\n", "")) for file in (b"", b"\n,,\n", b"station,PACK\n", listed)]
     stored, good = read(room.store), True
@@ -223,7 +242,8 @@ def main():
         return functools.update_wrapper(lambda room: check(room, *sizes), check)
 
     checks = [sized(years, months, objects), by_hand, refused_growths, most_growths, changed_growths, cut_below_a_growth]
-    checks += [sized(killed, given.kills), killed_at_each_call, full_disk, together, sized(random_records, given.records)]
+    checks += [sized(killed, given.kills), killed_at_each_call, failing_at_each_call, full_disk, together]
+    checks += [sized(random_records, given.records)]
     return report(given.program, [it for it in checks if it.__name__ in given.checks or not given.checks], seed=seed)
 
 

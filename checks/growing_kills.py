@@ -1,4 +1,4 @@
-"""Growths that are killed, that meet a full disk, or that meet another program."""
+"""Growths that are killed, that meet a disk that fails or is full, or that meet another program."""
 import os
 import resource
 import signal
@@ -69,25 +69,46 @@ def killed(room, kills):
     return good
 
 
+def calls_of(room, library, bytes_of):
+    """The numbers of the calls by which a growth changes files."""
+    room.clear()
+    room.write("museum.db", bytes_of)
+    ended = grows(room, MANY, env={**os.environ, "LD_PRELOAD": library, "CALLS": room.path("calls")})
+    if ended[0]:
+        sys.exit(f"the growth fails: {ended}")
+    with open(room.path("calls"), encoding="ascii") as file:
+        return range(1, int(file.read()) + 1)
+
+
 def killed_at_each_call(room):
     """The same before each call that changes a file, and after the last one."""
     bytes_of, old, new, _ = before_and_after(room)
     library, good, found = built(room), True, set()
-    calls = {**os.environ, "LD_PRELOAD": library, "CALLS": room.path("calls")}
-    room.clear()
-    room.write("museum.db", bytes_of)
-    good &= same(grows(room, MANY, env=calls)[0], 0)
-    with open(room.path("calls"), encoding="ascii") as file:
-        count = int(file.read())
-    for number in range(1, count + 1):
+    numbers = calls_of(room, library, bytes_of)
+    for number in numbers:
         room.clear()
         room.write("museum.db", bytes_of)
         status = grows(room, MANY, env={**os.environ, "LD_PRELOAD": library, "KILLED": str(number)})[0]
         is_good, has_grown = is_old_or_new(room, old, new)
         found.add(has_grown)
         good &= same((number, status, is_good), (number, -signal.SIGKILL, True))
-    print(f"  {count} calls")
+    print(f"  {len(numbers)} calls")
     return good and same(found, {False, True})
+
+
+def failing_at_each_call(room):
+    """A growth on a disk that fails from some call on says so, unless it is done; it leaves the old setup or the new."""
+    bytes_of, old, new, _ = before_and_after(room)
+    library, good, found = built(room), True, set()
+    for number in calls_of(room, library, bytes_of):
+        room.clear()
+        room.write("museum.db", bytes_of)
+        status, _, errors = grows(room, MANY, env={**os.environ, "LD_PRELOAD": library, "FAILED": str(number)})
+        is_good, has_grown = is_old_or_new(room, old, new)
+        found.add((status, has_grown))
+        said = errors.startswith("fault store Store\n") if status else errors == ""
+        good &= same((number, is_good, said, status == 0 and not has_grown), (number, True, True, False))
+    return good and same(found >= {(1, False), (1, True)}, True)
 
 
 def bounded(limit):

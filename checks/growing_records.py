@@ -12,7 +12,7 @@ KINDS = ["station", "place", "box", "own", "lent"]
 POOL = sorted(streams.SETUP.splitlines() + NEW, key=lambda row: KINDS.index(row.split(",")[0]))
 WRONG = ["shelf,S1", "place,S1", "place,S1,elsewhere", "place,MUSEUM-X,inside", "box,C01", "own,2001.4.1,S77"]
 EVENTS = ["Applied", "UnknownThing", "UnknownPlace", "UnknownContainer", "UnknownStation", "OtherSide", "UnknownNormal",
-          "BadKind", "BadFields", "BadCode", "nothing", "+", "~", "entry"]
+          "BadKind", "BadFields", "BadCode", "Repeated", "nothing", "+", "~", "entry"]
 
 
 def with_normal(draws, row, places):
@@ -29,14 +29,15 @@ def first_file(draws):
 
 
 def new_file(draws, setup):
-    """A file for a growth: some rows, in the order of their kinds or in any, and now and then a wrong one."""
+    """A file for a growth: some rows, in the order of their kinds or in any, and now and then two that are wrong or
+    that it has twice."""
     rows = [row for row in POOL if draws.below(4) == 0]
     places = [*setup.inside, *(row.split(",")[1] for row in rows if row.startswith("place,"))]
     rows = [with_normal(draws, row, places) for row in rows]
     if draws.below(4) == 0:
         rows = [rows.pop(draws.below(len(rows))) for _ in range(len(rows))]
-    if draws.below(4) == 0:
-        rows.insert(draws.below(len(rows) + 1), draws.one_of(WRONG))
+    for _ in range(2 * (draws.below(4) == 0)):
+        rows.insert(draws.below(len(rows) + 1), draws.one_of([*WRONG, *rows]))
     file = file_of(rows)
     return draws.one_of([file, file, file.replace("\n", ",\r\n"), "\ufeff" + file]).encode()
 
@@ -74,7 +75,7 @@ def grows_at_random(room, number, seen):
             file = new_file(draws, record.setup)
             wanted = record.grow(file)
             seen.update(line.split(" ")[0] for line in wanted[1].splitlines())
-            seen.update(wanted[2].split(" ")[2:3])
+            seen.update(fault.split(" ")[2] for fault in wanted[2].splitlines())
             good &= same((file, plain_line(grows(room, file))), (file, wanted))
             good &= same(lists(room), record.setup.file())
         given = "".join(renumbered(record, lines[begin:end]))

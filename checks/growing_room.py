@@ -24,10 +24,10 @@ class Record:
         return "".join(f"{reply}\n" for reply in answers(self.setup.museum(), taken, self.posted, lines.encode()))
 
     def grow(self, file, check=False):
-        """The status, the output and the fault line of a growth."""
-        after, fault = further(self.setup, file)
-        if fault:
-            return 1, "", f"fault setup {fault}\n"
+        """The status, the output and the fault lines of a growth."""
+        after, faults = further(self.setup, file)
+        if faults:
+            return 1, "", "".join(f"fault setup {fault}\n" for fault in faults)
         output = growth_lines(self.setup, after, self.posted)
         if output != ["nothing to add"] and not check:
             self.setup = grown(self.setup, after, len(self.posted))

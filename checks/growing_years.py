@@ -159,8 +159,8 @@ def grows_in_a_month(room, museum, setup):
     before, stored = [asks(room, *words) for words in asked], read(room.store)[0]
     posted = list(entries_of(before[0][1]))
     file = as_file(museum.draws, listed, rows, moved).encode()
-    after, fault = further(setup, file)
-    good &= same((fault, plain_line(grows(room, file))), (None, (0, file_of(growth_lines(setup, after, posted)), "")))
+    after, faults = further(setup, file)
+    good &= same((faults, plain_line(grows(room, file))), ([], (0, file_of(growth_lines(setup, after, posted)), "")))
     new = grown(setup, after, len(posted))
     good &= same(plain_line(asks(room, "stations")), (1, "", "fault store OtherSetup\n"))
     good &= same(lists(room), new.file()) and same(read(room.store)[0], {**stored, "setup": new.table()})

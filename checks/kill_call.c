@@ -1,8 +1,9 @@
 /* Loaded before the C library: the program is killed as it makes its KILLED-th call that changes a file or a folder, before the
-   call is made. With no KILLED, or 0, it isn't killed. At the end of the run the number of calls is written to the file CALLS,
-   if given. */
+   call is made; or the FAILED-th of these calls fails, and each one after it. With neither, or 0, nothing happens. At the end of
+   the run the number of calls is written to the file CALLS, if given. */
 #define _GNU_SOURCE
 #include <dlfcn.h>
+#include <errno.h>
 #include <signal.h>
 #include <stdatomic.h>
 #include <stdio.h>
@@ -12,25 +13,37 @@
 #include <unistd.h>
 
 static atomic_ulong calls;
-static unsigned long killed;
+static unsigned long killed, failed;
+
+static unsigned long number_in(const char *name)
+{
+    const char *text = getenv(name);
+    return text ? strtoul(text, NULL, 10) : 0;
+}
 
 __attribute__((constructor)) static void begin(void)
 {
-    const char *text = getenv("KILLED");
-    killed = text ? strtoul(text, NULL, 10) : 0;
+    killed = number_in("KILLED");
+    failed = number_in("FAILED");
 }
 
-static void count(void)
+/* Counts a call, and returns whether it fails. */
+static int fails(void)
 {
-    if (atomic_fetch_add(&calls, 1) + 1 == killed)
+    unsigned long number = atomic_fetch_add(&calls, 1) + 1;
+    if (number == killed)
         kill(getpid(), SIGKILL);
+    return failed && number >= failed;
 }
 
 #define CALL(result, name, parameters, arguments)                                \
     result name parameters                                                       \
     {                                                                            \
         result(*next) parameters = (result(*) parameters)dlsym(RTLD_NEXT, #name); \
-        count();                                                                 \
+        if (fails()) {                                                           \
+            errno = EIO;                                                         \
+            return -1;                                                           \
+        }                                                                        \
         return next arguments;                                                   \
     }
 

@@ -1,5 +1,5 @@
-"""Setups that grow, in the plain program: reading a file of new rows, its first fault, what `grow` prints, the rows
-of the table `setup`, and why a store isn't opened."""
+"""Setups that grow, in the plain program: reading a file of new rows, its faults, what `grow` prints, the rows of the
+table `setup`, and why a store isn't opened."""
 import csv
 import io
 import itertools
@@ -81,8 +81,13 @@ def rows_of(file):
             yield number, row
 
 
-def row_fault(setup, row):
-    """The first fault of a row, in the setup with the rows before it."""
+def item_of(row):
+    """What a row lists: boxes, own and lent objects are things."""
+    return row[0] if row[0] in MOST else "thing", row[1]
+
+
+def row_fault(setup, above, row):
+    """The first fault of a row, in the setup with the rows before it, of which those of the file list `above`."""
     kind, *fields = row
     if kind not in FIELDS:
         return "BadKind"
@@ -90,6 +95,8 @@ def row_fault(setup, row):
         return "BadFields"
     if not CODES[kind](fields[0]) or kind == "own" and not is_place(fields[1]):
         return "BadCode"
+    if item_of(row) in above:
+        return "Repeated"
     if kind == "place" and setup.inside.get(fields[0], SIDES[fields[1]]) != SIDES[fields[1]]:
         return "OtherSide"
     if kind == "own" and fields[1] not in setup.inside:
@@ -111,18 +118,20 @@ def take(setup, row):
 
 
 def further(setup, file):
-    """The setup with the rows of a file, or None, and the file's first fault, or None."""
-    after = setup.copy()
+    """The setup with the rows of a file, or None if it has faults, and these. A row with a fault is not taken."""
+    after, above, faults = setup.copy(), set(), []
     try:
         rows = list(rows_of(file))
     except UnicodeDecodeError:
-        return None, "NotCsv"
+        return None, ["NotCsv"]
     for number, row in rows:
-        fault = row_fault(after, row)
+        fault = row_fault(after, above, row)
         if fault:
-            return None, f"{fault} row {number}"
-        take(after, row)
-    return after, None
+            faults.append(f"{fault} row {number}")
+        else:
+            take(after, row)
+            above.add(item_of(row))
+    return None if faults else after, faults
 
 
 def grown(before, after, posted):
@@ -159,14 +168,24 @@ def growth_lines(before, after, posted):
 
 
 def now_known(before, after, posted):
-    """The lines about entries that lacked something that is new."""
+    """The lines about entries that lacked something, if all of it is listed now and wasn't before."""
     numbers = {thing: number for number, thing in enumerate(before.things)}
     for k, entry in enumerate(posted):
         code = lacked(before, numbers, k, entry)
-        of = "inside" if entry.verdict == "UnknownPlace" else "things"
-        if code in getattr(after, of) and code not in getattr(before, of):
+        if code and lists(after, entry, code) and not lists(before, entry, code):
             text = f"{entry.verdict} {code}: send it again under a new number"
             yield f"entry {k + 1} {entry.station} {entry.n} {text}"
+
+
+def lists(setup, entry, code):
+    """Whether the setup lists the code, and the other things that the entry names if it lacked a thing."""
+    if entry.verdict == "UnknownThing":
+        return all(thing in setup.things for thing in things_of(entry.message))
+    return code in (setup.inside if entry.verdict == "UnknownPlace" else setup.things)
+
+
+def things_of(message):
+    return message.get("objects", [message.get("thing")])
 
 
 def lacked(setup, numbers, k, entry):
@@ -174,8 +193,7 @@ def lacked(setup, numbers, k, entry):
     message = entry.message
     if entry.verdict == "UnknownThing":
         listed = setup.listed_at(k).things
-        things = message.get("objects", [message.get("thing")])
-        return next(x for x in things if numbers.get(x, listed) >= listed)
+        return next(x for x in things_of(message) if numbers.get(x, listed) >= listed)
     if entry.verdict == "UnknownPlace":
         return message.get("place", message.get("partner"))
     is_lacked = entry.verdict == "UnknownContainer" and is_container(message["container"])

@@ -1,8 +1,9 @@
 //! The `help:` lines about files: the cause of a fault, and what the user can do.
 
+use crate::growth_fault::row_of;
 use codes_core::{PlaceCode, ThingCode};
 use count_core::CountFault;
-use csv::{ByteRecord, ReaderBuilder};
+use csv::{ByteRecord, Reader, ReaderBuilder};
 use nest_core::{GrowFault, MOST_GROWTHS, SetupFault, field, field_count};
 use std::alloc::{AllocError, Global};
 use std::io::ErrorKind;
@@ -40,6 +41,13 @@ pub fn on_target(alloc: Global, path: &str, kind: ErrorKind) -> Advice {
     }
 }
 
+/// Returns the advice on a serving with more or fewer files than stations.
+pub fn on_feeds(alloc: Global, stations: u32, files: usize) -> Advice {
+    format!(in alloc;
+        "stations: {stations}, files: {files}; name a file for each station, in the setup's order"
+    ).ok()
+}
+
 /// Returns the advice on an argument that is not what it has to be.
 pub fn on_value(alloc: Global, value: &str, wanted: &str) -> Advice {
     let mut text = String::new(alloc);
@@ -60,32 +68,54 @@ pub fn folder_of(path: &str) -> &str {
 
 /// Returns the advice on a faulty setup file: the field that is wrong, and what it has to be.
 pub fn on_setup(alloc: Global, path: &str, bytes: &[u8], fault: SetupFault) -> Advice {
-    let Some(number) = fault.row() else {
-        return match fault {
-            SetupFault::NoStation => format!(in alloc; "{path} has no row station,NAME").ok(),
-            _ => on_encoding(alloc, path),
-        };
-    };
-    let row = row(alloc, bytes, number)?;
-    let mut text = format!(in alloc; "{path} row {number}: ").ok()?;
-    add_on_setup_row(&mut text, &row, fault).ok()?;
-    Some(text)
-}
-
-/// Returns the advice on a file by which a setup can't grow: the field that is wrong, and what it
-/// has to be.
-pub fn on_growth(alloc: Global, path: &str, bytes: &[u8], fault: GrowFault) -> Advice {
-    match fault {
-        GrowFault::Setup(fault) => on_setup(alloc, path, bytes, fault),
-        GrowFault::OtherSide(number) => {
-            let row = row(alloc, bytes, number)?;
+    match fault.row() {
+        Some(number) => {
+            let mut rows = FileRows::of(alloc, bytes);
+            let row = rows.row(number)?;
             let mut text = format!(in alloc; "{path} row {number}: ").ok()?;
-            add_on_other_side(&mut text, &row).ok()?;
+            add_on_setup_row(&mut text, row, fault).ok()?;
             Some(text)
         }
-        GrowFault::TooManyGrowths => {
-            format!(in alloc; "a setup can grow {MOST_GROWTHS} times: begin a new store").ok()
+        None => match fault {
+            SetupFault::NoStation => format!(in alloc; "{path} has no row station,NAME").ok(),
+            _ => on_encoding(alloc, path),
+        },
+    }
+}
+
+/// Returns the advice on a fault of a file by which a setup can't grow: the field that is wrong,
+/// and what it has to be. `rows` are those of the file, not read beyond the row of the fault.
+pub fn on_growth(alloc: Global, path: &str, rows: &mut FileRows<'_>, fault: GrowFault) -> Advice {
+    match row_of(fault) {
+        Some(number) => {
+            let row = rows.row(number)?;
+            let mut text = format!(in alloc; "{path} row {number}: ").ok()?;
+            add_on_further_row(&mut text, row, fault).ok()?;
+            Some(text)
         }
+        None => match fault {
+            GrowFault::TooManyGrowths => {
+                format!(in alloc; "a setup can grow {MOST_GROWTHS} times: begin a new store").ok()
+            }
+            _ => on_encoding(alloc, path),
+        },
+    }
+}
+
+/// Appends the error in a row of a file by which a setup grows.
+fn add_on_further_row(
+    text: &mut String,
+    row: &ByteRecord,
+    fault: GrowFault,
+) -> Result<(), AllocError> {
+    match fault {
+        GrowFault::OtherSide(_) => add_on_other_side(text, row),
+        GrowFault::Setup(SetupFault::UnknownNormal(_)) => {
+            add_field(text, row, 2)?;
+            text.push_str(" is neither on record nor listed above: list a place before its objects")
+        }
+        GrowFault::Setup(fault) => add_on_setup_row(text, row, fault),
+        GrowFault::TooManyGrowths => Ok(()),
     }
 }
 
@@ -105,9 +135,10 @@ pub fn on_counts(alloc: Global, path: &str, bytes: &[u8], fault: CountFault) -> 
     let Some(number) = fault.row() else {
         return on_encoding(alloc, path);
     };
-    let row = row(alloc, bytes, number)?;
+    let mut rows = FileRows::of(alloc, bytes);
+    let row = rows.row(number)?;
     let mut text = format!(in alloc; "{path} row {number}: ").ok()?;
-    add_on_count_row(&mut text, &row, fault).ok()?;
+    add_on_count_row(&mut text, row, fault).ok()?;
     Some(text)
 }
 
@@ -116,19 +147,38 @@ fn on_encoding(alloc: Global, path: &str) -> Advice {
     format!(in alloc; "{path} is not UTF-8 text: save it as CSV in UTF-8").ok()
 }
 
-/// Row `number` of the bytes, counted from 1. None if there is no such row, or if memory runs out.
-fn row(alloc: Global, bytes: &[u8], number: u64) -> Option<ByteRecord> {
-    let mut reader = ReaderBuilder::new()
-        .has_headers(false)
-        .flexible(true)
-        .from_reader(alloc, bytes);
-    let mut row = ByteRecord::new(alloc);
-    for _ in 0..number {
-        if !matches!(reader.read_byte_record(&mut row), Ok(true)) {
-            return None;
+/// The rows of a CSV file, which are read once, from the first to the last.
+#[derive(Drop)]
+pub struct FileRows<'a> {
+    reader: Reader<&'a [u8]>,
+    row: ByteRecord,
+    number: u64,
+}
+
+impl<'a> FileRows<'a> {
+    /// The rows of these bytes.
+    pub fn of(alloc: Global, bytes: &'a [u8]) -> FileRows<'a> {
+        FileRows {
+            reader: ReaderBuilder::new()
+                .has_headers(false)
+                .flexible(true)
+                .from_reader(alloc, bytes),
+            row: ByteRecord::new(alloc),
+            number: 0,
         }
     }
-    Some(row)
+
+    /// Reads on up to row `number`, counted from 1, and returns it. None if there is no such row,
+    /// or if memory runs out. A row before the last that was read is not read again.
+    fn row(&mut self, number: u64) -> Option<&ByteRecord> {
+        for _ in self.number..number {
+            if !matches!(self.reader.read_byte_record(&mut self.row), Ok(true)) {
+                return None;
+            }
+        }
+        self.number = number;
+        Some(&self.row)
+    }
 }
 
 /// Appends the error in a row of a setup.

@@ -7,8 +7,8 @@ use command_words::WordsFault;
 use std::alloc::Global;
 use std::io::Write;
 
-/// How a command without a fault ends, with the store that has its record, if there is one. The store
-/// was opened and is closed again.
+/// How a command without a fault ends, with the store that has its record, if there is one. The
+/// store was opened and is closed again.
 #[derive(Clone, Copy)]
 pub enum Ending<'a> {
     /// The command is done.

@@ -1,10 +1,11 @@
 //! Why a command stops: a line on standard error, and an exit status.
 
 use crate::advice::Advice;
+use crate::growth_fault::{GrowthFault, write_growth_fault};
 use codes_core::{CodeFault, NoMemory};
 use count_core::CountFault;
 use hub_core::RunFault;
-use nest_core::{GrowFault, SetupFault};
+use nest_core::SetupFault;
 use register_store::StoreFault;
 use setup_reports::PrintFault;
 use std::alloc::{AllocError, AllocFailed};
@@ -28,8 +29,8 @@ pub enum CommandFault {
     HeadTooLong,
     /// The first fault of the setup.
     Setup(SetupFault, Advice),
-    /// Why the setup of the store can't grow by the file.
-    Growth(GrowFault, Advice),
+    /// Why the setup of the store can't grow by the file: each fault, in the order of the rows.
+    Growth(Vec<GrowthFault>),
     /// The first fault of the count list.
     Counts(CountFault, Advice),
     /// The store failed, or cannot be used with this setup.
@@ -45,7 +46,7 @@ pub enum CommandFault {
     /// The lines of the station of this name did not come to their end.
     Unfinished(String),
     /// There are more or fewer files than stations.
-    Feeds,
+    Feeds(Advice),
     /// No command is named, an argument that it needs is missing, or an argument or a variable is
     /// not UTF-8.
     Words(Advice),
@@ -129,23 +130,20 @@ impl CommandFault {
             | CommandFault::Code(..)
             | CommandFault::Number(_)
             | CommandFault::Name(_)
-            | CommandFault::Feeds
+            | CommandFault::Feeds(_)
             | CommandFault::Words(_) => 2,
             _ => 1,
         }
     }
 
-    /// Writes the fault's line and, if there is advice, a `help:` line.
+    /// Writes the fault's line and, if there is advice, a `help:` line. Writes these two lines for
+    /// each fault of a file by which the setup can't grow.
     pub fn write<W: Write>(&self, errors: &mut W) -> io::Result<()> {
-        self.write_line(errors)?;
-        match self.advice() {
-            Some(advice) => {
-                write!(errors, "help: ")?;
-                write_on_one_line(errors, advice)?;
-                writeln!(errors)
-            }
-            None => Ok(()),
+        if let CommandFault::Growth(faults) = self {
+            return write_growth(errors, faults);
         }
+        self.write_line(errors)?;
+        write_help(errors, self.advice())
     }
 
     /// The text of the `help:` line.
@@ -154,12 +152,12 @@ impl CommandFault {
             CommandFault::File(advice)
             | CommandFault::Name(advice)
             | CommandFault::Setup(_, advice)
-            | CommandFault::Growth(_, advice)
             | CommandFault::Counts(_, advice)
             | CommandFault::Store(_, advice)
             | CommandFault::Day(_, advice)
             | CommandFault::Code(_, advice)
             | CommandFault::Number(advice)
+            | CommandFault::Feeds(advice)
             | CommandFault::Words(advice) => advice.as_deref(),
             _ => None,
         }
@@ -174,7 +172,7 @@ impl CommandFault {
             CommandFault::File(_) => writeln!(errors, "fault file"),
             CommandFault::HeadTooLong => writeln!(errors, "fault head"),
             CommandFault::Setup(fault, _) => write_row(errors, "setup", fault.name(), fault.row()),
-            CommandFault::Growth(fault, _) => write_growth(errors, *fault),
+            CommandFault::Growth(faults) => write_growth(errors, faults),
             CommandFault::Counts(fault, _) => write_row(
                 errors,
                 "counts",
@@ -187,7 +185,7 @@ impl CommandFault {
             CommandFault::Number(_) => writeln!(errors, "fault number"),
             CommandFault::Name(_) => writeln!(errors, "fault name"),
             CommandFault::Unfinished(station) => writeln!(errors, "fault unfinished {station}"),
-            CommandFault::Feeds => writeln!(errors, "fault feeds"),
+            CommandFault::Feeds(_) => writeln!(errors, "fault feeds"),
             CommandFault::Words(_) => writeln!(errors, "fault words"),
         }
     }
@@ -201,12 +199,24 @@ fn write_row<W: Write>(errors: &mut W, what: &str, name: &str, row: Option<u64>)
     }
 }
 
-/// Writes the line of a fault by which the setup can't grow.
-fn write_growth<W: Write>(errors: &mut W, fault: GrowFault) -> io::Result<()> {
-    match fault {
-        GrowFault::Setup(fault) => write_row(errors, "setup", fault.name(), fault.row()),
-        GrowFault::OtherSide(row) => write_row(errors, "setup", "OtherSide", Some(row)),
-        GrowFault::TooManyGrowths => write_row(errors, "setup", "TooManyGrowths", None),
+/// Writes the lines of the faults of a file by which the setup can't grow.
+fn write_growth<W: Write>(errors: &mut W, faults: &[GrowthFault]) -> io::Result<()> {
+    for it in faults {
+        write_growth_fault(errors, it.fault)?;
+        write_help(errors, it.advice.as_deref())?;
+    }
+    Ok(())
+}
+
+/// Writes the advice, if there is any, as a `help:` line.
+fn write_help<W: Write>(errors: &mut W, advice: Option<&str>) -> io::Result<()> {
+    match advice {
+        Some(advice) => {
+            write!(errors, "help: ")?;
+            write_on_one_line(errors, advice)?;
+            writeln!(errors)
+        }
+        None => Ok(()),
     }
 }
 

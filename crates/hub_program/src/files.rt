@@ -2,7 +2,7 @@
 ghost use Rattle.std.specs.Prelude.{◌≡◌, vec_len, IfOk};
 ghost use Rattle.nest_core.specs.SetupRows.{museum_of, rows_of};
 
-use crate::advice::{on_counts, on_file, on_setup};
+use crate::advice::{on_counts, on_feeds, on_file, on_setup};
 use crate::fault::CommandFault;
 use count_core::{CountFault, CountRow, read_counts};
 use nest_core::{Setup, SetupFault};
@@ -59,7 +59,7 @@ pub fn read_feeds(
     ensures { IfOk result (λ feeds. vec_len feeds ≡ stations) }
 {
     if files.len() != stations as usize {
-        return Err(CommandFault::Feeds);
+        return Err(CommandFault::Feeds(on_feeds(rt.alloc(), stations, files.len())));
     }
     let mut feeds = Vec::new(rt.alloc());
     for file in files {

@@ -1,16 +1,16 @@
 //! Adds the rows of a file to the setup of a store, and prints the setup that a store has.
-ghost use Rattle.std.specs.Prelude.{◌≡◌, true, IfOk, OnOk};
+ghost use Rattle.std.specs.Prelude.{◌≡◌, ◌≢◌, true, [], IfOk, OnOk};
 ghost use Rattle.hub_program.specs.Growths.{GrowsTo, IsGrownAndKept};
-ghost use Rattle.nest_core.specs.SetupGrowing.{Extends, with_file};
+ghost use Rattle.nest_core.specs.SetupGrowing.{Extends, file_faults, with_file};
 ghost use Rattle.register_sql.specs.Stores.{in_store};
 ghost use Rattle.register_store.specs.Holdings.{Comes};
 ghost use Rattle.register_store.specs.StoredRows.{AreSame};
 ghost use Rattle.sqlite.specs.Files.{file_state};
 ghost use Rattle.sqlite.specs.Held.{state};
 
-use crate::advice::on_growth;
 use crate::fault::CommandFault;
 use crate::files::read_file;
+use crate::growth_fault::explained;
 use crate::judging::judged;
 use crate::store::{Begins, ClosedStore, OpenStore, open};
 use nest_core::{GrowFault, Setup, SetupFault};
@@ -48,7 +48,7 @@ pub fn listed<'a, S: Start, W: Write>(
 /// - File, if the file can't be read;
 /// - those of opening the store, and of checking its record;
 /// - Damaged(0), if its rows are those of no setup;
-/// - Growth, for the first fault of the file, or if the setup has grown too often;
+/// - Growth, for all faults of the file, or if the setup has grown too often;
 /// - those of writing the new setup, and of closing the store;
 /// - WriteFailed. The setup has grown then.
 ///
@@ -114,6 +114,7 @@ fn grown_and_closed<'a, D: Disk + Drop>(
     ensures named { IfOk result (λ r. r.2.path ≡ store.entry.path) }
     ensures setup { IfOk result (λ r. r.1 ≡ with_file r.0.museum bytes.now) }
     ensures extends { IfOk result (λ r. Extends r.0.museum r.1) }
+    ensures right { IfOk result (λ r. file_faults r.0.museum bytes.now ≡ []) }
     ensures grown { IfOk result (λ r. IsGrownAndKept (λ k. in_store (file_state k.conn)) D.Disk
         check bytes.now store.entry.register r.0) }
 {
@@ -141,8 +142,8 @@ fn grown_and_closed<'a, D: Disk + Drop>(
 }
 
 /// Adds the rows of the file to the setup of the record, and writes the new setup to the register,
-/// unless `check`, or if nothing is added. Returns the setup with the rows. Faults: Growth, for the
-/// first fault of the file, or if the setup has grown too often; those of writing the new setup.
+/// unless `check`, or if nothing is added. Returns the setup with the rows. Faults: Growth, for all
+/// faults of the file, or if the setup has grown too often; those of writing the new setup.
 fn add_rows<S: Alter>(
     alloc: Global,
     file: &str,
@@ -154,21 +155,21 @@ fn add_rows<S: Alter>(
     requires { register.old.bound ≡ true }
     ensures setup { IfOk result (λ further. further ≡ with_file ledger.now.museum bytes.now) }
     ensures extends { IfOk result (Extends ledger.now.museum) }
+    ensures right { OnOk result (file_faults ledger.now.museum bytes.now ≡ []) }
+    ensures refused { file_faults ledger.now.museum bytes.now ≢ [] → register.new ≡ register.old }
     ensures grows { OnOk result (GrowsTo check ledger.now bytes.now
         (in_store (state S.Store register.old.conn))
         (in_store (state S.Store register.new.conn))) }
 {
     let before = ledger.setup();
-    let further = match before.with_file(alloc, bytes) {
-        Ok(further) => further,
-        Err(fault) => return Err(growth_fault(alloc, file, bytes, fault)),
-    };
+    let further = setup_with(alloc, file, bytes, before)?;
     if !has_changes(before, &further) {
         return Ok(further);
     }
     let grown = match before.grown(further.copy()?, ledger.entry_count()) {
         Ok(grown) => grown,
-        Err(fault) => return Err(growth_fault(alloc, file, bytes, fault)),
+        Err(GrowFault::Setup(SetupFault::NoMemory)) => return Err(CommandFault::NoMemory),
+        Err(fault) => return Err(growth_fault(alloc, file, bytes, &[fault])),
     };
     if !check {
         register.grow(alloc, &grown)?;
@@ -176,10 +177,28 @@ fn add_rows<S: Alter>(
     Ok(further)
 }
 
-/// The fault of a file by which the setup can't grow.
-fn growth_fault(alloc: Global, file: &str, bytes: &[u8], fault: GrowFault) -> CommandFault {
-    match fault {
-        GrowFault::Setup(SetupFault::NoMemory) => CommandFault::NoMemory,
-        _ => CommandFault::Growth(fault, on_growth(alloc, file, bytes, fault)),
+/// The setup with the rows of the file. Fault: Growth, for all faults of the file.
+fn setup_with(
+    alloc: Global,
+    file: &str,
+    bytes: &[u8],
+    before: &Setup,
+) -> Result<Setup, CommandFault>
+    ensures setup { IfOk result (λ further. further ≡ with_file before.now bytes.now) }
+    ensures extends { IfOk result (Extends before.now) }
+    ensures right { OnOk result (file_faults before.now bytes.now ≡ []) }
+{
+    let further = before.with_file(alloc, bytes)?;
+    if !further.faults.is_empty() {
+        return Err(growth_fault(alloc, file, bytes, &further.faults));
+    }
+    Ok(further.setup)
+}
+
+/// The faults of a file by which the setup can't grow.
+fn growth_fault(alloc: Global, file: &str, bytes: &[u8], faults: &[GrowFault]) -> CommandFault {
+    match explained(alloc, file, bytes, faults) {
+        Ok(faults) => CommandFault::Growth(faults),
+        Err(_) => CommandFault::NoMemory,
     }
 }

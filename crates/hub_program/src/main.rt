@@ -7,9 +7,10 @@
 //! [`CommandFault`](fault::CommandFault) becomes a line `fault ..`, a line `help: ..` and an exit
 //! status.
 //!
-//! The promises are those of the crates below. The contracts here connect them: the work of a command
-//! is done on the record that the store's files hold, the store that the words name is closed again,
-//! a serving gets one feed for each station, and a copy is compared under the setup of the record.
+//! The promises are those of the crates below. The contracts here connect them: the work of a
+//! command is done on the record that the store's files hold, the store that the words name is
+//! closed again, a serving gets one feed for each station, and a copy is compared under the setup of
+//! the record.
 //!
 //! ```text
 //! $ pairsalder where --setup museum.csv --store museum.db 2001.4.1
@@ -25,6 +26,7 @@ mod explain;
 mod fault;
 mod files;
 mod growing;
+mod growth_fault;
 mod help;
 mod judging;
 mod lines;

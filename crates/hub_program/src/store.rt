@@ -240,7 +240,8 @@ impl<'a, D: Disk + Drop> OpenStore<'a, D> {
     /// record. Faults: NoMemory, or that of closing.
     pub fn close(self, rt: &HostRuntime) -> Result<ClosedStore<'a>, CommandFault>
         ensures named { IfOk result (λ closed. closed.path ≡ self.entry.path) }
-        ensures kept { OnOk result (IsKeptAlone D.Disk (in_store (file_state self.entry.register.conn))) }
+        ensures kept { OnOk result
+            (IsKeptAlone D.Disk (in_store (file_state self.entry.register.conn))) }
     {
         let (files, closed) = self.into_files(rt)?;
         drop(files);

@@ -20,8 +20,8 @@ use work_core::visible::add_on_one_line;
 use work_core::{Work, WorkFault, do_work};
 
 /// Does the work on the record in the open store, and closes the store. The record's setup is this
-/// one, with the growths of the store. Without a store the record is empty, and in memory. Notes for
-/// the user are appended to `notes`; print them only if there is no fault.
+/// one, with the growths of the store. Without a store the record is empty, and in memory. Notes
+/// for the user are appended to `notes`; print them only if there is no fault.
 ///
 /// Faults, in this order: OtherSetup, if the growths of the store don't fit the setup; those of the
 /// work, as of [`do_work`]; those of closing the store.

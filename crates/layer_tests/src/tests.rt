@@ -5,26 +5,21 @@
 //! them is alive. If one ended with its scope, the prover would need 2 to 17 seconds for each
 //! return.
 
-mod codes;
 mod counts;
 mod disks;
 mod failing;
 mod fresh;
-mod growth;
 mod hub;
 mod lanes;
 mod memory;
 mod messages;
 mod migrations;
-mod nest;
-mod objects;
 mod register;
 mod reopening;
 mod sending;
 mod serving;
 mod serving_faults;
 mod session;
-mod stations;
 mod stops;
 
 use nest_core::Setup;

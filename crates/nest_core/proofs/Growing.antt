@@ -3,8 +3,9 @@ use Rattle.std.specs.Prelude.{ℕ, ◌+◌, ◌≡◌, ◌<◌, Bool, true, fals
 use Rattle.std.specs.Prelude.{cond, not, nat_lt, List, [], ◌∷◌, ◌++◌, length, map, fold, Option}
 use Rattle.std.specs.Prelude.{None, Some, is_none, is_some, ◌==◌, refl, suc, if◌then◌else◌}
 use Rattle.std.specs.List.{position, position_or_len, list_all}
+use Rattle.std.specs.Map.{lookup}
 use Rattle.std.specs.Option.{option_map, option_map_or, option_and_then, option_or}
-use Rattle.std.specs.Str.{bytes_eq}
+use Rattle.std.specs.Str.{bytes_eq, is_utf8}
 use Rattle.std.proofs.Common.{arith, ap, sym, subst, ◌∙◌, append_assoc}
 use Rattle.std.proofs.lemmas.Bool.{false≢true, and_parts}
 use Rattle.std.proofs.lemmas.Bool.Decides.{nat_tests}
@@ -14,13 +15,14 @@ use Rattle.indexmap.specs.IndexMap.{insert_entry}
 use Rattle.nest_core.specs.Museum.{Museum, IsMuseum, NeverFell, find_place}
 use Rattle.nest_core.specs.Museum.{find_thing, thing_codes, is_thing_row}
 use Rattle.nest_core.specs.SetupRows.{Fields, field_count, is_repeated, item_of, lacks_normal}
-use Rattle.nest_core.specs.SetupRows.{is_full}
+use Rattle.nest_core.specs.SetupRows.{is_full, rows_of}
 use Rattle.nest_core.specs.SetupRows.{CanBeListed, listing_fault, own_fault, row_fault, with_listed}
 use Rattle.nest_core.specs.declared.TheConstants.{MOST_GROWTHS}
 use Rattle.nest_core.specs.SetupGrowing.{grown, is_other_side, taking_fault, rehomed, kept_with}
-use Rattle.nest_core.specs.SetupGrowing.{with_taken, with_further, further_fault, Extends}
-use Rattle.nest_core.specs.SetupGrowing.{CanBeTaken}
+use Rattle.nest_core.specs.SetupGrowing.{Taking, all_taken, at_next, further_fault, taken_unless}
+use Rattle.nest_core.specs.SetupGrowing.{untaken, with_taken, with_further, with_file, Extends}
 use Rattle.nest_core.specs.declared.setup_fault.SetupFault.TheVariants.{UnknownNormal, TooMany}
+use Rattle.nest_core.specs.declared.grow_fault.GrowFault.{GrowFault}
 use Rattle.nest_core.specs.declared.grow_fault.GrowFault.TheVariants.{Setup}
 use Rattle.nest_core.specs.declared.setup_row.SetupRow.{SetupRow}
 use Rattle.nest_core.specs.declared.setup_row.SetupRow.TheVariants as lists
@@ -62,6 +64,26 @@ pub inserted : (S : Museum) (code : List ℕ) (normal : Option ℕ)
     → insert_entry bytes_eq S.things code normal ≡ rehomed S.things code normal
 inserted S code normal there =
     by_place S.things code normal (found_before (bytes_eq code) (thing_codes S) there)
+
+-- and is found by its code
+unseen : (es : List Thing) (code : List ℕ) → lookup (bytes_eq code) es ≡ None
+    → position_or_len (bytes_eq code) (codes_of es) ≡ length (codes_of es)
+unseen [] code h = refl
+unseen (e ∷ es) code h =
+    elim (bytes_eq code e.0) as (λ t. cond t (Some e.1) (lookup (bytes_eq code) es) ≡ None
+    → cond (not t) (1 + position_or_len (bytes_eq code) (codes_of es)) 0
+    ≡ suc (length (codes_of es))) [
+      | true ↦ λ k. absurd (cc)
+      | false ↦ λ k. omega (arith, unseen es code k)
+    ] h
+
+pub never_unseen : (S : Museum) (code : List ℕ) → is_some (find_thing S code) ≡ true
+    → lookup (bytes_eq code) S.things ≡ None → ⊥
+never_unseen S code there none = absurd (omega (
+  arith,
+  found_before (bytes_eq code) (thing_codes S) there,
+  unseen S.things code none,
+))
 
 pub codes_kept : (es : List Thing) (code : List ℕ) (normal : Option ℕ)
     → codes_of (rehomed es code normal) ≡ codes_of es
@@ -233,17 +255,26 @@ taken_extends S item =
       | false ↦ listed_extends S item
     ]
 
-further_extends : (S : Museum) (row : Fields) → Extends S (with_further S row)
-further_extends S row = elim (item_of row) as (λ o. Extends S (option_map_or (with_taken S) o S)) [
-  | None ↦ same_extends S
-  | Some item ↦ taken_extends S item
-]
+row_extends : (T : Taking) (item : Option SetupRow) (fault : Option GrowFault)
+    → Extends T.setup (taken_unless T item fault).setup
+row_extends T None None = same_extends T.setup
+row_extends T (Some item) None = taken_extends T.setup item
+row_extends T item (Some fault) = same_extends T.setup
 
-pub all_extends : (S : Museum) (rows : List Fields) → Extends S (fold with_further S rows)
-all_extends S [] = same_extends S
-all_extends S (row ∷ rows) =
-    let T = with_further S row in
-    then_extends S T (fold with_further T rows) (further_extends S row) (all_extends T rows)
+pub all_extends : (T : Taking) (rows : List Fields)
+    → Extends T.setup (fold with_further T rows).setup
+all_extends T [] = same_extends T.setup
+all_extends T (row ∷ rows) =
+    let U = with_further T row in
+    then_extends T.setup U.setup (fold with_further U rows).setup
+    (row_extends (at_next T) (item_of row) (further_fault (at_next T) row)) (all_extends U rows)
+
+pub file_extends : (S : Museum) (bytes : List ℕ) → Extends S (with_file S bytes)
+file_extends S bytes = elim (is_utf8 bytes) as (λ b.
+    Extends S (if b then (all_taken S bytes).setup else S)) [
+      | true ↦ all_extends (untaken S) (rows_of bytes)
+      | false ↦ same_extends S
+    ]
 
 -- a thing that is listed takes its normal place
 pub rehomes : (S : Museum) (n : ℕ) (code : List ℕ) (normal : Option (List ℕ))
@@ -302,18 +333,4 @@ can_be_listed S T n row item found own is some none same skips =
       (λ zero. grind (arith, nat_tests)),
       n,
       subst (λ (M : Museum). row_fault M n row ≡ None) (sym same) fault,
-    )
-
-pub can_be_taken : (S T : Museum) (n : ℕ) (row : Fields) (item : SetupRow)
-    (found : Option SetupRow) → own_fault n row ≡ None → found ≡ item_of row → found ≡ Some item
-    → taking_fault S n item ≡ None → T ≡ S → (field_count row == 0) ≡ is_none found
-    → CanBeTaken T row
-can_be_taken S T n row item found own is some none same skips =
-    let fields : (field_count row == 0) ≡ false = skips ∙ ap is_none some in
-    let fault : further_fault S n row ≡ None =
-    ap (λ f. option_or (option_map Setup f) (option_and_then (taking_fault S n) (item_of row))) own
-    ∙ ap (option_and_then (taking_fault S n)) (sym is ∙ some) ∙ none in (
-      (λ zero. grind (arith, nat_tests)),
-      n,
-      subst (λ (M : Museum). further_fault M n row ≡ None) (sym same) fault,
     )

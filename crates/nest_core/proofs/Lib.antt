@@ -8,6 +8,7 @@ pub mod Positions
 pub mod Reading
 pub mod RowTexts
 pub mod Tables
+pub mod Takings
 pub mod WorkedRows
 pub mod WorkedGrowth
 pub mod NestWords

@@ -2,13 +2,14 @@
 use Rattle.std.specs.Prelude.{◌≡◌, List, ℕ, [], ◌∷◌, true, false, None, Some, codes}
 use Rattle.std.specs.Prelude.{refl}
 use Rattle.std.specs.Fmt.{digits}
+use Rattle.std.specs.Str.{chars, is_utf8}
 use Rattle.csv.specs.Machine.{next_record}
 use Rattle.csv.specs.Reading.{records_from, strip_bom}
 use Rattle.nest_core.specs.Museum.{Museum, find_place_at, find_thing_at, listed_at}
-use Rattle.nest_core.specs.SetupGrowing.{grown, rows_fault, with_file}
-use Rattle.nest_core.specs.SetupRows.{rows_of}
+use Rattle.nest_core.specs.SetupGrowing.{all_taken, file_faults, grown}
 use Rattle.nest_core.specs.SetupTexts.{setup_rows}
-use Rattle.nest_core.specs.declared.setup_fault.SetupFault.TheVariants.{BadKind, UnknownNormal}
+use Rattle.nest_core.specs.declared.setup_fault.SetupFault.TheVariants.{BadKind, NotCsv, Repeated}
+use Rattle.nest_core.specs.declared.setup_fault.SetupFault.TheVariants.{UnknownNormal}
 use Rattle.nest_core.specs.declared.grow_fault.GrowFault.TheVariants.{OtherSide, Setup}
 
 abbrev museum : Museum
@@ -31,13 +32,32 @@ more = record {
   growths = [];
 }
 
-no_fault : rows_fault museum 1 (rows_of file) ≡ None
+no_fault : (all_taken museum file).faults ≡ []
 unfolding next_record records_from strip_bom
 no_fault = refl
 
-takes_the_file : with_file museum file ≡ more
+takes_the_file : (all_taken museum file).setup ≡ more
 unfolding next_record records_from strip_bom
 takes_the_file = refl
+
+-- The normal place of row 1 isn't listed yet, so row 1 isn't taken, and row 4 repeats row 3 alone.
+abbrev faulty : List ℕ
+faulty = codes "own,2024.9.1,S3\nplace,S3,inside\nown,2024.9.1,S3\nown,2024.9.1,S1\n"
+
+two_faults : (all_taken museum faulty).faults
+    ≡ Setup (UnknownNormal 1) ∷ Setup (Repeated 4) ∷ []
+unfolding next_record records_from strip_bom
+two_faults = refl
+
+takes_the_good_rows : (all_taken museum faulty).setup
+    ≡ record {
+      stations = codes "GAL" ∷ [];
+      places = (codes "S1", true) ∷ (codes "MUSEUM-X", false) ∷ (codes "S3", true) ∷ [];
+      things = (codes "C1", None) ∷ (codes "2001.4.1", Some 0) ∷ (codes "2024.9.1", Some 2) ∷ [];
+      growths = [];
+    }
+unfolding next_record records_from strip_bom
+takes_the_good_rows = refl
 
 -- After five entries the setup grows: the sixth is the first that knows what is new.
 abbrev later : Museum
@@ -67,16 +87,21 @@ old_thing_before = refl
 new_place_before : find_place_at later 4 (codes "S3") ≡ None
 new_place_before = refl
 
-other_side : rows_fault museum 1 (rows_of (codes "place,S3,inside\nplace,S1,elsewhere\n"))
-    ≡ Some (OtherSide 2)
+-- A listed station is kept, once.
+repeated_station : (all_taken museum (codes "station,GAL\n\nstation,GAL\n")).faults
+    ≡ Setup (Repeated 2) ∷ []
+unfolding next_record records_from strip_bom
+repeated_station = refl
+
+other_side : (all_taken museum (codes "place,S3,inside\nplace,S1,elsewhere\n")).faults
+    ≡ OtherSide 2 ∷ []
 unfolding next_record records_from strip_bom
 other_side = refl
 
-unknown_normal : rows_fault museum 1 (rows_of (codes "own,2024.9.1,S9\n"))
-    ≡ Some (Setup (UnknownNormal 1))
-unfolding next_record records_from strip_bom
-unknown_normal = refl
-
-bad_kind : rows_fault museum 1 (rows_of (codes "grew,5,2,2\n")) ≡ Some (Setup (BadKind 1))
+bad_kind : (all_taken museum (codes "grew,5,2,2\n")).faults ≡ Setup (BadKind 1) ∷ []
 unfolding next_record records_from strip_bom
 bad_kind = refl
+
+not_text : file_faults museum (255 ∷ []) ≡ Setup NotCsv ∷ []
+unfolding is_utf8 chars
+not_text = refl

@@ -1,6 +1,6 @@
 -- The definitions computed on worked rows: setup files read row by row, and puts.
 use Rattle.std.specs.Prelude.{◌≡◌, ◌≤◌, ◌+◌, ◌*◌, List, ℕ, [], ◌∷◌, length, map, true, false, None}
-use Rattle.std.specs.Prelude.{Some, codes, refl}
+use Rattle.std.specs.Prelude.{Some, codes, ◌++◌, refl}
 use Rattle.std.proofs.Common.{arith}
 use Rattle.csv.specs.Machine.{next_record}
 use Rattle.csv.specs.Reading.{records_from, strip_bom}
@@ -19,8 +19,8 @@ use Rattle.nest_core.specs.declared.setup_fault.SetupFault.TheVariants.{NoStatio
 use Rattle.nest_core.specs.declared.setup_fault.SetupFault.TheVariants.{UnknownNormal}
 
 abbrev file : List ℕ
-file = codes
-    "station,GAL\nplace,S1,inside\nplace,MUSEUM-X,elsewhere\nbox,C1\nown,2001.4.1,S1\nlent,L1999.7\n"
+file = codes "station,GAL\nplace,S1,inside\nplace,MUSEUM-X,elsewhere\nbox,C1\n"
+    ++ codes "own,2001.4.1,S1\nlent,L1999.7\n"
 
 abbrev museum : Museum
 museum = record {

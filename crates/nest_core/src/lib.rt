@@ -26,6 +26,7 @@
 
 mod grow_fault;
 mod growth;
+mod listed_items;
 mod nest;
 mod put;
 mod records;
@@ -37,6 +38,7 @@ mod setup_row;
 mod setup_text;
 mod station_name;
 mod steps;
+mod taking;
 mod thing_nos;
 
 pub use grow_fault::GrowFault;
@@ -45,7 +47,7 @@ pub use nest::{Nest, PackBar, laws};
 pub use put::{Put, Target};
 pub use setup::{PlaceNo, Setup, StationNo, ThingNo};
 pub use setup_fault::SetupFault;
-pub use setup_growing::taking_keeps_numbers;
+pub use setup_growing::{FurtherSetup, taking_keeps_numbers};
 pub use setup_row::{field, field_count};
 pub use steps::Steps;
 pub use thing_nos::{Moved, ThingNos};

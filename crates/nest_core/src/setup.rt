@@ -307,7 +307,7 @@ impl Setup {
     }
 
     /// Gives the thing with this code, which must be listed, the normal location of row `number`.
-    /// Fails with `UnknownNormal` or `NoMemory`, and then nothing changes.
+    /// Fails with `UnknownNormal`, and then nothing changes.
     pub(crate) fn rehome(
         &mut self,
         number: u64,
@@ -320,33 +320,29 @@ impl Setup {
             ((taking_fault self.old number (SetupRow.Thing code normal) ≡ None)
             × (self.new ≡ with_taken self.old (SetupRow.Thing code normal))) }
         ensures fault { IfErr result
-            (λ fault. fault ≢ GrowFault.Setup SetupFault.NoMemory
-            → taking_fault self.old number (SetupRow.Thing code normal) ≡ Some fault) }
-        ensures gives_up { result ≡ Err (GrowFault.Setup SetupFault.NoMemory)
-            → taking_fault self.old number (SetupRow.Thing code normal) ≡ None }
+            (λ fault. taking_fault self.old number (SetupRow.Thing code normal) ≡ Some fault) }
+        ensures told { IfErr result (λ fault. fault ≢ GrowFault.Setup SetupFault.NoMemory) }
         ensures unchanged { OnErr result (self.new ≡ self.old) }
     {
         let normal_no = self.normal_no(normal);
         if normal.is_some() && normal_no.is_none() {
             return Err(GrowFault::Setup(SetupFault::UnknownNormal(number)));
         }
-        match self.set_normal(code, normal_no) {
-            Ok(()) => Ok(()),
-            Err(fault) => Err(GrowFault::Setup(fault)),
-        }
+        self.set_normal(code, normal_no);
+        Ok(())
     }
 
     /// Gives the thing with this code, which must be listed, this normal location.
-    fn set_normal(&mut self, code: ThingCode, normal: Option<PlaceNo>) -> Result<(), SetupFault>
+    fn set_normal(&mut self, code: ThingCode, normal: Option<PlaceNo>)
         requires right { is_thing_row (length self.old.places) (code, normal) ≡ true }
         requires listed { is_some (find_thing self.old code) ≡ true }
-        ensures ok { OnOk result
-            (self.new ≡ record self.old { things = rehomed self.old.things code normal }) }
-        ensures err { IfErr result (λ fault. fault ≡ SetupFault.NoMemory) }
-        ensures unchanged { OnErr result (self.new ≡ self.old) }
+        ensures { self.new ≡ record self.old { things = rehomed self.old.things code normal } }
     {
-        self.things.insert(code, normal)?;
-        Ok(())
+        match self.things.insert(code, normal) {
+            Ok(_) => (),
+            // No room is needed for a thing that is listed.
+            Err(_) => unreachable!(),
+        }
     }
 
     fn add_thing(

@@ -1,19 +1,15 @@
-//! Checks a count list of 3,000 rows against a hub's ledger, with workers that wait for each other,
-//! and a list with each answer, with a probe and without. `cases/` shows the answers and reports.
-use super::hub::{opened, send};
+//! Checks a count list of 3,000 rows against a hub's ledger, with workers that wait for each other.
+//! `cases/` shows the answers and reports.
+use super::hub::send;
 use super::{kept, setup_of};
-use count_core::CountAnswer::{
-    Again, Counted, Elsewhere, Found, UnknownObject, UnknownPlace, Unplaced,
-};
-use count_core::{
-    CountAnswer, CountReport, CountRow, MissingObject, Probe, check, check_by, read_counts,
-};
+use count_core::CountAnswer::{Elsewhere, Found};
+use count_core::{CountReport, CountRow, Probe, check_by, read_counts};
 use hub_core::{Answer, Hub};
 use nest_core::StationNo;
 use register_store::{PlainRegister, Register};
 use std::alloc::Global;
 use std::process::Abort;
-use std::sync::atomic::{AtomicBool, AtomicU32, Ordering};
+use std::sync::atomic::{AtomicBool, Ordering};
 use std::test::Fail;
 use std::thread;
 
@@ -159,77 +155,5 @@ fn workers_meet(rt: HostRuntime) -> Result<(), Fail> {
     drop(hub);
     assert!(rt; is_half_found(&report?));
     assert!(rt; !meeting.missed.load(Ordering::SeqCst));
-    Ok(())
-}
-
-/// The messages that PACK sends before the list with each answer is checked.
-const PUTS: &str = r#"{"kind":"move","thing":"2001.4.1","place":"S1","day":"2024-05-01"}
-{"kind":"move","thing":"2001.4.2","place":"S2","day":"2024-05-01"}
-{"kind":"move","thing":"2001.4.3","place":"S1-A","day":"2024-05-01"}
-"#;
-
-/// A list with each answer, which misses 2001.4.3.
-const LIST: &str =
-    "S9,C2\nS1\nS1,2009.1\nS1,2001.4.1\nS1-A,2001.4.1\nS1,L1999.7\nS1,2001.4.2\nS1-A\n";
-
-const ANSWERS: &[CountAnswer] = &[
-    UnknownPlace,
-    Counted,
-    UnknownObject,
-    Found,
-    Again,
-    Unplaced,
-    Elsewhere(2),
-    Counted,
-];
-
-const MISSING: &[MissingObject] = &[
-    MissingObject {
-        place: 0,
-        object: 4,
-    },
-    MissingObject {
-        place: 1,
-        object: 4,
-    },
-];
-
-/// Counts the calls for rows.
-#[derive(Drop)]
-struct Counting {
-    seen: AtomicU32,
-}
-
-impl Probe for Counting {
-    fn seen(&self, _row: usize) {
-        self.seen.fetch_add(1, Ordering::SeqCst);
-    }
-}
-
-/// Whether a report is that of the list with each answer.
-fn is_of_each(report: &CountReport) -> bool {
-    report.answers.as_slice() == ANSWERS && report.missing.as_slice() == MISSING
-}
-
-/// A hub of the museum, in which three objects are placed.
-fn placed(rt: &impl Abort, alloc: Global) -> Result<Hub<PlainRegister>, Fail> {
-    let mut hub = opened(alloc)?;
-    let sent = tell_all(rt, alloc, &mut hub, PUTS);
-    kept(hub, sent)
-}
-
-#[test]
-fn checked_side_by_side(rt: HostRuntime) -> Result<(), Fail> {
-    let rows = read_counts(rt.alloc(), LIST.as_bytes())?;
-    let hub = placed(&rt, rt.alloc())?;
-    let counting = Counting {
-        seen: AtomicU32::new(0),
-    };
-    let plain = check(&rt, rt.alloc(), hub.ledger(), rows.as_slice());
-    let probed = check_by(&rt, rt.alloc(), hub.ledger(), rows.as_slice(), &counting);
-    drop(hub);
-    assert!(rt; is_of_each(&plain?));
-    assert!(rt; is_of_each(&probed?));
-    assert_eq!(rt; counting.seen.load(Ordering::SeqCst), 8);
     Ok(())
 }

@@ -44,7 +44,7 @@ pub(crate) fn opened<R: Fresh>(alloc: Global) -> Result<Hub<R>, Fail> {
 }
 
 /// Returns the hub, or fails if it wasn't opened.
-pub(crate) fn if_opened<R: Fresh>(opened: Result<Hub<R>, OpenFault<R>>) -> Result<Hub<R>, Fail> {
+fn if_opened<R: Fresh>(opened: Result<Hub<R>, OpenFault<R>>) -> Result<Hub<R>, Fail> {
     match opened {
         Ok(hub) => Ok(hub),
         Err(failed) => {
@@ -88,7 +88,7 @@ fn send_all<R: Register>(
 }
 
 /// Returns the hub, unless the steps after its opening failed.
-pub(crate) fn kept_hub<R: Fresh>(hub: Hub<R>, told: Result<(), Fail>) -> Result<Hub<R>, Fail> {
+fn kept_hub<R: Fresh>(hub: Hub<R>, told: Result<(), Fail>) -> Result<Hub<R>, Fail> {
     match told {
         Ok(()) => Ok(hub),
         Err(fail) => {

@@ -1,4 +1,4 @@
-//! Registers that are bound, posted to and read back.
+//! Registers of both sorts that are bound, posted to and read back.
 ghost use Rattle.std.specs.Prelude.{◌≡◌, ◌∷◌, [], true, reverse, IfOk};
 ghost use Rattle.register_store.specs.Holdings.{Comes};
 
@@ -6,7 +6,7 @@ use super::fresh::{Fresh, Stored};
 use super::{TO_S1, museum};
 use codes_core::Day;
 use nest_core::{PlaceNo, Setup, StationNo, ThingNo, ThingNos};
-use posting_core::{Changes, Entry, EntryNo, Ledger, NewLines, NewSpot, NewSpots, Spot, Verdict};
+use posting_core::{Changes, Entry, EntryNo, NewLines, NewSpot, NewSpots, Spot, Verdict};
 use register_store::{PlainRegister, Register, StoreFault, message_text, read_message};
 use std::alloc::Global;
 use std::test::Fail;
@@ -19,25 +19,6 @@ const SIGNED: &str = r#"{"by":"A. Keeper","kind":"signoff"}"#;
 const PACK: StationNo = 0;
 
 const GAL: StationNo = 1;
-
-/// A station that the setup doesn't have.
-const NONE: StationNo = 2;
-
-/// A move that is posted: its station, its number, and the number of its row.
-type Posted = (StationNo, u32, EntryNo);
-
-/// Moves that are posted, and the fault of reading them back.
-const READ: &[(&[Posted], Option<StoreFault>)] = &[
-    (&[(GAL, 1, 1)], None),
-    (&[(GAL, 999_999, 1)], None),
-    (&[(GAL, 1, 2)], Some(StoreFault::Damaged(1))),
-    (&[(NONE, 1, 1)], Some(StoreFault::Damaged(1))),
-    (&[(GAL, 0, 1)], Some(StoreFault::Damaged(1))),
-    (&[(GAL, 1_000_000, 1)], Some(StoreFault::Damaged(1))),
-    // Rows are read in the order of their numbers.
-    (&[(GAL, 2, 2), (GAL, 1, 1)], None),
-    (&[(GAL, 2, 2)], Some(StoreFault::Damaged(1))),
-];
 
 /// Thing 2 of the setup is 2001.4.1, place 0 is S1.
 const OBJECT: ThingNo = 2;
@@ -179,111 +160,5 @@ fn two_entries(rt: HostRuntime) -> Result<(), Fail> {
     let told = are_read_back_by_both(rt.alloc(), &setup);
     drop(setup);
     assert!(rt; told? == (true, true));
-    Ok(())
-}
-
-/// Posts an entry to a register, and returns whether the register then agrees with the ledger.
-fn agree_after<R: Register>(
-    alloc: Global,
-    register: &mut R,
-    ledger: &Ledger,
-    entry: &Entry,
-    changes: &Changes,
-) -> Result<bool, StoreFault> {
-    register.bind(alloc, ledger.setup())?;
-    register.post(alloc, entry, changes)?;
-    register.agrees(alloc, ledger)
-}
-
-/// Whether a new register agrees with the ledger after one posting with these changes.
-fn agreed_by<R: Fresh>(alloc: Global, ledger: &Ledger, changes: &Changes) -> Result<bool, Fail> {
-    let moved = applied(alloc, PACK, 1, TO_S1)?;
-    let mut register = R::fresh(alloc)?;
-    let agreed = agree_after(alloc, &mut register, ledger, &moved, changes);
-    register.shut();
-    Ok(agreed?)
-}
-
-/// The same for a posting with a spot.
-fn agreed_with_a_spot<R: Fresh>(alloc: Global, ledger: &Ledger) -> Result<bool, Fail> {
-    let brought = brought(alloc, 1)?;
-    agreed_by::<R>(alloc, ledger, &brought)
-}
-
-/// The same for a posting with a spot, and for one without.
-fn agreed_twice<R: Fresh>(alloc: Global, ledger: &Ledger) -> Result<(bool, bool), Fail> {
-    let more = agreed_with_a_spot::<R>(alloc, ledger)?;
-    Ok((more, agreed_by::<R>(alloc, ledger, &nothing(alloc, 1))?))
-}
-
-/// Both answers, for both sorts of register.
-fn agreed_by_both(alloc: Global, ledger: &Ledger) -> Result<[(bool, bool); 2], Fail> {
-    let plain = agreed_twice::<PlainRegister>(alloc, ledger)?;
-    let stored = agreed_twice::<Stored>(alloc, ledger)?;
-    Ok([plain, stored])
-}
-
-#[test]
-fn agrees_with_the_ledger(rt: HostRuntime) -> Result<(), Fail> {
-    let ledger = Ledger::new(rt.alloc(), museum(rt.alloc())?, 12)?;
-    let told = agreed_by_both(rt.alloc(), &ledger);
-    drop(ledger);
-    assert!(rt; told? == [(false, true), (false, true)]);
-    Ok(())
-}
-
-/// Posts a move under the number of its row.
-fn post_move<R: Register>(alloc: Global, register: &mut R, row: &Posted) -> Result<(), Fail>
-    requires { R.is_bound register.old ≡ true }
-    ensures { R.is_bound register.new ≡ true }
-{
-    let (station, n, number) = row;
-    let entry = applied(alloc, *station, *n, TO_S1)?;
-    Ok(register.post(alloc, &entry, &nothing(alloc, *number))?)
-}
-
-/// Posts these moves, and returns the fault of reading all, if there is one.
-fn read_after<R: Register>(
-    alloc: Global,
-    register: &mut R,
-    setup: &Setup,
-    rows: &[Posted],
-) -> Result<Option<StoreFault>, Fail> {
-    register.bind(alloc, setup)?;
-    for row in rows {
-        post_move(alloc, register, row)?;
-    }
-    Ok(register.all(alloc).err())
-}
-
-fn read_by<R: Fresh>(
-    alloc: Global,
-    setup: &Setup,
-    rows: &[Posted],
-) -> Result<Option<StoreFault>, Fail> {
-    let mut register = R::fresh(alloc)?;
-    let fault = read_after(alloc, &mut register, setup, rows);
-    register.shut();
-    fault
-}
-
-/// Whether both sorts of register have the expected fault for each row of `READ`.
-fn are_faults_right(alloc: Global, setup: &Setup) -> Result<bool, Fail> {
-    for (rows, want) in READ {
-        if read_by::<PlainRegister>(alloc, setup, rows)? != *want
-            || read_by::<Stored>(alloc, setup, rows)? != *want
-        {
-            return Ok(false);
-        }
-    }
-    Ok(true)
-}
-
-#[test]
-fn rows_read_back(rt: HostRuntime) -> Result<(), Fail> {
-    let setup = museum(rt.alloc())?;
-    let told = are_faults_right(rt.alloc(), &setup);
-    drop(setup);
-    assert!(rt; told?);
     Ok(())
 }

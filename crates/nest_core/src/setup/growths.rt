@@ -4,7 +4,7 @@ ghost use Rattle.std.specs.Prelude.{IfSome, MatchResult};
 ghost use Rattle.std.specs.Bool.{Decides};
 ghost use Rattle.nest_core.specs.Museum.{find_place, find_thing, find_place_at, find_thing_at};
 ghost use Rattle.nest_core.specs.SetupGrowing.{Extends, grown};
-ghost use Rattle.nest_core.specs.Museum.{NeverFell, listed_by, listed_now, listed_at};
+ghost use Rattle.nest_core.specs.Museum.{NeverFell, among_first, listed_by, listed_now, listed_at};
 
 use crate::MOST_GROWTHS;
 use crate::grow_fault::GrowFault;
@@ -106,11 +106,7 @@ impl Setup {
         ensures within { IfSome result (λ p. p < length self.now.places) }
     {
         let number = self.place(code)?;
-        if number < self.listed_at(posted).places {
-            Some(number)
-        } else {
-            None
-        }
+        if_less(number, self.listed_at(posted).places)
     }
 
     /// The number of the thing with this code, if it was listed when `posted` entries had been
@@ -121,12 +117,16 @@ impl Setup {
         ensures within { IfSome result (λ x. x < length self.now.things) }
     {
         let number = self.thing(code)?;
-        if number < self.listed_at(posted).things {
-            Some(number)
-        } else {
-            None
-        }
+        if_less(number, self.listed_at(posted).things)
     }
+}
+
+/// The number, if it is less than the count.
+fn if_less(number: u32, count: u32) -> Option<u32>
+    ensures less { result ≡ among_first count (Some number) }
+    ensures same { IfSome result (λ found. found ≡ number) }
+{
+    if number < count { Some(number) } else { None }
 }
 
 /// What was listed after `posted` entries, by these growths and what is listed now.

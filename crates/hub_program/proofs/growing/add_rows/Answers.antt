@@ -16,7 +16,7 @@ returns-then-not-has_changes-clause-grows g c =
     let bytes = c.args.bytes.now in
     let before : c.setup-before.result.now ≡ L.museum = search rules in
     let off : c.has_changes.result ≡ false = search rules in
-    let further = c.in-Ok.ensures.exact.1 in
+    let further = c.in_ok-further.ensures.setup in
     let none : has_changes c.setup-before.result.now (with_file c.setup-before.result.now bytes)
     ≡ false =
     subst (λ T. has_changes c.setup-before.result.now T ≡ false) further
@@ -32,11 +32,11 @@ returns-clause-grows g c =
     let old = in_store (state g.S.Store c.args.register.now.conn) in
     let before : S ≡ L.museum = search rules in
     let on : c.has_changes.result ≡ true = search rules in
-    let further = c.in-Ok.ensures.exact.1 in
+    let further = c.in_ok-further.ensures.setup in
     let some : has_changes L.museum (with_file L.museum bytes) ≡ true =
     subst (λ S. has_changes S (with_file S bytes) ≡ true) before
     (subst (λ T. has_changes S T ≡ true) further (sym c.has_changes.ensures.changes ∙ on)) in
-    let next : c.in-Ok-grown.grown ≡ next_setup L bytes = search rules in
+    let next : c.in-Ok.grown ≡ next_setup L bytes = search rules in
     elim c.if-not-check.branch [
       | then-not-check+in_ok-grow w ↦
           let off : c.args.check ≡ false = search rules in

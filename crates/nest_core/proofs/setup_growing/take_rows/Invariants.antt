@@ -4,10 +4,10 @@ use Rattle.nest_core.specs.RowReading.{TakesRows}
 use Rattle.nest_core.proofs.FurtherRows.{IsFurtherTo}
 use Rattle.nest_core.proofs.setup_growing.take_rows.Given as goal
 
--- The rows before this one are taken in, each of at least one byte, and the reader is after them.
+-- The rows before this one are done, each of at least one byte, and the reader is after them.
 abbrev pub invariant-loop-before : goal.invariant-loop-before
 invariant-loop-before l = TakesRows l.reader
     × (xs : List ℕ) × (source_of (λ s. Some s.now) l.reader ≡ Some xs)
-    × IsFurtherTo (strip_bom l.fn.bytes) l.fn.setup l.setup (l.before + 1)
-    (reader_state l.reader) xs
+    × IsFurtherTo (strip_bom l.fn.bytes) l.fn.taking l.taking (reader_state l.reader) xs
     × (l.before + length xs ≤ length l.fn.bytes)
+    × (l.taking.row ≡ l.before)
