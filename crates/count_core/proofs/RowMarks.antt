@@ -33,8 +33,8 @@ thing_below S code x found =
       length-map S.things (λ (row : List ℕ × Option ℕ). row.0),
     )
 
-pub named_below : (S : Museum) (o : Option (List ℕ)) (x : ℕ) → option_and_then (find_thing S) o ≡ Some x
-    → x < length S.things
+pub named_below : (S : Museum) (o : Option (List ℕ)) (x : ℕ)
+    → option_and_then (find_thing S) o ≡ Some x → x < length S.things
 named_below S None x found = absurd (cc)
 named_below S (Some code) x found = thing_below S code x found
 

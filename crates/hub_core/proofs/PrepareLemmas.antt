@@ -177,7 +177,8 @@ module _ (L : Book) (P : List Entry) (starts : List Start) (L' : Book)
           (subst (λ (Q : List Entry). IsLawful L'.museum L'.depth Q) judged.posted judged.lawful))
 
   pub not_agreed : (store : Holding) (fault : StoreFault) → IsListed store L.museum L.depth P
-      → HasGrown L.museum.growths (length P) → Each store (λ c. IsRowsFault L'.museum L'.posted c fault)
+      → HasGrown L.museum.growths (length P)
+      → Each store (λ c. IsRowsFault L'.museum L'.posted c fault)
       → Each store (λ c. IsRestoreFault L.museum c fault)
   not_agreed store fault listed grown wrong =
       λ quiet c held. rows_fault c fault grown (listed.bound.each quiet c held)

@@ -6,7 +6,8 @@ use Rattle.std.specs.Prelude.{IfSome, nat_lt, fold}
 use Rattle.std.specs.Option.{option_map, option_map_or}
 use Rattle.std.proofs.lemmas.Bool.Decides.{nat_tests}
 use Rattle.nest_core.specs.declared.growth.Growth.{Growth}
-use Rattle.nest_core.specs.SetupRows.{Fields, rows_of, museum_of, setup_fault, with_row, with_listed}
+use Rattle.nest_core.specs.SetupRows.{Fields, rows_of, museum_of, setup_fault, with_row}
+use Rattle.nest_core.specs.SetupRows.{with_listed}
 use Rattle.nest_core.specs.SetupRows.{item_of}
 use Rattle.hub_core.specs.declared.stream.head.TheConstants.{LONGEST_HEAD}
 use Rattle.std.specs.Io.KnownBytes.{Appends, IsAtEnd}

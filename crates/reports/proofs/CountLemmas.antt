@@ -36,14 +36,15 @@ pub answered_at : (B : Book) (form : Form) (rows : List CountRow) (found : List 
     (found_rows B form rows found missed) i ≡ Some (answer_row B.museum form (i + 1) row a)
 answered_at B form rows found missed i row a here its =
     let within : i < length rows = slice_get_within rows i row here in
-    let front : i < length (map (found_row_at B.museum form rows found) (range_with_len 0 (length rows)))
-    = subst (λ n. i < n) (sym
+    let front
+    : i < length (map (found_row_at B.museum form rows found) (range_with_len 0 (length rows))) =
+    subst (λ n. i < n) (sym
     (length-map-range_with_len (found_row_at B.museum form rows found) 0 (length rows))) within in
     front_at (map (found_row_at B.museum form rows found) (range_with_len 0 (length rows)))
     (map (missing_row B form) missed) i front
     ∙ (numbered (found_row_at B.museum form rows found) (length rows) i within
-    ∙ ap Some (ap (λ o. option_map_or (λ (r : CountRow). option_map_or (answer_row B.museum form (i + 1) r)
-    (slice_get found i) []) o []) here
+    ∙ ap Some (ap (λ o. option_map_or (λ (r : CountRow).
+    option_map_or (answer_row B.museum form (i + 1) r) (slice_get found i) []) o []) here
     ∙ ap (λ o. option_map_or (answer_row B.museum form (i + 1) row) o []) its))
 
 pub missed_at : (B : Book) (form : Form) (rows : List CountRow) (found : List CountAnswer)

@@ -1,5 +1,6 @@
 -- The elements that pass a test, as a loop goes through a list.
-use Rattle.std.proofs.Common.{◌≡◌, ◌∙◌, ◌+◌, ◌++◌, ◌∷◌, ◌≤◌, ◌<◌, [], Bool, List, ℕ, ap, arith, cond}
+use Rattle.std.proofs.Common.{◌≡◌, ◌∙◌, ◌+◌, ◌++◌, ◌∷◌, ◌≤◌, ◌<◌, [], Bool, List, ℕ, ap, arith}
+use Rattle.std.proofs.Common.{cond}
 use Rattle.std.proofs.Common.{false, filter, get_or, length, not, refl, take, true}
 use Rattle.std.proofs.lemmas.List.{append-nil, length-take}
 use Rattle.std.proofs.lemmas.List.Elements.{filter_more}

@@ -216,7 +216,7 @@ missing-line = refl
 not_agreed-line : words_line (unknown_row Plain (codes "LO2024.1")) ≡ codes "LO2024.1 unknown\n"
 not_agreed-line = refl
 
--- ---- the rows of reports on a small record: C1 goes to S2 with an object in it, and PACK signs off
+-- ---- the rows of reports on a small record: C1 goes to S2 with an object in it, PACK signs off
 
 abbrev small : List Entry
 small = run [] (

@@ -1,6 +1,7 @@
 -- Defines the report on why entries got their verdicts. An example of the plain line is above each
 -- row.
-use Rattle.std.specs.Prelude.{◌∷◌, ◌++◌, ◌+◌, [], ℕ, ℤ, List, None, Option, Some, codes, length, map}
+use Rattle.std.specs.Prelude.{◌∷◌, ◌++◌, ◌+◌, [], ℕ, ℤ, List, None, Option, Some, codes, length}
+use Rattle.std.specs.Prelude.{map}
 use Rattle.std.specs.Prelude.{if◌then◌else◌, option_map, reverse, slice_get}
 use Rattle.std.specs.Prelude.{Bool, false, not, true, unwrap_or}
 use Rattle.std.specs.List.{flat_map, range_with_len}

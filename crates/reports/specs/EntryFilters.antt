@@ -1,5 +1,6 @@
 -- Defines which entries the list of posted entries has.
-use Rattle.std.specs.Prelude.{◌+◌, ◌&&◌, ◌||◌, ℕ, Bool, List, false, filter, if◌then◌else◌, length, map}
+use Rattle.std.specs.Prelude.{◌+◌, ◌&&◌, ◌||◌, ℕ, Bool, List, false, filter, if◌then◌else◌, length}
+use Rattle.std.specs.Prelude.{map}
 use Rattle.std.specs.Prelude.{nat_le, not, reverse, slice_get, string_bytes, true}
 use Rattle.std.specs.List.{list_any, range_with_len}
 use Rattle.std.specs.Option.{option_map_or}

@@ -1,6 +1,7 @@
 -- Defines the rows of the reports that list loans, and objects that are due. An example of the
 -- plain line is above each.
-use Rattle.std.specs.Prelude.{◌∷◌, ◌++◌, ◌==◌, ◌&&◌, [], ℕ, ℤ, Bool, List, None, Option, Some, codes}
+use Rattle.std.specs.Prelude.{◌∷◌, ◌++◌, ◌==◌, ◌&&◌, [], ℕ, ℤ, Bool, List, None, Option, Some}
+use Rattle.std.specs.Prelude.{codes}
 use Rattle.std.specs.Prelude.{◌-ℤ◌, false, filter, if◌then◌else◌, int_le, int_lt, length, map, not}
 use Rattle.std.specs.Prelude.{option_map, pos, true, unsigned_abs}
 use Rattle.std.specs.Fmt.{signed_decimal}

@@ -11,9 +11,9 @@ use std::alloc::{AllocError, Global};
 use std::str;
 use std::thread::Threads;
 
-/// Appends a note if the report is to be about an entry that the record doesn't have yet, and one if
-/// it prints no row because the setup does not have a code or a station, or because an object has no
-/// contents.
+/// Appends a note if the report is to be about an entry that the record doesn't have yet, and one
+/// if it prints no row because the setup does not have a code or a station, or because an object
+/// has no contents.
 pub(crate) fn add_unanswered(
     notes: &mut String,
     ledger: &Ledger,
@@ -116,7 +116,8 @@ pub(crate) fn add_held<S: Register>(notes: &mut String, hub: &Hub<S>) -> Result<
         } else if held > 1 {
             writeln!(
                 notes,
-                "note: {name}: {held} messages held, waiting for {awaited}; they are not kept, send them again"
+                "note: {name}: {held} messages held, waiting for {awaited}; they are not kept, \
+                 send them again"
             )?;
         }
     }

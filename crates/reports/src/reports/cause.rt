@@ -1,6 +1,7 @@
 //! The sentence on why a message got its verdict.
 ghost use Rattle.std.specs.Prelude.{◌≡◌, IfOk, map, option_map};
-ghost use Rattle.reports.specs.Causes.{code_of, destination, details, direction_of, direction_word, inside};
+ghost use Rattle.reports.specs.Causes.{code_of, destination, details, direction_of, direction_word};
+ghost use Rattle.reports.specs.Causes.{inside};
 ghost use Rattle.reports.specs.Causes.{last_day_of, location_of, or_no_place, owner_of, owner_word};
 ghost use Rattle.reports.specs.Causes.{phrase};
 ghost use Rattle.reports.specs.Causes.{sentence, sentence_on, stage_on, stage_under, subject};

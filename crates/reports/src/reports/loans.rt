@@ -3,7 +3,8 @@ ghost use Rattle.std.specs.Prelude.{◌≡◌, ◌++◌, IfOk, OnOk, Some, filte
 ghost use Rattle.posting_core.specs.Book.{loans_in};
 ghost use Rattle.reports.specs.declared.form.Form.{Form};
 ghost use Rattle.reports.specs.LoanLists.{authoriser, count_lines, days_left, ends_by, is_at};
-ghost use Rattle.reports.specs.LoanLists.{is_listed, is_open, left_words, listed_row, listed_rows, loan_values};
+ghost use Rattle.reports.specs.LoanLists.{is_listed, is_open, left_words, listed_row, listed_rows};
+ghost use Rattle.reports.specs.LoanLists.{loan_values};
 ghost use Rattle.reports.specs.LoanLists.{loan_words, name_by, noun, out_word, signed_if};
 ghost use Rattle.reports.specs.Terms.{agreement_with};
 ghost use Rattle.reports.specs.Cells.{cell_of};
@@ -172,7 +173,8 @@ fn loan_values<'a>(
     terms: &Terms<'_>,
 ) -> Result<Vec<Field<'a>>, NoMemory>
     ensures { IfOk result
-        (λ row. map cell_of row.items ≡ loan_values ledger.entry.now on (agreement_with terms.now)) }
+        (λ row. map cell_of row.items
+        ≡ loan_values ledger.entry.now on (agreement_with terms.now)) }
 {
     let days = signed_if(alloc, days_left(ledger, on, &terms.loan))?;
     let name = name_if(authoriser(ledger.posted(), &terms.loan));

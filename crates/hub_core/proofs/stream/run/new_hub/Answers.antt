@@ -10,5 +10,5 @@ returns-in-Ok-clause-fresh c =
 
 pub returns-in-Err-clause-fault : goal.returns-in-Err-clause-fault
 returns-in-Err-clause-fault c = only_memory_lacks c.args.setup c.new.result c.in-Err.failed.register
-    c.in-Err.failed.fault c.requires (ap (λ (k : Kept). k.content) c.new.ensures) c.in-Err.ensures.refused
-    c.in-Err.ensures.counted
+    c.in-Err.failed.fault c.requires (ap (λ (k : Kept). k.content) c.new.ensures)
+    c.in-Err.ensures.refused c.in-Err.ensures.counted

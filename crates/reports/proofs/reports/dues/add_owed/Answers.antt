@@ -1,4 +1,5 @@
-use Rattle.std.proofs.Common.{◌∙◌, ◌∷◌, ◌++◌, [], Global, List, Vec, ℕ, ap, filter, get_or, map, sym}
+use Rattle.std.proofs.Common.{◌∙◌, ◌∷◌, ◌++◌, [], Global, List, Vec, ℕ, ap, filter, get_or, map}
+use Rattle.std.proofs.Common.{sym}
 use Rattle.std.proofs.Common.{take}
 use Rattle.std.proofs.lemmas.List.{append_assoc, map_push}
 use Rattle.reports.specs.declared.reports.dues.Due.{Due}
