@@ -32,7 +32,7 @@ RT = load()
 LIBRARY = taken(RT, "rtlib")
 # the prover's program, the folders of a crate, and the words that run it with bounded memory
 RATTLE, PARTS, guarded = (taken(LIBRARY, it) for it in ("RATTLE", "PARTS", "guarded"))
-# the crates of a repository, each with `name`, `folder`, and the methods below
+# the crates of a repository, each with `name`, `folder`, `is_program`, and the methods below
 crates_below = taken(LIBRARY, "crates_below")
 for method in ("words", "below", "build_rlib"):
     taken(taken(LIBRARY, "Crate"), method)
