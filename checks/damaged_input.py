@@ -7,9 +7,10 @@ that they name, and each word. With --each only every Nth of these is tried, fro
 a run with few of them each is tried.
 
 What is answered has to be a named fault, on one line of standard error and with status 1 or 2, after whole lines of output; or
-status 0, whole lines, and nothing on standard error but notes; a run with --strict may also end so with status 1. Words that aren't
-right may have the text of their reader, with status 2, and may ask for help. With a PEER, the plain program that bench/run builds,
-the answer to a session has to be the peer's, to the byte. It prints how many were tried, and the first that is wrong."""
+status 0, whole lines, and nothing on standard error but notes; a run with --strict may also end so with status 1. `grow` prints a
+line for each fault of its file. Words that aren't right may have the text of their reader, with status 2, and may ask for help. With
+a PEER, the plain program that bench/run builds, the answer to a session has to be the peer's, to the byte. It prints how many were
+tried, and the first that is wrong."""
 import os
 import pathlib
 import re
@@ -25,6 +26,7 @@ import seeds
 
 CASES = pathlib.Path(__file__).resolve().parent.parent / "cases"
 FAULT = re.compile(rb"fault [a-z]+( [A-Za-z0-9]+)?( row [0-9]+)?\n")
+GROWTH_FAULTS = re.compile(rb"(fault setup [A-Za-z]+ row [0-9]+\n)+")
 LINES = re.compile("([^\x00-\x1f\x7f\ufffd]*\n)*")  # of UTF-8, where what isn't so becomes U+FFFD
 TURNED = (b"\0", b"\xff", b'"', b"\n")
 FEW = 100  # an input with no more damages is tried with each of them
@@ -53,6 +55,8 @@ def may_be(said, of_words, words=()):
     if not errors and (status == 0 or (strict and status == 1 and out)):
         return True
     if status in (1, 2) and FAULT.fullmatch(errors):
+        return True
+    if status == 1 and b"grow" in words and GROWTH_FAULTS.fullmatch(errors):
         return True
     return of_words and status == 2 and errors.startswith(b"error: ")
 
