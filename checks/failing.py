@@ -10,7 +10,7 @@ import subprocess
 import sys
 import tty
 
-from store_room import move, report, said, scan
+from store_room import built, move, report, said, scan
 
 SMALL = "station,GAL\nplace,S1,inside\nown,2001.4.1,S1\n"
 MOVE = '{"station":"GAL","n":1,"message":{"kind":"move","thing":"2001.4.1","place":"S1","day":"2024-05-01"}}\n'
@@ -42,6 +42,17 @@ def read_fails(room):
     """After a session's line its reply is there; in the head nothing is."""
     lines, head = broken(room, f"{SMALL}\n{MOVE}"), broken(room, SMALL)
     return told(lines, (1, "GAL 1 posted 1 Applied\n", "fault read\n")) and told(head, (1, "", "fault read\n"))
+
+
+def interrupted(room):
+    """Input and output of which every other read and write is interrupted, and which take one byte at a time, are as any others."""
+    env = {**os.environ, "LD_PRELOAD": built(room, "interrupt.c")}
+    run = lambda *words, given="": said(subprocess.run(words, input=given.encode(), capture_output=True, env=env, timeout=60))
+    good = told(run(room.program, given=f"{SMALL}\n{MOVE}"), (0, "GAL 1 posted 1 Applied\n", ""))
+    good = told(run(room.program, given=SMALL), (0, "", "")) and good
+    room.write("small.csv", SMALL)
+    room.replay(MOVE, setup="small.csv")
+    return told(run(*room.words("stations", "small.csv")), (0, "GAL next 2\n", "")) and good
 
 
 def bounded(most=MOST):
@@ -99,10 +110,7 @@ def unfinished(room, library, lost):
 def lane_gives_no_end(room):
     """The fault names the lane's station, and what was printed is what was posted. No run comes to
     this by itself: both ends of a lane are kept until its thread has ended (see lose_end.c)."""
-    source = os.path.join(os.path.dirname(os.path.abspath(__file__)), "lose_end.c")
-    library = room.path("lose_end.so")
-    words = ["gcc", "-O2", "-Wall", "-shared", "-fPIC", "-o", library, source, "-ldl"]
-    subprocess.run(words, check=True)
+    library = built(room, "lose_end.c")
     good = told(unfinished(room, library, 0)[::2], (0, ""))
     for lost, station in enumerate(STATIONS, 1):
         status, log, errors = unfinished(room, library, lost)
@@ -115,4 +123,4 @@ def lane_gives_no_end(room):
 
 
 if __name__ == "__main__":
-    sys.exit(report(sys.argv[1], [read_fails, write_fails, store_refuses, lane_gives_no_end]))
+    sys.exit(report(sys.argv[1], [read_fails, interrupted, write_fails, store_refuses, lane_gives_no_end]))

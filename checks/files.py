@@ -14,7 +14,7 @@ import sys
 import time
 
 import seeds
-from store_room import AUTHORISE, CRATES, LOAN, SETUP, agree, move, pack, read, report, scan, scans, told
+from store_room import AUTHORISE, CRATES, LOAN, SETUP, agree, built, move, pack, read, report, scan, scans, told
 
 # each command that asks a record, with what it needs beside a setup and a store
 ASKING = {
@@ -60,8 +60,8 @@ def same(got, wanted):
     return got == wanted
 
 
-MISSING = " does not exist: replay and serve start a new record"
-NO_RECORD = " has no record yet: replay and serve start one"
+MISSING = " does not exist: replay, serve and desk start a new record"
+NO_RECORD = " has no record yet: replay, serve and desk start one"
 
 
 # The checks: each returns whether it holds
@@ -438,13 +438,6 @@ def killed_copy(room, kills):
     ]
 
 
-def built(room):
-    """A library that kills the program as it makes one of its calls that change a file."""
-    source, library = os.path.join(os.path.dirname(os.path.abspath(__file__)), "kill_call.c"), room.path("kill_call.so")
-    subprocess.run(["gcc", "-O2", "-Wall", "-shared", "-fPIC", "-o", library, source, "-ldl"], check=True)
-    return library
-
-
 def calls_of(room, library, command, *more, given=""):
     """How many such calls a run of the command makes."""
     env = {**os.environ, "LD_PRELOAD": library, "CALLS": room.path("calls")}
@@ -463,7 +456,7 @@ def killed_run(room, library, number, command, *more, given=""):
 
 def killed_at_each_call(room):
     """A replay, with the closing of its store, and a copy, killed before each of their calls that change a file."""
-    library = built(room)
+    library = built(room, "kill_call.c")
     moves = [move("C1", ("S1", "S2")[n % 2]) for n in range(30)]
     given, good = scans(moves), True
     text = room.made(moves[:5])

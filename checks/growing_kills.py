@@ -6,9 +6,8 @@ import subprocess
 import sys
 import time
 
-from files import built
 from growing_room import IN_USE, MORE, asks, at_desk, file_of, grows, lists, plain_line, prints, same, story
-from store_room import move, read
+from store_room import built, move, read
 
 MANY = file_of(["place,S5,inside", *(f"own,2020.{number},S5" for number in range(1, 3001))]).encode()
 
@@ -83,7 +82,7 @@ def calls_of(room, library, bytes_of):
 def killed_at_each_call(room):
     """The same before each call that changes a file, and after the last one."""
     bytes_of, old, new, _ = before_and_after(room)
-    library, good, found = built(room), True, set()
+    library, good, found = built(room, "kill_call.c"), True, set()
     numbers = calls_of(room, library, bytes_of)
     for number in numbers:
         room.clear()
@@ -99,7 +98,7 @@ def killed_at_each_call(room):
 def failing_at_each_call(room):
     """A growth on a disk that fails from some call on says so, unless it is done; it leaves the old setup or the new."""
     bytes_of, old, new, _ = before_and_after(room)
-    library, good, found = built(room), True, set()
+    library, good, found = built(room, "kill_call.c"), True, set()
     for number in calls_of(room, library, bytes_of):
         room.clear()
         room.write("museum.db", bytes_of)

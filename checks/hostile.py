@@ -11,7 +11,7 @@ import time
 
 import seeds
 from plain_store import refusal, setup_rows
-from store_room import LOAN, MUSEUM, NORMAL, move, read, report, said, scans, settle
+from store_room import AUTHORISE, LOAN, MUSEUM, NORMAL, agree, built, leave, move, pack, read, report, said, scans, settle, stops
 
 MOVES = {"PACK": [move("C1", ("S1", "S2")[n % 2]) for n in range(150)], "GAL": [move("C2", ("S2", "S1")[n % 2]) for n in range(150)]}
 
@@ -118,11 +118,44 @@ def serve_killed(room, times):
     return True
 
 
+def disk_stops(room):
+    """A replay whose log, or whose database file, stops at each call on it in turn, over a new store and over one with two of its
+    messages: each answered message is on record, perhaps with one more, and the others can be posted."""
+    extend = {"kind": "extend", "loan": "LO2024.1", "last": "2024-06-30"}
+    messages = [agree(["2001.4.1"]), move("C1", "S1"), pack("2001.4.1", "C1"), AUTHORISE, extend, leave("2024-06-15")]
+    given, library, good = scans(messages), built(room, "stop_disk.c"), True
+    replies = lambda kept: [
+        f"PACK {n} refused Double" if n <= kept else f"PACK {n} posted {n} Applied" for n in range(1, len(messages) + 1)
+    ]
+    for count in (0, 2):
+        text, found = count and room.made(messages[:count]), set()
+
+        def begin():
+            room.clear()
+            if text:
+                room.write("museum.db", text)
+
+        for at, (status, output, errors) in stops(room, library, begin, lambda env: room.replay(given, env=env)):
+            answered = output.splitlines()
+            again = room.replay(given)
+            kept = again[1].count(" refused Double\n")
+            found.add((len(answered), kept))
+            right = answered == replies(count)[: len(answered)] and kept - max(len(answered), count) in (0, 1)
+            right = right and (status, errors) in ((0, ""), (1, "fault store Store\n")) and (status or kept == len(messages))
+            right = right and again == (0, "".join(f"{it}\n" for it in replies(kept)), "") and read(room.store)[2]
+            if not right:
+                print(f"  {count}, {at}: {status}, {errors!r}, {answered}, then {again}")
+                good = False
+        print(f"  answered, and on record: {sorted(found)}")
+        good = good and {(0, count), (len(messages), len(messages))} <= found
+    return good
+
+
 def main():
     words = sys.argv[1:]
     seed = seeds.taken(words)
     program, times = words[0], int(words[1]) if len(words) > 1 else 60
-    return report(program, [], [damaged_file, cut_file, serve_killed], times, seed)
+    return report(program, [disk_stops], [damaged_file, cut_file, serve_killed], times, seed)
 
 
 if __name__ == "__main__":

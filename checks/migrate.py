@@ -10,7 +10,7 @@ import time
 
 import seeds
 from plain_store import Entry, lines, setup_rows, spots, terms, text_of
-from store_room import CRATES, LOAN, MUSEUM, NORMAL, agree, held, move, read, report, scan, settle
+from store_room import CRATES, LOAN, MUSEUM, NORMAL, agree, built, held, move, read, read_copy, report, said, scan, settle, stops
 
 # the texts of the first five tables
 FIRST = (
@@ -157,11 +157,40 @@ def migration_killed(room, times):
     return True
 
 
+def disk_stops(room):
+    """A migration whose log, or whose database file, stops at each call on it in turn leaves version 1 whole or version 2 whole,
+    and can be made again."""
+    entries = posted(LOAN, VERDICTS["loan"])
+    before = make(room)
+    with open(room.store, "rb") as file:
+        text = file.read()
+
+    def begin():
+        room.clear()
+        room.write("museum.db", text)
+
+    def run(env):
+        return said(subprocess.run(room.words("migrate"), capture_output=True, env=env))
+
+    good, found = True, set()
+    for at, ran in stops(room, built(room, "stop_disk.c"), begin, run):
+        rows, _, sound = read_copy(room)
+        is_new = "term" in rows
+        found.add((ran[0], is_new))
+        again = migrate(room)
+        right = ran in ((0, "migrated\n", ""), (1, "", "fault store Store\n")) and sound and (is_new or (ran[0] and rows == before))
+        if not (right and again == (0, "migrated\n", "") and is_version_2(room, before, entries) and room.replay("") == (0, "", "")):
+            print(f"  {at}: {ran}, {sound}, {is_new}, then {again}")
+            good = False
+    print(f"  {sorted(found)}")
+    return good and found >= {(1, False), (1, True)}
+
+
 def main():
     words = sys.argv[1:]
     seed = seeds.taken(words)
     program, times = words[0], int(words[1]) if len(words) > 1 else 60
-    return report(program, [migrated_store, no_loans, migrate_refusals, no_store], [migration_killed], times, seed)
+    return report(program, [migrated_store, no_loans, migrate_refusals, no_store, disk_stops], [migration_killed], times, seed)
 
 
 if __name__ == "__main__":

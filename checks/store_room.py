@@ -1,6 +1,7 @@
 """A folder with a setup and a store, the program that is run there, what stations send to it, and what a stock SQLite
 (Python's sqlite3) reads of it; and how checks that are made in such folders are told."""
 import os
+import shutil
 import sqlite3
 import subprocess
 import tempfile
@@ -128,6 +129,41 @@ def held(room):
         text = file.read()
     log = room.store + "-wal"
     return text, os.path.exists(log) and os.path.getsize(log) >= 4096
+
+
+def read_copy(room):
+    """The same as `read` of a copy of the store and its log, which stay as they are."""
+    for end in ("", "-wal"):
+        if os.path.exists(room.store + end):
+            shutil.copyfile(room.store + end, room.path("alone.db" + end))
+    try:
+        return read(room.path("alone.db"))
+    finally:
+        for name in os.listdir(room.folder):
+            if name.startswith("alone.db"):
+                os.remove(room.path(name))
+
+
+def built(room, source):
+    """A library of this source, which a program loads before the C library."""
+    file, library = os.path.join(os.path.dirname(os.path.abspath(__file__)), source), room.path(source.replace(".c", ".so"))
+    subprocess.run(["gcc", "-O2", "-Wall", "-shared", "-fPIC", "-o", library, file, "-ldl"], check=True)
+    return library
+
+
+def stops(room, library, begin, run):
+    """Each way in which a run meets a disk that stops: the file, the number of the call on it from which each call fails, and
+    whether the machine crashes then and loses what wasn't synced; with what the run says, over the store that `begin` makes."""
+    for name in ("museum.db-wal", "museum.db"):
+        env = {**os.environ, "LD_PRELOAD": library, "NAMED": name, "CALLS": room.path("calls")}
+        begin()
+        run(env)
+        with open(room.path("calls"), encoding="ascii") as file:
+            count = int(file.read())
+        for number in range(1, count + 1):
+            for loses in ({}, {"LOSES": "1"}):
+                begin()
+                yield (name, number, *loses), run({**env, "FAILED": str(number), **loses})
 
 
 def read(store):
