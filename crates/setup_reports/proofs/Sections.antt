@@ -86,7 +86,7 @@ module _ (S : Museum) where
     length-append (station_rows S ++ place_rows S) (thing_rows S),
   )
 
-  -- the things, and what comes before and after them
+  -- the lines of the things, between those before them and those after them
   around_things : setup_rows S
       ≡ (station_rows S ++ place_rows S) ++ (thing_rows S ++ growth_rows S)
   around_things = append_assoc (station_rows S ++ place_rows S) (thing_rows S) (growth_rows S)

@@ -12,8 +12,8 @@ use nest_core::Setup;
 use posting_core::{PostedEntry, Verdict};
 use std::alloc::Global;
 
-/// The code for which the entry after `earlier` others was refused as unknown, if `after` lists what
-/// it lacked and `before` doesn't. Fails with `NoMemory`.
+/// The code for which the entry after `earlier` others was refused as unknown, if `after` lists
+/// what it lacked and `before` doesn't. Fails with `NoMemory`.
 pub(crate) fn new_code(
     alloc: Global,
     before: &Setup,

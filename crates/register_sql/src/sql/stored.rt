@@ -1,4 +1,4 @@
-//! What a register tells of the setup that its store holds.
+//! The setup that a store holds, and how it grew.
 ghost use Rattle.std.specs.Prelude.{◌≡◌, true, Err, IfOk, IfErr, IfSome, IfNone};
 ghost use Rattle.sqlite.specs.Held.{state};
 ghost use Rattle.sqlite.specs.State.{HasCleanDisk};
