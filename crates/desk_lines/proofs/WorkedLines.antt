@@ -9,7 +9,7 @@ use Rattle.desk_lines.specs.declared.desk.Desk.{Desk}
 use Rattle.desk_lines.specs.declared.desk.Target.TheVariants.{Back, Container, Out, Place}
 use Rattle.desk_lines.specs.declared.said.Code.TheVariants as code
 use Rattle.desk_lines.specs.declared.said.Rejection.TheVariants.{NoTarget, NotListed}
-use Rattle.desk_lines.specs.declared.said.Rejection.TheVariants.{NotUnderstood, OtherCase}
+use Rattle.desk_lines.specs.declared.said.Rejection.TheVariants.{Ambiguous, OtherCase}
 use Rattle.desk_lines.specs.declared.said.Said.TheVariants as says
 use Rattle.desk_lines.specs.Codes.{day_rejection, loan_rejection}
 use Rattle.desk_lines.specs.Codes.{name_rejection, objects_rejection, place_rejection}
@@ -130,7 +130,7 @@ asked = refl
 
 -- A crate whose code is also a place's.
 two_meanings : desk_step (record museum { places = (codes "C1", true) ∷ [] }) at_s2 (codes "C1")
-    ≡ (at_s2, says.Rejected NotUnderstood)
+    ≡ (at_s2, says.Rejected Ambiguous)
 unfolding text_said code_said is_ambiguous find_verb
 two_meanings = refl
 

@@ -10,7 +10,7 @@ use Rattle.desk_lines.specs.declared.desk.Desk.{Desk}
 use Rattle.desk_lines.specs.declared.desk.Target.{Target}
 use Rattle.desk_lines.specs.declared.desk.Target.TheVariants as target
 use Rattle.desk_lines.specs.declared.said.Rejection.{Rejection}
-use Rattle.desk_lines.specs.declared.said.Rejection.TheVariants.{NotUnderstood}
+use Rattle.desk_lines.specs.declared.said.Rejection.TheVariants.{Ambiguous, NotUnderstood}
 use Rattle.desk_lines.specs.declared.said.Said.{Said}
 use Rattle.desk_lines.specs.declared.said.Said.TheVariants as says
 use Rattle.desk_lines.specs.declared.verb.Verb.{Verb}
@@ -42,7 +42,7 @@ means_place S code =
 -- A code alone.
 unfoldable pub code_said : Museum → Bool → Desk → List ℕ → Said
 code_said S forced d code =
-    if is_ambiguous S code then says.Rejected NotUnderstood
+    if is_ambiguous S code then says.Rejected Ambiguous
     else if means_place S code
     then unless (place_rejection S forced code) (aims (target.Place code))
     else unless (thing_rejection S forced code) (scanned d code)

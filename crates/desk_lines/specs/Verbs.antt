@@ -4,10 +4,10 @@ use Rattle.std.specs.List.{find}
 use Rattle.std.specs.Str.{bytes_eq}
 use Rattle.desk_lines.specs.declared.verb.Verb.{Verb}
 use Rattle.desk_lines.specs.declared.verb.Verb.TheVariants.{Agree, Ask, At, Authorise, Away, Back}
-use Rattle.desk_lines.specs.declared.verb.Verb.TheVariants.{Clear, Contents, Day, Extend, Help}
-use Rattle.desk_lines.specs.declared.verb.Verb.TheVariants.{History, In, Into, Loan, Loans, Out}
-use Rattle.desk_lines.specs.declared.verb.Verb.TheVariants.{Overdue, Posted, SignOff, Stations, To}
-use Rattle.desk_lines.specs.declared.verb.Verb.TheVariants.{Where, Why}
+use Rattle.desk_lines.specs.declared.verb.Verb.TheVariants.{Clear, Contents, Day, Dues, Extend}
+use Rattle.desk_lines.specs.declared.verb.Verb.TheVariants.{Help, History, In, Into, Loan, Loans}
+use Rattle.desk_lines.specs.declared.verb.Verb.TheVariants.{Out, Overdue, Posted, SignOff, Stations}
+use Rattle.desk_lines.specs.declared.verb.Verb.TheVariants.{To, Where, Why}
 
 abbrev pub verb_word : Verb → List ℕ
 verb_word To = codes "to"
@@ -30,6 +30,7 @@ verb_word At = codes "at"
 verb_word Loan = codes "loan"
 verb_word Loans = codes "loans"
 verb_word Overdue = codes "overdue"
+verb_word Dues = codes "dues"
 verb_word Away = codes "away"
 verb_word Stations = codes "stations"
 verb_word Posted = codes "posted"
@@ -38,7 +39,8 @@ verb_word Why = codes "why"
 abbrev pub verbs : List Verb
 verbs =
     To ∷ Into ∷ Out ∷ Back ∷ In ∷ Clear ∷ Day ∷ Agree ∷ Authorise ∷ Extend ∷ SignOff ∷ Help ∷ Ask
-    ∷ Where ∷ History ∷ Contents ∷ At ∷ Loan ∷ Loans ∷ Overdue ∷ Away ∷ Stations ∷ Posted ∷ Why ∷ []
+    ∷ Where ∷ History ∷ Contents ∷ At ∷ Loan ∷ Loans ∷ Overdue ∷ Dues ∷ Away ∷ Stations ∷ Posted
+    ∷ Why ∷ []
 
 -- The verb of this word.
 unfoldable pub find_verb : List ℕ → Option Verb

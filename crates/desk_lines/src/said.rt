@@ -18,6 +18,8 @@ pub enum Rejection {
     NotListed(Code),
     /// The setup lists this code, which differs from the line's in upper and lower case only.
     OtherCase(Code),
+    /// The setup lists the code as a place and as a container. The line needs `to` or `into`.
+    Ambiguous,
     /// There is no target for the thing.
     NoTarget,
     /// There is no day for the message.

@@ -17,7 +17,7 @@ pub(crate) fn read_code(setup: &Setup, forced: bool, desk: &Desk, code: &[u8]) -
     ensures { result ≡ code_said setup.now forced desk.now code.now }
 {
     if is_ambiguous(setup, code) {
-        return Said::Rejected(Rejection::NotUnderstood);
+        return Said::Rejected(Rejection::Ambiguous);
     }
     if means_place(setup, code) {
         return match read_place(setup, forced, code) {

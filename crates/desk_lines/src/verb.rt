@@ -25,6 +25,7 @@ pub(crate) enum Verb {
     Loan,
     Loans,
     Overdue,
+    Dues,
     Away,
     Stations,
     Posted,
@@ -32,7 +33,7 @@ pub(crate) enum Verb {
 }
 
 /// All verbs.
-const VERBS: [Verb; 24] = [
+const VERBS: [Verb; 25] = [
     Verb::To,
     Verb::Into,
     Verb::Out,
@@ -53,6 +54,7 @@ const VERBS: [Verb; 24] = [
     Verb::Loan,
     Verb::Loans,
     Verb::Overdue,
+    Verb::Dues,
     Verb::Away,
     Verb::Stations,
     Verb::Posted,
@@ -84,6 +86,7 @@ pub(crate) fn word_of(verb: Verb) -> &'static str
         Verb::Loan => "loan",
         Verb::Loans => "loans",
         Verb::Overdue => "overdue",
+        Verb::Dues => "dues",
         Verb::Away => "away",
         Verb::Stations => "stations",
         Verb::Posted => "posted",
