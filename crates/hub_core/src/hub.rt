@@ -225,7 +225,7 @@ impl<R: Register> Hub<R> {
         // Whatever the hub stands for: it is the first number after the unbroken run of those the
         // station sent.
         ensures next { (O : List Entry) (A : List Arrival) → StandsFor R.holding self.now O A
-            → station < length self.now.sequences →
+            → station < length self.now.book.museum.stations →
             result ≡ ready is_sign_off (point self.now.book.museum self.now.book.depth O A).taken
             station + 1 }
     {

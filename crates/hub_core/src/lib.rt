@@ -33,8 +33,8 @@ mod tally;
 
 pub use hub::answer::{Answer, Arrival, HubFault, Where};
 pub use hub::{Hub, OpenFault};
-pub use line::bytes::{feed_at, without_return};
-pub use line::reply::LONGEST_LINE;
+pub use line::bytes::{MOST_KEPT, Reads, feed_at, flush, next_line, without_return};
+pub use line::reply::{LONGEST_LINE, answer_request};
 pub use line::request::{
     Line, Request, read_line, read_line_with, read_request, read_request_with,
 };
@@ -43,6 +43,6 @@ pub use outcome::{Outcome, Watch};
 pub use replay_fault::ReplayFault;
 pub use run_fault::RunFault;
 pub use stream::head::LONGEST_HEAD;
-pub use stream::lines::{replay, replay_watched};
+pub use stream::lines::{replay, replay_watched, write_text};
 pub use stream::run::run;
 pub use tally::{Tally, VERDICTS};

@@ -27,6 +27,7 @@ mod printing;
 mod question;
 mod reports;
 mod rows;
+mod sentences;
 mod table;
 mod writing;
 
@@ -34,3 +35,5 @@ pub use fault::PrintFault;
 pub use form::Form;
 pub use printing::{print, print_as_of};
 pub use question::{EntryFilter, LoanFilter, Question, names_of};
+pub use reports::loan::partner_of;
+pub use sentences::{cause_text, where_text};

@@ -11,7 +11,7 @@ use std::io::{BufRead, ErrorKind, Write};
 
 /// How many bytes of a line are kept: one more than the longest line with a carriage return at its
 /// end. That is enough to see that a line is too long.
-const MOST_KEPT: usize = 16_386;
+pub const MOST_KEPT: usize = 16_386;
 
 /// Where a piece of a line ends: at the line feed, at the end of the input, or before either.
 #[derive(Clone, Copy, Debug, PartialEq, Eq)]
@@ -24,14 +24,14 @@ pub(crate) enum End {
 /// The number of reads that are left, and the number of bytes that the last read showed and that
 /// aren't taken yet. Those bytes can be taken without waiting.
 #[derive(Clone, Copy, Debug)]
-pub(crate) struct Reads {
+pub struct Reads {
     pub left: u32,
     pub ahead: usize,
 }
 
 impl Reads {
     /// All reads are left.
-    pub(crate) fn new() -> Reads
+    pub fn new() -> Reads
         ensures { result ≡ record { left = u32.MAX; ahead = 0 } }
     {
         Reads {
@@ -44,7 +44,7 @@ impl Reads {
 /// Reads the next line, and returns true if a line feed ended it, false if the input did. Only the
 /// first MOST_KEPT of its bytes are kept. The output is flushed before each read that may wait.
 /// Faults: WriteFailed; ReadFailed, also if no reads are left; NoMemory.
-pub(crate) fn next_line<R: BufRead, W: Write>(
+pub fn next_line<R: BufRead, W: Write>(
     input: &mut R,
     output: &mut W,
     reads: &mut Reads,
@@ -70,8 +70,8 @@ pub(crate) fn next_line<R: BufRead, W: Write>(
     Err(ReplayFault::ReadFailed)
 }
 
-/// Flushes the output.
-pub(crate) fn flush<W: Write>(output: &mut W) -> Result<(), ReplayFault>
+/// Flushes the output. Fault: WriteFailed.
+pub fn flush<W: Write>(output: &mut W) -> Result<(), ReplayFault>
     ensures kept { Keeps (W.contents output.old) (W.contents output.new) }
     ensures cause { IfErr result (λ fault. fault ≡ ReplayFault.WriteFailed) }
 {

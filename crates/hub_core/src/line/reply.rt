@@ -105,6 +105,32 @@ fn read_reply<S: Register>(
     }
 }
 
+/// Acts on the request of line `number`, counted from 1, and appends the reply to the text. After
+/// NoMemory or Store the hub has taken the line's arrival or not, or it is down and was stopped at
+/// it.
+pub fn answer_request<S: Register>(
+    alloc: Global,
+    number: u64,
+    line: Line,
+    hub: &mut Hub<S>,
+    text: &mut String,
+) -> Result<(), HubFault>
+    requires up { hub.old.down ≡ false }
+    requires known { IfSome line.station (λ s. s < length hub.old.book.museum.stations) }
+    requires room { HasRoom text.old }
+    ensures served { Serves S.holding S.refusals hub.old hub.new
+        (string_bytes text.old) (string_bytes text.new)
+        (λ O A. request_reply hub.old.book.museum hub.old.book.depth O A number line.station
+        line.request)
+        (sent_by line.station line.request) result }
+    ensures capacity { string_capacity text.old ≤ string_capacity text.new }
+{
+    match request_reply(alloc, number, line, hub, text) {
+        Ok(_) => Ok(()),
+        Err(fault) => Err(fault),
+    }
+}
+
 /// Appends the reply to a line without a fault.
 fn request_reply<S: Register>(
     alloc: Global,

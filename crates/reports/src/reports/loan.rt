@@ -69,8 +69,8 @@ pub(crate) fn agreed_terms<'a>(ledger: &'a Ledger, loan: &LoanCode) -> Option<Te
     terms_in(ledger.agreement(loan)?)
 }
 
-/// The partner of a loan, if it is agreed.
-pub(crate) fn partner_of(ledger: &Ledger, loan: &LoanCode) -> Option<PlaceCode>
+/// Returns the partner of a loan, if it is agreed.
+pub fn partner_of(ledger: &Ledger, loan: &LoanCode) -> Option<PlaceCode>
     ensures { result ≡ partner_of ledger.now loan.now }
 {
     match agreed_terms(ledger, loan) {

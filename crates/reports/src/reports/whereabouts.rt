@@ -36,7 +36,7 @@ impl<'a> Rows for Whereabouts<'a> {
     }
 }
 
-fn where_row<'a>(
+pub(crate) fn where_row<'a>(
     alloc: Global,
     ledger: &Ledger,
     form: Form,
