@@ -1,0 +1,3 @@
+pub mod TakeLemmas
+pub mod SessionLemmas
+pub mod OwnLemmas

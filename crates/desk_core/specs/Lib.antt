@@ -1,0 +1,4 @@
+pub mod Texts
+pub mod Sent
+pub mod Answers
+pub mod Sessions

@@ -1,0 +1,124 @@
+//! Takes a line: finds what it says, does it, and answers.
+ghost use Rattle.std.specs.Prelude.{◌≡◌, ◌<◌, [], false, length, IfOk, OnOk};
+ghost use Rattle.desk_core.specs.Answers.{IsAnswer, IsTold};
+ghost use Rattle.desk_core.specs.Sent.{heard, said_arrivals};
+ghost use Rattle.desk_core.specs.Sessions.{Takes};
+
+use crate::asking::add_answer;
+use crate::passing::pass_on;
+use crate::sending::send;
+use crate::texts::{add, add_day, add_rejection, add_target};
+use crate::{Bench, Questions};
+use codes_core::NoMemory;
+use desk_lines::{Desk, Rejection, Said, step};
+use hub_core::{Hub, HubFault, LONGEST_LINE};
+use nest_core::Setup;
+use posting_core::Ledger;
+use register_store::Register;
+use std::alloc::Global;
+use std::thread::Threads;
+
+/// Takes line `number`, counted from 1, and sets the text to the answer.
+pub(crate) fn take_line<T: Threads + Sync, S: Register, Q: Questions>(
+    threads: &T,
+    alloc: Global,
+    questions: &Q,
+    bench: &Bench<'_>,
+    number: u64,
+    line: &[u8],
+    desk: &mut Desk,
+    hub: &mut Hub<S>,
+    text: &mut Vec<u8>,
+) -> Result<(), HubFault>
+    requires up { hub.old.down ≡ false }
+    requires known { bench.now.station < length hub.old.book.museum.stations }
+    ensures taken { Takes S.holding hub.old hub.new
+        (λ O A. IsTold hub.old.book.museum hub.old.book.depth O A bench.now number line.now
+        (heard hub.old.book.museum desk.old line.now).1 text.new.items)
+        (λ O A. said_arrivals hub.old.book.museum hub.old.book.depth O A bench.now.station line.now
+        (heard hub.old.book.museum desk.old line.now).1) result }
+    ensures desk { OnOk result (desk.new ≡ (heard hub.old.book.museum desk.old line.now).0) }
+{
+    text.clear();
+    let said = hear(alloc, hub.ledger().setup(), desk, line)?;
+    act(
+        threads, alloc, questions, bench, number, line, said, hub, text,
+    )
+}
+
+/// What the line says.
+fn hear(alloc: Global, setup: &Setup, desk: &mut Desk, line: &[u8]) -> Result<Said, NoMemory>
+    ensures said { IfOk result (λ said. said ≡ (heard setup.now desk.old line.now).1) }
+    ensures desk { OnOk result (desk.new ≡ (heard setup.now desk.old line.now).0) }
+{
+    if line.len() > LONGEST_LINE {
+        return Ok(Said::Rejected(Rejection::NotUnderstood));
+    }
+    step(alloc, setup, desk, line)
+}
+
+/// Does what the line says, and appends the answer.
+fn act<T: Threads + Sync, S: Register, Q: Questions>(
+    threads: &T,
+    alloc: Global,
+    questions: &Q,
+    bench: &Bench<'_>,
+    number: u64,
+    line: &[u8],
+    said: Said,
+    hub: &mut Hub<S>,
+    text: &mut Vec<u8>,
+) -> Result<(), HubFault>
+    requires up { hub.old.down ≡ false }
+    requires known { bench.now.station < length hub.old.book.museum.stations }
+    requires empty { text.old.items ≡ [] }
+    ensures { Takes S.holding hub.old hub.new
+        (λ O A. IsTold hub.old.book.museum hub.old.book.depth O A bench.now number line.now
+        said text.new.items)
+        (λ O A. said_arrivals hub.old.book.museum hub.old.book.depth O A bench.now.station line.now
+        said) result }
+{
+    match said {
+        Said::Message(message) => send(alloc, bench, message, hub, text),
+        Said::Line => pass_on(alloc, bench, number, line, hub, text),
+        said => {
+            tell(
+                threads,
+                alloc,
+                questions,
+                bench,
+                hub.ledger(),
+                line,
+                &said,
+                text,
+            )?;
+            Ok(())
+        }
+    }
+}
+
+/// Appends the answer to a line that sends nothing.
+fn tell<T: Threads + Sync, Q: Questions>(
+    threads: &T,
+    alloc: Global,
+    questions: &Q,
+    bench: &Bench<'_>,
+    ledger: &Ledger,
+    line: &[u8],
+    said: &Said,
+    text: &mut Vec<u8>,
+) -> Result<(), NoMemory>
+    requires empty { text.old.items ≡ [] }
+    ensures { OnOk result (IsAnswer ledger.now bench.now line.now said.now text.new.items) }
+{
+    match said {
+        Said::Help => add(text, &[bench.help]),
+        Said::Target(target) => add_target(alloc, ledger, *target, text),
+        Said::Day(day) => add_day(alloc, *day, text),
+        Said::Report(words) => {
+            add_answer(threads, alloc, questions, bench, ledger, line, words, text)
+        }
+        Said::Rejected(rejection) => add_rejection(bench.has_bell, *rejection, line, text),
+        Said::Nothing | Said::Message(_) | Said::Line => Ok(()),
+    }
+}
