@@ -35,11 +35,11 @@ ENUMS = {
 }
 # a variant that is printed as `fault memory`
 UNPRINTED = {"NoMemory"}
-# a column whose name is that of a stage in small letters, so that the stage is explained
-SHADOWED = {"awaiting"}
 # lower words of replies and reports, which no table of the formats lists
 REPLIES = ["held", "posted", "refused", "bad", "ask", "at", "in", "unknown", "unplaced", "missing", "row", "normal", "next", "full"]
 REPLIES += ["signed off", "copied", "migrated", "grown", "grew", "note", "fault", "store", "counts", "setup", "day", "code"]
+# those of a desk
+REPLIES += ["to", "into", "out", "not sent", "no target", "no day", "nothing", "not understood"]
 
 
 def text_of(*path):
@@ -83,8 +83,7 @@ def source_names():
 def explained_words():
     """All words that have a text, in the order of the sources."""
     sources = sorted(glob.glob(os.path.join(ROOT, "crates", "help_texts", "src", "*.rt")))
-    words = [word for path in sources for word in re.findall(r'^        word: "([^"]+)"', text_of(path), re.M)]
-    return [word for word in words if word not in SHADOWED]
+    return [word for path in sources for word in re.findall(r'^        word: "([^"]+)"', text_of(path), re.M)]
 
 
 @functools.cache

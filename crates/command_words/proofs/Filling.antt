@@ -14,6 +14,7 @@ pub has_both : (option : FileOption) (n : Name) → n ≢ name.Explain → n ≢
 unfolding form_by register_app report_app
 has_both Setup name.Replay other more last = refl
 has_both Setup name.Serve other more last = refl
+has_both Setup name.Desk other more last = refl
 has_both Setup name.Count other more last = refl
 has_both Setup name.Overdue other more last = refl
 has_both Setup name.Away other more last = refl
@@ -35,6 +36,7 @@ has_both Setup name.Why other more last = refl
 has_both Setup name.Help other more last = absurd (more refl)
 has_both Store name.Replay other more last = refl
 has_both Store name.Serve other more last = refl
+has_both Store name.Desk other more last = refl
 has_both Store name.Count other more last = refl
 has_both Store name.Overdue other more last = refl
 has_both Store name.Away other more last = refl

@@ -1,7 +1,9 @@
 pub mod Naming
 pub mod WorkedRows
 pub mod WorkedCompletion
+pub mod WorkedDesk
 pub mod Settling
+pub mod Splitting
 pub mod Missing
 pub mod Filling
 pub mod Tables

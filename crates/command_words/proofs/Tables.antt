@@ -14,6 +14,7 @@ is_simple : (n : Name) → is_simple_and_free (app_by n) ≡ true
 unfolding app_by register_app report_app
 is_simple name.Replay = refl
 is_simple name.Serve = refl
+is_simple name.Desk = refl
 is_simple name.Count = refl
 is_simple name.Overdue = refl
 is_simple name.Away = refl
@@ -38,6 +39,7 @@ is_plain : (n : Name) → (app_by n).top.is_plain ≡ true
 unfolding app_by register_app report_app
 is_plain name.Replay = refl
 is_plain name.Serve = refl
+is_plain name.Desk = refl
 is_plain name.Count = refl
 is_plain name.Overdue = refl
 is_plain name.Away = refl
@@ -74,10 +76,10 @@ simple_overview app e = ap is_simple_and_free e ∙ overview_is_simple
 
 -- the commands of the overview, in its order
 abbrev pub all : List Name
-all = name.Replay ∷ name.Serve ∷ name.Count ∷ name.Overdue ∷ name.Away ∷ name.History
-    ∷ name.Migrate ∷ name.Copy ∷ name.Grow ∷ name.Setup ∷ name.Explain ∷ name.Stations
-    ∷ name.Where ∷ name.Contents ∷ name.Loan ∷ name.At ∷ name.Posted ∷ name.Loans ∷ name.Dues
-    ∷ name.Why ∷ []
+all = name.Replay ∷ name.Serve ∷ name.Desk ∷ name.Count ∷ name.Overdue ∷ name.Away
+    ∷ name.History ∷ name.Migrate ∷ name.Copy ∷ name.Grow ∷ name.Setup ∷ name.Explain
+    ∷ name.Stations ∷ name.Where ∷ name.Contents ∷ name.Loan ∷ name.At ∷ name.Posted
+    ∷ name.Loans ∷ name.Dues ∷ name.Why ∷ []
 
 all_is_overview : with_commands program_alone all ≡ overview
 unfolding app_by
@@ -110,6 +112,7 @@ pub app_is : (n : Name) → app_by n ≡ (form_by n).app
 unfolding app_by form_by
 app_is name.Replay = refl
 app_is name.Serve = refl
+app_is name.Desk = refl
 app_is name.Count = refl
 app_is name.Overdue = refl
 app_is name.Away = refl

@@ -1,6 +1,6 @@
--- Defines the twenty-one commands: the arguments that `clap` knows of each, and the values that
+-- Defines the twenty-two commands: the arguments that `clap` knows of each, and the values that
 -- each needs.
-use Rattle.std.specs.Prelude.{◌∷◌, [], ℕ, Bool, List, Some, codes, map, true, false}
+use Rattle.std.specs.Prelude.{◌∷◌, [], ℕ, Bool, List, None, Option, Some, codes, map, true, false}
 use Rattle.clap.specs.Words.{App, Rule, Text, new_app, new_rule, with_rule}
 use Rattle.clap.specs.declared.builder.action.ArgAction.TheVariants.{Set, SetTrue, Append}
 
@@ -34,16 +34,18 @@ unfoldable pub report_app : App → App
 report_app app = with_rule (with_rule (with_rule (with_rule app (option_rule (codes "upto")))
     (flag_rule (codes "csv"))) (flag_rule (codes "json"))) (flag_rule (codes "table"))
 
--- A command: its arguments, the values that it can't do without, and whether it is a report, which
--- takes at most one of --csv, --json and --table.
+-- A command: its arguments, the values that it can't do without, the flag with which it needs none
+-- of them, and whether it is a report, which takes at most one of --csv, --json and --table.
 pub record Form : Type 0 where
   pub app : App
   pub needed : List Text
+  pub waiver : Option Text
   pub is_report : Bool
 
 -- A command that needs one value.
 abbrev pub one_needed : App → Text → Form
-one_needed app id = record { app = app; needed = id ∷ []; is_report = false }
+one_needed app id =
+    record { app = app; needed = id ∷ []; waiver = None; is_report = false }
 
 -- A command that needs a setup.
 abbrev pub setup_needed : App → Form
@@ -51,13 +53,21 @@ setup_needed app = one_needed app (codes "setup")
 
 -- A command that needs a setup and a store.
 abbrev pub both_needed : App → Form
-both_needed app =
-    record { app = app; needed = codes "setup" ∷ codes "store" ∷ []; is_report = false }
+both_needed app = record {
+  app = app;
+  needed = codes "setup" ∷ codes "store" ∷ [];
+  waiver = None;
+  is_report = false;
+}
 
 -- A command that needs a setup, a store and one more value.
 abbrev pub all_needed : App → Text → Form
-all_needed app id =
-    record { app = app; needed = codes "setup" ∷ codes "store" ∷ id ∷ []; is_report = false }
+all_needed app id = record {
+  app = app;
+  needed = codes "setup" ∷ codes "store" ∷ id ∷ [];
+  waiver = None;
+  is_report = false;
+}
 
 -- The command is a report.
 abbrev pub report : Form → Form
@@ -70,6 +80,15 @@ replay = setup_needed
 
 abbrev pub serve : Form
 serve = setup_needed (with_rule (register_app (codes "serve")) (words_rule (codes "feeds")))
+
+-- The desk's own station, the day, the bell, and the flag that prints the cards.
+abbrev pub desk : Form
+desk =
+    record (all_needed
+    (with_rule (with_rule (with_rule (with_rule (register_app (codes "desk"))
+    (option_rule (codes "station"))) (option_rule (codes "day"))) (flag_rule (codes "bell")))
+    (flag_rule (codes "cards")))
+    (codes "station")) { waiver = Some (codes "cards") }
 
 abbrev pub count : Form
 count = report
@@ -117,6 +136,7 @@ abbrev pub help : Form
 help = record {
   app = with_rule (new_app (codes "help")) (word_rule (codes "topic"));
   needed = [];
+  waiver = None;
   is_report = false;
 }
 
@@ -172,7 +192,7 @@ why = report
 
 -- The commands other than `help`.
 abbrev pub listed : List Form
-listed = replay ∷ serve ∷ count ∷ overdue ∷ away ∷ history ∷ migrate
+listed = replay ∷ serve ∷ desk ∷ count ∷ overdue ∷ away ∷ history ∷ migrate
     ∷ copy ∷ grow ∷ print_setup ∷ explain ∷ stations ∷ where_is ∷ contents ∷ loan ∷ at ∷ posted
     ∷ loans ∷ dues ∷ why ∷ []
 

@@ -1,5 +1,6 @@
 pub mod Commands
 pub mod Completion
+pub mod Desk
 pub mod Needs
 pub mod Words
 pub mod Tables

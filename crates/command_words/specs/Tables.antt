@@ -2,7 +2,7 @@
 use Rattle.std.specs.Prelude.{◌∷◌, [], List}
 use Rattle.clap.specs.Words.{App, Rule, Text, with_rule, with_subcommand}
 use Rattle.command_words.specs.Commands.{Form, at, away, contents, copy, count, explain, file_rule}
-use Rattle.command_words.specs.Commands.{dues, flag_rule, grow, loans, print_setup, why}
+use Rattle.command_words.specs.Commands.{desk, dues, flag_rule, grow, loans, print_setup, why}
 use Rattle.command_words.specs.Commands.{help, history, loan, migrate, option_rule, overdue, posted}
 use Rattle.command_words.specs.Commands.{replay, serve, stations, where_is, word_rule, words_rule}
 use Rattle.command_words.specs.declared.options.Argument.{Argument}
@@ -33,6 +33,7 @@ with_arguments app (argument ∷ arguments) =
 unfoldable pub app_by : Name → App
 app_by name.Replay = replay.app
 app_by name.Serve = serve.app
+app_by name.Desk = desk.app
 app_by name.Count = count.app
 app_by name.Overdue = overdue.app
 app_by name.Away = away.app
@@ -57,6 +58,7 @@ app_by name.Help = help.app
 unfoldable pub form_by : Name → Form
 form_by name.Replay = replay
 form_by name.Serve = serve
+form_by name.Desk = desk
 form_by name.Count = count
 form_by name.Overdue = overdue
 form_by name.Away = away

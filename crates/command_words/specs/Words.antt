@@ -17,9 +17,9 @@ use Rattle.clap.specs.declared.error.Error.{Error}
 use Rattle.clap.specs.declared.error.kind.ErrorKind.{ErrorKind}
 use Rattle.clap.specs.declared.error.kind.ErrorKind.TheVariants.{ArgumentConflict, DisplayHelp}
 use Rattle.clap.specs.declared.error.kind.ErrorKind.TheVariants.{DisplayVersion, OutOfMemory}
-use Rattle.command_words.specs.Commands.{Form, at, away, commands, contents, copy, count, explain}
+use Rattle.command_words.specs.Commands.{Form, at, away, commands, contents, copy, count, desk}
 use Rattle.command_words.specs.Commands.{help, history, loan, migrate, overdue, overview, posted}
-use Rattle.command_words.specs.Commands.{replay, serve}
+use Rattle.command_words.specs.Commands.{explain, replay, serve}
 use Rattle.command_words.specs.Commands.{dues, grow, loans, print_setup, stations, where_is, why}
 use Rattle.command_words.specs.declared.command.Report.{Report}
 use Rattle.command_words.specs.declared.command.Format.{Format}
@@ -153,6 +153,15 @@ IsChosen words (command.Serve setup store feeds) = IsNamed words (codes "serve")
     × (value serve.app words (codes "setup") ≡ Some setup.now)
     × (value serve.app words (codes "store") ≡ text_of store)
     × (values serve.app words (codes "feeds") ≡ texts_of feeds.items)
+IsChosen words (command.Desk setup store station day bell) = IsNamed words (codes "desk")
+    × (value desk.app words (codes "setup") ≡ Some setup.now)
+    × (value desk.app words (codes "store") ≡ Some store.now)
+    × (value desk.app words (codes "station") ≡ Some station.now)
+    × (value desk.app words (codes "day") ≡ text_of day)
+    × (is_given desk.app words (codes "bell") ≡ bell)
+    × (is_given desk.app words (codes "cards") ≡ false)
+IsChosen words command.Cards = IsNamed words (codes "desk")
+    × (is_given desk.app words (codes "cards") ≡ true)
 IsChosen words (command.Migrate setup store) = IsNamed words (codes "migrate")
     × (value migrate.app words (codes "setup") ≡ Some setup.now)
     × (value migrate.app words (codes "store") ≡ Some store.now)
@@ -186,9 +195,17 @@ kinds_by (Some form) words =
     if form.is_report then report_kinds form.app words else fault_of form.app words
 kinds_by None words = fault_of overview (codes "pairsalder" ∷ words)
 
+-- The values that the command needs: none, if `clap`'s matches have the flag that waives them.
+abbrev pub needed_in : Form → List Row → List Text
+needed_in form rows =
+    if option_map_or (λ flag. is_true (first_of flag rows)) form.waiver false then []
+    else form.needed
+
 -- A value that the command needs is missing, or no command is named.
 abbrev pub lacks : Option Form → List Text → Bool
-lacks (Some form) words = list_any (λ id. not (is_some (value form.app words id))) form.needed
+lacks (Some form) words =
+    list_any (λ id. not (is_some (value form.app words id)))
+    (needed_in form (matches_of form.app words))
 lacks None words = true
 
 -- 0 for help and the version, which the user wanted; 2 for a usage error.

@@ -30,6 +30,34 @@ pub(crate) const FEEDS: Argument = Argument {
     help: "The file of each station, in the setup's order",
 };
 
+pub(crate) const OWN_STATION: Argument = Argument {
+    kind: Kind::Valued,
+    id: "station",
+    value: "NAME",
+    help: "The desk's own station",
+};
+
+pub(crate) const FIRST_DAY: Argument = Argument {
+    kind: Kind::Valued,
+    id: "day",
+    value: "DAY",
+    help: "The day of the messages, until a line 'day' changes it",
+};
+
+pub(crate) const BELL: Argument = Argument {
+    kind: Kind::Flag,
+    id: "bell",
+    value: "",
+    help: "Ring the bell for each line that is not done",
+};
+
+pub(crate) const CARDS: Argument = Argument {
+    kind: Kind::Flag,
+    id: "cards",
+    value: "",
+    help: "Print the command words as cards to cut out and scan",
+};
+
 pub(crate) const LIST: Argument = Argument {
     kind: Kind::Word,
     id: "list",

@@ -107,6 +107,17 @@ pub enum Chosen<'a> {
         store: Option<&'a str>,
         feeds: Vec<&'a str>,
     },
+    /// Takes lines at a desk of this station, as a person types them or a scanner reads them. `day`
+    /// is the day of the first messages. With `bell`, an answer to a line that isn't done rings.
+    Desk {
+        setup: &'a str,
+        store: &'a str,
+        station: &'a str,
+        day: Option<&'a str>,
+        bell: bool,
+    },
+    /// Prints the words of a desk's lines as cards to scan.
+    Cards,
     /// Migrates a store of the previous version to this version.
     Migrate {
         setup: &'a str,

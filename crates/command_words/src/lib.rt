@@ -1,9 +1,10 @@
 //! Reads the words of a command line, and returns the command that they choose.
 //!
-//! [`words::chosen`] returns a [`Chosen`]: one of twenty-one commands with its values, among them
-//! the [`Format`] of a report. `clap` does the reading; a [`WordsFault`] carries its error and has the
-//! program's exit status. [`completion::complete`] adds a default setup and store to the words, and
-//! [`needs::list_missing`] lists the arguments that they lack.
+//! [`words::chosen`] returns a [`Chosen`]: one of twenty-two commands with its values, among them
+//! the [`Format`] of a report. `clap` does the reading; a [`WordsFault`] carries its error and has
+//! the program's exit status. [`completion::complete`] adds a default setup and store to the words,
+//! and [`needs::list_missing`] lists the arguments that they lack. [`desk::asked`] reads the words
+//! of a report that is typed at a desk.
 //!
 //! The contracts promise:
 //!
@@ -27,6 +28,7 @@
 mod arguments;
 mod command;
 pub mod completion;
+pub mod desk;
 pub mod needs;
 mod options;
 mod questions;

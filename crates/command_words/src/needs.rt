@@ -8,7 +8,7 @@ ghost use Rattle.command_words.specs.Words.{texts_of};
 
 use crate::WordsFault;
 use crate::reading::{one, read};
-use crate::shapes::{find_command, needs_of};
+use crate::shapes::{find_command, needs_in};
 use clap::ArgMatches;
 use std::alloc::{AllocError, Global};
 
@@ -27,7 +27,7 @@ pub fn list_missing<'a>(
         return Ok(Vec::new(alloc));
     };
     let matches = read(alloc, name, words)?;
-    let missing = list_without_value(alloc, &matches, needs_of(name));
+    let missing = list_without_value(alloc, &matches, needs_in(name, &matches));
     drop(matches);
     Ok(missing?)
 }

@@ -1,20 +1,21 @@
 //! The commands and their arguments, as `clap` takes them.
 ghost use Rattle.std.specs.Prelude.{◌≡◌, IfOk, option_map};
-ghost use Rattle.clap.specs.Words.{app_of, new_app};
+ghost use Rattle.clap.specs.Words.{app_of, found_of, new_app, rows_of};
 ghost use Rattle.command_words.specs.Commands.{overview, program_alone};
 ghost use Rattle.command_words.specs.Completion.{form_called};
 ghost use Rattle.command_words.specs.Tables.{app_by, form_by, with_arguments};
-ghost use Rattle.command_words.specs.Words.{form_named, texts_of};
+ghost use Rattle.command_words.specs.Words.{form_named, needed_in, texts_of};
 
 use crate::arguments::{
-    BY, CHECK, CONTAINER, DAY, DUE, ENTRY, EXPLAINED, FEEDS, FROM, LIST, LOAN, LONG, OF_LOAN,
-    OF_THING, ON, OPEN, PLACE, PROGRESS, REFUSED, SEALED, STATION, STRICT, THING, TO, TO_ENTRY,
-    TOPIC, WORD,
+    BELL, BY, CARDS, CHECK, CONTAINER, DAY, DUE, ENTRY, EXPLAINED, FEEDS, FIRST_DAY, FROM, LIST,
+    LOAN, LONG, OF_LOAN, OF_THING, ON, OPEN, OWN_STATION, PLACE, PROGRESS, REFUSED, SEALED,
+    STATION, STRICT, THING, TO, TO_ENTRY, TOPIC, WORD,
 };
 use crate::options::{Argument, CSV, JSON, SETUP, STORE, TABLE, UPTO, made, with_help};
+use crate::reading::is_set;
 use crate::report_texts;
 use crate::texts::{self, Help};
-use clap::Command;
+use clap::{ArgMatches, Command};
 use std::alloc::{AllocError, Global};
 
 /// The program's name in its help.
@@ -25,6 +26,7 @@ pub(crate) const PROGRAM: &str = "pairsalder";
 pub(crate) enum Name {
     Replay,
     Serve,
+    Desk,
     Count,
     Overdue,
     Away,
@@ -47,9 +49,10 @@ pub(crate) enum Name {
 }
 
 /// The commands in the order of the help. `help` is left out, because `clap` adds it.
-const NAMES: [Name; 20] = [
+const NAMES: [Name; 21] = [
     Name::Replay,
     Name::Serve,
+    Name::Desk,
     Name::Count,
     Name::Overdue,
     Name::Away,
@@ -77,6 +80,7 @@ fn word_of(name: Name) -> &'static str
     match name {
         Name::Replay => "replay",
         Name::Serve => "serve",
+        Name::Desk => "desk",
         Name::Count => "count",
         Name::Overdue => "overdue",
         Name::Away => "away",
@@ -125,13 +129,26 @@ pub(crate) fn find_command(words: &[&str]) -> Option<Name>
     }
 }
 
-/// Returns the ids of the arguments that the command needs, in the order of its usage.
+/// Returns the ids of the arguments that the command needs, in the order of its usage: none for the
+/// cards of a desk.
 #[tactic(auto, unfolding(crate::specs::Tables::form_by))]
-pub(crate) fn needs_of(name: Name) -> &'static [&'static str]
+pub(crate) fn needs_in(name: Name, matches: &ArgMatches<'_>) -> &'static [&'static str]
+    ensures { texts_of result.now ≡ needed_in (form_by name) (rows_of (found_of matches.now)) }
+{
+    match name {
+        Name::Desk if is_set(matches, "cards") => &[],
+        _ => needs_of(name),
+    }
+}
+
+/// The ids of the arguments that the command needs without such a flag.
+#[tactic(auto, unfolding(crate::specs::Tables::form_by))]
+fn needs_of(name: Name) -> &'static [&'static str]
     ensures { texts_of result.now ≡ (form_by name).needed }
 {
     match name {
         Name::Replay | Name::Serve => &["setup"],
+        Name::Desk => &["setup", "store", "station"],
         Name::Count => &["setup", "store", "list"],
         Name::Overdue => &["setup", "store", "on"],
         Name::Setup => &["store"],
@@ -153,6 +170,7 @@ fn help_of(name: Name) -> &'static Help {
     match name {
         Name::Replay => &texts::REPLAY,
         Name::Serve => &texts::SERVE,
+        Name::Desk => &texts::DESK,
         Name::Count => &report_texts::COUNT,
         Name::Overdue => &report_texts::OVERDUE,
         Name::Away => &report_texts::AWAY,
@@ -183,6 +201,7 @@ fn arguments_of(name: Name) -> &'static [Argument]
     match name {
         Name::Replay => &[SETUP, STORE, PROGRESS, STRICT, EXPLAINED],
         Name::Serve => &[SETUP, STORE, FEEDS],
+        Name::Desk => &[SETUP, STORE, OWN_STATION, FIRST_DAY, BELL, CARDS],
         Name::Count => &[SETUP, STORE, LIST, SEALED, UPTO, CSV, JSON, TABLE],
         Name::Overdue => &[SETUP, STORE, DAY, UPTO, CSV, JSON, TABLE],
         Name::Away => &[SETUP, STORE, UPTO, CSV, JSON, TABLE],

@@ -84,6 +84,33 @@ Exit status: 0 all files were read; 1 a fault, after the log so far; 2 a usage
 error, or there are more or fewer files than stations.",
 };
 
+pub(crate) const DESK: Help = Help {
+    about: "Takes scanned or typed lines at a desk, and answers each at once",
+    usage: "pairsalder desk --setup PATH --store PATH --station NAME\n       [--day DAY] [--bell]\n       pairsalder desk --cards",
+    more: "\
+For a bench with a scanner: scan a place or a container, then the things that go
+there.
+
+Takes lines from standard input. The code of a place sets the target, and so
+does that of a container while there is none. The code of each thing after it
+sends a message under the station's next number: the thing is moved to the
+place, or packed into the container. Prints the verdict, and where the thing is
+now. A line that can't be done is answered with the reason, and sends nothing.
+Type 'help' for the other lines.
+
+--station names the desk's own station. --day is the day of its messages; a line
+such as 'day 2024-05-01' sets it, too. With --bell, the terminal rings after a
+line that was not done. With --cards, prints the command words as cards to cut
+out and scan.
+
+Examples:
+  pairsalder desk --setup museum.csv --store museum.db --station GAL
+  pairsalder desk --cards
+
+Exit status: 0 the input ended; 1 a fault; 2 a usage error, DAY is not a day, or
+the setup has no station NAME, or it has signed off.",
+};
+
 pub(crate) const MIGRATE: Help = Help {
     about: "Migrates a store from version 1 to version 2",
     usage: "pairsalder migrate --setup PATH --store PATH",

@@ -44,6 +44,7 @@ fn named<'a>(alloc: Global, name: Name, words: &'a [&'a str]) -> Result<Chosen<'
     match name {
         Name::Replay => replay(alloc, words),
         Name::Serve => serve(alloc, words),
+        Name::Desk => desk(alloc, words),
         Name::Count => count(alloc, words),
         Name::Overdue => overdue(alloc, words),
         Name::Away => away(alloc, words),
@@ -97,6 +98,30 @@ fn serve<'a>(alloc: Global, words: &'a [&'a str]) -> Result<Chosen<'a>, WordsFau
         setup: needed(files.setup)?,
         store: files.store,
         feeds: feeds?,
+    })
+}
+
+fn desk<'a>(alloc: Global, words: &'a [&'a str]) -> Result<Chosen<'a>, WordsFault>
+    requires { IsNamed (texts_of words.now) (codes "desk") }
+    ensures { Chooses (Some commands.desk) (texts_of words.now) result }
+{
+    let matches = read(alloc, Name::Desk, words)?;
+    let files = files_of(&matches);
+    let station = one(&matches, "station");
+    let day = one(&matches, "day");
+    let bell = is_set(&matches, "bell");
+    let cards = is_set(&matches, "cards");
+    drop(matches);
+    if cards {
+        return Ok(Chosen::Cards);
+    }
+    let record = record_of(files)?;
+    Ok(Chosen::Desk {
+        setup: record.setup,
+        store: record.store,
+        station: needed(station)?,
+        day,
+        bell,
     })
 }
 

@@ -3,19 +3,13 @@
 use crate::Meaning;
 
 /// The columns, those of entries first and those of loans last. Columns that are words of other
-/// tables, such as `row`, `normal`, `next`, `day` and `back`, are explained there.
+/// tables, such as `row`, `station`, `day`, `awaiting`, `out` and `back`, are explained there.
 pub(crate) const COLUMNS: &[Meaning] = &[
     Meaning {
         word: "entry",
         means: "a message on record; its number counts from 1",
         cause: "a column of history, posted and why, and a word after 'grown'.",
         action: "'pairsalder why 17' explains the verdict on entry 17.",
-    },
-    Meaning {
-        word: "station",
-        means: "the desk or store room that sent the message",
-        cause: "a column of posted, stations and why, and of history --long.",
-        action: "'pairsalder stations' lists all stations with their next numbers.",
     },
     Meaning {
         word: "n",
@@ -136,18 +130,6 @@ pub(crate) const COLUMNS: &[Meaning] = &[
         means: "how many objects the loan lists",
         cause: "a column of loans.",
         action: "'pairsalder loan LO2024.1' lists them.",
-    },
-    Meaning {
-        word: "awaiting",
-        means: "how many of the loan's objects have not left or arrived yet",
-        cause: "a column of loans.",
-        action: "'pairsalder loan LO2024.1' lists them with the stage Awaiting.",
-    },
-    Meaning {
-        word: "out",
-        means: "how many of the loan's objects are still to be returned",
-        cause: "a column of loans.",
-        action: "'pairsalder dues' lists these objects for all loans.",
     },
     Meaning {
         word: "on",

@@ -163,8 +163,8 @@ pub(crate) const RUN_FAULTS: &[Meaning] = &[
     },
     Meaning {
         word: "day",
-        means: "the argument is not a valid day, for the reason that follows",
-        cause: "a typing error, or another date format.",
+        means: "as a fault: this is not a valid day; at a desk: the day from now on",
+        cause: "a typing error, or another date format; at a desk, a line 'day'.",
         action: "write the day like 2024-06-01.",
     },
     Meaning {
@@ -190,6 +190,13 @@ pub(crate) const RUN_FAULTS: &[Meaning] = &[
         means: "there are more or fewer files than stations",
         cause: "the file of a station is missing, or is named twice.",
         action: "name one file for each station, in the order of the setup.",
+    },
+    Meaning {
+        word: "station",
+        means: "the desk that sent the message; as a fault: it can send none",
+        cause: "a column of posted, stations, why and history --long; as a fault, a name\n\
+            that the setup does not list, or a station that has signed off.",
+        action: "'pairsalder stations' lists all stations with their next numbers.",
     },
     Meaning {
         word: "unfinished",

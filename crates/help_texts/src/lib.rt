@@ -1,7 +1,8 @@
 //! The texts of the help: a page for each topic, and an explanation of each word that is printed.
 //!
 //! [`page_of`] returns the page of a [`Topic`]. A [`Meaning`] explains a word: what it means, its
-//! usual cause, and what to do. [`VERDICTS`] has those of the verdicts.
+//! usual cause, and what to do. [`VERDICTS`] has those of the verdicts. [`DESK_HELP`] and
+//! [`DESK_CARDS`] are the help and the cards of a desk.
 //! [`nearest_explained`] finds the word that is nearest to a text, for a user who mistypes one.
 //!
 //! The contracts promise:
@@ -19,6 +20,8 @@
 #![tactic(auto)]
 
 mod columns;
+mod desk_pages;
+mod desk_words;
 mod faults;
 mod meaning;
 mod nearest;
@@ -30,6 +33,7 @@ mod tables;
 mod topic;
 mod verdicts;
 
+pub use desk_pages::{DESK_CARDS, DESK_HELP};
 pub use meaning::Meaning;
 pub use nearest::Nearest;
 pub use pages::page_of;

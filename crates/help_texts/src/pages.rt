@@ -143,6 +143,6 @@ killed, this file stays. Leave the two files together and run the next command,
 which takes the entries from it. If museum.db-wal is there without museum.db,
 every command fails and changes nothing: put museum.db back beside it.
 
-Only replay and serve begin a record. Any other command fails with 'fault store
+Only replay, serve and desk begin a record. Any other fails with 'fault store
 Store' if there is none. Only one command at a time can use a store.
 ";

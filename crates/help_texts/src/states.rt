@@ -13,8 +13,9 @@ pub(crate) const ANSWERS: &[Meaning] = &[
     Meaning {
         word: "in",
         means: "the containers that the thing is in, innermost first",
-        cause: "it was packed, and so was each container that is in another.",
-        action: "nothing; a move takes it out.",
+        cause: "it was packed, and so was each container that is in another. At a desk,\n\
+            the line 'in LOAN PLACE'.",
+        action: "nothing; a move takes it out. At a desk, scan what arrives on loan.",
     },
     Meaning {
         word: "unplaced",
@@ -100,9 +101,10 @@ pub(crate) const STAGES: &[Meaning] = &[
     },
     Meaning {
         word: "Back",
-        means: "the object has come back under this loan",
-        cause: "its return was applied.",
-        action: "nothing. For a second journey agree another loan.",
+        means: "the object has come back under this loan; at a desk: things come back",
+        cause: "its return was applied; at a desk, the line 'back LOAN PLACE'.",
+        action: "nothing; at a desk, scan what came back. For a second journey agree\n\
+            another loan.",
     },
     Meaning {
         word: "Here",

@@ -3,6 +3,7 @@ ghost use Rattle.std.specs.Prelude.{IfOk};
 ghost use Rattle.help_texts.specs.Distances.{IsFoundBy};
 
 use crate::columns::COLUMNS;
+use crate::desk_words::DESK_WORDS;
 use crate::faults::{INPUT_FAULTS, RUN_FAULTS};
 use crate::nearest::nearest_in;
 use crate::refusals::REFUSALS;
@@ -23,6 +24,7 @@ enum Subject {
     Answers,
     Stages,
     CountAnswers,
+    DeskWords,
     Columns,
 }
 
@@ -36,6 +38,7 @@ const SUBJECTS: &[Subject] = &[
     Subject::Answers,
     Subject::Stages,
     Subject::CountAnswers,
+    Subject::DeskWords,
     Subject::Columns,
 ];
 
@@ -51,6 +54,7 @@ fn words_of(subject: Subject) -> &'static [Meaning] {
         Subject::Answers => ANSWERS,
         Subject::Stages => STAGES,
         Subject::CountAnswers => COUNT_ANSWERS,
+        Subject::DeskWords => DESK_WORDS,
         Subject::Columns => COLUMNS,
     }
 }

@@ -27,4 +27,4 @@ returns-clause-missing c =
     let named = ap (option_map form_by) (sym c.in-Some.is) ∙ c.find_command.ensures in
     c.in_ok-missing.ensures
     ∙ missing_by c.in-Some.name (texts_of c.args.words.now) named _ _ c.in_ok-matches.ensures.1
-    c.needs_of.ensures
+    c.needs_in.ensures

@@ -12,6 +12,10 @@ pub returns-in-Serve : goal.returns-in-Serve
 unfolding app_by register_app report_app
 returns-in-Serve c = ap (λ (n : Name). (app_by n).top.name) (sym c.in-Serve.is)
 
+pub returns-in-Desk : goal.returns-in-Desk
+unfolding app_by register_app report_app
+returns-in-Desk c = ap (λ (n : Name). (app_by n).top.name) (sym c.in-Desk.is)
+
 pub returns-in-Count : goal.returns-in-Count
 unfolding app_by register_app report_app
 returns-in-Count c = ap (λ (n : Name). (app_by n).top.name) (sym c.in-Count.is)

@@ -26,6 +26,17 @@ returns-in-Serve c =
     chooses_by c.args.name _ (texts_of c.args.words.now) _ c.requires
     c.in-Serve.is c.serve.ensures
 
+pub desk-requires : goal.desk-requires
+unfolding form_by register_app report_app
+desk-requires c =
+    named_by c.args.name _ (texts_of c.args.words.now) c.requires c.in-Desk.is
+
+pub returns-in-Desk : goal.returns-in-Desk
+unfolding form_by
+returns-in-Desk c =
+    chooses_by c.args.name _ (texts_of c.args.words.now) _ c.requires
+    c.in-Desk.is c.desk.ensures
+
 pub count-requires : goal.count-requires
 unfolding form_by register_app report_app
 count-requires c =
