@@ -27,7 +27,7 @@ import seeds
 CASES = pathlib.Path(__file__).resolve().parent.parent / "cases"
 FAULT = re.compile(rb"fault [a-z]+( [A-Za-z0-9]+)?( row [0-9]+)?\n")
 GROWTH_FAULTS = re.compile(rb"(fault setup [A-Za-z]+ row [0-9]+\n)+")
-LINES = re.compile("([^\x00-\x1f\x7f\ufffd]*\n)*")  # of UTF-8, where what isn't so becomes U+FFFD
+LINES = re.compile("([^\x00-\x1f\x7f\ufffd]*\x07?\n)*")  # of UTF-8, where what isn't so becomes U+FFFD; a desk may ring
 TURNED = (b"\0", b"\xff", b'"', b"\n")
 FEW = 100  # an input with no more damages is tried with each of them
 

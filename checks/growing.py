@@ -23,8 +23,8 @@ from migrate import make
 from store import changed_by
 from store_room import SETUP, read, report, settle
 
-NO_STORE = "fault store Store\nhelp: museum.db does not exist: replay and serve start a new record\n"
-NO_RECORD = 1, "", "fault store Store\nhelp: museum.db has no record yet: replay and serve start one\n"
+NO_STORE = "fault store Store\nhelp: museum.db does not exist: replay, serve and desk start a new record\n"
+NO_RECORD = 1, "", "fault store Store\nhelp: museum.db has no record yet: replay, serve and desk start one\n"
 
 
 # Files as people save them

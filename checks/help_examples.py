@@ -35,7 +35,7 @@ def main():
         os.makedirs(os.path.join(folder, "media/usb"))
         for example in sorted(examples, key=lambda line: " replay " not in line):
             line = example.replace(" /media/", " media/")
-            ran = subprocess.run(["bash", "-c", f"./{line}"], cwd=folder, capture_output=True, check=False)
+            ran = subprocess.run(["bash", "-c", f"./{line}"], cwd=folder, stdin=subprocess.DEVNULL, capture_output=True, check=False)
             if ran.returncode:
                 failed += 1
                 print(f"{example}: {ran}")

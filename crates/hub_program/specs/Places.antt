@@ -5,7 +5,7 @@ use Rattle.command_words.specs.Words.{text_of}
 use Rattle.command_words.specs.declared.command.Chosen.{Chosen}
 use Rattle.command_words.specs.declared.command.Chosen.TheVariants.{Replay, Serve, Migrate, Copy}
 use Rattle.command_words.specs.declared.command.Chosen.TheVariants.{Grow, Setup, Report, Explain}
-use Rattle.command_words.specs.declared.command.Chosen.TheVariants.{Help}
+use Rattle.command_words.specs.declared.command.Chosen.TheVariants.{Cards, Desk, Help}
 use Rattle.hub_core.specs.declared.outcome.Outcome.{Outcome}
 use Rattle.hub_program.specs.declared.ending.Ending.{Ending}
 use Rattle.hub_program.specs.declared.ending.Ending.TheVariants.{Done, NotApplied, Printed}
@@ -29,6 +29,8 @@ use Rattle.work_core.specs.declared.work.Work.{Work}
 abbrev pub store_of : Chosen → Option (List ℕ)
 store_of (Replay setup store progress strict why) = text_of store
 store_of (Serve setup store feeds) = text_of store
+store_of (Desk setup store station day bell) = Some store.now
+store_of Cards = None
 store_of (Migrate setup store) = Some store.now
 store_of (Copy setup store to) = Some store.now
 store_of (Grow setup store check) = Some store.now

@@ -5,6 +5,7 @@ use codes_core::{PlaceCode, ThingCode};
 use count_core::CountFault;
 use csv::{ByteRecord, Reader, ReaderBuilder};
 use nest_core::{GrowFault, MOST_GROWTHS, SetupFault, field, field_count};
+use station_core::Refusal;
 use std::alloc::{AllocError, Global};
 use std::io::ErrorKind;
 use work_core::visible::add_quoted;
@@ -46,6 +47,20 @@ pub fn on_feeds(alloc: Global, stations: u32, files: usize) -> Advice {
     format!(in alloc;
         "stations: {stations}, files: {files}; name a file for each station, in the setup's order"
     ).ok()
+}
+
+/// Returns the advice on a desk whose station can't send messages.
+pub fn on_station(alloc: Global, name: &str, refusal: Refusal) -> Advice {
+    match refusal {
+        Refusal::SignedOff => {
+            format!(in alloc; "{name} has signed off for good: use another station").ok()
+        }
+        _ => on_value(
+            alloc,
+            name,
+            "a station of the setup; capitals and dashes count",
+        ),
+    }
 }
 
 /// Returns the advice on an argument that is not what it has to be.

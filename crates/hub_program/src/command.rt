@@ -4,6 +4,7 @@ ghost use Rattle.command_words.specs.Words.{text_of};
 ghost use Rattle.hub_program.specs.Places.{kept_in, path_of, store_of};
 
 use crate::copying::copied;
+use crate::desk::{DeskWords, at_desk};
 use crate::ending::{Ending, noted_status, refuse, status};
 use crate::explain::explain;
 use crate::fault::CommandFault;
@@ -12,11 +13,12 @@ use crate::growing::{grown, listed};
 use crate::help::help;
 use crate::lines::write_line;
 use crate::progress::Progress;
-use crate::request::{form_of, number_if, read_question};
+use crate::request::{DeskQuestions, form_of, number_if, read_question};
 use crate::store::{self, Begins, ClosedStore, open, open_if};
 use crate::work::over_store;
 use command_words::words::chosen;
 use command_words::{Asked, Chosen, Report};
+use help_texts::DESK_CARDS;
 use hub_core::{Tally, Watch, run};
 use sqlite::Start;
 use std::io::{BufRead, Write};
@@ -64,9 +66,9 @@ pub fn command<
 }
 
 /// Does the command. Faults, in this order:
-/// - Day, Code or Number, for an argument of a report;
+/// - Day, Code or Number, for an argument of a report or a desk;
 /// - those of the setup's file, and of the setup;
-/// - those of the count list, or of the stations' files;
+/// - Station, for a desk, or those of the count list, or of the stations' files;
 /// - those of opening the store;
 /// - those of the command itself.
 fn perform<
@@ -126,6 +128,26 @@ fn perform<
             output,
             notes,
         ),
+        Chosen::Desk {
+            setup,
+            store,
+            station,
+            day,
+            bell,
+        } => {
+            let wanted = DeskWords {
+                setup,
+                store,
+                station,
+                day: *day,
+                bell: *bell,
+            };
+            at_desk(rt, threads, wanted, start, input, output, notes)
+        }
+        Chosen::Cards => {
+            write_line(output, DESK_CARDS)?;
+            Ok(Ending::Done(None))
+        }
         Chosen::Migrate { setup, store } => {
             let closed = migrated(rt, setup, store, start, output)?;
             Ok(Ending::Done(Some(closed)))
@@ -232,7 +254,18 @@ fn watched<
     let setup = read_setup(rt, rt.alloc(), wanted.setup)?;
     let store = open_if(rt, wanted.store, start, Begins::Record)?;
     let work = Work::Replay { why: wanted.why };
-    over_store(rt, threads, setup, store, work, watch, input, output, notes)
+    over_store(
+        rt,
+        threads,
+        &DeskQuestions,
+        setup,
+        store,
+        work,
+        watch,
+        input,
+        output,
+        notes,
+    )
 }
 
 /// Prints the report on the record.
@@ -259,6 +292,7 @@ fn reported<'a, T: Threads + Wait + Sync + Copy + Send + 'static, S: Start, R: B
     let closed = over_store(
         rt,
         threads,
+        &DeskQuestions,
         setup,
         Some(store),
         work,
@@ -299,6 +333,7 @@ fn served<'a, T: Threads + Wait + Sync + Copy + Send + 'static, S: Start, R: Buf
     let closed = over_store(
         rt,
         threads,
+        &DeskQuestions,
         setup,
         store,
         Work::Serve(feeds),

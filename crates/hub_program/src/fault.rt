@@ -8,6 +8,7 @@ use hub_core::RunFault;
 use nest_core::SetupFault;
 use register_store::StoreFault;
 use setup_reports::PrintFault;
+use station_core::Refusal;
 use std::alloc::{AllocError, AllocFailed};
 use std::io;
 use std::io::Write;
@@ -35,12 +36,14 @@ pub enum CommandFault {
     Counts(CountFault, Advice),
     /// The store failed, or cannot be used with this setup.
     Store(StoreFault, Advice),
-    /// The text after `--on` or `--by` is not a day.
+    /// The text after `--on`, `--by` or `--day` is not a day.
     Day(CodeFault, Advice),
     /// The text is not the code of a thing, a loan or a place.
     Code(CodeFault, Advice),
     /// The text after `--from`, `--to` or `--upto` is not a number.
     Number(Advice),
+    /// The setup has no station of a desk's name, or the station has signed off.
+    Station(Refusal, Advice),
     /// The word is not explained.
     Name(Advice),
     /// The lines of the station of this name did not come to their end.
@@ -105,6 +108,7 @@ impl From<WorkFault> for CommandFault {
             WorkFault::WriteFailed => CommandFault::WriteFailed,
             WorkFault::Store(fault) => CommandFault::from(fault),
             WorkFault::Unfinished(station) => CommandFault::Unfinished(station),
+            WorkFault::SignedOff => CommandFault::Station(Refusal::SignedOff, None),
         }
     }
 }
@@ -129,6 +133,7 @@ impl CommandFault {
             CommandFault::Day(..)
             | CommandFault::Code(..)
             | CommandFault::Number(_)
+            | CommandFault::Station(..)
             | CommandFault::Name(_)
             | CommandFault::Feeds(_)
             | CommandFault::Words(_) => 2,
@@ -157,6 +162,7 @@ impl CommandFault {
             | CommandFault::Day(_, advice)
             | CommandFault::Code(_, advice)
             | CommandFault::Number(advice)
+            | CommandFault::Station(_, advice)
             | CommandFault::Feeds(advice)
             | CommandFault::Words(advice) => advice.as_deref(),
             _ => None,
@@ -183,6 +189,7 @@ impl CommandFault {
             CommandFault::Day(fault, _) => write_code(errors, "day", *fault),
             CommandFault::Code(fault, _) => write_code(errors, "code", *fault),
             CommandFault::Number(_) => writeln!(errors, "fault number"),
+            CommandFault::Station(refusal, _) => write_station(errors, *refusal),
             CommandFault::Name(_) => writeln!(errors, "fault name"),
             CommandFault::Unfinished(station) => writeln!(errors, "fault unfinished {station}"),
             CommandFault::Feeds(_) => writeln!(errors, "fault feeds"),
@@ -229,6 +236,11 @@ fn write_store<W: Write>(errors: &mut W, fault: StoreFault) -> io::Result<()> {
         StoreFault::Damaged(row) => writeln!(errors, "fault store Damaged {row}"),
         StoreFault::OtherVersion => writeln!(errors, "fault store OtherVersion"),
     }
+}
+
+/// Writes the line of a station whose messages would be refused.
+fn write_station<W: Write>(errors: &mut W, refusal: Refusal) -> io::Result<()> {
+    writeln!(errors, "fault station {}", refusal.name())
 }
 
 /// Writes the line of a faulty code or day.

@@ -21,6 +21,7 @@
 mod advice;
 mod command;
 mod copying;
+mod desk;
 mod ending;
 mod explain;
 mod fault;

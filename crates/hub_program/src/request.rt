@@ -3,8 +3,10 @@
 use crate::advice::on_value;
 use crate::fault::CommandFault;
 use crate::files::{read_list, read_setup};
-use codes_core::{Day, LoanCode, PlaceCode, ThingCode};
+use codes_core::{Day, LoanCode, NoMemory, PlaceCode, ThingCode};
+use command_words::desk::{asked, desk_line};
 use command_words::{Asked, Entries, Format};
+use desk_core::Questions;
 use nest_core::Setup;
 use reports::{EntryFilter, Form, LoanFilter, Question};
 use std::alloc::Global;
@@ -27,34 +29,75 @@ pub fn read_question(
     setup: &str,
     asked: Asked<'_>,
 ) -> Result<(Setup, Question), CommandFault> {
-    let alloc = rt.alloc();
-    match asked {
-        Asked::Count { list, sealed } => read_count(rt, setup, list, sealed),
-        Asked::Overdue(on) => with_setup(rt, setup, Question::Overdue(day(alloc, on)?)),
-        Asked::Away => with_setup(rt, setup, Question::Away),
-        Asked::History { code, long } => {
-            with_setup(rt, setup, history_of(thing(alloc, code)?, long))
-        }
-        Asked::Stations => with_setup(rt, setup, Question::Stations),
-        Asked::Where(code) => with_setup(rt, setup, Question::Where(thing(alloc, code)?)),
-        Asked::Contents(code) => with_setup(rt, setup, Question::Contents(thing(alloc, code)?)),
-        Asked::Loan(code) => with_setup(rt, setup, Question::Loan(loan(alloc, code)?)),
-        Asked::At(code) => with_setup(rt, setup, Question::At(place(alloc, code)?)),
-        Asked::Posted(entries) => {
-            let filter = entry_filter(alloc, entries)?;
-            with_setup(rt, setup, Question::Posted(filter))
-        }
-        Asked::Loans { on, by, open } => {
-            let filter = LoanFilter {
-                on: day_if(alloc, on)?,
-                by: day_if(alloc, by)?,
-                open,
-            };
-            with_setup(rt, setup, Question::Loans(filter))
-        }
-        Asked::Dues(by) => with_setup(rt, setup, Question::Dues(day(alloc, by)?)),
-        Asked::Why(entry) => with_setup(rt, setup, Question::Why(one_entry(alloc, entry)?)),
+    match wanted_of(rt.alloc(), asked)? {
+        Wanted::Answer(question) => with_setup(rt, setup, question),
+        Wanted::Count { list, sealed } => read_count(rt, setup, list, sealed),
     }
+}
+
+/// What a report's words want.
+#[derive(Drop)]
+enum Wanted<'a> {
+    /// The answer to a question.
+    Answer(Question),
+    /// The comparison of a count list with the record.
+    Count { list: &'a str, sealed: bool },
+}
+
+/// What the words of a report want. Faults: Day, Code or Number, if the value is not in its form.
+fn wanted_of<'a>(alloc: Global, asked: Asked<'a>) -> Result<Wanted<'a>, CommandFault> {
+    let question = match asked {
+        Asked::Count { list, sealed } => return Ok(Wanted::Count { list, sealed }),
+        Asked::Overdue(on) => Question::Overdue(day(alloc, on)?),
+        Asked::Away => Question::Away,
+        Asked::History { code, long } => history_of(thing(alloc, code)?, long),
+        Asked::Stations => Question::Stations,
+        Asked::Where(code) => Question::Where(thing(alloc, code)?),
+        Asked::Contents(code) => Question::Contents(thing(alloc, code)?),
+        Asked::Loan(code) => Question::Loan(loan(alloc, code)?),
+        Asked::At(code) => Question::At(place(alloc, code)?),
+        Asked::Posted(entries) => Question::Posted(entry_filter(alloc, entries)?),
+        Asked::Loans { on, by, open } => Question::Loans(LoanFilter {
+            on: day_if(alloc, on)?,
+            by: day_if(alloc, by)?,
+            open,
+        }),
+        Asked::Dues(by) => Question::Dues(day(alloc, by)?),
+        Asked::Why(entry) => Question::Why(one_entry(alloc, entry)?),
+    };
+    Ok(Wanted::Answer(question))
+}
+
+/// The reports at a desk: those of the command line, but for `count`.
+pub struct DeskQuestions;
+
+impl Questions for DeskQuestions {
+    fn question(&self, alloc: Global, words: &[String]) -> Result<Option<Question>, NoMemory> {
+        let words = borrowed(alloc, words)?;
+        let line = desk_line(alloc, words.as_slice())?;
+        match asked(alloc, line.as_slice())? {
+            Some(asked) => question_of(alloc, asked),
+            None => Ok(None),
+        }
+    }
+}
+
+/// The question. None if a value is not in its form, and for a count list. Fails with `NoMemory`.
+fn question_of(alloc: Global, asked: Asked<'_>) -> Result<Option<Question>, NoMemory> {
+    match wanted_of(alloc, asked) {
+        Ok(Wanted::Answer(question)) => Ok(Some(question)),
+        Err(CommandFault::NoMemory) => Err(NoMemory),
+        _ => Ok(None),
+    }
+}
+
+/// The same words, borrowed.
+fn borrowed(alloc: Global, texts: &[String]) -> Result<Vec<&str>, NoMemory> {
+    let mut words = Vec::new(alloc);
+    for text in texts {
+        words.push(text.as_str())?;
+    }
+    Ok(words)
 }
 
 /// Reads the setup, and returns it with the question.
@@ -108,7 +151,8 @@ fn day(alloc: Global, text: &str) -> Result<Day, CommandFault> {
     }
 }
 
-fn day_if(alloc: Global, text: Option<&str>) -> Result<Option<Day>, CommandFault> {
+/// Returns the day, if there is one. Fault: Day, if the text is no day.
+pub fn day_if(alloc: Global, text: Option<&str>) -> Result<Option<Day>, CommandFault> {
     match text {
         Some(text) => Ok(Some(day(alloc, text)?)),
         None => Ok(None),

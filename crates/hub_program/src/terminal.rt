@@ -5,8 +5,8 @@ use std::io::{Read, Write};
 
 /// The prompt at a terminal while the program waits for lines.
 const PROMPT: &str = "note: waiting for lines from the terminal; end them with Ctrl-D\n\
-note: 'pairsalder help lines' shows them; without arguments the setup and an empty line come \
-first\n";
+note: 'pairsalder help lines' shows them, and 'help' those of a desk; without arguments the setup \
+and an empty line come first\n";
 
 /// An input that prints a prompt before its first read from a terminal.
 #[derive(Drop)]

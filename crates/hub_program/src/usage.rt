@@ -40,6 +40,7 @@ fn label(id: &str) -> &'static str {
         "store" => "--store",
         "on" => "--on",
         "by" => "--by",
+        "station" => "--station",
         "to" => "--to",
         "list" => "LIST",
         "place" => "PLACE",

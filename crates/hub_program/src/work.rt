@@ -4,10 +4,11 @@ ghost use Rattle.hub_program.specs.Places.{path_of, IsDoneAndKept, IsDoneInMemor
 ghost use Rattle.hub_program.specs.Places.{grown_by};
 ghost use Rattle.register_sql.specs.Stores.{in_store};
 ghost use Rattle.sqlite.specs.Files.{file_state};
-ghost use Rattle.work_core.specs.Works.{HasFeeds};
+ghost use Rattle.work_core.specs.Works.{FitsStations};
 
 use crate::fault::CommandFault;
 use crate::store::{ClosedStore, OpenStore, other_setup};
+use desk_core::Questions;
 use hub_core::Watch;
 use nest_core::Setup;
 use register_store::PlainRegister;
@@ -21,13 +22,15 @@ use work_core::{Work, WorkFault, do_work};
 
 /// Does the work on the record in the open store, and closes the store. The record's setup is this
 /// one, with the growths of the store. Without a store the record is empty, and in memory. Notes
-/// for the user are appended to `notes`; print them only if there is no fault.
+/// for the user are appended to `notes`; print them only if there is no fault. `questions` reads
+/// the words of reports at a desk.
 ///
 /// Faults, in this order: OtherSetup, if the growths of the store don't fit the setup; those of the
 /// work, as of [`do_work`]; those of closing the store.
 pub fn over_store<
     'a,
     T: Threads + Wait + Sync + Copy + Send + 'static,
+    Q: Questions,
     D: Disk + Drop,
     V: Watch,
     R: BufRead,
@@ -35,6 +38,7 @@ pub fn over_store<
 >(
     rt: &HostRuntime,
     threads: &T,
+    questions: &Q,
     setup: Setup,
     store: Option<OpenStore<'a, D>>,
     work: Work,
@@ -43,7 +47,7 @@ pub fn over_store<
     output: &mut W,
     notes: &mut String,
 ) -> Result<Option<ClosedStore<'a>>, CommandFault>
-    requires { HasFeeds (length setup.stations) work }
+    requires { FitsStations (length setup.stations) work }
     ensures named { IfOk result (λ kept.
         path_of kept ≡ option_map (λ s. s.path.now) store.entry) }
     ensures done { OnOk result (MatchOption store.entry
@@ -58,19 +62,30 @@ pub fn over_store<
 {
     match store {
         None => {
-            in_memory(rt, threads, setup, work, watch, input, output, notes)?;
+            in_memory(
+                rt, threads, questions, setup, work, watch, input, output, notes,
+            )?;
             Ok(None)
         }
         Some(store) => {
-            let closed = in_file(rt, threads, setup, store, work, watch, input, output, notes)?;
+            let closed = in_file(
+                rt, threads, questions, setup, store, work, watch, input, output, notes,
+            )?;
             Ok(Some(closed))
         }
     }
 }
 
-fn in_memory<T: Threads + Wait + Sync + Copy + Send + 'static, V: Watch, R: BufRead, W: Write>(
+fn in_memory<
+    T: Threads + Wait + Sync + Copy + Send + 'static,
+    Q: Questions,
+    V: Watch,
+    R: BufRead,
+    W: Write,
+>(
     rt: &HostRuntime,
     threads: &T,
+    questions: &Q,
     setup: Setup,
     work: Work,
     watch: &mut V,
@@ -78,7 +93,7 @@ fn in_memory<T: Threads + Wait + Sync + Copy + Send + 'static, V: Watch, R: BufR
     output: &mut W,
     notes: &mut String,
 ) -> Result<(), CommandFault>
-    requires { HasFeeds (length setup.stations) work }
+    requires { FitsStations (length setup.stations) work }
     ensures { OnOk result (IsDoneInMemory setup work
         (V.has_seen watch.old) (V.has_seen watch.new)
         (R.remaining input.old) (R.remaining input.new)
@@ -87,7 +102,7 @@ fn in_memory<T: Threads + Wait + Sync + Copy + Send + 'static, V: Watch, R: BufR
     let alloc = rt.alloc();
     let register = PlainRegister::new(alloc);
     ended_of(do_work(
-        threads, alloc, setup, register, work, watch, input, output, notes,
+        threads, alloc, questions, setup, register, work, watch, input, output, notes,
     ))
 }
 
@@ -113,6 +128,7 @@ fn with_command_fault(ended: Result<(), WorkFault>) -> Result<(), CommandFault>
 fn in_file<
     'a,
     T: Threads + Wait + Sync + Copy + Send + 'static,
+    Q: Questions,
     D: Disk + Drop,
     V: Watch,
     R: BufRead,
@@ -120,6 +136,7 @@ fn in_file<
 >(
     rt: &HostRuntime,
     threads: &T,
+    questions: &Q,
     setup: Setup,
     mut store: OpenStore<'a, D>,
     work: Work,
@@ -128,7 +145,7 @@ fn in_file<
     output: &mut W,
     notes: &mut String,
 ) -> Result<ClosedStore<'a>, CommandFault>
-    requires { HasFeeds (length setup.stations) work }
+    requires { FitsStations (length setup.stations) work }
     ensures named { IfOk result (λ closed. closed.path ≡ store.entry.path) }
     ensures done { OnOk result (IsDoneAndKept (λ r. in_store (file_state r.conn)) D.Disk
         (grown_by store.entry.growths.items setup) store.entry.register work
@@ -143,6 +160,7 @@ fn in_file<
     let (register, ended) = do_work(
         threads,
         rt.alloc(),
+        questions,
         grown,
         store.register,
         work,

@@ -1,6 +1,6 @@
 -- Defines how work on a record can stop, and what it leaves then. `i` and `i'` are the bytes that
 -- the reader has left before and after, `o` and `o'` those that the writer holds.
-use Rattle.std.specs.Prelude.{ℕ, ◌≡◌, ◌⊎◌, true, List, Option}
+use Rattle.std.specs.Prelude.{ℕ, ℤ, ◌≡◌, ◌⊎◌, true, List, Option}
 use Rattle.hub_core.specs.declared.hub.answer.Arrival.{Arrival}
 use Rattle.hub_core.specs.declared.replay_fault.ReplayFault.{ReplayFault}
 use Rattle.hub_core.specs.Openings.{Opened, IsNotOpened}
@@ -21,9 +21,13 @@ use Rattle.serve_core.specs.Logs.{Serves}
 use Rattle.serve_core.specs.Sending as serving
 use Rattle.work_core.specs.Faults.{of_printing, of_replay, of_store}
 use Rattle.work_core.specs.declared.fault.WorkFault.{WorkFault}
-use Rattle.work_core.specs.declared.fault.WorkFault.TheVariants.{NoMemory}
+use Rattle.work_core.specs.declared.fault.WorkFault.TheVariants.{NoMemory, SignedOff}
 use Rattle.work_core.specs.declared.work.Work.{Work}
+use Rattle.work_core.specs.declared.work.Work.TheVariants as works
 use Rattle.work_core.specs.declared.work.Work.TheVariants.{Replay, Print, Serve}
+use Rattle.work_core.specs.Works.{new_desk}
+use Rattle.desk_core.specs.declared.bench.Bench.{Bench}
+use Rattle.desk_core.specs.Sessions as desk
 
 -- A fault came in the lines, or all lines were answered, and there was no memory for the notes.
 abbrev pub LeavesLines : {R : Type 0} → (R → Holding) → State R → State R → List Entry
@@ -57,6 +61,34 @@ pub record StopsServing {R : Type 0} (holding : R → Holding) (hub : State R) (
   pub taken : Serves holding hub ended log
       ⊎ ((cause : ServeFault) × serving.AfterFault holding hub ended feeds log cause)
 
+-- A fault came in the lines of a desk, or all were answered, and there was no memory for the notes.
+abbrev pub LeavesDesk : {R : Type 0} → Bench → Option ℤ → (R → Holding) → State R → State R
+    → List Entry → List Arrival → Option (List ℕ) → Option (List ℕ) → Option (List ℕ)
+    → Option (List ℕ) → WorkFault → Type 0
+LeavesDesk bench day holding hub ended O A i i' o o' fault =
+    ((cause : ReplayFault) × (fault ≡ of_replay cause)
+    × desk.AfterFault hub.book.museum hub.book.depth O A bench (new_desk day) i i' o o' holding
+    ended cause)
+    ⊎ ((fault ≡ NoMemory)
+    × desk.Answered hub.book.museum hub.book.depth O A bench (new_desk day) i i' o o' holding ended)
+
+-- The lines of a desk stopped. The register is that of the hub as the fault left it.
+pub record StopsLines {R : Type 0} (bench : Bench) (day : Option ℤ) (holding : R → Holding)
+    (hub : State R) (register : R) (i i' o o' : Option (List ℕ)) (fault : WorkFault) :
+    Type 0 where
+  pub ended : State R
+  pub register_is : ended.register ≡ register
+  pub left : (O : List Entry) (A : List Arrival) → StandsFor holding hub O A
+      → LeavesDesk bench day holding hub ended O A i i' o o' fault
+
+-- The desk's station has signed off. Nothing was read, written or changed.
+pub record IsSignedOff {R : Type 0} (hub : State R) (register : R) (i i' o o' : Option (List ℕ))
+    (fault : WorkFault) : Type 0 where
+  pub is : fault ≡ SignedOff
+  pub same : register ≡ hub.register
+  pub unread : i' ≡ i
+  pub unwritten : o' ≡ o
+
 -- The work stopped, and what it left: the register, and the text that was written.
 abbrev pub Stops : {R : Type 0} → (R → Holding) → State R → R → Work → Option (List ℕ)
     → Option (List ℕ) → Option (List ℕ) → Option (List ℕ) → WorkFault → Type 0
@@ -67,6 +99,9 @@ Stops holding hub register (Print question form upto) i i' o o' fault =
     × StopsReport o o' (report_text form (as_of upto hub.book) question) fault
 Stops holding hub register (Serve feeds) i i' o o' fault =
     StopsServing holding hub register feeds.items
+Stops holding hub register (works.Desk bench day) i i' o o' fault =
+    IsSignedOff hub register i i' o o' fault
+    ⊎ StopsLines bench day holding hub register i i' o o' fault
 
 -- No hub was opened over the register `before`. Nothing was read or written.
 pub record NotOpened {R : Type 0} (holding : R → Holding) (S : Museum) (before register : R)

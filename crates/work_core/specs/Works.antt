@@ -1,6 +1,6 @@
 -- Defines the work of a command on a record, and what it leaves. `i` and `i'` are the bytes that
 -- the reader has left before and after, `o` and `o'` those that the writer holds.
-use Rattle.std.specs.Prelude.{ℕ, ◌≡◌, ⊤, List, Option, [], reverse, vec_len}
+use Rattle.std.specs.Prelude.{ℕ, ℤ, ◌≡◌, ◌<◌, ⊤, List, Option, None, [], reverse, vec_len}
 use Rattle.std.specs.List.{flat_map}
 use Rattle.std.specs.Io.KnownBytes.{Appends}
 use Rattle.hub_core.specs.declared.hub.answer.Arrival.{Arrival}
@@ -19,13 +19,18 @@ use Rattle.serve_core.specs.Logs.{Serves}
 use Rattle.serve_core.specs.Sending.{IsMerge}
 use Rattle.serve_core.specs.Wording.{logged_text}
 use Rattle.work_core.specs.declared.work.Work.{Work}
+use Rattle.desk_core.specs.declared.bench.Bench.{Bench}
+use Rattle.desk_core.specs.Sessions.{Answered}
+use Rattle.desk_lines.specs.declared.desk.Desk.{Desk}
+use Rattle.work_core.specs.declared.work.Work.TheVariants as works
 use Rattle.work_core.specs.declared.work.Work.TheVariants.{Replay, Print, Serve}
 
--- To serve n stations takes n feeds. Other work has none.
-abbrev pub HasFeeds : ℕ → Work → Type 0
-HasFeeds n (Replay why) = ⊤
-HasFeeds n (Print question form upto) = ⊤
-HasFeeds n (Serve feeds) = vec_len feeds ≡ n
+-- The work is one for n stations: a serving has a feed for each, and a desk is that of one.
+abbrev pub FitsStations : ℕ → Work → Type 0
+FitsStations n (Replay why) = ⊤
+FitsStations n (Print question form upto) = ⊤
+FitsStations n (Serve feeds) = vec_len feeds ≡ n
+FitsStations n (works.Desk bench day) = bench.station < n
 
 -- All lines that were read are answered, and the watch has seen their outcomes. The register is
 -- that of a hub that has taken the messages of these lines.
@@ -48,6 +53,19 @@ pub record HasServed {R : Type 0} (holding : R → Holding) (hub : State R) (reg
   pub written : Appends o o'
       (flat_map (logged_text ended.book.museum (reverse ended.book.posted)) log)
 
+-- A desk before its first line: it has no target.
+abbrev pub new_desk : Option ℤ → Desk
+new_desk day = record { target = None; day = day }
+
+-- All lines of the input are answered at the desk. The register is that of a hub that has taken
+-- their messages.
+pub record HasWorkedAt {R : Type 0} (bench : Bench) (day : Option ℤ) (holding : R → Holding)
+    (hub : State R) (register : R) (i i' o o' : Option (List ℕ)) : Type 0 where
+  pub ended : State R
+  pub register_is : ended.register ≡ register
+  pub answered : (O : List Entry) (A : List Arrival) → StandsFor holding hub O A
+      → Answered hub.book.museum hub.book.depth O A bench (new_desk day) i i' o o' holding ended
+
 -- The work that was done with a hub, and what it left: the register, and the text that was written.
 abbrev pub Does : {R : Type 0} → (R → Holding) → State R → R → Work → (List Outcome → Type 0)
     → (List Outcome → Type 0) → Option (List ℕ) → Option (List ℕ) → Option (List ℕ)
@@ -58,6 +76,8 @@ Does holding hub register (Print question form upto) had_seen has_seen i i' o o'
     (register ≡ hub.register) × Appends o o' (report_text form (as_of upto hub.book) question)
 Does holding hub register (Serve feeds) had_seen has_seen i i' o o' =
     HasServed holding hub register feeds.items o o'
+Does holding hub register (works.Desk bench day) had_seen has_seen i i' o o' =
+    HasWorkedAt bench day holding hub register i i' o o'
 
 -- A hub was opened over the register `before`, and did the work.
 pub record Did {R : Type 0} (holding : R → Holding) (S : Museum) (before register : R) (work : Work)

@@ -22,6 +22,9 @@ pub enum WorkFault {
     /// The store failed, or cannot be used with this setup.
     #[error("the store cannot be used")]
     Store(StoreFault),
+    /// The station of the desk has signed off.
+    #[error("the station has signed off")]
+    SignedOff,
     /// The lines of the station of this name did not come to their end.
     #[error("the lines of station {0} did not come to their end")]
     Unfinished(String),

@@ -1,5 +1,5 @@
-//! The work of a command on the record in a store: answer lines, serve all stations, or print a
-//! report.
+//! The work of a command on the record in a store: answer lines, serve all stations, work at a
+//! desk, or print a report.
 //!
 //! [`do_work`] opens a hub over a register, does the [`Work`], and hands the register back. A
 //! [`WorkFault`] says why it stopped. Notes for the user are collected in a text.
@@ -11,20 +11,23 @@
 //!   messages of these lines.
 //! - Of a serving: the log is a merge of all feeds, every byte of the log was written, and the
 //!   register has the record with the log's messages.
+//! - Of a desk: every line of the input is answered, and the register has the record with the
+//!   messages of these lines.
 //! - Of a report: exactly its text was written, and the register is as it was opened.
 //!
 //! If the work stops, the contract says what it leaves (`stopped`): a store that was not opened, or
-//! what the fault of the replay, the report or the serving leaves. No clause speaks of the notes,
+//! what the fault of the replay, the report, the desk or the serving leaves. No clause speaks of the notes,
 //! nor of where a register keeps its rows.
 //!
 //! ```text
 //! let (register, ended) = do_work(
-//!     &rt, alloc, setup, register, Work::Replay { why: false }, &mut tally, &mut input,
-//!     &mut output, &mut notes,
+//!     &rt, alloc, &questions, setup, register, Work::Replay { why: false }, &mut tally,
+//!     &mut input, &mut output, &mut notes,
 //! );
 //! ```
 #![tactic(auto)]
 
+mod desk;
 mod fault;
 mod notes;
 mod printing;

@@ -1,12 +1,15 @@
 //! Opens a hub over a register, and does the work of a command with it.
 ghost use Rattle.std.specs.Prelude.{◌≡◌, false, length, OnOk, IfErr};
 ghost use Rattle.work_core.specs.Stops.{Stops, Stopped};
-ghost use Rattle.work_core.specs.Works.{HasFeeds, Does, Did};
+ghost use Rattle.work_core.specs.Works.{FitsStations, Does, Did};
 
 use crate::WorkFault;
+use crate::desk::worked;
 use crate::printing::printed;
 use crate::replaying::replayed;
 use crate::serving::served;
+use codes_core::Day;
+use desk_core::{Bench, Questions};
 use hub_core::{Hub, Watch};
 use nest_core::Setup;
 use register_store::Register;
@@ -34,10 +37,16 @@ pub enum Work {
     },
     /// Serves all stations, each from its feed, and prints the log.
     Serve(Vec<TextFeed>),
+    /// Takes the lines of the input at a desk, on this day until a line changes it.
+    Desk {
+        bench: Bench<'static>,
+        day: Option<Day>,
+    },
 }
 
 /// Opens a hub with this setup over the register, and does the work with it. Returns the register
-/// and, if the work stopped, its fault. A serving needs a feed for each station.
+/// and, if the work stopped, its fault. A serving needs a feed for each station,
+/// and a desk a station of the setup.
 ///
 /// Faults, in this order: those of [`Hub::open`]; those of the work. A replay has those of
 /// [`replay_watched`](hub_core::replay_watched), a report those of
@@ -45,6 +54,7 @@ pub enum Work {
 /// WriteFailed. NoMemory can come instead of any of them, also for a note at the end.
 pub fn do_work<
     T: Threads + Wait + Sync + Copy + Send + 'static,
+    Q: Questions,
     S: Register,
     V: Watch,
     R: BufRead,
@@ -52,6 +62,7 @@ pub fn do_work<
 >(
     threads: &T,
     alloc: Global,
+    questions: &Q,
     setup: Setup,
     register: S,
     work: Work,
@@ -60,7 +71,7 @@ pub fn do_work<
     output: &mut W,
     notes: &mut String,
 ) -> (S, Result<(), WorkFault>)
-    requires { HasFeeds (length setup.stations) work }
+    requires { FitsStations (length setup.stations) work }
     // The work is done: a hub was opened over the register, and its work has left the result.
     ensures did { OnOk result.1 (Did S.holding setup register result.0 work
         (V.has_seen watch.old) (V.has_seen watch.new)
@@ -72,7 +83,9 @@ pub fn do_work<
         (W.contents output.old) (W.contents output.new)) }
 {
     match Hub::open(alloc, setup, register) {
-        Ok(hub) => done(threads, alloc, hub, work, watch, input, output, notes),
+        Ok(hub) => done(
+            threads, alloc, questions, hub, work, watch, input, output, notes,
+        ),
         Err(failed) => (failed.register, Err(WorkFault::from(failed.fault))),
     }
 }
@@ -80,6 +93,7 @@ pub fn do_work<
 /// Does the work with the hub. Returns the hub's register, and the fault if there is one.
 fn done<
     T: Threads + Wait + Sync + Copy + Send + 'static,
+    Q: Questions,
     S: Register,
     V: Watch,
     R: BufRead,
@@ -87,6 +101,7 @@ fn done<
 >(
     threads: &T,
     alloc: Global,
+    questions: &Q,
     hub: Hub<S>,
     work: Work,
     watch: &mut V,
@@ -94,7 +109,7 @@ fn done<
     output: &mut W,
     notes: &mut String,
 ) -> (S, Result<(), WorkFault>)
-    requires feeds { HasFeeds (length hub.book.museum.stations) work }
+    requires feeds { FitsStations (length hub.book.museum.stations) work }
     requires up { hub.down ≡ false }
     ensures does { OnOk result.1 (Does S.holding hub result.0 work
         (V.has_seen watch.old) (V.has_seen watch.new)
@@ -112,5 +127,10 @@ fn done<
             upto,
         } => printed(threads, alloc, hub, &question, form, upto, output, notes),
         Work::Serve(feeds) => served(threads, alloc, hub, feeds, output, notes),
+        Work::Desk { bench, day } => {
+            worked(
+                threads, alloc, questions, hub, &bench, day, input, output, notes,
+            )
+        }
     }
 }

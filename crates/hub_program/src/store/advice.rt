@@ -21,7 +21,7 @@ pub fn is_no_database(error: Error) -> bool {
 
 /// Returns the advice on a database without a record.
 pub fn on_no_record(alloc: Global, path: &str) -> Advice {
-    format!(in alloc; "{path} has no record yet: replay and serve start one").ok()
+    format!(in alloc; "{path} has no record yet: replay, serve and desk start one").ok()
 }
 
 /// Returns the advice on a store that has another setup than the one that is named.

@@ -26,7 +26,7 @@ pub fn look(rt: &HostRuntime, path: &str, begins: Begins) -> Result<bool, Comman
     let advice = match database {
         Some(_) => on_no_record(alloc, path),
         None => format!(in alloc;
-            "{path} does not exist: replay and serve start a new record"
+            "{path} does not exist: replay, serve and desk start a new record"
         ).ok(),
     };
     Err(CommandFault::Store(begins.fault(), advice))

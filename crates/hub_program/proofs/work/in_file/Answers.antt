@@ -4,7 +4,7 @@ use Rattle.std.proofs.lemmas.Result.{on_ok_weaker}
 use Rattle.hub_core.specs.declared.outcome.Outcome.{Outcome}
 use Rattle.nest_core.specs.Museum.{Museum}
 use Rattle.register_store.specs.Holdings.{Holding}
-use Rattle.work_core.specs.Works.{Did, HasFeeds}
+use Rattle.work_core.specs.Works.{Did, FitsStations}
 use Rattle.work_core.specs.declared.work.Work.{Work}
 use Rattle.hub_program.specs.Places.{grown_by}
 use Rattle.hub_program.proofs.work.in_file.Goals as goal
@@ -16,8 +16,8 @@ pub do_work-register-requires-after_bounds : goal.do_work-register-requires-afte
 do_work-register-requires-after_bounds g c =
     let setup : c.in-Some.grown ≡ grown_by c.args.store.growths.items c.args.setup =
     c.in-Some.ensures.grown in
-    let it : HasFeeds (length c.in-Some.grown.stations) c.args.work =
-    subst (λ S. HasFeeds (length S.stations) c.args.work) (sym setup) c.requires in
+    let it : FitsStations (length c.in-Some.grown.stations) c.args.work =
+    subst (λ S. FitsStations (length S.stations) c.args.work) (sym setup) c.requires in
     search (it, rules)
 
 did_as : {R : Type 0} {holding : R → Holding} {S T : Museum} {before other after : R} {work : Work}
