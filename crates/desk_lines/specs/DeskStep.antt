@@ -118,6 +118,6 @@ said S d line =
 abbrev pub desk_step : Museum → Desk → List ℕ → Desk × Said
 desk_step S d line = (desk_after d (said S d line), said S d line)
 
--- Only such a line can run out of memory.
+-- The line's verb takes memory. No other line can run out of it.
 abbrev pub may_fail : List ℕ → Bool
 may_fail line = option_map_or takes_memory (verb_of line) false

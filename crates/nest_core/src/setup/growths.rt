@@ -129,8 +129,8 @@ fn if_less(number: u32, count: u32) -> Option<u32>
     if number < count { Some(number) } else { None }
 }
 
-/// The part of the setup that was listed when `posted` entries had been posted. `now` is all that is
-/// listed today.
+/// The part of the setup that was listed when `posted` entries had been posted. `now` is all that
+/// is listed today.
 fn listed_by(growths: &[Growth], posted: u32, now: Listed) -> Listed
     ensures { result ≡ listed_by growths.now posted now }
 {
