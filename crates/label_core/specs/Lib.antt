@@ -1,0 +1,3 @@
+pub mod Labels
+pub mod LabelRows
+pub mod LabelFaults
