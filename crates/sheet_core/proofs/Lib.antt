@@ -1,0 +1,5 @@
+pub mod CsvRows
+pub mod Marks
+pub mod Rows
+pub mod Tables
+mod Worked
