@@ -1,0 +1,58 @@
+//! Reads the rows of a spreadsheet table as messages.
+//!
+//! The first row is the heading: it names the [`Column`]s, in any order. [`read_table`] returns a
+//! [`Table`] with a numbered message for each row that has text, or all faults of all rows. A
+//! [`CellFault`] is what is wrong with a cell; a [`FaultyCell`] is that with its row, its column
+//! and its text. [`TableOptions`] has the texts that stand for empty cells.
+//!
+//! ```text
+//! match read_table(alloc, &options, rows) {
+//!     Ok(table) => print_lines(&table.lines),
+//!     Err(TableFault::Rows(faults)) => print_faults(&faults),
+//!     Err(TableFault::Heading(fault)) => print_fault(fault),
+//!     Err(TableFault::NoMemory) => Err(NoMemory),
+//! }
+//! ```
+#![tactic(auto)]
+
+mod cell;
+mod cell_text;
+mod column;
+mod columns;
+mod days;
+mod digits;
+mod fault;
+mod kind;
+mod message;
+mod objects;
+mod options;
+mod row;
+mod row_cells;
+mod table;
+mod table_fault;
+mod word;
+
+pub use cell_text::CellText;
+pub use column::Column;
+pub use fault::{CellFault, FaultyCell, HeadingFault};
+pub use kind::Kind;
+pub use options::{DateOrder, TableOptions};
+pub use row::TableLine;
+pub use table::{Table, read_table};
+pub use table_fault::TableFault;
+
+/// All columns.
+pub const COLUMNS: [Column; 12] = [
+    Column::Kind,
+    Column::Thing,
+    Column::Container,
+    Column::Place,
+    Column::Day,
+    Column::Loan,
+    Column::Partner,
+    Column::Objects,
+    Column::First,
+    Column::Last,
+    Column::By,
+    Column::N,
+];
