@@ -1,0 +1,2 @@
+pub mod GapLines
+mod WorkedGaps
