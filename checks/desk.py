@@ -99,6 +99,46 @@ def answers_at_once(program, folder, _):
     return good and report(program, folder, "stations") == f"PACK next {len(OBJECTS) + 1}\nGAL next 1\n"
 
 
+def notes_a_new_store(program, folder, _):
+    """A new store is noted before the first line is read, and not again at the end."""
+    desk = Desk(program, folder)
+    noted = select.select([desk.ran.stderr], [], [], 20)[0] and desk.ran.stderr.readline().decode()
+    good = noted == f"note: new store {folder}/museum.db\n" and desk.ask("S1") == "to S1"
+    status, _, errors = desk.end()
+    return good and status == 0 and errors == ""
+
+
+def logs_each_message(program, folder, _):
+    """Each message is in the log before its answer comes, and a replay of the log posts the same."""
+    desk = Desk(program, folder, "--day", "2024-05-01", "--log", f"{folder}/pack.jsonl")
+    good = desk.ask("S2") == "to S2"
+    for n, thing in enumerate(OBJECTS, 1):
+        good &= desk.ask(thing) == f"PACK {n} posted {n} Applied: {thing} at S2"
+        with open(f"{folder}/pack.jsonl", "rb") as log:
+            good &= log.read().count(b"\n") == n
+    desk.ran.send_signal(signal.SIGKILL)
+    desk.end()
+    first = report(program, folder, "posted")
+    os.rename(f"{folder}/museum.db", f"{folder}/first.db")
+    with open(f"{folder}/pack.jsonl", "rb") as log:
+        words = [program, "replay", "--setup", f"{folder}/museum.csv", "--store", f"{folder}/museum.db"]
+        good &= subprocess.run(words, stdin=log, capture_output=True, timeout=120, check=False).returncode == 0
+    return good and report(program, folder, "posted") == first
+
+
+def logs_that_fail(program, folder, _):
+    """A log that can't be written: the message is not posted. A line that was cut off is ended first."""
+    status, output, errors = told(program, folder, "S1\n2001.1.1\n", "--station", "PACK", "--day", "2024-05-01", "--log", "/dev/full")
+    good = status == 1 and output == "to S1\n" and "fault log\nhelp: /dev/full " in errors
+    good &= report(program, folder, "stations").startswith("PACK next 1\n")
+    with open(f"{folder}/pack.jsonl", "w", encoding="utf-8") as log:
+        log.write('{"station":"PA')
+    told(program, folder, "S1\n2001.1.1\n", "--station", "PACK", "--day", "2024-05-01", "--log", f"{folder}/pack.jsonl")
+    with open(f"{folder}/pack.jsonl", encoding="utf-8") as log:
+        lines = log.read().split("\n")
+    return good and lines[0] == '{"station":"PA' and lines[1].startswith('{"station":"PACK","n":1,') and lines[2:] == [""]
+
+
 def mixed_lines(program, folder, _):
     """Two feeds at one desk: its own scans, and the lines of another station, which may come early and twice."""
     lines = f"S1\n2001.1.1\n{GAL_LINE % 2}{GAL_LINE % 1}{GAL_LINE % 1}2001.1.1\n? 2001.1.1\n{GAL_LINE.replace('GAL', 'PACK', 1) % 3}"
@@ -223,7 +263,8 @@ def main():
     print(f"# --seed {seed}")
     with_kills = lambda *words: a_day_with_kills(*words, kills)
     with_kills.__doc__ = a_day_with_kills.__doc__
-    checks = [at_a_terminal, answers_at_once, mixed_lines, cut_input, twice_at_once, strange_lines, refused_at_the_start, with_kills]
+    checks = [at_a_terminal, answers_at_once, notes_a_new_store, logs_each_message, logs_that_fail, mixed_lines, cut_input]
+    checks += [twice_at_once, strange_lines, refused_at_the_start, with_kills]
     for check in checks:
         with tempfile.TemporaryDirectory() as folder:
             with open(f"{folder}/museum.csv", "w", encoding="utf-8") as file:

@@ -45,6 +45,18 @@ pub desk_bell : is_given desk.app day_words (codes "bell") ≡ true
 unfolding clap_on_literals register_app report_app
 desk_bell = refl
 
+-- with the files of a log and of labels
+abbrev files_words : List Text
+files_words = desk_words ++ codes "--log=pack.jsonl" ∷ codes "--labels=labels.csv" ∷ []
+
+pub desk_log : value desk.app files_words (codes "log") ≡ Some (codes "pack.jsonl")
+unfolding clap_on_literals register_app report_app
+desk_log = refl
+
+pub desk_labels : value desk.app files_words (codes "labels") ≡ Some (codes "labels.csv")
+unfolding clap_on_literals register_app report_app
+desk_labels = refl
+
 -- desk alone lacks all three values, and the cards need none
 abbrev cards_words : List Text
 cards_words = codes "desk" ∷ codes "--cards" ∷ []

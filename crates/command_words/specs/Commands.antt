@@ -81,13 +81,14 @@ replay = setup_needed
 abbrev pub serve : Form
 serve = setup_needed (with_rule (register_app (codes "serve")) (words_rule (codes "feeds")))
 
--- The desk's own station, the day, the bell, and the flag that prints the cards.
+-- The desk's own station, the day, the files of the log and of the labels, the bell, and the flag
+-- that prints the cards.
 abbrev pub desk : Form
 desk =
     record (all_needed
-    (with_rule (with_rule (with_rule (with_rule (register_app (codes "desk"))
-    (option_rule (codes "station"))) (option_rule (codes "day"))) (flag_rule (codes "bell")))
-    (flag_rule (codes "cards")))
+    (with_rule (with_rule (with_rule (with_rule (with_rule (with_rule (register_app (codes "desk"))
+    (option_rule (codes "station"))) (option_rule (codes "day"))) (option_rule (codes "log")))
+    (option_rule (codes "labels"))) (flag_rule (codes "bell"))) (flag_rule (codes "cards")))
     (codes "station")) { waiver = Some (codes "cards") }
 
 abbrev pub count : Form

@@ -44,6 +44,20 @@ pub(crate) const FIRST_DAY: Argument = Argument {
     help: "The day of the messages, until a line 'day' changes it",
 };
 
+pub(crate) const LOG: Argument = Argument {
+    kind: Kind::Valued,
+    id: "log",
+    value: "FILE",
+    help: "Append each message sent to FILE, as a JSON line, before it is posted",
+};
+
+pub(crate) const LABELS: Argument = Argument {
+    kind: Kind::Valued,
+    id: "labels",
+    value: "FILE",
+    help: "A table of labels and their codes",
+};
+
 pub(crate) const BELL: Argument = Argument {
     kind: Kind::Flag,
     id: "bell",

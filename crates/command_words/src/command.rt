@@ -108,12 +108,16 @@ pub enum Chosen<'a> {
         feeds: Vec<&'a str>,
     },
     /// Takes lines at a desk of this station, as a person types them or a scanner reads them. `day`
-    /// is the day of the first messages. With `bell`, an answer to a line that isn't done rings.
+    /// is the day of the first messages. The messages that are sent are appended to the file `log`.
+    /// The file `labels` has the code of each label. With `bell`, an answer to a line that isn't
+    /// done rings.
     Desk {
         setup: &'a str,
         store: &'a str,
         station: &'a str,
         day: Option<&'a str>,
+        log: Option<&'a str>,
+        labels: Option<&'a str>,
         bell: bool,
     },
     /// Prints the words of a desk's lines as cards to scan.

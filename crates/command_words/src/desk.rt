@@ -14,8 +14,8 @@ const OWN_SETUP: &str = "--setup=desk";
 
 const OWN_STORE: &str = "--store=desk";
 
-/// Returns the words of a report, the first of which is its command's name, as a command line:
-/// with a setup and a store. Fault: AllocError, if memory runs out.
+/// Returns a report's words as a command line: with a setup and a store. The first word is the
+/// command's name. Fault: AllocError, if memory runs out.
 pub fn desk_line<'a>(alloc: Global, words: &[&'a str]) -> Result<Vec<&'a str>, AllocError>
     ensures line { IfOk result (λ line. texts_of line.items ≡ desk_line (texts_of words.now)) }
 {

@@ -7,9 +7,9 @@ ghost use Rattle.command_words.specs.Tables.{app_by, form_by, with_arguments};
 ghost use Rattle.command_words.specs.Words.{form_named, needed_in, texts_of};
 
 use crate::arguments::{
-    BELL, BY, CARDS, CHECK, CONTAINER, DAY, DUE, ENTRY, EXPLAINED, FEEDS, FIRST_DAY, FROM, LIST,
-    LOAN, LONG, OF_LOAN, OF_THING, ON, OPEN, OWN_STATION, PLACE, PROGRESS, REFUSED, SEALED,
-    STATION, STRICT, THING, TO, TO_ENTRY, TOPIC, WORD,
+    BELL, BY, CARDS, CHECK, CONTAINER, DAY, DUE, ENTRY, EXPLAINED, FEEDS, FIRST_DAY, FROM, LABELS,
+    LIST, LOAN, LOG, LONG, OF_LOAN, OF_THING, ON, OPEN, OWN_STATION, PLACE, PROGRESS, REFUSED,
+    SEALED, STATION, STRICT, THING, TO, TO_ENTRY, TOPIC, WORD,
 };
 use crate::options::{Argument, CSV, JSON, SETUP, STORE, TABLE, UPTO, made, with_help};
 use crate::reading::is_set;
@@ -201,7 +201,16 @@ fn arguments_of(name: Name) -> &'static [Argument]
     match name {
         Name::Replay => &[SETUP, STORE, PROGRESS, STRICT, EXPLAINED],
         Name::Serve => &[SETUP, STORE, FEEDS],
-        Name::Desk => &[SETUP, STORE, OWN_STATION, FIRST_DAY, BELL, CARDS],
+        Name::Desk => &[
+            SETUP,
+            STORE,
+            OWN_STATION,
+            FIRST_DAY,
+            LOG,
+            LABELS,
+            BELL,
+            CARDS,
+        ],
         Name::Count => &[SETUP, STORE, LIST, SEALED, UPTO, CSV, JSON, TABLE],
         Name::Overdue => &[SETUP, STORE, DAY, UPTO, CSV, JSON, TABLE],
         Name::Away => &[SETUP, STORE, UPTO, CSV, JSON, TABLE],

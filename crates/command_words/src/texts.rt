@@ -86,7 +86,7 @@ error, or there are more or fewer files than stations.",
 
 pub(crate) const DESK: Help = Help {
     about: "Takes scanned or typed lines at a desk, and answers each at once",
-    usage: "pairsalder desk --setup PATH --store PATH --station NAME\n       [--day DAY] [--bell]\n       pairsalder desk --cards",
+    usage: "pairsalder desk --setup PATH --store PATH --station NAME\n       [--day DAY] [--log FILE] [--labels FILE] [--bell]\n       pairsalder desk --cards",
     more: "\
 For a bench with a scanner: scan a place or a container, then the things that go
 there.
@@ -99,12 +99,15 @@ now. A line that can't be done is answered with the reason, and sends nothing.
 Type 'help' for the other lines.
 
 --station names the desk's own station. --day is the day of its messages; a line
-such as 'day 2024-05-01' sets it, too. With --bell, the terminal rings after a
-line that was not done. With --cards, prints the command words as cards to cut
-out and scan.
+such as 'day 2024-05-01' sets it, too. With --log, each message that is sent is
+first appended to FILE, as a line that 'replay' takes. With --labels, a scan
+that is a label of FILE stands for its code; FILE is CSV, and its first row is
+label,code. With --bell, the terminal rings after a line that was not done. With
+--cards, prints the command words as cards to cut out and scan.
 
 Examples:
   pairsalder desk --setup museum.csv --store museum.db --station GAL
+  pairsalder desk --setup museum.csv --store museum.db --station GAL --log gal.jsonl
   pairsalder desk --cards
 
 Exit status: 0 the input ended; 1 a fault; 2 a usage error, DAY is not a day, or

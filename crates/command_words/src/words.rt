@@ -109,6 +109,8 @@ fn desk<'a>(alloc: Global, words: &'a [&'a str]) -> Result<Chosen<'a>, WordsFaul
     let files = files_of(&matches);
     let station = one(&matches, "station");
     let day = one(&matches, "day");
+    let log = one(&matches, "log");
+    let labels = one(&matches, "labels");
     let bell = is_set(&matches, "bell");
     let cards = is_set(&matches, "cards");
     drop(matches);
@@ -121,6 +123,8 @@ fn desk<'a>(alloc: Global, words: &'a [&'a str]) -> Result<Chosen<'a>, WordsFaul
         store: record.store,
         station: needed(station)?,
         day,
+        log,
+        labels,
         bell,
     })
 }

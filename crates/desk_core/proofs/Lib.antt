@@ -1,3 +1,4 @@
+pub mod LogLemmas
 pub mod TakeLemmas
 pub mod SessionLemmas
 pub mod OwnLemmas

@@ -1,7 +1,8 @@
 -- The next number of a station is posted at once.
 use Rattle.std.proofs.Common.{◌≡◌, ℕ, suc, ◌+◌, ◌-◌, ◌<◌, ◌≤◌, ◌==◌, ◌&&◌, Bool, true, false, List}
-use Rattle.std.proofs.Common.{[], ◌∷◌, ◌++◌, Option, None, Some, length, refl, sym, subst, ◌∙◌, arith}
-use Rattle.std.proofs.Common.{⊎_elim, true≢false, length-append, is_some, not, nat_le, nat_lt, fold}
+use Rattle.std.proofs.Common.{[], ◌∷◌, ◌++◌, Option, None, Some, length, refl, sym, subst, ◌∙◌}
+use Rattle.std.proofs.Common.{arith, ⊎_elim, true≢false, length-append, is_some, not, nat_le}
+use Rattle.std.proofs.Common.{nat_lt, fold}
 use Rattle.std.proofs.lemmas.Bool.{cases_lt}
 use Rattle.std.proofs.lemmas.Bool.Decides.{nat_tests}
 use Rattle.nest_core.specs.Museum.{Museum}
@@ -9,15 +10,15 @@ use Rattle.posting_core.specs.Messages.{is_sign_off}
 use Rattle.posting_core.specs.declared.entry.Entry.{Entry}
 use Rattle.posting_core.specs.declared.message.Message.{Message}
 use Rattle.station_core.specs.declared.TheConstants.{LAST}
-use Rattle.station_core.specs.Runs.{Arrived, arrived, due, ends, is_double, is_signed, message_at}
-use Rattle.station_core.specs.Runs.{numbered, ready, refusal, taken_after, unbroken}
+use Rattle.station_core.specs.Runs.{Arrived, arrived, due, ends, is_signed, message_at}
+use Rattle.station_core.specs.Runs.{numbered, ready, refusal, unbroken}
 use Rattle.station_core.specs.Series.{window}
 use Rattle.station_core.proofs.BoolLemmas.{down}
 use Rattle.station_core.proofs.RunLemmas.{at_its_number, at_other_number, ends_same, ready_fails}
 use Rattle.station_core.proofs.RunLemmas.{ready_holds, unbroken_down, unbroken_found, unbroken_same}
 use Rattle.hub_core.specs.declared.hub.answer.Answer.TheVariants.{Posted}
 use Rattle.hub_core.specs.declared.hub.answer.Arrival.{Arrival}
-use Rattle.hub_core.specs.Points.{point, point_after, post, reply, reply_from, seen}
+use Rattle.hub_core.specs.Points.{point, post, reply}
 use Rattle.desk_core.specs.Sent.{own_arrival}
 
 none_there : {M : Type 0} (whole : Bool) (o : Option M) (ended : Bool) → whole ≡ true
@@ -102,7 +103,8 @@ unfolding window
 some_window = omega arith
 
 module _ (S : Museum) (depth : ℕ) (O : List Entry) (A : List Arrival) (s : ℕ) (m : Message)
-    (known : s < length S.stations) (goes : is_signed is_sign_off (point S depth O A).taken s ≡ false)
+    (known : s < length S.stations)
+    (goes : is_signed is_sign_off (point S depth O A).taken s ≡ false)
     (few : ready is_sign_off (point S depth O A).taken s < LAST) where
   abbrev taken : List (Arrived Message)
   taken = (point S depth O A).taken

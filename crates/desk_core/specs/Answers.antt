@@ -1,6 +1,6 @@
 -- Defines the answers to lines. S is the setup, `depth` the depth limit, O the entries posted at
 -- the start, A the arrivals so far, and s the desk's own station.
-use Rattle.std.specs.Prelude.{ℕ, ◌≡◌, ◌⊎◌, ◌-◌, ◌++◌, ◌∷◌, ◌&&◌, [], Bool, false, List, Option}
+use Rattle.std.specs.Prelude.{ℕ, ◌≡◌, ◌-◌, ◌++◌, ◌∷◌, ◌&&◌, [], Bool, false, List, Option}
 use Rattle.std.specs.Prelude.{None, Some, Result, Err, Ok, codes, if◌then◌else◌, length, nat_eq}
 use Rattle.std.specs.Prelude.{not, take}
 use Rattle.std.specs.List.{ends_with}
@@ -96,27 +96,37 @@ abbrev pub or_nothing : List ℕ → List ℕ
 or_nothing [] = codes "nothing\n"
 or_nothing (b ∷ text) = b ∷ text
 
--- The text is a report, in plain form, or the line wasn't understood.
-abbrev pub IsReport : Bool → Book → List ℕ → List ℕ → Type 0
-IsReport has_bell B line text =
-    ((q : Question) × (text ≡ or_nothing (report_text Plain B q)))
-    ⊎ (text ≡ rejection_line has_bell NotUnderstood line)
+-- Which question the words of a report ask. None if they ask none.
+abbrev pub Asks : Type 1
+Asks = List (List ℕ) → Option Question → Type 0
+
+-- The report, in plain form. Words that ask no question aren't understood.
+abbrev pub question_answer : Bool → Book → List ℕ → Option Question → List ℕ
+question_answer has_bell B line None = rejection_line has_bell NotUnderstood line
+question_answer has_bell B line (Some question) = or_nothing (report_text Plain B question)
+
+-- The text is the report that the words ask for.
+abbrev pub IsReport : Asks → Bool → Book → List ℕ → List (List ℕ) → List ℕ → Type 0
+IsReport asks has_bell B line words text = (asked : Option Question)
+    × (asks words asked × (text ≡ question_answer has_bell B line asked))
 
 -- The text answers a line that sends nothing, on record B.
-abbrev pub IsAnswer : Book → Bench → List ℕ → Said → List ℕ → Type 0
-IsAnswer B bench line says.Help text = text ≡ bench.help.now
-IsAnswer B bench line (says.Target target) text = text ≡ target_line B target
-IsAnswer B bench line (says.Day day) text = text ≡ day_line day
-IsAnswer B bench line (says.Report words) text = IsReport bench.has_bell B line text
-IsAnswer B bench line (says.Rejected rejection) text =
+abbrev pub IsAnswer : Asks → Book → Bench → List ℕ → Said → List ℕ → Type 0
+IsAnswer asks B bench line says.Help text = text ≡ bench.help.now
+IsAnswer asks B bench line (says.Target target) text = text ≡ target_line B target
+IsAnswer asks B bench line (says.Day day) text = text ≡ day_line day
+IsAnswer asks B bench line (says.Report words) text =
+    IsReport asks bench.has_bell B line words text
+IsAnswer asks B bench line (says.Rejected rejection) text =
     text ≡ rejection_line bench.has_bell rejection line
-IsAnswer B bench line _ text = text ≡ []
+IsAnswer asks B bench line _ text = text ≡ []
 
 -- The text answers line `number`, which says this, after the arrivals A.
-abbrev pub IsTold : Museum → ℕ → List Entry → List Arrival → Bench → ℕ → List ℕ → Said → List ℕ
-    → Type 0
-IsTold S depth O A bench number line (says.Message m) text =
+abbrev pub IsTold : Museum → ℕ → List Entry → List Arrival → Asks → Bench → ℕ → List ℕ → Said
+    → List ℕ → Type 0
+IsTold S depth O A asks bench number line (says.Message m) text =
     text ≡ message_answer S depth O A bench.station bench.has_bell m
-IsTold S depth O A bench number line says.Line text =
+IsTold S depth O A asks bench number line says.Line text =
     text ≡ passed_answer S depth O A bench.station bench.has_bell number (line_in S line)
-IsTold S depth O A bench number line said text = IsAnswer (book S depth O A) bench line said text
+IsTold S depth O A asks bench number line said text =
+    IsAnswer asks (book S depth O A) bench line said text

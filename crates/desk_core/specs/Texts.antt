@@ -1,5 +1,5 @@
 -- Defines the words of the answers that need no hub.
-use Rattle.std.specs.Prelude.{ℕ, ℤ, ◌++◌, ◌∷◌, ◌&&◌, [], Bool, List, Option, None, Some, codes}
+use Rattle.std.specs.Prelude.{ℕ, ℤ, ◌++◌, ◌&&◌, Bool, List, Option, None, Some, codes}
 use Rattle.std.specs.Prelude.{if◌then◌else◌, length, nat_le}
 use Rattle.std.specs.List.{list_all}
 use Rattle.std.specs.Str.{is_utf8}

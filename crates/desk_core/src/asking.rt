@@ -12,7 +12,7 @@ use reports::{Form, Question, print};
 use std::alloc::Global;
 use std::thread::Threads;
 
-/// Appends the report that the words ask for. Words that ask for none aren't understood.
+/// Appends the report that the words ask for. If they ask for none, the line isn't understood.
 pub(crate) fn add_answer<T: Threads + Sync, Q: Questions>(
     threads: &T,
     alloc: Global,
@@ -25,7 +25,7 @@ pub(crate) fn add_answer<T: Threads + Sync, Q: Questions>(
 ) -> Result<(), NoMemory>
     requires { text.old.items ≡ [] }
     ensures { OnOk result
-        (IsReport bench.now.has_bell ledger.now line.now text.new.items) }
+        (IsReport Q.asks bench.now.has_bell ledger.now line.now words.now text.new.items) }
 {
     match questions.question(alloc, words.as_slice())? {
         Some(question) => add_report(threads, alloc, ledger, &question, text),
@@ -33,8 +33,8 @@ pub(crate) fn add_answer<T: Threads + Sync, Q: Questions>(
     }
 }
 
-/// Appends the plain lines of the report, or that it has none. A text in memory fails for want of
-/// memory alone.
+/// Appends the plain lines of the report, or that it has none. Writing to memory can only fail if
+/// memory runs out.
 fn add_report<T: Threads + Sync>(
     threads: &T,
     alloc: Global,

@@ -1,25 +1,28 @@
 //! Takes a line: finds what it says, does it, and answers.
 ghost use Rattle.std.specs.Prelude.{◌≡◌, ◌<◌, [], false, length, IfOk, OnOk};
 ghost use Rattle.desk_core.specs.Answers.{IsAnswer, IsTold};
+ghost use Rattle.desk_core.specs.Logs.{log_of};
 ghost use Rattle.desk_core.specs.Sent.{heard, said_arrivals};
-ghost use Rattle.desk_core.specs.Sessions.{Takes};
+ghost use Rattle.desk_core.specs.Sessions.{TakesAndLogs};
 
 use crate::asking::add_answer;
+use crate::line_fault::LineFault;
 use crate::passing::pass_on;
 use crate::sending::send;
 use crate::texts::{add, add_day, add_rejection, add_target};
 use crate::{Bench, Questions};
 use codes_core::NoMemory;
 use desk_lines::{Desk, Rejection, Said, step};
-use hub_core::{Hub, HubFault, LONGEST_LINE};
+use hub_core::{Hub, LONGEST_LINE};
 use nest_core::Setup;
 use posting_core::Ledger;
 use register_store::Register;
 use std::alloc::Global;
+use std::io::Write;
 use std::thread::Threads;
 
 /// Takes line `number`, counted from 1, and sets the text to the answer.
-pub(crate) fn take_line<T: Threads + Sync, S: Register, Q: Questions>(
+pub(crate) fn take_line<T: Threads + Sync, S: Register, Q: Questions, L: Write>(
     threads: &T,
     alloc: Global,
     questions: &Q,
@@ -28,12 +31,14 @@ pub(crate) fn take_line<T: Threads + Sync, S: Register, Q: Questions>(
     line: &[u8],
     desk: &mut Desk,
     hub: &mut Hub<S>,
+    log: &mut Option<L>,
     text: &mut Vec<u8>,
-) -> Result<(), HubFault>
+) -> Result<(), LineFault>
     requires up { hub.old.down ≡ false }
     requires known { bench.now.station < length hub.old.book.museum.stations }
-    ensures taken { Takes S.holding hub.old hub.new
-        (λ O A. IsTold hub.old.book.museum hub.old.book.depth O A bench.now number line.now
+    ensures taken { TakesAndLogs S.holding hub.old hub.new
+        (log_of L.contents log.old) (log_of L.contents log.new) bench.now.station
+        (λ O A. IsTold hub.old.book.museum hub.old.book.depth O A Q.asks bench.now number line.now
         (heard hub.old.book.museum desk.old line.now).1 text.new.items)
         (λ O A. said_arrivals hub.old.book.museum hub.old.book.depth O A bench.now.station line.now
         (heard hub.old.book.museum desk.old line.now).1) result }
@@ -42,7 +47,7 @@ pub(crate) fn take_line<T: Threads + Sync, S: Register, Q: Questions>(
     text.clear();
     let said = hear(alloc, hub.ledger().setup(), desk, line)?;
     act(
-        threads, alloc, questions, bench, number, line, said, hub, text,
+        threads, alloc, questions, bench, number, line, said, hub, log, text,
     )
 }
 
@@ -58,7 +63,7 @@ fn hear(alloc: Global, setup: &Setup, desk: &mut Desk, line: &[u8]) -> Result<Sa
 }
 
 /// Does what the line says, and appends the answer.
-fn act<T: Threads + Sync, S: Register, Q: Questions>(
+fn act<T: Threads + Sync, S: Register, Q: Questions, L: Write>(
     threads: &T,
     alloc: Global,
     questions: &Q,
@@ -67,20 +72,25 @@ fn act<T: Threads + Sync, S: Register, Q: Questions>(
     line: &[u8],
     said: Said,
     hub: &mut Hub<S>,
+    log: &mut Option<L>,
     text: &mut Vec<u8>,
-) -> Result<(), HubFault>
+) -> Result<(), LineFault>
     requires up { hub.old.down ≡ false }
     requires known { bench.now.station < length hub.old.book.museum.stations }
     requires empty { text.old.items ≡ [] }
-    ensures { Takes S.holding hub.old hub.new
-        (λ O A. IsTold hub.old.book.museum hub.old.book.depth O A bench.now number line.now
+    ensures { TakesAndLogs S.holding hub.old hub.new
+        (log_of L.contents log.old) (log_of L.contents log.new) bench.now.station
+        (λ O A. IsTold hub.old.book.museum hub.old.book.depth O A Q.asks bench.now number line.now
         said text.new.items)
         (λ O A. said_arrivals hub.old.book.museum hub.old.book.depth O A bench.now.station line.now
         said) result }
 {
     match said {
-        Said::Message(message) => send(alloc, bench, message, hub, text),
-        Said::Line => pass_on(alloc, bench, number, line, hub, text),
+        Said::Message(message) => send(alloc, bench, message, hub, log, text),
+        Said::Line => {
+            pass_on(alloc, bench, number, line, hub, text)?;
+            Ok(())
+        }
         said => {
             tell(
                 threads,
@@ -109,7 +119,8 @@ fn tell<T: Threads + Sync, Q: Questions>(
     text: &mut Vec<u8>,
 ) -> Result<(), NoMemory>
     requires empty { text.old.items ≡ [] }
-    ensures { OnOk result (IsAnswer ledger.now bench.now line.now said.now text.new.items) }
+    ensures { OnOk result
+        (IsAnswer Q.asks ledger.now bench.now line.now said.now text.new.items) }
 {
     match said {
         Said::Help => add(text, &[bench.help]),

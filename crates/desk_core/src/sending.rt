@@ -3,34 +3,40 @@ ghost use Rattle.std.specs.Prelude.{◌≡◌, ◌<◌, ◌++◌, ◌∷◌, ◌
 ghost use Rattle.std.specs.Prelude.{string_bytes};
 ghost use Rattle.hub_core.specs.LineText.{answer_text, station_text};
 ghost use Rattle.desk_core.specs.Answers.{after_colon, answer_detail, detail_words, is_done};
-ghost use Rattle.desk_core.specs.Answers.{message_answer};
-ghost use Rattle.desk_core.specs.Answers.{without_feed};
+ghost use Rattle.desk_core.specs.Answers.{message_answer, without_feed};
+ghost use Rattle.desk_core.specs.Logs.{log_of};
 ghost use Rattle.desk_core.specs.Sent.{own_arrival};
-ghost use Rattle.desk_core.specs.Sessions.{Takes};
+ghost use Rattle.desk_core.specs.Sessions.{TakesAndLogs};
 ghost use Rattle.desk_core.specs.Texts.{line_end};
 
 use crate::Bench;
+use crate::line_fault::LineFault;
+use crate::posting::post;
 use crate::texts::{add, line_end};
 use cause_core::thing_named;
 use codes_core::{NoMemory, ThingCode};
-use hub_core::{Answer, Arrival, Hub, HubFault, add_answer};
+use hub_core::{Answer, Hub, add_answer};
 use nest_core::StationNo;
 use posting_core::{Ledger, Message, Verdict};
 use register_store::Register;
 use reports::{cause_text, where_text};
 use std::alloc::Global;
+use std::io::Write;
 
-/// Sends the message under the station's next number, and appends the answer.
-pub(crate) fn send<S: Register>(
+/// Sends the message under the station's next number, and appends the answer. The message is logged
+/// before it is posted.
+pub(crate) fn send<S: Register, L: Write>(
     alloc: Global,
     bench: &Bench<'_>,
     message: Message,
     hub: &mut Hub<S>,
+    log: &mut Option<L>,
     text: &mut Vec<u8>,
-) -> Result<(), HubFault>
+) -> Result<(), LineFault>
     requires up { hub.old.down ≡ false }
     requires known { bench.now.station < length hub.old.book.museum.stations }
-    ensures { Takes S.holding hub.old hub.new
+    ensures { TakesAndLogs S.holding hub.old hub.new
+        (log_of L.contents log.old) (log_of L.contents log.new) bench.now.station
         (λ O A. text.new.items ≡ text.old.items
         ++ message_answer hub.old.book.museum hub.old.book.depth O A bench.now.station
         bench.now.has_bell message)
@@ -41,14 +47,9 @@ pub(crate) fn send<S: Register>(
     let cause = cause_text(alloc, hub.ledger(), &message, verdict)?;
     let thing = thing_named(&message);
     let station = bench.station;
-    let n = hub.awaited(station);
-    let arrival = Arrival {
-        station,
-        n,
-        message,
-    };
-    let answer = hub.arrive(alloc, arrival)?;
-    add_reply(alloc, hub, station, n, answer, text)?;
+    let posted = post(alloc, station, message, hub, log)?;
+    let answer = posted.1;
+    add_reply(alloc, hub, station, posted.0, answer, text)?;
     add_detail(alloc, hub.ledger(), verdict, thing, cause, answer, text)?;
     add_end(bench.has_bell, answer, verdict, text)?;
     Ok(())

@@ -2,9 +2,10 @@
 ghost use Rattle.std.specs.Prelude.{◌≡◌, ◌++◌, IfOk, OnOk, flat_map, string_bytes};
 ghost use Rattle.std.specs.List.{list_all};
 ghost use Rattle.codes_core.specs.Day.{day_text};
-ghost use Rattle.desk_core.specs.Texts.{aim_line, back_line, code_text, day_line, in_line, into_line};
-ghost use Rattle.desk_core.specs.Texts.{is_printable, is_shown, line_end, out_line, rejection_line};
-ghost use Rattle.desk_core.specs.Texts.{not_listed, rejection_words, shown, target_line, to_line};
+ghost use Rattle.desk_core.specs.Texts.{aim_line, back_line, code_text, day_line, in_line};
+ghost use Rattle.desk_core.specs.Texts.{into_line, is_printable, is_shown, line_end, not_listed};
+ghost use Rattle.desk_core.specs.Texts.{out_line, rejection_line, rejection_words, shown};
+ghost use Rattle.desk_core.specs.Texts.{target_line, to_line};
 
 use codes_core::{Day, LoanCode, NoMemory, PlaceCode, ThingCode};
 use desk_lines::{Code, Rejection, Target};

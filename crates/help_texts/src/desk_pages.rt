@@ -5,22 +5,22 @@ pub const DESK_HELP: &str = "\
 Set the day and where things go. Then scan the things. An answer with 'Applied'
 means that the thing went there. Any other answer has the reason why it did not.
 
-  day 2024-05-01     the day of what follows
-  to S1              things go to this place; its code alone does the same
-  into C1            things go into this container
+  day 2024-05-01     the day of what follows; a restart forgets it
+  to S1              from now on things go to this place; S1 alone does the same
+  into C1            from now on things go into this container
   out LO2024.1       things leave under this loan
   back LO2024.1 S1   things come back under it, to this place
   in LI2024.1 S1     borrowed things arrive under this loan, at this place
-  2001.4.1           a thing (an object or a container): it goes there
-  .                  forget where things go
+  2001.4.1           an object or a container: it goes where you last said
+  .                  forget where things go; a restart does so, too
   agree LO2024.1 MUSEUM-X 2024-05-01 2024-05-31 2001.4.1 2001.4.2
   authorise LO2024.1 Ann               extend LO2024.1 2024-06-30
   signoff Ann        signs the station off for good
-  ? 2001.4.1         where it is; also: contents C1, at S1, why 12, loans, ...
+  ? 2001.4.1         where it is
+  contents C1        what is in it; other reports: at S1, why 12, loans, ...
   ! LINE             do the line even if a code is not in the setup
 
 Pack an object into crate C1, and move it to S2. The answers are on the right:
-  day 2024-05-01     day 2024-05-01
   into C1            into C1 at S1
   2001.4.1           PACK 7 posted 12 Applied: 2001.4.1 at S1 in C1
   to S2              to S2

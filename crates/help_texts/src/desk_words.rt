@@ -26,7 +26,7 @@ pub(crate) const DESK_WORDS: &[Meaning] = &[
     Meaning {
         word: "not sent",
         means: "the line sent no message, and used no number",
-        cause: "a code that is not in the setup, or is spelt with other capitals.",
+        cause: "a code not in the setup, or with other capitals; or JSON of this station.",
         action: "correct the code, and scan it again. If the code is right, type '! ' before\n\
             it: the message is then sent as it is.",
     },

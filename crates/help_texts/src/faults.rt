@@ -61,6 +61,24 @@ pub(crate) const INPUT_FAULTS: &[Meaning] = &[
         action: "correct the row. The help: line shows the code.",
     },
     Meaning {
+        word: "Heading",
+        means: "the first row of the labels is not a heading",
+        cause: "the row label,code is missing, or has semicolons.",
+        action: "begin the file with the row label,code. It may have other columns, too.",
+    },
+    Meaning {
+        word: "Fields",
+        means: "the row has a label without a code, or a code without a label",
+        cause: "an empty cell in the table of labels.",
+        action: "fill in the cell, or delete the row.",
+    },
+    Meaning {
+        word: "IsCode",
+        means: "the label is the code of another thing or place",
+        cause: "the row lists a code of the setup as a label.",
+        action: "delete the row. A code needs no label.",
+    },
+    Meaning {
         word: "UnknownNormal",
         means: "no earlier row lists the object's normal location",
         cause: "the row of the place comes later, or one of the two codes is mistyped.",
@@ -160,6 +178,18 @@ pub(crate) const RUN_FAULTS: &[Meaning] = &[
         means: "the count list has the fault that follows",
         cause: "the numbered row. Skipped rows count.",
         action: "explain the word that follows. The help: line shows the row.",
+    },
+    Meaning {
+        word: "labels",
+        means: "the table of labels has the fault that follows",
+        cause: "the numbered row. The heading is row 1.",
+        action: "explain the word that follows. The help: line shows the row.",
+    },
+    Meaning {
+        word: "log",
+        means: "the log of a desk cannot be opened or written",
+        cause: "a full disk, a missing folder, or no permission.",
+        action: "do what the help: line says. The message of the last line was not posted.",
     },
     Meaning {
         word: "day",

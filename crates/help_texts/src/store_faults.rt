@@ -57,7 +57,7 @@ pub(crate) const STORE_FAULTS: &[Meaning] = &[
     },
     Meaning {
         word: "note",
-        means: "the command succeeded; this is worth knowing",
+        means: "this is worth knowing, and is no fault",
         cause: "a new store, or messages that are still held at the end.",
         action: "if the store should not be new, check its path. Send held messages again.",
     },

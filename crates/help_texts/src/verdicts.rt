@@ -71,8 +71,8 @@ pub const VERDICTS: &[Meaning] = &[
     },
     Meaning {
         word: "Repeated",
-        means: "the same thing, place or station is listed twice",
-        cause: "an agree lists an object twice, or a setup has the same row twice.",
+        means: "the same thing, place, station or label is listed twice",
+        cause: "an agree lists an object twice, or a setup or labels have a row twice.",
         action: "list it once.",
     },
     Meaning {

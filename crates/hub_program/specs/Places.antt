@@ -1,11 +1,13 @@
 -- Defines which store has the record of a command, and what a command does to the store's files.
 -- `image` describes the files when they are opened. `holding` is what a register's store may hold.
-use Rattle.std.specs.Prelude.{ℕ, ◌≡◌, List, Option, Some, None}
+-- `l` and `l'` are the bytes that the log of a desk holds before and after.
+use Rattle.std.specs.Prelude.{ℕ, ◌≡◌, ⊤, List, Option, Some, None}
 use Rattle.command_words.specs.Words.{text_of}
 use Rattle.command_words.specs.declared.command.Chosen.{Chosen}
 use Rattle.command_words.specs.declared.command.Chosen.TheVariants.{Replay, Serve, Migrate, Copy}
 use Rattle.command_words.specs.declared.command.Chosen.TheVariants.{Grow, Setup, Report, Explain}
 use Rattle.command_words.specs.declared.command.Chosen.TheVariants.{Cards, Desk, Help}
+use Rattle.desk_core.specs.Answers.{Asks}
 use Rattle.hub_core.specs.declared.outcome.Outcome.{Outcome}
 use Rattle.hub_program.specs.declared.ending.Ending.{Ending}
 use Rattle.hub_program.specs.declared.ending.Ending.TheVariants.{Done, NotApplied, Printed}
@@ -29,7 +31,7 @@ use Rattle.work_core.specs.declared.work.Work.{Work}
 abbrev pub store_of : Chosen → Option (List ℕ)
 store_of (Replay setup store progress strict why) = text_of store
 store_of (Serve setup store feeds) = text_of store
-store_of (Desk setup store station day bell) = Some store.now
+store_of (Desk setup store station day log labels bell) = Some store.now
 store_of Cards = None
 store_of (Migrate setup store) = Some store.now
 store_of (Copy setup store to) = Some store.now
@@ -65,21 +67,26 @@ pub record IsKeptAlone {D : Type 0} (g : Ghosts D) (store : Holding) : Type 0 wh
   pub files : Files D
   pub copied : AreClean g files.log files.db → IsCopied g store files
 
+-- Which question the words of a report ask at a desk. No clause says it: tests compare each answer
+-- with that of the command line.
+abbrev pub desk_asks : Asks
+desk_asks words question = ⊤
+
 -- The work was done on the register's record, and what it left of the record was kept.
 pub record IsDoneAndKept {R D : Type 0} (holding : R → Holding) (g : Ghosts D) (S : Museum)
     (before : R) (work : Work) (had_seen has_seen : List Outcome → Type 0)
-    (i i' o o' : Option (List ℕ)) : Type 0 where
+    (i i' o o' l l' : Option (List ℕ)) : Type 0 where
   pub after : R
-  pub done : Did holding S before after work had_seen has_seen i i' o o'
+  pub done : Did desk_asks holding S before after work had_seen has_seen i i' o o' l l'
   pub kept : IsKeptAlone g (holding after)
 
 -- The work was done on a record in memory that was empty at first.
 pub record IsDoneInMemory (S : Museum) (work : Work) (had_seen has_seen : List Outcome → Type 0)
-    (i i' o o' : Option (List ℕ)) : Type 0 where
+    (i i' o o' l l' : Option (List ℕ)) : Type 0 where
   pub before : plain.Kept
   pub after : plain.Kept
   pub empty : before.content ≡ no_rows
-  pub done : Did plain.in_memory S before after work had_seen has_seen i i' o o'
+  pub done : Did desk_asks plain.in_memory S before after work had_seen has_seen i i' o o' l l'
 
 -- The register's record was migrated, and kept.
 pub record IsMigratedAndKept {R D : Type 0} (holding : R → Holding) (g : Ghosts D) (S : Museum)

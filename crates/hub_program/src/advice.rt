@@ -4,6 +4,7 @@ use crate::growth_fault::row_of;
 use codes_core::{PlaceCode, ThingCode};
 use count_core::CountFault;
 use csv::{ByteRecord, Reader, ReaderBuilder};
+use label_core::LabelFault;
 use nest_core::{GrowFault, MOST_GROWTHS, SetupFault, field, field_count};
 use station_core::Refusal;
 use std::alloc::{AllocError, Global};
@@ -40,6 +41,30 @@ pub fn on_target(alloc: Global, path: &str, kind: ErrorKind) -> Advice {
         }
         _ => format!(in alloc; "{path} cannot be written").ok(),
     }
+}
+
+/// Returns the advice on a log that cannot be opened.
+pub fn on_log(alloc: Global, path: &str, kind: ErrorKind) -> Advice {
+    match kind {
+        ErrorKind::NotFound => format!(in alloc;
+            "the folder of {path} does not exist: create it, or name another file"
+        ).ok(),
+        ErrorKind::PermissionDenied | ErrorKind::ReadOnlyFilesystem => format!(in alloc;
+            "you have no permission to write {path}: name another file"
+        ).ok(),
+        ErrorKind::IsADirectory => format!(in alloc; "{path} is a folder: name a file").ok(),
+        _ => format!(in alloc; "{path} cannot be written: name another file").ok(),
+    }
+}
+
+/// Returns the advice on a log in which a line could not be written.
+pub fn on_lost_line(alloc: Global, path: Option<&str>) -> Advice {
+    let path = path?;
+    format!(in alloc;
+        "{path} cannot be written: make room on its disk, start the desk again, and scan the last \
+         line again"
+    )
+    .ok()
 }
 
 /// Returns the advice on a serving with more or fewer files than stations.
@@ -157,8 +182,37 @@ pub fn on_counts(alloc: Global, path: &str, bytes: &[u8], fault: CountFault) -> 
     Some(text)
 }
 
-/// The advice on a file that is not UTF-8.
-fn on_encoding(alloc: Global, path: &str) -> Advice {
+/// Returns the advice on a faulty file of labels: the row that is wrong, and what to do.
+pub fn on_labels(alloc: Global, path: &str, bytes: &[u8], fault: LabelFault) -> Advice {
+    let number = fault.row()?;
+    let mut text = format!(in alloc; "{path} row {number}: ").ok()?;
+    match FileRows::of(alloc, bytes).row(number) {
+        Some(row) => add_on_label_row(&mut text, row, fault).ok()?,
+        None => text
+            .push_str("the file is empty: begin it with the row label,code")
+            .ok()?,
+    }
+    Some(text)
+}
+
+/// Appends the error in a row of labels.
+fn add_on_label_row(
+    text: &mut String,
+    row: &ByteRecord,
+    fault: LabelFault,
+) -> Result<(), AllocError> {
+    add_fields(text, row)?;
+    text.push_str(match fault {
+        LabelFault::Heading => ": the first row must have label and code, each once",
+        LabelFault::Fields(_) => " has a label without a code, or a code without a label",
+        LabelFault::Repeated(_) => ": an earlier row has this label: delete one of them",
+        _ => ": the label is the code of a thing or a place: delete the row",
+    })?;
+    add_separator(text, row)
+}
+
+/// Returns the advice on a file that is not UTF-8.
+pub fn on_encoding(alloc: Global, path: &str) -> Advice {
     format!(in alloc; "{path} is not UTF-8 text: save it as CSV in UTF-8").ok()
 }
 

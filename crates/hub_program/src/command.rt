@@ -5,6 +5,7 @@ ghost use Rattle.hub_program.specs.Places.{kept_in, path_of, store_of};
 
 use crate::copying::copied;
 use crate::desk::{DeskWords, at_desk};
+use crate::desk_files::no_log;
 use crate::ending::{Ending, noted_status, refuse, status};
 use crate::explain::explain;
 use crate::fault::CommandFault;
@@ -13,7 +14,7 @@ use crate::growing::{grown, listed};
 use crate::help::help;
 use crate::lines::write_line;
 use crate::progress::Progress;
-use crate::request::{DeskQuestions, form_of, number_if, read_question};
+use crate::request::{form_of, number_if, read_question};
 use crate::store::{self, Begins, ClosedStore, open, open_if};
 use crate::work::over_store;
 use command_words::words::chosen;
@@ -68,7 +69,8 @@ pub fn command<
 /// Does the command. Faults, in this order:
 /// - Day, Code or Number, for an argument of a report or a desk;
 /// - those of the setup's file, and of the setup;
-/// - Station, for a desk, or those of the count list, or of the stations' files;
+/// - those of the labels, Station and Log, for a desk; those of the count list, or of the stations'
+///   files;
 /// - those of opening the store;
 /// - those of the command itself.
 fn perform<
@@ -133,6 +135,8 @@ fn perform<
             store,
             station,
             day,
+            log,
+            labels,
             bell,
         } => {
             let wanted = DeskWords {
@@ -140,9 +144,11 @@ fn perform<
                 store,
                 station,
                 day: *day,
+                log: *log,
+                labels: *labels,
                 bell: *bell,
             };
-            at_desk(rt, threads, wanted, start, input, output, notes)
+            at_desk(rt, threads, wanted, start, input, output, errors, notes)
         }
         Chosen::Cards => {
             write_line(output, DESK_CARDS)?;
@@ -257,13 +263,13 @@ fn watched<
     over_store(
         rt,
         threads,
-        &DeskQuestions,
         setup,
         store,
         work,
         watch,
         input,
         output,
+        &mut no_log(),
         notes,
     )
 }
@@ -292,13 +298,13 @@ fn reported<'a, T: Threads + Wait + Sync + Copy + Send + 'static, S: Start, R: B
     let closed = over_store(
         rt,
         threads,
-        &DeskQuestions,
         setup,
         Some(store),
         work,
         &mut Tally::new(),
         input,
         output,
+        &mut no_log(),
         notes,
     )?;
     Ok(Ending::Done(closed))
@@ -333,13 +339,13 @@ fn served<'a, T: Threads + Wait + Sync + Copy + Send + 'static, S: Start, R: Buf
     let closed = over_store(
         rt,
         threads,
-        &DeskQuestions,
         setup,
         store,
         Work::Serve(feeds),
         &mut Tally::new(),
         input,
         output,
+        &mut no_log(),
         notes,
     )?;
     Ok(Ending::Done(closed))

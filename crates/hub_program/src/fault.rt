@@ -5,6 +5,7 @@ use crate::growth_fault::{GrowthFault, write_growth_fault};
 use codes_core::{CodeFault, NoMemory};
 use count_core::CountFault;
 use hub_core::RunFault;
+use label_core::LabelFault;
 use nest_core::SetupFault;
 use register_store::StoreFault;
 use setup_reports::PrintFault;
@@ -24,6 +25,8 @@ pub enum CommandFault {
     ReadFailed,
     /// The output could not be written.
     WriteFailed,
+    /// The log of a desk cannot be opened or written.
+    Log(Advice),
     /// A named file cannot be read, or a copy cannot be written.
     File(Advice),
     /// The setup at the head of the input is too long.
@@ -34,6 +37,8 @@ pub enum CommandFault {
     Growth(Vec<GrowthFault>),
     /// The first fault of the count list.
     Counts(CountFault, Advice),
+    /// The first fault of the labels.
+    Labels(LabelFault, Advice),
     /// The store failed, or cannot be used with this setup.
     Store(StoreFault, Advice),
     /// The text after `--on`, `--by` or `--day` is not a day.
@@ -106,6 +111,7 @@ impl From<WorkFault> for CommandFault {
             WorkFault::NoMemory => CommandFault::NoMemory,
             WorkFault::ReadFailed => CommandFault::ReadFailed,
             WorkFault::WriteFailed => CommandFault::WriteFailed,
+            WorkFault::LogFailed => CommandFault::Log(None),
             WorkFault::Store(fault) => CommandFault::from(fault),
             WorkFault::Unfinished(station) => CommandFault::Unfinished(station),
             WorkFault::SignedOff => CommandFault::Station(Refusal::SignedOff, None),
@@ -154,10 +160,12 @@ impl CommandFault {
     /// The text of the `help:` line.
     fn advice(&self) -> Option<&str> {
         match self {
-            CommandFault::File(advice)
+            CommandFault::Log(advice)
+            | CommandFault::File(advice)
             | CommandFault::Name(advice)
             | CommandFault::Setup(_, advice)
             | CommandFault::Counts(_, advice)
+            | CommandFault::Labels(_, advice)
             | CommandFault::Store(_, advice)
             | CommandFault::Day(_, advice)
             | CommandFault::Code(_, advice)
@@ -175,6 +183,7 @@ impl CommandFault {
             CommandFault::NoMemory => writeln!(errors, "fault memory"),
             CommandFault::ReadFailed => writeln!(errors, "fault read"),
             CommandFault::WriteFailed => writeln!(errors, "fault write"),
+            CommandFault::Log(_) => writeln!(errors, "fault log"),
             CommandFault::File(_) => writeln!(errors, "fault file"),
             CommandFault::HeadTooLong => writeln!(errors, "fault head"),
             CommandFault::Setup(fault, _) => write_row(errors, "setup", fault.name(), fault.row()),
@@ -182,6 +191,12 @@ impl CommandFault {
             CommandFault::Counts(fault, _) => write_row(
                 errors,
                 "counts",
+                fault.name(),
+                fault.row(),
+            ),
+            CommandFault::Labels(fault, _) => write_row(
+                errors,
+                "labels",
                 fault.name(),
                 fault.row(),
             ),

@@ -22,6 +22,7 @@ mod advice;
 mod command;
 mod copying;
 mod desk;
+mod desk_files;
 mod ending;
 mod explain;
 mod fault;

@@ -1,4 +1,6 @@
 //! Turns the words of a report into the question that it answers.
+ghost use Rattle.std.specs.Prelude.{◌≡◌, IfOk, option_map};
+ghost use Rattle.codes_core.specs.Day.{day_number};
 
 use crate::advice::on_value;
 use crate::fault::CommandFault;
@@ -72,6 +74,10 @@ fn wanted_of<'a>(alloc: Global, asked: Asked<'a>) -> Result<Wanted<'a>, CommandF
 pub struct DeskQuestions;
 
 impl Questions for DeskQuestions {
+    ghost use Rattle.hub_program.specs.Places.{desk_asks};
+
+    ghost asks = { desk_asks };
+
     fn question(&self, alloc: Global, words: &[String]) -> Result<Option<Question>, NoMemory> {
         let words = borrowed(alloc, words)?;
         let line = desk_line(alloc, words.as_slice())?;
@@ -141,7 +147,10 @@ fn read_count(
     }
 }
 
-fn day(alloc: Global, text: &str) -> Result<Day, CommandFault> {
+/// The day of this text. Fault: Day, if the text is no day.
+fn day(alloc: Global, text: &str) -> Result<Day, CommandFault>
+    ensures { IfOk result (λ day. day ≡ day_number text.now) }
+{
     match Day::parse(text.as_bytes()) {
         Ok(day) => Ok(day),
         Err(fault) => {
@@ -152,7 +161,9 @@ fn day(alloc: Global, text: &str) -> Result<Day, CommandFault> {
 }
 
 /// Returns the day, if there is one. Fault: Day, if the text is no day.
-pub fn day_if(alloc: Global, text: Option<&str>) -> Result<Option<Day>, CommandFault> {
+pub fn day_if(alloc: Global, text: Option<&str>) -> Result<Option<Day>, CommandFault>
+    ensures { IfOk result (λ day. day ≡ option_map (λ t. day_number t.now) text.entry) }
+{
     match text {
         Some(text) => Ok(Some(day(alloc, text)?)),
         None => Ok(None),

@@ -210,6 +210,16 @@ impl<'a, D: Disk + Drop> OpenStore<'a, D> {
         self.is_new
     }
 
+    /// Returns whether the store had no record when it was opened. From then on it counts as one
+    /// that had.
+    pub fn take_new(&mut self) -> bool
+        ensures path { self.new.path ≡ self.old.path }
+        ensures growths { self.new.growths ≡ self.old.growths }
+        ensures register { self.new.register ≡ self.old.register }
+    {
+        mem::replace(&mut self.is_new, false)
+    }
+
     /// Returns the setup that lists what this one lists, and has grown as that of the store. None
     /// if the growths of the store don't fit what is listed: the store then has another setup.
     pub fn grown(&mut self, rt: &HostRuntime, setup: Setup) -> Option<Setup>

@@ -1,6 +1,6 @@
 -- A serving, and the ledger from which its log is printed.
 use Rattle.std.proofs.Common.{◌≡◌, ℕ, List, [], length, map, sym, ap, ◌∙◌, subst, refl}
-use Rattle.std.proofs.Common.{Result, Ok, Err, inl, inr}
+use Rattle.std.proofs.Common.{Result, Ok, Err, inl}
 use Rattle.std.proofs.lemmas.List.{append-nil, map-id}
 use Rattle.std.proofs.lemmas.List.Elements.{All-nil}
 use Rattle.std.specs.Result.{OnErr}

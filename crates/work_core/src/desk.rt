@@ -1,10 +1,11 @@
 //! Takes the lines of an input at a desk.
-ghost use Rattle.std.specs.Prelude.{◌≡◌, ◌<◌, ◌⊎◌, false, length, List, OnOk, IfErr};
+ghost use Rattle.std.specs.Prelude.{◌≡◌, ◌<◌, false, length, List, OnOk, IfErr};
 ghost use Rattle.posting_core.specs.declared.entry.Entry.{Entry};
 ghost use Rattle.hub_core.specs.declared.hub.answer.Arrival.{Arrival};
 ghost use Rattle.hub_core.specs.StandsFor.{StandsFor};
+ghost use Rattle.desk_core.specs.Logs.{log_of};
 ghost use Rattle.desk_core.specs.Sessions.{Answered};
-ghost use Rattle.work_core.specs.Stops.{IsSignedOff, LeavesDesk, StopsLines};
+ghost use Rattle.work_core.specs.Stops.{LeavesDesk, StopsDesk};
 ghost use Rattle.work_core.specs.Works.{HasWorkedAt, new_desk};
 
 use crate::WorkFault;
@@ -21,39 +22,7 @@ use std::thread::Threads;
 /// Takes the lines of the input at the desk, and adds the notes on messages that are still held.
 /// Returns the hub's register, and the fault if there is one: SignedOff, if the station of the desk
 /// has signed off; those of [`run_desk`](desk_core::run_desk); NoMemory, for a note.
-pub(crate) fn worked<T: Threads + Sync, Q: Questions, S: Register, R: BufRead, W: Write>(
-    threads: &T,
-    alloc: Global,
-    questions: &Q,
-    hub: Hub<S>,
-    bench: &Bench<'_>,
-    day: Option<Day>,
-    input: &mut R,
-    output: &mut W,
-    notes: &mut String,
-) -> (S, Result<(), WorkFault>)
-    requires up { hub.down ≡ false }
-    requires known { bench.now.station < length hub.book.museum.stations }
-    ensures worked { OnOk result.1 (HasWorkedAt bench.now day S.holding hub result.0
-        (R.remaining input.old) (R.remaining input.new)
-        (W.contents output.old) (W.contents output.new)) }
-    ensures stops { IfErr result.1 (λ fault.
-        IsSignedOff hub result.0 (R.remaining input.old) (R.remaining input.new)
-        (W.contents output.old) (W.contents output.new) fault
-        ⊎ StopsLines bench.now day S.holding hub result.0
-        (R.remaining input.old) (R.remaining input.new)
-        (W.contents output.old) (W.contents output.new) fault) }
-{
-    if hub.ledger().has_signed_off(bench.station) {
-        return (hub.close(), Err(WorkFault::SignedOff));
-    }
-    take_lines(
-        threads, alloc, questions, hub, bench, day, input, output, notes,
-    )
-}
-
-/// The same for a station that has not signed off.
-fn take_lines<T: Threads + Sync, Q: Questions, S: Register, R: BufRead, W: Write>(
+pub(crate) fn worked<T: Threads + Sync, Q: Questions, S: Register, R: BufRead, W: Write, L: Write>(
     threads: &T,
     alloc: Global,
     questions: &Q,
@@ -62,25 +31,31 @@ fn take_lines<T: Threads + Sync, Q: Questions, S: Register, R: BufRead, W: Write
     day: Option<Day>,
     input: &mut R,
     output: &mut W,
+    log: &mut Option<L>,
     notes: &mut String,
 ) -> (S, Result<(), WorkFault>)
     requires up { hub.down ≡ false }
     requires known { bench.now.station < length hub.book.museum.stations }
-    ensures worked { OnOk result.1 (HasWorkedAt bench.now day S.holding hub result.0
+    ensures worked { OnOk result.1 (HasWorkedAt Q.asks bench.now day S.holding hub result.0
         (R.remaining input.old) (R.remaining input.new)
-        (W.contents output.old) (W.contents output.new)) }
-    ensures stops { IfErr result.1 (StopsLines bench.now day S.holding hub result.0
+        (W.contents output.old) (W.contents output.new)
+        (log_of L.contents log.old) (log_of L.contents log.new)) }
+    ensures stops { IfErr result.1 (StopsDesk Q.asks bench.now day S.holding hub result.0
         (R.remaining input.old) (R.remaining input.new)
-        (W.contents output.old) (W.contents output.new)) }
+        (W.contents output.old) (W.contents output.new)
+        (log_of L.contents log.old) (log_of L.contents log.new)) }
 {
+    if hub.ledger().has_signed_off(bench.station) {
+        return (hub.close(), Err(WorkFault::SignedOff));
+    }
     let ended = answer(
-        threads, alloc, questions, &mut hub, bench, day, input, output, notes,
+        threads, alloc, questions, &mut hub, bench, day, input, output, log, notes,
     );
     (hub.close(), ended)
 }
 
 /// Answers the lines over the hub, and adds the notes.
-fn answer<T: Threads + Sync, Q: Questions, S: Register, R: BufRead, W: Write>(
+fn answer<T: Threads + Sync, Q: Questions, S: Register, R: BufRead, W: Write, L: Write>(
     threads: &T,
     alloc: Global,
     questions: &Q,
@@ -89,23 +64,28 @@ fn answer<T: Threads + Sync, Q: Questions, S: Register, R: BufRead, W: Write>(
     day: Option<Day>,
     input: &mut R,
     output: &mut W,
+    log: &mut Option<L>,
     notes: &mut String,
 ) -> Result<(), WorkFault>
     requires up { hub.old.down ≡ false }
     requires known { bench.now.station < length hub.old.book.museum.stations }
     ensures answered { OnOk result
         ((O : List Entry) (A : List Arrival) → StandsFor S.holding hub.old O A →
-        Answered hub.old.book.museum hub.old.book.depth O A bench.now (new_desk day)
+        Answered hub.old.book.museum hub.old.book.depth O A Q.asks bench.now (new_desk day)
         (R.remaining input.old) (R.remaining input.new)
-        (W.contents output.old) (W.contents output.new) S.holding hub.new) }
+        (W.contents output.old) (W.contents output.new)
+        (log_of L.contents log.old) (log_of L.contents log.new) S.holding hub.new) }
     ensures left { IfErr result
         (λ fault. (O : List Entry) (A : List Arrival) → StandsFor S.holding hub.old O A →
-        LeavesDesk bench.now day S.holding hub.old hub.new O A
+        LeavesDesk Q.asks bench.now day S.holding hub.old hub.new O A
         (R.remaining input.old) (R.remaining input.new)
-        (W.contents output.old) (W.contents output.new) fault) }
+        (W.contents output.old) (W.contents output.new)
+        (log_of L.contents log.old) (log_of L.contents log.new) fault) }
 {
     let desk = Desk::new(day);
-    if let Err(fault) = run_desk(threads, alloc, questions, bench, desk, hub, input, output) {
+    if let Err(fault) = run_desk(
+        threads, alloc, questions, bench, desk, hub, input, output, log,
+    ) {
         return Err(WorkFault::from(fault));
     }
     match add_held(notes, hub) {

@@ -1,6 +1,7 @@
 //! Why work on a record stops.
 
 use codes_core::NoMemory;
+use desk_core::DeskFault;
 use hub_core::ReplayFault;
 use register_store::StoreFault;
 use reports::PrintFault;
@@ -22,6 +23,9 @@ pub enum WorkFault {
     /// The store failed, or cannot be used with this setup.
     #[error("the store cannot be used")]
     Store(StoreFault),
+    /// The log of the desk could not be written.
+    #[error("the log could not be written")]
+    LogFailed,
     /// The station of the desk has signed off.
     #[error("the station has signed off")]
     SignedOff,
@@ -78,6 +82,23 @@ impl From<ReplayFault> for WorkFault {
             ReplayFault::Store => WorkFault::Store(StoreFault::Store),
             ReplayFault::ReadFailed => WorkFault::ReadFailed,
             ReplayFault::WriteFailed => WorkFault::WriteFailed,
+        }
+    }
+}
+
+impl From<DeskFault> for WorkFault {
+    ghost use Rattle.std.specs.Prelude.{◌≡◌};
+    ghost use Rattle.work_core.specs.Faults.{of_desk};
+
+    ghost from_gives = { λ fault e. e ≡ of_desk fault };
+
+    fn from(fault: DeskFault) -> WorkFault {
+        match fault {
+            DeskFault::NoMemory => WorkFault::NoMemory,
+            DeskFault::Store => WorkFault::Store(StoreFault::Store),
+            DeskFault::ReadFailed => WorkFault::ReadFailed,
+            DeskFault::WriteFailed => WorkFault::WriteFailed,
+            DeskFault::LogFailed => WorkFault::LogFailed,
         }
     }
 }

@@ -11,13 +11,14 @@
 //!   messages of these lines.
 //! - Of a serving: the log is a merge of all feeds, every byte of the log was written, and the
 //!   register has the record with the log's messages.
-//! - Of a desk: every line of the input is answered, and the register has the record with the
-//!   messages of these lines.
+//! - Of a desk: its station had not signed off, every line of the input is answered, and the
+//!   register has the record with the messages of these lines.
 //! - Of a report: exactly its text was written, and the register is as it was opened.
 //!
 //! If the work stops, the contract says what it leaves (`stopped`): a store that was not opened, or
-//! what the fault of the replay, the report, the desk or the serving leaves. No clause speaks of the notes,
-//! nor of where a register keeps its rows.
+//! what the fault of the replay, the report, the desk or the serving leaves. A desk stops with
+//! SignedOff only if its station had signed off, and then nothing is read, written or changed. No
+//! clause speaks of the notes, nor of where a register keeps its rows.
 //!
 //! ```text
 //! let (register, ended) = do_work(

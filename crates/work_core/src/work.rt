@@ -1,7 +1,8 @@
 //! Opens a hub over a register, and does the work of a command with it.
 ghost use Rattle.std.specs.Prelude.{◌≡◌, false, length, OnOk, IfErr};
 ghost use Rattle.work_core.specs.Stops.{Stops, Stopped};
-ghost use Rattle.work_core.specs.Works.{FitsStations, Does, Did};
+ghost use Rattle.desk_core.specs.Logs.{log_of};
+ghost use Rattle.work_core.specs.Works.{FitsStations, HasNoLog, Does, Did};
 
 use crate::WorkFault;
 use crate::desk::worked;
@@ -22,7 +23,7 @@ use std::thread::Threads;
 
 /// The work of a command on a record.
 #[derive(Drop)]
-pub enum Work {
+pub enum Work<'a> {
     /// Answers the lines of the input. With `why`, a note explains each entry of these lines that
     /// wasn't applied.
     Replay {
@@ -37,9 +38,10 @@ pub enum Work {
     },
     /// Serves all stations, each from its feed, and prints the log.
     Serve(Vec<TextFeed>),
-    /// Takes the lines of the input at a desk, on this day until a line changes it.
+    /// Takes the lines of the input at a desk, on this day until a line changes it. Adds the
+    /// messages of its station to the log, if there is one.
     Desk {
-        bench: Bench<'static>,
+        bench: Bench<'a>,
         day: Option<Day>,
     },
 }
@@ -51,7 +53,9 @@ pub enum Work {
 /// Faults, in this order: those of [`Hub::open`]; those of the work. A replay has those of
 /// [`replay_watched`](hub_core::replay_watched), a report those of
 /// [`print_as_of`](reports::print_as_of), and a serving those of [`serve`](serve_core::serve) and
-/// WriteFailed. NoMemory can come instead of any of them, also for a note at the end.
+/// WriteFailed. A desk has SignedOff, if its station has signed off, and those of
+/// [`run_desk`](desk_core::run_desk). NoMemory can come instead of any of them, also for a note at
+/// the end.
 pub fn do_work<
     T: Threads + Wait + Sync + Copy + Send + 'static,
     Q: Questions,
@@ -59,32 +63,38 @@ pub fn do_work<
     V: Watch,
     R: BufRead,
     W: Write,
+    L: Write,
 >(
     threads: &T,
     alloc: Global,
     questions: &Q,
     setup: Setup,
     register: S,
-    work: Work,
+    work: Work<'_>,
     watch: &mut V,
     input: &mut R,
     output: &mut W,
+    log: &mut Option<L>,
     notes: &mut String,
 ) -> (S, Result<(), WorkFault>)
     requires { FitsStations (length setup.stations) work }
     // The work is done: a hub was opened over the register, and its work has left the result.
-    ensures did { OnOk result.1 (Did S.holding setup register result.0 work
+    ensures did { OnOk result.1 (Did Q.asks S.holding setup register result.0 work.entry
         (V.has_seen watch.old) (V.has_seen watch.new)
         (R.remaining input.old) (R.remaining input.new)
-        (W.contents output.old) (W.contents output.new)) }
+        (W.contents output.old) (W.contents output.new)
+        (log_of L.contents log.old) (log_of L.contents log.new)) }
     // No hub could be opened, or its work stopped.
-    ensures stopped { IfErr result.1 (Stopped S.holding setup register result.0 work
+    ensures stopped { IfErr result.1 (Stopped Q.asks S.holding setup register result.0 work.entry
         (R.remaining input.old) (R.remaining input.new)
-        (W.contents output.old) (W.contents output.new)) }
+        (W.contents output.old) (W.contents output.new)
+        (log_of L.contents log.old) (log_of L.contents log.new)) }
+    // Only a desk writes a log.
+    ensures unlogged { HasNoLog work.entry → log.new ≡ log.old }
 {
     match Hub::open(alloc, setup, register) {
         Ok(hub) => done(
-            threads, alloc, questions, hub, work, watch, input, output, notes,
+            threads, alloc, questions, hub, work, watch, input, output, log, notes,
         ),
         Err(failed) => (failed.register, Err(WorkFault::from(failed.fault))),
     }
@@ -98,26 +108,31 @@ fn done<
     V: Watch,
     R: BufRead,
     W: Write,
+    L: Write,
 >(
     threads: &T,
     alloc: Global,
     questions: &Q,
     hub: Hub<S>,
-    work: Work,
+    work: Work<'_>,
     watch: &mut V,
     input: &mut R,
     output: &mut W,
+    log: &mut Option<L>,
     notes: &mut String,
 ) -> (S, Result<(), WorkFault>)
     requires feeds { FitsStations (length hub.book.museum.stations) work }
     requires up { hub.down ≡ false }
-    ensures does { OnOk result.1 (Does S.holding hub result.0 work
+    ensures does { OnOk result.1 (Does Q.asks S.holding hub result.0 work.entry
         (V.has_seen watch.old) (V.has_seen watch.new)
         (R.remaining input.old) (R.remaining input.new)
-        (W.contents output.old) (W.contents output.new)) }
-    ensures stops { IfErr result.1 (Stops S.holding hub result.0 work
+        (W.contents output.old) (W.contents output.new)
+        (log_of L.contents log.old) (log_of L.contents log.new)) }
+    ensures stops { IfErr result.1 (Stops Q.asks S.holding hub result.0 work.entry
         (R.remaining input.old) (R.remaining input.new)
-        (W.contents output.old) (W.contents output.new)) }
+        (W.contents output.old) (W.contents output.new)
+        (log_of L.contents log.old) (log_of L.contents log.new)) }
+    ensures unlogged { HasNoLog work.entry → log.new ≡ log.old }
 {
     match work {
         Work::Replay { why } => replayed(threads, alloc, hub, why, watch, input, output, notes),
@@ -129,7 +144,7 @@ fn done<
         Work::Serve(feeds) => served(threads, alloc, hub, feeds, output, notes),
         Work::Desk { bench, day } => {
             worked(
-                threads, alloc, questions, hub, &bench, day, input, output, notes,
+                threads, alloc, questions, hub, &bench, day, input, output, log, notes,
             )
         }
     }

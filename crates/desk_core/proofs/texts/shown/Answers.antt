@@ -1,4 +1,4 @@
-use Rattle.std.proofs.Common.{rules, false, ◌≡◌, sym, true}
+use Rattle.std.proofs.Common.{rules, false, ◌≡◌, true}
 use Rattle.std.specs.Str.{is_utf8}
 use Rattle.nest_core.proofs.Tables.{is_text, no_text}
 use Rattle.desk_core.proofs.texts.shown.Goals as goal
@@ -10,5 +10,6 @@ returns-in-Ok c =
 
 pub returns-in-Err : goal.returns-in-Err
 returns-in-Err c =
-    let not_utf8 : is_utf8 c.args.line.now ≡ false = no_text c.args.line.now c.in-Err.ensures.cases.0 in
+    let not_utf8 : is_utf8 c.args.line.now ≡ false =
+    no_text c.args.line.now c.in-Err.ensures.cases.0 in
     search rules
