@@ -59,7 +59,7 @@ class Edit:
 
     def __init__(self, file, crate, known):
         self.file, self.name = file, f"{crate.name}/{name_of(file)}"
-        self.number, self.clauses = 0, set()
+        self.number, self.clauses, self.seconds = 0, set(), 0.0
         self.spans, self.functions, self.is_alone, self.bad = [], [], False, ""
         head, lines = head_of(text_of(file)), re.findall(r"(?m)^(file|old|new|fn|body): ?(.*)$", text_of(file))
         self.is_whole = [key for key, _ in lines] == ["file", "fn", "body"]
