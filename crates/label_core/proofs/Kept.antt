@@ -1,5 +1,6 @@
 -- The labels that a map keeps.
-use Rattle.std.specs.Prelude.{◌≡◌, ℕ, Bool, true, false, cond, List, [], ◌∷◌, ◌++◌, map, Option, Some}
+use Rattle.std.specs.Prelude.{◌≡◌, ℕ, Bool, true, false, cond, List, [], ◌∷◌, ◌++◌, map, Option}
+use Rattle.std.specs.Prelude.{Some}
 use Rattle.std.specs.Prelude.{None, Vec, option_map, refl}
 use Rattle.std.specs.declared.alloc.Global.{Global}
 use Rattle.std.specs.Map.{lookup}

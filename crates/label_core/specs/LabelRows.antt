@@ -1,5 +1,4 @@
--- Defines how the rows of a labels file are read, and its first fault. The first row is the heading,
--- and row 1.
+-- Defines how the rows of a labels file are read, and its first fault. Row 1 is the heading.
 use Rattle.std.specs.Prelude.{ℕ, ◌+◌, ◌==◌, ◌&&◌, ◌||◌, Bool, not, List, [], ◌∷◌, ◌++◌, length, map}
 use Rattle.std.specs.Prelude.{filter_map, drop, Option, Some, None, is_some, unwrap_or, slice_get}
 use Rattle.std.specs.Prelude.{codes, string_bytes, String, Vec, if◌then◌else◌}
@@ -43,8 +42,7 @@ field row i = without_blanks (unwrap_or (slice_get row i) [])
 abbrev pub is_empty : List ℕ → Bool
 is_empty text = length text == 0
 
--- The label and the code of a row, either of which may be empty. None if both are: the row is
--- skipped.
+-- The label and the code of a row. Either may be empty. None if both are: the row is skipped.
 abbrev pub label_in : Columns → Fields → Option Label
 label_in columns row =
     if is_empty (field row columns.label) && is_empty (field row columns.code) then None

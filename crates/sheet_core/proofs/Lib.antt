@@ -1,5 +1,4 @@
 pub mod CsvRows
-pub mod Marks
 pub mod Rows
 pub mod Tables
 mod Worked

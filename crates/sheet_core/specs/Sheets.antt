@@ -30,7 +30,7 @@ is_utf16 bytes =
     starts_with nat_eq bytes (255 ∷ 254 ∷ [])
     || (starts_with nat_eq bytes (254 ∷ 255 ∷ []) || list_any (λ b. b == 0) (heading_of bytes))
 
--- The separator stands in the text outside quotes. The text begins inside quotes if `quoted`.
+-- The text has the separator outside quotes. The text begins inside quotes if `quoted`.
 abbrev pub is_parted_by : ℕ → Bool → List ℕ → Bool
 is_parted_by separator quoted [] = false
 is_parted_by separator quoted (b ∷ bs) =

@@ -2,9 +2,10 @@
 ghost use Rattle.std.specs.Prelude.{◌≡◌, ◌≤◌, ◌==◌, ◌&&◌, false, true, length, not, MatchOption};
 ghost use Rattle.std.specs.Prelude.{if◌then◌else◌};
 ghost use Rattle.std.specs.List.{prefix_len};
-ghost use Rattle.csv.specs.Reading.{strip_bom};
 ghost use Rattle.sheet_core.specs.Sheets.{has_two, heading_of, is_in_line, is_parted_by, is_utf16};
 ghost use Rattle.sheet_core.specs.Sheets.{separator_of};
+
+use input_marks::past_mark;
 
 /// A byte that no text has. It separates the fields of a table with one column, which are whole
 /// lines.
@@ -14,17 +15,8 @@ const NO_SEPARATOR: u8 = 0xFF;
 pub(crate) fn heading(bytes: &[u8]) -> &[u8]
     ensures { result.now ≡ heading_of bytes.now }
 {
-    let text = without_mark(bytes);
+    let text = past_mark(bytes);
     text.split_at(line_length(text)).0
-}
-
-fn without_mark(bytes: &[u8]) -> &[u8]
-    ensures { result.now ≡ strip_bom bytes.now }
-{
-    if bytes.starts_with(&[0xEF, 0xBB, 0xBF]) {
-        return bytes.split_at(3).1;
-    }
-    bytes
 }
 
 /// The number of bytes before the end of the first line.
@@ -70,7 +62,7 @@ pub(crate) fn separator(bytes: &[u8]) -> Option<u8>
     }
 }
 
-/// Whether the separator stands in the text outside quotes.
+/// Whether the text has the separator outside quotes.
 fn is_parted_by(separator: u8, text: &[u8]) -> bool
     ensures { result ≡ is_parted_by separator false text.now }
 {

@@ -39,7 +39,7 @@ find_here p xs i d below passes =
     at_drop_more (find p) xs i d below
     ∙ ap (λ b. cond b (Some (get_or xs i d)) (find p (drop (i + 1) xs))) passes
 
--- what was to come moves behind what there is
+-- the new items go after the items that are there
 pub moved : {Y : Type 0} (before after step rest more whole : List Y) → before ++ rest ≡ whole
     → rest ≡ step ++ more → after ≡ before ++ step → after ++ more ≡ whole
 moved before after step rest more whole all now by =

@@ -53,7 +53,7 @@ right_cells : cell_fault YearFirst Kind (codes "move")
     ≡ replicate 6 None
 right_cells = refl
 
--- spaces at an end are told before the code that they spoil
+-- a space at an end is reported before the code that it spoils
 ends : map (cell_fault YearFirst Thing)
     (codes " 1987.12.1" ∷ (no_break_space ++ codes "1987.12.1") ∷ codes "1987.12.1 "
     ∷ (codes "1987.12.1" ++ no_break_space) ∷ codes " " ∷ [])

@@ -7,11 +7,11 @@ use Rattle.std.specs.List.{list_all, before_first, after_first}
 use Rattle.table_core.specs.declared.options.DateOrder.{DateOrder}
 use Rattle.table_core.specs.declared.options.DateOrder.TheVariants.{YearFirst, DayFirst, MonthFirst}
 
--- What comes before the first byte that is the mark: all of the text if it has none.
+-- The text before the first byte that is the mark: all of it if it has none.
 abbrev pub before : ℕ → List ℕ → List ℕ
 before mark text = before_first (λ b. b == mark) text
 
--- What comes behind that byte.
+-- The text after that byte.
 abbrev pub behind : ℕ → List ℕ → List ℕ
 behind mark text = after_first (λ b. b == mark) text
 

@@ -29,7 +29,7 @@ use Rattle.table_core.specs.Kinds.{kind_columns, kind_named}
 abbrev pub Cells : Type 0
 Cells = Column → List ℕ
 
--- What stands for a cell without text.
+-- The text that is used for a cell without text.
 abbrev pub option_text : TableOptions → Cells
 option_text options Kind = options.kind
 option_text options Day = options.day
@@ -59,8 +59,8 @@ cell options words fields column =
 abbrev pub day_at : DateOrder → Cells → Column → ℤ
 day_at order cells column = day_number (iso_text order (cells column))
 
--- The message of a row of this kind whose cells have no fault. Cells of other columns are ignored,
--- since an option, or a column that is filled for other rows, may stand there.
+-- The message of a row of this kind whose cells have no fault. Cells of other columns are ignored:
+-- an option may fill them, or the column may be there for other rows.
 abbrev pub message_by : DateOrder → Cells → a_kind.Kind → Message
 message_by order cells kinds.Move =
     message.Move (day_at order cells Day) (cells Thing) (cells Place)

@@ -50,14 +50,14 @@ fn front_length(text: &[u8], mark: u8) -> usize
     text.iter().take_while(|b| **b != mark).count()
 }
 
-/// What comes before the first mark.
+/// The text before the first mark.
 fn before(text: &[u8], mark: u8) -> &[u8]
     ensures { result.now ≡ before mark text.now }
 {
     &text[..front_length(text, mark)]
 }
 
-/// What comes behind the first mark.
+/// The text after the first mark.
 fn behind(text: &[u8], mark: u8) -> &[u8]
     ensures { result.now ≡ behind mark text.now }
 {

@@ -102,14 +102,14 @@ fn part_length(text: &[u8]) -> usize
     text.iter().take_while(|b| !is_separator(**b)).count()
 }
 
-/// What comes before the first separator.
+/// The text before the first separator.
 fn first_part(text: &[u8]) -> &[u8]
     ensures { result.now ≡ before_first is_separator text.now }
 {
     &text[..part_length(text)]
 }
 
-/// What comes behind the first separator.
+/// The text after the first separator.
 fn behind_part(text: &[u8]) -> &[u8]
     ensures part { result.now ≡ after_first is_separator text.now }
     ensures less { 0 < length text.now → length result.now < length text.now }

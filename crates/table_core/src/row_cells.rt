@@ -63,7 +63,7 @@ fn field_at<'a>(fields: &'a [String], i: usize) -> &'a str
     }
 }
 
-/// What stands for an empty cell in a column.
+/// The text that is used for an empty cell in a column.
 fn option_text<'a>(options: &'a TableOptions, column: Column) -> &'a str
     ensures { result.now ≡ option_text options.now column }
 {

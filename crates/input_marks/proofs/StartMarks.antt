@@ -6,9 +6,7 @@ use Rattle.std.specs.List.{starts_with}
 use Rattle.std.proofs.Common.{ap, ◌∙◌}
 use Rattle.std.proofs.lemmas.Cmp.{nat_eq_equiv}
 use Rattle.csv.specs.Reading.{strip_bom}
-
-abbrev pub mark : List ℕ
-mark = 0xEF ∷ 0xBB ∷ 0xBF ∷ []
+use Rattle.input_marks.specs.Marks.{mark}
 
 -- by whether the text begins with a byte order mark
 stripped : (bytes : List ℕ) → cond (starts_with nat_eq bytes mark) (drop 3 bytes) bytes

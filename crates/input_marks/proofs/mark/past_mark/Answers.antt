@@ -1,6 +1,6 @@
 use Rattle.std.proofs.Common.{◌∙◌}
-use Rattle.sheet_core.proofs.Marks.{with_mark, without_mark}
-use Rattle.sheet_core.proofs.heading.without_mark.Goals as goal
+use Rattle.input_marks.proofs.StartMarks.{with_mark, without_mark}
+use Rattle.input_marks.proofs.mark.past_mark.Goals as goal
 
 pub returns-then-starts_with : goal.returns-then-starts_with
 returns-then-starts_with c =
