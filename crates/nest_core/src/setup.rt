@@ -219,8 +219,9 @@ impl Setup {
         *self.things.get_index(thing as usize).unwrap().1
     }
 
-    /// A setup without any rows.
-    pub(crate) fn new(alloc: Global) -> Setup
+    /// Returns a setup that lists nothing and never grew: what the rows of a first file are added
+    /// to.
+    pub fn new(alloc: Global) -> Setup
         ensures { result ≡ no_museum }
     {
         Setup {

@@ -38,8 +38,9 @@ pub fn gap_line(
     }
 }
 
-/// The number that a station has to send next. Faults: SignedOff, Full.
-fn next_number(ledger: &Ledger, station: StationNo) -> Result<u64, GapFault>
+/// Returns the number that a station has to send next. The station must be in the setup. Faults:
+/// SignedOff, Full.
+pub fn next_number(ledger: &Ledger, station: StationNo) -> Result<u64, GapFault>
     requires { station < length ledger.now.museum.stations }
     ensures { result ≡ next_number ledger.now station }
 {
