@@ -1,0 +1,2 @@
+pub mod Characters
+mod Worked

@@ -1,0 +1,12 @@
+use Rattle.std.proofs.Common.{ap, string_bytes, ◌∙◌, ◌++◌}
+use Rattle.std.specs.List.{flat_map}
+use Rattle.visible_text.specs.VisibleText.{line_char}
+use Rattle.visible_text.proofs.Characters.{all_yielded}
+use Rattle.visible_text.proofs.visible.add_on_one_line.Goals as goal
+
+pub returns : goal.returns
+returns c =
+    c.loop-c.invariant
+    ∙ ap (λ cs. string_bytes c.args.text.now ++ flat_map line_char cs)
+    (all_yielded _ c.args.shown.now c.utf8.shown (cc) c.loop-c.yielded _ c.loop-c.yielded_by _ _
+    c.in-None.is c.next.ensures.steps)
