@@ -1,0 +1,5 @@
+pub mod Coded
+pub mod Growing
+pub mod Rows
+pub mod Hiding
+mod Worked

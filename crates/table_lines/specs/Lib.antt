@@ -1,0 +1,6 @@
+pub mod LinesFaults
+pub mod SheetLines
+pub mod LineTexts
+pub mod FaultTexts
+pub mod NoteTexts
+pub mod Laws

@@ -1,0 +1,39 @@
+//! Reads the messages of a table.
+ghost use Rattle.std.specs.Prelude.{MatchResult};
+ghost use Rattle.table_lines.specs.SheetLines.{IsLines, IsLinesFault};
+
+use crate::LinesFault;
+use crate::coded_rows::{coded_rows, first_row};
+use label_core::Labels;
+use sheet_core::read_sheet;
+use std::alloc::Global;
+use table_core::{Table, TableOptions, read_table};
+
+/// The messages of a table, and its heading.
+#[derive(Drop)]
+pub struct SheetLines {
+    pub table: Table,
+    /// The fields of the heading, as they are.
+    pub heading: Vec<String>,
+}
+
+/// Returns the numbered messages of a table. A cell below the heading that is a label stands for
+/// the label's code; blanks at its ends don't count then.
+///
+/// Fails with the table's fault (`Sheet`), otherwise with the heading's first fault (`Heading`),
+/// otherwise with all faults of all rows (`Rows`). `NoMemory` can come instead of any.
+pub fn read_lines(
+    alloc: Global,
+    options: &TableOptions,
+    labels: &Labels,
+    bytes: &[u8],
+) -> Result<SheetLines, LinesFault>
+    ensures exact { MatchResult result (IsLines options.now labels.now bytes.now)
+        (IsLinesFault options.now labels.now bytes.now) }
+{
+    let rows = read_sheet(alloc, bytes)?;
+    let coded = coded_rows(alloc, labels, rows.as_slice())?;
+    let table = read_table(alloc, options, coded.as_slice())?;
+    let heading = first_row(alloc, rows.as_slice())?;
+    Ok(SheetLines { table, heading })
+}
