@@ -1,0 +1,3 @@
+pub mod SetupChecks
+pub mod CountChecks
+pub mod Summaries
