@@ -1,0 +1,4 @@
+pub mod Numbering
+pub mod NoteTexts
+pub mod SeenMoves
+mod WorkedAudits

@@ -1,0 +1,149 @@
+-- The moves of an audit are what its list found elsewhere.
+use Rattle.std.specs.Prelude.{ℕ, ℤ, ◌≡◌, ◌⊎◌, true, Contains, List, [], ◌∷◌, Option}
+use Rattle.std.specs.Prelude.{Some, None, filter, is_none, option_map, slice_get}
+use Rattle.std.specs.Prelude.{zero, suc, refl}
+use Rattle.std.specs.List.{cons_option}
+use Rattle.std.proofs.Common.{ap, sym, ◌∙◌, subst, inl, inr}
+use Rattle.posting_core.specs.declared.message.Message.{Message}
+use Rattle.posting_core.specs.declared.message.Message.TheVariants.{Move}
+use Rattle.posting_core.specs.Book.{Book}
+use Rattle.count_core.specs.declared.answer.CountAnswer.{CountAnswer}
+use Rattle.count_core.specs.declared.answer.CountAnswer.TheVariants.{UnknownPlace, Counted}
+use Rattle.count_core.specs.declared.answer.CountAnswer.TheVariants.{UnknownObject, Again, Unplaced}
+use Rattle.count_core.specs.declared.answer.CountAnswer.TheVariants.{Found, Elsewhere}
+use Rattle.count_core.specs.declared.count_row.CountRow.{CountRow}
+use Rattle.count_core.specs.Counts.{answers}
+use Rattle.count_core.proofs.Membership.{here, there, none_in, first_or_rest, let_through, kept}
+use Rattle.count_core.proofs.Membership.{in_map, from_map}
+use Rattle.audit_core.specs.declared.sightings.Sighting.{Sighting}
+use Rattle.audit_core.specs.Sightings.{container_holding, seen_by, seen_elsewhere, seen_in}
+use Rattle.audit_core.specs.Sightings.{sighting_of}
+use Rattle.audit_core.specs.Lines.{is_loose, move_of, moves}
+use Rattle.audit_core.specs.SeenMoves.{IsSeenMove}
+
+-- row i, with its answer, is the sighting
+record IsSeenAt (rows : List CountRow) (found : List CountAnswer) (s : Sighting) : Type 0 where
+  i : ℕ
+  row : CountRow
+  answer : CountAnswer
+  is_row : slice_get rows i ≡ Some row
+  is_answer : slice_get found i ≡ Some answer
+  is : sighting_of row answer ≡ Some s
+
+one_further : (r : CountRow) (a : CountAnswer) (rows : List CountRow) (found : List CountAnswer)
+    (s : Sighting) → IsSeenAt rows found s → IsSeenAt (r ∷ rows) (a ∷ found) s
+one_further r a rows found s h = record {
+  i = suc h.i;
+  row = h.row;
+  answer = h.answer;
+  is_row = h.is_row;
+  is_answer = h.is_answer;
+  is = h.is;
+}
+
+from_seen : (rows : List CountRow) (found : List CountAnswer) (s : Sighting)
+    → Contains (seen_in rows found) s → IsSeenAt rows found s
+from_seen [] found s h = absurd (none_in s h)
+from_seen (r ∷ rows) [] s h = absurd (none_in s h)
+from_seen (r ∷ rows) (a ∷ found) s h = by (sighting_of r a) refl h
+    (λ k. one_further r a rows found s (from_seen rows found s k))
+  where
+    by : (o : Option Sighting) → sighting_of r a ≡ o
+        → Contains (cons_option o (seen_in rows found)) s
+        → (Contains (seen_in rows found) s → IsSeenAt (r ∷ rows) (a ∷ found) s)
+        → IsSeenAt (r ∷ rows) (a ∷ found) s
+    by None is k rec = rec k
+    by (Some t) is k rec = first (first_or_rest t s (seen_in rows found) k)
+      where
+        first : (t ≡ s) ⊎ Contains (seen_in rows found) s → IsSeenAt (r ∷ rows) (a ∷ found) s
+        first (inl same) = record {
+          i = 0;
+          row = r;
+          answer = a;
+          is_row = refl;
+          is_answer = refl;
+          is = is ∙ ap Some same;
+        }
+        first (inr rest) = rec rest
+
+to_seen : (rows : List CountRow) (found : List CountAnswer) (s : Sighting) (i : ℕ) (row : CountRow)
+    (a : CountAnswer) → slice_get rows i ≡ Some row → slice_get found i ≡ Some a
+    → sighting_of row a ≡ Some s → Contains (seen_in rows found) s
+to_seen [] found s i row a at its is = absurd (cc)
+to_seen (r ∷ rows) [] s i row a at its is = absurd (cc)
+to_seen (r ∷ rows) (b ∷ found) s zero row a at its is =
+    let one : r ≡ row = cc in
+    let other : b ≡ a = cc in
+    let seen : sighting_of r b ≡ Some s =
+    ap (λ x. sighting_of x b) one ∙ (ap (sighting_of row) other ∙ is) in
+    subst (λ o. Contains (cons_option o (seen_in rows found)) s) (sym seen)
+    (here s (seen_in rows found))
+to_seen (r ∷ rows) (b ∷ found) s (suc i) row a at its is =
+    by (sighting_of r b) (to_seen rows found s i row a at its is)
+  where
+    by : (o : Option Sighting) → Contains (seen_in rows found) s
+        → Contains (cons_option o (seen_in rows found)) s
+    by None k = k
+    by (Some t) k = there t s (seen_in rows found) k
+
+-- what a sighting says of its row
+record IsElsewhere (row : CountRow) (a : CountAnswer) (s : Sighting) : Type 0 where
+  place : ℕ
+  elsewhere : a ≡ Elsewhere place
+  names : row.object ≡ Some s.thing
+  at : row.place ≡ s.place
+
+names_thing : (row : CountRow) (p : ℕ) (s : Sighting) (o : Option (List ℕ)) → row.object ≡ o
+    → option_map (seen_by row) o ≡ Some s → IsElsewhere row (Elsewhere p) s
+names_thing row p s None is e = absurd (cc)
+names_thing row p s (Some thing) is e =
+    let same : seen_by row thing ≡ s = cc in
+    record {
+      place = p;
+      elsewhere = refl;
+      names = is ∙ ap (λ (z : Sighting). Some z.thing) same;
+      at = ap (λ (z : Sighting). z.place) same;
+    }
+
+found_elsewhere : (row : CountRow) (a : CountAnswer) (s : Sighting) → sighting_of row a ≡ Some s
+    → IsElsewhere row a s
+found_elsewhere row UnknownPlace s e = absurd (cc)
+found_elsewhere row Counted s e = absurd (cc)
+found_elsewhere row UnknownObject s e = absurd (cc)
+found_elsewhere row Again s e = absurd (cc)
+found_elsewhere row Unplaced s e = absurd (cc)
+found_elsewhere row Found s e = absurd (cc)
+found_elsewhere row (Elsewhere p) s e = names_thing row p s row.object refl e
+
+none_there : (o : Option ℕ) → is_none o ≡ true → o ≡ None
+none_there None e = refl
+none_there (Some x) e = absurd (cc)
+
+pub moves_seen : (B : Book) (day : ℤ) (rows : List CountRow) (m : Message)
+    → Contains (moves B day rows) m → IsSeenMove B day rows m
+moves_seen B day rows m h =
+    let moved = from_map (move_of day) (filter (is_loose B) (seen_elsewhere B rows)) m h in
+    let passed = let_through (is_loose B) (seen_elsewhere B rows) moved.0 moved.1 in
+    let seen = from_seen rows (answers B rows) moved.0 passed.0 in
+    let elsewhere = found_elsewhere seen.row seen.answer moved.0 seen.is in
+    record {
+      i = seen.i;
+      row = seen.row;
+      is_row = seen.is_row;
+      place = elsewhere.place;
+      elsewhere = seen.is_answer ∙ ap Some elsewhere.elsewhere;
+      thing = moved.0.thing;
+      names = elsewhere.names;
+      loose = none_there (container_holding B moved.0.thing) passed.1;
+      is_move = sym moved.2 ∙ ap (Move day moved.0.thing) (sym elsewhere.at);
+    }
+
+pub seen_moves : (B : Book) (day : ℤ) (rows : List CountRow) (m : Message) → IsSeenMove B day rows m
+    → Contains (moves B day rows) m
+seen_moves B day rows m h =
+    let s : Sighting = seen_by h.row h.thing in
+    let seen = to_seen rows (answers B rows) s h.i h.row (Elsewhere h.place) h.is_row h.elsewhere
+    (ap (option_map (seen_by h.row)) h.names) in
+    let loose = kept (is_loose B) (seen_elsewhere B rows) s seen (ap is_none h.loose) in
+    subst (Contains (moves B day rows)) (sym h.is_move)
+    (in_map (move_of day) (filter (is_loose B) (seen_elsewhere B rows)) s loose)

@@ -1,0 +1,4 @@
+pub mod Sightings
+pub mod Lines
+pub mod Notes
+pub mod SeenMoves

@@ -1,0 +1,36 @@
+-- Defines what a count list found elsewhere, and the container that a thing lies in.
+use Rattle.std.specs.Prelude.{ℕ, List, Option, None, option_map, slice_get}
+use Rattle.std.specs.List.{filter_map, zip}
+use Rattle.std.specs.Option.{option_and_then}
+use Rattle.nest_core.specs.Museum.{find_thing}
+use Rattle.posting_core.specs.Book.{Book, chain_in}
+use Rattle.count_core.specs.declared.answer.CountAnswer.{CountAnswer}
+use Rattle.count_core.specs.declared.answer.CountAnswer.TheVariants.{Elsewhere}
+use Rattle.count_core.specs.declared.count_row.CountRow.{CountRow}
+use Rattle.count_core.specs.Counts.{answers}
+use Rattle.audit_core.specs.declared.sightings.Sighting.{Sighting}
+
+-- The row saw this thing at its place.
+abbrev pub seen_by : CountRow → List ℕ → Sighting
+seen_by row thing = record { thing = thing; place = row.place }
+
+-- What the row saw, if the answer to it is Elsewhere.
+abbrev pub sighting_of : CountRow → CountAnswer → Option Sighting
+sighting_of row (Elsewhere p) = option_map (seen_by row) row.object
+sighting_of row _ = None
+
+-- The same for rows and their answers, in the order of the rows.
+abbrev pub seen_in : List CountRow → List CountAnswer → List Sighting
+seen_in rows found = filter_map (λ (row, answer). sighting_of row answer) (zip rows found)
+
+-- What the list found elsewhere, by the answers of the count's report.
+abbrev pub seen_elsewhere : Book → List CountRow → List Sighting
+seen_elsewhere B rows = seen_in rows (answers B rows)
+
+-- The container that thing x lies in directly.
+abbrev pub container_of : Book → ℕ → Option ℕ
+container_of B x = slice_get (chain_in B x) 0
+
+-- The container that the thing with this code lies in directly.
+abbrev pub container_holding : Book → List ℕ → Option ℕ
+container_holding B code = option_and_then (container_of B) (find_thing B.museum code)

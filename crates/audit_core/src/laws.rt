@@ -1,0 +1,16 @@
+//! Laws of an audit. Each is stated on a function that does nothing.
+ghost use Rattle.std.specs.Prelude.{ℤ, List, Contains};
+ghost use Rattle.posting_core.specs.declared.message.Message.{Message};
+ghost use Rattle.posting_core.specs.Book.{Book};
+ghost use Rattle.count_core.specs.declared.count_row.CountRow.{CountRow};
+ghost use Rattle.audit_core.specs.Lines.{moves};
+ghost use Rattle.audit_core.specs.SeenMoves.{IsSeenMove};
+
+/// Each message of an audit moves a thing that a row found elsewhere to the row's place, and each
+/// thing that was found elsewhere and lies in no container has a message.
+pub fn moves_are_what_was_seen()
+    ensures seen { (B : Book) (day : ℤ) (rows : List CountRow) (m : Message)
+        → Contains (moves B day rows) m → IsSeenMove B day rows m }
+    ensures all { (B : Book) (day : ℤ) (rows : List CountRow) (m : Message)
+        → IsSeenMove B day rows m → Contains (moves B day rows) m }
+{}

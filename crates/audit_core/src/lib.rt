@@ -1,0 +1,27 @@
+//! Turns a count list into lines that correct the record.
+//!
+//! [`audit`] compares a list with the record, and posts nothing. Its [`AuditText`] has a line for
+//! each thing that the list found elsewhere, which moves the thing to the place where it was seen.
+//! A container is moved like any other thing, and what is in it moves with it. A thing that lies in
+//! a container on record has no line: it is a note. The objects that the list misses are notes,
+//! too.
+//!
+//! ```text
+//! {"station":"GAL","n":6,"message":{"day":"2024-05-01","kind":"move","place":"S1-A","thing":"2001.4.1"}}
+//! note: 2001.4.2 was seen at S2 but lies in C1 on record: move it yourself if it was taken out
+//! missing: 2001.4.3 at S1-A on record
+//! ```
+//!
+//! [`laws`] has what is true of every audit.
+#![tactic(auto)]
+
+mod audit_fault;
+mod auditing;
+mod containers;
+pub mod laws;
+mod lines;
+mod notes;
+mod sightings;
+
+pub use audit_fault::AuditFault;
+pub use auditing::{AuditOptions, AuditText, audit};
