@@ -1,0 +1,5 @@
+pub mod Numbers
+pub mod TrialSteps
+pub mod NoteSteps
+pub mod Replays
+mod WorkedTrials
