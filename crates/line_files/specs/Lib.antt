@@ -1,0 +1,5 @@
+pub mod Readings
+pub mod Known
+pub mod Standings
+pub mod Texts
+pub mod Checked
