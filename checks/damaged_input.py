@@ -7,8 +7,8 @@ that they name, and each word. With --each only every Nth of these is tried, fro
 a run with few of them each is tried.
 
 What is answered has to be a named fault, on one line of standard error and with status 1 or 2, after whole lines of output; or
-status 0, whole lines, and nothing on standard error but notes; a run with --strict may also end so with status 1. `grow` prints a
-line for each fault of its file. Words that aren't right may have the text of their reader, with status 2, and may ask for help. With
+status 0, whole lines, and nothing on standard error but notes; `resend`, and a run with --strict, may also end so with status 1.
+`grow`, `check` and `lines` print a line for each fault of a file. Words that aren't right may have the text of their reader, with status 2, and may ask for help. With
 a PEER, the plain program that bench/run builds, the answer to a session has to be the peer's, to the byte. It prints how many were
 tried, and the first that is wrong."""
 import os
@@ -26,7 +26,9 @@ import seeds
 
 CASES = pathlib.Path(__file__).resolve().parent.parent / "cases"
 FAULT = re.compile(rb"fault [a-z]+( [A-Za-z0-9]+)?( row [0-9]+)?\n")
-GROWTH_FAULTS = re.compile(rb"(fault setup [A-Za-z]+ row [0-9]+\n)+")
+FILE_FAULTS = re.compile(rb"(fault (setup|counts|lines) [A-Za-z]+ row [0-9]+\n|fault table row [0-9]+ [^\x00-\x1f]+\n)+")
+TABLE_FAULT = re.compile(rb"fault table (Near|Twice)Heading column [0-9]+: [^\x00-\x1f]+\n")
+LISTING = (b"grow", b"check", b"lines")  # the commands that print all faults of a file
 LINES = re.compile("([^\x00-\x1f\x7f\ufffd]*\x07?\n)*")  # of UTF-8, where what isn't so becomes U+FFFD; a desk may ring
 TURNED = (b"\0", b"\xff", b'"', b"\n")
 FEW = 100  # an input with no more damages is tried with each of them
@@ -49,14 +51,14 @@ def answer(program, words, given, folder):
 
 def may_be(said, of_words, words=()):
     (status, out, errors), strict = said, b"--strict" in words
-    errors = b"".join(line for line in errors.splitlines(True) if not line.startswith((b"help: ", b"note: ")))
+    errors = b"".join(line for line in errors.splitlines(True) if not line.startswith((b"help: ", b"note: ", b"missing: ")))
     if not LINES.fullmatch(out.decode(errors="replace")):
         return of_words and status == 0 and not errors
-    if not errors and (status == 0 or (strict and status == 1 and out)):
+    if not errors and (status == 0 or ((strict or b"resend" in words) and status == 1 and out)):
         return True
     if status in (1, 2) and FAULT.fullmatch(errors):
         return True
-    if status == 1 and b"grow" in words and GROWTH_FAULTS.fullmatch(errors):
+    if status == 1 and words and words[0] in LISTING and (FILE_FAULTS.fullmatch(errors) or TABLE_FAULT.fullmatch(errors)):
         return True
     return of_words and status == 2 and errors.startswith(b"error: ")
 

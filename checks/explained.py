@@ -30,6 +30,9 @@ ENUMS = {
     "nest_core/src/grow_fault.rt": ["GrowFault"],
     "count_core/src/count_fault.rt": ["CountFault"],
     "count_core/src/answer.rt": ["CountAnswer"],
+    "sheet_core/src/sheet_fault.rt": ["SheetFault"],
+    "table_core/src/fault.rt": ["HeadingFault"],
+    "station_files/src/gap_fault.rt": ["GapFault"],
     "register_store/src/fault.rt": ["ReadFault"],
     "register_store/src/store_fault.rt": ["StoreFault"],
 }
@@ -40,6 +43,8 @@ REPLIES = ["held", "posted", "refused", "bad", "ask", "at", "in", "unknown", "un
 REPLIES += ["signed off", "copied", "migrated", "grown", "grew", "note", "fault", "store", "counts", "setup", "day", "code"]
 # those of a desk
 REPLIES += ["to", "into", "out", "not sent", "no target", "no day", "nothing", "not understood"]
+# those of the commands that prepare lines or check files
+REPLIES += ["table", "lines", "same", "other", "waits", "ok"]
 
 
 def text_of(*path):
@@ -72,7 +77,7 @@ def source_names():
         source = text_of("crates", *path.split("/"))
         for enum in enums:
             body = source.partition(f"enum {enum} {{")[2].partition("\n}")[0]
-            variants = set(re.findall(rf"^    ({NAME})[,( ]", body, re.M))
+            variants = set(re.findall(r"^    ([A-Z]\w+)[,( ]", body, re.M))
             if not variants:
                 sys.exit(f"no enum {enum} in {path}")
             names.update(variants)

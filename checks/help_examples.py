@@ -8,9 +8,10 @@ import subprocess
 import sys
 import tempfile
 
-from store_room import LOAN, SETUP, scans
+from store_room import LOAN, SETUP, move, scan, scans
 
 FILES = {"museum.csv": SETUP, "monday.jsonl": scans(LOAN), "shelves.csv": "S1,2001.4.3\nS2\n", "packing.jsonl": "", "gallery.jsonl": ""}
+FILES |= {"moves.csv": "kind,thing,place,day\nmove,2001.4.1,S1-A,2024-06-01\n", "gal.jsonl": scan(1, move("C2", "S1"), "GAL")}
 
 
 def told(program, *words):
@@ -20,10 +21,11 @@ def told(program, *words):
 def main():
     program, failed = os.path.abspath(sys.argv[1]), 0
     overview = told(program, "--help")
-    commands, topics = re.findall(r"^  (\w+)  +\w", overview.partition("Commands:")[2].partition("Options:")[0], re.M), ["setup", "counts"]
-    helps = [overview] + [told(program, "help", name) for name in commands + topics]
+    commands = re.findall(r"^  (\w+)  +\w", overview.partition("Commands:")[2].partition("Options:")[0], re.M)
+    topics = [told(program, "help", name) for name in ("setup", "lines", "counts")]
+    helps = [overview, *[told(program, name, "--help") for name in commands], *topics]
     for name in commands:
-        if f"\n  pairsalder {name} " not in told(program, "help", name):
+        if f"\n  pairsalder {name} " not in told(program, name, "--help"):
             failed += 1
             print(f"help {name}: no example")
     examples = [line.strip() for text in helps for line in re.findall(r"^  pairsalder .*$", text, re.M)]

@@ -10,7 +10,7 @@ from dataclasses import dataclass
 
 NAME = "pairsalder"
 # the names of values that are files, in the help
-FILES = {"PATH", "FILE", "LIST", "FEEDS"}
+FILES = {"PATH", "FILE", "LIST", "FEEDS", "TABLE"}
 ORIGIN = "written by packaging/generate.py from the program's help"
 
 

@@ -2,6 +2,7 @@ pub mod Naming
 pub mod WorkedRows
 pub mod WorkedCompletion
 pub mod WorkedDesk
+pub mod WorkedPreparation
 pub mod Settling
 pub mod Splitting
 pub mod Missing

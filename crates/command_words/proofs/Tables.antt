@@ -15,7 +15,12 @@ unfolding app_by register_app report_app
 is_simple name.Replay = refl
 is_simple name.Serve = refl
 is_simple name.Desk = refl
+is_simple name.Lines = refl
+is_simple name.Check = refl
+is_simple name.Gap = refl
+is_simple name.Resend = refl
 is_simple name.Count = refl
+is_simple name.Audit = refl
 is_simple name.Overdue = refl
 is_simple name.Away = refl
 is_simple name.History = refl
@@ -40,7 +45,12 @@ unfolding app_by register_app report_app
 is_plain name.Replay = refl
 is_plain name.Serve = refl
 is_plain name.Desk = refl
+is_plain name.Lines = refl
+is_plain name.Check = refl
+is_plain name.Gap = refl
+is_plain name.Resend = refl
 is_plain name.Count = refl
+is_plain name.Audit = refl
 is_plain name.Overdue = refl
 is_plain name.Away = refl
 is_plain name.History = refl
@@ -76,9 +86,9 @@ simple_overview app e = ap is_simple_and_free e ∙ overview_is_simple
 
 -- the commands of the overview, in its order
 abbrev pub all : List Name
-all = name.Replay ∷ name.Serve ∷ name.Desk ∷ name.Count ∷ name.Overdue ∷ name.Away
-    ∷ name.History ∷ name.Migrate ∷ name.Copy ∷ name.Grow ∷ name.Setup ∷ name.Explain
-    ∷ name.Stations ∷ name.Where ∷ name.Contents ∷ name.Loan ∷ name.At ∷ name.Posted
+all = name.Replay ∷ name.Serve ∷ name.Desk ∷ name.Lines ∷ name.Check ∷ name.Gap ∷ name.Resend
+    ∷ name.Count ∷ name.Audit ∷ name.Overdue ∷ name.Away ∷ name.History ∷ name.Migrate
+    ∷ name.Copy ∷ name.Grow ∷ name.Setup ∷ name.Explain ∷ name.Stations ∷ name.Where ∷ name.Contents ∷ name.Loan ∷ name.At ∷ name.Posted
     ∷ name.Loans ∷ name.Dues ∷ name.Why ∷ []
 
 all_is_overview : with_commands program_alone all ≡ overview
@@ -113,7 +123,12 @@ unfolding app_by form_by
 app_is name.Replay = refl
 app_is name.Serve = refl
 app_is name.Desk = refl
+app_is name.Lines = refl
+app_is name.Check = refl
+app_is name.Gap = refl
+app_is name.Resend = refl
 app_is name.Count = refl
+app_is name.Audit = refl
 app_is name.Overdue = refl
 app_is name.Away = refl
 app_is name.History = refl

@@ -1,4 +1,4 @@
--- Defines the twenty-two commands: the arguments that `clap` knows of each, and the values that
+-- Defines the twenty-seven commands: the arguments that `clap` knows of each, and the values that
 -- each needs.
 use Rattle.std.specs.Prelude.{◌∷◌, [], ℕ, Bool, List, None, Option, Some, codes, map, true, false}
 use Rattle.clap.specs.Words.{App, Rule, Text, new_app, new_rule, with_rule}
@@ -24,6 +24,11 @@ word_rule id = record (new_rule id) { value_names = 1; action = Some Set }
 abbrev pub words_rule : Text → Rule
 words_rule id = record (new_rule id) { value_names = 1; action = Some Append }
 
+-- The command with an option for each of these arguments.
+abbrev pub with_options : App → List Text → App
+with_options app [] = app
+with_options app (id ∷ ids) = with_options (with_rule app (option_rule id)) ids
+
 -- A command with --setup and --store, whose letters are s (115) and d (100).
 unfoldable pub register_app : Text → App
 register_app name = with_rule (with_rule (new_app name) (file_rule (codes "setup") 115))
@@ -42,10 +47,13 @@ pub record Form : Type 0 where
   pub waiver : Option Text
   pub is_report : Bool
 
+-- A command that needs these values.
+abbrev pub needing : App → List Text → Form
+needing app ids = record { app = app; needed = ids; waiver = None; is_report = false }
+
 -- A command that needs one value.
 abbrev pub one_needed : App → Text → Form
-one_needed app id =
-    record { app = app; needed = id ∷ []; waiver = None; is_report = false }
+one_needed app id = needing app (id ∷ [])
 
 -- A command that needs a setup.
 abbrev pub setup_needed : App → Form
@@ -53,21 +61,11 @@ setup_needed app = one_needed app (codes "setup")
 
 -- A command that needs a setup and a store.
 abbrev pub both_needed : App → Form
-both_needed app = record {
-  app = app;
-  needed = codes "setup" ∷ codes "store" ∷ [];
-  waiver = None;
-  is_report = false;
-}
+both_needed app = needing app (codes "setup" ∷ codes "store" ∷ [])
 
 -- A command that needs a setup, a store and one more value.
 abbrev pub all_needed : App → Text → Form
-all_needed app id = record {
-  app = app;
-  needed = codes "setup" ∷ codes "store" ∷ id ∷ [];
-  waiver = None;
-  is_report = false;
-}
+all_needed app id = needing app (codes "setup" ∷ codes "store" ∷ id ∷ [])
 
 -- The command is a report.
 abbrev pub report : Form → Form
@@ -91,12 +89,51 @@ desk =
     (option_rule (codes "labels"))) (flag_rule (codes "bell"))) (flag_rule (codes "cards")))
     (codes "station")) { waiver = Some (codes "cards") }
 
+-- The lines of a table: their station, the first number, what each row has in common, the order of
+-- day and month, the file of the labels, the flag that makes notes faults, and the table.
+abbrev pub lines : Form
+lines =
+    needing
+    (with_rule (with_rule (with_options (register_app (codes "lines"))
+    (codes "station" ∷ codes "first" ∷ codes "kind" ∷ codes "day" ∷ codes "place" ∷ codes "loan"
+    ∷ codes "by" ∷ codes "dates" ∷ codes "labels" ∷ []))
+    (flag_rule (codes "strict"))) (word_rule (codes "table")))
+    (codes "setup" ∷ codes "station" ∷ codes "table" ∷ [])
+
+-- The command `check`, which has a setup that it doesn't need, and no store.
+abbrev pub check_files : Form
+check_files = needing
+    (with_options (with_rule (new_app (codes "check")) (file_rule (codes "setup") 115))
+    (codes "counts" ∷ codes "lines" ∷ []))
+    []
+
+abbrev pub gap : Form
+gap = needing
+    (with_options (register_app (codes "gap")) (codes "station" ∷ codes "by" ∷ []))
+    (codes "setup" ∷ codes "store" ∷ codes "station" ∷ codes "by" ∷ [])
+
+abbrev pub resend : Form
+resend = needing
+    (with_rule (with_options (register_app (codes "resend")) (codes "station" ∷ []))
+    (word_rule (codes "file")))
+    (codes "setup" ∷ codes "store" ∷ codes "station" ∷ codes "file" ∷ [])
+
 abbrev pub count : Form
 count = report
     (all_needed
     (report_app (with_rule (with_rule (register_app (codes "count")) (word_rule (codes "list")))
     (flag_rule (codes "sealed"))))
     (codes "list"))
+
+-- The moves that a count list asks for: their station, their day, the first number, the flag of
+-- sealed containers, and the list.
+abbrev pub audit : Form
+audit =
+    needing
+    (with_rule (with_rule (with_options (register_app (codes "audit"))
+    (codes "station" ∷ codes "day" ∷ codes "first" ∷ []))
+    (flag_rule (codes "sealed"))) (word_rule (codes "list")))
+    (codes "setup" ∷ codes "store" ∷ codes "station" ∷ codes "day" ∷ codes "list" ∷ [])
 
 abbrev pub overdue : Form
 overdue = report
@@ -134,12 +171,7 @@ explain = one_needed (with_rule (new_app (codes "explain")) (word_rule (codes "n
 
 -- A command that needs no value.
 abbrev pub help : Form
-help = record {
-  app = with_rule (new_app (codes "help")) (word_rule (codes "topic"));
-  needed = [];
-  waiver = None;
-  is_report = false;
-}
+help = needing (with_rule (new_app (codes "help")) (word_rule (codes "topic"))) []
 
 abbrev pub stations : Form
 stations = report (both_needed (report_app (register_app (codes "stations"))))
@@ -193,9 +225,9 @@ why = report
 
 -- The commands other than `help`.
 abbrev pub listed : List Form
-listed = replay ∷ serve ∷ desk ∷ count ∷ overdue ∷ away ∷ history ∷ migrate
-    ∷ copy ∷ grow ∷ print_setup ∷ explain ∷ stations ∷ where_is ∷ contents ∷ loan ∷ at ∷ posted
-    ∷ loans ∷ dues ∷ why ∷ []
+listed = replay ∷ serve ∷ desk ∷ lines ∷ check_files ∷ gap ∷ resend ∷ count ∷ audit ∷ overdue
+    ∷ away ∷ history ∷ migrate ∷ copy ∷ grow ∷ print_setup ∷ explain ∷ stations ∷ where_is
+    ∷ contents ∷ loan ∷ at ∷ posted ∷ loans ∷ dues ∷ why ∷ []
 
 abbrev pub commands : List Form
 commands = help ∷ listed

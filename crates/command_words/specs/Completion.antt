@@ -4,6 +4,7 @@ use Rattle.std.specs.Prelude.{◌||◌, ◌&&◌, false, if◌then◌else◌, na
 use Rattle.std.specs.List.{before_first, list_any, starts_with}
 use Rattle.std.specs.Option.{option_map_or}
 use Rattle.std.specs.Str.{bytes_eq}
+use Rattle.clap.specs.Walk.{is_empty}
 use Rattle.clap.specs.Words.{Text}
 use Rattle.command_words.specs.Commands.{Form, commands}
 use Rattle.command_words.specs.Words.{form_named}
@@ -51,15 +52,20 @@ is_settled option words = list_any (settles option) (option_words words)
 abbrev pub has_option : FileOption → Form → Bool
 has_option option form = list_any (λ rule. bytes_eq rule.id (id_of option)) form.app.top.rules
 
+-- The command has the option, and a value that it needs. One that needs none, such as `check`,
+-- takes only the files that its words name.
+abbrev pub is_filled_in : FileOption → Form → Bool
+is_filled_in option form = has_option option form && not (is_empty form.needed)
+
 -- The command of this name.
 abbrev pub form_called : Text → Option Form
 form_called name = find (λ form. bytes_eq name form.app.top.name) commands
 
--- The first word names a command that has the option, and the words have neither the option nor a
--- request for help.
+-- The first word names a command whose option is filled in, and the words have neither the option
+-- nor a request for help.
 abbrev pub lacks_option : FileOption → List Text → Bool
 lacks_option option words =
-    option_map_or (has_option option) (form_named words) false && not (is_settled option words)
+    option_map_or (is_filled_in option) (form_named words) false && not (is_settled option words)
 
 -- An option and its value: --setup PATH. None of it if there is no value, or an empty one.
 abbrev pub option_with : FileOption → Option Text → List Text

@@ -1,7 +1,8 @@
 -- Defines the arguments and commands that `clap` gets from the program's two tables.
 use Rattle.std.specs.Prelude.{◌∷◌, [], List}
 use Rattle.clap.specs.Words.{App, Rule, Text, with_rule, with_subcommand}
-use Rattle.command_words.specs.Commands.{Form, at, away, contents, copy, count, explain, file_rule}
+use Rattle.command_words.specs.Commands.{Form, at, audit, away, check_files, contents, copy, count}
+use Rattle.command_words.specs.Commands.{explain, file_rule, gap, lines, resend}
 use Rattle.command_words.specs.Commands.{desk, dues, flag_rule, grow, loans, print_setup, why}
 use Rattle.command_words.specs.Commands.{help, history, loan, migrate, option_rule, overdue, posted}
 use Rattle.command_words.specs.Commands.{replay, serve, stations, where_is, word_rule, words_rule}
@@ -34,7 +35,12 @@ unfoldable pub app_by : Name → App
 app_by name.Replay = replay.app
 app_by name.Serve = serve.app
 app_by name.Desk = desk.app
+app_by name.Lines = lines.app
+app_by name.Check = check_files.app
+app_by name.Gap = gap.app
+app_by name.Resend = resend.app
 app_by name.Count = count.app
+app_by name.Audit = audit.app
 app_by name.Overdue = overdue.app
 app_by name.Away = away.app
 app_by name.History = history.app
@@ -59,7 +65,12 @@ unfoldable pub form_by : Name → Form
 form_by name.Replay = replay
 form_by name.Serve = serve
 form_by name.Desk = desk
+form_by name.Lines = lines
+form_by name.Check = check_files
+form_by name.Gap = gap
+form_by name.Resend = resend
 form_by name.Count = count
+form_by name.Audit = audit
 form_by name.Overdue = overdue
 form_by name.Away = away
 form_by name.History = history

@@ -17,7 +17,8 @@ use Rattle.clap.specs.declared.error.Error.{Error}
 use Rattle.clap.specs.declared.error.kind.ErrorKind.{ErrorKind}
 use Rattle.clap.specs.declared.error.kind.ErrorKind.TheVariants.{ArgumentConflict, DisplayHelp}
 use Rattle.clap.specs.declared.error.kind.ErrorKind.TheVariants.{DisplayVersion, OutOfMemory}
-use Rattle.command_words.specs.Commands.{Form, at, away, commands, contents, copy, count, desk}
+use Rattle.command_words.specs.Commands.{Form, at, audit, away, check_files, commands, contents}
+use Rattle.command_words.specs.Commands.{copy, count, desk, gap, lines, resend}
 use Rattle.command_words.specs.Commands.{help, history, loan, migrate, overdue, overview, posted}
 use Rattle.command_words.specs.Commands.{explain, replay, serve}
 use Rattle.command_words.specs.Commands.{dues, grow, loans, print_setup, stations, where_is, why}
@@ -25,7 +26,9 @@ use Rattle.command_words.specs.declared.command.Report.{Report}
 use Rattle.command_words.specs.declared.command.Format.{Format}
 use Rattle.command_words.specs.declared.command.Format.TheVariants.{Csv, Json, Lines, Table}
 use Rattle.command_words.specs.declared.command.Asked.{Asked}
+use Rattle.command_words.specs.declared.command.AuditWords.{AuditWords}
 use Rattle.command_words.specs.declared.command.Entries.{Entries}
+use Rattle.command_words.specs.declared.command.TableWords.{TableWords}
 use Rattle.command_words.specs.declared.command.Asked.TheVariants as asked
 use Rattle.command_words.specs.declared.command.Chosen.{Chosen}
 use Rattle.command_words.specs.declared.command.Chosen.TheVariants as command
@@ -104,6 +107,32 @@ HoldsEntries rows entries = (first_of (codes "from") rows ≡ text_of entries.fr
     × (first_of (codes "loan") rows ≡ text_of entries.loan)
     × (is_true (first_of (codes "refused") rows) ≡ entries.refused)
 
+-- The matches have these values for the lines of a table.
+abbrev pub HoldsTable : List Row → TableWords → Type 0
+HoldsTable rows table = (first_of (codes "setup") rows ≡ Some table.setup.now)
+    × (first_of (codes "store") rows ≡ text_of table.store)
+    × (first_of (codes "station") rows ≡ Some table.station.now)
+    × (first_of (codes "first") rows ≡ text_of table.first)
+    × (first_of (codes "kind") rows ≡ text_of table.kind)
+    × (first_of (codes "day") rows ≡ text_of table.day)
+    × (first_of (codes "place") rows ≡ text_of table.place)
+    × (first_of (codes "loan") rows ≡ text_of table.loan)
+    × (first_of (codes "by") rows ≡ text_of table.by)
+    × (first_of (codes "dates") rows ≡ text_of table.dates)
+    × (first_of (codes "labels") rows ≡ text_of table.labels)
+    × (is_true (first_of (codes "strict") rows) ≡ table.strict)
+    × (first_of (codes "table") rows ≡ Some table.table.now)
+
+-- The matches have these values for the moves that a count list asks for.
+abbrev pub HoldsAudit : List Row → AuditWords → Type 0
+HoldsAudit rows moves = (first_of (codes "setup") rows ≡ Some moves.setup.now)
+    × (first_of (codes "store") rows ≡ Some moves.store.now)
+    × (first_of (codes "station") rows ≡ Some moves.station.now)
+    × (first_of (codes "day") rows ≡ Some moves.day.now)
+    × (first_of (codes "first") rows ≡ text_of moves.first)
+    × (is_true (first_of (codes "sealed") rows) ≡ moves.sealed)
+    × (first_of (codes "list") rows ≡ Some moves.list.now)
+
 -- The first word is this name, and the words of this report name both files and one form.
 abbrev pub IsReport : List Text → Text → App → Report → Type 0
 IsReport words name app report = IsNamed words name × HoldsReport (matches_of app words) report
@@ -165,6 +194,24 @@ IsChosen words (command.Desk setup store station day log labels bell) =
     × (is_given desk.app words (codes "cards") ≡ false)
 IsChosen words command.Cards = IsNamed words (codes "desk")
     × (is_given desk.app words (codes "cards") ≡ true)
+IsChosen words (command.Lines table) = IsNamed words (codes "lines")
+    × HoldsTable (matches_of lines.app words) table
+IsChosen words (command.Check setup counts feed) = IsNamed words (codes "check")
+    × (value check_files.app words (codes "setup") ≡ text_of setup)
+    × (value check_files.app words (codes "counts") ≡ text_of counts)
+    × (value check_files.app words (codes "lines") ≡ text_of feed)
+IsChosen words (command.Gap setup store station by) = IsNamed words (codes "gap")
+    × (value gap.app words (codes "setup") ≡ Some setup.now)
+    × (value gap.app words (codes "store") ≡ Some store.now)
+    × (value gap.app words (codes "station") ≡ Some station.now)
+    × (value gap.app words (codes "by") ≡ Some by.now)
+IsChosen words (command.Resend setup store station file) = IsNamed words (codes "resend")
+    × (value resend.app words (codes "setup") ≡ Some setup.now)
+    × (value resend.app words (codes "store") ≡ Some store.now)
+    × (value resend.app words (codes "station") ≡ Some station.now)
+    × (value resend.app words (codes "file") ≡ Some file.now)
+IsChosen words (command.Audit moves) = IsNamed words (codes "audit")
+    × HoldsAudit (matches_of audit.app words) moves
 IsChosen words (command.Migrate setup store) = IsNamed words (codes "migrate")
     × (value migrate.app words (codes "setup") ≡ Some setup.now)
     × (value migrate.app words (codes "store") ≡ Some store.now)

@@ -87,6 +87,40 @@ pub struct Entries<'a> {
     pub refused: bool,
 }
 
+/// The arguments of `lines`. `first` is the number of the first line. `kind`, `day`, `place`,
+/// `loan` and `by` are the values of rows that have none. `dates` is the order of day and month.
+/// The file `labels` has the code of each label. With `strict`, a row that would not be applied is
+/// a fault.
+#[derive(Clone, Copy)]
+pub struct TableWords<'a> {
+    pub setup: &'a str,
+    pub store: Option<&'a str>,
+    pub station: &'a str,
+    pub first: Option<&'a str>,
+    pub kind: Option<&'a str>,
+    pub day: Option<&'a str>,
+    pub place: Option<&'a str>,
+    pub loan: Option<&'a str>,
+    pub by: Option<&'a str>,
+    pub dates: Option<&'a str>,
+    pub labels: Option<&'a str>,
+    pub strict: bool,
+    pub table: &'a str,
+}
+
+/// The arguments of `audit`. `day` is the day of the moves, and `first` the number of the first. If
+/// `sealed`, a container that was seen vouches for its contents.
+#[derive(Clone, Copy)]
+pub struct AuditWords<'a> {
+    pub setup: &'a str,
+    pub store: &'a str,
+    pub station: &'a str,
+    pub day: &'a str,
+    pub first: Option<&'a str>,
+    pub sealed: bool,
+    pub list: &'a str,
+}
+
 /// A command with its values, as the words have them. If no store is named, the record is in
 /// memory.
 #[derive(Drop)]
@@ -122,6 +156,30 @@ pub enum Chosen<'a> {
     },
     /// Prints the words of a desk's lines as cards to scan.
     Cards,
+    /// Prints the rows of a table as lines of this station.
+    Lines(TableWords<'a>),
+    /// Prints every fault of a setup, a count list or a file of lines. None of them may be named.
+    Check {
+        setup: Option<&'a str>,
+        counts: Option<&'a str>,
+        lines: Option<&'a str>,
+    },
+    /// Prints a line that fills the station's next number. `by` is the name in its message.
+    Gap {
+        setup: &'a str,
+        store: &'a str,
+        station: &'a str,
+        by: &'a str,
+    },
+    /// Compares the lines of a station's own file with the record.
+    Resend {
+        setup: &'a str,
+        store: &'a str,
+        station: &'a str,
+        file: &'a str,
+    },
+    /// Prints a line that moves each object of a count list to where it was seen.
+    Audit(AuditWords<'a>),
     /// Migrates a store of the previous version to this version.
     Migrate {
         setup: &'a str,

@@ -4,7 +4,7 @@
 ghost use Rattle.std.specs.Prelude.{◌≡◌, ◌++◌, ◌||◌, IfOk, OnOk, codes};
 ghost use Rattle.std.specs.Str.{bytes_eq};
 ghost use Rattle.command_words.specs.Completion as completion;
-ghost use Rattle.command_words.specs.Completion.{begins, completed, filled_in, has_option};
+ghost use Rattle.command_words.specs.Completion.{begins, completed, filled_in, is_filled_in};
 ghost use Rattle.command_words.specs.Completion.{is_settled, is_written, lacks_option, settles};
 ghost use Rattle.command_words.specs.Tables.{form_by};
 ghost use Rattle.command_words.specs.Words.{text_of, texts_of};
@@ -76,13 +76,14 @@ fn has_settled(words: &[&str], option: FileOption) -> bool
     false
 }
 
-/// Whether the command has the option.
+/// Whether the option is filled in for the command: it has the option, and needs a value.
 fn takes_option(name: Name, option: FileOption) -> bool
-    ensures { result ≡ has_option option (form_by name) }
+    ensures { result ≡ is_filled_in option (form_by name) }
 {
     match name {
         Name::Explain => false,
         Name::Help => false,
+        Name::Check => false,
         Name::Setup => match option {
             FileOption::Setup => false,
             FileOption::Store => true,
@@ -91,8 +92,8 @@ fn takes_option(name: Name, option: FileOption) -> bool
     }
 }
 
-/// Returns whether the option can be filled in: the first word names a command that has it, and the
-/// words neither give it nor ask for help.
+/// Returns whether the option can be filled in: the first word names a command that has it and
+/// needs a value, and the words neither give it nor ask for help.
 pub fn lacks(words: &[&str], option: FileOption) -> bool
     ensures { result ≡ lacks_option option (texts_of words.now) }
 {

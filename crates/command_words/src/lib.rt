@@ -1,6 +1,6 @@
 //! Reads the words of a command line, and returns the command that they choose.
 //!
-//! [`words::chosen`] returns a [`Chosen`]: one of twenty-two commands with its values, among them
+//! [`words::chosen`] returns a [`Chosen`]: one of twenty-seven commands with its values, among them
 //! the [`Format`] of a report. `clap` does the reading; a [`WordsFault`] carries its error and has
 //! the program's exit status. [`completion::complete`] adds a default setup and store to the words,
 //! and [`needs::list_missing`] lists the arguments that they lack. [`desk::asked`] reads the words
@@ -31,6 +31,9 @@ pub mod completion;
 pub mod desk;
 pub mod needs;
 mod options;
+mod preparation;
+mod preparation_arguments;
+mod preparation_texts;
 mod questions;
 mod reading;
 mod report_reading;
@@ -39,4 +42,4 @@ mod shapes;
 mod texts;
 pub mod words;
 
-pub use command::{Asked, Chosen, Entries, Format, Report, WordsFault};
+pub use command::{Asked, AuditWords, Chosen, Entries, Format, Report, TableWords, WordsFault};

@@ -12,9 +12,13 @@ use crate::arguments::{
     SEALED, STATION, STRICT, THING, TO, TO_ENTRY, TOPIC, WORD,
 };
 use crate::options::{Argument, CSV, JSON, SETUP, STORE, TABLE, UPTO, made, with_help};
+use crate::preparation_arguments::{
+    CHECKED_COUNTS, CHECKED_LINES, CHECKED_SETUP, DATES, FILLER, FIRST, MOVE_DAY, OWN_FILE,
+    ROW_DAY, ROW_KIND, ROW_LOAN, ROW_NAME, ROW_PLACE, SENDER, SHEET, STRICT_ROWS,
+};
 use crate::reading::is_set;
-use crate::report_texts;
 use crate::texts::{self, Help};
+use crate::{preparation_texts, report_texts};
 use clap::{ArgMatches, Command};
 use std::alloc::{AllocError, Global};
 
@@ -27,7 +31,12 @@ pub(crate) enum Name {
     Replay,
     Serve,
     Desk,
+    Lines,
+    Check,
+    Gap,
+    Resend,
     Count,
+    Audit,
     Overdue,
     Away,
     History,
@@ -49,11 +58,16 @@ pub(crate) enum Name {
 }
 
 /// The commands in the order of the help. `help` is left out, because `clap` adds it.
-const NAMES: [Name; 21] = [
+const NAMES: [Name; 26] = [
     Name::Replay,
     Name::Serve,
     Name::Desk,
+    Name::Lines,
+    Name::Check,
+    Name::Gap,
+    Name::Resend,
     Name::Count,
+    Name::Audit,
     Name::Overdue,
     Name::Away,
     Name::History,
@@ -81,7 +95,12 @@ fn word_of(name: Name) -> &'static str
         Name::Replay => "replay",
         Name::Serve => "serve",
         Name::Desk => "desk",
+        Name::Lines => "lines",
+        Name::Check => "check",
+        Name::Gap => "gap",
+        Name::Resend => "resend",
         Name::Count => "count",
+        Name::Audit => "audit",
         Name::Overdue => "overdue",
         Name::Away => "away",
         Name::History => "history",
@@ -149,7 +168,12 @@ fn needs_of(name: Name) -> &'static [&'static str]
     match name {
         Name::Replay | Name::Serve => &["setup"],
         Name::Desk => &["setup", "store", "station"],
+        Name::Lines => &["setup", "station", "table"],
+        Name::Check => &[],
+        Name::Gap => &["setup", "store", "station", "by"],
+        Name::Resend => &["setup", "store", "station", "file"],
         Name::Count => &["setup", "store", "list"],
+        Name::Audit => &["setup", "store", "station", "day", "list"],
         Name::Overdue => &["setup", "store", "on"],
         Name::Setup => &["store"],
         Name::Away | Name::Migrate | Name::Grow | Name::Stations | Name::Posted | Name::Loans => {
@@ -171,7 +195,12 @@ fn help_of(name: Name) -> &'static Help {
         Name::Replay => &texts::REPLAY,
         Name::Serve => &texts::SERVE,
         Name::Desk => &texts::DESK,
+        Name::Lines => &preparation_texts::LINES,
+        Name::Check => &preparation_texts::CHECK,
+        Name::Gap => &preparation_texts::GAP,
+        Name::Resend => &preparation_texts::RESEND,
         Name::Count => &report_texts::COUNT,
+        Name::Audit => &preparation_texts::AUDIT,
         Name::Overdue => &report_texts::OVERDUE,
         Name::Away => &report_texts::AWAY,
         Name::History => &report_texts::HISTORY,
@@ -211,7 +240,26 @@ fn arguments_of(name: Name) -> &'static [Argument]
             BELL,
             CARDS,
         ],
+        Name::Lines => &[
+            SETUP,
+            STORE,
+            SENDER,
+            FIRST,
+            ROW_KIND,
+            ROW_DAY,
+            ROW_PLACE,
+            ROW_LOAN,
+            ROW_NAME,
+            DATES,
+            LABELS,
+            STRICT_ROWS,
+            SHEET,
+        ],
+        Name::Check => &[CHECKED_SETUP, CHECKED_COUNTS, CHECKED_LINES],
+        Name::Gap => &[SETUP, STORE, SENDER, FILLER],
+        Name::Resend => &[SETUP, STORE, SENDER, OWN_FILE],
         Name::Count => &[SETUP, STORE, LIST, SEALED, UPTO, CSV, JSON, TABLE],
+        Name::Audit => &[SETUP, STORE, SENDER, MOVE_DAY, FIRST, SEALED, LIST],
         Name::Overdue => &[SETUP, STORE, DAY, UPTO, CSV, JSON, TABLE],
         Name::Away => &[SETUP, STORE, UPTO, CSV, JSON, TABLE],
         Name::History => &[SETUP, STORE, THING, LONG, UPTO, CSV, JSON, TABLE],

@@ -219,7 +219,7 @@ pub(crate) const HELP: Help = Help {
 The topics are setup (the setup's rows, and codes), lines (the messages and
 questions of stations), counts (count lists), verdicts (all of them) and files
 (back up, move and restore a record). 'help COMMAND' is 'COMMAND --help', except
-for setup, which is a topic, too. Without a name, prints an overview.
+for setup and lines, which are topics, too. Without a name, prints an overview.
 
 Examples:
   pairsalder help lines

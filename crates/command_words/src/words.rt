@@ -7,6 +7,7 @@ ghost use Rattle.command_words.specs.Tables.{form_by};
 ghost use Rattle.command_words.specs.Words.{Chooses, IsChosen, IsFault, IsNamed, form_named};
 ghost use Rattle.command_words.specs.Words.{refusals, texts_of};
 
+use crate::preparation::{audit, check, gap, lines, resend};
 use crate::questions::{
     at, contents, dues, explain, help, loan, loans, posted, stations, where_is, why,
 };
@@ -45,7 +46,12 @@ fn named<'a>(alloc: Global, name: Name, words: &'a [&'a str]) -> Result<Chosen<'
         Name::Replay => replay(alloc, words),
         Name::Serve => serve(alloc, words),
         Name::Desk => desk(alloc, words),
+        Name::Lines => lines(alloc, words),
+        Name::Check => check(alloc, words),
+        Name::Gap => gap(alloc, words),
+        Name::Resend => resend(alloc, words),
         Name::Count => count(alloc, words),
+        Name::Audit => audit(alloc, words),
         Name::Overdue => overdue(alloc, words),
         Name::Away => away(alloc, words),
         Name::History => history(alloc, words),

@@ -110,9 +110,9 @@ pub(crate) const INPUT_FAULTS: &[Meaning] = &[
     },
     Meaning {
         word: "Empty",
-        means: "the code or the day has no characters",
-        cause: "an option without a value, for example --on=.",
-        action: "write the code or the day.",
+        means: "the code, the day or the first line of the spreadsheet is empty",
+        cause: "an option without a value, for example --on=, or an empty line.",
+        action: "write the code or the day, or the names of the columns.",
     },
     Meaning {
         word: "BadShape",

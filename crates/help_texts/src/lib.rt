@@ -27,6 +27,7 @@ mod meaning;
 mod nearest;
 mod pages;
 mod refusals;
+mod sheet_words;
 mod states;
 mod store_faults;
 mod tables;

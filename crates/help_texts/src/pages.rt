@@ -84,6 +84,9 @@ or receive. It is recorded as UnknownThing and changes nothing. The messages
 held after it can then be sent again:
 
   {\"kind\":\"move\",\"thing\":\"C999999\",\"place\":\"S1\",\"day\":\"2024-05-01\"}
+
+Print the rows of a spreadsheet as lines; 'pairsalder lines --help' explains it:
+  pairsalder lines --setup museum.csv --station GAL moves.csv
 ";
 
 const COUNTS: &str = "\

@@ -58,7 +58,7 @@ pub(crate) const STORE_FAULTS: &[Meaning] = &[
     Meaning {
         word: "note",
         means: "this is worth knowing, and is no fault",
-        cause: "a new store, or messages that are still held at the end.",
+        cause: "a new store, messages held at the end, or a column that is not used.",
         action: "if the store should not be new, check its path. Send held messages again.",
     },
 ];

@@ -7,6 +7,7 @@ use crate::desk_words::DESK_WORDS;
 use crate::faults::{INPUT_FAULTS, RUN_FAULTS};
 use crate::nearest::nearest_in;
 use crate::refusals::REFUSALS;
+use crate::sheet_words::SHEET_WORDS;
 use crate::states::{ANSWERS, COUNT_ANSWERS, STAGES};
 use crate::store_faults::STORE_FAULTS;
 use crate::verdicts::VERDICTS;
@@ -25,6 +26,7 @@ enum Subject {
     Stages,
     CountAnswers,
     DeskWords,
+    SheetWords,
     Columns,
 }
 
@@ -39,6 +41,7 @@ const SUBJECTS: &[Subject] = &[
     Subject::Stages,
     Subject::CountAnswers,
     Subject::DeskWords,
+    Subject::SheetWords,
     Subject::Columns,
 ];
 
@@ -55,6 +58,7 @@ fn words_of(subject: Subject) -> &'static [Meaning] {
         Subject::Stages => STAGES,
         Subject::CountAnswers => COUNT_ANSWERS,
         Subject::DeskWords => DESK_WORDS,
+        Subject::SheetWords => SHEET_WORDS,
         Subject::Columns => COLUMNS,
     }
 }

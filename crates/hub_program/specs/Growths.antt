@@ -1,7 +1,5 @@
 -- Defines what the command that adds to a setup does to a store.
 use Rattle.std.specs.Prelude.{ℕ, ◌≡◌, ◌&&◌, Bool, true, false, List, length, not}
-use Rattle.hub_core.specs.Openings.{Opened}
-use Rattle.hub_core.specs.StandsFor.{State}
 use Rattle.nest_core.specs.Museum.{Museum}
 use Rattle.nest_core.specs.SetupGrowing.{grown, with_file}
 use Rattle.posting_core.specs.Book.{Book}
@@ -10,6 +8,7 @@ use Rattle.register_store.specs.Holdings.{Holding, Comes}
 use Rattle.register_store.specs.StoredRows.{AreSame}
 use Rattle.setup_reports.specs.GrowthTexts.{has_changes}
 use Rattle.sqlite_disk.specs.declared.Disk.{Ghosts}
+use Rattle.hub_program.specs.Judging.{IsJudged}
 use Rattle.hub_program.specs.Places.{IsKeptAlone}
 
 -- The setup of a record to which the rows of a file were added.
@@ -28,14 +27,6 @@ GrowsIf false L bytes old new = Comes old new AreSame
 
 abbrev pub GrowsTo : Bool → Book → List ℕ → Holding → Holding → Type 0
 GrowsTo check L bytes = GrowsIf (is_to_grow check L bytes) L bytes
-
--- A hub that was opened over the register `before` had this record, and left the register `after`.
-pub record IsJudged {R : Type 0} (holding : R → Holding) (S : Museum) (before after : R) (L : Book)
-    : Type 0 where
-  pub hub : State R
-  pub opened : Opened holding S before hub
-  pub register : after ≡ hub.register
-  pub book : L ≡ hub.book
 
 -- The record was judged, the rows of the file were added to its setup, and it was kept. The setup
 -- was read first, and the record judged under it.

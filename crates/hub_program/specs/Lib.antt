@@ -1,2 +1,4 @@
 pub mod Places
+pub mod Judging
 pub mod Growths
+pub mod Printing

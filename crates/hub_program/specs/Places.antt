@@ -1,19 +1,21 @@
 -- Defines which store has the record of a command, and what a command does to the store's files.
 -- `image` describes the files when they are opened. `holding` is what a register's store may hold.
 -- `l` and `l'` are the bytes that the log of a desk holds before and after.
-use Rattle.std.specs.Prelude.{ℕ, ◌≡◌, ⊤, List, Option, Some, None}
+use Rattle.std.specs.Prelude.{ℕ, ◌≡◌, List, Option, Some, None}
 use Rattle.command_words.specs.Words.{text_of}
 use Rattle.command_words.specs.declared.command.Chosen.{Chosen}
 use Rattle.command_words.specs.declared.command.Chosen.TheVariants.{Replay, Serve, Migrate, Copy}
 use Rattle.command_words.specs.declared.command.Chosen.TheVariants.{Grow, Setup, Report, Explain}
 use Rattle.command_words.specs.declared.command.Chosen.TheVariants.{Cards, Desk, Help}
-use Rattle.desk_core.specs.Answers.{Asks}
+use Rattle.command_words.specs.declared.command.Chosen.TheVariants.{Lines, Check, Gap, Resend}
+use Rattle.command_words.specs.declared.command.Chosen.TheVariants.{Audit}
 use Rattle.hub_core.specs.declared.outcome.Outcome.{Outcome}
 use Rattle.hub_program.specs.declared.ending.Ending.{Ending}
 use Rattle.hub_program.specs.declared.ending.Ending.TheVariants.{Done, NotApplied, Printed}
 use Rattle.hub_program.specs.declared.store.ClosedStore.{ClosedStore}
 use Rattle.nest_core.specs.Museum.{Museum}
 use Rattle.nest_core.specs.declared.growth.Growth.{Growth}
+use Rattle.question_words.specs.Desk.{DeskAsks}
 use Rattle.register_sql.specs.Migrating.{Migrates}
 use Rattle.register_sql.specs.Runs.{IsCopied, IsFoundIn}
 use Rattle.register_sql.specs.Stores.{no_rows}
@@ -33,6 +35,11 @@ store_of (Replay setup store progress strict why) = text_of store
 store_of (Serve setup store feeds) = text_of store
 store_of (Desk setup store station day log labels bell) = Some store.now
 store_of Cards = None
+store_of (Lines words) = text_of words.store
+store_of (Check setup counts lines) = None
+store_of (Gap setup store station by) = Some store.now
+store_of (Resend setup store station file) = Some store.now
+store_of (Audit words) = Some words.store.now
 store_of (Migrate setup store) = Some store.now
 store_of (Copy setup store to) = Some store.now
 store_of (Grow setup store check) = Some store.now
@@ -67,17 +74,12 @@ pub record IsKeptAlone {D : Type 0} (g : Ghosts D) (store : Holding) : Type 0 wh
   pub files : Files D
   pub copied : AreClean g files.log files.db → IsCopied g store files
 
--- Which question the words of a report ask at a desk. No clause says it: tests compare each answer
--- with that of the command line.
-abbrev pub desk_asks : Asks
-desk_asks words question = ⊤
-
 -- The work was done on the register's record, and what it left of the record was kept.
 pub record IsDoneAndKept {R D : Type 0} (holding : R → Holding) (g : Ghosts D) (S : Museum)
     (before : R) (work : Work) (had_seen has_seen : List Outcome → Type 0)
     (i i' o o' l l' : Option (List ℕ)) : Type 0 where
   pub after : R
-  pub done : Did desk_asks holding S before after work had_seen has_seen i i' o o' l l'
+  pub done : Did DeskAsks holding S before after work had_seen has_seen i i' o o' l l'
   pub kept : IsKeptAlone g (holding after)
 
 -- The work was done on a record in memory that was empty at first.
@@ -86,7 +88,7 @@ pub record IsDoneInMemory (S : Museum) (work : Work) (had_seen has_seen : List O
   pub before : plain.Kept
   pub after : plain.Kept
   pub empty : before.content ≡ no_rows
-  pub done : Did desk_asks plain.in_memory S before after work had_seen has_seen i i' o o' l l'
+  pub done : Did DeskAsks plain.in_memory S before after work had_seen has_seen i i' o o' l l'
 
 -- The register's record was migrated, and kept.
 pub record IsMigratedAndKept {R D : Type 0} (holding : R → Holding) (g : Ghosts D) (S : Museum)

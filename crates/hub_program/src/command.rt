@@ -1,26 +1,33 @@
 //! Does the command that the words choose.
-ghost use Rattle.std.specs.Prelude.{◌≡◌, IfOk, Some};
+ghost use Rattle.std.specs.Prelude.{◌≡◌, IfOk};
 ghost use Rattle.command_words.specs.Words.{text_of};
 ghost use Rattle.hub_program.specs.Places.{kept_in, path_of, store_of};
 
+use crate::auditing::audit_list;
+use crate::checking::check_files;
 use crate::copying::copied;
 use crate::desk::{DeskWords, at_desk};
 use crate::desk_files::no_log;
 use crate::ending::{Ending, noted_status, refuse, status};
 use crate::explain::explain;
 use crate::fault::CommandFault;
-use crate::files::{read_feeds, read_setup};
+use crate::files::read_setup;
+use crate::gap::{GapWords, fill_gap};
 use crate::growing::{grown, listed};
 use crate::help::help;
 use crate::lines::write_line;
 use crate::progress::Progress;
-use crate::request::{form_of, number_if, read_question};
-use crate::store::{self, Begins, ClosedStore, open, open_if};
+use crate::reporting::reported;
+use crate::resending::{ResendWords, compare_file};
+use crate::serving::served;
+use crate::store::{self, Begins, ClosedStore, closed_if, open_if};
+use crate::tables::print_lines;
 use crate::work::over_store;
+use command_words::Chosen;
 use command_words::words::chosen;
-use command_words::{Asked, Chosen, Report};
 use help_texts::DESK_CARDS;
 use hub_core::{Tally, Watch, run};
+use input_marks::without_mark;
 use sqlite::Start;
 use std::io::{BufRead, Write};
 use std::sync::Wait;
@@ -174,6 +181,48 @@ fn perform<
             let closed = listed(rt, store, start, output)?;
             Ok(Ending::Done(Some(closed)))
         }
+        Chosen::Lines(words) => print_lines(rt, *words, start, input, output, notes),
+        Chosen::Check {
+            setup,
+            counts,
+            lines,
+        } => {
+            check_files(rt, *setup, *counts, *lines, output)?;
+            Ok(Ending::Done(None))
+        }
+        Chosen::Gap {
+            setup,
+            store,
+            station,
+            by,
+        } => {
+            let wanted = GapWords {
+                setup,
+                store,
+                station,
+                by,
+            };
+            let closed = fill_gap(rt, wanted, start, output)?;
+            Ok(Ending::Done(Some(closed)))
+        }
+        Chosen::Resend {
+            setup,
+            store,
+            station,
+            file,
+        } => {
+            let wanted = ResendWords {
+                setup,
+                store,
+                station,
+                file,
+            };
+            compare_file(rt, wanted, start, input, output)
+        }
+        Chosen::Audit(words) => {
+            let closed = audit_list(rt, threads, *words, start, output, notes)?;
+            Ok(Ending::Done(Some(closed)))
+        }
         Chosen::Report(report, asked) => reported(
             rt, threads, *report, *asked, start, input, output, notes,
         ),
@@ -236,8 +285,8 @@ fn replayed<
     Ok(Ending::Done(store))
 }
 
-/// Answers the lines of the input, and shows the watch their outcomes. Returns the store, if one is
-/// named.
+/// Answers the lines of the input, and shows the watch their outcomes. A byte order mark before the
+/// first line is dropped. Returns the store, if one is named.
 fn watched<
     'a,
     T: Threads + Wait + Sync + Copy + Send + 'static,
@@ -259,6 +308,13 @@ fn watched<
 {
     let setup = read_setup(rt, rt.alloc(), wanted.setup)?;
     let store = open_if(rt, wanted.store, start, Begins::Record)?;
+    let mut lines = match without_mark(input) {
+        Ok(lines) => lines,
+        Err(_) => {
+            drop(setup);
+            return Err(closed_if(rt, store, CommandFault::ReadFailed));
+        }
+    };
     let work = Work::Replay { why: wanted.why };
     over_store(
         rt,
@@ -267,88 +323,11 @@ fn watched<
         store,
         work,
         watch,
-        input,
+        &mut lines,
         output,
         &mut no_log(),
         notes,
     )
-}
-
-/// Prints the report on the record.
-fn reported<'a, T: Threads + Wait + Sync + Copy + Send + 'static, S: Start, R: BufRead, W: Write>(
-    rt: &HostRuntime,
-    threads: &T,
-    report: Report<'a>,
-    asked: Asked<'_>,
-    start: S,
-    input: &mut R,
-    output: &mut W,
-    notes: &mut String,
-) -> Result<Ending<'a>, CommandFault>
-    ensures { IfOk result (λ ending. kept_in ending ≡ Some report.entry.store.now) }
-{
-    let upto = number_if(rt.alloc(), report.upto)?;
-    let (setup, question) = read_question(rt, report.setup, asked)?;
-    let work = Work::Print {
-        question,
-        form: form_of(report.format),
-        upto,
-    };
-    let store = open(rt, report.store, start, Begins::Nothing)?;
-    let closed = over_store(
-        rt,
-        threads,
-        setup,
-        Some(store),
-        work,
-        &mut Tally::new(),
-        input,
-        output,
-        &mut no_log(),
-        notes,
-    )?;
-    Ok(Ending::Done(closed))
-}
-
-/// Serves the files, one for each station in the setup's order, and prints the log. After a fault
-/// it prints the log up to the fault. Faults, in this order: those of the setup's file, and of the
-/// setup; Feeds, if there are more or fewer files than stations; those of the files; those of
-/// opening the store; those of serving.
-fn served<'a, T: Threads + Wait + Sync + Copy + Send + 'static, S: Start, R: BufRead, W: Write>(
-    rt: &HostRuntime,
-    threads: &T,
-    setup: &str,
-    store: Option<&'a str>,
-    files: &[&str],
-    start: S,
-    input: &mut R,
-    output: &mut W,
-    notes: &mut String,
-) -> Result<Ending<'a>, CommandFault>
-    ensures { IfOk result (λ ending. kept_in ending ≡ text_of store.entry) }
-{
-    let setup = read_setup(rt, rt.alloc(), setup)?;
-    let feeds = match read_feeds(rt, setup.stations(), files) {
-        Ok(feeds) => feeds,
-        Err(fault) => {
-            drop(setup);
-            return Err(fault);
-        }
-    };
-    let store = open_if(rt, store, start, Begins::Record)?;
-    let closed = over_store(
-        rt,
-        threads,
-        setup,
-        store,
-        Work::Serve(feeds),
-        &mut Tally::new(),
-        input,
-        output,
-        &mut no_log(),
-        notes,
-    )?;
-    Ok(Ending::Done(closed))
 }
 
 /// Migrates the store, and prints `migrated`. Faults, in this order: those of the setup's file, and

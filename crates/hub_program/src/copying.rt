@@ -4,8 +4,8 @@ ghost use Rattle.std.specs.Prelude.{◌≡◌, IfOk, IsTrue};
 use crate::advice::{Advice, folder_of, on_target};
 use crate::fault::CommandFault;
 use crate::files::read_setup;
-use crate::judging::judged;
-use crate::store::{Begins, ClosedStore, OpenStore, open, other_setup};
+use crate::judging::judged_and_closed;
+use crate::store::{Begins, ClosedStore, OpenStore, open};
 use copy_core::{PourFault, opens_to, pour};
 use nest_core::Setup;
 use posting_core::Ledger;
@@ -62,30 +62,6 @@ pub fn copied<'a, S: Start, U: Start, W: Write>(
     match writeln!(output, "copied {count} {noun}") {
         Ok(()) => Ok(closed),
         Err(_) => Err(CommandFault::WriteFailed),
-    }
-}
-
-/// Judges the record of a store, and closes it. Returns the ledger, the store's two files, which
-/// stay locked, and the closed store.
-fn judged_and_closed<'a, D: Disk + Drop>(
-    rt: &HostRuntime,
-    setup: Setup,
-    mut store: OpenStore<'a, D>,
-) -> Result<(Ledger, Files<D>, ClosedStore<'a>), CommandFault>
-    ensures usable { IfOk result (λ r. IsTrue (D.Disk.is_usable r.1.db)) }
-    ensures named { IfOk result (λ r. r.2.path ≡ store.entry.path) }
-{
-    let Some(grown) = store.grown(rt, setup) else {
-        return Err(store.closed_with(rt, other_setup()));
-    };
-    let (register, judged) = judged(rt.alloc(), grown, store.register);
-    store.register = register;
-    match judged {
-        Ok(ledger) => {
-            let (files, closed) = store.into_files(rt)?;
-            Ok((ledger, files, closed))
-        }
-        Err(fault) => Err(store.closed_with(rt, CommandFault::from(fault))),
     }
 }
 

@@ -4,11 +4,12 @@ ghost use Rattle.nest_core.specs.Museum.{find_station};
 ghost use Rattle.hub_program.specs.Places.{kept_in};
 
 use crate::advice::{on_lost_line, on_station};
-use crate::desk_files::{open_log, read_labels};
+use crate::desk_files::{open_log, read_labels, refuse_log};
 use crate::ending::Ending;
 use crate::fault::CommandFault;
 use crate::files::read_setup;
 use crate::request::day_if;
+use crate::station::station_of;
 use crate::store::{Begins, open};
 use crate::work::{announce_new, over_store};
 use codes_core::Day;
@@ -18,7 +19,6 @@ use hub_core::Tally;
 use label_core::Labels;
 use nest_core::Setup;
 use sqlite::Start;
-use station_core::Refusal;
 use std::alloc::Global;
 use std::io::{BufRead, Write};
 use std::sync::Wait;
@@ -40,10 +40,10 @@ pub struct DeskWords<'a> {
 /// Takes the lines of the input at a desk, and writes the answers to the output. The note about a
 /// new store goes to `errors` before the first line is read.
 ///
-/// Faults, in this order: Day; those of the setup's file, and of the setup; those of the labels'
-/// file, and of the labels; Station, if the setup does not list the station; Log, if the log cannot
-/// be opened; those of opening the store; Station, if the station has signed off; those of taking
-/// the lines.
+/// Faults, in this order: Day; Log, if the log is one of the other files; those of the setup's
+/// file, and of the setup; those of the labels' file, and of the labels; Station, if the setup does
+/// not list the station; Log, if the log cannot be opened; those of opening the store; Station, if
+/// the station has signed off; those of taking the lines.
 pub fn at_desk<
     'a,
     T: Threads + Wait + Sync + Copy + Send + 'static,
@@ -64,6 +64,7 @@ pub fn at_desk<
     ensures { IfOk result (λ ending. kept_in ending ≡ Some wanted.entry.store.now) }
 {
     let day = day_if(rt.alloc(), wanted.day)?;
+    refuse_log(rt, wanted)?;
     let setup = read_setup(rt, rt.alloc(), wanted.setup)?;
     match read_labels(rt, &setup, wanted.labels) {
         Ok(labels) => take_lines(
@@ -141,19 +142,13 @@ fn bench_of<'b>(
     ensures bell { IfOk result (λ bench. bench.has_bell ≡ wanted.entry.bell) }
     ensures labels { IfOk result (λ bench. bench.labels.now ≡ labels.now) }
 {
-    match setup.station(wanted.station) {
-        Some(station) => Ok(Bench {
-            station,
-            has_bell: wanted.bell,
-            help: DESK_HELP,
-            labels,
-        }),
-        None => {
-            let refusal = Refusal::UnknownStation;
-            let advice = on_station(alloc, wanted.station, refusal);
-            Err(CommandFault::Station(refusal, advice))
-        }
-    }
+    let station = station_of(alloc, setup, wanted.station)?;
+    Ok(Bench {
+        station,
+        has_bell: wanted.bell,
+        help: DESK_HELP,
+        labels,
+    })
 }
 
 /// The fault, with the advice on the desk's own station, or on its log, if the fault is about it.

@@ -1,20 +1,39 @@
 //! The files of a desk: its log, and its labels.
+ghost use Rattle.std.specs.Prelude.{◌≡◌, None, IfOk, OnOk};
+ghost use Rattle.label_core.specs.LabelRows.{label_fault, labels_of};
+ghost use Rattle.sheet_core.specs.Sheets.{sheet_rows};
 
-use crate::advice::{on_encoding, on_labels, on_log};
-use crate::fault::CommandFault;
-use crate::files::read_file;
-use csv::{ByteRecord, ReaderBuilder};
+use crate::advice::{on_labels, on_log, on_sheet, on_taken_log};
+use crate::desk::DeskWords;
+use crate::fault::{CommandFault, SheetFile};
+use crate::files::{are_same, read_file};
 use label_core::{LabelFault, Labels};
-use nest_core::{Setup, field};
-use std::alloc::{AllocError, Global};
+use nest_core::Setup;
+use sheet_core::{SheetFault, read_sheet};
+use std::alloc::Global;
 use std::fs::{File, OpenFile, OpenOptions};
+use std::io;
 use std::io::Write;
 use std::os::unix::fs::FileExt;
-use std::{io, str};
 
 /// No log, for a command that writes none.
 pub fn no_log() -> Option<File> {
     None
+}
+
+/// Fails with Log if the log is one of the desk's other files: lines appended to it would spoil it.
+pub fn refuse_log(rt: &HostRuntime, wanted: DeskWords<'_>) -> Result<(), CommandFault> {
+    let Some(log) = wanted.log else {
+        return Ok(());
+    };
+    let store_log = format!(in rt.alloc(); "{}-wal", wanted.store)?;
+    let labels = wanted.labels.unwrap_or(wanted.setup);
+    for other in [wanted.setup, wanted.store, store_log.as_str(), labels] {
+        if are_same(rt, log, other) {
+            return Err(CommandFault::Log(on_taken_log(rt.alloc(), log, other)));
+        }
+    }
+    Ok(())
 }
 
 /// Opens the log, if one is named, so that lines are appended. Creates it if it does not exist. A
@@ -55,7 +74,7 @@ fn is_cut(log: &File) -> io::Result<bool> {
 }
 
 /// Returns the labels in a file, or none if no file is named. Faults, in this order: those of
-/// [`read_file`]; File, if the file is not UTF-8; Labels, for the first fault of the labels.
+/// [`read_file`]; Sheet, if the file is no table; Labels, for the first fault of the labels.
 /// NoMemory can come instead of any result.
 pub fn read_labels(
     rt: &HostRuntime,
@@ -72,47 +91,21 @@ pub fn read_labels(
 }
 
 /// The labels in the bytes of a file. The path is used only for the advice.
-fn labels_in(
-    alloc: Global,
-    setup: &Setup,
-    path: &str,
-    bytes: &[u8],
-) -> Result<Labels, CommandFault> {
-    let Ok(_) = str::from_utf8(bytes) else {
-        return Err(CommandFault::File(on_encoding(alloc, path)));
+fn labels_in(alloc: Global, setup: &Setup, path: &str, bytes: &[u8]) -> Result<Labels, CommandFault>
+    ensures labels { IfOk result (λ labels. labels ≡ labels_of (sheet_rows bytes.now)) }
+    ensures right { OnOk result (label_fault setup.now (sheet_rows bytes.now) ≡ None) }
+{
+    let rows = match read_sheet(alloc, bytes) {
+        Ok(rows) => rows,
+        Err(SheetFault::NoMemory) => return Err(CommandFault::NoMemory),
+        Err(fault) => {
+            let advice = on_sheet(alloc, path, fault);
+            return Err(CommandFault::Sheet(SheetFile::Labels, fault, advice));
+        }
     };
-    let rows = rows_of(alloc, bytes)?;
     match Labels::of_rows(alloc, setup, rows.as_slice()) {
         Ok(labels) => Ok(labels),
         Err(LabelFault::NoMemory) => Err(CommandFault::NoMemory),
-        Err(fault) => Err(CommandFault::Labels(fault, on_labels(alloc, path, bytes, fault))),
+        Err(fault) => Err(CommandFault::Labels(fault, on_labels(alloc, path, &rows, fault))),
     }
-}
-
-/// The rows of a CSV file.
-fn rows_of(alloc: Global, bytes: &[u8]) -> Result<Vec<Vec<String>>, AllocError> {
-    let mut reader = ReaderBuilder::new()
-        .has_headers(false)
-        .flexible(true)
-        .from_reader(alloc, bytes);
-    let mut row = ByteRecord::new(alloc);
-    let mut rows = Vec::new(alloc);
-    for _ in 0..u64::MAX {
-        match reader.read_byte_record(&mut row) {
-            Ok(true) => rows.push(texts_of(alloc, &row)?)?,
-            Ok(false) => return Ok(rows),
-            // Bytes in memory can always be read, so only memory can be lacking.
-            Err(_) => return Err(AllocError),
-        }
-    }
-    Err(AllocError)
-}
-
-/// The fields of a row.
-fn texts_of(alloc: Global, row: &ByteRecord) -> Result<Vec<String>, AllocError> {
-    let mut texts = Vec::new(alloc);
-    for at in 0..row.len() {
-        texts.push(String::from_str(alloc, str::from_utf8(field(row, at)).unwrap_or(""))?)?;
-    }
-    Ok(texts)
 }

@@ -2,19 +2,21 @@
 
 use crate::advice::Advice;
 use crate::growth_fault::{GrowthFault, write_growth_fault};
+use crate::list_fault::ListFault;
 use codes_core::{CodeFault, NoMemory};
-use count_core::CountFault;
 use hub_core::RunFault;
 use label_core::LabelFault;
 use nest_core::SetupFault;
 use register_store::StoreFault;
 use setup_reports::PrintFault;
+use sheet_core::SheetFault;
 use station_core::Refusal;
+use station_files::GapFault;
 use std::alloc::{AllocError, AllocFailed};
 use std::io;
 use std::io::Write;
+use visible_text::write_on_one_line;
 use work_core::WorkFault;
-use work_core::visible::write_on_one_line;
 
 /// Why a command stops.
 #[derive(Drop)]
@@ -35,8 +37,14 @@ pub enum CommandFault {
     Setup(SetupFault, Advice),
     /// Why the setup of the store can't grow by the file: each fault, in the order of the rows.
     Growth(Vec<GrowthFault>),
-    /// The first fault of the count list.
-    Counts(CountFault, Advice),
+    /// The faults of the count list: the first, or for a check all, in the order of the rows.
+    Counts(Vec<ListFault>),
+    /// The faults of a file, each with its lines.
+    Faults(String),
+    /// A station has no number to fill.
+    Gap(GapFault, Advice),
+    /// The file is not a table.
+    Sheet(SheetFile, SheetFault, Advice),
     /// The first fault of the labels.
     Labels(LabelFault, Advice),
     /// The store failed, or cannot be used with this setup.
@@ -58,6 +66,25 @@ pub enum CommandFault {
     /// No command is named, an argument that it needs is missing, or an argument or a variable is
     /// not UTF-8.
     Words(Advice),
+}
+
+/// A file that a command reads as a table.
+#[derive(Clone, Copy)]
+pub enum SheetFile {
+    /// The labels of a desk.
+    Labels,
+    /// The table that lines are made of.
+    Lines,
+}
+
+impl SheetFile {
+    /// Returns the file's name in a fault's line.
+    fn name(self) -> &'static str {
+        match self {
+            SheetFile::Labels => "labels",
+            SheetFile::Lines => "table",
+        }
+    }
 }
 
 impl From<NoMemory> for CommandFault {
@@ -147,12 +174,9 @@ impl CommandFault {
         }
     }
 
-    /// Writes the fault's line and, if there is advice, a `help:` line. Writes these two lines for
-    /// each fault of a file by which the setup can't grow.
+    /// Writes the fault's line and, if there is advice, a `help:` line. If all faults of a file are
+    /// known, writes these two lines for each.
     pub fn write<W: Write>(&self, errors: &mut W) -> io::Result<()> {
-        if let CommandFault::Growth(faults) = self {
-            return write_growth(errors, faults);
-        }
         self.write_line(errors)?;
         write_help(errors, self.advice())
     }
@@ -164,7 +188,8 @@ impl CommandFault {
             | CommandFault::File(advice)
             | CommandFault::Name(advice)
             | CommandFault::Setup(_, advice)
-            | CommandFault::Counts(_, advice)
+            | CommandFault::Sheet(_, _, advice)
+            | CommandFault::Gap(_, advice)
             | CommandFault::Labels(_, advice)
             | CommandFault::Store(_, advice)
             | CommandFault::Day(_, advice)
@@ -188,12 +213,12 @@ impl CommandFault {
             CommandFault::HeadTooLong => writeln!(errors, "fault head"),
             CommandFault::Setup(fault, _) => write_row(errors, "setup", fault.name(), fault.row()),
             CommandFault::Growth(faults) => write_growth(errors, faults),
-            CommandFault::Counts(fault, _) => write_row(
-                errors,
-                "counts",
-                fault.name(),
-                fault.row(),
-            ),
+            CommandFault::Counts(faults) => write_list(errors, faults),
+            CommandFault::Faults(lines) => errors.write_all(lines.as_bytes()),
+            CommandFault::Gap(fault, _) => write_gap(errors, *fault),
+            CommandFault::Sheet(file, fault, _) => {
+                write_row(errors, file.name(), fault.name(), None)
+            }
             CommandFault::Labels(fault, _) => write_row(
                 errors,
                 "labels",
@@ -230,6 +255,15 @@ fn write_growth<W: Write>(errors: &mut W, faults: &[GrowthFault]) -> io::Result<
     Ok(())
 }
 
+/// Writes the lines of the faults of a count list.
+fn write_list<W: Write>(errors: &mut W, faults: &[ListFault]) -> io::Result<()> {
+    for it in faults {
+        write_row(errors, "counts", it.fault.name(), it.fault.row())?;
+        write_help(errors, it.advice.as_deref())?;
+    }
+    Ok(())
+}
+
 /// Writes the advice, if there is any, as a `help:` line.
 fn write_help<W: Write>(errors: &mut W, advice: Option<&str>) -> io::Result<()> {
     match advice {
@@ -256,6 +290,16 @@ fn write_store<W: Write>(errors: &mut W, fault: StoreFault) -> io::Result<()> {
 /// Writes the line of a station whose messages would be refused.
 fn write_station<W: Write>(errors: &mut W, refusal: Refusal) -> io::Result<()> {
     writeln!(errors, "fault station {}", refusal.name())
+}
+
+/// Writes the line of a station that has no number to fill.
+fn write_gap<W: Write>(errors: &mut W, fault: GapFault) -> io::Result<()> {
+    match fault {
+        GapFault::SignedOff => writeln!(errors, "fault station SignedOff"),
+        GapFault::Full => writeln!(errors, "fault station Full"),
+        GapFault::KnownLoan => writeln!(errors, "fault station KnownLoan"),
+        GapFault::NoMemory => writeln!(errors, "fault memory"),
+    }
 }
 
 /// Writes the line of a faulty code or day.

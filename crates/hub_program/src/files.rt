@@ -2,14 +2,18 @@
 ghost use Rattle.std.specs.Prelude.{◌≡◌, vec_len, IfOk};
 ghost use Rattle.nest_core.specs.SetupRows.{museum_of, rows_of};
 
-use crate::advice::{on_counts, on_feeds, on_file, on_setup};
+use crate::advice::{folder_of, on_feeds, on_file};
 use crate::fault::CommandFault;
+use crate::list_fault::list_fault;
+use crate::row_advice::on_setup;
 use count_core::{CountFault, CountRow, read_counts};
+use input_marks::past_mark;
 use nest_core::{Setup, SetupFault};
 use serve_core::TextFeed;
 use std::alloc::Global;
 use std::fs;
-use std::io::ErrorKind;
+use std::io::{BufRead, ErrorKind};
+use std::os::unix::fs::MetadataExt;
 
 /// Returns the setup in a file. Faults, in this order: those of [`read_file`]; Setup, for the
 /// setup's first fault. NoMemory can come instead of any result.
@@ -41,14 +45,12 @@ pub fn read_list(
     match read_counts(alloc, bytes.as_slice()) {
         Ok(rows) => Ok(rows),
         Err(CountFault::NoMemory) => Err(CommandFault::NoMemory),
-        Err(fault) => {
-            let advice = on_counts(alloc, path, bytes.as_slice(), fault);
-            Err(CommandFault::Counts(fault, advice))
-        }
+        Err(fault) => Err(list_fault(alloc, path, bytes.as_slice(), &[fault])),
     }
 }
 
-/// Returns a feed for each station, in the order of the files. Faults, in this order: Feeds, if
+/// Returns a feed for each station, in the order of the files. A byte order mark before the first
+/// line of a file is dropped. Faults, in this order: Feeds, if
 /// there are more or fewer files than stations; those of [`read_file`]. NoMemory can come instead
 /// of any result.
 pub fn read_feeds(
@@ -63,9 +65,17 @@ pub fn read_feeds(
     }
     let mut feeds = Vec::new(rt.alloc());
     for file in files {
-        feeds.push(TextFeed::new(read_file(rt, file)?))?;
+        let bytes = read_file(rt, file)?;
+        feeds.push(TextFeed::new(without_mark(bytes)))?;
     }
     Ok(feeds)
+}
+
+/// The bytes without the byte order mark at their start, if there is one.
+fn without_mark(mut bytes: Vec<u8>) -> Vec<u8> {
+    let marked = bytes.len().saturating_sub(past_mark(&bytes).len());
+    drop(bytes.drain(..marked));
+    bytes
 }
 
 /// Returns the bytes of a file. Faults: File, if it cannot be read; NoMemory.
@@ -74,5 +84,51 @@ pub fn read_file(rt: &HostRuntime, path: &str) -> Result<Vec<u8>, CommandFault> 
         Ok(bytes) => Ok(bytes),
         Err(error) if error.kind() == ErrorKind::OutOfMemory => Err(CommandFault::NoMemory),
         Err(error) => Err(CommandFault::File(on_file(rt.alloc(), path, error.kind()))),
+    }
+}
+
+/// Returns the bytes of a file, or those of the input if the path is `-`. Faults: File or
+/// ReadFailed, if they cannot be read; NoMemory.
+pub fn read_named<R: BufRead>(
+    rt: &HostRuntime,
+    path: &str,
+    input: &mut R,
+) -> Result<Vec<u8>, CommandFault> {
+    if path != "-" {
+        return read_file(rt, path);
+    }
+    let mut bytes = Vec::new(rt.alloc());
+    match input.read_to_end(&mut bytes) {
+        Ok(_) => Ok(bytes),
+        Err(error) if error.kind() == ErrorKind::OutOfMemory => Err(CommandFault::NoMemory),
+        Err(_) => Err(CommandFault::ReadFailed),
+    }
+}
+
+/// Returns whether the two paths name the same file. If neither exists, whether they would.
+pub fn are_same(rt: &HostRuntime, path: &str, other: &str) -> bool {
+    match (identity_of(rt, path), identity_of(rt, other)) {
+        (None, None) => {
+            let folder = identity_of(rt, folder_of(path));
+            folder.is_some()
+                && folder == identity_of(rt, folder_of(other))
+                && name_of(path) == name_of(other)
+        }
+        (found, others) => found == others,
+    }
+}
+
+/// The numbers of the device and of the file on it. None if there is no file, or if it can't be
+/// found out.
+fn identity_of(rt: &HostRuntime, path: &str) -> Option<(u64, u64)> {
+    let found = fs::metadata(rt, path).ok()?;
+    Some((found.dev(), found.ino()))
+}
+
+/// The name of a file in its folder.
+fn name_of(path: &str) -> &str {
+    match path.rsplit_once('/') {
+        Some((_, name)) => name,
+        None => path,
     }
 }

@@ -10,8 +10,9 @@ ghost use Rattle.sqlite.specs.Held.{state};
 
 use crate::fault::CommandFault;
 use crate::files::read_file;
-use crate::growth_fault::explained;
+use crate::growth_fault::growth_fault;
 use crate::judging::judged;
+use crate::row_advice::Beside;
 use crate::store::{Begins, ClosedStore, OpenStore, open};
 use nest_core::{GrowFault, Setup, SetupFault};
 use posting_core::Ledger;
@@ -169,7 +170,7 @@ fn add_rows<S: Alter>(
     let grown = match before.grown(further.copy()?, ledger.entry_count()) {
         Ok(grown) => grown,
         Err(GrowFault::Setup(SetupFault::NoMemory)) => return Err(CommandFault::NoMemory),
-        Err(fault) => return Err(growth_fault(alloc, file, bytes, &[fault])),
+        Err(fault) => return Err(growth_fault(alloc, file, bytes, &[fault], Beside::Record)),
     };
     if !check {
         register.grow(alloc, &grown)?;
@@ -190,15 +191,7 @@ fn setup_with(
 {
     let further = before.with_file(alloc, bytes)?;
     if !further.faults.is_empty() {
-        return Err(growth_fault(alloc, file, bytes, &further.faults));
+        return Err(growth_fault(alloc, file, bytes, &further.faults, Beside::Record));
     }
     Ok(further.setup)
-}
-
-/// The faults of a file by which the setup can't grow.
-fn growth_fault(alloc: Global, file: &str, bytes: &[u8], faults: &[GrowFault]) -> CommandFault {
-    match explained(alloc, file, bytes, faults) {
-        Ok(faults) => CommandFault::Growth(faults),
-        Err(_) => CommandFault::NoMemory,
-    }
 }

@@ -1,29 +1,47 @@
-//! Why the setup of a store can't grow by a file.
+//! All faults of a setup file.
 
-use crate::advice::{Advice, FileRows, on_growth};
+use crate::advice::Advice;
+use crate::fault::CommandFault;
+use crate::row_advice::{Beside, FileRows, on_growth};
 use nest_core::{GrowFault, SetupFault};
 use std::alloc::{AllocError, Global};
 use std::io;
 use std::io::Write;
 
-/// A fault of a file by which a setup can't grow.
+/// A fault of a file from which a setup is read, or by which one grows.
 #[derive(Drop)]
 pub struct GrowthFault {
     pub fault: GrowFault,
     pub advice: Advice,
 }
 
-/// Returns these faults of a file, each with the advice on it. They are in the order of their rows.
-pub fn explained(
+/// Returns the fault of a file with these faults, in the order of their rows. The path and the
+/// bytes are used only for the advice.
+pub fn growth_fault(
     alloc: Global,
     path: &str,
     bytes: &[u8],
     faults: &[GrowFault],
+    beside: Beside,
+) -> CommandFault {
+    match explained(alloc, path, bytes, faults, beside) {
+        Ok(faults) => CommandFault::Growth(faults),
+        Err(_) => CommandFault::NoMemory,
+    }
+}
+
+/// These faults of a file, each with the advice on it.
+fn explained(
+    alloc: Global,
+    path: &str,
+    bytes: &[u8],
+    faults: &[GrowFault],
+    beside: Beside,
 ) -> Result<Vec<GrowthFault>, AllocError> {
     let mut rows = FileRows::of(alloc, bytes);
     let mut explained = Vec::new(alloc);
     for fault in faults {
-        let advice = on_growth(alloc, path, &mut rows, *fault);
+        let advice = on_growth(alloc, path, &mut rows, *fault, beside);
         explained.push(GrowthFault {
             fault: *fault,
             advice,

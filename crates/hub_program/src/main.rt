@@ -19,6 +19,8 @@
 #![tactic(auto)]
 
 mod advice;
+mod auditing;
+mod checking;
 mod command;
 mod copying;
 mod desk;
@@ -27,14 +29,23 @@ mod ending;
 mod explain;
 mod fault;
 mod files;
+mod gap;
 mod growing;
 mod growth_fault;
 mod help;
 mod judging;
 mod lines;
+mod list_fault;
+mod numbers;
 mod progress;
+mod reporting;
 mod request;
+mod resending;
+mod row_advice;
+mod serving;
+mod station;
 mod store;
+mod tables;
 mod terminal;
 mod usage;
 mod variables;

@@ -95,6 +95,19 @@ pub fn open_if<'a, S: Start>(
     }
 }
 
+/// Closes the store after a fault, if there is one. Returns the fault that the command ends with,
+/// as [`OpenStore::closed_with`] does.
+pub fn closed_if<D: Disk + Drop>(
+    rt: &HostRuntime,
+    store: Option<OpenStore<'_, D>>,
+    fault: CommandFault,
+) -> CommandFault {
+    match store {
+        None => fault,
+        Some(store) => store.closed_with(rt, fault),
+    }
+}
+
 /// Opens the store in a file.
 ///
 /// Faults, in this order:

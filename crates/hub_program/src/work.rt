@@ -19,7 +19,7 @@ use std::io;
 use std::io::{BufRead, Write};
 use std::sync::Wait;
 use std::thread::Threads;
-use work_core::visible::{add_on_one_line, write_on_one_line};
+use visible_text::{add_on_one_line, write_on_one_line};
 use work_core::{Work, WorkFault, do_work};
 
 /// Does the work on the record in the open store, and closes the store. The record's setup is this

@@ -34,7 +34,6 @@ mod notes;
 mod printing;
 mod replaying;
 mod serving;
-pub mod visible;
 mod work;
 
 pub use fault::WorkFault;

@@ -16,9 +16,29 @@ pub returns-in-Desk : goal.returns-in-Desk
 unfolding app_by register_app report_app
 returns-in-Desk c = ap (λ (n : Name). (app_by n).top.name) (sym c.in-Desk.is)
 
+pub returns-in-Lines : goal.returns-in-Lines
+unfolding app_by register_app report_app
+returns-in-Lines c = ap (λ (n : Name). (app_by n).top.name) (sym c.in-Lines.is)
+
+pub returns-in-Check : goal.returns-in-Check
+unfolding app_by register_app report_app
+returns-in-Check c = ap (λ (n : Name). (app_by n).top.name) (sym c.in-Check.is)
+
+pub returns-in-Gap : goal.returns-in-Gap
+unfolding app_by register_app report_app
+returns-in-Gap c = ap (λ (n : Name). (app_by n).top.name) (sym c.in-Gap.is)
+
+pub returns-in-Resend : goal.returns-in-Resend
+unfolding app_by register_app report_app
+returns-in-Resend c = ap (λ (n : Name). (app_by n).top.name) (sym c.in-Resend.is)
+
 pub returns-in-Count : goal.returns-in-Count
 unfolding app_by register_app report_app
 returns-in-Count c = ap (λ (n : Name). (app_by n).top.name) (sym c.in-Count.is)
+
+pub returns-in-Audit : goal.returns-in-Audit
+unfolding app_by register_app report_app
+returns-in-Audit c = ap (λ (n : Name). (app_by n).top.name) (sym c.in-Audit.is)
 
 pub returns-in-Overdue : goal.returns-in-Overdue
 unfolding app_by register_app report_app

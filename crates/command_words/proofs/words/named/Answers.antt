@@ -37,6 +37,50 @@ returns-in-Desk c =
     chooses_by c.args.name _ (texts_of c.args.words.now) _ c.requires
     c.in-Desk.is c.desk.ensures
 
+pub lines-requires : goal.lines-requires
+unfolding form_by register_app report_app
+lines-requires c =
+    named_by c.args.name _ (texts_of c.args.words.now) c.requires c.in-Lines.is
+
+pub returns-in-Lines : goal.returns-in-Lines
+unfolding form_by
+returns-in-Lines c =
+    chooses_by c.args.name _ (texts_of c.args.words.now) _ c.requires
+    c.in-Lines.is c.lines.ensures
+
+pub check-requires : goal.check-requires
+unfolding form_by register_app report_app
+check-requires c =
+    named_by c.args.name _ (texts_of c.args.words.now) c.requires c.in-Check.is
+
+pub returns-in-Check : goal.returns-in-Check
+unfolding form_by
+returns-in-Check c =
+    chooses_by c.args.name _ (texts_of c.args.words.now) _ c.requires
+    c.in-Check.is c.check.ensures
+
+pub gap-requires : goal.gap-requires
+unfolding form_by register_app report_app
+gap-requires c =
+    named_by c.args.name _ (texts_of c.args.words.now) c.requires c.in-Gap.is
+
+pub returns-in-Gap : goal.returns-in-Gap
+unfolding form_by
+returns-in-Gap c =
+    chooses_by c.args.name _ (texts_of c.args.words.now) _ c.requires
+    c.in-Gap.is c.gap.ensures
+
+pub resend-requires : goal.resend-requires
+unfolding form_by register_app report_app
+resend-requires c =
+    named_by c.args.name _ (texts_of c.args.words.now) c.requires c.in-Resend.is
+
+pub returns-in-Resend : goal.returns-in-Resend
+unfolding form_by
+returns-in-Resend c =
+    chooses_by c.args.name _ (texts_of c.args.words.now) _ c.requires
+    c.in-Resend.is c.resend.ensures
+
 pub count-requires : goal.count-requires
 unfolding form_by register_app report_app
 count-requires c =
@@ -47,6 +91,17 @@ unfolding form_by
 returns-in-Count c =
     chooses_by c.args.name _ (texts_of c.args.words.now) _ c.requires
     c.in-Count.is c.count.ensures
+
+pub audit-requires : goal.audit-requires
+unfolding form_by register_app report_app
+audit-requires c =
+    named_by c.args.name _ (texts_of c.args.words.now) c.requires c.in-Audit.is
+
+pub returns-in-Audit : goal.returns-in-Audit
+unfolding form_by
+returns-in-Audit c =
+    chooses_by c.args.name _ (texts_of c.args.words.now) _ c.requires
+    c.in-Audit.is c.audit.ensures
 
 pub overdue-requires : goal.overdue-requires
 unfolding form_by register_app report_app

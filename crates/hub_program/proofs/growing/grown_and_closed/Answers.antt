@@ -1,7 +1,7 @@
 use Rattle.std.proofs.Common.{◌≡◌, IfOk, ap, subst, sym, ◌∙◌}
 use Rattle.sqlite.specs.Files.{file_state}
 use Rattle.register_sql.specs.Stores.{in_store}
-use Rattle.hub_program.specs.Growths.{IsJudged}
+use Rattle.hub_program.specs.Judging.{IsJudged}
 use Rattle.hub_program.proofs.growing.grown_and_closed.Goals as goal
 
 pub returns-in_ok-closed-in-Ok-added-clause-grown

@@ -6,7 +6,8 @@ use Rattle.nest_core.specs.Museum.{Museum}
 use Rattle.register_store.specs.Holdings.{Holding}
 use Rattle.work_core.specs.Works.{Did, FitsStations}
 use Rattle.work_core.specs.declared.work.Work.{Work}
-use Rattle.hub_program.specs.Places.{desk_asks, grown_by}
+use Rattle.hub_program.specs.Places.{grown_by}
+use Rattle.question_words.specs.Desk.{DeskAsks}
 use Rattle.hub_program.proofs.work.in_file.Goals as goal
 
 at_ok : {T E P : Type 0} (r : Result T E) (x : T) → r ≡ Ok x → OnOk r P → P
@@ -22,12 +23,12 @@ do_work-register-requires-after_bounds g c =
 
 did_as : {R : Type 0} {holding : R → Holding} {S T : Museum} {before other after : R} {work : Work}
     {had_seen has_seen : List Outcome → Type 0} {i i' o o' l l' : Option (List ℕ)} → S ≡ T
-    → before ≡ other → Did desk_asks holding S before after work had_seen has_seen i i' o o' l l'
-    → Did desk_asks holding T other after work had_seen has_seen i i' o o' l l'
+    → before ≡ other → Did DeskAsks holding S before after work had_seen has_seen i i' o o' l l'
+    → Did DeskAsks holding T other after work had_seen has_seen i i' o o' l l'
 did_as {R} {holding} {S} {T} {before} {other} {after} {work} {had_seen} {has_seen} {i} {i'} {o}
     {o'} {l} {l'} setup register did =
-    subst (λ M. Did desk_asks holding M other after work had_seen has_seen i i' o o' l l') setup
-    (subst (λ r. Did desk_asks holding S r after work had_seen has_seen i i' o o' l l') register
+    subst (λ M. Did DeskAsks holding M other after work had_seen has_seen i i' o o' l l') setup
+    (subst (λ r. Did DeskAsks holding S r after work had_seen has_seen i i' o o' l l') register
     did)
 
 pub returns-in-Ok-clause-done : goal.returns-in-Ok-clause-done
