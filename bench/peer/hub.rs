@@ -1,6 +1,7 @@
 //! The hub: what is said to each line.
 use crate::codes::is_thing;
-use crate::json::{Tape, Value};
+use crate::fields::{self, Field};
+use crate::json::Tape;
 use crate::ledger::Ledger;
 use crate::message::{text, Fault, Message, Named};
 use crate::numbers::Numbers;
@@ -70,23 +71,16 @@ fn read_line<'a>(
     if line.len() > LONGEST_LINE {
         return Err(Fault("TooLong", ""));
     }
-    let Some(Value::Object(members)) = tape.read(line) else {
+    let Some(fields) = fields::read(tape, line) else {
         return Err(Fault("NotJson", ""));
     };
-    let station = text(members, "station", |_| true)?;
-    if members.get("ask").is_some() {
-        return Ok((station, Request::Ask(text(members, "ask", is_thing)?)));
+    let station = text(fields.station, "station", |_| true)?;
+    if !matches!(fields.ask, Field::Missing) {
+        return Ok((station, Request::Ask(text(fields.ask, "ask", is_thing)?)));
     }
-    let n = match members.get("n") {
-        None => return Err(Fault("Missing ", "n")),
-        Some(Value::Whole(n)) => n,
-        Some(_) => return Err(Fault("BadField ", "n")),
-    };
-    match members.get("message") {
-        None => Err(Fault("Missing ", "message")),
-        Some(Value::Object(members)) => Ok((station, Request::Scan(n, named.message(members)?))),
-        Some(_) => Err(Fault("BadField ", "message")),
-    }
+    let n = fields.n.value("n")?;
+    let members = fields.message.value("message")?;
+    Ok((station, Request::Scan(n, named.message(members)?)))
 }
 
 impl Hub {

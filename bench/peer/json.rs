@@ -1,4 +1,6 @@
 //! A small exact reader of JSON (RFC 8259) onto a tape, which serves one line after the other.
+use crate::cursor::Cursor;
+
 /// The most arrays and objects within each other.
 const DEEPEST: usize = 127;
 
@@ -90,19 +92,15 @@ impl<'a> Part<'a> {
 impl Tape {
     /// What a line spells, or None where it is no JSON.
     pub fn read<'a>(&'a mut self, line: &'a [u8]) -> Option<Value<'a>> {
-        let line = std::str::from_utf8(line).ok()?;
         self.nodes.clear();
         self.decoded.clear();
         let mut reader = Reader {
-            line,
-            at: 0,
+            cursor: Cursor::new(line)?,
             tape: self,
         };
         reader.value(0)?;
-        reader.space();
-        if reader.at < line.len() {
-            return None;
-        }
+        reader.cursor.end()?;
+        let line = reader.cursor.line;
         let all = Part {
             tape: self,
             line,
@@ -114,39 +112,27 @@ impl Tape {
 }
 
 struct Reader<'a, 't> {
-    line: &'a str,
-    at: usize,
+    cursor: Cursor<'a>,
     tape: &'t mut Tape,
 }
 
 impl Reader<'_, '_> {
-    fn peek(&self) -> Option<u8> {
-        self.line.as_bytes().get(self.at).copied()
-    }
-
-    fn space(&mut self) {
-        while matches!(self.peek(), Some(b' ' | b'\t' | b'\n' | b'\r')) {
-            self.at += 1;
-        }
-    }
-
-    /// Takes the byte, where it comes next after space.
-    fn takes(&mut self, byte: u8) -> bool {
-        self.space();
-        let is_next = self.peek() == Some(byte);
-        self.at += usize::from(is_next);
-        is_next
-    }
-
     fn word(&mut self, word: &[u8]) -> Option<()> {
-        let is_next = self.line.as_bytes()[self.at..].starts_with(word);
-        self.at += word.len();
+        let is_next = self.cursor.line.as_bytes()[self.cursor.at..].starts_with(word);
+        self.cursor.at += word.len();
         is_next.then_some(())
     }
 
+    /// Takes the next byte if it is one of these.
+    fn skip(&mut self, bytes: &[u8]) -> bool {
+        let is_next = self.cursor.peek().is_some_and(|byte| bytes.contains(&byte));
+        self.cursor.at += usize::from(is_next);
+        is_next
+    }
+
     fn value(&mut self, depth: usize) -> Option<()> {
-        self.space();
-        let node = match self.peek()? {
+        self.cursor.space();
+        let node = match self.cursor.peek()? {
             b'{' => return self.object(depth + 1),
             b'[' => return self.list(depth + 1),
             b'"' => return self.string(),
@@ -161,23 +147,15 @@ impl Reader<'_, '_> {
 
     fn object(&mut self, depth: usize) -> Option<()> {
         let start = self.begin(depth)?;
-        if !self.takes(b'}') {
+        if !self.cursor.takes(b'}') {
             loop {
-                self.space();
-                if self.peek()? != b'"' {
-                    return None;
-                }
                 self.string()?;
-                if !self.takes(b':') {
-                    return None;
-                }
+                self.cursor.expect(b':')?;
                 self.value(depth)?;
-                if self.takes(b'}') {
+                if self.cursor.takes(b'}') {
                     break;
                 }
-                if !self.takes(b',') {
-                    return None;
-                }
+                self.cursor.expect(b',')?;
             }
         }
         self.tape.nodes[start] = Node::Object(self.tape.nodes.len());
@@ -186,15 +164,13 @@ impl Reader<'_, '_> {
 
     fn list(&mut self, depth: usize) -> Option<()> {
         let start = self.begin(depth)?;
-        if !self.takes(b']') {
+        if !self.cursor.takes(b']') {
             loop {
                 self.value(depth)?;
-                if self.takes(b']') {
+                if self.cursor.takes(b']') {
                     break;
                 }
-                if !self.takes(b',') {
-                    return None;
-                }
+                self.cursor.expect(b',')?;
             }
         }
         self.tape.nodes[start] = Node::List(self.tape.nodes.len());
@@ -206,17 +182,17 @@ impl Reader<'_, '_> {
         if depth > DEEPEST {
             return None;
         }
-        self.at += 1;
+        self.cursor.at += 1;
         self.tape.nodes.push(Node::Other);
         Some(self.tape.nodes.len() - 1)
     }
 
     fn string(&mut self) -> Option<()> {
-        self.at += 1;
-        let start = self.at;
+        self.cursor.expect(b'"')?;
+        let start = self.cursor.at;
         let end = self.plain()?;
         if end == b'"' {
-            self.tape.nodes.push(Node::Text(start, self.at - 1));
+            self.tape.nodes.push(Node::Text(start, self.cursor.at - 1));
             return Some(());
         }
         self.decoded(start, end)
@@ -224,11 +200,11 @@ impl Reader<'_, '_> {
 
     /// Goes over plain bytes, and takes the one that ends them: a quote, a backslash or a control character.
     fn plain(&mut self) -> Option<u8> {
-        let rest = &self.line.as_bytes()[self.at..];
+        let rest = &self.cursor.line.as_bytes()[self.cursor.at..];
         let length = rest
             .iter()
             .position(|byte| matches!(byte, b'"' | b'\\' | 0..=31))?;
-        self.at += length + 1;
+        self.cursor.at += length + 1;
         Some(rest[length])
     }
 
@@ -236,7 +212,8 @@ impl Reader<'_, '_> {
     fn decoded(&mut self, start: usize, end: u8) -> Option<()> {
         let (mut start, mut end, first) = (start, end, self.tape.decoded.len());
         loop {
-            self.tape.decoded.push_str(&self.line[start..self.at - 1]);
+            let text = &self.cursor.line[start..self.cursor.at - 1];
+            self.tape.decoded.push_str(text);
             match end {
                 b'"' => break,
                 b'\\' => {
@@ -245,7 +222,7 @@ impl Reader<'_, '_> {
                 }
                 _ => return None,
             }
-            start = self.at;
+            start = self.cursor.at;
             end = self.plain()?;
         }
         self.tape
@@ -255,8 +232,8 @@ impl Reader<'_, '_> {
     }
 
     fn escape(&mut self) -> Option<char> {
-        let byte = self.peek()?;
-        self.at += 1;
+        let byte = self.cursor.peek()?;
+        self.cursor.at += 1;
         Some(match byte {
             b'"' | b'\\' | b'/' => byte as char,
             b'b' => '\x08',
@@ -286,38 +263,26 @@ impl Reader<'_, '_> {
     fn four_digits(&mut self) -> Option<u32> {
         let mut number = 0;
         for _ in 0..4 {
-            number = number * 16 + (self.peek()? as char).to_digit(16)?;
-            self.at += 1;
+            number = number * 16 + (self.cursor.peek()? as char).to_digit(16)?;
+            self.cursor.at += 1;
         }
         Some(number)
     }
 
-    fn digits(&mut self) -> Option<()> {
-        let start = self.at;
-        while matches!(self.peek(), Some(b'0'..=b'9')) {
-            self.at += 1;
-        }
-        (self.at > start).then_some(())
-    }
-
     fn number(&mut self) -> Option<Node> {
-        let start = self.at;
-        self.at += usize::from(self.peek() == Some(b'-'));
-        if self.peek() == Some(b'0') {
-            self.at += 1;
-        } else {
-            self.digits()?;
+        let start = self.cursor.at;
+        self.skip(b"-");
+        if !self.skip(b"0") {
+            self.cursor.digits()?;
         }
-        if self.peek() == Some(b'.') {
-            self.at += 1;
-            self.digits()?;
+        if self.skip(b".") {
+            self.cursor.digits()?;
         }
-        if matches!(self.peek(), Some(b'e' | b'E')) {
-            self.at += 1;
-            self.at += usize::from(matches!(self.peek(), Some(b'+' | b'-')));
-            self.digits()?;
+        if self.skip(b"eE") {
+            self.skip(b"+-");
+            self.cursor.digits()?;
         }
-        let text = &self.line[start..self.at];
+        let text = &self.cursor.line[start..self.cursor.at];
         match text.parse() {
             Ok(whole) => Some(Node::Whole(whole)),
             // a number beyond those of floating point is none

@@ -3,6 +3,8 @@
 //! count list it writes the report on it after the session, and on standard error the seconds that the check took.
 mod codes;
 mod count;
+mod cursor;
+mod fields;
 mod hub;
 mod json;
 mod ledger;

@@ -1,6 +1,6 @@
 //! The nine kinds of message, and how they are read: what they name is kept once, under a number.
 use crate::codes::{day, is_loan, is_name, is_place, is_thing};
-use crate::json::{Part, Value};
+use crate::fields::{Field, Members};
 use crate::numbers::Numbers;
 
 /// Like a row it is kept whole, also what no reply tells.
@@ -67,107 +67,100 @@ pub struct Named {
 /// What is wrong with a line, and its key, which is empty where it has none.
 pub struct Fault(pub &'static str, pub &'static str);
 
-/// The text under a key, where it has this shape.
+/// The text of a field, where it has this shape.
 pub fn text<'a>(
-    part: Part<'a>,
+    field: Field<&'a str>,
     key: &'static str,
     fits: fn(&str) -> bool,
 ) -> Result<&'a str, Fault> {
-    match part.get(key) {
-        None => Err(Fault("Missing ", key)),
-        Some(Value::Text(text)) if fits(text) => Ok(text),
-        Some(_) => Err(Fault("BadField ", key)),
+    let text = field.value(key)?;
+    if fits(text) {
+        Ok(text)
+    } else {
+        Err(Fault("BadField ", key))
     }
 }
 
-fn day_at(part: Part, key: &'static str) -> Result<u32, Fault> {
-    day(text(part, key, |_| true)?).ok_or(Fault("BadField ", key))
+fn day_at(field: Field<&str>, key: &'static str) -> Result<u32, Fault> {
+    day(field.value(key)?).ok_or(Fault("BadField ", key))
 }
 
 impl Named {
-    fn thing(&mut self, part: Part, key: &'static str) -> Result<u32, Fault> {
-        Ok(self.things.number(text(part, key, is_thing)?))
+    fn thing(&mut self, field: Field<&str>, key: &'static str) -> Result<u32, Fault> {
+        Ok(self.things.number(text(field, key, is_thing)?))
     }
 
-    fn place(&mut self, part: Part, key: &'static str) -> Result<u32, Fault> {
-        Ok(self.places.number(text(part, key, is_place)?))
+    fn place(&mut self, field: Field<&str>, key: &'static str) -> Result<u32, Fault> {
+        Ok(self.places.number(text(field, key, is_place)?))
     }
 
-    fn loan(&mut self, part: Part) -> Result<u32, Fault> {
-        Ok(self.loans.number(text(part, "loan", is_loan)?))
+    fn loan(&mut self, field: Field<&str>) -> Result<u32, Fault> {
+        Ok(self.loans.number(text(field, "loan", is_loan)?))
     }
 
-    fn by(&mut self, part: Part) -> Result<u32, Fault> {
-        Ok(self.names.number(text(part, "by", is_name)?))
+    fn by(&mut self, field: Field<&str>) -> Result<u32, Fault> {
+        Ok(self.names.number(text(field, "by", is_name)?))
     }
 
-    fn objects(&mut self, part: Part) -> Result<Vec<u32>, Fault> {
-        let bad = Fault("BadField ", "objects");
-        let Value::List(items) = part.get("objects").ok_or(Fault("Missing ", "objects"))? else {
-            return Err(bad);
-        };
-        let mut objects = Vec::new();
-        for item in items.items() {
-            match item {
-                Value::Text(text) if is_thing(text) && objects.len() < 256 => {
-                    objects.push(self.things.number(text));
-                }
-                _ => return Err(bad),
-            }
+    fn objects(&mut self, field: Field<Vec<&str>>) -> Result<Vec<u32>, Fault> {
+        let codes = field.value("objects")?;
+        if codes.len() > 256 || !codes.iter().all(|code| is_thing(code)) {
+            return Err(Fault("BadField ", "objects"));
         }
-        Ok(objects)
+        Ok(codes.iter().map(|code| self.things.number(code)).collect())
     }
 
-    /// The message of these members, else their first fault: fields are read in the order in which they stand here.
-    pub fn message(&mut self, part: Part) -> Result<Message, Fault> {
-        let kind = match part.get("kind") {
-            None => return Err(Fault("Missing ", "kind")),
-            Some(Value::Text(kind)) => kind,
-            Some(_) => return Err(Fault("BadKind", "")),
+    /// The message of these fields, otherwise their first fault, in the order of the fields here.
+    pub fn message(&mut self, fields: Members) -> Result<Message, Fault> {
+        let kind = match fields.kind {
+            Field::Wrong => return Err(Fault("BadKind", "")),
+            kind => kind.value("kind")?,
         };
         Ok(match kind {
             "move" => Message::Move {
-                thing: self.thing(part, "thing")?,
-                place: self.place(part, "place")?,
-                day: day_at(part, "day")?,
+                thing: self.thing(fields.thing, "thing")?,
+                place: self.place(fields.place, "place")?,
+                day: day_at(fields.day, "day")?,
             },
             "pack" => Message::Pack {
-                thing: self.thing(part, "thing")?,
-                container: self.thing(part, "container")?,
-                day: day_at(part, "day")?,
+                thing: self.thing(fields.thing, "thing")?,
+                container: self.thing(fields.container, "container")?,
+                day: day_at(fields.day, "day")?,
             },
             "agree" => Message::Agree(Box::new(Agreement {
-                loan: self.loan(part)?,
-                partner: self.place(part, "partner")?,
-                objects: self.objects(part)?,
-                first: day_at(part, "first")?,
-                last: day_at(part, "last")?,
+                loan: self.loan(fields.loan)?,
+                partner: self.place(fields.partner, "partner")?,
+                objects: self.objects(fields.objects)?,
+                first: day_at(fields.first, "first")?,
+                last: day_at(fields.last, "last")?,
             })),
             "authorise" => Message::Authorise {
-                loan: self.loan(part)?,
-                by: self.by(part)?,
+                loan: self.loan(fields.loan)?,
+                by: self.by(fields.by)?,
             },
             "exit" => Message::Exit {
-                thing: self.thing(part, "thing")?,
-                loan: self.loan(part)?,
-                day: day_at(part, "day")?,
+                thing: self.thing(fields.thing, "thing")?,
+                loan: self.loan(fields.loan)?,
+                day: day_at(fields.day, "day")?,
             },
             "return" => Message::Return {
-                thing: self.thing(part, "thing")?,
-                loan: self.loan(part)?,
-                place: self.place(part, "place")?,
-                day: day_at(part, "day")?,
+                thing: self.thing(fields.thing, "thing")?,
+                loan: self.loan(fields.loan)?,
+                place: self.place(fields.place, "place")?,
+                day: day_at(fields.day, "day")?,
             },
             "receive" => Message::Receive {
-                thing: self.thing(part, "thing")?,
-                loan: self.loan(part)?,
-                place: self.place(part, "place")?,
-                day: day_at(part, "day")?,
+                thing: self.thing(fields.thing, "thing")?,
+                loan: self.loan(fields.loan)?,
+                place: self.place(fields.place, "place")?,
+                day: day_at(fields.day, "day")?,
             },
-            "signoff" => Message::SignOff { by: self.by(part)? },
+            "signoff" => Message::SignOff {
+                by: self.by(fields.by)?,
+            },
             "extend" => Message::Extend {
-                loan: self.loan(part)?,
-                last: day_at(part, "last")?,
+                loan: self.loan(fields.loan)?,
+                last: day_at(fields.last, "last")?,
             },
             _ => return Err(Fault("BadKind", "")),
         })
