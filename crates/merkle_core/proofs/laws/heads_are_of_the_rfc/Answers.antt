@@ -1,0 +1,13 @@
+use Rattle.merkle_core.specs.Hashes.{leaf_hash}
+use Rattle.merkle_core.proofs.Equations.{tree_head-halves}
+use Rattle.merkle_core.proofs.Heads.{head_of-nil, head_of-one}
+use Rattle.merkle_core.proofs.laws.heads_are_of_the_rfc.Goals as goal
+
+pub returns-clause-none : goal.returns-clause-none
+returns-clause-none c = head_of-nil
+
+pub returns-clause-one : goal.returns-clause-one
+returns-clause-one c = λ leaf. head_of-one (leaf_hash leaf)
+
+pub returns-clause-more : goal.returns-clause-more
+returns-clause-more c = tree_head-halves

@@ -1,0 +1,14 @@
+-- What a head builder holds.
+use Rattle.std.specs.Prelude.{◌≡◌, ℕ, List, length, map}
+use Rattle.merkle_core.specs.Hashes.{leaf_hash}
+use Rattle.merkle_core.specs.Peaks.{ArePeaks}
+use Rattle.merkle_core.specs.declared.builder.HeadBuilder.{HeadBuilder}
+
+-- The number of leaves that a builder was given.
+abbrev pub leaf_count : HeadBuilder → ℕ
+leaf_count builder = builder.count
+
+-- The builder was given these leaves.
+unfoldable pub Holds : HeadBuilder → List (List ℕ) → Type 0
+Holds builder leaves = (builder.count ≡ length leaves)
+    × ArePeaks 0 builder.count builder.peaks (map leaf_hash leaves)

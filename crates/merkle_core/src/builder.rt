@@ -1,0 +1,103 @@
+//! A builder that takes the leaves of a tree one after another.
+ghost use Rattle.std.specs.Prelude.{◌≡◌, ◌<◌, ◌+◌, ◌^◌, ◌++◌, ℕ, List, length};
+ghost use Rattle.merkle_core.specs.Trees.{head_of};
+ghost use Rattle.merkle_core.specs.Peaks.{ArePeaks, head_with};
+
+use crate::hashes::{empty_head, leaf_hash, node_hash};
+
+/// The most digits that a count of leaves has.
+const LEVELS: usize = 64;
+
+/// Makes the head of a tree from its leaves, one after another, without keeping them. Takes no
+/// memory but its own 2,056 bytes, and for each leaf the time of two hashes on average.
+#[derive(Drop)]
+pub struct HeadBuilder {
+    /// The heads of full trees of 1, 2, 4, .. leaves; those at the binary digits 1 of `count`
+    /// count. The largest tree has the oldest leaves.
+    peaks: [[u8; 32]; LEVELS],
+    count: u64,
+}
+
+impl HeadBuilder {
+    ghost use Rattle.std.specs.Prelude.{◌≡◌, ◌↔◌, ◌+◌, ◌-◌, ◌^◌, ◌<◌, [], ◌∷◌, ◌++◌};
+    ghost use Rattle.std.specs.Prelude.{ℕ, List, IsTrue};
+    ghost use Rattle.merkle_core.specs.Trees.{tree_head};
+    ghost use Rattle.merkle_core.specs.HeadBuilder.{Holds, leaf_count};
+
+    /// Returns a builder without leaves.
+    pub fn new() -> HeadBuilder
+        ensures count { leaf_count result ≡ 0 }
+        ensures none { Holds result [] }
+    {
+        HeadBuilder {
+            peaks: [[0; 32]; LEVELS],
+            count: 0,
+        }
+    }
+
+    /// Returns the number of leaves so far.
+    pub fn leaf_count(&self) -> u64
+        ensures { result ≡ leaf_count self.now }
+    {
+        self.count
+    }
+
+    /// Returns whether the builder takes another leaf. It takes 2^64 - 1 at most.
+    pub fn has_room(&self) -> bool
+        ensures { IsTrue result ↔ (leaf_count self.now < 2 ^ 64 - 1) }
+    {
+        self.count < u64::MAX
+    }
+
+    /// Adds a leaf after those so far. The builder must have room.
+    pub fn add(&mut self, leaf: &[u8])
+        requires { leaf_count self.old < 2 ^ 64 - 1 }
+        ensures count { leaf_count self.new ≡ leaf_count self.old + 1 }
+        ensures leaves { (leaves : List (List ℕ)) → Holds self.old leaves
+            → Holds self.new (leaves ++ leaf.now ∷ []) }
+    {
+        add_peak(&mut self.peaks, self.count, leaf_hash(leaf));
+        self.count += 1;
+    }
+
+    /// Returns the head of the tree of the leaves so far (RFC 6962, section 2.1).
+    pub fn head(&self) -> [u8; 32]
+        ensures { (leaves : List (List ℕ)) → Holds self.now leaves → result ≡ tree_head leaves }
+    {
+        let mut head = None;
+        let mut rest = self.count;
+        'peaks: for peak in &self.peaks {
+            if rest % 2 == 1 {
+                head = Some(joined(peak, head));
+            }
+            rest /= 2;
+        }
+        head.unwrap_or(empty_head())
+    }
+}
+
+/// Returns the head of a tree and, if there is one, the smaller tree after it.
+fn joined(older: &[u8; 32], newer: Option<[u8; 32]>) -> [u8; 32]
+    ensures { result ≡ head_with older.now newer }
+{
+    match newer {
+        Some(newer) => node_hash(older, &newer),
+        None => *older,
+    }
+}
+
+/// Adds a tree with this head, of as many leaves as the first peak stands for, after `count` trees
+/// of that size.
+fn add_peak(peaks: &mut [[u8; 32]], count: u64, head: [u8; 32])
+    requires { count + 1 < 2 ^ length peaks.old }
+    ensures { (d : ℕ) (older newer : List (List ℕ)) → ArePeaks d count peaks.old older
+        → length newer ≡ 2 ^ d → head ≡ head_of newer
+        → ArePeaks d (count + 1) peaks.new (older ++ newer) }
+{
+    if count % 2 == 0 {
+        peaks[0] = head;
+    } else {
+        let pair = node_hash(&peaks[0], &head);
+        add_peak(&mut peaks[1..], count / 2, pair);
+    }
+}

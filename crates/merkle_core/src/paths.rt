@@ -1,0 +1,86 @@
+//! Audit paths, and the head that a path gives.
+ghost use Rattle.std.specs.Prelude.{◌≡◌, ◌<◌, ◌++◌, Some, IfOk, OnOk, length, reverse};
+ghost use Rattle.merkle_core.specs.Hashes.{leaf_hash};
+ghost use Rattle.merkle_core.specs.Paths.{head_along, path_of, root_from, sides_within};
+
+use crate::hashes;
+use crate::hashes::node_hash;
+use crate::trees::{head_of_hashes, left_size};
+use std::alloc::{AllocError, Global};
+
+/// Returns the audit path of leaf `index`, counted from 0, of the tree whose leaves have these
+/// hashes (RFC 6962, section 2.1.1): the sibling of each node from the leaf up to the root. Takes
+/// time proportional to the number of leaves. Fails if memory runs out.
+pub fn audit_path(
+    alloc: Global,
+    hashes: &[[u8; 32]],
+    index: usize,
+) -> Result<Vec<[u8; 32]>, AllocError>
+    requires { index < length hashes.now }
+    ensures { IfOk result (λ path. path.items ≡ path_of index hashes.now) }
+{
+    let mut path = Vec::new(alloc);
+    add_path(&mut path, hashes, index)?;
+    Ok(path)
+}
+
+/// Appends the audit path of leaf `index`. Fails if memory runs out.
+fn add_path(path: &mut Vec<[u8; 32]>, hashes: &[[u8; 32]], index: usize) -> Result<(), AllocError>
+    requires { index < length hashes.now }
+    ensures { OnOk result (path.new.items ≡ path.old.items ++ path_of index hashes.now) }
+{
+    if hashes.len() == 1 {
+        return Ok(());
+    }
+    let (left, right) = hashes.split_at(left_size(hashes.len()));
+    if index < left.len() {
+        add_path(path, left, index)?;
+        path.push(head_of_hashes(right))?;
+    } else {
+        add_path(path, right, index - left.len())?;
+        path.push(head_of_hashes(left))?;
+    }
+    Ok(())
+}
+
+/// Returns the head that an audit path gives to this leaf, at `index` from 0 in a tree of `size`
+/// leaves. The path proves that the leaf is there if this is the tree's head. Returns `None` if
+/// `index` is not below `size`, or if the path of that leaf has another length.
+pub fn root_from_path(
+    leaf: &[u8],
+    index: usize,
+    size: usize,
+    path: &[[u8; 32]],
+) -> Option<[u8; 32]>
+    ensures { result ≡ root_from (leaf_hash leaf.now) index size path.now }
+{
+    if index < size {
+        root_from_hash(hashes::leaf_hash(leaf), index, size, path)
+    } else {
+        None
+    }
+}
+
+/// The same for a leaf with this hash.
+fn root_from_hash(
+    hash: [u8; 32],
+    index: usize,
+    size: usize,
+    path: &[[u8; 32]],
+) -> Option<[u8; 32]>
+    requires { index < size }
+    ensures { result ≡ head_along (sides_within size index size) hash (reverse path.now) }
+{
+    if size == 1 {
+        return if path.is_empty() { Some(hash) } else { None };
+    }
+    let left = left_size(size);
+    let (sibling, lower) = path.split_last()?;
+    if index < left {
+        let child = root_from_hash(hash, index, left, lower)?;
+        Some(node_hash(&child, sibling))
+    } else {
+        let child = root_from_hash(hash, index - left, size - left, lower)?;
+        Some(node_hash(sibling, &child))
+    }
+}
