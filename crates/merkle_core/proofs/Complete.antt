@@ -1,9 +1,10 @@
--- The audit path of a leaf gives the head of the tree.
-use Rattle.std.proofs.Common.{◌≡◌, ◌∙◌, ℕ, zero, suc, ◌+◌, ◌-◌, ◌<◌, ◌≤◌, refl, ap, sym, arith}
-use Rattle.std.proofs.Common.{List, [], ◌∷◌, ◌++◌, length, take, drop, get_or, Some, inl, inr}
+-- The head of a tree is computed from a leaf and its audit path.
+use Rattle.std.proofs.Common.{◌≡◌, ◌∙◌, ℕ, zero, suc, ◌-◌, ◌<◌, ◌≤◌, ap, sym, arith}
+use Rattle.std.proofs.Common.{List, [], length, take, drop, get_or, Some, inl, inr}
 use Rattle.std.proofs.Common.{option_map, map, Option}
 use Rattle.std.specs.Prelude.{reverse, slice_get}
-use Rattle.std.proofs.lemmas.List.{length-take-le, length-drop, length-map, get_or-take, get_or-drop}
+use Rattle.std.proofs.lemmas.List.{length-take-le, length-drop, length-map}
+use Rattle.std.proofs.lemmas.List.{get_or-take, get_or-drop}
 use Rattle.std.proofs.lemmas.Option.{slice_get_within, get_or_from_slice_get, slice_get-map}
 use Rattle.std.proofs.lemmas.Bool.{cases_lt, lt-ltb}
 use Rattle.merkle_core.specs.Hashes.{leaf_hash, node_hash}
@@ -14,7 +15,7 @@ use Rattle.merkle_core.proofs.PathSplits.{path_of-single, path_of-left, path_of-
 use Rattle.merkle_core.proofs.Roots.{root-single, root-left, root-right}
 use Rattle.merkle_core.proofs.Splits.{Split, split_of}
 
--- The head that this path gives to hash i of n.
+-- The head computed from hash i of n and this path.
 abbrev along : ℕ → ℕ → List ℕ → List (List ℕ) → Option (List ℕ)
 along i n hash path = head_along (sides_within n i n) hash (reverse path)
 
@@ -34,7 +35,8 @@ path_of-complete (suc bound) i hashes fits lt =
     → along i n hash (path_of i hashes) ≡ Some (head_of hashes) = λ s left.
     let k = s.left in
     let size : length (take k hashes) ≡ k = length-take-le k hashes (omega (arith, s.smaller)) in
-    let within = path_of-complete bound i (take k hashes) (omega (arith, s.smaller)) (omega arith) in
+    let within =
+    path_of-complete bound i (take k hashes) (omega (arith, s.smaller)) (omega arith) in
     root-left k i n hash (head_of (drop k hashes)) (path_of i hashes) (path_of i (take k hashes))
     s.power s.smaller s.largest left (path_of-left k i hashes s.power s.smaller s.largest left)
     ∙ (ap (option_map (λ l. node_hash l (head_of (drop k hashes))))
@@ -60,11 +62,13 @@ path_of-complete (suc bound) i hashes fits lt =
     (sym same) ∙ within))
     ∙ ap Some (sym (head_of-halves hashes k s.power s.smaller s.largest))) in
     elim (cases_lt 1 n) [
-      inl more ↦
-      elim (cases_lt i (split_of n more).left) [
-        inl left ↦ on_left (split_of n more) left
-      | inr right ↦ on_right (split_of n more) right ]
-    | inr one ↦ only one ]
+      | inl more ↦
+          elim (cases_lt i (split_of n more).left) [
+            | inl left ↦ on_left (split_of n more) left
+            | inr right ↦ on_right (split_of n more) right
+          ]
+      | inr one ↦ only one
+    ]
 
 -- The same for the leaves of a tree.
 pub audit_path-complete : (leaves : List (List ℕ)) (i : ℕ) (leaf : List ℕ)

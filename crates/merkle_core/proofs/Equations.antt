@@ -1,4 +1,4 @@
--- The RFC's equations: a tree, and a path in it, from the two halves of the leaves.
+-- The RFC's equations: the head of a tree, and a path in it, from its two halves.
 use Rattle.std.proofs.Common.{◌≡◌, ◌∙◌, ℕ, ◌-◌, ◌*◌, ◌<◌, ◌≤◌, ap, arith}
 use Rattle.std.proofs.Common.{List, [], ◌∷◌, ◌++◌, length, take, drop, map}
 use Rattle.std.proofs.lemmas.List.{length-map, take-map, drop-map}

@@ -11,3 +11,4 @@ pub mod SoundPaths
 pub mod SoundHeads
 pub mod TreePaths
 pub mod PeakLemmas
+mod Worked

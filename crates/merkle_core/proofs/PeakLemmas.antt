@@ -1,7 +1,8 @@
--- Peaks, and the heads that they give.
-use Rattle.std.proofs.Common.{◌≡◌, ◌∙◌, ℕ, zero, suc, ◌+◌, ◌*◌, ◌/◌, ◌%◌, ◌^◌, ◌<◌, ◌≤◌, ◌==◌, refl}
-use Rattle.std.proofs.Common.{List, [], ◌∷◌, ◌++◌, ◌-◌, length, set, get_or, take, drop, true, false, cond}
-use Rattle.std.proofs.Common.{Option, Some, None, ap, sym, subst, arith, append_assoc, length-append}
+-- How peaks change, and the head that is computed from them.
+use Rattle.std.proofs.Common.{◌≡◌, ◌∙◌, ℕ, suc, ◌+◌, ◌/◌, ◌%◌, ◌^◌, ◌<◌, ◌≤◌, ◌==◌, refl}
+use Rattle.std.proofs.Common.{List, [], ◌∷◌, ◌++◌, ◌-◌, length, set, get_or, take, drop}
+use Rattle.std.proofs.Common.{true, false, cond, Option, Some, None, ap, sym, subst, arith}
+use Rattle.std.proofs.Common.{append_assoc, length-append}
 use Rattle.std.specs.Prelude.{MatchBool, unwrap_or}
 use Rattle.std.proofs.lemmas.Bool.{eq-eqb, ne_eqb, cond-true, cond-false}
 use Rattle.std.proofs.lemmas.List.{append-nil, take_all, drop_all, drop_more}
@@ -89,14 +90,14 @@ ArePeaks-carry d count (peak ∷ peaks) after pair head older newer odd some is_
     (subst (λ l. ArePeaks (suc d) (count / 2) l hashes) (sym rest) was) size (is_pair ∙ joined))
     held full is)
 
--- ---- the head that peaks give
+-- ---- the head of the tree
 
 -- The head of these hashes, if there are any.
 abbrev pub IsHeadOf : Option (List ℕ) → List (List ℕ) → Type 0
 IsHeadOf None hashes = hashes ≡ []
 IsHeadOf (Some head) hashes = (0 < length hashes) × (head ≡ head_of hashes)
 
--- The head that the peaks from one on give with that of the later leaves.
+-- The head computed from some peaks and the head of the leaves after them.
 abbrev pub head_over : ℕ → List (List ℕ) → Option (List ℕ) → Option (List ℕ)
 head_over count [] head = head
 head_over count (peak ∷ peaks) head =
@@ -106,14 +107,14 @@ IsHeadOf-with : (d : ℕ) (peak : List ℕ) (tree later : List (List ℕ)) (head
     → length tree ≡ 2 ^ d → peak ≡ head_of tree → IsHeadOf head later → length later ≤ 2 ^ d
     → IsHeadOf (Some (head_with peak head)) (tree ++ later)
 IsHeadOf-with d peak tree later None full is none fits = (
-      omega (arith, length-append tree later, pow_pos d),
-      is ∙ ap head_of (sym (ap (λ l. tree ++ l) none ∙ append-nil tree)),
-    )
+  omega (arith, length-append tree later, pow_pos d),
+  is ∙ ap head_of (sym (ap (λ l. tree ++ l) none ∙ append-nil tree)),
+)
 IsHeadOf-with d peak tree later (Some head) full is (some, later_is) fits = (
-      omega (arith, length-append tree later),
-      ap (λ h. node_hash h head) is ∙ (ap (node_hash (head_of tree)) later_is
+  omega (arith, length-append tree later),
+  ap (λ h. node_hash h head) is ∙ (ap (node_hash (head_of tree)) later_is
       ∙ sym (head_of-split d tree later full some fits)),
-    )
+)
 
 pub head_over-is : (d count : ℕ) (peaks older later : List (List ℕ)) (head : Option (List ℕ))
     → ArePeaks d count peaks older → IsHeadOf head later → length later ≤ 2 ^ d
@@ -123,20 +124,21 @@ head_over-is d count [] older later head held is fits =
     subst (IsHeadOf head) (ap (λ l. l ++ later) (sym held.1)) is
 head_over-is d count (peak ∷ peaks) older later head held is fits =
     elim (count % 2 == 1) as
-      (λ b. MatchBool b (EndsInPeak d peak (ArePeaks (suc d) (count / 2) peaks) older)
-      (ArePeaks (suc d) (count / 2) peaks older)
-      → IsHeadOf (head_over (count / 2) peaks (cond b (Some (head_with peak head)) head))
-      (older ++ later)) [
-      true ↦
-      λ (before, tree, parts, size, head_of_tree, rest).
-      subst (IsHeadOf (head_over (count / 2) peaks (Some (head_with peak head))))
-      (sym (append_assoc before tree later) ∙ ap (λ l. l ++ later) (sym parts))
-      (head_over-is (suc d) (count / 2) peaks before (tree ++ later) (Some (head_with peak head))
-      rest (IsHeadOf-with d peak tree later head size head_of_tree is fits)
-      (omega (arith, length-append tree later, pow-suc 2 d)))
-    | false ↦
-      λ rest. head_over-is (suc d) (count / 2) peaks older later head rest is
-      (omega (arith, pow-suc 2 d)) ] held
+    (λ b. MatchBool b (EndsInPeak d peak (ArePeaks (suc d) (count / 2) peaks) older)
+    (ArePeaks (suc d) (count / 2) peaks older)
+    → IsHeadOf (head_over (count / 2) peaks (cond b (Some (head_with peak head)) head))
+    (older ++ later)) [
+      | true ↦
+          λ (before, tree, parts, size, head_of_tree, rest).
+          subst (IsHeadOf (head_over (count / 2) peaks (Some (head_with peak head))))
+          (sym (append_assoc before tree later) ∙ ap (λ l. l ++ later) (sym parts))
+          (head_over-is (suc d) (count / 2) peaks before (tree ++ later)
+          (Some (head_with peak head)) rest (IsHeadOf-with d peak tree later head size head_of_tree is fits)
+          (omega (arith, length-append tree later, pow-suc 2 d)))
+      | false ↦
+          λ rest. head_over-is (suc d) (count / 2) peaks older later head rest is
+          (omega (arith, pow-suc 2 d))
+    ] held
 
 -- One step of a walk over the peaks, at a digit 1 and at a digit 0.
 pub head_over-one : (rest i : ℕ) (peaks : List (List ℕ)) (head new : Option (List ℕ))

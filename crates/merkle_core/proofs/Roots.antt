@@ -1,6 +1,6 @@
--- The head that a path gives, from the head that it gives within the leaf's half of the tree.
-use Rattle.std.proofs.Common.{◌≡◌, ◌∙◌, ℕ, ◌-◌, ◌*◌, ◌<◌, ◌≤◌, refl, ap, sym, arith, ◌⊎◌, inl, inr}
-use Rattle.std.proofs.Common.{List, [], ◌∷◌, ◌++◌, length, Bool, false, true, Option, None, Some}
+-- The head computed from a path, by the head of the leaf's half of the tree.
+use Rattle.std.proofs.Common.{◌≡◌, ◌∙◌, ℕ, ◌-◌, ◌*◌, ◌<◌, ◌≤◌, refl, ap, arith, inl, inr}
+use Rattle.std.proofs.Common.{List, [], ◌∷◌, ◌++◌, length, Bool, false, true, None, Some}
 use Rattle.std.proofs.Common.{option_map}
 use Rattle.std.specs.Prelude.{reverse}
 use Rattle.std.proofs.lemmas.List.{reverse-append, length-reverse, nil_from_length}
@@ -16,7 +16,8 @@ unfolding head_along
 too_many hash [] some = absurd (omega arith)
 too_many hash (sibling ∷ siblings) some = refl
 
-none_left : (side : Bool) (sides : List Bool) (hash : List ℕ) → head_along (side ∷ sides) hash [] ≡ None
+none_left : (side : Bool) (sides : List Bool) (hash : List ℕ)
+    → head_along (side ∷ sides) hash [] ≡ None
 unfolding head_along
 none_left true sides hash = refl
 none_left false sides hash = refl
@@ -60,10 +61,11 @@ root-too_short k i n hash path power smaller largest none =
     ∙ (ap (λ p. head_along (side ∷ sides) hash (reverse p)) (nil_from_length path none)
     ∙ none_left side sides hash) in
     elim (cases_lt i k) [
-      inl left ↦ found true (sides_within k i k) (sides-left k i n power smaller largest left)
-    | inr right ↦
-      found false (sides_within (n - k) (i - k) (n - k))
-      (sides-right k i n power smaller largest right) ]
+      | inl left ↦ found true (sides_within k i k) (sides-left k i n power smaller largest left)
+      | inr right ↦
+          found false (sides_within (n - k) (i - k) (n - k))
+          (sides-right k i n power smaller largest right)
+    ]
 
 -- A leaf among the first k.
 pub root-left : (k i n : ℕ) (hash sibling : List ℕ) (path lower : List (List ℕ))

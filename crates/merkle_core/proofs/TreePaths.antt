@@ -1,8 +1,8 @@
--- A path that gives the head of a tree proves the tree's own leaf, or gives a collision.
-use Rattle.std.proofs.Common.{◌≡◌, ◌≢◌, ◌∙◌, ℕ, zero, suc, ◌-◌, ◌<◌, ◌≤◌, refl, ap, sym, subst}
-use Rattle.std.proofs.Common.{List, [], ◌∷◌, ◌++◌, length, take, drop, get_or, map, Some, inl, inr}
+-- If the head of a tree is computed from a leaf, it is the tree's own, or there is a collision.
+use Rattle.std.proofs.Common.{◌≡◌, ◌≢◌, ℕ, zero, suc, ◌-◌, ◌<◌, ◌≤◌, sym, subst}
+use Rattle.std.proofs.Common.{List, [], ◌∷◌, ◌++◌, length, take, drop, map, Some, inl, inr}
 use Rattle.std.proofs.Common.{arith}
-use Rattle.std.specs.Prelude.{slice_get, All}
+use Rattle.std.specs.Prelude.{slice_get}
 use Rattle.std.proofs.lemmas.Bool.{cases_lt}
 use Rattle.std.proofs.lemmas.List.{length-take-le, length-drop, length-map}
 use Rattle.std.proofs.lemmas.List.Elements.{All-append}
@@ -47,15 +47,17 @@ AreHashes-audit_path (suc bound) i leaves fits lt =
     (AreHashes-audit_path bound (i - s.left) (drop s.left leaves)
     (omega (arith, s.smaller, s.largest, length-drop s.left leaves))
     (omega (arith, right, s.smaller, length-drop s.left leaves)))) in
+    let alone : length leaves ≤ 1 → AreHashes (audit_path i leaves) =
+    λ one. subst AreHashes (sym (path_of-single i (map leaf_hash leaves)
+    (omega (arith, length-map leaves leaf_hash)))) AreHashes-nil in
     elim (cases_lt 1 (length leaves)) [
-      inl more ↦
-      elim (cases_lt i (split_of (length leaves) more).left) [
-        inl left ↦ on_left (split_of (length leaves) more) left
-      | inr right ↦ on_right (split_of (length leaves) more) right ]
-    | inr one ↦
-      subst AreHashes
-      (sym (path_of-single i (map leaf_hash leaves) (omega (arith, length-map leaves leaf_hash))))
-      AreHashes-nil ]
+      | inl more ↦
+          elim (cases_lt i (split_of (length leaves) more).left) [
+            | inl left ↦ on_left (split_of (length leaves) more) left
+            | inr right ↦ on_right (split_of (length leaves) more) right
+          ]
+      | inr one ↦ alone one
+    ]
 
 pub other_leaf_collides : (leaves : List (List ℕ)) (i : ℕ) (leaf other : List ℕ)
     (path : List (List ℕ)) → slice_get leaves i ≡ Some leaf → AreHashes path

@@ -4,11 +4,11 @@ use Rattle.merkle_core.specs.Hashes.{leaf_hash}
 use Rattle.merkle_core.specs.Peaks.{ArePeaks}
 use Rattle.merkle_core.specs.declared.builder.HeadBuilder.{HeadBuilder}
 
--- The number of leaves that a builder was given.
+-- The number of leaves that were added to a builder.
 abbrev pub leaf_count : HeadBuilder → ℕ
 leaf_count builder = builder.count
 
--- The builder was given these leaves.
+-- These leaves were added to the builder, in this order.
 unfoldable pub Holds : HeadBuilder → List (List ℕ) → Type 0
 Holds builder leaves = (builder.count ≡ length leaves)
     × ArePeaks 0 builder.count builder.peaks (map leaf_hash leaves)

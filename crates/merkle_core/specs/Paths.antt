@@ -14,7 +14,7 @@ path_within (suc d) i hashes =
     else if nat_lt i (2 ^ d)
     then path_within d i (take (2 ^ d) hashes) ++ head_within d (drop (2 ^ d) hashes) ∷ []
     else path_within d (i - 2 ^ d) (drop (2 ^ d) hashes)
-        ++ head_within d (take (2 ^ d) hashes) ∷ []
+    ++ head_within d (take (2 ^ d) hashes) ∷ []
 
 -- The same for any number of hashes.
 abbrev pub path_of : ℕ → List (List ℕ) → List (List ℕ)

@@ -5,16 +5,17 @@ ghost use Rattle.merkle_core.specs.Peaks.{ArePeaks, head_with};
 
 use crate::hashes::{empty_head, leaf_hash, node_hash};
 
-/// The most digits that a count of leaves has.
+/// The number of binary digits of a count of leaves.
 const LEVELS: usize = 64;
 
-/// Makes the head of a tree from its leaves, one after another, without keeping them. Takes no
-/// memory but its own 2,056 bytes, and for each leaf the time of two hashes on average.
+/// Computes the head of a tree from its leaves, one after another, without keeping them. It takes
+/// 2,056 bytes, allocates no memory, and computes fewer than two hashes for each leaf on average.
 #[derive(Drop)]
 pub struct HeadBuilder {
-    /// The heads of full trees of 1, 2, 4, .. leaves; those at the binary digits 1 of `count`
-    /// count. The largest tree has the oldest leaves.
+    /// Where `count` has the binary digit 1 of value 2^i, peak i is the head of a full tree of 2^i
+    /// leaves. The largest tree has the oldest leaves. Other peaks have no meaning.
     peaks: [[u8; 32]; LEVELS],
+    /// The number of leaves so far.
     count: u64,
 }
 
@@ -42,14 +43,14 @@ impl HeadBuilder {
         self.count
     }
 
-    /// Returns whether the builder takes another leaf. It takes 2^64 - 1 at most.
+    /// Returns whether another leaf can be added: there are 2^64 - 1 at most.
     pub fn has_room(&self) -> bool
         ensures { IsTrue result ↔ (leaf_count self.now < 2 ^ 64 - 1) }
     {
         self.count < u64::MAX
     }
 
-    /// Adds a leaf after those so far. The builder must have room.
+    /// Adds a leaf after those so far. There must be room: see [`has_room`](HeadBuilder::has_room).
     pub fn add(&mut self, leaf: &[u8])
         requires { leaf_count self.old < 2 ^ 64 - 1 }
         ensures count { leaf_count self.new ≡ leaf_count self.old + 1 }
@@ -76,7 +77,7 @@ impl HeadBuilder {
     }
 }
 
-/// Returns the head of a tree and, if there is one, the smaller tree after it.
+/// Returns the head of a full tree and, if there is one, the smaller tree after it.
 fn joined(older: &[u8; 32], newer: Option<[u8; 32]>) -> [u8; 32]
     ensures { result ≡ head_with older.now newer }
 {
@@ -86,8 +87,8 @@ fn joined(older: &[u8; 32], newer: Option<[u8; 32]>) -> [u8; 32]
     }
 }
 
-/// Adds a tree with this head, of as many leaves as the first peak stands for, after `count` trees
-/// of that size.
+/// Adds a full tree with this head after `count` full trees of the same size. The first peak is for
+/// a tree of that size.
 fn add_peak(peaks: &mut [[u8; 32]], count: u64, head: [u8; 32])
     requires { count + 1 < 2 ^ length peaks.old }
     ensures { (d : ℕ) (older newer : List (List ℕ)) → ArePeaks d count peaks.old older

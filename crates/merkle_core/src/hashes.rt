@@ -5,8 +5,8 @@ ghost use Rattle.merkle_core.specs.Hashes as hashes;
 
 use sha2::{Digest, Sha256};
 
-/// Returns the hash of a leaf: SHA-256 of a zero byte and the leaf (RFC 6962, section 2.1). The
-/// zero keeps a leaf from being taken for a node.
+/// Returns the hash of a leaf: SHA-256 of a zero byte and the leaf (RFC 6962, section 2.1). Because
+/// of the zero, no leaf can pass for a node.
 pub fn leaf_hash(leaf: &[u8]) -> [u8; 32]
     ensures { result ≡ hashes.leaf_hash leaf.now }
 {

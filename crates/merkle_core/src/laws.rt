@@ -7,9 +7,9 @@ ghost use Rattle.merkle_core.specs.Hashes.{leaf_hash, node_hash, AreHashes, Coll
 ghost use Rattle.merkle_core.specs.Trees.{tree_head};
 ghost use Rattle.merkle_core.specs.Paths.{audit_path, root_from};
 
-/// The head of a tree is MTH of RFC 6962, section 2.1, where k is the largest power of two smaller
+/// The head of a tree is MTH of RFC 6962, section 2.1. There, k is the largest power of two smaller
 /// than the number of leaves.
-pub fn heads_are_of_the_rfc()
+pub fn heads_follow_rfc_6962()
     ensures none { tree_head [] ≡ sha256 [] }
     ensures one { (leaf : List ℕ) → tree_head (leaf ∷ []) ≡ leaf_hash leaf }
     ensures more { (leaves : List (List ℕ)) (k : ℕ) → IsPowerOfTwo k → k < length leaves
@@ -18,7 +18,7 @@ pub fn heads_are_of_the_rfc()
 {}
 
 /// An audit path is PATH of RFC 6962, section 2.1.1, with the same k.
-pub fn paths_are_of_the_rfc()
+pub fn paths_follow_rfc_6962()
     ensures one { (leaf : List ℕ) → audit_path 0 (leaf ∷ []) ≡ [] }
     ensures left { (leaves : List (List ℕ)) (i k : ℕ) → IsPowerOfTwo k → k < length leaves
         → length leaves ≤ 2 * k → i < k
@@ -28,23 +28,23 @@ pub fn paths_are_of_the_rfc()
         ≡ audit_path (i - k) (drop k leaves) ++ tree_head (take k leaves) ∷ [] }
 {}
 
-/// The audit path of a leaf gives the head of the tree.
+/// From a leaf and its audit path, the head of the tree is computed.
 pub fn paths_are_complete()
     ensures { (leaves : List (List ℕ)) (i : ℕ) (leaf : List ℕ) → slice_get leaves i ≡ Some leaf
         → root_from (leaf_hash leaf) i (length leaves) (audit_path i leaves)
         ≡ Some (tree_head leaves) }
 {}
 
-/// If paths give one head to two different leaves at one place in trees of one size, then two
-/// different texts have one SHA-256. The proof finds them.
+/// If the same head is computed from two different leaves at the same place of a tree of the same
+/// size, by any paths, then two different texts have the same SHA-256. The proof constructs them.
 pub fn leaves_collide()
     ensures { (x y : List ℕ) (i n : ℕ) (p q : List (List ℕ)) (head : List ℕ) → AreHashes p
         → AreHashes q → root_from (leaf_hash x) i n p ≡ Some head
         → root_from (leaf_hash y) i n q ≡ Some head → x ≢ y → Collision }
 {}
 
-/// If a path gives the head of a tree to another leaf than the tree's leaf `i`, then two different
-/// texts have one SHA-256. The proof finds them.
+/// If the head of a tree is computed from another leaf than the one at that place of the tree, by
+/// any path, then two different texts have the same SHA-256. The proof constructs them.
 pub fn other_leaf_collides()
     ensures { (leaves : List (List ℕ)) (i : ℕ) (leaf other : List ℕ) (path : List (List ℕ))
         → slice_get leaves i ≡ Some leaf → AreHashes path
@@ -52,8 +52,8 @@ pub fn other_leaf_collides()
         → other ≢ leaf → Collision }
 {}
 
-/// If two different lists of leaves have one head, then two different texts have one SHA-256. The
-/// proof finds them.
+/// If two different lists of leaves have the same head, then two different texts have the same
+/// SHA-256. The proof constructs them. The lists may have different lengths.
 pub fn heads_collide()
     ensures { (L M : List (List ℕ)) → tree_head L ≡ tree_head M → L ≢ M → Collision }
 {}

@@ -1,4 +1,4 @@
-//! Audit paths, and the head that a path gives.
+//! Audit paths, and the head that is computed from one.
 ghost use Rattle.std.specs.Prelude.{◌≡◌, ◌<◌, ◌++◌, Some, IfOk, OnOk, length, reverse};
 ghost use Rattle.merkle_core.specs.Hashes.{leaf_hash};
 ghost use Rattle.merkle_core.specs.Paths.{head_along, path_of, root_from, sides_within};
@@ -9,8 +9,9 @@ use crate::trees::{head_of_hashes, left_size};
 use std::alloc::{AllocError, Global};
 
 /// Returns the audit path of leaf `index`, counted from 0, of the tree whose leaves have these
-/// hashes (RFC 6962, section 2.1.1): the sibling of each node from the leaf up to the root. Takes
-/// time proportional to the number of leaves. Fails if memory runs out.
+/// hashes (RFC 6962, section 2.1.1): the hash of the leaf's sibling, then of its parent's sibling,
+/// and so on up to the root. Takes time proportional to the number of leaves. Fails if memory runs
+/// out.
 pub fn audit_path(
     alloc: Global,
     hashes: &[[u8; 32]],
@@ -43,15 +44,10 @@ fn add_path(path: &mut Vec<[u8; 32]>, hashes: &[[u8; 32]], index: usize) -> Resu
     Ok(())
 }
 
-/// Returns the head that an audit path gives to this leaf, at `index` from 0 in a tree of `size`
-/// leaves. The path proves that the leaf is there if this is the tree's head. Returns `None` if
-/// `index` is not below `size`, or if the path of that leaf has another length.
-pub fn root_from_path(
-    leaf: &[u8],
-    index: usize,
-    size: usize,
-    path: &[[u8; 32]],
-) -> Option<[u8; 32]>
+/// Computes the head of a tree of `size` leaves from leaf `index`, counted from 0, and its audit
+/// path. The path proves that the leaf is there if the result is the tree's head. Returns `None` if
+/// `index` is not below `size`, or if the length of the path is wrong for `index` and `size`.
+pub fn root_from_path(leaf: &[u8], index: usize, size: usize, path: &[[u8; 32]]) -> Option<[u8; 32]>
     ensures { result ≡ root_from (leaf_hash leaf.now) index size path.now }
 {
     if index < size {
@@ -61,13 +57,8 @@ pub fn root_from_path(
     }
 }
 
-/// The same for a leaf with this hash.
-fn root_from_hash(
-    hash: [u8; 32],
-    index: usize,
-    size: usize,
-    path: &[[u8; 32]],
-) -> Option<[u8; 32]>
+/// The same, from the hash of the leaf.
+fn root_from_hash(hash: [u8; 32], index: usize, size: usize, path: &[[u8; 32]]) -> Option<[u8; 32]>
     requires { index < size }
     ensures { result ≡ head_along (sides_within size index size) hash (reverse path.now) }
 {

@@ -5,8 +5,8 @@ ghost use Rattle.merkle_core.specs.Trees.{head_of};
 
 use crate::hashes::{empty_head, node_hash};
 
-/// Returns the head of the tree whose leaves have these hashes (RFC 6962, section 2.1), in time
-/// proportional to their number.
+/// Returns the head of the tree whose leaves have these hashes, see [`leaf_hash`](crate::leaf_hash)
+/// (RFC 6962, section 2.1). Takes time proportional to their number.
 pub fn head_of_hashes(hashes: &[[u8; 32]]) -> [u8; 32]
     ensures { result ≡ head_of hashes.now }
 {
@@ -20,8 +20,8 @@ pub fn head_of_hashes(hashes: &[[u8; 32]]) -> [u8; 32]
     node_hash(&head_of_hashes(left), &head_of_hashes(right))
 }
 
-/// Returns the number of leaves on the left of a tree's root: the largest power of two that is
-/// smaller than the number of all.
+/// Returns the number of leaves on the left of the root of a tree with `size` leaves: the largest
+/// power of two that is smaller.
 pub(crate) fn left_size(size: usize) -> usize
     requires { 1 < size }
     ensures power { IsPowerOfTwo result }

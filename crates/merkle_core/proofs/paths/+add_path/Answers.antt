@@ -1,5 +1,5 @@
 use Rattle.std.proofs.Common.{◌≡◌, ◌∙◌, List, ℕ, [], ◌∷◌, ◌++◌, ◌<◌, ◌≤◌, ◌*◌, ◌-◌, length, ap, sym}
-use Rattle.std.proofs.Common.{take, drop, append_assoc, arith, subst, refl}
+use Rattle.std.proofs.Common.{take, drop, append_assoc, arith}
 use Rattle.std.proofs.lemmas.List.{append-nil, length-take-le}
 use Rattle.std.specs.Int.{IsPowerOfTwo}
 use Rattle.merkle_core.specs.Trees.{head_of}

@@ -1,4 +1,4 @@
-use Rattle.std.proofs.Common.{◌≡◌, ◌∙◌, ℕ, List, [], length, take, drop, ap, sym, subst, arith, rules}
+use Rattle.std.proofs.Common.{◌≡◌, ◌∙◌, [], take, ap, sym, rules}
 use Rattle.std.proofs.lemmas.List.{nil_from_length}
 use Rattle.merkle_core.specs.Hashes.{node_hash}
 use Rattle.merkle_core.specs.Trees.{head_of}
@@ -17,7 +17,10 @@ pub returns : goal.returns
 returns t c =
     let hashes = c.args.hashes.now in
     let size = c.left_size.ensures in
+    let parts = c.split_at.ensures in
     c.node_hash.ensures
-    ∙ (ap (λ h. node_hash h c.head_of_hashes-2.result) (c.head_of_hashes.ensures ∙ ap head_of c.split_at.ensures.front)
-    ∙ (ap (λ h. node_hash (head_of (take c.left_size.result hashes)) h) (c.head_of_hashes-2.ensures ∙ ap head_of c.split_at.ensures.back)
+    ∙ (ap (λ h. node_hash h c.head_of_hashes-2.result)
+    (c.head_of_hashes.ensures ∙ ap head_of parts.front)
+    ∙ (ap (λ h. node_hash (head_of (take c.left_size.result hashes)) h)
+    (c.head_of_hashes-2.ensures ∙ ap head_of parts.back)
     ∙ sym (head_of-halves hashes c.left_size.result size.power size.smaller size.largest)))

@@ -1,4 +1,4 @@
-use Rattle.std.proofs.Common.{◌≡◌, ◌∙◌, ◌+◌, [], ◌∷◌, ◌++◌, ap, sym, refl, subst, map}
+use Rattle.std.proofs.Common.{◌∙◌, ◌+◌, [], ◌∷◌, ap, sym, refl, subst, map}
 use Rattle.std.proofs.lemmas.List.{length_push, map_push}
 use Rattle.merkle_core.specs.Hashes.{leaf_hash}
 use Rattle.merkle_core.specs.HeadBuilder.{Holds}
@@ -12,7 +12,7 @@ returns-clause-leaves c = λ leaves held.
     let leaf = c.args.leaf.now in (
       ap (λ n. n + 1) held.0 ∙ sym (length_push leaves leaf),
       subst (ArePeaks 0 (c.args.self.now.count + 1) c.add_peak.new.peaks)
-      (sym (map_push leaf_hash leaves leaf))
-      (c.add_peak.ensures 0 (map leaf_hash leaves) (leaf_hash leaf ∷ []) held.1 refl
-      (c.leaf_hash.ensures ∙ sym (head_of-one (leaf_hash leaf)))),
+          (sym (map_push leaf_hash leaves leaf))
+          (c.add_peak.ensures 0 (map leaf_hash leaves) (leaf_hash leaf ∷ []) held.1 refl
+          (c.leaf_hash.ensures ∙ sym (head_of-one (leaf_hash leaf)))),
     )

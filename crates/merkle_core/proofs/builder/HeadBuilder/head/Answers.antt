@@ -8,14 +8,16 @@ use Rattle.merkle_core.proofs.builder.HeadBuilder.head.Goals.{then-rest-eq1, els
 pub peaks-preserved : goal.peaks-preserved
 peaks-preserved c =
     let peaks = c.args.self.now.peaks in
+    let head = c.if-rest-eq1.head in
     let within : c.peaks.peak-index < length peaks = omega arith in
     elim c.if-rest-eq1.branch [
-      then-rest-eq1 w ↦
-      head_over-one c.peaks.rest c.peaks.peak-index peaks c.peaks.head c.if-rest-eq1.head within
-      w.if-rest-eq1.true (w.head-is ∙ ap Some w.joined.ensures) ∙ c.peaks.invariant
-    | else-rest-eq1 w ↦
-      head_over-zero c.peaks.rest c.peaks.peak-index peaks c.peaks.head c.if-rest-eq1.head within
-      w.if-rest-eq1.false w.head-is ∙ c.peaks.invariant ]
+      | then-rest-eq1 w ↦
+          head_over-one c.peaks.rest c.peaks.peak-index peaks c.peaks.head head within
+          w.if-rest-eq1.true (w.head-is ∙ ap Some w.joined.ensures) ∙ c.peaks.invariant
+      | else-rest-eq1 w ↦
+          head_over-zero c.peaks.rest c.peaks.peak-index peaks c.peaks.head head within
+          w.if-rest-eq1.false w.head-is ∙ c.peaks.invariant
+    ]
 
 pub returns : goal.returns
 unfolding Holds

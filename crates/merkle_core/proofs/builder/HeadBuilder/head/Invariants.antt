@@ -4,4 +4,5 @@ use Rattle.merkle_core.proofs.builder.HeadBuilder.head.Given as goal
 
 abbrev pub invariant-peaks : goal.invariant-peaks
 invariant-peaks l =
-    head_over l.rest (drop l.peak-index l.self.peaks) l.head ≡ head_over l.self.count l.self.peaks None
+    head_over l.rest (drop l.peak-index l.self.peaks) l.head
+    ≡ head_over l.self.count l.self.peaks None

@@ -2,7 +2,7 @@ use Rattle.std.proofs.Common.{[], ◌∷◌, refl}
 use Rattle.merkle_core.specs.Hashes.{leaf_hash}
 use Rattle.merkle_core.proofs.Equations.{audit_path-left, audit_path-right}
 use Rattle.merkle_core.proofs.PathSplits.{path_of-single}
-use Rattle.merkle_core.proofs.laws.paths_are_of_the_rfc.Goals as goal
+use Rattle.merkle_core.proofs.laws.paths_follow_rfc_6962.Goals as goal
 
 pub returns-clause-one : goal.returns-clause-one
 returns-clause-one c = λ leaf. path_of-single 0 (leaf_hash leaf ∷ []) refl

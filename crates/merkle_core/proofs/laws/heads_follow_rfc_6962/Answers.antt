@@ -1,7 +1,7 @@
 use Rattle.merkle_core.specs.Hashes.{leaf_hash}
 use Rattle.merkle_core.proofs.Equations.{tree_head-halves}
 use Rattle.merkle_core.proofs.Heads.{head_of-nil, head_of-one}
-use Rattle.merkle_core.proofs.laws.heads_are_of_the_rfc.Goals as goal
+use Rattle.merkle_core.proofs.laws.heads_follow_rfc_6962.Goals as goal
 
 pub returns-clause-none : goal.returns-clause-none
 returns-clause-none c = head_of-nil
