@@ -133,7 +133,8 @@ head_over-is d count (peak ∷ peaks) older later head held is fits =
           subst (IsHeadOf (head_over (count / 2) peaks (Some (head_with peak head))))
           (sym (append_assoc before tree later) ∙ ap (λ l. l ++ later) (sym parts))
           (head_over-is (suc d) (count / 2) peaks before (tree ++ later)
-          (Some (head_with peak head)) rest (IsHeadOf-with d peak tree later head size head_of_tree is fits)
+          (Some (head_with peak head)) rest
+          (IsHeadOf-with d peak tree later head size head_of_tree is fits)
           (omega (arith, length-append tree later, pow-suc 2 d)))
       | false ↦
           λ rest. head_over-is (suc d) (count / 2) peaks older later head rest is

@@ -2,8 +2,8 @@
 --
 -- A tree of n leaves is split after the first k, where k is the largest power of two smaller than
 -- n. So it is split after the first 2 ^ d if n is at most 2 ^ (d + 1) and above 2 ^ d.
-use Rattle.std.specs.Prelude.{ℕ, zero, suc, ◌^◌, List, [], ◌∷◌, length, take, drop, map, nat_le}
-use Rattle.std.specs.Prelude.{if◌then◌else◌}
+use Rattle.std.specs.Prelude.{◌≡◌, ℕ, zero, suc, ◌^◌, List, [], ◌∷◌, length, take, drop, map}
+use Rattle.std.specs.Prelude.{nat_le, if◌then◌else◌}
 use Rattle.sha2.specs.Sha256.{sha256}
 use Rattle.merkle_core.specs.Hashes.{leaf_hash, node_hash}
 
@@ -22,3 +22,7 @@ head_of hashes = head_within (length hashes) hashes
 -- The head of the tree of these leaves: MTH in the RFC.
 abbrev pub tree_head : List (List ℕ) → List ℕ
 tree_head leaves = head_of (map leaf_hash leaves)
+
+-- The tree of these leaves has this size and this head.
+abbrev pub HasHead : List (List ℕ) → ℕ → List ℕ → Type 0
+HasHead leaves size head = (length leaves ≡ size) × (tree_head leaves ≡ head)

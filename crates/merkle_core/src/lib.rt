@@ -12,7 +12,7 @@
 //!
 //! let hashes = [leaf_hash(b"first"), leaf_hash(b"second")];
 //! let path = audit_path(alloc, &hashes, 1)?;               // of leaf 1, counted from 0
-//! root_from_path(b"second", 1, 2, &path) == Some(head)     // true: leaf 1 of 2 is "second"
+//! verify_path(b"second", 1, 2, &path, &head)               // true: leaf 1 of 2 is "second"
 //! ```
 #![tactic(auto)]
 
@@ -26,5 +26,5 @@ mod trees;
 
 pub use builder::HeadBuilder;
 pub use hashes::leaf_hash;
-pub use paths::{audit_path, root_from_path};
+pub use paths::{audit_path, root_from_path, verify_path};
 pub use trees::head_of_hashes;

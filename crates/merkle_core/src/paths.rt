@@ -1,7 +1,9 @@
 //! Audit paths, and the head that is computed from one.
-ghost use Rattle.std.specs.Prelude.{◌≡◌, ◌<◌, ◌++◌, Some, IfOk, OnOk, length, reverse};
-ghost use Rattle.merkle_core.specs.Hashes.{leaf_hash};
-ghost use Rattle.merkle_core.specs.Paths.{head_along, path_of, root_from, sides_within};
+ghost use Rattle.std.specs.Prelude.{◌≡◌, ◌≢◌, ◌↔◌, ◌<◌, ◌++◌, ℕ, List, Some, IsTrue, IfOk, OnOk};
+ghost use Rattle.std.specs.Prelude.{length, reverse, slice_get};
+ghost use Rattle.merkle_core.specs.Hashes.{leaf_hash, Collision};
+ghost use Rattle.merkle_core.specs.Trees.{HasHead};
+ghost use Rattle.merkle_core.specs.Paths.{audit_path, head_along, path_of, root_from, sides_within};
 
 use crate::hashes;
 use crate::hashes::node_hash;
@@ -44,9 +46,32 @@ fn add_path(path: &mut Vec<[u8; 32]>, hashes: &[[u8; 32]], index: usize) -> Resu
     Ok(())
 }
 
+/// Returns whether an audit path proves that this leaf is leaf `index`, counted from 0, of the tree
+/// of `size` leaves with this head. Returns false if `index` is not below `size`.
+pub fn verify_path(
+    leaf: &[u8],
+    index: usize,
+    size: usize,
+    path: &[[u8; 32]],
+    head: &[u8; 32],
+) -> bool
+    ensures exact { IsTrue result
+        ↔ (root_from (leaf_hash leaf.now) index size path.now ≡ Some head.now) }
+
+    // For any leaves whose tree has this size and head: their own path is a proof, and a proof of
+    // another leaf needs two different texts with the same SHA-256.
+    ensures complete { (leaves : List (List ℕ)) → HasHead leaves size head.now
+        → slice_get leaves index ≡ Some leaf.now → path.now ≡ audit_path index leaves
+        → IsTrue result }
+    ensures sound { (leaves : List (List ℕ)) (other : List ℕ) → HasHead leaves size head.now
+        → slice_get leaves index ≡ Some other → leaf.now ≢ other → IsTrue result → Collision }
+{
+    root_from_path(leaf, index, size, path) == Some(*head)
+}
+
 /// Computes the head of a tree of `size` leaves from leaf `index`, counted from 0, and its audit
-/// path. The path proves that the leaf is there if the result is the tree's head. Returns `None` if
-/// `index` is not below `size`, or if the length of the path is wrong for `index` and `size`.
+/// path. Returns `None` if `index` is not below `size`, or if the length of the path is wrong for
+/// `index` and `size`.
 pub fn root_from_path(leaf: &[u8], index: usize, size: usize, path: &[[u8; 32]]) -> Option<[u8; 32]>
     ensures { result ≡ root_from (leaf_hash leaf.now) index size path.now }
 {

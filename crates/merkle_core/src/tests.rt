@@ -1,4 +1,4 @@
-use crate::{HeadBuilder, audit_path, head_of_hashes, leaf_hash, root_from_path};
+use crate::{HeadBuilder, audit_path, head_of_hashes, leaf_hash, root_from_path, verify_path};
 
 // The leaves of the reference tests of Certificate Transparency.
 const LEAVES: [&[u8]; 8] = [
@@ -113,7 +113,9 @@ fn path_of_leaf_5(rt: HostRuntime) {
     for i in 0..3 {
         assert!(rt; halves(&path[i]) == PATH_5[i]);
     }
-    assert!(rt; root_from_path(LEAVES[5], 5, 8, &path) == Some(head_of_hashes(&hashes)));
+    let head = head_of_hashes(&hashes);
+    assert!(rt; verify_path(LEAVES[5], 5, 8, &path, &head));
+    assert!(rt; !verify_path(LEAVES[4], 5, 8, &path, &head));
     assert!(rt; root_from_path(LEAVES[5], 5, 8, &path[1..]).is_none());
     assert!(rt; root_from_path(LEAVES[5], 8, 8, &path).is_none());
 }
