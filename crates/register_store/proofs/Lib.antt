@@ -4,6 +4,7 @@ pub mod Objects
 pub mod ObjectLists
 pub mod RoundTrip
 pub mod Bodies
+pub mod Tokens
 pub mod KeptRows
 pub mod Lists
 pub mod OneList

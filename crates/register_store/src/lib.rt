@@ -1,7 +1,8 @@
 //! Messages as JSON text, and registers, which keep a posted list in a store.
 //!
 //! [`read_message`] reads a message from JSON, or returns its first [`ReadFault`]. [`message_text`]
-//! writes it: each message has one text, and reading that text returns the message. A [`Register`]
+//! writes it: each message has one text, and reading that text returns the message.
+//! [`write_message`] writes the same text inside another. A [`Register`]
 //! keeps a posted list: it binds a setup, posts entries and lists them, or fails with a
 //! [`StoreFault`]. [`PlainRegister`] keeps its rows in memory; `register_sql` keeps them in an
 //! SQLite database.
@@ -45,7 +46,7 @@ pub use key::Key;
 pub use ledger_rows::{lines_of, row_texts, spot_rows, terms_of};
 pub use loan_rows::{LineKey, term_of};
 pub use message_reader::{message_in, message_of, read_message};
-pub use message_writer::message_text;
+pub use message_writer::{message_text, write_message};
 pub use plain::{NEW_DEPTH, PlainRegister};
 pub use register::Register;
 pub use rows::{KeptPosting, entry_of, row_of};

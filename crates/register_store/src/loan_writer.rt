@@ -1,104 +1,126 @@
 //! Writes messages about loans as JSON.
-ghost use Rattle.std.specs.Prelude.{◌≡◌, IfOk};
-ghost use Rattle.serde_json.specs.View.{view};
-ghost use Rattle.register_store.specs.MessageText.{json};
+ghost use Rattle.register_store.specs.MessageTokens.{Appends, tokens_of};
 
 use crate::Key;
-use crate::member::{object_of_kind, put_day, put_text, put_things};
+use crate::member::{
+    close_object, open_object, write_day, write_loan, write_name, write_objects, write_place,
+    write_text, write_thing,
+};
 use codes_core::{Day, LoanCode, Name, NoMemory, PlaceCode, ThingCode};
+use json::Writer;
 use posting_core::{Message, Objects};
-use serde_json::Value;
 use std::alloc::Global;
 
-pub(crate) fn agree_object(
+pub(crate) fn write_agree(
     alloc: Global,
+    out: &mut Writer,
     loan: &LoanCode,
     partner: &PlaceCode,
     objects: &Objects,
     first: Day,
     last: Day,
-) -> Result<Value, NoMemory>
-    ensures { IfOk result
-        (λ value. view value ≡ json (Message.Agree first last loan.now partner.now objects.now)) }
+) -> Result<(), NoMemory>
+    ensures { Appends result out.old out.new
+        (tokens_of (Message.Agree first last loan.now partner.now objects.now)) }
 {
-    let mut object = object_of_kind(alloc, "agree")?;
-    put_text(alloc, &mut object, Key::Loan, loan.as_str())?;
-    put_text(alloc, &mut object, Key::Partner, partner.as_str())?;
-    put_things(alloc, &mut object, Key::Objects, objects)?;
-    put_day(alloc, &mut object, Key::First, first)?;
-    put_day(alloc, &mut object, Key::Last, last)?;
-    Ok(Value::Object(object))
+    open_object(out)?;
+    write_day(alloc, out, Key::First, first)?;
+    write_text(out, Key::Kind, "agree")?;
+    write_day(alloc, out, Key::Last, last)?;
+    write_loan(out, loan)?;
+    write_objects(out, objects)?;
+    write_place(out, Key::Partner, partner)?;
+    close_object(out)?;
+    Ok(())
 }
 
-pub(crate) fn authorise_object(
-    alloc: Global,
+pub(crate) fn write_authorise(
+    out: &mut Writer,
     loan: &LoanCode,
     name: &Name,
-) -> Result<Value, NoMemory>
-    ensures { IfOk result (λ value. view value ≡ json (Message.Authorise name.now loan.now)) }
+) -> Result<(), NoMemory>
+    ensures { Appends result out.old out.new (tokens_of (Message.Authorise name.now loan.now)) }
 {
-    let mut object = object_of_kind(alloc, "authorise")?;
-    put_text(alloc, &mut object, Key::Loan, loan.as_str())?;
-    put_text(alloc, &mut object, Key::By, name.as_str())?;
-    Ok(Value::Object(object))
+    open_object(out)?;
+    write_name(out, name)?;
+    write_text(out, Key::Kind, "authorise")?;
+    write_loan(out, loan)?;
+    close_object(out)?;
+    Ok(())
 }
 
-pub(crate) fn exit_object(
+pub(crate) fn write_exit(
     alloc: Global,
+    out: &mut Writer,
     thing: &ThingCode,
     loan: &LoanCode,
     day: Day,
-) -> Result<Value, NoMemory>
-    ensures { IfOk result (λ value. view value ≡ json (Message.Exit day thing.now loan.now)) }
+) -> Result<(), NoMemory>
+    ensures { Appends result out.old out.new (tokens_of (Message.Exit day thing.now loan.now)) }
 {
-    let mut object = object_of_kind(alloc, "exit")?;
-    put_text(alloc, &mut object, Key::Thing, thing.as_str())?;
-    put_text(alloc, &mut object, Key::Loan, loan.as_str())?;
-    put_day(alloc, &mut object, Key::Day, day)?;
-    Ok(Value::Object(object))
+    open_object(out)?;
+    write_day(alloc, out, Key::Day, day)?;
+    write_text(out, Key::Kind, "exit")?;
+    write_loan(out, loan)?;
+    write_thing(out, Key::Thing, thing)?;
+    close_object(out)?;
+    Ok(())
 }
 
-pub(crate) fn return_object(
+pub(crate) fn write_return(
     alloc: Global,
-    thing: &ThingCode,
-    loan: &LoanCode,
-    place: &PlaceCode,
-    day: Day,
-) -> Result<Value, NoMemory>
-    ensures { IfOk result
-        (λ value. view value ≡ json (Message.Return day thing.now loan.now place.now)) }
-{
-    let mut object = object_of_kind(alloc, "return")?;
-    put_text(alloc, &mut object, Key::Thing, thing.as_str())?;
-    put_text(alloc, &mut object, Key::Loan, loan.as_str())?;
-    put_text(alloc, &mut object, Key::Place, place.as_str())?;
-    put_day(alloc, &mut object, Key::Day, day)?;
-    Ok(Value::Object(object))
-}
-
-pub(crate) fn receive_object(
-    alloc: Global,
+    out: &mut Writer,
     thing: &ThingCode,
     loan: &LoanCode,
     place: &PlaceCode,
     day: Day,
-) -> Result<Value, NoMemory>
-    ensures { IfOk result
-        (λ value. view value ≡ json (Message.Receive day thing.now loan.now place.now)) }
+) -> Result<(), NoMemory>
+    ensures { Appends result out.old out.new
+        (tokens_of (Message.Return day thing.now loan.now place.now)) }
 {
-    let mut object = object_of_kind(alloc, "receive")?;
-    put_text(alloc, &mut object, Key::Thing, thing.as_str())?;
-    put_text(alloc, &mut object, Key::Loan, loan.as_str())?;
-    put_text(alloc, &mut object, Key::Place, place.as_str())?;
-    put_day(alloc, &mut object, Key::Day, day)?;
-    Ok(Value::Object(object))
+    open_object(out)?;
+    write_day(alloc, out, Key::Day, day)?;
+    write_text(out, Key::Kind, "return")?;
+    write_loan(out, loan)?;
+    write_place(out, Key::Place, place)?;
+    write_thing(out, Key::Thing, thing)?;
+    close_object(out)?;
+    Ok(())
 }
 
-pub(crate) fn extend_object(alloc: Global, loan: &LoanCode, last: Day) -> Result<Value, NoMemory>
-    ensures { IfOk result (λ value. view value ≡ json (Message.Extend last loan.now)) }
+pub(crate) fn write_receive(
+    alloc: Global,
+    out: &mut Writer,
+    thing: &ThingCode,
+    loan: &LoanCode,
+    place: &PlaceCode,
+    day: Day,
+) -> Result<(), NoMemory>
+    ensures { Appends result out.old out.new
+        (tokens_of (Message.Receive day thing.now loan.now place.now)) }
 {
-    let mut object = object_of_kind(alloc, "extend")?;
-    put_text(alloc, &mut object, Key::Loan, loan.as_str())?;
-    put_day(alloc, &mut object, Key::Last, last)?;
-    Ok(Value::Object(object))
+    open_object(out)?;
+    write_day(alloc, out, Key::Day, day)?;
+    write_text(out, Key::Kind, "receive")?;
+    write_loan(out, loan)?;
+    write_place(out, Key::Place, place)?;
+    write_thing(out, Key::Thing, thing)?;
+    close_object(out)?;
+    Ok(())
+}
+
+pub(crate) fn write_extend(
+    alloc: Global,
+    out: &mut Writer,
+    loan: &LoanCode,
+    last: Day,
+) -> Result<(), NoMemory>
+    ensures { Appends result out.old out.new (tokens_of (Message.Extend last loan.now)) }
+{
+    open_object(out)?;
+    write_text(out, Key::Kind, "extend")?;
+    write_day(alloc, out, Key::Last, last)?;
+    write_loan(out, loan)?;
+    close_object(out)?;
+    Ok(())
 }

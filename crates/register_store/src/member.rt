@@ -1,80 +1,99 @@
 //! Writes the members of a JSON object.
-ghost use Rattle.std.specs.Prelude.{◌≡◌, IfOk, OnOk, map};
-ghost use Rattle.serde_json.specs.Data.{string, array, put, no_members};
-ghost use Rattle.serde_json.specs.View.{items_of, items_view, members_view};
+ghost use Rattle.std.specs.Prelude.{[], ◌∷◌};
+ghost use Rattle.json.specs.Token.{Token};
 ghost use Rattle.codes_core.specs.Day.{day_text};
-ghost use Rattle.register_store.specs.Spelling.{key_name};
 ghost use Rattle.register_store.specs.declared.key.Key.{Key};
+ghost use Rattle.register_store.specs.MessageTokens.{Appends, list_tokens, string_tokens};
+ghost use Rattle.register_store.specs.MessageTokens.{text_tokens};
 
 use crate::Key;
-use codes_core::{Day, NoMemory, ThingCode};
+use codes_core::{Day, LoanCode, Name, NoMemory, PlaceCode, ThingCode};
+use json::Writer;
 use posting_core::Objects;
-use serde_json::{Map, Value};
 use std::alloc::Global;
 
-/// A new object with its kind. Fails with `NoMemory`.
-pub(crate) fn object_of_kind(alloc: Global, kind: &str) -> Result<Map<String, Value>, NoMemory>
-    ensures { IfOk result (λ object. members_view object.entries
-        ≡ put (key_name Key.Kind) (string kind.now) no_members) }
+/// Writes the start of an object. Fails with `NoMemory`.
+pub(crate) fn open_object(out: &mut Writer) -> Result<(), NoMemory>
+    ensures { Appends result out.old out.new (Token.begin_object ∷ []) }
 {
-    let mut object = Map::new(alloc);
-    put_text(alloc, &mut object, Key::Kind, kind)?;
-    Ok(object)
+    Ok(out.begin_object()?)
 }
 
-/// Puts a string at a key. Fails with `NoMemory`.
-pub(crate) fn put_text(
-    alloc: Global,
-    object: &mut Map<String, Value>,
-    key: Key,
-    text: &str,
-) -> Result<(), NoMemory>
-    ensures { OnOk result (members_view object.new.entries
-        ≡ put (key_name key) (string text.now) (members_view object.old.entries)) }
+/// Writes the end of an object. Fails with `NoMemory`.
+pub(crate) fn close_object(out: &mut Writer) -> Result<(), NoMemory>
+    ensures { Appends result out.old out.new (Token.end_object ∷ []) }
 {
-    let value = Value::try_from_str(alloc, text)?;
-    serde_json::put(object, alloc, key.name(), value)?;
-    Ok(())
+    Ok(out.end_object()?)
 }
 
-/// Puts an array of things' codes at a key. Fails with `NoMemory`.
-pub(crate) fn put_things(
-    alloc: Global,
-    object: &mut Map<String, Value>,
-    key: Key,
-    things: &Objects,
-) -> Result<(), NoMemory>
-    ensures { OnOk result (members_view object.new.entries
-        ≡ put (key_name key) (array (items_of (map string things.now)))
-        (members_view object.old.entries)) }
+/// Writes a key and a string. Fails with `NoMemory`.
+pub(crate) fn write_text(out: &mut Writer, key: Key, text: &str) -> Result<(), NoMemory>
+    ensures { Appends result out.old out.new (text_tokens key text.now) }
 {
-    let items = things_array(alloc, things.as_slice())?;
-    serde_json::put(object, alloc, key.name(), Value::Array(items))?;
-    Ok(())
+    out.key(key.name())?;
+    Ok(out.string(text)?)
 }
 
-/// The codes of things as JSON strings. Fails with `NoMemory`.
-fn things_array(alloc: Global, things: &[ThingCode]) -> Result<Vec<Value>, NoMemory>
-    ensures { IfOk result (λ items. items_view items.items ≡ items_of (map string things.now)) }
+/// Writes a key and the code of a thing. Fails with `NoMemory`.
+pub(crate) fn write_thing(out: &mut Writer, key: Key, thing: &ThingCode) -> Result<(), NoMemory>
+    ensures { Appends result out.old out.new (text_tokens key thing.now) }
 {
-    let mut items = Vec::new(alloc);
-    for thing in things {
-        items.push(Value::try_from_str(alloc, thing.as_str())?)?;
-    }
-    Ok(items)
+    write_text(out, key, thing.as_str())
 }
 
-/// Puts a day at a key, as the only text that spells it. Fails with `NoMemory`.
-pub(crate) fn put_day(
-    alloc: Global,
-    object: &mut Map<String, Value>,
-    key: Key,
-    day: Day,
-) -> Result<(), NoMemory>
-    ensures { OnOk result (members_view object.new.entries
-        ≡ put (key_name key) (string (day_text day)) (members_view object.old.entries)) }
+/// Writes a key and the code of a place. Fails with `NoMemory`.
+pub(crate) fn write_place(out: &mut Writer, key: Key, place: &PlaceCode) -> Result<(), NoMemory>
+    ensures { Appends result out.old out.new (text_tokens key place.now) }
+{
+    write_text(out, key, place.as_str())
+}
+
+/// Writes the code of a loan. Fails with `NoMemory`.
+pub(crate) fn write_loan(out: &mut Writer, loan: &LoanCode) -> Result<(), NoMemory>
+    ensures { Appends result out.old out.new (text_tokens Key.Loan loan.now) }
+{
+    write_text(out, Key::Loan, loan.as_str())
+}
+
+/// Writes a name. Fails with `NoMemory`.
+pub(crate) fn write_name(out: &mut Writer, name: &Name) -> Result<(), NoMemory>
+    ensures { Appends result out.old out.new (text_tokens Key.By name.now) }
+{
+    write_text(out, Key::By, name.as_str())
+}
+
+/// Writes a key and a day, as the only text that spells it. Fails with `NoMemory`.
+pub(crate) fn write_day(alloc: Global, out: &mut Writer, key: Key, day: Day) -> Result<(), NoMemory>
+    ensures { Appends result out.old out.new (text_tokens key (day_text day)) }
 {
     let mut text = String::new(alloc);
     day.write(alloc, &mut text)?;
-    put_text(alloc, object, key, text.as_str())
+    write_text(out, key, text.as_str())
+}
+
+/// Writes the objects of a loan, as an array of their codes. Fails with `NoMemory`.
+pub(crate) fn write_objects(out: &mut Writer, objects: &Objects) -> Result<(), NoMemory>
+    ensures { Appends result out.old out.new (list_tokens Key.Objects objects.now) }
+{
+    write_things(out, Key::Objects, objects.as_slice())
+}
+
+/// Writes a key and an array of things' codes. Fails with `NoMemory`.
+fn write_things(out: &mut Writer, key: Key, things: &[ThingCode]) -> Result<(), NoMemory>
+    ensures { Appends result out.old out.new (list_tokens key things.now) }
+{
+    out.key(key.name())?;
+    out.begin_array()?;
+    write_codes(out, things)?;
+    Ok(out.end_array()?)
+}
+
+/// Writes things' codes as strings. Fails with `NoMemory`.
+fn write_codes(out: &mut Writer, things: &[ThingCode]) -> Result<(), NoMemory>
+    ensures { Appends result out.old out.new (string_tokens things.now) }
+{
+    for thing in things {
+        out.string(thing.as_str())?;
+    }
+    Ok(())
 }

@@ -31,7 +31,7 @@ abbrev message_is : Data → Members → Members
 message_is message = member (codes "message") message
 
 -- the members as they are written
-abbrev written : List ℕ → ℕ → Data → Data
+abbrev pub written : List ℕ → ℕ → Data → Data
 written station n message =
     object (station_is station (n_is n (message_is message no_members)))
 
@@ -46,7 +46,7 @@ line_text station n text =
     ++ text ++ codes "}"
 
 -- the line after its station and a quote
-abbrev pub rest : ℕ → List ℕ → List ℕ
+abbrev rest : ℕ → List ℕ → List ℕ
 rest n text =
     codes ",\"n\":" ++ (decimal n ++ (codes ",\"message\":" ++ (text ++ codes "}")))
 
@@ -55,12 +55,12 @@ regroup : (first station next digits then text last : List ℕ)
     ≡ first ++ (station ++ (next ++ (digits ++ (then ++ (text ++ last)))))
 regroup first station next digits then text last = simp append_assoc
 
-pub in_order : (station : List ℕ) (n : ℕ) (text : List ℕ)
+in_order : (station : List ℕ) (n : ℕ) (text : List ℕ)
     → line_text station n text ≡ codes "{\"station\":\"" ++ (station ++ 34 ∷ rest n text)
 in_order station n text = regroup (codes "{\"station\":\"") station (codes "\",\"n\":")
     (decimal n) (codes ",\"message\":") text (codes "}")
 
-text_written : (station : List ℕ) (n : ℕ) (message : Data)
+pub text_written : (station : List ℕ) (n : ℕ) (message : Data)
     → list_all is_station_byte station ≡ true
     → line_text station n (compact_text message) ≡ compact_text (written station n message)
 unfolding escape_byte

@@ -1,24 +1,26 @@
 -- The line of a message reads as that message.
-use Rattle.std.specs.Prelude.{ℕ, ◌≡◌, ◌<◌, ◌^◌, ◌++◌, true, List, ◌∷◌, Ok, refl, codes}
-use Rattle.std.proofs.Common.{sym, ap, ◌∙◌}
+use Rattle.std.specs.Prelude.{ℕ, ◌≡◌, ◌<◌, ◌^◌, true, List, Ok, refl}
+use Rattle.std.proofs.Common.{sym, ◌∙◌}
 use Rattle.std.proofs.lemmas.Str.{IsUtf8-from_is_utf8, is_utf8-from_IsUtf8}
+use Rattle.json.specs.Print.{print}
+use Rattle.serde_json.proofs.Texts.{print-outline}
 use Rattle.nest_core.specs.StationName.{is_station_name}
 use Rattle.posting_core.specs.declared.message.Message as message
 use Rattle.register_store.specs.Kinds.{of_bytes}
 use Rattle.register_store.specs.MessageText.{json, body_of}
-use Rattle.sent_lines.specs.SentLines.{sent_line, ReadsAs}
-use Rattle.sent_lines.proofs.LineTexts.{sorted, rest, line_text, in_order, read_line, utf8_line}
+use Rattle.sent_lines.specs.SentLines.{line_tokens, sent_line, ReadsAs}
+use Rattle.sent_lines.proofs.LineTexts.{sorted, written, text_written, read_line, utf8_line}
 use Rattle.sent_lines.proofs.MessageTexts.{numbers, shallow, back, spelled}
 use Rattle.sent_lines.proofs.StationNames.{bytes_of_name}
 
--- the pieces, printed in their order, are the line
-pub is_sent : (station : List ℕ) (n : ℕ) (m : message.Message) (text line : List ℕ)
-    → line ≡ codes "{\"station\":\"" ++ (station ++ 34 ∷ rest n text) → text ≡ body_of m
-    → line ≡ sent_line station n m
-is_sent station n m text line printed is =
-    printed ∙ sym (in_order station n text) ∙ ap (line_text station n) is
+-- the line has its tokens
+pub is_sent : (station : List ℕ) (n : ℕ) (m : message.Message)
+    → is_station_name station ≡ true → print (line_tokens station n m) ≡ sent_line station n m
+is_sent station n m name =
+    print-outline (written station n (json m))
+    ∙ sym (text_written station n (json m) (bytes_of_name station name))
 
--- and the line reads as the message
+-- and reads as the message
 pub reads_as : (station : List ℕ) (n : ℕ) (m : message.Message) → n < 2 ^ 64
     → is_station_name station ≡ true → of_bytes (body_of m) ≡ Ok m
     → ReadsAs station n m (sent_line station n m)

@@ -1,7 +1,9 @@
 -- Defines the line that a station sends for a message, and when bytes read as a station's line.
-use Rattle.std.specs.Prelude.{ℕ, ◌≡◌, ◌++◌, List, IsTrue, None, Some, is_some, Ok, codes}
+use Rattle.std.specs.Prelude.{ℕ, ◌≡◌, ◌++◌, List, [], ◌∷◌, IsTrue, None, Some, is_some, Ok}
+use Rattle.std.specs.Prelude.{codes}
 use Rattle.std.specs.Prelude.{decimal}
 use Rattle.std.specs.Str.{is_utf8}
+use Rattle.json.specs.Token.{Token}
 use Rattle.serde_json.specs.Data.{Data, string, number, unsigned}
 use Rattle.serde_json.specs.Find.{get, as_object}
 use Rattle.serde_json.specs.Read.{read}
@@ -10,12 +12,23 @@ use Rattle.register_store.specs.declared.key.Key.TheVariants.{Station, N, Messag
 use Rattle.register_store.specs.Spelling.{key_name}
 use Rattle.register_store.specs.Kinds.{of_json}
 use Rattle.register_store.specs.MessageText.{body_of}
+use Rattle.register_store.specs.MessageTokens.{tokens_of}
 
 -- The line of message m under number n, without its line feed. A station's name needs no escapes.
 abbrev pub sent_line : List ℕ → ℕ → message.Message → List ℕ
 sent_line station n m =
     codes "{\"station\":\"" ++ station ++ codes "\",\"n\":" ++ decimal n ++ codes ",\"message\":"
     ++ body_of m ++ codes "}"
+
+-- The tokens of the line before its message.
+abbrev pub head_tokens : List ℕ → ℕ → List Token
+head_tokens station n =
+    Token.begin_object ∷ Token.key (codes "station") ∷ Token.string station
+    ∷ Token.key (codes "n") ∷ Token.number (decimal n) ∷ Token.key (codes "message") ∷ []
+
+-- The tokens of the line.
+abbrev pub line_tokens : List ℕ → ℕ → message.Message → List Token
+line_tokens station n m = head_tokens station n ++ (tokens_of m ++ Token.end_object ∷ [])
 
 -- The value is an object that spells message m.
 pub record SpellsMessage (m : message.Message) (value : Data) : Type 0 where
