@@ -1,5 +1,6 @@
 //! Labels, and the code that a text stands for.
-ghost use Rattle.std.specs.Prelude.{◌≡◌, ◌++◌, ◌∷◌, [], None, OnOk, OnErr, option_map};
+ghost use Rattle.std.specs.Prelude.{◌≡◌, ◌≢◌, ◌++◌, ◌∷◌, [], None, OnOk, OnErr, option_map};
+ghost use Rattle.std.specs.Bool.{MatchBool};
 ghost use Rattle.label_core.specs.Labels.{code_for, code_of};
 
 use crate::text::trim;
@@ -38,6 +39,13 @@ impl Labels {
         Labels {
             codes: IndexMap::new(alloc),
         }
+    }
+
+    /// Whether there is no label.
+    pub fn is_empty(&self) -> bool
+        ensures { MatchBool result (self.now ≡ []) (self.now ≢ []) }
+    {
+        self.codes.is_empty()
     }
 
     /// The code that the text stands for: that of the label that the text is, without the blanks at

@@ -1,4 +1,5 @@
 pub mod Coded
+pub mod Uncoded
 pub mod Growing
 pub mod Rows
 pub mod Hiding

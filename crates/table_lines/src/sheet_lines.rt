@@ -1,13 +1,14 @@
 //! Reads the messages of a table.
 ghost use Rattle.std.specs.Prelude.{MatchResult};
-ghost use Rattle.table_lines.specs.SheetLines.{IsLines, IsLinesFault};
+ghost use Rattle.table_core.specs.Tables.{IsTable, IsTableFault, texts_of};
+ghost use Rattle.table_lines.specs.SheetLines.{IsLines, IsLinesFault, coded_rows};
 
 use crate::LinesFault;
 use crate::coded_rows::{coded_rows, first_row};
 use label_core::Labels;
 use sheet_core::read_sheet;
 use std::alloc::Global;
-use table_core::{Table, TableOptions, read_table};
+use table_core::{Table, TableFault, TableOptions, read_table};
 
 /// The messages of a table, and its heading.
 #[derive(Drop)]
@@ -32,8 +33,26 @@ pub fn read_lines(
         (IsLinesFault options.now labels.now bytes.now) }
 {
     let rows = read_sheet(alloc, bytes)?;
-    let coded = coded_rows(alloc, labels, rows.as_slice())?;
-    let table = read_table(alloc, options, coded.as_slice())?;
+    let table = read_coded(alloc, options, labels, rows.as_slice())?;
     let heading = first_row(alloc, rows.as_slice())?;
     Ok(SheetLines { table, heading })
+}
+
+/// Returns the messages of these rows, with codes in place of labels. Without labels no row is
+/// copied. Fails as [`read_table`] does.
+fn read_coded(
+    alloc: Global,
+    options: &TableOptions,
+    labels: &Labels,
+    rows: &[Vec<String>],
+) -> Result<Table, TableFault>
+    ensures { MatchResult result
+        (IsTable options.now (coded_rows labels.now (texts_of rows.now)))
+        (IsTableFault options.now (coded_rows labels.now (texts_of rows.now))) }
+{
+    if labels.is_empty() {
+        return read_table(alloc, options, rows);
+    }
+    let coded = coded_rows(alloc, labels, rows)?;
+    read_table(alloc, options, coded.as_slice())
 }
