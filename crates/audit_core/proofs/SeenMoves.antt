@@ -1,7 +1,7 @@
 -- The moves of an audit are what its list found elsewhere.
 use Rattle.std.specs.Prelude.{ℕ, ℤ, ◌≡◌, ◌⊎◌, true, Contains, List, [], ◌∷◌, Option}
 use Rattle.std.specs.Prelude.{Some, None, filter, is_none, option_map, slice_get}
-use Rattle.std.specs.Prelude.{zero, suc, refl}
+use Rattle.std.specs.Prelude.{suc, refl}
 use Rattle.std.specs.List.{cons_option}
 use Rattle.std.proofs.Common.{ap, sym, ◌∙◌, subst, inl, inr}
 use Rattle.posting_core.specs.declared.message.Message.{Message}
@@ -13,13 +13,14 @@ use Rattle.count_core.specs.declared.answer.CountAnswer.TheVariants.{UnknownObje
 use Rattle.count_core.specs.declared.answer.CountAnswer.TheVariants.{Found, Elsewhere}
 use Rattle.count_core.specs.declared.count_row.CountRow.{CountRow}
 use Rattle.count_core.specs.Counts.{answers}
-use Rattle.count_core.proofs.Membership.{here, there, none_in, first_or_rest, let_through, kept}
-use Rattle.count_core.proofs.Membership.{in_map, from_map}
+use Rattle.count_core.proofs.Membership.{none_in, first_or_rest, let_through, kept, in_map}
+use Rattle.count_core.proofs.Membership.{from_map}
 use Rattle.audit_core.specs.declared.sightings.Sighting.{Sighting}
 use Rattle.audit_core.specs.Sightings.{container_holding, seen_by, seen_elsewhere, seen_in}
 use Rattle.audit_core.specs.Sightings.{sighting_of}
 use Rattle.audit_core.specs.Lines.{is_loose, move_of, moves}
 use Rattle.audit_core.specs.SeenMoves.{IsSeenMove}
+use Rattle.audit_core.proofs.Answered.{comes_of}
 
 -- row i, with its answer, is the sighting
 record IsSeenAt (rows : List CountRow) (found : List CountAnswer) (s : Sighting) : Type 0 where
@@ -65,26 +66,6 @@ from_seen (r ∷ rows) (a ∷ found) s h = by (sighting_of r a) refl h
           is = is ∙ ap Some same;
         }
         first (inr rest) = rec rest
-
-to_seen : (rows : List CountRow) (found : List CountAnswer) (s : Sighting) (i : ℕ) (row : CountRow)
-    (a : CountAnswer) → slice_get rows i ≡ Some row → slice_get found i ≡ Some a
-    → sighting_of row a ≡ Some s → Contains (seen_in rows found) s
-to_seen [] found s i row a at its is = absurd (cc)
-to_seen (r ∷ rows) [] s i row a at its is = absurd (cc)
-to_seen (r ∷ rows) (b ∷ found) s zero row a at its is =
-    let one : r ≡ row = cc in
-    let other : b ≡ a = cc in
-    let seen : sighting_of r b ≡ Some s =
-    ap (λ x. sighting_of x b) one ∙ (ap (sighting_of row) other ∙ is) in
-    subst (λ o. Contains (cons_option o (seen_in rows found)) s) (sym seen)
-    (here s (seen_in rows found))
-to_seen (r ∷ rows) (b ∷ found) s (suc i) row a at its is =
-    by (sighting_of r b) (to_seen rows found s i row a at its is)
-  where
-    by : (o : Option Sighting) → Contains (seen_in rows found) s
-        → Contains (cons_option o (seen_in rows found)) s
-    by None k = k
-    by (Some t) k = there t s (seen_in rows found) k
 
 -- what a sighting says of its row
 record IsElsewhere (row : CountRow) (a : CountAnswer) (s : Sighting) : Type 0 where
@@ -142,8 +123,8 @@ pub seen_moves : (B : Book) (day : ℤ) (rows : List CountRow) (m : Message) →
     → Contains (moves B day rows) m
 seen_moves B day rows m h =
     let s : Sighting = seen_by h.row h.thing in
-    let seen = to_seen rows (answers B rows) s h.i h.row (Elsewhere h.place) h.is_row h.elsewhere
-    (ap (option_map (seen_by h.row)) h.names) in
+    let seen = comes_of sighting_of rows (answers B rows) s h.i h.row (Elsewhere h.place) h.is_row
+    h.elsewhere (ap (option_map (seen_by h.row)) h.names) in
     let loose = kept (is_loose B) (seen_elsewhere B rows) s seen (ap is_none h.loose) in
     subst (Contains (moves B day rows)) (sym h.is_move)
     (in_map (move_of day) (filter (is_loose B) (seen_elsewhere B rows)) s loose)

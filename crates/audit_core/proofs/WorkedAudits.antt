@@ -82,6 +82,14 @@ others : moves packed may (
     ∷ row (codes "S2") (codes "2001.4.1") ∷ []) ≡ Move may (codes "2001.4.1") (codes "S2") ∷ []
 others = refl
 
+others-notes : audit_notes packed true (
+    row (codes "S9") (codes "2001.4.3") ∷ row (codes "S1") (codes "2009.1")
+    ∷ row (codes "S2") (codes "C2") ∷ row (codes "S2") (codes "2001.4.1")
+    ∷ row (codes "S2") (codes "2001.4.1") ∷ row (codes "S1") (codes "C1")
+    ∷ counted_alone (codes "S9") ∷ []) ≡ codes
+    "note: 2001.4.3 was seen at S9, which is not in the setup\nnote: 2009.1 was seen at S1 but is not in the setup: add it there first\nnote: C2 was seen at S2 but has no place on record: move it there yourself\nnote: 2001.4.1 was seen at S2, too: its first row counts\nnote: the list names S9, which is not in the setup\n"
+others-notes = refl
+
 -- the numbers of lines
 
 last_number : has_numbers 999999 1 ≡ true

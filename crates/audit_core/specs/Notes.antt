@@ -3,11 +3,16 @@ use Rattle.std.specs.Prelude.{ℕ, Bool, List, [], ◌++◌, codes, flat_map, un
 use Rattle.std.specs.Option.{option_map_or}
 use Rattle.nest_core.specs.Museum.{Museum, place_code_of, thing_code_of}
 use Rattle.posting_core.specs.Book.{Book, place_in}
+use Rattle.count_core.specs.declared.answer.CountAnswer.{CountAnswer}
+use Rattle.count_core.specs.declared.answer.CountAnswer.TheVariants.{UnknownPlace, Counted}
+use Rattle.count_core.specs.declared.answer.CountAnswer.TheVariants.{UnknownObject, Again, Unplaced}
+use Rattle.count_core.specs.declared.answer.CountAnswer.TheVariants.{Found, Elsewhere}
 use Rattle.count_core.specs.declared.answer.MissingObject.{MissingObject}
 use Rattle.count_core.specs.declared.count_row.CountRow.{CountRow}
 use Rattle.count_core.specs.Sealed.{missing_unless_sealed}
 use Rattle.audit_core.specs.declared.sightings.Sighting.{Sighting}
-use Rattle.audit_core.specs.Sightings.{container_holding, container_of, seen_elsewhere}
+use Rattle.audit_core.specs.declared.unmoved.Unmoved.{Unmoved}
+use Rattle.audit_core.specs.Sightings.{container_holding, container_of, seen_elsewhere, unmoved}
 
 abbrev pub thing_text : Museum → ℕ → List ℕ
 thing_text S x = unwrap_or (thing_code_of S x) []
@@ -27,6 +32,28 @@ inside_notes B seen =
     option_map_or (λ c. inside_note seen (thing_text B.museum c)) (container_holding B seen.thing)
     []
 
+abbrev pub who_text : CountRow → List ℕ
+who_text row = unwrap_or row.object []
+
+abbrev pub where_text : CountRow → List ℕ
+where_text row = option_map_or (λ _. codes " was seen at ") row.object (codes "the list names ")
+
+-- The end of the note on a row with this answer. Counted, Found and Elsewhere have none.
+abbrev pub why_text : CountAnswer → List ℕ
+why_text UnknownPlace = codes ", which is not in the setup\n"
+why_text UnknownObject = codes " but is not in the setup: add it there first\n"
+why_text Again = codes ", too: its first row counts\n"
+why_text Unplaced = codes " but has no place on record: move it there yourself\n"
+why_text Counted = codes "\n"
+why_text Found = codes "\n"
+why_text (Elsewhere p) = codes "\n"
+
+-- note: 2001.4.9 was seen at S2 but is not in the setup: add it there first
+abbrev pub unmoved_note : Unmoved → List ℕ
+unmoved_note seen =
+    codes "note: " ++ who_text seen.row ++ where_text seen.row ++ seen.row.place
+    ++ why_text seen.answer
+
 abbrev pub in_words : Book → ℕ → List ℕ
 in_words B x = option_map_or (λ c. codes " in " ++ thing_text B.museum c) (container_of B x) []
 
@@ -39,12 +66,15 @@ missing_note B missed =
     codes "missing: " ++ thing_text B.museum missed.object ++ in_words B missed.object
     ++ at_words B missed.object ++ codes " on record\n"
 
--- The notes on these sightings and these missing objects.
-abbrev pub notes_on : Book → List Sighting → List MissingObject → List ℕ
-notes_on B seen missed = flat_map (inside_notes B) seen ++ flat_map (missing_note B) missed
+-- The notes on these sightings, these rows and these missing objects.
+abbrev pub notes_on : Book → List Sighting → List Unmoved → List MissingObject → List ℕ
+notes_on B seen unmoved missed =
+    flat_map (inside_notes B) seen ++ flat_map unmoved_note unmoved
+    ++ flat_map (missing_note B) missed
 
--- The notes of an audit: on each thing that was found elsewhere but lies in a container, and on
--- each missing object, by whether containers count as sealed.
+-- The notes of an audit: on each thing that was found elsewhere but lies in a container, on each
+-- row that moves nothing and does not agree with the record, and on each missing object, by whether
+-- containers count as sealed.
 abbrev pub audit_notes : Book → Bool → List CountRow → List ℕ
 audit_notes B sealed rows =
-    notes_on B (seen_elsewhere B rows) (missing_unless_sealed B sealed rows)
+    notes_on B (seen_elsewhere B rows) (unmoved B rows) (missing_unless_sealed B sealed rows)

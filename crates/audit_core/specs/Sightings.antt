@@ -1,14 +1,18 @@
--- Defines what a count list found elsewhere, and the container that a thing lies in.
-use Rattle.std.specs.Prelude.{ℕ, List, Option, None, option_map, slice_get}
+-- Defines what a count list found elsewhere, the rows that move nothing, and the container that a
+-- thing lies in.
+use Rattle.std.specs.Prelude.{ℕ, List, Option, None, Some, option_map, slice_get}
 use Rattle.std.specs.List.{filter_map, zip}
 use Rattle.std.specs.Option.{option_and_then}
 use Rattle.nest_core.specs.Museum.{find_thing}
 use Rattle.posting_core.specs.Book.{Book, chain_in}
 use Rattle.count_core.specs.declared.answer.CountAnswer.{CountAnswer}
-use Rattle.count_core.specs.declared.answer.CountAnswer.TheVariants.{Elsewhere}
+use Rattle.count_core.specs.declared.answer.CountAnswer.TheVariants.{UnknownPlace, Counted}
+use Rattle.count_core.specs.declared.answer.CountAnswer.TheVariants.{UnknownObject, Again, Unplaced}
+use Rattle.count_core.specs.declared.answer.CountAnswer.TheVariants.{Found, Elsewhere}
 use Rattle.count_core.specs.declared.count_row.CountRow.{CountRow}
 use Rattle.count_core.specs.Counts.{answers}
 use Rattle.audit_core.specs.declared.sightings.Sighting.{Sighting}
+use Rattle.audit_core.specs.declared.unmoved.Unmoved.{Unmoved}
 
 -- The row saw this thing at its place.
 abbrev pub seen_by : CountRow → List ℕ → Sighting
@@ -26,6 +30,26 @@ seen_in rows found = filter_map (λ (row, answer). sighting_of row answer) (zip 
 -- What the list found elsewhere, by the answers of the count's report.
 abbrev pub seen_elsewhere : Book → List CountRow → List Sighting
 seen_elsewhere B rows = seen_in rows (answers B rows)
+
+abbrev pub answered : CountRow → CountAnswer → Unmoved
+answered row answer = record { row = row; answer = answer }
+
+-- A row that neither agrees with the record nor moves a thing, with its answer.
+abbrev pub unmoved_of : CountRow → CountAnswer → Option Unmoved
+unmoved_of row UnknownPlace = Some (answered row UnknownPlace)
+unmoved_of row UnknownObject = Some (answered row UnknownObject)
+unmoved_of row Again = Some (answered row Again)
+unmoved_of row Unplaced = Some (answered row Unplaced)
+unmoved_of row Counted = None
+unmoved_of row Found = None
+unmoved_of row (Elsewhere p) = None
+
+-- These of the rows with their answers, in the order of the rows.
+abbrev pub unmoved_in : List CountRow → List CountAnswer → List Unmoved
+unmoved_in rows found = filter_map (λ (row, answer). unmoved_of row answer) (zip rows found)
+
+abbrev pub unmoved : Book → List CountRow → List Unmoved
+unmoved B rows = unmoved_in rows (answers B rows)
 
 -- The container that thing x lies in directly.
 abbrev pub container_of : Book → ℕ → Option ℕ

@@ -12,6 +12,7 @@ use crate::AuditFault;
 use crate::lines::{has_numbers, lines, loose, moves};
 use crate::notes::notes;
 use crate::sightings::seen_elsewhere;
+use crate::unmoved::unmoved_rows;
 use codes_core::{Day, NoMemory};
 use count_core::{CountReport, CountRow, check, check_sealed};
 use nest_core::StationNo;
@@ -37,9 +38,10 @@ pub struct AuditOptions {
 pub struct AuditText {
     /// A line for each move, in the order of the list. Each ends with a line feed.
     pub lines: String,
-    /// First the things that were seen elsewhere but lie in a container on record, in the order of
-    /// the list; then the missing objects, in the order of the count's report. Each note ends with
-    /// a line feed.
+    /// First the things that were seen elsewhere but lie in a container on record, then the rows
+    /// that name something unknown, a thing again, or a thing that was never placed, both in the
+    /// order of the list; then the missing objects, in the order of the count's report. Each note
+    /// ends with a line feed.
     pub notes: String,
 }
 
@@ -80,7 +82,8 @@ pub fn audit<T: Threads + Sync>(
     }
     let station = setup.station_name(options.station);
     let lines = lines(alloc, station, options.first, &moves)?;
-    let notes = notes(alloc, ledger, &seen, &missing)?;
+    let unmoved = unmoved_rows(alloc, rows, &answers)?;
+    let notes = notes(alloc, ledger, &seen, &unmoved, &missing)?;
     Ok(AuditText { lines, notes })
 }
 

@@ -3,8 +3,9 @@
 //! [`audit`] compares a list with the record, and posts nothing. Its [`AuditText`] has a line for
 //! each thing that the list found elsewhere, which moves the thing to the place where it was seen.
 //! A container is moved like any other thing, and what is in it moves with it. A thing that lies in
-//! a container on record has no line: it is a note. The objects that the list misses are notes,
-//! too.
+//! a container on record has no line: it is a note. So is a row that names something unknown, a
+//! thing a second time, or a thing that was never placed; and so is each object that the list
+//! misses. Other rows agree with the record.
 //!
 //! ```text
 //! {"station":"GAL","n":6,"message":{"day":"2024-05-01","kind":"move","place":"S1-A","thing":"2001.4.1"}}
@@ -22,6 +23,7 @@ pub mod laws;
 mod lines;
 mod notes;
 mod sightings;
+mod unmoved;
 
 pub use audit_fault::AuditFault;
 pub use auditing::{AuditOptions, AuditText, audit};

@@ -3,30 +3,34 @@ ghost use Rattle.std.specs.Prelude.{◌≡◌, ◌<◌, ◌++◌, All, IfOk, OnO
 ghost use Rattle.std.specs.Prelude.{string_bytes};
 ghost use Rattle.count_core.specs.Counts.{IsMissingIn};
 ghost use Rattle.audit_core.specs.Notes.{at_words, inside_note, inside_notes, in_words};
-ghost use Rattle.audit_core.specs.Notes.{missing_note, notes_on};
+ghost use Rattle.audit_core.specs.Notes.{missing_note, notes_on, unmoved_note, who_text, why_text};
+ghost use Rattle.audit_core.specs.Notes.{where_text};
 
 use crate::containers::{container_holding, container_of};
 use crate::sightings::Sighting;
+use crate::unmoved::Unmoved;
 use codes_core::{NoMemory, ThingCode};
-use count_core::MissingObject;
+use count_core::{CountAnswer, CountRow, MissingObject};
 use nest_core::ThingNo;
 use posting_core::Ledger;
 use std::alloc::Global;
 
-/// The notes on the things that were found elsewhere, and on the missing objects. Fails with
-/// `NoMemory`.
+/// The notes on the things that were found elsewhere, on the rows that move nothing, and on the
+/// missing objects. Fails with `NoMemory`.
 pub(crate) fn notes(
     alloc: Global,
     ledger: &Ledger,
     seen: &[Sighting],
+    unmoved: &[Unmoved],
     missing: &[MissingObject],
 ) -> Result<String, NoMemory>
     requires { All (IsMissingIn ledger.now.museum) missing.now }
     ensures { IfOk result
-        (λ text. string_bytes text ≡ notes_on ledger.now seen.now missing.now) }
+        (λ text. string_bytes text ≡ notes_on ledger.now seen.now unmoved.now missing.now) }
 {
     let mut text = String::new(alloc);
     push_seen(alloc, ledger, &mut text, seen)?;
+    push_unmoved(&mut text, unmoved)?;
     push_missing(alloc, ledger, &mut text, missing)?;
     Ok(text)
 }
@@ -78,6 +82,60 @@ fn push_inside(text: &mut String, sighting: &Sighting, container: ThingCode) -> 
             " on record: move it yourself if it was taken out\n",
         ],
     )
+}
+
+fn push_unmoved(text: &mut String, unmoved: &[Unmoved]) -> Result<(), NoMemory>
+    ensures { OnOk result (string_bytes text.new
+        ≡ string_bytes text.old ++ flat_map unmoved_note unmoved.now) }
+{
+    for i in 0..unmoved.len() {
+        push_row(text, &unmoved[i])?;
+    }
+    Ok(())
+}
+
+/// Adds the note on a row that moves nothing.
+fn push_row(text: &mut String, unmoved: &Unmoved) -> Result<(), NoMemory>
+    ensures { OnOk result (string_bytes text.new
+        ≡ string_bytes text.old ++ unmoved_note unmoved.now) }
+{
+    text.push_str("note: ")?;
+    text.push_str(who(&unmoved.row))?;
+    text.push_str(where_words(&unmoved.row))?;
+    text.push_str(unmoved.row.place.as_str())?;
+    text.push_str(why(unmoved.answer))?;
+    Ok(())
+}
+
+/// The thing that the row names, if it names one.
+fn who(row: &CountRow) -> &str
+    ensures { result.now ≡ who_text row.now }
+{
+    match &row.object {
+        Some(thing) => thing.as_str(),
+        None => "",
+    }
+}
+
+fn where_words(row: &CountRow) -> &'static str
+    ensures { result.now ≡ where_text row.now }
+{
+    match row.object {
+        Some(_) => " was seen at ",
+        None => "the list names ",
+    }
+}
+
+fn why(answer: CountAnswer) -> &'static str
+    ensures { result.now ≡ why_text answer }
+{
+    match answer {
+        CountAnswer::UnknownPlace => ", which is not in the setup\n",
+        CountAnswer::UnknownObject => " but is not in the setup: add it there first\n",
+        CountAnswer::Again => ", too: its first row counts\n",
+        CountAnswer::Unplaced => " but has no place on record: move it there yourself\n",
+        CountAnswer::Counted | CountAnswer::Found | CountAnswer::Elsewhere(_) => "\n",
+    }
 }
 
 fn push_missing(
