@@ -11,12 +11,12 @@ SETUP = "station,GAL\nplace,S1,inside\nown,2001.4.1,S1\n"
 PROMPT = b"note: waiting for lines from the terminal; end them with Ctrl-D\n"
 
 
-def run_at_terminal(words, typed, ends=1):
-    """What the program prints on standard error, and its status, where this is typed, and then Ctrl-D so many times."""
+def run_at_terminal(words, typed):
+    """What the program prints on standard error, and its status, where this is typed, and then Ctrl-D once."""
     terminal, line = pty.openpty()
     ran = subprocess.Popen(words, stdin=line, stdout=subprocess.DEVNULL, stderr=subprocess.PIPE)
     os.close(line)
-    os.write(terminal, typed + ends * b"\x04")
+    os.write(terminal, typed + b"\x04")
     errors = ran.communicate(timeout=20)[1]
     os.close(terminal)
     return errors, ran.returncode
@@ -30,8 +30,7 @@ def main():
         file.write(SETUP)
     session, status = run_at_terminal([program], f"{SETUP}\n".encode())
     assert session.startswith(PROMPT) and session.count(b"\n") == 2 and status == 0, session
-    # the end of a terminal's input is read once by what looks for a byte order mark, and once by what looks for a line
-    replay, status = run_at_terminal([program, "replay", "--setup", setup], b"", 2)
+    replay, status = run_at_terminal([program, "replay", "--setup", setup], b"")
     assert replay == session and status == 0, replay
     question = b'{"ask":"where","thing":"2001.4.1"}\n'
     replay, status = run_at_terminal([program, "replay", "--setup", setup], question)

@@ -1,6 +1,7 @@
 -- Defines what the commands print that help with a station's messages. `o` and `o'` are the bytes
 -- that the output holds before and after.
-use Rattle.std.specs.Prelude.{ℕ, ℤ, ◌≡◌, [], Bool, IsTrue, List, None, Ok, Option, Some, unwrap_or}
+use Rattle.std.specs.Prelude.{ℕ, ℤ, ◌≡◌, ◌++◌, [], Bool, IsTrue, List, None, Ok, Option, Some}
+use Rattle.std.specs.Prelude.{unwrap_or}
 use Rattle.std.specs.Borrow.{Bor}
 use Rattle.std.specs.Io.KnownBytes.{Appends}
 use Rattle.audit_core.specs.Lines.{audit_lines}
@@ -8,7 +9,7 @@ use Rattle.command_words.specs.Words.{text_of}
 use Rattle.command_words.specs.declared.command.TableWords.{TableWords}
 use Rattle.count_core.specs.declared.count_row.CountRow.{CountRow}
 use Rattle.hub_program.specs.declared.tables.GivenTable.{GivenTable}
-use Rattle.line_files.specs.Texts.{are_fine, resend_text}
+use Rattle.line_files.specs.Texts.{are_fine, resend_help, resend_text}
 use Rattle.line_trials.specs.Notes.{notes}
 use Rattle.nest_core.specs.Museum.{Museum, find_station, station_name_of}
 use Rattle.posting_core.specs.Book.{Book}
@@ -42,13 +43,14 @@ pub record PrintsAudit (L : Book) (name : List ℕ) (day : ℤ) (first : Option 
   pub printed : Appends o o' (audit_lines L
       (record { station = station; day = day; first = number; sealed = sealed }) rows)
 
--- How each line of a file stands to the record, for the station of this name. The result is whether
--- each line is posted, or would be.
-pub record PrintsComparison (L : Book) (name bytes : List ℕ) (o o' : Option (List ℕ)) (fine : Bool)
-    : Type 0 where
+-- How each line of a file stands to the record, for the station of this name, and a note if there
+-- is help. The result is whether each line is posted, or would be.
+pub record PrintsComparison (L : Book) (name bytes : List ℕ) (o o' : Option (List ℕ))
+    (notes notes' : List ℕ) (fine : Bool) : Type 0 where
   pub station : ℕ
   pub listed : find_station L.museum name ≡ Some station
   pub printed : Appends o o' (resend_text L station bytes)
+  pub noted : notes' ≡ notes ++ resend_help L station bytes
   pub is_fine : fine ≡ are_fine L station bytes
 
 -- The text of an option. Empty if it is not given.

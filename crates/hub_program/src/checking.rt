@@ -13,7 +13,7 @@ use crate::list_fault::list_fault;
 use crate::row_advice::Beside;
 use file_checks::{check_counts, check_setup, counts_summary, setup_summary};
 use input_marks::past_mark;
-use line_files::{check_lines, check_text};
+use line_files::{check_help, check_lines, check_text};
 use std::alloc::Global;
 use std::io::Write;
 
@@ -93,8 +93,9 @@ fn check_lines_file<W: Write>(
         × Appends (W.contents output.old) (W.contents output.new) (check_text bytes.now)) }
 {
     let checked = check_lines(alloc, bytes)?;
-    let text = check_text(alloc, bytes)?;
+    let mut text = check_text(alloc, bytes)?;
     if !checked.bad.is_empty() {
+        text.push_str(check_help(bytes))?;
         return Err(CommandFault::Faults(text));
     }
     write_line(output, &text)

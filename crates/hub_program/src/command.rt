@@ -217,7 +217,7 @@ fn perform<
                 station,
                 file,
             };
-            compare_file(rt, wanted, start, input, output)
+            compare_file(rt, wanted, start, input, output, notes)
         }
         Chosen::Audit(words) => {
             let closed = audit_list(rt, threads, *words, start, output, notes)?;

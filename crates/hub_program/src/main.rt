@@ -9,8 +9,8 @@
 //!
 //! The promises are those of the crates below. The contracts here connect them: the work of a
 //! command is done on the record that the store's files hold, the store that the words name is
-//! closed again, a serving gets one feed for each station, and a copy is compared under the setup of
-//! the record.
+//! closed again, a serving gets one feed for each station, and a copy is compared under the setup
+//! of the record.
 //!
 //! ```text
 //! $ pairsalder where --setup museum.csv --store museum.db 2001.4.1

@@ -1,5 +1,5 @@
 //! Compares a station's file with the record.
-ghost use Rattle.std.specs.Prelude.{◌≡◌, IfOk, Some};
+ghost use Rattle.std.specs.Prelude.{◌≡◌, IfOk, Some, string_bytes};
 ghost use Rattle.hub_program.specs.Places.{kept_in};
 ghost use Rattle.hub_program.specs.Printing.{PrintsComparison};
 
@@ -38,32 +38,36 @@ pub fn compare_file<'a, S: Start, R: BufRead, W: Write>(
     start: S,
     input: &mut R,
     output: &mut W,
+    notes: &mut String,
 ) -> Result<Ending<'a>, CommandFault>
     ensures { IfOk result (λ ending. kept_in ending ≡ Some wanted.entry.store.now) }
 {
     let bytes = read_named(rt, wanted.file, input)?;
     let (ledger, closed) = read_record(rt, wanted.setup, wanted.store, start)?;
     let lines = past_mark(&bytes);
-    if print_comparison(rt.alloc(), &ledger, wanted.station, lines, output)? {
+    if print_comparison(rt.alloc(), &ledger, wanted.station, lines, output, notes)? {
         return Ok(Ending::Done(Some(closed)));
     }
     Ok(Ending::NotApplied(Some(closed)))
 }
 
-/// Prints how each line stands to the record. Returns whether each is posted, or would be. Faults:
-/// Station, WriteFailed; NoMemory.
+/// Prints how each line stands to the record, and adds help on lines of another station to the
+/// notes. Returns whether each line is posted, or would be. Faults: Station, WriteFailed; NoMemory.
 fn print_comparison<W: Write>(
     alloc: Global,
     ledger: &Ledger,
     name: &str,
     bytes: &[u8],
     output: &mut W,
+    notes: &mut String,
 ) -> Result<bool, CommandFault>
     ensures { IfOk result (PrintsComparison ledger.now name.now bytes.now
-        (W.contents output.old) (W.contents output.new)) }
+        (W.contents output.old) (W.contents output.new)
+        (string_bytes notes.old) (string_bytes notes.new)) }
 {
     let station = station_of(alloc, ledger.setup(), name)?;
     let compared = resend_text(alloc, ledger, station, bytes)?;
     write_line(output, &compared.text)?;
+    notes.push_str(compared.help)?;
     Ok(compared.is_fine)
 }

@@ -1,10 +1,12 @@
 //! Prints the messages of a table as lines.
 ghost use Rattle.std.specs.Prelude.{ℕ, ◌≡◌, ◌<◌, IfOk, List, OnOk, Some, length, string_bytes};
-ghost use Rattle.std.specs.Prelude.{unwrap_or};
+ghost use Rattle.std.specs.Prelude.{◌++◌, unwrap_or};
 ghost use Rattle.command_words.specs.Words.{text_of};
 ghost use Rattle.hub_program.specs.Places.{kept_in};
 ghost use Rattle.hub_program.specs.Printing.{PrintsLines, PrintsTried, options_of, text_or};
 ghost use Rattle.nest_core.specs.Museum.{station_name_of};
+ghost use Rattle.table_lines.specs.FaultTexts.{faults_text};
+ghost use Rattle.table_lines.specs.HelpLines.{help_text};
 ghost use Rattle.table_lines.specs.LineTexts.{lines_text};
 ghost use Rattle.table_lines.specs.SheetLines.{IsLines};
 ghost use Rattle.table_lines.specs.declared.sheet_lines.SheetLines.{SheetLines};
@@ -27,8 +29,10 @@ use posting_core::Ledger;
 use sqlite::Start;
 use std::alloc::Global;
 use std::io::{BufRead, Write};
-use table_core::{CellFault, CellText, Column, DateOrder, FaultyCell, TableLine, TableOptions};
-use table_lines::{LinesFault, SheetLines, faults_text, lines_text, notes_text, read_lines};
+use table_core::{CellText, DateOrder, TableLine, TableOptions};
+use table_lines::{
+    LinesFault, SheetLines, faults_text, help_text, lines_text, notes_text, read_lines,
+};
 
 /// Prints a line for each row of a table, and adds the notes. With a store it also judges each
 /// message as if it were posted now, and adds a note for each that would not be applied.
@@ -217,40 +221,14 @@ fn messages_of(
     }
 }
 
-/// The lines of all faults of a table, and a `help:` line for the first one that an option mends.
-fn faults_and_help(alloc: Global, fault: &LinesFault) -> Result<String, NoMemory> {
+/// The lines of all faults of a table, and a `help:` line if there is help on a cell.
+fn faults_and_help(alloc: Global, fault: &LinesFault) -> Result<String, NoMemory>
+    ensures { IfOk result
+        (λ text. string_bytes text ≡ faults_text fault.now ++ help_text fault.now) }
+{
     let mut text = faults_text(alloc, fault)?;
-    if let LinesFault::Rows(cells) = fault {
-        if let Some(help) = cells.iter().find_map(help_on) {
-            text.push_str(help)?;
-        }
-    }
+    text.push_str(help_text(fault))?;
     Ok(text)
-}
-
-/// The `help:` line for a faulty cell that an option mends.
-fn help_on(cell: &FaultyCell) -> Option<&'static str> {
-    match (cell.fault, cell.column) {
-        (CellFault::NotADay, _) => {
-            Some("help: --dates dmy also reads 31/12/2024, and --dates mdy 12/31/2024\n")
-        }
-        (CellFault::Empty, Column::Kind) => {
-            Some("help: --kind fills the empty cells of kind, as in --kind move\n")
-        }
-        (CellFault::Empty, Column::Day) => {
-            Some("help: --day fills the empty cells of day, as in --day 2024-05-01\n")
-        }
-        (CellFault::Empty, Column::Place) => {
-            Some("help: --place fills the empty cells of place, as in --place A-1\n")
-        }
-        (CellFault::Empty, Column::Loan) => {
-            Some("help: --loan fills the empty cells of loan, as in --loan LO2024.1\n")
-        }
-        (CellFault::Empty, Column::By) => {
-            Some("help: --by fills the empty cells of by, as in --by 'A. Reader'\n")
-        }
-        _ => None,
-    }
 }
 
 /// The text for empty cells: none if the words have none.

@@ -1,7 +1,8 @@
 -- Defines the lines of a file that no record takes, whatever its setup.
-use Rattle.std.specs.Prelude.{ℕ, ◌+◌, ◌==◌, ◌++◌, not, List, [], ◌∷◌, count_by}
+use Rattle.std.specs.Prelude.{ℕ, ◌+◌, ◌==◌, ◌++◌, nat_eq, not, List, [], ◌∷◌, count_by}
 use Rattle.std.specs.Prelude.{flat_map, Option, Some, None, Result, Ok, Err, codes, decimal}
 use Rattle.std.specs.Prelude.{if◌then◌else◌}
+use Rattle.std.specs.List.{starts_with}
 use Rattle.nest_core.specs.Museum.{no_museum}
 use Rattle.register_store.specs.declared.fault.ReadFault.{ReadFault}
 use Rattle.hub_core.specs.declared.line.request.Line.{Line}
@@ -66,3 +67,9 @@ found_text count (bad ∷ more) = flat_map bad_text (bad ∷ more)
 
 abbrev pub check_text : List ℕ → List ℕ
 check_text bytes = found_text (line_count bytes) (bad_lines bytes)
+
+-- The `help:` line for a file with faults that does not begin with an opening brace.
+abbrev pub check_help : List ℕ → List ℕ
+check_help bytes =
+    if starts_with nat_eq bytes (codes "{") then []
+    else codes "help: a line is a JSON object and begins with {: 'pairsalder lines' makes lines of a table\n"

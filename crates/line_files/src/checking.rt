@@ -4,7 +4,7 @@ ghost use Rattle.std.specs.Prelude.{string_bytes};
 ghost use Rattle.nest_core.specs.Museum.{no_museum};
 ghost use Rattle.hub_core.specs.Lines.{is_empty};
 ghost use Rattle.line_files.specs.Checked.{bad_at, bad_from, bad_lines, bad_text, check_text};
-ghost use Rattle.line_files.specs.Checked.{count_text, found_text};
+ghost use Rattle.line_files.specs.Checked.{check_help, count_text, found_text};
 ghost use Rattle.line_files.specs.Checked.{line_count, line_fault, lines_noun};
 ghost use Rattle.line_files.specs.Checked.{request_fault};
 
@@ -56,6 +56,17 @@ pub fn check_text(alloc: Global, bytes: &[u8]) -> Result<String, NoMemory>
 {
     let checked = check_lines(alloc, bytes)?;
     found_text(alloc, checked.count, &checked.bad)
+}
+
+/// The `help:` line for a file of lines with faults: one if the file does not begin as a line does,
+/// with `{`. Otherwise empty.
+pub fn check_help(bytes: &[u8]) -> &'static str
+    ensures { result.now ≡ check_help bytes.now }
+{
+    if bytes.starts_with(b"{") {
+        return "";
+    }
+    "help: a line is a JSON object and begins with {: 'pairsalder lines' makes lines of a table\n"
 }
 
 fn count_lines(lines: &[&[u8]]) -> usize

@@ -26,7 +26,7 @@ mod reading;
 mod resending;
 mod standing;
 
-pub use checking::{BadLine, CheckedLines, check_lines, check_text};
+pub use checking::{BadLine, CheckedLines, check_help, check_lines, check_text};
 pub use comparison::compare_lines;
 pub use line_fault::LineFault;
 pub use resending::{Resent, resend_text};

@@ -1,10 +1,11 @@
 //! Prints how a station's file of lines stands to the record.
 ghost use Rattle.std.specs.Prelude.{◌≡◌, ◌<◌, IfOk, flat_map, length, string_bytes};
-ghost use Rattle.std.specs.List.{list_all};
+ghost use Rattle.std.specs.List.{list_all, list_any};
 ghost use Rattle.line_files.specs.Texts.{are_fine, is_fine, range_text, resend_text, row_text};
+ghost use Rattle.line_files.specs.Texts.{is_other_station, resend_help, resend_help_on};
 ghost use Rattle.line_files.specs.Texts.{standing_text};
 
-use crate::{Compared, Standing, compare_lines};
+use crate::{Compared, LineFault, Standing, compare_lines};
 use codes_core::NoMemory;
 use nest_core::StationNo;
 use posting_core::Ledger;
@@ -18,6 +19,8 @@ pub struct Resent {
     pub text: String,
     /// Whether each line of the file is the same or next.
     pub is_fine: bool,
+    /// A `help:` line if a line is another station's; otherwise empty.
+    pub help: &'static str,
 }
 
 /// Returns the printed comparison of a station's file with the record. The bytes are those of the
@@ -33,11 +36,18 @@ pub fn resend_text(
         (λ resent. string_bytes resent.text ≡ resend_text ledger.now station bytes.now) }
     ensures fine { IfOk result
         (λ resent. resent.is_fine ≡ are_fine ledger.now station bytes.now) }
+    ensures help { IfOk result
+        (λ resent. resent.help.now ≡ resend_help ledger.now station bytes.now) }
 {
     let rows = compare_lines(alloc, ledger, station, bytes)?;
     let text = rows_text(alloc, &rows)?;
     let is_fine = are_fine(&rows);
-    Ok(Resent { text, is_fine })
+    let help = help_on(&rows);
+    Ok(Resent {
+        text,
+        is_fine,
+        help,
+    })
 }
 
 fn rows_text(alloc: Global, rows: &[Compared]) -> Result<String, NoMemory>
@@ -87,6 +97,28 @@ fn range_text(alloc: Global, from: u32, to: u32) -> Result<String, NoMemory>
         return Ok(format!(in alloc; "{from}")?);
     }
     Ok(format!(in alloc; "{from} to {to}")?)
+}
+
+/// The `help:` line for these lines of a file.
+fn help_on(rows: &[Compared]) -> &'static str
+    ensures { result.now ≡ resend_help_on rows.now }
+{
+    if has_other_station(rows) {
+        return "help: a line is of another station: --station is the one that sent the file\n";
+    }
+    ""
+}
+
+fn has_other_station(rows: &[Compared]) -> bool
+    ensures { result ≡ list_any (λ c. is_other_station c.standing) rows.now }
+{
+    rows.iter().any(|row| is_other_station(&row.standing))
+}
+
+fn is_other_station(standing: &Standing) -> bool
+    ensures { result ≡ is_other_station standing.now }
+{
+    matches!(standing, Standing::Bad(LineFault::OtherStation))
 }
 
 fn are_fine(rows: &[Compared]) -> bool
