@@ -7,6 +7,7 @@
 
 mod counts;
 mod lanes;
+mod merkle_heads;
 mod messages;
 mod reopening;
 mod serving;

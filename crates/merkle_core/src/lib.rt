@@ -20,8 +20,6 @@ mod builder;
 mod hashes;
 pub mod laws;
 mod paths;
-#[cfg(test)]
-mod tests;
 mod trees;
 
 pub use builder::HeadBuilder;

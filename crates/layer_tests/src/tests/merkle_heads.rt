@@ -1,6 +1,10 @@
-use crate::{HeadBuilder, audit_path, head_of_hashes, leaf_hash, root_from_path, verify_path};
+//! Heads and an audit path of the reference tests of Certificate Transparency.
 
-// The leaves of the reference tests of Certificate Transparency.
+use merkle_core::{
+    HeadBuilder, audit_path, head_of_hashes, leaf_hash, root_from_path, verify_path,
+};
+
+// The leaves.
 const LEAVES: [&[u8]; 8] = [
     b"",
     b"\x00",
