@@ -7,6 +7,7 @@ import io
 import json
 import os
 import random
+import shutil
 import subprocess
 import sys
 import tempfile
@@ -87,8 +88,27 @@ def all_faults(room, _):
     ]
     *told, advice = errors.splitlines()
     named = len(told) == len(wanted) and all(any(it.startswith(front) for it in told) for front in wanted)
-    named &= advice == "help: --dates dmy also reads 31/12/2024, and --dates mdy 12/31/2024"
+    named &= advice.startswith("help: codes of places are like S1-A-3, ")
+    helped = [(["2001.1.1", "S1", "1/5/2024"], "help: --dates dmy "), (["2001.1.1", "", "2024-05-01"], "help: --place fills ")]
+    helped += [(["c1", "S1", "2024-05-01"], "help: codes of things are like ")]
+    named &= all(room.lines(table([HEADING, row]))[2].splitlines()[1].startswith(help) for row, help in helped)
     return (status, output) == (1, "") and named
+
+
+def read_by_csvkit(room, _):
+    """csvkit reads the lines as a table with the cells that they came from. Not tried if csvkit isn't installed."""
+    if not shutil.which("in2csv"):
+        print("  csvkit is not installed, so it reads nothing here")
+        return True
+    heading = ["kind", "thing", "place", "day", "loan", "by"]
+    rows = [["move", *row, "", ""] for row in ROWS]
+    names = ["A. Reader", 'Ann "Nan" O\'Hara', "M\u00fcller, Jos\u00e9", "\u0130\U0001d11e / 12", "1987.12.1"]
+    rows += [["authorise", "", "", "", f"LO2024.{i + 1}", name] for i, name in enumerate(names)]
+    status, output, errors = room.run("lines", "-s", "museum.csv", "--station", "REG", "-", given=table([heading, *rows]))
+    ran = subprocess.run(["in2csv", "-I", "-f", "ndjson"], input=output.encode(), capture_output=True, timeout=60, check=False)
+    read = list(csv.DictReader(io.StringIO(ran.stdout.decode(), newline="")))
+    good = (status, errors, ran.returncode) == (0, "", 0) and [it["n"] for it in read] == [str(i + 1) for i in range(len(rows))]
+    return good and [[it[f"message/{name}"] for name in heading] for it in read] == rows
 
 
 def cells_of(text):
@@ -194,7 +214,16 @@ def audits(room, _):
     replies = room.stored("replay", "--strict", given=output)
     count = room.stored("count", "list.csv")[1].splitlines()
     wrong = [it for it in count if not it.endswith(("Counted", "Found"))]
-    return good and replies[0] == 0 and len(wrong) == 2
+    return good and replies[0] == 0 and len(wrong) == 2 and no_row_is_lost(room)
+
+
+def no_row_is_lost(room):
+    """Each row of a count list is a move or a note, or agrees with the record."""
+    rows = ["S9,2001.1.1", "S9", "S1,2009.1", "S2,2001.1.1", "S1,2001.1.1", "MUSEUM-X,2001.1.2"]
+    room.write("odd.csv", "".join(f"{row}\n" for row in rows))
+    status, output, errors = room.stored("audit", "--station", "REG", "--day", "2024-05-04", "odd.csv")
+    told = [*output.splitlines(), *(it for it in errors.splitlines() if it.startswith("note: "))]
+    return status == 0 and len(told) == len(rows)
 
 
 def checked_files(room, _):
@@ -214,7 +243,7 @@ def checked_files(room, _):
     return good and room.run("check")[0] == 2
 
 
-CHECKS = [as_saved, all_faults, each_byte, first_fault, whole_way, station_files, audits, checked_files]
+CHECKS = [as_saved, all_faults, read_by_csvkit, each_byte, first_fault, whole_way, station_files, audits, checked_files]
 
 
 def main():
