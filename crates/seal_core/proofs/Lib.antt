@@ -1,0 +1,2 @@
+pub mod MoreLeaves
+mod WorkedSeals

@@ -1,0 +1,19 @@
+//! Seals of a record, and receipts of its entries: evidence that the past is as it was.
+//!
+//! A [`Seal`] has a number of entries and the head of a Merkle tree over them (RFC 6962). The
+//! leaves are the entries' lines as the report of posted entries prints them. Whoever keeps a
+//! seal can check later that none of these entries was changed, removed or added.
+//!
+//! ```text
+//! let seal = seal(alloc, ledger, None)?;
+//! seal_text(alloc, &seal)?                 // 80000 sha256:1029..
+//! check_seal(alloc, ledger, &seal)?        // true, also after more entries are posted
+//! ```
+#![tactic(auto)]
+
+mod leaves;
+mod seal;
+mod sealing;
+
+pub use seal::{Seal, check_text, seal_text};
+pub use sealing::{SealFault, check_seal, make_seal};
