@@ -1,2 +1,4 @@
 pub mod MoreLeaves
+pub mod Parts
+pub mod Kept
 mod WorkedSeals

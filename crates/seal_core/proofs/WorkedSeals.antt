@@ -1,7 +1,7 @@
 -- The definitions of leaves and seals, computed on a small record: two messages of GAL, the first of
 -- them refused, and one of PACK. No SHA-256 is computed.
 use Rattle.std.specs.Fmt.{digits}
-use Rattle.std.specs.Prelude.{◌≡◌, ◌∷◌, [], List, ℕ, None, Some, codes, false, refl, true}
+use Rattle.std.specs.Prelude.{◌≡◌, ◌∷◌, ◌++◌, [], List, ℕ, None, Some, codes, false, refl, true}
 use Rattle.hex.specs.Hex.{encode_with}
 use Rattle.json.specs.Print.{escape_byte}
 use Rattle.merkle_core.specs.Hashes.{leaf_hash, node_hash}
@@ -11,6 +11,8 @@ use Rattle.posting_core.specs.Book.{Book}
 use Rattle.posting_core.proofs.WorkedRows.{book, gal, pack, run}
 use Rattle.seal_core.specs.declared.seal.Seal.{Seal}
 use Rattle.seal_core.specs.Leaves.{entry_leaf, leaves}
+use Rattle.seal_core.specs.declared.reading.LineFault.TheVariants.{NoMark}
+use Rattle.seal_core.specs.Readings.{digits_part, has_mark, number_part, IsFirstFault}
 use Rattle.seal_core.specs.Seals.{check_text, seal_text, sealed_count}
 
 abbrev three : Book
@@ -71,3 +73,26 @@ sealed-holds = refl
 sealed-broken : check_text 79 false ≡ codes "79 broken"
 unfolding digits
 sealed-broken = refl
+
+-- The parts of a seal's line, and of a line with another mark.
+
+abbrev digits_of_sealed : List ℕ
+digits_of_sealed = codes "1029abcd010203041029abcd010203041029abcd010203041029abcd010203ff"
+
+abbrev line : List ℕ
+line = codes "79 sha256:" ++ digits_of_sealed
+
+abbrev other_line : List ℕ
+other_line = codes "79 sha512:" ++ digits_of_sealed
+
+line-marked : has_mark line ≡ true
+line-marked = refl
+
+line-number : number_part line ≡ codes "79"
+line-number = refl
+
+line-digits : digits_part line ≡ digits_of_sealed
+line-digits = refl
+
+other_line-marked : IsFirstFault other_line NoMark
+other_line-marked = refl

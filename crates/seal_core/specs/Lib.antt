@@ -1,2 +1,3 @@
 pub mod Leaves
 pub mod Seals
+pub mod Readings

@@ -11,9 +11,12 @@
 //! ```
 #![tactic(auto)]
 
+pub mod laws;
 mod leaves;
+mod reading;
 mod seal;
 mod sealing;
 
+pub use reading::{LineFault, read_seal};
 pub use seal::{Seal, check_text, seal_text};
 pub use sealing::{SealFault, check_seal, make_seal};
