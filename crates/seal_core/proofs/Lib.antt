@@ -1,4 +1,6 @@
 pub mod MoreLeaves
 pub mod Parts
 pub mod Kept
+pub mod LeafNumbers
+pub mod HeldReceipts
 mod WorkedSeals

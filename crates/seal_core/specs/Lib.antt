@@ -1,3 +1,4 @@
 pub mod Leaves
 pub mod Seals
 pub mod Readings
+pub mod Receipts

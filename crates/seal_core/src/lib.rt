@@ -14,9 +14,13 @@
 pub mod laws;
 mod leaves;
 mod reading;
+mod receipt;
+mod receipts;
 mod seal;
 mod sealing;
 
 pub use reading::{LineFault, read_seal};
+pub use receipt::{Receipt, check_receipt};
+pub use receipts::make_receipt;
 pub use seal::{Seal, check_text, seal_text};
 pub use sealing::{SealFault, check_seal, make_seal};
