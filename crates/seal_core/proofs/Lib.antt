@@ -3,4 +3,5 @@ pub mod Parts
 pub mod Kept
 pub mod LeafNumbers
 pub mod HeldReceipts
+pub mod ReceiptTokens
 mod WorkedSeals

@@ -2,3 +2,4 @@ pub mod Leaves
 pub mod Seals
 pub mod Readings
 pub mod Receipts
+pub mod ReceiptTexts

@@ -15,12 +15,14 @@ pub mod laws;
 mod leaves;
 mod reading;
 mod receipt;
+mod receipt_writer;
 mod receipts;
 mod seal;
 mod sealing;
 
 pub use reading::{LineFault, read_seal};
 pub use receipt::{Receipt, check_receipt};
+pub use receipt_writer::receipt_text;
 pub use receipts::make_receipt;
 pub use seal::{Seal, check_text, seal_text};
 pub use sealing::{SealFault, check_seal, make_seal};
