@@ -4,4 +4,6 @@ pub mod Kept
 pub mod LeafNumbers
 pub mod HeldReceipts
 pub mod ReceiptTokens
+pub mod HashItems
+pub mod ReadReceipts
 mod WorkedSeals

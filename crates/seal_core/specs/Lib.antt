@@ -3,3 +3,4 @@ pub mod Seals
 pub mod Readings
 pub mod Receipts
 pub mod ReceiptTexts
+pub mod ReceiptReadings

@@ -15,6 +15,9 @@ pub mod laws;
 mod leaves;
 mod reading;
 mod receipt;
+mod receipt_fault;
+mod receipt_fields;
+mod receipt_reader;
 mod receipt_writer;
 mod receipts;
 mod seal;
@@ -22,6 +25,8 @@ mod sealing;
 
 pub use reading::{LineFault, read_seal};
 pub use receipt::{Receipt, check_receipt};
+pub use receipt_fault::ReceiptFault;
+pub use receipt_reader::read_receipt;
 pub use receipt_writer::receipt_text;
 pub use receipts::make_receipt;
 pub use seal::{Seal, check_text, seal_text};
