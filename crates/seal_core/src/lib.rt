@@ -5,7 +5,7 @@
 //! seal can check later that none of these entries was changed, removed or added.
 //!
 //! ```text
-//! let seal = seal(alloc, ledger, None)?;
+//! let seal = make_seal(alloc, ledger, None)?;
 //! seal_text(alloc, &seal)?                 // 80000 sha256:1029..
 //! check_seal(alloc, ledger, &seal)?        // true, also after more entries are posted
 //! ```
