@@ -38,7 +38,8 @@ hash_at values hashes k value inside is all same =
       spelled = ap view is
           ∙ sym (get_or-map view values k value (string []) inside)
           ∙ ap (λ (ds : List Data). get_or ds k (string [])) same
-          ∙ get_or-map string (map encode_lower hashes) k [] (string []) (omega (arith, below, digits))
+          ∙ get_or-map string (map encode_lower hashes) k [] (string [])
+          (omega (arith, below, digits))
           ∙ ap string (get_or-map encode_lower hashes k [] [] below);
       is_hash = All-get_or IsHash hashes k [] below all;
     }

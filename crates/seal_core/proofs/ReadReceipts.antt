@@ -62,7 +62,11 @@ back : (r : Receipt) → IsWhole r
 back r whole =
     let entry : r.entry < 2 ^ 64 = omega (arith, whole.entry) in
     let size : r.size < 2 ^ 64 = omega (arith, whole.size) in
-    rw (number_of-decimal r.entry entry, number_of-decimal r.size size, texts_back r.path.items) refl
+    rw (
+      number_of-decimal r.entry entry,
+      number_of-decimal r.size size,
+      texts_back r.path.items,
+    ) refl
 
 pub read_back : (r : Receipt) → IsWhole r → read (receipt_text r) ≡ Some (receipt_json r)
 read_back r whole = read_compact (receipt_json r) (receipt_json r) (numbers r whole) (shallow r)

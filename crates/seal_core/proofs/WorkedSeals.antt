@@ -1,5 +1,5 @@
--- The definitions of leaves and seals, computed on a small record: two messages of GAL, the first of
--- them refused, and one of PACK. No SHA-256 is computed.
+-- The definitions of leaves and seals, computed on a small record: two messages of GAL, the first
+-- of them refused, and one of PACK. No SHA-256 is computed.
 use Rattle.std.specs.Fmt.{digits}
 use Rattle.std.specs.Prelude.{◌≡◌, ◌∷◌, ◌++◌, [], List, ℕ, None, Some, codes, false, refl, true}
 use Rattle.hex.specs.Hex.{encode_with}

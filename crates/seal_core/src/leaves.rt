@@ -1,6 +1,6 @@
 //! The leaves of a record's tree.
-ghost use Rattle.std.specs.Prelude.{◌≡◌, ◌<◌, ◌++◌, ◌∷◌, [], IfOk, Some, length, reverse, slice_get};
-ghost use Rattle.std.specs.Prelude.{codes, decimal, string_bytes};
+ghost use Rattle.std.specs.Prelude.{◌≡◌, ◌<◌, ◌++◌, ◌∷◌, [], IfOk, Some, length, reverse};
+ghost use Rattle.std.specs.Prelude.{codes, decimal, slice_get, string_bytes};
 ghost use Rattle.posting_core.specs.VerdictNames.{verdict_name};
 ghost use Rattle.register_store.specs.MessageText.{body_of};
 ghost use Rattle.reports.specs.Cells.{joined_words};

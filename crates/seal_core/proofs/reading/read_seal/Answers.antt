@@ -20,7 +20,8 @@ same_seal entries head seal one other =
 
 pub returns-in_default-clause-accepts : goal.returns-in_default-clause-accepts
 returns-in_default-clause-accepts c = λ seal is text.
-    let marked = mark_of_seal seal c.args.line.now is text in cc (marked, c.in_default.ensures.marked)
+    let marked = mark_of_seal seal c.args.line.now is text in
+    cc (marked, c.in_default.ensures.marked)
 
 pub returns-in_default-read_count-clause-accepts : goal.returns-in_default-read_count-clause-accepts
 returns-in_default-read_count-clause-accepts c = λ seal is text.

@@ -12,6 +12,7 @@ returns-in-Ok-clause-accepts c = λ receipt whole utf8 text.
 
 pub returns-in-Err-NotJson-clause-accepts : goal.returns-in-Err-NotJson-clause-accepts
 returns-in-Err-NotJson-clause-accepts c = λ receipt whole utf8 text.
-    let read_nothing = c.in-Err-NotJson.ensures.not_json (ap Err c.in-Err-NotJson.field-0-is) utf8 in
+    let read_nothing =
+    c.in-Err-NotJson.ensures.not_json (ap Err c.in-Err-NotJson.field-0-is) utf8 in
     let read_receipt = ap read (sym text) ∙ read_back receipt whole in
     absurd (cc (read_nothing, read_receipt))
