@@ -15,7 +15,7 @@ use Rattle.seal_core.specs.Seals.{Holds}
 use Rattle.seal_core.proofs.MoreLeaves.{leaves_more}
 use Rattle.merkle_core.specs.Trees.{tree_head}
 
-slice_get_front : (xs ys : List Entry) (i : ℕ) → i < length xs
+pub slice_get_front : {X : Type 0} (xs ys : List X) (i : ℕ) → i < length xs
     → slice_get (xs ++ ys) i ≡ slice_get xs i
 slice_get_front [] ys i h = absurd (omega arith)
 slice_get_front (x ∷ xs) ys zero h = refl

@@ -6,4 +6,6 @@ pub mod HeldReceipts
 pub mod ReceiptTokens
 pub mod HashItems
 pub mod ReadReceipts
+pub mod ReceiptUtf8
+pub mod GrownLeaves
 mod WorkedSeals

@@ -1,8 +1,11 @@
 //! Laws of seals and receipts. The functions do nothing: their contracts are the laws.
-ghost use Rattle.std.specs.Prelude.{◌≡◌, ◌≢◌, ◌-◌, List, string_bytes};
+ghost use Rattle.std.specs.Prelude.{◌≡◌, ◌≢◌, ◌-◌, ℕ, List, length, string_bytes};
 ghost use Rattle.merkle_core.specs.Hashes.{AreHashes, Collision};
+ghost use Rattle.nest_core.specs.Museum.{Museum};
+ghost use Rattle.nest_core.specs.SetupGrowing.{Extends, grown};
 ghost use Rattle.posting_core.specs.declared.entry.Entry.{Entry};
 ghost use Rattle.posting_core.specs.Book.{Book};
+ghost use Rattle.posting_core.specs.Lawful.{IsLawful};
 ghost use Rattle.posting_core.specs.Onward.{later};
 ghost use Rattle.seal_core.specs.declared.seal.Seal.{Seal};
 ghost use Rattle.seal_core.specs.declared.receipt.Receipt.{Receipt};
@@ -15,6 +18,13 @@ use merkle_core::laws::{heads_collide, leaves_collide, other_leaf_collides};
 /// A seal that holds still holds after more entries are posted.
 pub fn seals_keep_holding()
     ensures { (B : Book) (L : List Entry) (seal : Seal) → Holds B seal → Holds (later B L) seal }
+{}
+
+/// A seal that holds still holds after the setup grows.
+pub fn seals_outlast_growth()
+    ensures { (S T : Museum) (depth : ℕ) (P : List Entry) (seal : Seal) → Extends S T
+        → IsLawful S depth P → Holds (record { museum = S; depth = depth; posted = P }) seal
+        → Holds (record { museum = grown (length P) S T; depth = depth; posted = P }) seal }
 {}
 
 /// If one seal holds for two records and their sealed entries differ in any line, then two

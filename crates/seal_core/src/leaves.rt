@@ -1,8 +1,6 @@
 //! The leaves of a record's tree.
-ghost use Rattle.std.specs.Prelude.{◌≡◌, ◌<◌, ◌++◌, ◌∷◌, [], IfOk, Some, length, reverse};
-ghost use Rattle.std.specs.Prelude.{codes, decimal, slice_get, string_bytes};
-ghost use Rattle.posting_core.specs.VerdictNames.{verdict_name};
-ghost use Rattle.register_store.specs.MessageText.{body_of};
+ghost use Rattle.std.specs.Prelude.{◌≡◌, ◌<◌, IfOk, Some, length, reverse};
+ghost use Rattle.std.specs.Prelude.{slice_get, string_bytes};
 ghost use Rattle.reports.specs.Cells.{joined_words};
 ghost use Rattle.reports.specs.Stations.{entry_row};
 ghost use Rattle.reports.specs.Texts.{station_text};

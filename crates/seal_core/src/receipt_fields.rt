@@ -1,7 +1,6 @@
 //! Reads the fields of a receipt's JSON object.
-ghost use Rattle.std.specs.Prelude.{◌≡◌, ◌<◌, ◌^◌, ℕ, List, All, Some, IfOk, codes, map};
-ghost use Rattle.std.specs.Prelude.{option_map};
-ghost use Rattle.std.specs.Prelude.{option_and_then};
+ghost use Rattle.std.specs.Prelude.{◌≡◌, ◌<◌, ◌^◌, ℕ, List, All, Some, IfOk, codes};
+ghost use Rattle.std.specs.Prelude.{map, option_map, option_and_then};
 ghost use Rattle.std.specs.Option.{IsSomeAnd};
 ghost use Rattle.hex.specs.Hex.{encode_lower};
 ghost use Rattle.serde_json.specs.Data.{array, number, string, unsigned};

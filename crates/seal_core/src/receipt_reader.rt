@@ -1,7 +1,6 @@
 //! Reads receipts from JSON.
 ghost use Rattle.std.specs.Prelude.{◌≡◌, IfOk, MatchResult};
 ghost use Rattle.std.specs.Option.{IsSomeAnd};
-ghost use Rattle.std.specs.Str.{IsUtf8};
 ghost use Rattle.borrowed_json.specs.View.{view};
 ghost use Rattle.seal_core.specs.declared.receipt.Receipt as receipts;
 ghost use Rattle.seal_core.specs.ReceiptReadings.{IsSame, IsWhole};
@@ -21,7 +20,7 @@ use std::alloc::Global;
 /// Faults: `NotReceipt`. `NoMemory` can come instead of any result.
 pub fn read_receipt(alloc: Global, bytes: &[u8]) -> Result<Receipt, ReceiptFault>
     ensures reads { IfOk result (λ receipt. receipt_text receipt ≡ bytes.now) }
-    ensures accepts { (receipt : receipts.Receipt) → IsWhole receipt → IsUtf8 bytes.now
+    ensures accepts { (receipt : receipts.Receipt) → IsWhole receipt
         → receipt_text receipt ≡ bytes.now
         → MatchResult result (λ found. IsSame found receipt)
         (λ fault. fault ≡ ReceiptFault.NoMemory) }
