@@ -7,7 +7,7 @@ use Rattle.count_core.specs.declared.answer.CountAnswer.{CountAnswer}
 use Rattle.count_core.specs.declared.count_row.CountRow.{CountRow}
 use Rattle.count_core.proofs.Membership.{here, there}
 
--- what comes of row i and its answer is among what comes of all
+-- the result for row i and its answer is among the results for all rows
 pub comes_of : {A : Type 0} (f : CountRow → CountAnswer → Option A) (rows : List CountRow)
     (found : List CountAnswer) (s : A) (i : ℕ) (row : CountRow) (a : CountAnswer)
     → slice_get rows i ≡ Some row → slice_get found i ≡ Some a → f row a ≡ Some s

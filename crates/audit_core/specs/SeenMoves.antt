@@ -1,4 +1,4 @@
--- Defines the moves of an audit, and what comes of each row, as the laws state them.
+-- Defines the moves of an audit, and the move or note for each row, as the laws state them.
 use Rattle.std.specs.Prelude.{ℕ, ℤ, ◌≡◌, ⊤, Contains, List, None, Some, slice_get}
 use Rattle.posting_core.specs.declared.message.Message.{Message}
 use Rattle.posting_core.specs.declared.message.Message.TheVariants.{Move}
@@ -29,8 +29,8 @@ pub record IsSeenMove (B : Book) (day : ℤ) (rows : List CountRow) (m : Message
 abbrev pub IsUnmoved : Book → List CountRow → CountRow → CountAnswer → Type 0
 IsUnmoved B rows row answer = Contains (unmoved B rows) (answered row answer)
 
--- What comes of a row with this answer: nothing if it agrees with the record; a move, or a note on
--- the container, if its thing was seen elsewhere; otherwise a note.
+-- A row with this answer is accounted for: it agrees with the record; or it has a move, or a note on
+-- the container, because its thing was seen elsewhere; or it has another note.
 abbrev pub IsAccountedFor : Book → List CountRow → CountRow → CountAnswer → Type 0
 IsAccountedFor B rows row Counted = ⊤
 IsAccountedFor B rows row Found = ⊤

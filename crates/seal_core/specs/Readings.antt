@@ -7,7 +7,7 @@ use Rattle.seal_core.specs.declared.seal.Seal.{Seal}
 use Rattle.seal_core.specs.declared.reading.LineFault.{LineFault}
 use Rattle.seal_core.specs.declared.reading.LineFault.TheVariants.{NoMark, BadNumber, BadDigits}
 
--- What stands between the number and the digits.
+-- The text between the number and the digits.
 abbrev pub mark : List ℕ
 mark = codes " sha256:"
 

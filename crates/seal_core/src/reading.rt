@@ -12,7 +12,7 @@ use hex::FromHex;
 use posting_core::EntryNo;
 use thiserror::Error;
 
-/// What stands between the number and the digits of a seal.
+/// The text between the number and the digits of a seal.
 const MARK: &[u8] = b" sha256:";
 
 /// The length of the mark and the 64 digits.

@@ -1,0 +1,4 @@
+pub mod FileLines
+pub mod SealChecks
+pub mod Printing
+pub mod ReceiptChecks
