@@ -1,8 +1,9 @@
 #!/usr/bin/env python3
 """Runs the program on the input of cases cut after each byte.
 
-Each result must be a named fault of the setup and no reply, or the replies to the lines that had ended, then to the cut
-line none, a named fault of that line, or its whole reply. Usage: cut_anywhere.py PROGRAM CASE.."""
+Each result must be a named fault of the setup and no reply, or the replies to the lines that had
+ended, then to the cut line none, a named fault of that line, or its whole reply. Usage:
+cut_anywhere.py PROGRAM CASE.."""
 import re
 import subprocess
 import sys
@@ -30,7 +31,9 @@ class Case:
         with open(f"{folder}/stdout", "rb") as file:
             self.wanted = file.read()
         self.lines_from = self.given.index(b"\n\n") + 2
-        ends = [at + 1 for at, byte in enumerate(self.given) if byte == 10 and at + 1 >= self.lines_from]
+        ends = [
+            at + 1 for at, byte in enumerate(self.given) if byte == 10 and at + 1 >= self.lines_from
+        ]
         self.replies = {end: self.reply_to(end) for end in ends + [len(self.given)]}
 
     def reply_to(self, end):
@@ -44,7 +47,9 @@ class Case:
         """Whether the result for the first bytes is one of those that may be."""
         status, out, errors = run(self.program, self.given[:cut])
         if cut < self.lines_from - 1:
-            return out == b"" and (SETUP_FAULT.fullmatch(errors) if status == 1 else status == 0 and errors == b"")
+            return out == b"" and (
+                SETUP_FAULT.fullmatch(errors) if status == 1 else status == 0 and errors == b""
+            )
         if status or errors:
             return False
         if cut < self.lines_from:

@@ -3,10 +3,10 @@
 
 Usage: cut_files.py [--seed N] PROGRAM [LISTS]. A list with every answer, some with a fault, and so
 many random lists (3 by default) are counted, cut after each byte: the program has to print what the
-plain program of plain_counts.py prints for these bytes. Two feeds are served, and each in turn is cut after each byte: the lines
-that ended before the cut have the replies that they have in the whole file, and the line that is
-cut has none, its reply, or the fault that it then has. It prints how many cuts were tried, or the
-first that is wrong."""
+plain program of plain_counts.py prints for these bytes. Two feeds are served, and each in turn is
+cut after each byte: the lines that ended before the cut have the replies that they have in the
+whole file, and the line that is cut has none, its reply, or the fault that it then has. It prints
+how many cuts were tried, or the first that is wrong."""
 import json
 import os
 import re
@@ -34,7 +34,7 @@ HEAD = (
 PUTS = [("C17", "S1-A"), ("2001.4.2", "S2"), ("2001.4.21a", "S1-A"), ("2001.4.3", "S1")]
 # every answer; marks, quotes, empty fields and rows, a carriage return, and no line feed at the end
 LIST = (
-    "\ufeffS1-A,C17\r\nS1\n\n\"S1\",2001.4.21a,\nS9,2001.4.2\nS2,\"2001.4.2\"\n,\nS1,2001.4.2\n"
+    '\ufeffS1-A,C17\r\nS1\n\n"S1",2001.4.21a,\nS9,2001.4.2\nS2,"2001.4.2"\n,\nS1,2001.4.2\n'
     "S1-A,L1999.7,,\nS1,2009.1.1\nMUSEUM-X,C1\nS1-A,2001.4.3"
 ).encode()
 BAD_LISTS = [b"S1\nS1,2001.4.1,x\nS2\n", b"S1\nS1,C01\n", b"S2,\xc3\xa5\n"]

@@ -1,16 +1,20 @@
 #!/usr/bin/env python3
-"""Damages what the program is given, byte by byte, and tells whether each answer is one of those that may be.
+"""Damages what the program is given, byte by byte, and tells whether each answer is one of those
+that may be.
 
-Usage: damaged_input.py [--each N] [--seed N] [--peer PEER] PROGRAM [CASE..]. Of all cases, or of these folders, each input is cut
-after each byte, and each of its bytes is turned to 0, 255, a quote and a line feed: the session, or of a run with words each file
-that they name, and each word. With --each only every Nth of these is tried, from a place that is another for each run and seed; of
-a run with few of them each is tried.
+Usage: damaged_input.py [--each N] [--seed N] [--peer PEER] PROGRAM [CASE..]. Of all cases, or of
+these folders, each input is cut after each byte, and each of its bytes is turned to 0, 255, a quote
+and a line feed: the session, or of a run with words each file that they name, and each word. With
+--each only every Nth of these is tried, from a place that is another for each run and seed; of a
+run with few of them each is tried.
 
-What is answered has to be a named fault, on one line of standard error and with status 1 or 2, after whole lines of output; or
-status 0, whole lines, and nothing on standard error but notes; `resend`, and a run with --strict, may also end so with status 1.
-`grow`, `check` and `lines` print a line for each fault of a file. Words that aren't right may have the text of their reader, with status 2, and may ask for help. With
-a PEER, the plain program that bench/run builds, the answer to a session has to be the peer's, to the byte. It prints how many were
-tried, and the first that is wrong."""
+What is answered has to be a named fault, on one line of standard error and with status 1 or 2,
+after whole lines of output; or status 0, whole lines, and nothing on standard error but notes;
+`resend`, and a run with --strict, may also end so with status 1. `grow`, `check` and `lines` print
+a line for each fault of a file. Words that aren't right may have the text of their reader, with
+status 2, and may ask for help. With a PEER, the plain program that bench/run builds, the answer to
+a session has to be the peer's, to the byte. It prints how many were tried, and the first that is
+wrong."""
 import os
 import pathlib
 import re
@@ -26,10 +30,14 @@ import seeds
 
 CASES = pathlib.Path(__file__).resolve().parent.parent / "cases"
 FAULT = re.compile(rb"fault [a-z]+( [A-Za-z0-9]+)?( row [0-9]+)?\n")
-FILE_FAULTS = re.compile(rb"(fault (setup|counts|lines) [A-Za-z]+ row [0-9]+\n|fault table row [0-9]+ [^\x00-\x1f]+\n)+")
+FILE_FAULTS = re.compile(
+    rb"(fault (setup|counts|lines) [A-Za-z]+ row [0-9]+\n|fault table row [0-9]+ [^\x00-\x1f]+\n)+"
+)
 TABLE_FAULT = re.compile(rb"fault table (Near|Twice)Heading column [0-9]+: [^\x00-\x1f]+\n")
 LISTING = (b"grow", b"check", b"lines")  # the commands that print all faults of a file
-LINES = re.compile("([^\x00-\x1f\x7f\ufffd]*\x07?\n)*")  # of UTF-8, where what isn't so becomes U+FFFD; a desk may ring
+LINES = re.compile(
+    "([^\x00-\x1f\x7f\ufffd]*\x07?\n)*"
+)  # of UTF-8, where what isn't so becomes U+FFFD; a desk may ring
 TURNED = (b"\0", b"\xff", b'"', b"\n")
 FEW = 100  # an input with no more damages is tried with each of them
 
@@ -45,20 +53,31 @@ def damages(data):
 
 
 def answer(program, words, given, folder):
-    ended = subprocess.run([program, *words], input=given, capture_output=True, cwd=folder, timeout=60, check=False)
+    ended = subprocess.run(
+        [program, *words], input=given, capture_output=True, cwd=folder, timeout=60, check=False
+    )
     return ended.returncode, ended.stdout, ended.stderr
 
 
 def may_be(said, of_words, words=()):
     (status, out, errors), strict = said, b"--strict" in words
-    errors = b"".join(line for line in errors.splitlines(True) if not line.startswith((b"help: ", b"note: ", b"missing: ")))
+    errors = b"".join(
+        line
+        for line in errors.splitlines(True)
+        if not line.startswith((b"help: ", b"note: ", b"missing: "))
+    )
     if not LINES.fullmatch(out.decode(errors="replace")):
         return of_words and status == 0 and not errors
     if not errors and (status == 0 or ((strict or b"resend" in words) and status == 1 and out)):
         return True
     if status in (1, 2) and FAULT.fullmatch(errors):
         return True
-    if status == 1 and words and words[0] in LISTING and (FILE_FAULTS.fullmatch(errors) or TABLE_FAULT.fullmatch(errors)):
+    if (
+        status == 1
+        and words
+        and words[0] in LISTING
+        and (FILE_FAULTS.fullmatch(errors) or TABLE_FAULT.fullmatch(errors))
+    ):
         return True
     return of_words and status == 2 and errors.startswith(b"error: ")
 
@@ -81,7 +100,8 @@ class Sessions:
 
 
 class Runs:
-    """The damages of what a run of a case is given, its words included; each in a copy of the files as they stand before it."""
+    """The damages of what a run of a case is given, its words included; each in a copy of the files
+    as they stand before it."""
 
     def __init__(self, case, step, before):
         self.name, self.before = f"{case.name} {step}", before
@@ -96,7 +116,14 @@ class Runs:
 
     def inputs(self):
         """Each file that the words name, and each word, with what it holds."""
-        named = {self.given, *(word for word in self.words if (self.before / word).is_file() and not word.endswith(".db"))}
+        named = {
+            self.given,
+            *(
+                word
+                for word in self.words
+                if (self.before / word).is_file() and not word.endswith(".db")
+            ),
+        }
         yield from ((name, self.data(name)) for name in sorted(named))
         yield from ((at, word.encode()) for at, word in enumerate(self.words))
 
@@ -132,7 +159,9 @@ def tried(program, source, each, seed, pool):
     count = source.count()
     first, step = (0, 1) if count <= FEW else (seeds.offset(seed, source.name, each), each)
     chosen = range(first, count, step)
-    for which, right in zip(chosen, pool.map(lambda which: source.is_right(program, which), chosen)):
+    for which, right in zip(
+        chosen, pool.map(lambda which: source.is_right(program, which), chosen)
+    ):
         if right is not True:
             sys.exit(f"{source.name}, damage {which}: {right}")
     return len(chosen)
@@ -148,7 +177,9 @@ def main():
             peer = os.path.abspath(words[1])
         words = words[2:]
     program, count = os.path.abspath(words[0]), Counter()
-    cases = [pathlib.Path(word).resolve() for word in words[1:]] or sorted(path for path in CASES.iterdir() if path.is_dir())
+    cases = [pathlib.Path(word).resolve() for word in words[1:]] or sorted(
+        path for path in CASES.iterdir() if path.is_dir()
+    )
     with ThreadPoolExecutor(2) as pool:
         for case in cases:
             if (case / "stdin").exists():
@@ -161,7 +192,10 @@ def main():
                     if not runs.data(f"{step}.stderr").startswith(b"error: "):
                         count["files and words"] += tried(program, runs, each, seed, pool)
                     runs.run(program, files)
-    print(", ".join(f"{number:,} damages of {kind}" for kind, number in count.items()) + f": all was right, in {time.monotonic() - began:.0f} s")
+    print(
+        ", ".join(f"{number:,} damages of {kind}" for kind, number in count.items())
+        + f": all was right, in {time.monotonic() - began:.0f} s"
+    )
 
 
 if __name__ == "__main__":

@@ -3,8 +3,8 @@
 
   checks/desk.py PROGRAM [KILLS] [--seed N]
 
-KILLS are the kills of a day of scans (30 where they aren't given, as the gate does). Each check prints its name and ok or FAILED;
-the last line is 'N passed, M failed'."""
+KILLS are the kills of a day of scans (30 where they aren't given, as the gate does). Each check
+prints its name and ok or FAILED; the last line is 'N passed, M failed'."""
 import os
 import pty
 import random
@@ -22,7 +22,12 @@ PLACES = ["S1", "S2", "GAL1"]
 CRATES = ["C1", "C2"]
 SETUP = "".join(
     f"{row}\n"
-    for row in ["station,PACK", "station,GAL", *(f"place,{it},inside" for it in PLACES), "place,MUSEUM-X,elsewhere"]
+    for row in [
+        "station,PACK",
+        "station,GAL",
+        *(f"place,{it},inside" for it in PLACES),
+        "place,MUSEUM-X,elsewhere",
+    ]
     + [f"box,{it}" for it in CRATES]
     + [f"own,{it},S1" for it in OBJECTS]
 )
@@ -34,8 +39,20 @@ class Desk:
     """A desk at work: the program, what it is told and what it answers, line by line."""
 
     def __init__(self, program, folder, *words):
-        self.words = [program, "desk", "--setup", f"{folder}/museum.csv", "--store", f"{folder}/museum.db", "--station", "PACK", *words]
-        self.ran = subprocess.Popen(self.words, stdin=subprocess.PIPE, stdout=subprocess.PIPE, stderr=subprocess.PIPE)
+        self.words = [
+            program,
+            "desk",
+            "--setup",
+            f"{folder}/museum.csv",
+            "--store",
+            f"{folder}/museum.db",
+            "--station",
+            "PACK",
+            *words,
+        ]
+        self.ran = subprocess.Popen(
+            self.words, stdin=subprocess.PIPE, stdout=subprocess.PIPE, stderr=subprocess.PIPE
+        )
 
     def ask(self, line):
         """The answer to a line, before the next one is written. None if the program has ended."""
@@ -56,13 +73,29 @@ class Desk:
 
 def told(program, folder, lines, *words):
     """The status, the output and the errors of a desk that is given these lines at once."""
-    desk = [program, "desk", "--setup", f"{folder}/museum.csv", "--store", f"{folder}/museum.db", *words]
+    desk = [
+        program,
+        "desk",
+        "--setup",
+        f"{folder}/museum.csv",
+        "--store",
+        f"{folder}/museum.db",
+        *words,
+    ]
     ran = subprocess.run(desk, input=lines.encode(), capture_output=True, timeout=120, check=False)
     return ran.returncode, ran.stdout.decode(), ran.stderr.decode()
 
 
 def report(program, folder, *words):
-    command = [program, words[0], "--setup", f"{folder}/museum.csv", "--store", f"{folder}/museum.db", *words[1:]]
+    command = [
+        program,
+        words[0],
+        "--setup",
+        f"{folder}/museum.csv",
+        "--store",
+        f"{folder}/museum.db",
+        *words[1:],
+    ]
     return subprocess.run(command, capture_output=True, text=True, timeout=120, check=False).stdout
 
 
@@ -72,11 +105,27 @@ def at_a_terminal(program, folder, _):
     shown = termios.tcgetattr(line)
     shown[3] &= ~termios.ECHO
     termios.tcsetattr(line, termios.TCSANOW, shown)
-    words = [program, "desk", "--setup", f"{folder}/museum.csv", "--store", f"{folder}/museum.db", "--station", "PACK"]
-    ran = subprocess.Popen([*words, "--day", "2024-05-01"], stdin=line, stdout=line, stderr=subprocess.PIPE)
+    words = [
+        program,
+        "desk",
+        "--setup",
+        f"{folder}/museum.csv",
+        "--store",
+        f"{folder}/museum.db",
+        "--station",
+        "PACK",
+    ]
+    ran = subprocess.Popen(
+        [*words, "--day", "2024-05-01"], stdin=line, stdout=line, stderr=subprocess.PIPE
+    )
     os.close(line)
     good = True
-    for typed, wanted in (("S1", "to S1"), ("2001.1.1", "PACK 1 posted 1 Applied: 2001.1.1 at S1"), ("", None), ("foo", "not understood: foo; type help")):
+    for typed, wanted in (
+        ("S1", "to S1"),
+        ("2001.1.1", "PACK 1 posted 1 Applied: 2001.1.1 at S1"),
+        ("", None),
+        ("foo", "not understood: foo; type help"),
+    ):
         os.write(terminal, f"{typed}\n".encode())
         answer = b""
         while wanted and not answer.endswith(b"\n") and select.select([terminal], [], [], 20)[0]:
@@ -89,14 +138,18 @@ def at_a_terminal(program, folder, _):
 
 
 def answers_at_once(program, folder, _):
-    """Each answer comes through a pipe before the next line is written, and what it says is in the store by then."""
+    """Each answer comes through a pipe before the next line is written, and what it says is in the
+    store by then."""
     desk = Desk(program, folder, "--day", "2024-05-01")
     good = desk.ask("S2") == "to S2"
     for n, thing in enumerate(OBJECTS, 1):
         good &= desk.ask(thing) == f"PACK {n} posted {n} Applied: {thing} at S2"
     desk.ran.send_signal(signal.SIGKILL)
     desk.end()
-    return good and report(program, folder, "stations") == f"PACK next {len(OBJECTS) + 1}\nGAL next 1\n"
+    return (
+        good
+        and report(program, folder, "stations") == f"PACK next {len(OBJECTS) + 1}\nGAL next 1\n"
+    )
 
 
 def notes_a_new_store(program, folder, _):
@@ -109,7 +162,8 @@ def notes_a_new_store(program, folder, _):
 
 
 def logs_each_message(program, folder, _):
-    """Each message is in the log before its answer comes, and a replay of the log posts the same."""
+    """Each message is in the log before its answer comes, and a replay of the log posts the
+    same."""
     desk = Desk(program, folder, "--day", "2024-05-01", "--log", f"{folder}/pack.jsonl")
     good = desk.ask("S2") == "to S2"
     for n, thing in enumerate(OBJECTS, 1):
@@ -121,26 +175,65 @@ def logs_each_message(program, folder, _):
     first = report(program, folder, "posted")
     os.rename(f"{folder}/museum.db", f"{folder}/first.db")
     with open(f"{folder}/pack.jsonl", "rb") as log:
-        words = [program, "replay", "--setup", f"{folder}/museum.csv", "--store", f"{folder}/museum.db"]
-        good &= subprocess.run(words, stdin=log, capture_output=True, timeout=120, check=False).returncode == 0
+        words = [
+            program,
+            "replay",
+            "--setup",
+            f"{folder}/museum.csv",
+            "--store",
+            f"{folder}/museum.db",
+        ]
+        good &= (
+            subprocess.run(
+                words, stdin=log, capture_output=True, timeout=120, check=False
+            ).returncode
+            == 0
+        )
     return good and report(program, folder, "posted") == first
 
 
 def logs_that_fail(program, folder, _):
-    """A log that can't be written: the message is not posted. A line that was cut off is ended first."""
-    status, output, errors = told(program, folder, "S1\n2001.1.1\n", "--station", "PACK", "--day", "2024-05-01", "--log", "/dev/full")
+    """A log that can't be written: the message is not posted. A line that was cut off is ended
+    first."""
+    status, output, errors = told(
+        program,
+        folder,
+        "S1\n2001.1.1\n",
+        "--station",
+        "PACK",
+        "--day",
+        "2024-05-01",
+        "--log",
+        "/dev/full",
+    )
     good = status == 1 and output == "to S1\n" and "fault log\nhelp: /dev/full " in errors
     good &= report(program, folder, "stations").startswith("PACK next 1\n")
     with open(f"{folder}/pack.jsonl", "w", encoding="utf-8") as log:
         log.write('{"station":"PA')
-    told(program, folder, "S1\n2001.1.1\n", "--station", "PACK", "--day", "2024-05-01", "--log", f"{folder}/pack.jsonl")
+    told(
+        program,
+        folder,
+        "S1\n2001.1.1\n",
+        "--station",
+        "PACK",
+        "--day",
+        "2024-05-01",
+        "--log",
+        f"{folder}/pack.jsonl",
+    )
     with open(f"{folder}/pack.jsonl", encoding="utf-8") as log:
         lines = log.read().split("\n")
-    return good and lines[0] == '{"station":"PA' and lines[1].startswith('{"station":"PACK","n":1,') and lines[2:] == [""]
+    return (
+        good
+        and lines[0] == '{"station":"PA'
+        and lines[1].startswith('{"station":"PACK","n":1,')
+        and lines[2:] == [""]
+    )
 
 
 def mixed_lines(program, folder, _):
-    """Two feeds at one desk: its own scans, and the lines of another station, which may come early and twice."""
+    """Two feeds at one desk: its own scans, and the lines of another station, which may come early
+    and twice."""
     lines = f"S1\n2001.1.1\n{GAL_LINE % 2}{GAL_LINE % 1}{GAL_LINE % 1}2001.1.1\n? 2001.1.1\n{GAL_LINE.replace('GAL', 'PACK', 1) % 3}"
     wanted = [
         "to S1",
@@ -159,7 +252,9 @@ def mixed_lines(program, folder, _):
 
 def cut_input(program, folder, _):
     """Input that ends in mid-line: the line counts as it stands."""
-    status, output, _ = told(program, folder, "S1\r\n2001.1.1\r\n2001.1.2", "--station", "PACK", "--day", "2024-05-01")
+    status, output, _ = told(
+        program, folder, "S1\r\n2001.1.1\r\n2001.1.2", "--station", "PACK", "--day", "2024-05-01"
+    )
     return status == 0 and output.splitlines()[1:] == [
         "PACK 1 posted 1 Applied: 2001.1.1 at S1",
         "PACK 2 posted 2 Applied: 2001.1.2 at S1",
@@ -177,36 +272,82 @@ def twice_at_once(program, folder, _):
 
 
 def strange_lines(program, folder, draws):
-    """No line stops a desk: random bytes, long lines, and codes in the wrong place. Only lines that say so send a message."""
-    words = ["to", "into", "out", "back", "in", ".", "day", "agree", "extend", "!", "?", "why", "posted", "at", "S1", "s1", "C1", "LO2024.1"]
+    """No line stops a desk: random bytes, long lines, and codes in the wrong place. Only lines that
+    say so send a message."""
+    words = [
+        "to",
+        "into",
+        "out",
+        "back",
+        "in",
+        ".",
+        "day",
+        "agree",
+        "extend",
+        "!",
+        "?",
+        "why",
+        "posted",
+        "at",
+        "S1",
+        "s1",
+        "C1",
+        "LO2024.1",
+    ]
     lines, sent = [], 0
     for _ in range(300):
         kind = draws.randrange(4)
         if kind == 0:
-            line = bytes(draws.choice([*range(1, 10), *range(11, 256)]) for _ in range(draws.randrange(1, 80)))
+            line = bytes(
+                draws.choice([*range(1, 10), *range(11, 256)])
+                for _ in range(draws.randrange(1, 80))
+            )
         elif kind == 1:
-            line = " ".join(draws.choice([*words, *OBJECTS]) for _ in range(draws.randrange(1, 6))).encode()
+            line = " ".join(
+                draws.choice([*words, *OBJECTS]) for _ in range(draws.randrange(1, 6))
+            ).encode()
         elif kind == 2:
             line = b"x" * draws.choice((16383, 16384, 16385, 16386, 20000))
         else:
             line = draws.choice(OBJECTS).encode() + b" " * draws.randrange(16400)
         lines.append(line)
-    words = [program, "desk", "--setup", f"{folder}/museum.csv", "--store", f"{folder}/museum.db", "--station", "PACK", "--day", "2024-05-01"]
-    ran = subprocess.run(words, input=b"\n".join(lines), capture_output=True, timeout=120, check=False)
+    words = [
+        program,
+        "desk",
+        "--setup",
+        f"{folder}/museum.csv",
+        "--store",
+        f"{folder}/museum.db",
+        "--station",
+        "PACK",
+        "--day",
+        "2024-05-01",
+    ]
+    ran = subprocess.run(
+        words, input=b"\n".join(lines), capture_output=True, timeout=120, check=False
+    )
     sent = len(POSTED.findall(ran.stdout.decode("ascii")))
     return ran.returncode == 0 and len(report(program, folder, "posted").splitlines()) == sent
 
 
 def a_day_with_kills(program, folder, draws, kills):
-    """A day of 2,000 scans with kills at random moments: the desk is started again and goes on. Nothing that was answered is lost,
-    and no number is used twice."""
+    """A day of 2,000 scans with kills at random moments: the desk is started again and goes on.
+    Nothing that was answered is lost, and no number is used twice."""
     scanned, answered, killed = 0, {}, 0
     while scanned < 2000:
         desk = Desk(program, folder, "--day", "2024-05-01")
-        until = draws.randrange(scanned + 1, scanned + 2 * 2000 // (kills + 1) + 2) if killed < kills else 2001
+        until = (
+            draws.randrange(scanned + 1, scanned + 2 * 2000 // (kills + 1) + 2)
+            if killed < kills
+            else 2001
+        )
         target = None
         while scanned < 2000:
-            line = draws.choice(PLACES + CRATES) if not target or draws.random() < 0.1 else draws.choice(OBJECTS)
+            line = (
+                draws.choice(PLACES + CRATES)
+                if not target or draws.random() < 0.1
+                else draws.choice(OBJECTS)
+            )
             if line not in OBJECTS:
                 desk.ask(".")
             if scanned >= until:
@@ -237,12 +378,14 @@ def a_day_with_kills(program, folder, draws, kills):
     numbers = sorted(entries)
     print(f"  {len(answered)} answered, {len(entries)} on record, {killed} kills")
     return numbers == list(range(1, len(numbers) + 1)) and all(
-        n in entries and entries[n][0] == entry and f'"{line}"' in entries[n][1] for n, (entry, line) in answered.items()
+        n in entries and entries[n][0] == entry and f'"{line}"' in entries[n][1]
+        for n, (entry, line) in answered.items()
     )
 
 
 def refused_at_the_start(program, folder, _):
-    """A station that the setup doesn't have, one that has signed off, and a day that is none: nothing is read."""
+    """A station that the setup doesn't have, one that has signed off, and a day that is none:
+    nothing is read."""
     cases = [("--station", "NOBODY"), ("--station", "PACK", "--day", "yesterday")]
     good = True
     for words in cases:
@@ -256,14 +399,26 @@ def refused_at_the_start(program, folder, _):
 def main():
     program, kills = os.path.abspath(sys.argv[1]), 30
     arguments = sys.argv[2:]
-    seed = int(arguments[arguments.index("--seed") + 1]) if "--seed" in arguments else random.randrange(1 << 32)
+    seed = (
+        int(arguments[arguments.index("--seed") + 1])
+        if "--seed" in arguments
+        else random.randrange(1 << 32)
+    )
     if arguments and arguments[0] != "--seed":
         kills = int(arguments[0])
     draws, passed, failed = random.Random(seed), 0, 0
     print(f"# --seed {seed}")
     with_kills = lambda *words: a_day_with_kills(*words, kills)
     with_kills.__doc__ = a_day_with_kills.__doc__
-    checks = [at_a_terminal, answers_at_once, notes_a_new_store, logs_each_message, logs_that_fail, mixed_lines, cut_input]
+    checks = [
+        at_a_terminal,
+        answers_at_once,
+        notes_a_new_store,
+        logs_each_message,
+        logs_that_fail,
+        mixed_lines,
+        cut_input,
+    ]
     checks += [twice_at_once, strange_lines, refused_at_the_start, with_kills]
     for check in checks:
         with tempfile.TemporaryDirectory() as folder:
@@ -272,7 +427,10 @@ def main():
             began = time.monotonic()
             good = check(program, folder, draws)
             name = (check.__doc__ or "").split(":")[0].split(". ")[0].rstrip(".")
-            print(f"{name}: {'ok' if good else 'FAILED'} in {time.monotonic() - began:.0f} s", flush=True)
+            print(
+                f"{name}: {'ok' if good else 'FAILED'} in {time.monotonic() - began:.0f} s",
+                flush=True,
+            )
         passed, failed = passed + good, failed + (not good)
     print(f"{passed} passed, {failed} failed")
     return failed > 0

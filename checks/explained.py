@@ -1,8 +1,9 @@
 #!/usr/bin/env python3
-"""Whether `explain` knows each word that the reference and the sources of the replies, reports and faults know, in any letter
-case, and suggests it for a slip.
+"""Whether `explain` knows each word that the reference and the sources of the replies, reports and
+faults know, in any letter case, and suggests it for a slip.
 
-Usage: explained.py PROGRAM. It prints each word that is not explained, or not in three or four lines of 80 columns."""
+Usage: explained.py PROGRAM. It prints each word that is not explained, or not in three or four
+lines of 80 columns."""
 import functools
 import glob
 import os
@@ -39,8 +40,36 @@ ENUMS = {
 # a variant that is printed as `fault memory`
 UNPRINTED = {"NoMemory"}
 # lower words of replies and reports, which no table of the formats lists
-REPLIES = ["held", "posted", "refused", "bad", "ask", "at", "in", "unknown", "unplaced", "missing", "row", "normal", "next", "full"]
-REPLIES += ["signed off", "copied", "migrated", "grown", "grew", "note", "fault", "store", "counts", "setup", "day", "code"]
+REPLIES = [
+    "held",
+    "posted",
+    "refused",
+    "bad",
+    "ask",
+    "at",
+    "in",
+    "unknown",
+    "unplaced",
+    "missing",
+    "row",
+    "normal",
+    "next",
+    "full",
+]
+REPLIES += [
+    "signed off",
+    "copied",
+    "migrated",
+    "grown",
+    "grew",
+    "note",
+    "fault",
+    "store",
+    "counts",
+    "setup",
+    "day",
+    "code",
+]
 # those of a desk
 REPLIES += ["to", "into", "out", "not sent", "no target", "no day", "nothing", "not understood"]
 # those of the commands that prepare lines or check files
@@ -81,14 +110,20 @@ def source_names():
             if not variants:
                 sys.exit(f"no enum {enum} in {path}")
             names.update(variants)
-    names.update(re.findall(r'"fault ([a-z]+)', text_of("crates", "hub_program", "src", "fault.rt")))
+    names.update(
+        re.findall(r'"fault ([a-z]+)', text_of("crates", "hub_program", "src", "fault.rt"))
+    )
     return names - UNPRINTED
 
 
 def explained_words():
     """All words that have a text, in the order of the sources."""
     sources = sorted(glob.glob(os.path.join(ROOT, "crates", "help_texts", "src", "*.rt")))
-    return [word for path in sources for word in re.findall(r'^        word: "([^"]+)"', text_of(path), re.M)]
+    return [
+        word
+        for path in sources
+        for word in re.findall(r'^        word: "([^"]+)"', text_of(path), re.M)
+    ]
 
 
 @functools.cache
@@ -110,9 +145,19 @@ def ran(program, word):
 def is_explained(said, word):
     status, output, errors = said
     lines = output.splitlines()
-    labels = [lines[0].startswith(f"{word}: "), lines[1].startswith("Cause: ")] if len(lines) > 1 else [False]
+    labels = (
+        [lines[0].startswith(f"{word}: "), lines[1].startswith("Cause: ")]
+        if len(lines) > 1
+        else [False]
+    )
     labels.append(sum(line.startswith("Do: ") for line in lines) == 1)
-    return status == 0 and errors == "" and all(labels) and len(lines) in (3, 4) and max(map(len, lines)) <= 80
+    return (
+        status == 0
+        and errors == ""
+        and all(labels)
+        and len(lines) in (3, 4)
+        and max(map(len, lines)) <= 80
+    )
 
 
 def slips(word):
@@ -122,7 +167,8 @@ def slips(word):
 
 
 def wrong_slips(program, words, word):
-    """Slips of a word for which another is suggested than the nearest, and the word if none of its slips suggests it."""
+    """Slips of a word for which another is suggested than the nearest, and the word if none of its
+    slips suggests it."""
     lowered, right = {other.lower(): other for other in words}, False
     for slip in slips(word):
         if slip.lower() in lowered:
@@ -148,12 +194,20 @@ def main():
     wrong = [f"{word}: twice" for word in set(lowered) if lowered.count(word) > 1]
     wanted = formats_names(formats) | source_names() | set(REPLIES)
     wrong += [f"{word}: not explained" for word in wanted if word.lower() not in lowered]
-    wrong += [f"{word}: not in the reference" for word in words if not re.search(rf"\b{word}\b", formats, re.I)]
+    wrong += [
+        f"{word}: not in the reference"
+        for word in words
+        if not re.search(rf"\b{word}\b", formats, re.I)
+    ]
     for word in words:
         said = ran(program, word)
         if not is_explained(said, word):
             wrong.append(f"{word}: {said}")
-        wrong += [f"{other}: {ran(program, other)}" for other in (word.lower(), word.upper()) if ran(program, other) != said]
+        wrong += [
+            f"{other}: {ran(program, other)}"
+            for other in (word.lower(), word.upper())
+            if ran(program, other) != said
+        ]
         if len(word) > 3:
             wrong += wrong_slips(program, words, word)
     print("\n".join(sorted(wrong)) or f"{len(words)} words explained")

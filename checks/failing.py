@@ -1,7 +1,8 @@
 #!/usr/bin/env python3
 """What the program does where its input, its output, its store or a lane fails on the way.
 
-Usage: failing.py PROGRAM. Each check prints its name and ok or FAILED; the last line is 'N passed, M failed'."""
+Usage: failing.py PROGRAM. Each check prints its name and ok or FAILED; the last line is 'N passed,
+M failed'."""
 import os
 import pty
 import resource
@@ -27,7 +28,8 @@ def told(ran, wanted):
 
 
 def broken(room, given):
-    """What a run says whose input gives these bytes and then fails: a terminal whose other side is shut."""
+    """What a run says whose input gives these bytes and then fails: a terminal whose other side is
+    shut."""
     ours, other = pty.openpty()
     tty.setraw(other)
     os.write(other, given.encode())
@@ -41,13 +43,18 @@ def broken(room, given):
 def read_fails(room):
     """After a session's line its reply is there; in the head nothing is."""
     lines, head = broken(room, f"{SMALL}\n{MOVE}"), broken(room, SMALL)
-    return told(lines, (1, "GAL 1 posted 1 Applied\n", "fault read\n")) and told(head, (1, "", "fault read\n"))
+    return told(lines, (1, "GAL 1 posted 1 Applied\n", "fault read\n")) and told(
+        head, (1, "", "fault read\n")
+    )
 
 
 def interrupted(room):
-    """Input and output of which every other read and write is interrupted, and which take one byte at a time, are as any others."""
+    """Input and output of which every other read and write is interrupted, and which take one byte
+    at a time, are as any others."""
     env = {**os.environ, "LD_PRELOAD": built(room, "interrupt.c")}
-    run = lambda *words, given="": said(subprocess.run(words, input=given.encode(), capture_output=True, env=env, timeout=60))
+    run = lambda *words, given="": said(
+        subprocess.run(words, input=given.encode(), capture_output=True, env=env, timeout=60)
+    )
     good = told(run(room.program, given=f"{SMALL}\n{MOVE}"), (0, "GAL 1 posted 1 Applied\n", ""))
     good = told(run(room.program, given=SMALL), (0, "", "")) and good
     room.write("small.csv", SMALL)
@@ -62,12 +69,20 @@ def bounded(most=MOST):
 
 
 def full(room, roomy):
-    """What a replay of the move onto a store says whose output is a file that takes so many bytes more."""
+    """What a replay of the move onto a store says whose output is a file that takes so many bytes
+    more."""
     with open(room.path("replies"), "wb") as file:
         file.truncate(MOST - roomy)
         file.seek(MOST - roomy)
         words = room.words(setup="small.csv")
-        ran = subprocess.run(words, input=MOVE.encode(), stdout=file, stderr=subprocess.PIPE, preexec_fn=bounded, timeout=60)
+        ran = subprocess.run(
+            words,
+            input=MOVE.encode(),
+            stdout=file,
+            stderr=subprocess.PIPE,
+            preexec_fn=bounded,
+            timeout=60,
+        )
     with open(room.path("replies"), "rb") as file:
         file.seek(MOST - roomy)
         return ran.returncode, file.read().decode(), ran.stderr.decode()
@@ -79,18 +94,24 @@ def write_fails(room):
     stopped = full(room, 10)
     again = room.replay(MOVE, setup="small.csv")
     posted = room.command("posted", "small.csv")
-    good = told(stopped, (1, "GAL 1 post", "fault write\n")) and told(again, (0, "GAL 1 refused Double\n", ""))
+    good = told(stopped, (1, "GAL 1 post", "fault write\n")) and told(
+        again, (0, "GAL 1 refused Double\n", "")
+    )
     return good and posted[0] == 0 and posted[1].count("\n") == 1
 
 
 def served(room, most):
-    """What a serving of a message and a question says where no file of the store gets longer than this."""
+    """What a serving of a message and a question says where no file of the store gets longer than
+    this."""
     words = [*room.words("serve", "small.csv"), room.write("feed.jsonl", FEED)]
-    return said(subprocess.run(words, capture_output=True, preexec_fn=lambda: bounded(most), timeout=60))
+    return said(
+        subprocess.run(words, capture_output=True, preexec_fn=lambda: bounded(most), timeout=60)
+    )
 
 
 def store_refuses(room):
-    """A serving whose store takes no byte more prints nothing and posts nothing; then it is served whole."""
+    """A serving whose store takes no byte more prints nothing and posts nothing; then it is served
+    whole."""
     room.write("small.csv", SMALL)
     room.replay("", setup="small.csv")
     refused, posted = served(room, 0), room.command("posted", "small.csv")
@@ -123,4 +144,8 @@ def lane_gives_no_end(room):
 
 
 if __name__ == "__main__":
-    sys.exit(report(sys.argv[1], [read_fails, interrupted, write_fails, store_refuses, lane_gives_no_end]))
+    sys.exit(
+        report(
+            sys.argv[1], [read_fails, interrupted, write_fails, store_refuses, lane_gives_no_end]
+        )
+    )

@@ -1,8 +1,10 @@
 #!/usr/bin/env python3
-"""That a record survives the way people handle files: copies, moves, mistyped paths, other programs, full disks and kills.
+"""That a record survives the way people handle files: copies, moves, mistyped paths, other
+programs, full disks and kills.
 
-Usage: files.py [--seed N] PROGRAM [KILLS [CHECK..]]. Each check prints its name and ok or FAILED; the last line is 'N passed, M failed'.
-KILLS is how often a copy is killed at a random moment (50 by default). By hand: `checks/files.py bin/pairsalder 1000 killed_copy`."""
+Usage: files.py [--seed N] PROGRAM [KILLS [CHECK..]]. Each check prints its name and ok or FAILED;
+the last line is 'N passed, M failed'. KILLS is how often a copy is killed at a random moment (50 by
+default). By hand: `checks/files.py bin/pairsalder 1000 killed_copy`."""
 import ctypes
 import os
 import resource
@@ -14,7 +16,21 @@ import sys
 import time
 
 import seeds
-from store_room import AUTHORISE, CRATES, LOAN, SETUP, agree, built, move, pack, read, report, scan, scans, told
+from store_room import (
+    AUTHORISE,
+    CRATES,
+    LOAN,
+    SETUP,
+    agree,
+    built,
+    move,
+    pack,
+    read,
+    report,
+    scan,
+    scans,
+    told,
+)
 
 # each command that asks a record, with what it needs beside a setup and a store
 ASKING = {
@@ -34,10 +50,13 @@ STATIONS = "PACK next 6\nGAL next 1\n"
 
 
 def run(room, command, store, *more, given="", **how):
-    """The status, the output and the errors of a command over a store, which are named as a user in the folder would."""
+    """The status, the output and the errors of a command over a store, which are named as a user in
+    the folder would."""
     room.write("list.csv", "S1\n")
     words = [room.program, command, "--setup", "setup.csv", "--store", store, *more]
-    return told(subprocess.run(words, cwd=room.folder, input=given.encode(), capture_output=True, **how))
+    return told(
+        subprocess.run(words, cwd=room.folder, input=given.encode(), capture_output=True, **how)
+    )
 
 
 def refused(path, help_line, fault="store Store"):
@@ -68,9 +87,12 @@ NO_RECORD = " has no record yet: replay, serve and desk start one"
 
 
 def session(room):
-    """A copied store has the record; a moved one is not started anew; a mistyped path is no empty record."""
+    """A copied store has the record; a moved one is not started anew; a mistyped path is no empty
+    record."""
     applied = "".join(f"PACK {n} posted {n} Applied\n" for n in range(1, 6))
-    good = same(run(room, "replay", "a.db", given=scans(CRATES)), (0, applied, "note: new store a.db\n"))
+    good = same(
+        run(room, "replay", "a.db", given=scans(CRATES)), (0, applied, "note: new store a.db\n")
+    )
     os.mkdir(room.path("usb"))
     shutil.copy(room.path("a.db"), room.path("usb"))
     good &= same(run(room, "stations", "usb/a.db"), (0, STATIONS, ""))
@@ -78,7 +100,11 @@ def session(room):
     before = names(room)
     good &= same(run(room, "where", "a.db", "2001.4.1"), refused("a.db", MISSING))
     good &= same(run(room, "overdue", "a.bd", "--on", "2026-01-01"), refused("a.bd", MISSING))
-    return good and same(sorted(names(room)), sorted(before)) and same(run(room, "stations", "b.db"), (0, STATIONS, ""))
+    return (
+        good
+        and same(sorted(names(room)), sorted(before))
+        and same(run(room, "stations", "b.db"), (0, STATIONS, ""))
+    )
 
 
 def asking_creates_nothing(room):
@@ -111,7 +137,13 @@ def log_without_its_database(room):
     run(room, "stations", "museum.db")
     before = names(room)
     help_line = " is missing, but its log museum.db-wal exists: restore museum.db"
-    commands = {**ASKING, "replay": [], "migrate": [], "copy": ["--to", "to.db"], "serve": ["setup.csv", "setup.csv"]}
+    commands = {
+        **ASKING,
+        "replay": [],
+        "migrate": [],
+        "copy": ["--to", "to.db"],
+        "serve": ["setup.csv", "setup.csv"],
+    }
     good = len(before["museum.db-wal"]) > 4096
     for command, more in commands.items():
         good &= same(run(room, command, "museum.db", *more), refused("museum.db", help_line))
@@ -138,7 +170,9 @@ def database_alone(room):
     good &= same(run(room, "replay", "museum.db", given="", stdout=None)[0], 0)
     room.write("setup.csv", SETUP + "box,C3\n")
     wanted_help = " has another setup: print it with pairsalder setup --store museum.db"
-    good &= same(run(room, "stations", "museum.db"), refused("museum.db", wanted_help, "store OtherSetup"))
+    good &= same(
+        run(room, "stations", "museum.db"), refused("museum.db", wanted_help, "store OtherSetup")
+    )
     good &= not os.path.exists(room.store + "-wal")
     return good and same(read(room.store), wanted)
 
@@ -152,8 +186,13 @@ def held_messages(room):
         "note: GAL: 2 messages held, waiting for 1; they are not kept, send them again\n"
     )
     words = [room.program, "replay", "--setup", room.path("setup.csv")]
-    good = same(told(subprocess.run(words, input=given.encode(), capture_output=True)), (0, replies, notes))
-    good &= same(run(room, "replay", "museum.db", given=given), (0, replies, notes + "note: new store museum.db\n"))
+    good = same(
+        told(subprocess.run(words, input=given.encode(), capture_output=True)), (0, replies, notes)
+    )
+    good &= same(
+        run(room, "replay", "museum.db", given=given),
+        (0, replies, notes + "note: new store museum.db\n"),
+    )
     room.write("pack.jsonl", scan(4, CRATES[0]))
     room.write("gal.jsonl", scan(1, CRATES[0], "GAL"))
     served = run(room, "serve", "museum.db", "pack.jsonl", "gal.jsonl")
@@ -162,11 +201,23 @@ def held_messages(room):
 
 
 def strict(room):
-    """With --strict the replies stay, and the status is 1 if a line was bad or refused, or not applied."""
+    """With --strict the replies stay, and the status is 1 if a line was bad or refused, or not
+    applied."""
     applied, refusal, bad = scan(1, CRATES[0]), scan(1, CRATES[1]), "no JSON\n"
     not_applied, unknown = scan(2, pack("C1", "C1")), scan(1, CRATES[0], "NOWHERE")
-    rows = [("", 0), (applied, 0), (applied + '{"station":"PACK","ask":"C1"}\n', 0), (scan(9, CRATES[0]), 0)]
-    rows += [(applied + refusal, 1), (bad, 1), (applied + not_applied, 1), (unknown, 1), (applied + bad + scan(2, CRATES[1]), 1)]
+    rows = [
+        ("", 0),
+        (applied, 0),
+        (applied + '{"station":"PACK","ask":"C1"}\n', 0),
+        (scan(9, CRATES[0]), 0),
+    ]
+    rows += [
+        (applied + refusal, 1),
+        (bad, 1),
+        (applied + not_applied, 1),
+        (unknown, 1),
+        (applied + bad + scan(2, CRATES[1]), 1),
+    ]
     words, good = [room.program, "replay", "--setup", room.path("setup.csv")], True
     for given, status in rows:
         plain = subprocess.run(words, input=given.encode(), capture_output=True)
@@ -186,16 +237,26 @@ def progress_is_stored(room):
 
 
 def another_program(room):
-    """A stock SQLite that has the store open, idle, reading or writing, is named, and nothing is changed."""
+    """A stock SQLite that has the store open, idle, reading or writing, is named, and nothing is
+    changed."""
     in_use = refused("museum.db", " is in use by another program: wait for it to end, or close it")
     good = True
-    for begin in ("SELECT count(*) FROM posting", "BEGIN; SELECT count(*) FROM posting", "BEGIN IMMEDIATE"):
+    for begin in (
+        "SELECT count(*) FROM posting",
+        "BEGIN; SELECT count(*) FROM posting",
+        "BEGIN IMMEDIATE",
+    ):
         room.clear()
         room.replay(scans(CRATES))
         other = sqlite3.connect(room.store, isolation_level=None)
         for statement in begin.split("; "):
             other.execute(statement).fetchall()
-        for command, more in {**ASKING, "replay": [], "migrate": [], "copy": ["--to", "to.db"]}.items():
+        for command, more in {
+            **ASKING,
+            "replay": [],
+            "migrate": [],
+            "copy": ["--to", "to.db"],
+        }.items():
             began = time.monotonic()
             good &= same(run(room, command, "museum.db", *more), in_use)
             good &= time.monotonic() - began < 5
@@ -208,12 +269,17 @@ def two_runs(room):
     """Of two runs on one store the second ends at once, and harms nothing."""
     room.clear()
     # without a buffer, so that the first reply alone is taken from the pipe
-    first = subprocess.Popen(room.words(), stdin=-1, stdout=-1, stderr=subprocess.DEVNULL, bufsize=0)
+    first = subprocess.Popen(
+        room.words(), stdin=-1, stdout=-1, stderr=subprocess.DEVNULL, bufsize=0
+    )
     first.stdin.write(scans(CRATES[:2]).encode())
     first.stdout.readline()
     second = run(room, "replay", "museum.db", given=scans(CRATES))
     replies, _ = first.communicate("".join(scan(n, CRATES[n - 1]) for n in (3, 4, 5)).encode())
-    good = same(second, refused("museum.db", " is in use by another program: wait for it to end, or close it"))
+    good = same(
+        second,
+        refused("museum.db", " is in use by another program: wait for it to end, or close it"),
+    )
     good &= same(replies.decode(), "".join(f"PACK {n} posted {n} Applied\n" for n in range(2, 6)))
     return good and same(run(room, "stations", "museum.db"), (0, STATIONS, ""))
 
@@ -234,26 +300,38 @@ def foreign_tables(room):
         conn.execute(statement)
         conn.commit()
         conn.close()
-        wanted = refused("museum.db", f" has the {what}, which does not belong in a store: delete it")
+        wanted = refused(
+            "museum.db", f" has the {what}, which does not belong in a store: delete it"
+        )
         good &= same(run(room, "stations", "museum.db"), wanted)
     room.made(CRATES)
     conn = sqlite3.connect(room.store)
     conn.execute("DROP TABLE term")
     conn.commit()
     conn.close()
-    return good and same(run(room, "stations", "museum.db"), refused("museum.db", " lacks a table, or has its tables in another order or with other columns"))
+    return good and same(
+        run(room, "stations", "museum.db"),
+        refused(
+            "museum.db", " lacks a table, or has its tables in another order or with other columns"
+        ),
+    )
 
 
 def causes(room):
     """Why a store cannot be opened."""
     room.made(CRATES)
-    good = same(run(room, "replay", "none/museum.db"), refused("the folder none", " does not exist"))
+    good = same(
+        run(room, "replay", "none/museum.db"), refused("the folder none", " does not exist")
+    )
     good &= same(run(room, "replay", "."), refused(".", " is not a file"))
     room.write("text.db", "no database\n" * 1000)
     good &= same(run(room, "stations", "text.db"), refused("text.db", " is not an SQLite database"))
     good &= not os.path.exists(room.path("text.db-wal"))
     os.link(room.store, room.path("second.db"))
-    good &= same(run(room, "stations", "museum.db"), refused("museum.db", " has a second name: delete the hard link"))
+    good &= same(
+        run(room, "stations", "museum.db"),
+        refused("museum.db", " has a second name: delete the hard link"),
+    )
     os.remove(room.path("second.db"))
     with open(room.store, "rb") as file:
         room.write("cut.db", file.read()[:-5000])
@@ -282,20 +360,24 @@ def bounded(limit):
 
 
 def files_that_may_not_grow(room):
-    """A file that may not grow is an error of the disk, when a message is stored, when the store is closed, and when it is
-    copied; what was answered is on record."""
+    """A file that may not grow is an error of the disk, when a message is stored, when the store is
+    closed, and when it is copied; what was answered is on record."""
     moves = [move("C1", ("S1", "S2")[n % 2]) for n in range(400)]
     failed = "fault store Store\nhelp: the disk that has museum.db failed to read or write\n"
     room.clear()
     room.replay(scans(moves[:2]))
     good, answered = True, 2
     for limit in (60_000, 100_000, 200_000):
-        status, replies, errors = run(room, "replay", "museum.db", given=scans(moves), preexec_fn=bounded(limit))
+        status, replies, errors = run(
+            room, "replay", "museum.db", given=scans(moves), preexec_fn=bounded(limit)
+        )
         good &= same((status, errors), (1, failed))
         answered += replies.count(" posted ")
         stations = run(room, "stations", "museum.db")
         # the message that met the fault may be on record too
-        good &= stations[1].startswith((f"PACK next {answered + 1}\n", f"PACK next {answered + 2}\n"))
+        good &= stations[1].startswith(
+            (f"PACK next {answered + 1}\n", f"PACK next {answered + 2}\n")
+        )
         answered = int(stations[1].split()[2]) - 1
     # a log that fits, and a database file that may not grow: closing fails, and nothing is lost
     many = [move("C1", ("S1", "S2")[n % 2]) for n in range(12_000)]
@@ -303,20 +385,27 @@ def files_that_may_not_grow(room):
     size, closing, answered = os.path.getsize(room.store), 0, len(many)
     for _ in range(4):
         given = "".join(scan(answered + n, move("C1", "S1")) for n in range(1, 31))
-        status, replies, errors = run(room, "replay", "museum.db", given=given, preexec_fn=bounded(size))
+        status, replies, errors = run(
+            room, "replay", "museum.db", given=given, preexec_fn=bounded(size)
+        )
         good &= same((status, errors), (1, failed) if errors else (0, ""))
         closing += status == 1 and replies.count(" posted ") == 30
         answered += replies.count(" posted ")
-    good &= same(run(room, "stations", "museum.db"), (0, f"PACK next {answered + 1}\nGAL next 1\n", ""))
+    good &= same(
+        run(room, "stations", "museum.db"), (0, f"PACK next {answered + 1}\nGAL next 1\n", "")
+    )
     good &= same(len(read(room.store)[0]["posting"]), answered) and closing > 0
     wanted = refused("to.db.part", " cannot be written: the disk is full", "file")
-    good &= same(run(room, "copy", "museum.db", "--to", "to.db", preexec_fn=bounded(20_000)), wanted)
+    good &= same(
+        run(room, "copy", "museum.db", "--to", "to.db", preexec_fn=bounded(20_000)), wanted
+    )
     print(f"  {closing} runs failed at closing alone")
     return good and not os.path.exists(room.path("to.db"))
 
 
 def full_disk(room):
-    """A disk that is full is named. The disk is a small one in memory, which a program sees in a name space of its own."""
+    """A disk that is full is named. The disk is a small one in memory, which a program sees in a
+    name space of its own."""
     own = ["unshare", "-r", "-m", "sh", "-c"]
     mount = "mount -t tmpfs -o size=300k none disk && cp setup.csv disk && cd disk && "
     os.mkdir(room.path("disk"))
@@ -331,39 +420,87 @@ def full_disk(room):
     ran = subprocess.run([*own, mount + script], cwd=room.folder, capture_output=True)
     found = names(room)
     answered = found["replies"].count(b" posted ")
-    good = same(ran.stderr.decode(), "fault store Store\nhelp: the disk that has m.db is full: free some space and try again\n")
+    good = same(
+        ran.stderr.decode(),
+        "fault store Store\nhelp: the disk that has m.db is full: free some space and try again\n",
+    )
     good &= same(found["status"], b"1\n") and answered > 0
     if found["again"]:
         return good and same(found["again"].decode(), ran.stderr.decode())
-    return good and found["stations"].startswith((b"PACK next %d\n" % (answered + 1), b"PACK next %d\n" % (answered + 2)))
+    return good and found["stations"].startswith(
+        (b"PACK next %d\n" % (answered + 1), b"PACK next %d\n" % (answered + 2))
+    )
 
 
 def setup_and_list(room):
     """The field at fault is shown, and what cannot be seen in it."""
     rows = [
         ("shelf,S1", "BadKind", "'shelf' is not station, place, box, own or lent"),
-        ("box;C1", "BadKind", "'box;C1' is not station, place, box, own or lent; separate the fields by commas"),
-        ("place,S1,here", "BadFields", "'place', 'S1', 'here': write place,CODE,inside or place,CODE,elsewhere"),
+        (
+            "box;C1",
+            "BadKind",
+            "'box;C1' is not station, place, box, own or lent; separate the fields by commas",
+        ),
+        (
+            "place,S1,here",
+            "BadFields",
+            "'place', 'S1', 'here': write place,CODE,inside or place,CODE,elsewhere",
+        ),
         ("box,C01", "BadCode", "'C01' is not a container's code such as C17"),
-        ("own,1987.12.1\u00a0,S9", "BadCode", "'1987.12.1\\u{a0}' is not the number of an own object such as 2001.4.1"),
-        ("own,1987\u201312,S9", "BadCode", "'1987\\u{2013}12' is not the number of an own object such as 2001.4.1"),
+        (
+            "own,1987.12.1\u00a0,S9",
+            "BadCode",
+            "'1987.12.1\\u{a0}' is not the number of an own object such as 2001.4.1",
+        ),
+        (
+            "own,1987\u201312,S9",
+            "BadCode",
+            "'1987\\u{2013}12' is not the number of an own object such as 2001.4.1",
+        ),
         ("own,1987.12.1,S9 ", "BadCode", "'S9 ' is not a place's code such as S1 or S1-A"),
-        ("lent,2001.1", "BadCode", "'2001.1' is not the number of a borrowed object such as L1999.7"),
-        ("station,MAIN DESK", "BadCode", "'MAIN DESK' is not a station's name: 1 to 16 of A-Z, a-z, 0-9 and -"),
-        ("place,B\u00dcRO,inside", "BadCode", "'B\u00dcRO' is not a place's code such as S1 or S1-A"),
-        ("own,1987.12.1,S9", "UnknownNormal", "'S9' is not listed above: list a place before its objects"),
+        (
+            "lent,2001.1",
+            "BadCode",
+            "'2001.1' is not the number of a borrowed object such as L1999.7",
+        ),
+        (
+            "station,MAIN DESK",
+            "BadCode",
+            "'MAIN DESK' is not a station's name: 1 to 16 of A-Z, a-z, 0-9 and -",
+        ),
+        (
+            "place,B\u00dcRO,inside",
+            "BadCode",
+            "'B\u00dcRO' is not a place's code such as S1 or S1-A",
+        ),
+        (
+            "own,1987.12.1,S9",
+            "UnknownNormal",
+            "'S9' is not listed above: list a place before its objects",
+        ),
         ("station,A", "Repeated", "'A' is listed twice: delete one row"),
     ]
     good = True
     for row, name, help_line in rows:
         room.write("wrong.csv", f"station,A\n{row}\n")
-        ran = subprocess.run([room.program, "replay", "--setup", "wrong.csv"], cwd=room.folder, input=b"", capture_output=True)
-        good &= same(told(ran), (1, "", f"fault setup {name} row 2\nhelp: wrong.csv row 2: {help_line}\n"))
+        ran = subprocess.run(
+            [room.program, "replay", "--setup", "wrong.csv"],
+            cwd=room.folder,
+            input=b"",
+            capture_output=True,
+        )
+        good &= same(
+            told(ran), (1, "", f"fault setup {name} row 2\nhelp: wrong.csv row 2: {help_line}\n")
+        )
     room.made(CRATES)
     lists = [
         ("S1,C1,x", "BadFields", "'S1', 'C1', 'x': write PLACE,THING or PLACE"),
         ("s1,C1", "BadCode", "'s1' is not a place's code such as S1 or S1-A"),
-        ("S1;C1", "BadCode", "'S1;C1' is not a place's code such as S1 or S1-A; separate the fields by commas"),
+        (
+            "S1;C1",
+            "BadCode",
+            "'S1;C1' is not a place's code such as S1 or S1-A; separate the fields by commas",
+        ),
         ("S1,\ufeffC1", "BadCode", "'\\u{feff}C1' is not a thing's code such as 2001.4.1 or C17"),
     ]
     for row, name, help_line in lists:
@@ -371,10 +508,17 @@ def setup_and_list(room):
         wanted = 1, "", f"fault counts {name} row 2\nhelp: wrong.csv row 2: {help_line}\n"
         good &= same(run(room, "count", "museum.db", "wrong.csv"), wanted)
     room.write("wrong.csv", b"station,\xff\n")
-    ran = subprocess.run([room.program, "replay", "--setup", "wrong.csv"], cwd=room.folder, input=b"", capture_output=True)
+    ran = subprocess.run(
+        [room.program, "replay", "--setup", "wrong.csv"],
+        cwd=room.folder,
+        input=b"",
+        capture_output=True,
+    )
     utf = "fault setup NotCsv\nhelp: wrong.csv is not UTF-8 text: save it as CSV in UTF-8\n"
     good &= same(told(ran), (1, "", utf))
-    return good and same(run(room, "count", "museum.db", "no.csv"), refused("no.csv", " does not exist", "file"))
+    return good and same(
+        run(room, "count", "museum.db", "no.csv"), refused("no.csv", " does not exist", "file")
+    )
 
 
 def copy(room):
@@ -384,16 +528,26 @@ def copy(room):
     before = read(room.store)
     os.mkdir(room.path("usb"))
     os.chmod(room.store, 0o640)
-    good = same(run(room, "copy", "museum.db", "--to", "usb/m.db"), (0, f"copied {len(LOAN)} entries\n", ""))
-    good &= same(os.listdir(room.path("usb")), ["m.db"]) and same(read(room.path("usb/m.db")), before)
+    good = same(
+        run(room, "copy", "museum.db", "--to", "usb/m.db"), (0, f"copied {len(LOAN)} entries\n", "")
+    )
+    good &= same(os.listdir(room.path("usb")), ["m.db"]) and same(
+        read(room.path("usb/m.db")), before
+    )
     good &= same(os.stat(room.path("usb/m.db")).st_mode & 0o777, 0o640)
     good &= same(run(room, "stations", "usb/m.db")[0], 0)
     exists = " already exists: choose another name"
-    good &= same(run(room, "copy", "museum.db", "--to", "usb/m.db"), refused("usb/m.db", exists, "file"))
-    good &= same(run(room, "copy", "museum.db", "--to", "museum.db"), refused("museum.db", exists, "file"))
+    good &= same(
+        run(room, "copy", "museum.db", "--to", "usb/m.db"), refused("usb/m.db", exists, "file")
+    )
+    good &= same(
+        run(room, "copy", "museum.db", "--to", "museum.db"), refused("museum.db", exists, "file")
+    )
     good &= same(run(room, "copy", "museum.db", "--to", "usb"), refused("usb", exists, "file"))
     room.write("usb/n.db-wal", "a log\n")
-    good &= same(run(room, "copy", "museum.db", "--to", "usb/n.db"), refused("usb/n.db-wal", exists, "file"))
+    good &= same(
+        run(room, "copy", "museum.db", "--to", "usb/n.db"), refused("usb/n.db-wal", exists, "file")
+    )
     gone = refused("the folder none", " does not exist", "file")
     good &= same(run(room, "copy", "museum.db", "--to", "none/m.db"), gone)
     # a damaged store is not copied
@@ -401,12 +555,15 @@ def copy(room):
     conn.execute("UPDATE spot SET day = day + 1 WHERE k = 1")
     conn.commit()
     conn.close()
-    good &= same(run(room, "copy", "museum.db", "--to", "usb/o.db"), (1, "", "fault store Damaged 0\n"))
+    good &= same(
+        run(room, "copy", "museum.db", "--to", "usb/o.db"), (1, "", "fault store Damaged 0\n")
+    )
     return good and same(sorted(os.listdir(room.path("usb"))), ["m.db", "n.db-wal"])
 
 
 def killed_copy(room, kills):
-    """A copy that is killed at a random moment leaves no file of its name, or a whole one, and the store as it was."""
+    """A copy that is killed at a random moment leaves no file of its name, or a whole one, and the
+    store as it was."""
     moves = [move("C1", ("S1", "S2")[n % 2]) for n in range(300)]
     room.clear()
     room.replay(scans(moves))
@@ -433,9 +590,9 @@ def killed_copy(room, kills):
     print(f"  {whole} of {kills} were whole")
     if os.path.exists(room.path("to.db")):
         os.remove(room.path("to.db"))
-    return same(run(room, "copy", "museum.db", "--to", "to.db"), (0, "copied 300 entries\n", "")) and not [
-        name for name in os.listdir(room.folder) if name.startswith("to.db.")
-    ]
+    return same(
+        run(room, "copy", "museum.db", "--to", "to.db"), (0, "copied 300 entries\n", "")
+    ) and not [name for name in os.listdir(room.folder) if name.startswith("to.db.")]
 
 
 def calls_of(room, library, command, *more, given=""):
@@ -455,7 +612,8 @@ def killed_run(room, library, number, command, *more, given=""):
 
 
 def killed_at_each_call(room):
-    """A replay, with the closing of its store, and a copy, killed before each of their calls that change a file."""
+    """A replay, with the closing of its store, and a copy, killed before each of their calls that
+    change a file."""
     library = built(room, "kill_call.c")
     moves = [move("C1", ("S1", "S2")[n % 2]) for n in range(30)]
     given, good = scans(moves), True
@@ -470,7 +628,9 @@ def killed_at_each_call(room):
         alone = not os.path.exists(room.store + "-wal")
         # more may be on record than was answered: a reply is written once the input is at its end
         if not (answered + 5 <= doubles and len(rows["posting"]) == 30 and sound and alone):
-            print(f"  replay, call {number} of {count}: {answered} answered, {doubles} kept, {sound}, {alone}")
+            print(
+                f"  replay, call {number} of {count}: {answered} answered, {doubles} kept, {sound}, {alone}"
+            )
             good = False
     whole = room.made(moves)
     wanted = read(room.store)
@@ -487,7 +647,9 @@ def killed_at_each_call(room):
         if os.path.exists(room.path("to.db")):
             os.remove(room.path("to.db"))
         # what was left is in nobody's way
-        good &= same(run(room, "copy", "museum.db", "--to", "to.db"), (0, "copied 30 entries\n", ""))
+        good &= same(
+            run(room, "copy", "museum.db", "--to", "to.db"), (0, "copied 30 entries\n", "")
+        )
         good &= same((read(room.path("to.db")), read(room.store)), (wanted, wanted))
     print(f"  {count} calls of a replay, {copies} of a copy")
     return good and count > 50 and copies > 10
@@ -498,11 +660,27 @@ def main():
     seed = seeds.taken(words)
     program, kills = words[0], int(words[1]) if len(words) > 1 else 50
     is_asked = lambda check: check.__name__ in words[2:] or not words[2:]
-    checks = [session, asking_creates_nothing, log_without_its_database, database_alone, held_messages, strict]
+    checks = [
+        session,
+        asking_creates_nothing,
+        log_without_its_database,
+        database_alone,
+        held_messages,
+        strict,
+    ]
     checks += [progress_is_stored]
-    checks += [another_program, two_runs, foreign_tables, causes, files_that_may_not_grow, full_disk]
+    checks += [
+        another_program,
+        two_runs,
+        foreign_tables,
+        causes,
+        files_that_may_not_grow,
+        full_disk,
+    ]
     checks += [setup_and_list, copy, killed_at_each_call]
-    return report(program, list(filter(is_asked, checks)), list(filter(is_asked, [killed_copy])), kills, seed)
+    return report(
+        program, list(filter(is_asked, checks)), list(filter(is_asked, [killed_copy])), kills, seed
+    )
 
 
 if __name__ == "__main__":

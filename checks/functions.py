@@ -1,5 +1,5 @@
-"""Where the functions of a crate stand in its text, which `rt fmt` has laid out: a function ends at the first brace that
-stands as far in as its head."""
+"""Where the functions of a crate stand in its text, which `rt fmt` has laid out: a function ends at
+the first brace that stands as far in as its head."""
 import glob
 import itertools
 import os
@@ -15,21 +15,35 @@ def text_of(path):
 
 
 class Impl:
-    """The block of a type's or a trait's methods; its name is the prover's: Type, TypeTrait, TypeFromOther or Type+Argument."""
+    """The block of a type's or a trait's methods; its name is the prover's: Type, TypeTrait,
+    TypeFromOther or Type+Argument."""
 
     def __init__(self, lines):
         head = "\n".join(lines[:3])
         # with what it brings into its clauses
-        self.head = "\n".join([lines[0], *itertools.takewhile(lambda it: it.startswith("    ghost use "), lines[1:])])
-        said = re.sub(r"^impl\s*(<(?:[^<>]|<[^<>]*>)*>)?\s*", "", head.split("{")[0]).split(" where ")[0]
+        self.head = "\n".join(
+            [lines[0], *itertools.takewhile(lambda it: it.startswith("    ghost use "), lines[1:])]
+        )
+        said = re.sub(r"^impl\s*(<(?:[^<>]|<[^<>]*>)*>)?\s*", "", head.split("{")[0]).split(
+            " where "
+        )[0]
         trait, _, of = said.rpartition(" for ")
         bare = lambda text: re.sub(r"<.*", "", text).split("::")[-1].strip()
         # another crate's type has that crate in its name
-        whole = lambda text: "".join(it[:1].upper() + it[1:] for it in re.sub(r"<.*", "", text).strip().split("::"))
+        whole = lambda text: "".join(
+            it[:1].upper() + it[1:] for it in re.sub(r"<.*", "", text).strip().split("::")
+        )
         given = re.sub(r"<.*", "", trait.partition("<")[2].strip().rstrip(">")).split("::")
         # a drop is the type's own
-        self.name = whole(of) + bare(trait).removesuffix("Drop") + "".join(it[:1].upper() + it[1:] for it in given)
-        words, given = re.findall(r"\w+", of), re.match(r"impl\s*(<(?:[^<>]|<[^<>]*>)*>)?", head)[1] or ""
+        self.name = (
+            whole(of)
+            + bare(trait).removesuffix("Drop")
+            + "".join(it[:1].upper() + it[1:] for it in given)
+        )
+        words, given = (
+            re.findall(r"\w+", of),
+            re.match(r"impl\s*(<(?:[^<>]|<[^<>]*>)*>)?", head)[1] or "",
+        )
         # a type's arguments are in its name, if they are more than the impl's own parameters
         if not trait and len(words) > 1 and words[1] not in re.findall(r"\w+", given):
             self.name = "+".join(words)
@@ -37,7 +51,8 @@ class Impl:
 
 
 class Function:
-    """Lines first to last of a file, of which those after `body` are its body, and the path by which the prover names it."""
+    """Lines first to last of a file, of which those after `body` are its body, and the path by
+    which the prover names it."""
 
     def __init__(self, crate, file, lines, at, inside, module):
         indent, self.name = HEAD.match(lines[at]).groups()
@@ -54,7 +69,9 @@ class Function:
         # the cycle of calls that it names, whose functions have one folder of proofs
         named = re.search(r"#\[cycle\((\w+)\)\]", "\n".join(lines[at : self.body]))
         self.is_in_cycle, self.cycle = bool(named), named[1] if named else self.name
-        self.recurs = os.path.isdir(f"{crate.folder}/proofs/{'/'.join(self.path[:-1])}/+{self.cycle}")
+        self.recurs = os.path.isdir(
+            f"{crate.folder}/proofs/{'/'.join(self.path[:-1])}/+{self.cycle}"
+        )
 
     def can_be_copied(self, with_another_body):
         """Whether a copy of it, under another name, means the same; another body doesn't recur."""
@@ -65,7 +82,11 @@ class Function:
 
 
 def module_of(file):
-    return [] if file in ("src/lib.rt", "src/main.rt") else re.sub(r"^src/|(/mod)?\.rt$", "", file).split("/")
+    return (
+        []
+        if file in ("src/lib.rt", "src/main.rt")
+        else re.sub(r"^src/|(/mod)?\.rt$", "", file).split("/")
+    )
 
 
 def functions(crate):
@@ -82,7 +103,17 @@ def functions(crate):
                 inside = None
             head = HEAD.match(line)
             if head and (inside or not head[1]):
-                # a method stands in the module of its type, or in its file's if the type's arguments are in its name
-                own = next((it for it in types if inside and "+" not in inside.name and inside.name.startswith(it)), None)
-                found.append(Function(crate, file, lines, at, inside, homes.get(own, module_of(file))))
+                # a method stands in the module of its type, or in its file's if the type's
+                # arguments are in its name
+                own = next(
+                    (
+                        it
+                        for it in types
+                        if inside and "+" not in inside.name and inside.name.startswith(it)
+                    ),
+                    None,
+                )
+                found.append(
+                    Function(crate, file, lines, at, inside, homes.get(own, module_of(file)))
+                )
     return found

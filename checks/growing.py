@@ -1,11 +1,12 @@
 #!/usr/bin/env python3
-"""Setups that grow: years of a museum, files that people save, growths that are refused or killed, and stores whose
-growths another program changed.
+"""Setups that grow: years of a museum, files that people save, growths that are refused or killed,
+and stores whose growths another program changed.
 
-Usage: growing.py [--seed N] PROGRAM [--years N] [--kills N] [--records N] [CHECK..]. Each check prints its name and ok
-or FAILED; the last line is 'N passed, M failed'. Without options it takes less than a minute. By hand:
-`growing.py bin/pairsalder --years 10 years` grows 120 times, to 80,000 objects; `--kills 1000 killed` kills 1,000
-growths, and `--records 1000 random_records` compares 1,000 records with those of the plain program."""
+Usage: growing.py [--seed N] PROGRAM [--years N] [--kills N] [--records N] [CHECK..]. Each check
+prints its name and ok or FAILED; the last line is 'N passed, M failed'. Without options it takes
+less than a minute. By hand: `growing.py bin/pairsalder --years 10 years` grows 120 times, to 80,000
+objects; `--kills 1000 killed` kills 1,000 growths, and `--records 1000 random_records` compares
+1,000 records with those of the plain program."""
 import argparse
 import functools
 import os
@@ -23,20 +24,34 @@ from migrate import make
 from store import changed_by
 from store_room import SETUP, read, report, settle
 
-NO_STORE = "fault store Store\nhelp: museum.db does not exist: replay, serve and desk start a new record\n"
-NO_RECORD = 1, "", "fault store Store\nhelp: museum.db has no record yet: replay, serve and desk start one\n"
+NO_STORE = (
+    "fault store Store\nhelp: museum.db does not exist: replay, serve and desk start a new record\n"
+)
+NO_RECORD = (
+    1,
+    "",
+    "fault store Store\nhelp: museum.db has no record yet: replay, serve and desk start one\n",
+)
 
 
 # Files as people save them
 
 
 def by_hand(room):
-    """The same additions in each way in which people save a file, and by the variables and short options."""
+    """The same additions in each way in which people save a file, and by the variables and short
+    options."""
     bytes_of, record = story(room, 1)
     if bytes_of is None:
         return False
     listed = record.setup.rows()
-    new = ["place,S5,inside", "own,2001.4.9,S5", "station,DOOR", "lent,L2000.1", "box,C9", "own,2001.4.1,S5"]
+    new = [
+        "place,S5,inside",
+        "own,2001.4.9,S5",
+        "station,DOOR",
+        "lent,L2000.1",
+        "box,C9",
+        "own,2001.4.1,S5",
+    ]
     wanted = record.grow(file_of(new).encode())
     added = new[:-1]
     changed = [row.replace("2001.4.1,S1-A", "2001.4.1,S5") for row in listed]
@@ -52,13 +67,19 @@ def by_hand(room):
         # the whole list, with what is new at its end or at its start, or in any order
         file_of(added[:1] + changed + added[1:]),
         file_of(added + changed),
-        file_of(added[:1] + sorted(changed, key=lambda row: (not row.startswith("place,"), row[::-1])) + added[1:]),
+        file_of(
+            added[:1]
+            + sorted(changed, key=lambda row: (not row.startswith("place,"), row[::-1]))
+            + added[1:]
+        ),
     ]
     good = True
     for file in files:
         room.clear()
         room.write("museum.db", bytes_of)
-        good &= same((file, plain_line(grows(room, file))), (file, wanted)) and same(lists(room), record.setup.file())
+        good &= same((file, plain_line(grows(room, file))), (file, wanted)) and same(
+            lists(room), record.setup.file()
+        )
     room.write("museum.db", bytes_of)
     env = {**os.environ, "PAIRSALDER_STORE": "museum.db", "PAIRSALDER_SETUP": "new.csv"}
     good &= same(plain_line(run(room, "grow", "--check", env=env)), wanted)
@@ -72,10 +93,14 @@ def mixed_up(room):
     """The names of the file and the store in each other's place change neither."""
     before = read(room.store)
     run_mixed = run(room, "grow", "--setup", "museum.db", "--store", "museum.csv")
-    good = same(run_mixed, (1, "", "fault store Store\nhelp: museum.csv is not an SQLite database\n"))
+    good = same(
+        run_mixed, (1, "", "fault store Store\nhelp: museum.csv is not an SQLite database\n")
+    )
     with open(room.path("museum.csv"), encoding="ascii") as file:
         good &= same(file.read(), prints(room)[1])
-    return good and same(read(room.store), before) and not os.path.exists(room.path("museum.csv-wal"))
+    return (
+        good and same(read(room.store), before) and not os.path.exists(room.path("museum.csv-wal"))
+    )
 
 
 # Growths that are refused
@@ -85,7 +110,11 @@ NOT_ABOVE = "'S9' is neither on record nor listed above: list a place before its
 TWICE = "is listed twice: delete one row"
 NO_KIND = "is not station, place, box, own or lent"
 REFUSED = [
-    ("place,S9,inside\nplace,S1,elsewhere\n", "OtherSide row 2", "'S1' " + OTHER_SIDE.format("inside")),
+    (
+        "place,S9,inside\nplace,S1,elsewhere\n",
+        "OtherSide row 2",
+        "'S1' " + OTHER_SIDE.format("inside"),
+    ),
     ("place,MUSEUM-X,inside\n", "OtherSide row 1", "'MUSEUM-X' " + OTHER_SIDE.format("elsewhere")),
     ("place,S9,inside\nplace,S9,elsewhere\n", "Repeated row 2", "'S9' " + TWICE),
     ("own,2001.4.1,S1\nown,2001.4.1,S2\n", "Repeated row 2", "'2001.4.1' " + TWICE),
@@ -93,12 +122,24 @@ REFUSED = [
     ("box,C9\nown,2001.4.1,S9\n", "UnknownNormal row 2", NOT_ABOVE),
     ("own,2009.1,S9\nplace,S9,inside\n", "UnknownNormal row 1", NOT_ABOVE),
     ("box,C9\n,,\n\nbox,C01\n", "BadCode row 3", "'C01' is not a container's code such as C17"),
-    ("own,L1999.7,S9\n", "BadCode row 1", "'L1999.7' is not the number of an own object such as 2001.4.1"),
+    (
+        "own,L1999.7,S9\n",
+        "BadCode row 1",
+        "'L1999.7' is not the number of an own object such as 2001.4.1",
+    ),
     ("box,C9\nshelf,S9\n", "BadKind row 2", "'shelf' " + NO_KIND),
     ("grew,9,7,15\n", "BadKind row 1", "'grew' " + NO_KIND),
     ("box;C9\n", "BadKind row 1", f"'box;C9' {NO_KIND}; separate the fields by commas"),
-    ("place,S9,here\n", "BadFields row 1", "'place', 'S9', 'here': write place,CODE,inside or place,CODE,elsewhere"),
-    ("place,S1\n", "BadFields row 1", "'place', 'S1': write place,CODE,inside or place,CODE,elsewhere"),
+    (
+        "place,S9,here\n",
+        "BadFields row 1",
+        "'place', 'S9', 'here': write place,CODE,inside or place,CODE,elsewhere",
+    ),
+    (
+        "place,S1\n",
+        "BadFields row 1",
+        "'place', 'S1': write place,CODE,inside or place,CODE,elsewhere",
+    ),
     (
         file_of(f"station,S-{number}" for number in range(1, 63)),
         "TooMany row 62",
@@ -108,15 +149,28 @@ REFUSED = [
 NO_OWN = "'L1999.7' is not the number of an own object such as 2001.4.1"
 # a place and an object that the others name are in rows with faults, so they aren't listed
 MANY_FAULTS = [
-    ("place,S1,elsewhere\n\nown,L1999.7,S1\n", "OtherSide row 1", "'S1' " + OTHER_SIDE.format("inside")),
+    (
+        "place,S1,elsewhere\n\nown,L1999.7,S1\n",
+        "OtherSide row 1",
+        "'S1' " + OTHER_SIDE.format("inside"),
+    ),
     ("shelf,S9\nplace,S7,inside\nown,2009.1,S9\n", "BadCode row 2", NO_OWN),
-    ("own,2009.1,S7\nown,2009.1,S7\nbox,C9\nown,2009.2,S8\n", "BadKind row 3", "'shelf' " + NO_KIND),
+    (
+        "own,2009.1,S7\nown,2009.1,S7\nbox,C9\nown,2009.2,S8\n",
+        "BadKind row 3",
+        "'shelf' " + NO_KIND,
+    ),
     ("place,S8,inside\nplace,S7,elsewhere\n", "UnknownNormal row 5", NOT_ABOVE),
     ("", "Repeated row 7", "'2009.1' " + TWICE),
     ("", "UnknownNormal row 9", NOT_ABOVE.replace("S9", "S8")),
     ("", "Repeated row 11", "'S7' " + TWICE),
 ]
-NO_TEXT = [b"\xff", b"box,C9\nstation,\xc3", "box,C9\n".encode("utf-16"), b"PK\3\4\x14\0\x06\0\x08\0\xe9"]
+NO_TEXT = [
+    b"\xff",
+    b"box,C9\nstation,\xc3",
+    "box,C9\n".encode("utf-16"),
+    b"PK\3\4\x14\0\x06\0\x08\0\xe9",
+]
 
 
 def fault_lines(fault, why):
@@ -125,7 +179,8 @@ def fault_lines(fault, why):
 
 
 def refused_growths(room):
-    """A growth that fails prints why and adds nothing; so does one with --check, or with nothing to add."""
+    """A growth that fails prints why and adds nothing; so does one with --check, or with nothing to
+    add."""
     bytes_of, record = story(room)
     if bytes_of is None:
         return False
@@ -135,7 +190,9 @@ def refused_growths(room):
     encoded = "fault setup NotCsv\nhelp: new.csv is not UTF-8 text: save it as CSV in UTF-8\n"
     runs += [(file, (1, "", encoded)) for file in NO_TEXT]
     listed = record.setup.file().encode()
-    runs += [(file, (0, "nothing to add\n", "")) for file in (b"", b"\n,,\n", b"station,PACK\n", listed)]
+    runs += [
+        (file, (0, "nothing to add\n", "")) for file in (b"", b"\n,,\n", b"station,PACK\n", listed)
+    ]
     stored, good = read(room.store), True
     for file, wanted in runs:
         for more in ([], ["--check"]):
@@ -154,7 +211,9 @@ def other_faults(room, bytes_of, record):
     store = ["--store", "museum.db"]
     missing = (1, "", "fault file\nhelp: none.csv does not exist\n")
     good = same(run(room, "grow", "--setup", "none.csv", *store), missing)
-    good &= same(run(room, "grow", "--setup", ".", *store), (1, "", "fault file\nhelp: . is a folder\n"))
+    good &= same(
+        run(room, "grow", "--setup", ".", *store), (1, "", "fault file\nhelp: . is a folder\n")
+    )
     room.clear()
     good &= same(run(room, "grow", "--setup", "none.csv", *store), missing)
     for file in (MORE, b"shelf,S9\n"):
@@ -171,7 +230,9 @@ def other_faults(room, bytes_of, record):
     ):
         changed_by(room, bytes_of, (change,))
         stored = read(room.store)
-        good &= same((change, plain_line(grows(room, MORE))), (change, (1, "", f"fault store {fault}\n")))
+        good &= same(
+            (change, plain_line(grows(room, MORE))), (change, (1, "", f"fault store {fault}\n"))
+        )
         good &= same(read(room.store), stored)
     return good and version_1(room) and full_output(room, bytes_of, record)
 
@@ -196,7 +257,9 @@ def full_output(room, bytes_of, record):
     for words in (["grow", "--setup", "new.csv"], ["setup"]):
         with open("/dev/full", "w", encoding="ascii") as full:
             words = [room.program, *words, "--store", "museum.db"]
-            ran = subprocess.run(words, cwd=room.folder, stdout=full, stderr=subprocess.PIPE, check=False)
+            ran = subprocess.run(
+                words, cwd=room.folder, stdout=full, stderr=subprocess.PIPE, check=False
+            )
         good &= same((ran.returncode, ran.stderr), (1, b"fault write\n"))
     return good and same(prints(room), (0, record.setup.file(), ""))
 
@@ -209,7 +272,15 @@ def most_growths(room):
     good, rows, listed, more = True, record.setup.rows(), record.setup.listed_now(), b"box,C9\n"
     ends = [
         (9_999, record.grow(more, check=True), 2),
-        (10_000, (1, "", "fault setup TooManyGrowths\nhelp: a setup can grow 10000 times: begin a new store\n"), 0),
+        (
+            10_000,
+            (
+                1,
+                "",
+                "fault setup TooManyGrowths\nhelp: a setup can grow 10000 times: begin a new store\n",
+            ),
+            0,
+        ),
         (10_001, (1, "", "fault store Damaged 0\n"), 0),
     ]
     for count, wanted, added in ends:
@@ -217,7 +288,10 @@ def most_growths(room):
         conn = sqlite3.connect(room.store)
         with conn:
             grew = f"grew,0,{listed.places},{listed.things}"
-            conn.executemany("INSERT INTO setup VALUES (?, ?)", [(len(rows) + i, grew) for i in range(1, count + 1)])
+            conn.executemany(
+                "INSERT INTO setup VALUES (?, ?)",
+                [(len(rows) + i, grew) for i in range(1, count + 1)],
+            )
         conn.close()
         good &= same(grows(room, b""), wanted if count > 10_000 else (0, "nothing to add\n", ""))
         good &= same(asks(room, "stations")[0] == 0, count <= 10_000)
@@ -241,10 +315,27 @@ def main():
     def sized(check, *sizes):
         return functools.update_wrapper(lambda room: check(room, *sizes), check)
 
-    checks = [sized(years, months, objects), by_hand, refused_growths, most_growths, changed_growths, cut_below_a_growth]
-    checks += [sized(killed, given.kills), killed_at_each_call, failing_at_each_call, full_disk, together]
+    checks = [
+        sized(years, months, objects),
+        by_hand,
+        refused_growths,
+        most_growths,
+        changed_growths,
+        cut_below_a_growth,
+    ]
+    checks += [
+        sized(killed, given.kills),
+        killed_at_each_call,
+        failing_at_each_call,
+        full_disk,
+        together,
+    ]
     checks += [sized(random_records, given.records)]
-    return report(given.program, [it for it in checks if it.__name__ in given.checks or not given.checks], seed=seed)
+    return report(
+        given.program,
+        [it for it in checks if it.__name__ in given.checks or not given.checks],
+        seed=seed,
+    )
 
 
 if __name__ == "__main__":

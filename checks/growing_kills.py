@@ -6,15 +6,29 @@ import subprocess
 import sys
 import time
 
-from growing_room import IN_USE, MORE, asks, at_desk, file_of, grows, lists, plain_line, prints, same, story
+from growing_room import (
+    IN_USE,
+    MORE,
+    asks,
+    at_desk,
+    file_of,
+    grows,
+    lists,
+    plain_line,
+    prints,
+    same,
+    story,
+)
 from store_room import built, move, read
 
-MANY = file_of(["place,S5,inside", *(f"own,2020.{number},S5" for number in range(1, 3001))]).encode()
+MANY = file_of(
+    ["place,S5,inside", *(f"own,2020.{number},S5" for number in range(1, 3001))]
+).encode()
 
 
 def is_old_or_new(room, old, new):
-    """Whether a store has the old setup or the new one, whole, by its rows and to the program; and whether it grew.
-    A growth can go on from it."""
+    """Whether a store has the old setup or the new one, whole, by its rows and to the program; and
+    whether it grew. A growth can go on from it."""
     with open(room.store, "rb") as file:
         room.write("alone.db", file.read())
     if os.path.exists(room.store + "-wal"):
@@ -35,8 +49,8 @@ def is_old_or_new(room, old, new):
 
 
 def before_and_after(room, more=""):
-    """The bytes of a store of the story, with these lines after it, its rows, the rows after a growth by many rows,
-    and how long that took."""
+    """The bytes of a store of the story, with these lines after it, its rows, the rows after a
+    growth by many rows, and how long that took."""
     made, _ = story(room)
     if made is None or asks(room, "replay", given=more)[0]:
         sys.exit("the program doesn't make the store of the story")
@@ -49,7 +63,8 @@ def before_and_after(room, more=""):
 
 
 def killed(room, kills):
-    """A growth that is killed at a random moment leaves the old setup or the new one, and all else as it was."""
+    """A growth that is killed at a random moment leaves the old setup or the new one, and all else
+    as it was."""
     bytes_of, old, new, took = before_and_after(room)
     grew, stopped, good = 0, 0, True
     words = [room.program, "grow", "--setup", room.path("new.csv"), "--store", room.store]
@@ -72,7 +87,9 @@ def calls_of(room, library, bytes_of):
     """The numbers of the calls by which a growth changes files."""
     room.clear()
     room.write("museum.db", bytes_of)
-    ended = grows(room, MANY, env={**os.environ, "LD_PRELOAD": library, "CALLS": room.path("calls")})
+    ended = grows(
+        room, MANY, env={**os.environ, "LD_PRELOAD": library, "CALLS": room.path("calls")}
+    )
     if ended[0]:
         sys.exit(f"the growth fails: {ended}")
     with open(room.path("calls"), encoding="ascii") as file:
@@ -87,7 +104,9 @@ def killed_at_each_call(room):
     for number in numbers:
         room.clear()
         room.write("museum.db", bytes_of)
-        status = grows(room, MANY, env={**os.environ, "LD_PRELOAD": library, "KILLED": str(number)})[0]
+        status = grows(
+            room, MANY, env={**os.environ, "LD_PRELOAD": library, "KILLED": str(number)}
+        )[0]
         is_good, has_grown = is_old_or_new(room, old, new)
         found.add(has_grown)
         good &= same((number, status, is_good), (number, -signal.SIGKILL, True))
@@ -96,17 +115,22 @@ def killed_at_each_call(room):
 
 
 def failing_at_each_call(room):
-    """A growth on a disk that fails from some call on says so, unless it is done; it leaves the old setup or the new."""
+    """A growth on a disk that fails from some call on says so, unless it is done; it leaves the old
+    setup or the new."""
     bytes_of, old, new, _ = before_and_after(room)
     library, good, found = built(room, "kill_call.c"), True, set()
     for number in calls_of(room, library, bytes_of):
         room.clear()
         room.write("museum.db", bytes_of)
-        status, _, errors = grows(room, MANY, env={**os.environ, "LD_PRELOAD": library, "FAILED": str(number)})
+        status, _, errors = grows(
+            room, MANY, env={**os.environ, "LD_PRELOAD": library, "FAILED": str(number)}
+        )
         is_good, has_grown = is_old_or_new(room, old, new)
         found.add((status, has_grown))
         said = errors.startswith("fault store Store\n") if status else errors == ""
-        good &= same((number, is_good, said, status == 0 and not has_grown), (number, True, True, False))
+        good &= same(
+            (number, is_good, said, status == 0 and not has_grown), (number, True, True, False)
+        )
     return good and same(found >= {(1, False), (1, True)}, True)
 
 
@@ -130,7 +154,9 @@ def full_disk(room):
         room.clear()
         room.write("museum.db", bytes_of)
         status, output, errors = grows(room, MANY, preexec_fn=bounded(limit))
-        good &= same((limit, status, output, errors.split("\n")[0]), (limit, 1, "", "fault store Store"))
+        good &= same(
+            (limit, status, output, errors.split("\n")[0]), (limit, 1, "", "fault store Store")
+        )
         is_good, has_grown = is_old_or_new(room, old, new)
         good &= is_good
         found.append(has_grown)
@@ -138,13 +164,17 @@ def full_disk(room):
 
 
 def together(room):
-    """While another program has the store, a growth is refused and nothing is lost. Of two growths each is made whole
-    or refused."""
+    """While another program has the store, a growth is refused and nothing is lost. Of two growths
+    each is made whole or refused."""
     bytes_of, record = story(room, 1)
     good, in_use = bytes_of is not None, (1, "", IN_USE)
     first = subprocess.Popen(
         [room.program, "replay", "--setup", "museum.csv", "--store", "museum.db"],
-        cwd=room.folder, stdin=-1, stdout=-1, stderr=subprocess.DEVNULL, bufsize=0,
+        cwd=room.folder,
+        stdin=-1,
+        stdout=-1,
+        stderr=subprocess.DEVNULL,
+        bufsize=0,
     )
     moves = [move("C1", ("S1", "S2")[n % 2]) for n in range(9)]
     first.stdin.write(at_desk("PACK", 6, moves[:1]).encode())
@@ -153,16 +183,22 @@ def together(room):
         good &= same(grows(room, MORE, *more), in_use) and same(prints(room), in_use)
     first.communicate(at_desk("PACK", 7, moves[1:]).encode())
     record.replay(at_desk("PACK", 6, moves))
-    good &= same(asks(room, "posted"), (0, record.entries(), "")) and same(prints(room), (0, record.setup.file(), ""))
+    good &= same(asks(room, "posted"), (0, record.entries(), "")) and same(
+        prints(room), (0, record.setup.file(), "")
+    )
     # the log of a killed run has entries that the growth counts
-    hub = subprocess.Popen(room.words(setup="museum.csv"), stdin=-1, stdout=-1, stderr=subprocess.DEVNULL, bufsize=0)
+    hub = subprocess.Popen(
+        room.words(setup="museum.csv"), stdin=-1, stdout=-1, stderr=subprocess.DEVNULL, bufsize=0
+    )
     hub.stdin.write(at_desk("PACK", 15, moves[:1]).encode())
     hub.stdout.readline()
     hub.kill()
     hub.communicate()
     record.replay(at_desk("PACK", 15, moves[:1]))
     good &= same(os.path.getsize(room.store + "-wal") > 4096, True)
-    good &= same(plain_line(grows(room, MORE)), record.grow(MORE)) and same(lists(room), record.setup.file())
+    good &= same(plain_line(grows(room, MORE)), record.grow(MORE)) and same(
+        lists(room), record.setup.file()
+    )
     return good and both_grow(room, record, in_use)
 
 

@@ -10,9 +10,31 @@ from store_room import read
 NEW = ["station,NONE", "place,S9,inside", "box,C99", "own,2009.1,S1"]
 KINDS = ["station", "place", "box", "own", "lent"]
 POOL = sorted(streams.SETUP.splitlines() + NEW, key=lambda row: KINDS.index(row.split(",")[0]))
-WRONG = ["shelf,S1", "place,S1", "place,S1,elsewhere", "place,MUSEUM-X,inside", "box,C01", "own,2001.4.1,S77"]
-EVENTS = ["Applied", "UnknownThing", "UnknownPlace", "UnknownContainer", "UnknownStation", "OtherSide", "UnknownNormal",
-          "BadKind", "BadFields", "BadCode", "Repeated", "nothing", "+", "~", "entry"]
+WRONG = [
+    "shelf,S1",
+    "place,S1",
+    "place,S1,elsewhere",
+    "place,MUSEUM-X,inside",
+    "box,C01",
+    "own,2001.4.1,S77",
+]
+EVENTS = [
+    "Applied",
+    "UnknownThing",
+    "UnknownPlace",
+    "UnknownContainer",
+    "UnknownStation",
+    "OtherSide",
+    "UnknownNormal",
+    "BadKind",
+    "BadFields",
+    "BadCode",
+    "Repeated",
+    "nothing",
+    "+",
+    "~",
+    "entry",
+]
 
 
 def with_normal(draws, row, places):
@@ -22,15 +44,21 @@ def with_normal(draws, row, places):
 
 def first_file(draws):
     """Half of the rows, and what nearly each message needs."""
-    rows = ["station,PACK", "station,GAL", "place,S1,inside", "box,C1", *(row for row in POOL if draws.below(2))]
+    rows = [
+        "station,PACK",
+        "station,GAL",
+        "place,S1,inside",
+        "box,C1",
+        *(row for row in POOL if draws.below(2)),
+    ]
     rows = sorted(dict.fromkeys(rows), key=POOL.index)
     places = [row.split(",")[1] for row in rows if row.startswith("place,")]
     return file_of(with_normal(draws, row, places) for row in rows).encode()
 
 
 def new_file(draws, setup):
-    """A file for a growth: some rows, in the order of their kinds or in any, and now and then two that are wrong or
-    that it has twice."""
+    """A file for a growth: some rows, in the order of their kinds or in any, and now and then two
+    that are wrong or that it has twice."""
     rows = [row for row in POOL if draws.below(4) == 0]
     places = [*setup.inside, *(row.split(",")[1] for row in rows if row.startswith("place,"))]
     rows = [with_normal(draws, row, places) for row in rows]
@@ -43,7 +71,8 @@ def new_file(draws, setup):
 
 
 def renumbered(record, lines):
-    """The lines of messages and questions, each station's messages numbered from its next number."""
+    """The lines of messages and questions, each station's messages numbered from its next
+    number."""
     sent = collections.Counter(entry.station for entry in record.posted)
     for line in lines:
         if "n" in line:
@@ -55,7 +84,10 @@ def renumbered(record, lines):
 def random_records(room, count):
     """Random records that grow now and then, beside the same in the plain program."""
     seen, fixed = collections.Counter(), count * 4 // 5
-    for number in [*range(1, fixed + 1), *(fixed + room.draws.randrange(1 << 32) for _ in range(count - fixed))]:
+    for number in [
+        *range(1, fixed + 1),
+        *(fixed + room.draws.randrange(1 << 32) for _ in range(count - fixed)),
+    ]:
         if not grows_at_random(room, number, seen):
             print(f"  record {number}")
             return False

@@ -1,5 +1,5 @@
-"""A record whose setup grows, in the plain program and in a room: the runs that grow and print a setup, and a short
-story of growths."""
+"""A record whose setup grows, in the plain program and in a room: the runs that grow and print a
+setup, and a short story of growths."""
 import subprocess
 
 from plain import Taken, answers, whereabouts
@@ -21,7 +21,10 @@ class Record:
     def replay(self, lines):
         """The replies to these lines. Messages that are still held at the end aren't kept."""
         taken = [Taken(entry.station, entry.n, entry.message) for entry in self.posted]
-        return "".join(f"{reply}\n" for reply in answers(self.setup.museum(), taken, self.posted, lines.encode()))
+        return "".join(
+            f"{reply}\n"
+            for reply in answers(self.setup.museum(), taken, self.posted, lines.encode())
+        )
 
     def grow(self, file, check=False):
         """The status, the output and the fault lines of a growth."""
@@ -42,7 +45,10 @@ class Record:
 
     def rows(self):
         """The entries with the numbers of their stations."""
-        return [entry._replace(station=self.setup.stations.index(entry.station)) for entry in self.posted]
+        return [
+            entry._replace(station=self.setup.stations.index(entry.station))
+            for entry in self.posted
+        ]
 
     def where(self, thing):
         return f"{thing} {whereabouts(self.setup.museum(), self.posted, thing)}\n"
@@ -53,7 +59,15 @@ class Record:
 
 def run(room, *words, given="", **how):
     """The status, the output and the errors of a run in the folder."""
-    return told(subprocess.run([room.program, *words], cwd=room.folder, input=given.encode(), capture_output=True, **how))
+    return told(
+        subprocess.run(
+            [room.program, *words],
+            cwd=room.folder,
+            input=given.encode(),
+            capture_output=True,
+            **how,
+        )
+    )
 
 
 def asks(room, command, *more, **how):
@@ -108,8 +122,18 @@ def at_desk(station, first, messages):
 
 
 # before and after each growth a message names something that this growth adds
-EARLY = [pack("2001.4.2", "C3"), agree(["2001.4.1", "2001.4.7"]), move("2001.4.2", "S3"), move("2001.4.7", "S1")]
-LATER = [move("2001.4.7", "S3"), move("C3", "S3"), pack("2001.4.2", "C3"), agree(["2001.4.1", "2001.4.7"])]
+EARLY = [
+    pack("2001.4.2", "C3"),
+    agree(["2001.4.1", "2001.4.7"]),
+    move("2001.4.2", "S3"),
+    move("2001.4.7", "S1"),
+]
+LATER = [
+    move("2001.4.7", "S3"),
+    move("C3", "S3"),
+    pack("2001.4.2", "C3"),
+    agree(["2001.4.1", "2001.4.7"]),
+]
 DOOR = [move("2001.4.3", "S4"), move("C4", "S4"), pack("2001.4.3", "C4"), move("2001.4.8", "S4")]
 LAST = [move("2001.4.8", "S4"), move("C4", "S4"), pack("2001.4.3", "C4"), move("L2000.1", "S1")]
 SIGNED = [move("2001.4.9", "S1"), {"kind": "signoff", "by": "Ann"}]
@@ -129,8 +153,8 @@ STORY = [
 
 
 def story(room, steps=len(STORY)):
-    """Makes the store of the story up to a step, with museum.csv. Returns its bytes and the plain record, or None if
-    the program replied anything else."""
+    """Makes the store of the story up to a step, with museum.csv. Returns its bytes and the plain
+    record, or None if the program replied anything else."""
     room.clear()
     room.write("museum.csv", SETUP)
     record, good = Record(), True

@@ -18,7 +18,9 @@ class Years:
         self.draws, self.months, self.objects = draws, months, objects
         self.next, self.shelf, self.month, self.loan = {"STORE": 1, "DESK-1": 1}, "R0", 0, None
         self.desk, self.owned, self.crates = "DESK-1", [], []
-        first = [self.new_object("R0") for _ in range(objects // (months + 1) + objects % (months + 1))]
+        first = [
+            self.new_object("R0") for _ in range(objects // (months + 1) + objects % (months + 1))
+        ]
         head = ["station,STORE", "station,DESK-1", "place,R0,inside", "place,PARTNER-1,elsewhere"]
         self.file = file_of([*head, *self.new_crates(), *first])
 
@@ -41,35 +43,48 @@ class Years:
         return f"{2024 + year}-{month + 1:02}-10"
 
     def work(self):
-        """The lines of a month: a crate and objects are moved and packed, and a loan goes out, and comes back in
-        every other month."""
+        """The lines of a month: a crate and objects are moved and packed, and a loan goes out, and
+        comes back in every other month."""
         day, loan = self.day(), f"LO{2023 + (self.month + 11) // 12}.{(self.month - 1) % 12 + 1}"
         crate, thing_lent = self.draws.choice(self.crates), self.draws.choice(self.owned[10:])
         some = self.draws.choices(self.owned, k=10)
         messages = [move(thing, self.shelf, day) for thing in [crate, *some[:6]]]
         messages += [{**pack(thing, crate), "day": day} for thing in some[6:]]
-        terms = {"partner": "PARTNER-1", "objects": [thing_lent], "first": day, "last": "2099-01-01"}
+        terms = {
+            "partner": "PARTNER-1",
+            "objects": [thing_lent],
+            "first": day,
+            "last": "2099-01-01",
+        }
         crossing = {"thing": thing_lent, "loan": loan, "day": day}
-        lent = [{"kind": "agree", "loan": loan, **terms}, {"kind": "authorise", "loan": loan, "by": "Ann"}]
+        lent = [
+            {"kind": "agree", "loan": loan, **terms},
+            {"kind": "authorise", "loan": loan, "by": "Ann"},
+        ]
         lent += [move(thing_lent, self.shelf, day), {"kind": "exit", **crossing}]
         lent += [{"kind": "return", "place": self.shelf, **crossing}] * (self.month % 2)
         self.loan = loan
         return self.lines("STORE", messages) + self.lines(self.desk, lent)
 
     def arrivals(self):
-        """The rows that the next growth adds, and rows of listed objects that get another normal location."""
+        """The rows that the next growth adds, and rows of listed objects that get another normal
+        location."""
         moved = self.draws.sample(self.owned, 3)
         self.shelf = f"R{self.month}-A"
         count = self.objects // (self.months + 1)
-        rows = [f"place,{self.shelf},inside", *self.new_crates(), *(self.new_object(self.shelf) for _ in range(count))]
+        rows = [
+            f"place,{self.shelf},inside",
+            *self.new_crates(),
+            *(self.new_object(self.shelf) for _ in range(count)),
+        ]
         rows.append(f"lent,L2020.{self.month}")
         if self.month % 4 == 0:
             rows.append(f"station,DESK-{self.month // 4 + 1}")
         return rows, [f"own,{thing},{self.shelf}" for thing in moved]
 
     def too_early(self):
-        """Messages that name what only the last arrivals list, with their verdicts until then. They are applied
-        afterwards: the first ten objects never leave."""
+        """Messages that name what only the last arrivals list, with their verdicts until then. They
+        are applied afterwards: the first ten objects never leave."""
         day, crate, old = self.day(), self.crates[-1], self.draws.choice(self.owned[:10])
         return [
             (move(self.owned[-1], "R0", day), "UnknownThing"),
@@ -82,7 +97,13 @@ class Years:
         """Questions about the record, as the words of commands."""
         older = self.owned[: -(self.objects // (self.months + 1))]
         thing, crate = self.draws.choice(older), self.draws.choice(self.crates[:-2])
-        about = [["history", thing], ["where", thing], ["history", crate], ["where", crate], ["contents", crate]]
+        about = [
+            ["history", thing],
+            ["where", thing],
+            ["history", crate],
+            ["where", crate],
+            ["contents", crate],
+        ]
         return [["posted"], ["stations"], ["away"], *about, ["loan", self.loan]]
 
     def next_desk(self, rows):
@@ -97,7 +118,8 @@ class Years:
 
 
 def as_file(draws, listed, rows, moved):
-    """A file with these additions: only they, the whole list with them at its end, or the whole list in any order."""
+    """A file with these additions: only they, the whole list with them at its end, or the whole
+    list in any order."""
     form, moving = draws.randrange(3), {row.split(",")[1]: row for row in moved}
     if form == 0:
         return file_of([*rows, *moved])
@@ -105,7 +127,9 @@ def as_file(draws, listed, rows, moved):
     places = [row for row in rows if row.startswith("place,")]
     others = [row for row in rows if row not in places]
     if form == 2:
-        whole = sorted(draws.sample(whole, len(whole)), key=lambda row: not row.startswith("place,"))
+        whole = sorted(
+            draws.sample(whole, len(whole)), key=lambda row: not row.startswith("place,")
+        )
     return file_of([*places, *whole, *others])
 
 
@@ -131,7 +155,8 @@ def entries_of(posted):
 
 
 def years(room, months, objects):
-    """After each growth the record gives the same answers about what it had, and takes what it refused as unknown."""
+    """After each growth the record gives the same answers about what it had, and takes what it
+    refused as unknown."""
     museum = Years(room.draws, months, objects)
     setup, good = further(Setup(), museum.file.encode())[0], True
     room.write("museum.csv", museum.file)
@@ -152,28 +177,41 @@ def grows_in_a_month(room, museum, setup):
     listed = setup.file()
     rows, moved = museum.arrivals()
     early = museum.too_early()
-    refused = asks(room, "replay", given=museum.lines("STORE", [message for message, _ in early]))[1]
-    good = same([reply.split(" ")[-1] for reply in refused.splitlines()], [verdict for _, verdict in early])
+    refused = asks(room, "replay", given=museum.lines("STORE", [message for message, _ in early]))[
+        1
+    ]
+    good = same(
+        [reply.split(" ")[-1] for reply in refused.splitlines()], [verdict for _, verdict in early]
+    )
     asks(room, "replay", given=museum.next_desk(rows))
     asked = [*museum.asked(), ["posted", "--refused"], ["why", refused.split(" ")[3]]]
     before, stored = [asks(room, *words) for words in asked], read(room.store)[0]
     posted = list(entries_of(before[0][1]))
     file = as_file(museum.draws, listed, rows, moved).encode()
     after, faults = further(setup, file)
-    good &= same((faults, plain_line(grows(room, file))), ([], (0, file_of(growth_lines(setup, after, posted)), "")))
+    good &= same(
+        (faults, plain_line(grows(room, file))),
+        ([], (0, file_of(growth_lines(setup, after, posted)), "")),
+    )
     new = grown(setup, after, len(posted))
     good &= same(plain_line(asks(room, "stations")), (1, "", "fault store OtherSetup\n"))
-    good &= same(lists(room), new.file()) and same(read(room.store)[0], {**stored, "setup": new.table()})
+    good &= same(lists(room), new.file()) and same(
+        read(room.store)[0], {**stored, "setup": new.table()}
+    )
     good &= are_kept(asked, before, [asks(room, *words) for words in asked], setup, new)
     kept = held(room)
     good &= same(grows(room, file), (0, "nothing to add\n", "")) and same(held(room), kept)
-    again = asks(room, "replay", given=museum.lines(museum.desk, [message for message, _ in early]))[1]
-    return new, good and same([reply.split(" ")[-1] for reply in again.splitlines()], ["Applied"] * len(early))
+    again = asks(
+        room, "replay", given=museum.lines(museum.desk, [message for message, _ in early])
+    )[1]
+    return new, good and same(
+        [reply.split(" ")[-1] for reply in again.splitlines()], ["Applied"] * len(early)
+    )
 
 
 def are_kept(asked, before, after, old, new):
-    """Whether the answers before a growth are the ones after it: there may be more stations, and `away` goes by the
-    new normal locations."""
+    """Whether the answers before a growth are the ones after it: there may be more stations, and
+    `away` goes by the new normal locations."""
     good = True
     for words, (status, output, errors), said in zip(asked, before, after):
         if words == ["stations"]:
@@ -188,6 +226,10 @@ def goes_on(room, museum):
     """Whether a store that has grown is copied, migrated and served like any other."""
     room.write("none.jsonl", "")
     feeds = ["none.jsonl"] * len(museum.next)
-    good = same(asks(room, "copy", "--to", "copy.db")[0], 0) and same(read(room.path("copy.db")), read(room.store))
-    good &= same(asks(room, "migrate"), (0, "migrated\n", "")) and same(asks(room, "serve", *feeds), (0, "", ""))
+    good = same(asks(room, "copy", "--to", "copy.db")[0], 0) and same(
+        read(room.path("copy.db")), read(room.store)
+    )
+    good &= same(asks(room, "migrate"), (0, "migrated\n", "")) and same(
+        asks(room, "serve", *feeds), (0, "", "")
+    )
     return good and same(asks(room, "serve", *feeds[1:])[0], 2)

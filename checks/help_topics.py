@@ -1,6 +1,6 @@
 #!/usr/bin/env python3
-"""Whether the program accepts each example on the pages of its help, and whether the pages have every kind that the reference
-lists.
+"""Whether the program accepts each example on the pages of its help, and whether the pages have
+every kind that the reference lists.
 
 Usage: help_topics.py PROGRAM. It prints what is wrong, and how many pages it has read."""
 import os
@@ -47,7 +47,13 @@ class Pages:
             file.write(text)
 
     def run(self, *words, given=""):
-        how = {"cwd": self.folder, "input": given, "capture_output": True, "text": True, "check": False}
+        how = {
+            "cwd": self.folder,
+            "input": given,
+            "capture_output": True,
+            "text": True,
+            "check": False,
+        }
         ran = subprocess.run([self.program, *words], **how)
         return ran.returncode, ran.stdout, ran.stderr
 
@@ -56,15 +62,31 @@ class Pages:
 
     def rows(self, topic):
         """The rows of comma-separated fields that a page shows."""
-        return re.findall(r"^  ([A-Za-z0-9-]+(?:,[A-Za-z0-9.-]+)+|S2)(?:   *\S.*)?$", self.page(topic), re.M)
+        return re.findall(
+            r"^  ([A-Za-z0-9-]+(?:,[A-Za-z0-9.-]+)+|S2)(?:   *\S.*)?$", self.page(topic), re.M
+        )
 
     def messages(self):
         """The messages that the page of the lines shows, each joined to one line."""
-        return [re.sub(r"\n *", "", text) for text in re.findall(r"^  (\{\"kind\".*?\})$", self.page("lines"), re.M | re.S)]
+        return [
+            re.sub(r"\n *", "", text)
+            for text in re.findall(r"^  (\{\"kind\".*?\})$", self.page("lines"), re.M | re.S)
+        ]
 
     def replay(self, messages):
-        lines = [f'{{"station":"GAL","n":{n},"message":{message}}}\n' for n, message in enumerate(messages, 1)]
-        return self.run("replay", "--setup", "museum.csv", "--store", "museum.db", "--strict", given="".join(lines))
+        lines = [
+            f'{{"station":"GAL","n":{n},"message":{message}}}\n'
+            for n, message in enumerate(messages, 1)
+        ]
+        return self.run(
+            "replay",
+            "--setup",
+            "museum.csv",
+            "--store",
+            "museum.db",
+            "--strict",
+            given="".join(lines),
+        )
 
     # each of these yields what is wrong with a page
 
@@ -81,7 +103,9 @@ class Pages:
             yield "help isn't --help"
         if "setup, lines, counts, verdicts or files" not in " ".join(overview.split()):
             yield "--help doesn't list the topics"
-        commands = re.findall(r"^  (\w+)  +\w", overview.partition("Commands:")[2].partition("Options:")[0], re.M)
+        commands = re.findall(
+            r"^  (\w+)  +\w", overview.partition("Commands:")[2].partition("Options:")[0], re.M
+        )
         for command in commands:
             # a name of both is the topic's
             if command not in TOPICS and self.run("help", command) != self.run(command, "--help"):
@@ -110,27 +134,43 @@ class Pages:
         status, replies, errors = self.replay(BEFORE + story)
         if status or replies.count(" Applied\n") != len(BEFORE + story):
             yield f"help lines: status {status}, {replies} {errors}"
-        wanted = [[row[0].strip("`"), *re.findall(r"`(\w+)`", row[1])] for row in table(self.formats, "| kind | keys in order |")]
+        wanted = [
+            [row[0].strip("`"), *re.findall(r"`(\w+)`", row[1])]
+            for row in table(self.formats, "| kind | keys in order |")
+        ]
         # `"kind":"move"` is the first member
-        shown = [re.findall(r'"kind":"(\w+)"', text) + re.findall(r'"(\w+)":', text)[1:] for text in story]
+        shown = [
+            re.findall(r'"kind":"(\w+)"', text) + re.findall(r'"(\w+)":', text)[1:]
+            for text in story
+        ]
         if sorted(wanted) != sorted(shown):
             yield f"help lines: {shown}, not {wanted}"
         question = re.findall(r'^  (\{"station":"GAL","ask".*\})$', self.page("lines"), re.M)
-        answer = self.run("replay", "--setup", "museum.csv", "--store", "museum.db", given="".join(question))
+        answer = self.run(
+            "replay", "--setup", "museum.csv", "--store", "museum.db", given="".join(question)
+        )
         if answer[:2] != (0, "GAL ask 2001.4.1 at S1 in C1\n"):
             yield f"help lines: {question}: {answer}"
         yield from self.filled(filler)
 
     def filled(self, filler):
-        """A lost number is filled by the message of the page, and by the other kinds that it names."""
+        """A lost number is filled by the message of the page, and by the other kinds that it
+        names."""
         thing = re.search(r'"thing":"(\w+)"', filler)[1]
         words = re.findall(r"\w+", re.search(r"not\s+list: a ([^.]*)\.", self.page("lines"))[1])
         kinds = [word for word in words if word != "or"]
-        for message in [filler] + [re.sub(r'"thing":"[^"]*"', f'"thing":"{thing}"', text) for text in self.messages()[:-1]]:
+        for message in [filler] + [
+            re.sub(r'"thing":"[^"]*"', f'"thing":"{thing}"', text) for text in self.messages()[:-1]
+        ]:
             kind = re.search(r'"kind":"(\w+)"', message)[1]
             if kind not in kinds:
                 continue
-            reply = self.run("replay", "--setup", "museum.csv", given=f'{{"station":"GAL","n":1,"message":{message}}}\n')[1]
+            reply = self.run(
+                "replay",
+                "--setup",
+                "museum.csv",
+                given=f'{{"station":"GAL","n":1,"message":{message}}}\n',
+            )[1]
             if reply != "GAL 1 posted 1 UnknownThing\n":
                 yield f"help lines: a lost number and {message}: {reply}"
         if "move" not in kinds or len(kinds) != 5:
@@ -139,7 +179,9 @@ class Pages:
     def counts(self):
         rows = self.rows("counts")
         self.write("shelves.csv", "".join(f"{row}\n" for row in rows))
-        status, answers, errors = self.run("count", "--setup", "museum.csv", "--store", "museum.db", "shelves.csv")
+        status, answers, errors = self.run(
+            "count", "--setup", "museum.csv", "--store", "museum.db", "shelves.csv"
+        )
         if status or answers.count("row ") != len(rows) or len(rows) < 3:
             yield f"help counts: {rows}: {answers} {errors}"
         wanted = [row[0] for row in table(self.formats, "| answer | when |")]
@@ -161,7 +203,9 @@ class Pages:
         commands = re.findall(r"^  ((?:pairsalder|cp|mkdir) .*)$", self.page("files"), re.M)
         for command in commands:
             line = f"PATH=.:$PATH; {command}"
-            ran = subprocess.run(["bash", "-c", line], cwd=self.folder, capture_output=True, check=False)
+            ran = subprocess.run(
+                ["bash", "-c", line], cwd=self.folder, capture_output=True, check=False
+            )
             if ran.returncode or self.run(*posted) != before:
                 yield f"help files: {command}: {ran} {self.run(*posted)}"
         moved = self.run(*[word.replace("museum.", "elsewhere/museum.") for word in posted])
@@ -173,7 +217,15 @@ def main():
     folder = tempfile.mkdtemp()
     try:
         pages = Pages(sys.argv[1], folder)
-        checks = [pages.forms, pages.overview, pages.setup, pages.lines, pages.counts, pages.verdicts, pages.files]
+        checks = [
+            pages.forms,
+            pages.overview,
+            pages.setup,
+            pages.lines,
+            pages.counts,
+            pages.verdicts,
+            pages.files,
+        ]
         wrong = [line for check in checks for line in check()]
     finally:
         shutil.rmtree(folder)

@@ -3,10 +3,10 @@
 
     checks/large_setup.py PROGRAM
 
-The program is to take the largest setup and to answer for its last station, place and thing; and of a setup with one row
-more of a sort it is to tell TooMany with that row's number. A store of the largest setup is to have each of its rows, the
-last one among them, as a stock SQLite reads it. The rows are read once by Python's own `csv`, too, which is to find each code
-once."""
+The program is to take the largest setup and to answer for its last station, place and thing; and of
+a setup with one row more of a sort it is to tell TooMany with that row's number. A store of the
+largest setup is to have each of its rows, the last one among them, as a stock SQLite reads it. The
+rows are read once by Python's own `csv`, too, which is to find each code once."""
 import csv
 import io
 import sqlite3
@@ -30,7 +30,11 @@ def place(number):
 def thing(number):
     """A crate, an own object at some place inside, or a borrowed object, in turn."""
     kind = KINDS[number % 3]
-    return {"box": f"box,C{number}", "own": f"own,2001.{number},ROOM-{number % 99 + 1}", "lent": f"lent,L1999.{number}"}[kind]
+    return {
+        "box": f"box,C{number}",
+        "own": f"own,2001.{number},ROOM-{number % 99 + 1}",
+        "lent": f"lent,L1999.{number}",
+    }[kind]
 
 
 def rows(stations, places, things):
@@ -41,7 +45,9 @@ def rows(stations, places, things):
 def run(program, setup, lines):
     """What the program answers: its status, its replies and its fault."""
     session = "\n".join([*setup, "", *lines]) + "\n"
-    done = subprocess.run([program], input=session, capture_output=True, text=True, timeout=120, check=False)
+    done = subprocess.run(
+        [program], input=session, capture_output=True, text=True, timeout=120, check=False
+    )
     return done.returncode, done.stdout, done.stderr
 
 
@@ -57,11 +63,15 @@ def stored(program, setup):
 
 
 def lines_of_the_last():
-    """The last station moves the last thing to the last place inside, and asks where it and the first thing are."""
+    """The last station moves the last thing to the last place inside, and asks where it and the
+    first thing are."""
     code = thing(THINGS).split(",")[1]
     moved = f'{{"kind":"move","thing":"{code}","place":"ROOM-{PLACES - 1}","day":"2024-05-01"}}'
     name = f"ST-{STATIONS}"
-    lines = [f'{{"station":"{name}","n":1,"message":{moved}}}', f'{{"station":"{name}","ask":"{code}"}}']
+    lines = [
+        f'{{"station":"{name}","n":1,"message":{moved}}}',
+        f'{{"station":"{name}","ask":"{code}"}}',
+    ]
     replies = f"{name} 1 posted 1 Applied\n{name} ask {code} at ROOM-{PLACES - 1}\n"
     return lines, replies
 
@@ -74,11 +84,17 @@ def holds(name, is_so):
 def main(program):
     largest = rows(STATIONS, PLACES, THINGS)
     codes = [row[1] for row in csv.reader(io.StringIO("\n".join(largest)))]
-    passed = [holds("each code stands once", len(set(codes)) == len(codes) == STATIONS + PLACES + THINGS)]
+    passed = [
+        holds("each code stands once", len(set(codes)) == len(codes) == STATIONS + PLACES + THINGS)
+    ]
     lines, replies = lines_of_the_last()
     passed.append(holds("the largest setup", run(program, largest, lines) == (0, replies, "")))
     passed.append(holds("the largest setup, stored", stored(program, largest) == largest))
-    more = {"a station": (station, STATIONS), "a place": (place, PLACES), "a thing": (thing, THINGS)}
+    more = {
+        "a station": (station, STATIONS),
+        "a place": (place, PLACES),
+        "a thing": (thing, THINGS),
+    }
     for sort, (row, most) in more.items():
         setup = [*largest, row(most + 1)]
         wanted = 1, "", f"fault setup TooMany row {len(setup)}\n"

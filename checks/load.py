@@ -1,21 +1,24 @@
 #!/usr/bin/env python3
-"""Serves 64 stations at once, without a store and then over one for so long, and tells whether the log and the record are
-right and memory stays flat.
+"""Serves 64 stations at once, without a store and then over one for so long, and tells whether the
+log and the record are right and memory stays flat.
 
-Usage: load.py PROGRAM [--seconds N] [--replay MESSAGES] [--folder FOLDER]. First, without a store, each station sends more
-lines than its lane holds. A short serving tells how many messages the disk of the folder (one of the system's temporary
-folders where none is said) takes in a second; then one serving is made of as many as should take so many seconds (3 where it
-isn't said, as the gate does; by hand 600). With --replay it is one replay of so many messages, which come from all stations
-by turns.
+Usage: load.py PROGRAM [--seconds N] [--replay MESSAGES] [--folder FOLDER]. First, without a store,
+each station sends more lines than its lane holds. A short serving tells how many messages the disk
+of the folder (one of the system's temporary folders where none is said) takes in a second; then one
+serving is made of as many as should take so many seconds (3 where it isn't said, as the gate does;
+by hand 600). With --replay it is one replay of so many messages, which come from all stations by
+turns.
 
-Each station packs an object of its own into a crate of its own and moves the crate to and fro; of each eight messages one comes
-late, so that two are held, and one is sent twice; where it is served, a line after them is no message. Each station asks ten
-questions, one after each line of its first block and one at its end: by turns where its own object is, and where that of the
-next station is. Of the log has to hold: cut to a station it is what that station must be told; its entries are numbered from 1,
-in order; each answer follows from the lines above it. Of the record: it has the messages of each station, in order, and each
-object where its crate is. Of memory: in the second half of the time it grows by no more than MOST_BYTES for each message, where
-there are FEWEST messages or more: of fewer, what is taken once for all of them outweighs the rest. It prints how long all took,
-the most memory, and what each message took of it then."""
+Each station packs an object of its own into a crate of its own and moves the crate to and fro; of
+each eight messages one comes late, so that two are held, and one is sent twice; where it is served,
+a line after them is no message. Each station asks ten questions, one after each line of its first
+block and one at its end: by turns where its own object is, and where that of the next station is.
+Of the log has to hold: cut to a station it is what that station must be told; its entries are
+numbered from 1, in order; each answer follows from the lines above it. Of the record: it has the
+messages of each station, in order, and each object where its crate is. Of memory: in the second
+half of the time it grows by no more than MOST_BYTES for each message, where there are FEWEST
+messages or more: of fewer, what is taken once for all of them outweighs the rest. It prints how
+long all took, the most memory, and what each message took of it then."""
 import argparse
 import itertools
 import os
@@ -48,12 +51,15 @@ def object_of(station):
 
 def setup_of():
     rows = [f"station,ST{s}" for s in range(STATIONS)] + ["place,S1,inside", "place,S2,inside"]
-    rows += [f"box,{crate_of(s)}" for s in range(STATIONS)] + [f"own,{object_of(s)},S1" for s in range(STATIONS)]
+    rows += [f"box,{crate_of(s)}" for s in range(STATIONS)] + [
+        f"own,{object_of(s)},S1" for s in range(STATIONS)
+    ]
     return "".join(row + "\n" for row in rows)
 
 
 def line(station, n):
-    """The line of a station's message of this number: its crate comes, its object is packed, the crate goes to and fro."""
+    """The line of a station's message of this number: its crate comes, its object is packed, the
+    crate goes to and fro."""
     crate = crate_of(station)
     if n == 2:
         message = f'"kind":"pack","thing":"{object_of(station)}","container":"{crate}",{DAY}'
@@ -120,18 +126,30 @@ def resident(process):
 
 
 class Run:
-    """All stations over a new store, or without one, served or replayed: how long it took, its log, and what memory it had from
-    time to time."""
+    """All stations over a new store, or without one, served or replayed: how long it took, its log,
+    and what memory it had from time to time."""
 
     def __init__(self, program, room, blocks, is_served, is_stored):
-        self.program, self.blocks, self.is_served, self.is_stored = program, blocks, is_served, is_stored
+        self.program, self.blocks, self.is_served, self.is_stored = (
+            program,
+            blocks,
+            is_served,
+            is_stored,
+        )
         self.messages, self.room = STATIONS * BLOCK * blocks, room
         self.record = ["--setup", self.write("setup.csv", [setup_of()])]
         if is_stored:
             self.record += ["--store", os.path.join(room, "museum.db")]
         feeds = [feed(s, blocks, is_served) for s in range(STATIONS)]
         if is_served:
-            self.run(["serve", *self.record, *[self.write(f"{s}.jsonl", lines) for s, lines in enumerate(feeds)]], os.devnull)
+            self.run(
+                [
+                    "serve",
+                    *self.record,
+                    *[self.write(f"{s}.jsonl", lines) for s, lines in enumerate(feeds)],
+                ],
+                os.devnull,
+            )
         else:
             by_turns = itertools.chain.from_iterable(zip(*feeds))
             self.run(["replay", *self.record], self.write("all.jsonl", by_turns))
@@ -157,7 +175,13 @@ class Run:
 
     def asked(self, word, given=""):
         """What another run over the record prints."""
-        ended = subprocess.run([self.program, word, *self.record], input=given, capture_output=True, check=True, text=True)
+        ended = subprocess.run(
+            [self.program, word, *self.record],
+            input=given,
+            capture_output=True,
+            check=True,
+            text=True,
+        )
         return ended.stdout.splitlines()
 
     def differences(self):
@@ -209,7 +233,8 @@ class Run:
             yield "an object isn't where its crate is"
 
     def growth(self):
-        """The bytes of memory that each message took in the second half of the time, when all threads are up and read their feeds."""
+        """The bytes of memory that each message took in the second half of the time, when all
+        threads are up and read their feeds."""
         return (max(self.memory) - self.memory[len(self.memory) // 2]) / (self.messages / 2)
 
 
@@ -221,12 +246,19 @@ def ran(program, blocks, is_served, folder, is_stored=True):
     print("".join(text + "\n" for text in wrong), end="")
     what = ("served" if is_served else "replayed") + ("" if is_stored else " without a store")
     each = f"{blocks * BLOCK:,} messages of each"
-    print(f"{STATIONS} stations {what}, {each} in {run.seconds:.1f} s: {len(wrong)} wrong", flush=True)
+    print(
+        f"{STATIONS} stations {what}, {each} in {run.seconds:.1f} s: {len(wrong)} wrong", flush=True
+    )
     return run, wrong
 
 
 def main():
-    parser, began = argparse.ArgumentParser(description="serves 64 stations at once, or replays their messages"), time.monotonic()
+    parser, began = (
+        argparse.ArgumentParser(
+            description="serves 64 stations at once, or replays their messages"
+        ),
+        time.monotonic(),
+    )
     parser.add_argument("program")
     parser.add_argument("--seconds", type=float, default=3)
     parser.add_argument("--replay", type=int)
@@ -242,7 +274,9 @@ def main():
         blocks = max(FIRST, round(FIRST * words.seconds / short.seconds))
     run, more = ran(program, blocks, not words.replay, words.folder)
     each = run.growth()
-    print(f"{run.messages / run.seconds:,.0f} messages a second; {max(run.memory) / 1e6:,.0f} MB at most, {each:,.0f} bytes more a message")
+    print(
+        f"{run.messages / run.seconds:,.0f} messages a second; {max(run.memory) / 1e6:,.0f} MB at most, {each:,.0f} bytes more a message"
+    )
     print(f"in all {time.monotonic() - began:.0f} s")
     return bool(wrong or more or run.messages >= FEWEST and each > MOST_BYTES)
 

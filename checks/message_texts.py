@@ -1,7 +1,8 @@
 #!/usr/bin/env python3
 """Messages as a store has them: each by its own text, with its verdict by its number.
 
-Usage: message_texts.py PROGRAM. Each check prints its name and ok or FAILED; the last line is 'N passed, M failed'."""
+Usage: message_texts.py PROGRAM. Each check prints its name and ok or FAILED; the last line is 'N
+passed, M failed'."""
 import pathlib
 import re
 import sys
@@ -39,7 +40,10 @@ TEXTS = [
         r'{"container":"C1","day":"2024-05-01","kind":"pack","thing":"2001.4.1"}',
     ),
     (f'{{"kind":"signoff","by":"{NAME}"}}', f'{{"by":"{NAME}","kind":"signoff"}}'),
-    (r'{"kind":"signoff","by":"\u00c5sa \"\u65e5\" \/ \\"}', r'{"by":"Åsa \"日\" / \\","kind":"signoff"}'),
+    (
+        r'{"kind":"signoff","by":"\u00c5sa \"\u65e5\" \/ \\"}',
+        r'{"by":"Åsa \"日\" / \\","kind":"signoff"}',
+    ),
     (r'{"kind":"move","by":1,"kind":"signoff","by":"A"}', r'{"by":"A","kind":"signoff"}'),
     (
         r'{"kind":"agree","loan":"LO2024.1","partner":"MUSEUM-X","objects":["2001.4.1","2001.4.2"],'
@@ -70,15 +74,27 @@ TEXTS = [
     EXTEND,
 ]
 # cases in which each verdict comes
-CASES = ["tour_of_verdicts", "refusals_of_a_pack", "extend_tour", "extend_closed", "return_under_another_loan", "loan_in"]
+CASES = [
+    "tour_of_verdicts",
+    "refusals_of_a_pack",
+    "extend_tour",
+    "extend_closed",
+    "return_under_another_loan",
+    "loan_in",
+]
 
 
 def stored(room, texts):
-    """A new store of these messages, each of a station of its own, since nothing is posted after a sign-off: the number and
-    the text of each row."""
+    """A new store of these messages, each of a station of its own, since nothing is posted after a
+    sign-off: the number and the text of each row."""
     room.clear()
     room.write("many.csv", SETUP + "".join(f"station,M{k}\n" for k, _ in enumerate(texts, 1)))
-    room.replay("".join(f'{{"station":"M{k}","n":1,"message":{text}}}\n' for k, text in enumerate(texts, 1)), "many.csv")
+    room.replay(
+        "".join(
+            f'{{"station":"M{k}","n":1,"message":{text}}}\n' for k, text in enumerate(texts, 1)
+        ),
+        "many.csv",
+    )
     return [(row[0], row[3]) for row in read(room.store)[0]["posting"]]
 
 
@@ -104,23 +120,42 @@ def read_back(room):
     """The same texts, told of the store by a run that opens it."""
     stored(room, [text for text, _ in TEXTS])
     told = [line.split(" ", 4) for line in room.command("posted", "many.csv")[1].splitlines()]
-    return [(*words[:3], words[4]) for words in told] == [(f"{k}", f"M{k}", "1", own) for k, (_, own) in enumerate(TEXTS, 1)]
+    return [(*words[:3], words[4]) for words in told] == [
+        (f"{k}", f"M{k}", "1", own) for k, (_, own) in enumerate(TEXTS, 1)
+    ]
 
 
 def no_message(room):
     """Texts that spell no message: their row is no entry."""
     text = room.made([move("C1", "S1")])
-    return all([opens_as(room, text, ("UPDATE posting SET body = ?", body), "Damaged 1") for body in ("", "{", "[]", '"move"')])
+    return all(
+        [
+            opens_as(room, text, ("UPDATE posting SET body = ?", body), "Damaged 1")
+            for body in ("", "{", "[]", '"move"')
+        ]
+    )
 
 
 def verdicts_of(room, case):
-    """What a case's replies, the rows of its store, and a run that opens it say of each entry: its verdict, by its name."""
-    head, lines = (pathlib.Path(__file__).parent.parent / "cases" / case / "stdin").read_text(encoding="utf-8").split("\n\n", 1)
+    """What a case's replies, the rows of its store, and a run that opens it say of each entry: its
+    verdict, by its name."""
+    head, lines = (
+        (pathlib.Path(__file__).parent.parent / "cases" / case / "stdin")
+        .read_text(encoding="utf-8")
+        .split("\n\n", 1)
+    )
     room.clear()
     room.write("case.csv", head + "\n")
     replied = re.findall(r"^\S+ \d+ posted (\d+) (\w+)$", room.replay(lines, "case.csv")[1], re.M)
-    rows = [(str(row[0]), dict(enumerate(VERDICTS)).get(row[4])) for row in read(room.store)[0]["posting"]]
-    return replied, rows, re.findall(r"^(\d+) \S+ \d+ (\w+) ", room.command("posted", "case.csv")[1], re.M)
+    rows = [
+        (str(row[0]), dict(enumerate(VERDICTS)).get(row[4]))
+        for row in read(room.store)[0]["posting"]
+    ]
+    return (
+        replied,
+        rows,
+        re.findall(r"^(\d+) \S+ \d+ (\w+) ", room.command("posted", "case.csv")[1], re.M),
+    )
 
 
 def verdicts_by_number(room):
@@ -136,4 +171,6 @@ def verdicts_by_number(room):
 
 
 if __name__ == "__main__":
-    sys.exit(report(sys.argv[1], [message_texts, extend_text, read_back, no_message, verdicts_by_number]))
+    sys.exit(
+        report(sys.argv[1], [message_texts, extend_text, read_back, no_message, verdicts_by_number])
+    )

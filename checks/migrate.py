@@ -1,8 +1,10 @@
 #!/usr/bin/env python3
-"""What the program does with stores of version 1, which a stock SQLite (Python's sqlite3) makes and reads.
+"""What the program does with stores of version 1, which a stock SQLite (Python's sqlite3) makes and
+reads.
 
-Usage: migrate.py PROGRAM [TIMES]. TIMES is how often a migration is killed at a random moment (60 where it isn't said). Each
-check prints its name and ok or FAILED; the last line is 'N passed, M failed'."""
+Usage: migrate.py PROGRAM [TIMES]. TIMES is how often a migration is killed at a random moment (60
+where it isn't said). Each check prints its name and ok or FAILED; the last line is 'N passed, M
+failed'."""
 import sqlite3
 import subprocess
 import sys
@@ -10,7 +12,23 @@ import time
 
 import seeds
 from plain_store import Entry, lines, setup_rows, spots, terms, text_of
-from store_room import CRATES, LOAN, MUSEUM, NORMAL, agree, built, held, move, read, read_copy, report, said, scan, settle, stops
+from store_room import (
+    CRATES,
+    LOAN,
+    MUSEUM,
+    NORMAL,
+    agree,
+    built,
+    held,
+    move,
+    read,
+    read_copy,
+    report,
+    said,
+    scan,
+    settle,
+    stops,
+)
 
 # the texts of the first five tables
 FIRST = (
@@ -27,7 +45,10 @@ NAMES = {0: "Applied", 14: "NotAuthorised", 22: "NotListed", 24: "TermOver"}
 
 
 def posted(messages, verdicts):
-    return [Entry(0, n, message, NAMES[verdict]) for n, (message, verdict) in enumerate(zip(messages, verdicts), 1)]
+    return [
+        Entry(0, n, message, NAMES[verdict])
+        for n, (message, verdict) in enumerate(zip(messages, verdicts), 1)
+    ]
 
 
 def make(room, *changes, entries=posted(LOAN, VERDICTS["loan"])):
@@ -40,7 +61,10 @@ def make(room, *changes, entries=posted(LOAN, VERDICTS["loan"])):
             conn.execute(text)
         conn.executemany("INSERT INTO meta VALUES (?, ?)", [("version", 1), ("depth", 8)])
         conn.executemany("INSERT INTO setup VALUES (?, ?)", setup_rows(MUSEUM, NORMAL))
-        rows = [(i, e.station, e.n, text_of(e.message), numbers[e.verdict]) for i, e in enumerate(entries, 1)]
+        rows = [
+            (i, e.station, e.n, text_of(e.message), numbers[e.verdict])
+            for i, e in enumerate(entries, 1)
+        ]
         conn.executemany("INSERT INTO posting VALUES (?, ?, ?, ?, ?)", rows)
         conn.executemany("INSERT INTO spot VALUES (?, ?, ?, ?, ?)", spots(MUSEUM, entries))
         conn.executemany("INSERT INTO line VALUES (?, ?, ?)", lines(MUSEUM, entries))
@@ -56,14 +80,25 @@ def migrate(room):
 
 
 def is_version_2(room, before, entries):
-    """Whether the store is one of version 2 with what stood in it before, and the last days that its entries gave."""
+    """Whether the store is one of version 2 with what stood in it before, and the last days that
+    its entries gave."""
     rows, shapes, sound = read(room.store)
-    kept = all(sorted(rows[table]) == sorted(before[table]) for table in ("setup", "posting", "spot", "line"))
-    return sound and kept and len(shapes) == 6 and sorted(rows["meta"]) == [("depth", 8), ("version", 2)] and rows["term"] == terms(entries)
+    kept = all(
+        sorted(rows[table]) == sorted(before[table])
+        for table in ("setup", "posting", "spot", "line")
+    )
+    return (
+        sound
+        and kept
+        and len(shapes) == 6
+        and sorted(rows["meta"]) == [("depth", 8), ("version", 2)]
+        and rows["term"] == terms(entries)
+    )
 
 
 def migrated_store(room):
-    """Before it, no opening takes the store; after it, each does, and the record goes on. Again it changes nothing."""
+    """Before it, no opening takes the store; after it, each does, and the record goes on. Again it
+    changes nothing."""
     entries = posted(LOAN, VERDICTS["loan"])
     before = make(room)
     refused = [room.replay(""), room.command("stations", "setup.csv")]
@@ -78,18 +113,28 @@ def migrated_store(room):
     loan = room.command("loan", "setup.csv", "LO2024.1")
     extend = {"kind": "extend", "loan": "LO2024.1", "last": "2024-06-30"}
     on = room.replay(scan(len(LOAN) + 1, extend))
-    return good and loan[0] == 0 and "2024-05-31" in loan[1] and on[1] == f"PACK {len(LOAN) + 1} posted {len(LOAN) + 1} Applied\n"
+    return (
+        good
+        and loan[0] == 0
+        and "2024-05-31" in loan[1]
+        and on[1] == f"PACK {len(LOAN) + 1} posted {len(LOAN) + 1} Applied\n"
+    )
 
 
 def no_loans(room):
     """A record without loans gets a table without rows."""
     entries = posted(CRATES, VERDICTS["crates"])
     before = make(room, entries=entries)
-    return migrate(room) == (0, "migrated\n", "") and is_version_2(room, before, entries) and terms(entries) == []
+    return (
+        migrate(room) == (0, "migrated\n", "")
+        and is_version_2(room, before, entries)
+        and terms(entries) == []
+    )
 
 
 def migrate_refusals(room):
-    """Why a store isn't migrated, and that it is left as it is; so is one that says it is of version 2."""
+    """Why a store isn't migrated, and that it is left as it is; so is one that says it is of
+    version 2."""
     body = text_of({"kind": "extend", "loan": "LO2024.1", "last": "2024-06-30"})
     rows = [
         ("UPDATE meta SET val = 2 WHERE name = 'version'", None),
@@ -128,11 +173,16 @@ def no_store(room):
     room.write("museum.db", b"x" * 100)
     other = migrate(room) == (1, "", "fault store Store\n")
     room.write("bad.csv", "x\n")
-    return new and other and room.command("migrate", "bad.csv") == (1, "", "fault setup BadKind row 1\n")
+    return (
+        new
+        and other
+        and room.command("migrate", "bad.csv") == (1, "", "fault setup BadKind row 1\n")
+    )
 
 
 def migration_killed(room, times):
-    """A migration killed at a random moment, again and again, leaves version 1 whole or version 2 whole, and can be made again."""
+    """A migration killed at a random moment, again and again, leaves version 1 whole or version 2
+    whole, and can be made again."""
     draws, stopped = room.draws, 0
     entries = posted([move("C1", ("S1", "S2")[n % 2]) for n in range(200)], [0] * 200)
     entries.append(Entry(0, 201, agree(["2001.4.1"]), "Applied"))
@@ -142,7 +192,9 @@ def migration_killed(room, times):
     for _ in range(times):
         room.clear()
         room.write("museum.db", text)
-        migrating = subprocess.Popen(room.words("migrate"), stdout=subprocess.DEVNULL, stderr=subprocess.DEVNULL)
+        migrating = subprocess.Popen(
+            room.words("migrate"), stdout=subprocess.DEVNULL, stderr=subprocess.DEVNULL
+        )
         time.sleep(draws.uniform(0, 0.02))
         migrating.kill()
         stopped += migrating.wait() != 0
@@ -158,8 +210,8 @@ def migration_killed(room, times):
 
 
 def disk_stops(room):
-    """A migration whose log, or whose database file, stops at each call on it in turn leaves version 1 whole or version 2 whole,
-    and can be made again."""
+    """A migration whose log, or whose database file, stops at each call on it in turn leaves
+    version 1 whole or version 2 whole, and can be made again."""
     entries = posted(LOAN, VERDICTS["loan"])
     before = make(room)
     with open(room.store, "rb") as file:
@@ -178,8 +230,17 @@ def disk_stops(room):
         is_new = "term" in rows
         found.add((ran[0], is_new))
         again = migrate(room)
-        right = ran in ((0, "migrated\n", ""), (1, "", "fault store Store\n")) and sound and (is_new or (ran[0] and rows == before))
-        if not (right and again == (0, "migrated\n", "") and is_version_2(room, before, entries) and room.replay("") == (0, "", "")):
+        right = (
+            ran in ((0, "migrated\n", ""), (1, "", "fault store Store\n"))
+            and sound
+            and (is_new or (ran[0] and rows == before))
+        )
+        if not (
+            right
+            and again == (0, "migrated\n", "")
+            and is_version_2(room, before, entries)
+            and room.replay("") == (0, "", "")
+        ):
             print(f"  {at}: {ran}, {sound}, {is_new}, then {again}")
             good = False
     print(f"  {sorted(found)}")
@@ -190,7 +251,13 @@ def main():
     words = sys.argv[1:]
     seed = seeds.taken(words)
     program, times = words[0], int(words[1]) if len(words) > 1 else 60
-    return report(program, [migrated_store, no_loans, migrate_refusals, no_store, disk_stops], [migration_killed], times, seed)
+    return report(
+        program,
+        [migrated_store, no_loans, migrate_refusals, no_store, disk_stops],
+        [migration_killed],
+        times,
+        seed,
+    )
 
 
 if __name__ == "__main__":

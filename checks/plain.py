@@ -1,9 +1,10 @@
 #!/usr/bin/env python3
 """A plain slow program over the definitions: what is said to a session.
 
-It keeps two lists, what was taken and what is posted, and answers every question by walking them from their beginning
-(plain_book.py). Usage: plain.py < SESSION prints the replies to a session whose setup has no fault; plain.py PROGRAM
-[STREAMS] compares a program with them, on mixed streams: the first so many, and a quarter as many that `--seed N` names."""
+It keeps two lists, what was taken and what is posted, and answers every question by walking them
+from their beginning (plain_book.py). Usage: plain.py < SESSION prints the replies to a session
+whose setup has no fault; plain.py PROGRAM [STREAMS] compares a program with them, on mixed streams:
+the first so many, and a quarter as many that `--seed N` names."""
 import subprocess
 import sys
 from collections import namedtuple
@@ -94,7 +95,9 @@ def answers(museum, taken, posted, lines):
         elif line["station"] not in museum.stations:
             said.append(f"line {number} refused UnknownStation")
         elif "ask" in line:
-            said.append(f"{line['station']} ask {line['ask']} {whereabouts(museum, posted, line['ask'])}")
+            said.append(
+                f"{line['station']} ask {line['ask']} {whereabouts(museum, posted, line['ask'])}"
+            )
         else:
             said += arrival(museum, taken, posted, line["station"], line["n"], line["message"])
     return said
@@ -106,12 +109,47 @@ def replies(session):
     return answers(museum_of(head.decode()), [], [], rest)
 
 
-EVENTS = ["Applied", "UnknownThing", "UnknownPlace", "ElsewherePlace", "UnknownContainer", "UnknownLoan", "LoanKnown",
-          "InsidePartner", "NoObjects", "NotObject", "Repeated", "WrongOwner", "BadTerm", "AlreadyAuthorised",
-          "NotAuthorised", "WrongDirection", "NotHere", "ContainerNotHere", "Cycle", "TooDeep", "NotWithPartner",
-          "AlreadyHere", "NotListed", "WrongStage", "TermOver", "NotLater", "Double", "BadNumber", "TooEarly",
-          "SignedOff", "UnknownStation", "Missing", "BadField", "BadKind", "held", "at", "unknown", "unplaced",
-          "elsewhere in a crate"]
+EVENTS = [
+    "Applied",
+    "UnknownThing",
+    "UnknownPlace",
+    "ElsewherePlace",
+    "UnknownContainer",
+    "UnknownLoan",
+    "LoanKnown",
+    "InsidePartner",
+    "NoObjects",
+    "NotObject",
+    "Repeated",
+    "WrongOwner",
+    "BadTerm",
+    "AlreadyAuthorised",
+    "NotAuthorised",
+    "WrongDirection",
+    "NotHere",
+    "ContainerNotHere",
+    "Cycle",
+    "TooDeep",
+    "NotWithPartner",
+    "AlreadyHere",
+    "NotListed",
+    "WrongStage",
+    "TermOver",
+    "NotLater",
+    "Double",
+    "BadNumber",
+    "TooEarly",
+    "SignedOff",
+    "UnknownStation",
+    "Missing",
+    "BadField",
+    "BadKind",
+    "held",
+    "at",
+    "unknown",
+    "unplaced",
+    "elsewhere in a crate",
+]
 
 
 def event(reply):
@@ -130,10 +168,16 @@ def compare(program, numbers):
     for seed in numbers:
         session = streams.session(seed)
         want = replies(session)
-        got = subprocess.run([program], input=session, capture_output=True, check=True).stdout.decode().splitlines()
+        got = (
+            subprocess.run([program], input=session, capture_output=True, check=True)
+            .stdout.decode()
+            .splitlines()
+        )
         for number, (reply, wanted) in enumerate(zip(got, want), 1):
             if reply != wanted:
-                sys.exit(f"stream {seed}, reply {number}: {reply!r}, and the plain program says {wanted!r}")
+                sys.exit(
+                    f"stream {seed}, reply {number}: {reply!r}, and the plain program says {wanted!r}"
+                )
         if len(got) != len(want):
             sys.exit(f"stream {seed}: {len(got)} replies, and the plain program gives {len(want)}")
         for reply in want:

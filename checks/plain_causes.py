@@ -1,15 +1,24 @@
-"""The cause of a verdict in the plain program: which thing, place or loan it is, and the sentence that `why` prints."""
+"""The cause of a verdict in the plain program: which thing, place or loan it is, and the sentence
+that `why` prints."""
 from plain_book import agreement, is_container, is_out, last_day, objects_in, place, stage, targets
 
 FIXED = {
-    "UnknownThing": "was not in the setup", "UnknownPlace": "was not in the setup", "ElsewherePlace": "is outside the museum",
-    "UnknownContainer": "was not a container in the setup", "UnknownLoan": "is not agreed", "LoanKnown": "is already agreed",
-    "InsidePartner": "is inside the museum", "NoObjects": "lists no objects", "NotObject": "is a container",
-    "Repeated": "is listed twice", "BadTerm": "ends before it begins", "AlreadyAuthorised": "is already authorised",
-    "NotAuthorised": "is not authorised", "Cycle": "would be inside itself",
+    "UnknownThing": "was not in the setup",
+    "UnknownPlace": "was not in the setup",
+    "ElsewherePlace": "is outside the museum",
+    "UnknownContainer": "was not a container in the setup",
+    "UnknownLoan": "is not agreed",
+    "LoanKnown": "is already agreed",
+    "InsidePartner": "is inside the museum",
+    "NoObjects": "lists no objects",
+    "NotObject": "is a container",
+    "Repeated": "is listed twice",
+    "BadTerm": "ends before it begins",
+    "AlreadyAuthorised": "is already authorised",
+    "NotAuthorised": "is not authorised",
+    "Cycle": "would be inside itself",
 }
 WANTED = {"return": "Away", "receive": "Awaiting"}
-
 
 
 def why(museum, posted, number):
@@ -43,7 +52,11 @@ def culprit_of(museum, before, message, verdict):
     if verdict == "WrongOwner":
         return next(x for x in things if x.startswith("L") == is_out(message["loan"]))
     if verdict in ("NotListed", "WrongStage"):
-        return next(x for x in objects_in(museum, targets(before), message["thing"]) if is_off(museum, before, message, verdict, x))
+        return next(
+            x
+            for x in objects_in(museum, targets(before), message["thing"])
+            if is_off(museum, before, message, verdict, x)
+        )
     if verdict in ("UnknownPlace", "ElsewherePlace", "InsidePartner"):
         return message.get("place", message.get("partner"))
     if verdict in ("UnknownContainer", "ContainerNotHere"):
@@ -73,7 +86,11 @@ def sentence_on(museum, before, message, verdict, culprit):
     if verdict in ("NotHere", "ContainerNotHere", "NotWithPartner", "AlreadyHere"):
         return f"{culprit} is at {place(targets(before), culprit) or 'no place'}"
     if verdict == "Applied":
-        to = agreement(before, loan)["partner"] if message["kind"] == "exit" else message.get("place", message.get("container"))
+        to = (
+            agreement(before, loan)["partner"]
+            if message["kind"] == "exit"
+            else message.get("place", message.get("container"))
+        )
         return f"{culprit} went to {to}"
     return {
         "WrongOwner": lambda: f"{culprit} belongs to {'a lender' if is_out(loan) else 'the museum'}",

@@ -1,5 +1,5 @@
-"""Setups that grow, in the plain program: reading a file of new rows, its faults, what `grow` prints, the rows of the
-table `setup`, and why a store isn't opened."""
+"""Setups that grow, in the plain program: reading a file of new rows, its faults, what `grow`
+prints, the rows of the table `setup`, and why a store isn't opened."""
 import csv
 import io
 import itertools
@@ -28,8 +28,8 @@ GREW = re.compile("grew," + ",".join(3 * ["(0|[1-9][0-9]*)"]))
 
 
 class Setup:
-    """Stations, places with their side, things with their normal location (None for containers and borrowed
-    objects), and growths, the newest first."""
+    """Stations, places with their side, things with their normal location (None for containers and
+    borrowed objects), and growths, the newest first."""
 
     def __init__(self, stations=(), inside=(), things=(), growths=()):
         self.stations, self.inside, self.things = list(stations), dict(inside), dict(things)
@@ -45,7 +45,8 @@ class Setup:
         return Listed(len(self.inside), len(self.things))
 
     def listed_at(self, posted):
-        """How much was listed when so many entries had been posted: what the oldest growth since then found."""
+        """How much was listed when so many entries had been posted: what the oldest growth since
+        then found."""
         since = list(itertools.takewhile(lambda growth: growth.after > posted, self.growths))
         return Listed(since[-1].places, since[-1].things) if since else self.listed_now()
 
@@ -72,7 +73,8 @@ class Setup:
 
 
 def rows_of(file):
-    """The rows of a file with their numbers, without empty fields at their end. An empty line isn't a row."""
+    """The rows of a file with their numbers, without empty fields at their end. An empty line isn't
+    a row."""
     text = file.decode().removeprefix("\ufeff")
     for number, row in enumerate(filter(None, csv.reader(io.StringIO(text, newline=""))), 1):
         while row and not row[-1]:
@@ -87,7 +89,8 @@ def item_of(row):
 
 
 def row_fault(setup, above, row):
-    """The first fault of a row, in the setup with the rows before it, of which those of the file list `above`."""
+    """The first fault of a row, in the setup with the rows before it, of which those of the file
+    list `above`."""
     kind, *fields = row
     if kind not in FIELDS:
         return "BadKind"
@@ -118,7 +121,8 @@ def take(setup, row):
 
 
 def further(setup, file):
-    """The setup with the rows of a file, or None if it has faults, and these. A row with a fault is not taken."""
+    """The setup with the rows of a file, or None if it has faults, and these. A row with a fault is
+    not taken."""
     after, above, faults = setup.copy(), set(), []
     try:
         rows = list(rows_of(file))
@@ -154,11 +158,17 @@ def growth_lines(before, after, posted):
     things = len(after.stations) + len(after.inside)
     added = rows[stations : len(after.stations)] + rows[len(after.stations) + places : things]
     added += rows[things + len(before.things) :]
-    moved = [(thing, place) for thing, place in before.things.items() if place != after.things[thing]]
+    moved = [
+        (thing, place) for thing, place in before.things.items() if place != after.things[thing]
+    ]
     if not added and not moved:
         return ["nothing to add"]
-    counts = counted(len(after.inside) - places, "place") + counted(len(after.things) - len(before.things), "thing")
-    counts += counted(len(after.stations) - stations, "station") + counted(len(moved), "normal location")
+    counts = counted(len(after.inside) - places, "place") + counted(
+        len(after.things) - len(before.things), "thing"
+    )
+    counts += counted(len(after.stations) - stations, "station") + counted(
+        len(moved), "normal location"
+    )
     return [
         *(f"+ {row}" for row in added),
         *(f"~ own,{thing},{after.things[thing]}  (was {place})" for thing, place in moved),
@@ -168,7 +178,8 @@ def growth_lines(before, after, posted):
 
 
 def now_known(before, after, posted):
-    """The lines about entries that lacked something, if all of it is listed now and wasn't before."""
+    """The lines about entries that lacked something, if all of it is listed now and wasn't
+    before."""
     numbers = {thing: number for number, thing in enumerate(before.things)}
     for k, entry in enumerate(posted):
         code = lacked(before, numbers, k, entry)
@@ -178,7 +189,8 @@ def now_known(before, after, posted):
 
 
 def lists(setup, entry, code):
-    """Whether the setup lists the code, and the other things that the entry names if it lacked a thing."""
+    """Whether the setup lists the code, and the other things that the entry names if it lacked a
+    thing."""
     if entry.verdict == "UnknownThing":
         return all(thing in setup.things for thing in things_of(entry.message))
     return code in (setup.inside if entry.verdict == "UnknownPlace" else setup.things)
@@ -189,7 +201,8 @@ def things_of(message):
 
 
 def lacked(setup, numbers, k, entry):
-    """The code that the entry after k others named and the setup lacked; an object is no container that it lacked."""
+    """The code that the entry after k others named and the setup lacked; an object is no container
+    that it lacked."""
     message = entry.message
     if entry.verdict == "UnknownThing":
         listed = setup.listed_at(k).things
@@ -204,12 +217,15 @@ def lacked(setup, numbers, k, entry):
 
 
 def with_growths(setup, rows):
-    """The setup with the growths among these rows of the table, in their order, or None if they don't fit."""
+    """The setup with the growths among these rows of the table, in their order, or None if they
+    don't fit."""
     found = [GREW.fullmatch(text) for _, text in sorted(rows)]
     growths = [Growth(*map(int, match.groups())) for match in found if match]
     growths = [growth for growth in growths if max(growth) < 2**32]
     later = [setup.listed_now(), *growths]
-    fell = any(new.places < old.places or new.things < old.things for new, old in zip(later, growths))
+    fell = any(
+        new.places < old.places or new.things < old.things for new, old in zip(later, growths)
+    )
     if fell or len(growths) > MOST_GROWTHS:
         return None
     return Setup(setup.stations, setup.inside, setup.things, growths)
@@ -231,8 +247,11 @@ def opening_refusal(setup, store):
 
 
 def list_refusal(setup, store):
-    """The first fault of the entries, and of posting them again, each under what was listed then."""
-    entries = [entry_of(setup.museum(), i, row) for i, row in enumerate(sorted(store["posting"]), 1)]
+    """The first fault of the entries, and of posting them again, each under what was listed
+    then."""
+    entries = [
+        entry_of(setup.museum(), i, row) for i, row in enumerate(sorted(store["posting"]), 1)
+    ]
     if None in entries:
         return f"Damaged {entries.index(None) + 1}"
     if setup.growths and len(entries) < setup.growths[0].after:
@@ -241,7 +260,11 @@ def list_refusal(setup, store):
         if not may_follow(setup.museum_at(i), entries[:i], entry):
             return f"Damaged {i + 1}"
     wanted = rows_given(setup, entries)
-    return "Damaged 0" if any(sorted(store[table]) != sorted(rows) for table, rows in wanted.items()) else None
+    return (
+        "Damaged 0"
+        if any(sorted(store[table]) != sorted(rows) for table, rows in wanted.items())
+        else None
+    )
 
 
 def rows_given(setup, entries):

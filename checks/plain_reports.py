@@ -1,8 +1,9 @@
 #!/usr/bin/env python3
-"""What a plain slow program over the definitions says to the commands that read a record, on mixed streams that are the same
-in every run (streams.py), each with a count list of its own.
+"""What a plain slow program over the definitions says to the commands that read a record, on mixed
+streams that are the same in every run (streams.py), each with a count list of its own.
 
-Usage: plain_reports.py PROGRAM [STREAMS] compares a program with it, and prints which streams differ."""
+Usage: plain_reports.py PROGRAM [STREAMS] compares a program with it, and prints which streams
+differ."""
 import json
 import os
 import subprocess
@@ -14,7 +15,17 @@ import plain_causes
 import seeds
 import streams
 from plain import arrival
-from plain_book import agreement, applied, chain, is_authorised, is_container, last_day, place, stage, targets
+from plain_book import (
+    agreement,
+    applied,
+    chain,
+    is_authorised,
+    is_container,
+    last_day,
+    place,
+    stage,
+    targets,
+)
 from plain_store import day_number, loans, spots, text_of
 from plain_text import museum_of, read_line
 
@@ -60,11 +71,17 @@ class Record:
         return [f"{loan} {last_day(self.posted, loan)}" for loan in late if self.is_owed(loan)]
 
     def is_owed(self, loan):
-        return any(stage(self.museum, self.posted, loan, thing) in STILL_OUT for thing in self.museum.things)
+        return any(
+            stage(self.museum, self.posted, loan, thing) in STILL_OUT
+            for thing in self.museum.things
+        )
 
     def stages(self, loan):
         """Each object of a loan, with its stage."""
-        return [(thing, stage(self.museum, self.posted, loan, thing)) for thing in agreement(self.posted, loan)["objects"]]
+        return [
+            (thing, stage(self.museum, self.posted, loan, thing))
+            for thing in agreement(self.posted, loan)["objects"]
+        ]
 
     def state(self, loan):
         stages = [found for _, found in self.stages(loan)]
@@ -76,26 +93,50 @@ class Record:
 
     def loans(self, day, only_open):
         """The line of each loan, with the days that are left on a day."""
-        return [self.loan_line(loan, day) for loan in loans(self.posted) if not only_open or self.state(loan) != "Closed"]
+        return [
+            self.loan_line(loan, day)
+            for loan in loans(self.posted)
+            if not only_open or self.state(loan) != "Closed"
+        ]
 
     def loan_line(self, loan, day):
         terms, state, stages = agreement(self.posted, loan), self.state(loan), self.stages(loan)
         last, out = last_day(self.posted, loan), sum(found in STILL_OUT for _, found in stages)
         days = day_number(last) - day_number(day)
         objects = "1 object" if len(stages) == 1 else f"{len(stages)} objects"
-        left = f", {abs(days)} day{'s' * (abs(days) != 1)} {'left' if days >= 0 else 'over'}" if state != "Closed" else ""
-        return f"{loan} {state} {terms['partner']} {terms['first']} {last} {objects}, {out} out{left}"
+        left = (
+            f", {abs(days)} day{'s' * (abs(days) != 1)} {'left' if days >= 0 else 'over'}"
+            if state != "Closed"
+            else ""
+        )
+        return (
+            f"{loan} {state} {terms['partner']} {terms['first']} {last} {objects}, {out} out{left}"
+        )
 
     def loan_values(self, by):
         """The values of the loans that end by a day, by column."""
-        return [self.values_of(loan) for loan in loans(self.posted) if last_day(self.posted, loan) <= by]
+        return [
+            self.values_of(loan) for loan in loans(self.posted) if last_day(self.posted, loan) <= by
+        ]
 
     def values_of(self, loan):
         terms, stages = agreement(self.posted, loan), [found for _, found in self.stages(loan)]
         out, awaited = sum(found in STILL_OUT for found in stages), stages.count("Awaiting")
-        names = [m["by"] for _, m in applied(self.posted) if m["kind"] == "authorise" and m["loan"] == loan]
-        numbers = [str(number) for number in (len(stages), awaited, out, len(stages) - awaited - out)]
-        head = [loan, self.state(loan), terms["partner"], terms["first"], last_day(self.posted, loan)]
+        names = [
+            m["by"]
+            for _, m in applied(self.posted)
+            if m["kind"] == "authorise" and m["loan"] == loan
+        ]
+        numbers = [
+            str(number) for number in (len(stages), awaited, out, len(stages) - awaited - out)
+        ]
+        head = [
+            loan,
+            self.state(loan),
+            terms["partner"],
+            terms["first"],
+            last_day(self.posted, loan),
+        ]
         return [*head, *numbers, "", "", names[0] if names else ""]
 
     def dues(self, by):
@@ -118,22 +159,35 @@ class Record:
         ]
 
     def locations(self, thing):
-        """The values of each location of a thing, with the containers right after its entry, and that entry's message."""
+        """The values of each location of a thing, with the containers right after its entry, and
+        that entry's message."""
         places, number = list(self.museum.inside), self.museum.things.index(thing)
         return [
-            self.location(thing, entry, places[at]) for one, _, entry, at, _ in spots(self.museum, self.posted) if one == number
+            self.location(thing, entry, places[at])
+            for one, _, entry, at, _ in spots(self.museum, self.posted)
+            if one == number
         ]
 
     def location(self, thing, number, at):
         entry, above = self.posted[number - 1], chain(targets(self.posted[:number]), thing)
         message = entry.message
         return {
-            "entry": number, "day": message["day"], "place": at, "containers": above, "loan": message.get("loan"),
-            "station": entry.station, "n": entry.n, "kind": message["kind"],
+            "entry": number,
+            "day": message["day"],
+            "place": at,
+            "containers": above,
+            "loan": message.get("loan"),
+            "station": entry.station,
+            "n": entry.n,
+            "kind": message["kind"],
         }
 
     def at(self, sought):
-        return [f"{thing} {self.place(thing)}" for thing in self.museum.things if self.lies(thing, sought)]
+        return [
+            f"{thing} {self.place(thing)}"
+            for thing in self.museum.things
+            if self.lies(thing, sought)
+        ]
 
     def contents(self, container):
         inside = [thing for thing in self.museum.things if container in chain(self.put, thing)]
@@ -158,24 +212,39 @@ class Record:
 
     def why(self, number):
         """The line on the cause of an entry's verdict, if there is the entry."""
-        return [plain_causes.why(self.museum, self.posted, number)] if number <= len(self.posted) else []
+        return (
+            [plain_causes.why(self.museum, self.posted, number)]
+            if number <= len(self.posted)
+            else []
+        )
 
     def why_values(self, number):
-        return [plain_causes.values(self.museum, self.posted, number)] if number <= len(self.posted) else []
+        return (
+            [plain_causes.values(self.museum, self.posted, number)]
+            if number <= len(self.posted)
+            else []
+        )
 
     def counted(self, rows, sealed=False):
-        """What is said to each row, and what the list misses: if sealed, not what is in a container that was found."""
+        """What is said to each row, and what the list misses: if sealed, not what is in a container
+        that was found."""
         said, named = [], set()
         for sought, thing in rows:
             said.append(self.answer(sought, thing, named))
             named.add(thing)
-        found = {thing for sought, thing in rows if self.answer(sought, thing, ()) == "Found"} if sealed else set()
+        found = (
+            {thing for sought, thing in rows if self.answer(sought, thing, ()) == "Found"}
+            if sealed
+            else set()
+        )
         mentioned = dict.fromkeys(sought for sought, _ in rows if sought in self.museum.inside)
         missing = [
             f"missing {sought} {thing}"
             for sought in mentioned
             for thing in self.museum.things
-            if not is_container(thing) and thing not in named and self.lies(thing, sought)
+            if not is_container(thing)
+            and thing not in named
+            and self.lies(thing, sought)
             and not found.intersection(chain(self.put, thing))
         ]
         return [f"row {i} {answer}" for i, answer in enumerate(said, 1)] + missing
@@ -202,17 +271,34 @@ def history(locations):
 def long_history(locations):
     """The same with the containers, the loan and the message."""
     return [
-        " ".join([
-            *history([its]), *(["in"] if its["containers"] else []), *its["containers"], *([its["loan"]] if its["loan"] else []),
-            its["station"], str(its["n"]), its["kind"],
-        ])
+        " ".join(
+            [
+                *history([its]),
+                *(["in"] if its["containers"] else []),
+                *its["containers"],
+                *([its["loan"]] if its["loan"] else []),
+                its["station"],
+                str(its["n"]),
+                its["kind"],
+            ]
+        )
         for its in locations
     ]
 
 
 def long_values(locations):
     """The same as texts, by column."""
-    return [[str(it) for it in {**its, "containers": " ".join(its["containers"]), "loan": its["loan"] or ""}.values()] for its in locations]
+    return [
+        [
+            str(it)
+            for it in {
+                **its,
+                "containers": " ".join(its["containers"]),
+                "loan": its["loan"] or "",
+            }.values()
+        ]
+        for its in locations
+    ]
 
 
 def long_objects(locations):
@@ -242,9 +328,12 @@ def filled(text, columns):
 
 
 def width(text):
-    """The columns that a text takes in a terminal. The crate `unicode_width` has rules for sequences, such as emoji and
-    ligatures, that this hasn't; no text of a random record has one."""
-    return sum(2 if unicodedata.east_asian_width(mark) in "WF" else not unicodedata.combining(mark) for mark in text)
+    """The columns that a text takes in a terminal. The crate `unicode_width` has rules for
+    sequences, such as emoji and ligatures, that this hasn't; no text of a random record has one."""
+    return sum(
+        2 if unicodedata.east_asian_width(mark) in "WF" else not unicodedata.combining(mark)
+        for mark in text
+    )
 
 
 def named(message):
@@ -259,7 +348,13 @@ def json_lines(seed):
 def count_rows(seed):
     """A count list: places and things, some of them unknown, some named twice."""
     draws = streams.Draws(seed)
-    return [(draws.one_of(PLACES), draws.one_of([*streams.THINGS, *streams.OBJECTS * 3, "2009.1", None])) for _ in range(12)]
+    return [
+        (
+            draws.one_of(PLACES),
+            draws.one_of([*streams.THINGS, *streams.OBJECTS * 3, "2009.1", None]),
+        )
+        for _ in range(12)
+    ]
 
 
 def asked(record, rows):
@@ -276,10 +371,16 @@ def asked(record, rows):
     yield ["posted", "--from", "3", "--to", "9"], record.entries()[2:9]
     yield ["posted", "--refused"], record.entries_by(lambda entry: entry.verdict != "Applied")
     for station in record.museum.stations:
-        yield ["posted", "--station", station], record.entries_by(lambda entry: entry.station == station)
+        yield ["posted", "--station", station], record.entries_by(
+            lambda entry: entry.station == station
+        )
     for thing in ("C1", "2001.4.1"):
-        yield ["posted", "--thing", thing], record.entries_by(lambda entry: thing in named(entry.message))
-    yield ["posted", "--loan", "LO2024.1"], record.entries_by(lambda entry: entry.message.get("loan") == "LO2024.1")
+        yield ["posted", "--thing", thing], record.entries_by(
+            lambda entry: thing in named(entry.message)
+        )
+    yield ["posted", "--loan", "LO2024.1"], record.entries_by(
+        lambda entry: entry.message.get("loan") == "LO2024.1"
+    )
     for day in ("2024-05-31", "2024-06-01", "2024-07-01"):
         yield ["overdue", "--on", day], record.overdue(day)
         yield ["loans", "--on", day], record.loans(day, False)
@@ -288,7 +389,9 @@ def asked(record, rows):
         yield ["loans", "--table", "--by", day], table(LOANS, record.loan_values(day))
         yield ["dues", "--by", day], record.dues(day)
         # These plain lines have a word for each value.
-        yield ["dues", "--table", "--by", day], table(DUES, [line.split() for line in record.dues(day)])
+        yield ["dues", "--table", "--by", day], table(
+            DUES, [line.split() for line in record.dues(day)]
+        )
     for thing in ("C1", "C2", *streams.OBJECTS):
         locations = record.locations(thing)
         yield ["history", thing], history(locations)
@@ -296,14 +399,17 @@ def asked(record, rows):
         yield ["history", "--long", thing, "--csv"], separated(LOCATIONS, long_values(locations))
         yield ["history", "--long", thing, "--table"], table(LOCATIONS, long_values(locations))
         yield ["history", thing, "--long", "--json"], long_objects(locations)
-        yield ["history", thing, "--table"], table("entry day place", [line.split() for line in history(locations)])
+        yield ["history", thing, "--table"], table(
+            "entry day place", [line.split() for line in history(locations)]
+        )
     for sought in PLACES[:-1]:
         yield ["at", sought], record.at(sought)
     yield ["contents", "C1"], record.contents("C1")
 
 
 def asked_then(record, rows, seed):
-    """The same about the record as it was after an entry, which may be one that it doesn't have yet."""
+    """The same about the record as it was after an entry, which may be one that it doesn't have
+    yet."""
     entry = seed % (len(record.posted) + 2)
     for words, wanted in asked(record.upto(entry), rows):
         yield [*words, "--upto", str(entry)], wanted
@@ -312,14 +418,25 @@ def asked_then(record, rows, seed):
 def is_same(program, seed, folder):
     """Whether the program prints what the plain one does."""
     record, rows = Record.of(streams.SETUP, json_lines(seed)), count_rows(seed)
-    files = {"setup.csv": streams.SETUP, "list.csv": "".join(f"{at},{thing or ''}\n" for at, thing in rows)}
+    files = {
+        "setup.csv": streams.SETUP,
+        "list.csv": "".join(f"{at},{thing or ''}\n" for at, thing in rows),
+    }
     for name, text in files.items():
         with open(os.path.join(folder, name), "w", encoding="ascii") as file:
             file.write(text)
     store = ["--setup", "setup.csv", "--store", f"{seed}.db"]
-    subprocess.run([program, "replay", *store], input=json_lines(seed), cwd=folder, capture_output=True, check=True)
+    subprocess.run(
+        [program, "replay", *store],
+        input=json_lines(seed),
+        cwd=folder,
+        capture_output=True,
+        check=True,
+    )
     for (command, *words), wanted in (*asked(record, rows), *asked_then(record, rows, seed)):
-        ran = subprocess.run([program, command, *store, *words], cwd=folder, capture_output=True, check=False)
+        ran = subprocess.run(
+            [program, command, *store, *words], cwd=folder, capture_output=True, check=False
+        )
         if ran.returncode != 0 or ran.stdout.decode().splitlines() != wanted:
             print(f"stream {seed}: {command} {words} differs")
             return False
@@ -329,8 +446,12 @@ def is_same(program, seed, folder):
 def main():
     words = sys.argv[1:]
     seed = seeds.taken(words)
-    program, numbers = os.path.abspath(words[0]), seeds.streams(seed, int(words[1]) if len(words) > 1 else 30)
-    with tempfile.TemporaryDirectory(dir="/dev/shm" if os.path.isdir("/dev/shm") else None) as folder:
+    program, numbers = os.path.abspath(words[0]), seeds.streams(
+        seed, int(words[1]) if len(words) > 1 else 30
+    )
+    with tempfile.TemporaryDirectory(
+        dir="/dev/shm" if os.path.isdir("/dev/shm") else None
+    ) as folder:
         same = [is_same(program, number, folder) for number in numbers]
     print(f"{sum(same)} of {len(numbers)} streams are the same")
     return not all(same)

@@ -1,5 +1,6 @@
-"""What a plain program over the definitions says of a store: the rows that a posted list gives it, and why it can't be
-opened, the first refusal in its order. The rows are as a stock SQLite reads them."""
+"""What a plain program over the definitions says of a store: the rows that a posted list gives it,
+and why it can't be opened, the first refusal in its order. The rows are as a stock SQLite reads
+them."""
 import datetime
 import json
 from collections import namedtuple
@@ -46,9 +47,13 @@ def text_of(message):
 
 
 def setup_rows(museum, normal):
-    """The setup's rows: stations, then places, then things; `normal` tells an own object's place."""
+    """The setup's rows: stations, then places, then things; `normal` tells an own object's
+    place."""
     rows = [f"station,{name}" for name in museum.stations]
-    rows += [f"place,{code},{'inside' if inside else 'elsewhere'}" for code, inside in museum.inside.items()]
+    rows += [
+        f"place,{code},{'inside' if inside else 'elsewhere'}"
+        for code, inside in museum.inside.items()
+    ]
     for thing in museum.things:
         kind = "box" if thing.startswith("C") else "lent" if thing.startswith("L") else "own"
         rows.append(f"{kind},{thing}" + (f",{normal[thing]}" if kind == "own" else ""))
@@ -87,7 +92,12 @@ def terms(posted):
 def entry_of(museum, number, row):
     """The entry of a row of the list, or None."""
     key, station, n, body, code = row
-    if key != number or not 0 <= station < len(museum.stations) or not 1 <= n <= 999999 or not 0 <= code <= 25:
+    if (
+        key != number
+        or not 0 <= station < len(museum.stations)
+        or not 1 <= n <= 999999
+        or not 0 <= code <= 25
+    ):
         return None
     try:
         message = json.loads(body)
@@ -102,7 +112,11 @@ def may_follow(museum, posted, entry):
     """Whether an entry is the next of its station, and has the verdict of looking back."""
     own = [before for before in posted if before.station == entry.station]
     signed = any(before.message["kind"] == "signoff" for before in own)
-    return entry.n == len(own) + 1 and not signed and verdict(museum, posted, entry.message) == entry.verdict
+    return (
+        entry.n == len(own) + 1
+        and not signed
+        and verdict(museum, posted, entry.message) == entry.verdict
+    )
 
 
 def bound_refusal(store, setup):
@@ -124,13 +138,21 @@ def list_refusal(museum, store):
     for i, entry in enumerate(entries):
         if not may_follow(museum, entries[:i], entry):
             return f"Damaged {i + 1}"
-    wanted = {"spot": spots(museum, entries), "line": lines(museum, entries), "term": terms(entries)}
-    return "Damaged 0" if any(sorted(store[table]) != sorted(rows) for table, rows in wanted.items()) else None
+    wanted = {
+        "spot": spots(museum, entries),
+        "line": lines(museum, entries),
+        "term": terms(entries),
+    }
+    return (
+        "Damaged 0"
+        if any(sorted(store[table]) != sorted(rows) for table, rows in wanted.items())
+        else None
+    )
 
 
 def refusal(museum, setup, store, shapes):
-    """Why a store can't be opened with this setup, or None. `shapes` has the columns of each table that is there: the first
-    so many of the six, else the store is another program's."""
+    """Why a store can't be opened with this setup, or None. `shapes` has the columns of each table
+    that is there: the first so many of the six, else the store is another program's."""
     made = list(TABLES)[: len(shapes)]
     if shapes != {table: TABLES[table] for table in made}:
         return "Store"

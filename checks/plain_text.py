@@ -1,7 +1,7 @@
 """What the plain program reads: a setup without fault, and lines with the messages in them.
 
-JSON is read by Python's json, which takes more than the hub does: NaN, 1e999, half a pair of surrogates, and what is
-deeper than 127 levels. The streams have none of these."""
+JSON is read by Python's json, which takes more than the hub does: NaN, 1e999, half a pair of
+surrogates, and what is deeper than 127 levels. The streams have none of these."""
 import csv
 import datetime
 import json
@@ -13,7 +13,8 @@ Museum = namedtuple("Museum", "stations inside things")
 
 
 def museum_of(head):
-    """The setup of these rows, which has no fault: its stations, its places and whether they are inside, its things."""
+    """The setup of these rows, which has no fault: its stations, its places and whether they are
+    inside, its things."""
     museum = Museum([], {}, [])
     for kind, code, *rest in (row for row in csv.reader(head.splitlines()) if row):
         if kind == "station":
@@ -47,13 +48,19 @@ def is_loan(value):
 
 def is_day(value):
     try:
-        return is_text(value, "[0-9]{4}-[0-9]{2}-[0-9]{2}") and bool(datetime.date.fromisoformat(value))
+        return is_text(value, "[0-9]{4}-[0-9]{2}-[0-9]{2}") and bool(
+            datetime.date.fromisoformat(value)
+        )
     except ValueError:
         return False
 
 
 def is_name(value):
-    return isinstance(value, str) and 1 <= len(value.encode()) <= 60 and not re.search("[\0-\x1f\x7f]", value)
+    return (
+        isinstance(value, str)
+        and 1 <= len(value.encode()) <= 60
+        and not re.search("[\0-\x1f\x7f]", value)
+    )
 
 
 def are_objects(value):
@@ -63,7 +70,13 @@ def are_objects(value):
 KINDS = {
     "move": {"thing": is_thing, "place": is_place, "day": is_day},
     "pack": {"thing": is_thing, "container": is_thing, "day": is_day},
-    "agree": {"loan": is_loan, "partner": is_place, "objects": are_objects, "first": is_day, "last": is_day},
+    "agree": {
+        "loan": is_loan,
+        "partner": is_place,
+        "objects": are_objects,
+        "first": is_day,
+        "last": is_day,
+    },
     "authorise": {"loan": is_loan, "by": is_name},
     "exit": {"thing": is_thing, "loan": is_loan, "day": is_day},
     "return": {"thing": is_thing, "loan": is_loan, "place": is_place, "day": is_day},

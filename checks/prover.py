@@ -1,5 +1,6 @@
-"""What the wrong bodies take from the inside of the kit's `rt`, all in one place. If a kit lacks one of these
-names, loading stops and names it; the rest of the gate uses only `rt`'s command line."""
+"""What the wrong bodies take from the inside of the kit's `rt`, all in one place. If a kit lacks
+one of these names, loading stops and names it; the rest of the gate uses only `rt`'s command
+line."""
 import importlib.machinery
 import importlib.util
 import os
@@ -24,7 +25,9 @@ def load():
 def taken(module, name):
     """What the module has under this name."""
     if not hasattr(module, name):
-        sys.exit(f"this kit's rt has no {module.__name__}.{name}: adapt checks/prover.py, which lists what the checks take")
+        sys.exit(
+            f"this kit's rt has no {module.__name__}.{name}: adapt checks/prover.py, which lists what the checks take"
+        )
     return getattr(module, name)
 
 

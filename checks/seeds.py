@@ -1,5 +1,5 @@
-"""The seed of a check's random draws: that of `--seed N` among its words, otherwise a new one. It is printed, so that a run can be
-made again."""
+"""The seed of a check's random draws: that of `--seed N` among its words, otherwise a new one. It
+is printed, so that a run can be made again."""
 import random
 import zlib
 
@@ -17,7 +17,8 @@ def taken(words):
 
 
 def streams(seed, count):
-    """The numbers of so many random streams: the first ones, which have each event, and a quarter as many that the seed names."""
+    """The numbers of so many random streams: the first ones, which have each event, and a quarter
+    as many that the seed names."""
     return [*range(1, count + 1), *range(seed + count, seed + count + count // 4)]
 
 

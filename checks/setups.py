@@ -1,7 +1,8 @@
 #!/usr/bin/env python3
 """Setups that have a fault, and the rows that a store has of those that have none.
 
-Usage: setups.py PROGRAM. Each check prints its name and ok or FAILED; the last line is 'N passed, M failed'."""
+Usage: setups.py PROGRAM. Each check prints its name and ok or FAILED; the last line is 'N passed, M
+failed'."""
 import sys
 
 from store_room import SETUP, read, report

@@ -1,5 +1,6 @@
-"""A folder with a setup and a store, the program that is run there, what stations send to it, and what a stock SQLite
-(Python's sqlite3) reads of it; and how checks that are made in such folders are told."""
+"""A folder with a setup and a store, the program that is run there, what stations send to it, and
+what a stock SQLite (Python's sqlite3) reads of it; and how checks that are made in such folders are
+told."""
 import os
 import shutil
 import sqlite3
@@ -45,7 +46,13 @@ def leave(day):
 
 AUTHORISE = {"kind": "authorise", "loan": "LO2024.1", "by": "A. Keeper"}
 # a crate in a crate, and a crate that goes out under a loan: what PACK sends
-CRATES = [move("C1", "S1"), move("C2", "S1"), pack("C2", "C1"), pack("2001.4.1", "C2"), move("C1", "S2")]
+CRATES = [
+    move("C1", "S1"),
+    move("C2", "S1"),
+    pack("C2", "C1"),
+    pack("2001.4.1", "C2"),
+    move("C1", "S2"),
+]
 LOAN = (
     [move("C1", "S1")]
     + [pack(f"2001.4.{i}", "C1") for i in (1, 2, 3)]
@@ -96,7 +103,11 @@ class Room:
 
     def replay(self, given="", setup="setup.csv", store=None, **how):
         """The status, the replies and the fault line of a replay onto the store."""
-        return said(subprocess.run(self.words("replay", setup, store), input=given.encode(), capture_output=True, **how))
+        return said(
+            subprocess.run(
+                self.words("replay", setup, store), input=given.encode(), capture_output=True, **how
+            )
+        )
 
     def command(self, name, setup, *more):
         """The same of another command over the store."""
@@ -124,7 +135,8 @@ def settle(store):
 
 
 def held(room):
-    """The bytes of the store's file, and whether its log holds a page: one that has just been begun holds none."""
+    """The bytes of the store's file, and whether its log holds a page: one that has just been begun
+    holds none."""
     with open(room.store, "rb") as file:
         text = file.read()
     log = room.store + "-wal"
@@ -146,14 +158,20 @@ def read_copy(room):
 
 def built(room, source):
     """A library of this source, which a program loads before the C library."""
-    file, library = os.path.join(os.path.dirname(os.path.abspath(__file__)), source), room.path(source.replace(".c", ".so"))
-    subprocess.run(["gcc", "-O2", "-Wall", "-shared", "-fPIC", "-o", library, file, "-ldl"], check=True)
+    file, library = os.path.join(os.path.dirname(os.path.abspath(__file__)), source), room.path(
+        source.replace(".c", ".so")
+    )
+    subprocess.run(
+        ["gcc", "-O2", "-Wall", "-shared", "-fPIC", "-o", library, file, "-ldl"], check=True
+    )
     return library
 
 
 def stops(room, library, begin, run):
-    """Each way in which a run meets a disk that stops: the file, the number of the call on it from which each call fails, and
-    whether the machine crashes then and loses what wasn't synced; with what the run says, over the store that `begin` makes."""
+    """Each way in which a run meets a disk that stops: the file, the number of the call on it from
+    which each call fails, and whether the machine crashes then and loses what wasn't synced; with
+    what the run says, over the store that `begin` makes.
+"""
     for name in ("museum.db-wal", "museum.db"):
         env = {**os.environ, "LD_PRELOAD": library, "NAMED": name, "CALLS": room.path("calls")}
         begin()
@@ -169,9 +187,16 @@ def stops(room, library, begin, run):
 def read(store):
     """What a stock SQLite finds in a store: the rows of its tables, and their columns."""
     conn = sqlite3.connect(store)
-    names = [name for (name,) in conn.execute("SELECT name FROM sqlite_master WHERE type = 'table'")]
+    names = [
+        name for (name,) in conn.execute("SELECT name FROM sqlite_master WHERE type = 'table'")
+    ]
     rows = {name: [tuple(row) for row in conn.execute(f"SELECT * FROM {name}")] for name in names}
-    shapes = {name: [(row[1], row[2], row[3], row[5]) for row in conn.execute(f"PRAGMA table_info({name})")] for name in names}
+    shapes = {
+        name: [
+            (row[1], row[2], row[3], row[5]) for row in conn.execute(f"PRAGMA table_info({name})")
+        ]
+        for name in names
+    }
     sound = conn.execute("PRAGMA integrity_check").fetchall() == [("ok",)]
     strict = all(row[5] for row in conn.execute("PRAGMA table_list") if row[1] in names)
     conn.close()
@@ -179,16 +204,23 @@ def read(store):
 
 
 def report(program, checks, repeated=(), times=0, seed=None):
-    """Runs each check in a room of its own, the repeated ones with how many times; prints its name, ok or FAILED, and what it
-    took, and last how many passed. Whether one failed. What a check draws, it draws by the seed and by its name."""
+    """Runs each check in a room of its own, the repeated ones with how many times; prints its name,
+    ok or FAILED, and what it took, and last how many passed. Whether one failed. What a check
+    draws, it draws by the seed and by its name.
+"""
     passed, failed = 0, 0
     for check in [*checks, *repeated]:
         began = time.monotonic()
-        with tempfile.TemporaryDirectory(dir="/dev/shm" if os.path.isdir("/dev/shm") else None) as folder:
+        with tempfile.TemporaryDirectory(
+            dir="/dev/shm" if os.path.isdir("/dev/shm") else None
+        ) as folder:
             room = Room(program, folder)
             room.draws = seeds.draws(seed, check.__name__)
             good = check(room, times) if check in repeated else check(room)
         passed, failed = passed + bool(good), failed + (not good)
-        print(f"{check.__name__}: {'ok' if good else 'FAILED'}, in {time.monotonic() - began:.0f} s", flush=True)
+        print(
+            f"{check.__name__}: {'ok' if good else 'FAILED'}, in {time.monotonic() - began:.0f} s",
+            flush=True,
+        )
     print(f"{passed} passed, {failed} failed")
     return failed > 0

@@ -1,24 +1,28 @@
 """Mixed streams of lines, the same in every run: of three, two are of packing and one is of loans.
 
-Every other one is mildly out of order, with some lines twice and with gaps; the others are nearly in order, so that
-more is posted."""
+Every other one is mildly out of order, with some lines twice and with gaps; the others are nearly
+in order, so that more is posted."""
 import json
 
 ELSEWHERE = ["MUSEUM-X", "LENDER-Y"]
 CRATES = [f"C{n}" for n in range(1, 15)]
 OBJECTS = ["2001.4.1", "2001.4.2", "L1999.7"]
 THINGS = CRATES + OBJECTS
-SETUP = """station,PACK
+SETUP = (
+    """station,PACK
 station,GAL
 place,S1,inside
 place,S1-A,inside
 place,S2,inside
 place,MUSEUM-X,elsewhere
 place,LENDER-Y,elsewhere
-""" + "".join(f"box,{crate}\n" for crate in CRATES) + """own,2001.4.1,S1-A
+"""
+    + "".join(f"box,{crate}\n" for crate in CRATES)
+    + """own,2001.4.1,S1-A
 own,2001.4.2,S1-A
 lent,L1999.7
 """
+)
 LAST = 999999
 DAYS = ["2024-05-01", "2024-05-02", "2024-05-31", "2024-06-01", "2024-06-30"]
 OUT = {"loan": "LO2024.1"}
@@ -44,9 +48,15 @@ STEPS = [
     {"kind": "authorise", "loan": "LO2024.2", "by": "Ann"},
     {"kind": "move", "thing": "C1", "place": "S1", **DAY},
 ]
-KEYS = {"authorise": ["loan", "by"], "exit": ["thing", "loan", "day"], "return": ["thing", "loan", "place", "day"],
-        "receive": ["thing", "loan", "place", "day"], "extend": ["loan", "last"], "move": ["thing", "place", "day"],
-        "pack": ["thing", "container", "day"]}
+KEYS = {
+    "authorise": ["loan", "by"],
+    "exit": ["thing", "loan", "day"],
+    "return": ["thing", "loan", "place", "day"],
+    "receive": ["thing", "loan", "place", "day"],
+    "extend": ["loan", "last"],
+    "move": ["thing", "place", "day"],
+    "pack": ["thing", "container", "day"],
+}
 # what is wrong at each key
 WRONG = ["", "c1", "2024-5-01", "LX2024.1", 1, None, ["S1"], ["2001.4.1"] * 257, "x" * 61]
 
@@ -66,7 +76,8 @@ class Draws:
 
 
 def placing(draws, rung):
-    """A move or a pack, and whether it is a rung: half of them pack a crate into the one numbered before it."""
+    """A move or a pack, and whether it is a rung: half of them pack a crate into the one numbered
+    before it."""
     choice = draws.below(12)
     thing = draws.one_of(CRATES + THINGS + OBJECTS * 3 + ["2009.1"])
     if choice < 6:
@@ -81,21 +92,48 @@ def placing(draws, rung):
 
 
 def agreement(draws, loan):
-    """Half of the agreements list what may stand there; the others anything, from nothing to two things."""
+    """Half of the agreements list what may stand there; the others anything, from nothing to two
+    things."""
     objects = OBJECTS[2:] if loan.startswith("LI") else draws.one_of([OBJECTS[:1], OBJECTS[:2]])
     if draws.below(2) == 0:
-        objects = [draws.one_of(OBJECTS + OBJECTS + ["C1", "2009.1"]) for _ in range(draws.below(3))]
+        objects = [
+            draws.one_of(OBJECTS + OBJECTS + ["C1", "2009.1"]) for _ in range(draws.below(3))
+        ]
     partner = draws.one_of(["MUSEUM-X"] * 6 + ["LENDER-Y", "LENDER-Y", "S1", "S9"])
     last = draws.one_of(["2024-04-30", "2024-05-31", "2024-05-31", "2024-06-10"])
-    return {"kind": "agree", "loan": loan, "partner": partner, "objects": objects, "first": "2024-05-01", "last": last}
+    return {
+        "kind": "agree",
+        "loan": loan,
+        "partner": partner,
+        "objects": objects,
+        "first": "2024-05-01",
+        "last": last,
+    }
 
 
 def of_a_loan(draws, step):
-    """A message of a few loans over the objects and two crates, and whether it is a step: a third are the next step."""
+    """A message of a few loans over the objects and two crates, and whether it is a step: a third
+    are the next step."""
     if draws.below(3) == 0:
         return STEPS[step % len(STEPS)], True
-    kind = draws.one_of(["agree", "agree", "authorise", "exit", "exit", "exit", "return", "return", "receive", "extend",
-                         "move", "move", "pack", "pack"])
+    kind = draws.one_of(
+        [
+            "agree",
+            "agree",
+            "authorise",
+            "exit",
+            "exit",
+            "exit",
+            "return",
+            "return",
+            "receive",
+            "extend",
+            "move",
+            "move",
+            "pack",
+            "pack",
+        ]
+    )
     loan = draws.one_of(["LO2024.1"] * 5 + ["LI2024.1"] * 4 + ["LO2024.2"] * 2 + ["LI2024.9"])
     if kind == "agree":
         return agreement(draws, draws.one_of([loan, "LO2024.2", "LO2024.3", "LI2024.2"])), False
@@ -103,7 +141,10 @@ def of_a_loan(draws, step):
         "thing": draws.one_of(OBJECTS * 3 + ["L1999.7", "C1", "C1", "C2", "2009.1"]),
         "place": draws.one_of(["S1", "S2", "S1", "S2", "S1-A", "MUSEUM-X", "S9"]),
         "container": draws.one_of(["C1", "C1", "C2"]),
-        "loan": loan, "by": "Ann", "day": draws.one_of(DAYS), "last": draws.one_of(DAYS + ["2024-07-31"]),
+        "loan": loan,
+        "by": "Ann",
+        "day": draws.one_of(DAYS),
+        "last": draws.one_of(DAYS + ["2024-07-31"]),
     }
     return {"kind": kind, **{key: words[key] for key in KEYS[kind]}}, False
 
@@ -116,14 +157,20 @@ def spoiled(draws, message):
 
 
 def lines(seed):
-    """Lines of two stations and of none, with questions and late sign-offs; of three streams one is of loans."""
+    """Lines of two stations and of none, with questions and late sign-offs; of three streams one is
+    of loans."""
     draws, said, next_number, rung = Draws(seed), [], {"PACK": 1, "GAL": 1, "NONE": 1}, 1
     calm, is_of_loans = seed % 2 == 0, seed % 3 == 0
     ahead = [0] * 30 + [1, -1] if calm else [0, 0, 0, 0, 0, 1, 2, -1, -2, 255, 256, 300]
     for i in range(150):
         station = draws.one_of(["PACK", "GAL", "GAL", "PACK", "GAL", "PACK", "GAL", "PACK", "NONE"])
         if draws.below(5) == 0:
-            said.append({"station": station, "ask": draws.one_of(THINGS + OBJECTS * 3 * is_of_loans + ["2009.1"])})
+            said.append(
+                {
+                    "station": station,
+                    "ask": draws.one_of(THINGS + OBJECTS * 3 * is_of_loans + ["2009.1"]),
+                }
+            )
             continue
         n = next_number[station] + draws.one_of(ahead)
         if n == next_number[station] or not calm and draws.below(15) == 0:

@@ -1,5 +1,6 @@
 #!/usr/bin/env python3
-"""Runs the program at a terminal: before it waits for lines it says so on standard error, and nothing else does.
+"""Runs the program at a terminal: before it waits for lines it says so on standard error, and
+nothing else does.
 
   checks/terminal.py PROGRAM"""
 import os
@@ -12,7 +13,8 @@ PROMPT = b"note: waiting for lines from the terminal; end them with Ctrl-D\n"
 
 
 def run_at_terminal(words, typed):
-    """What the program prints on standard error, and its status, where this is typed, and then Ctrl-D once."""
+    """What the program prints on standard error, and its status, where this is typed, and then
+    Ctrl-D once."""
     terminal, line = pty.openpty()
     ran = subprocess.Popen(words, stdin=line, stdout=subprocess.DEVNULL, stderr=subprocess.PIPE)
     os.close(line)

@@ -5,11 +5,12 @@ An edit begins with its title and with the function whose contract refuses it:
   wrong: binds a store of another setup
   refused by: compare, complete
 
-After the function come the clauses that refuse the edit, if they have names. A third line, `because: ...`, is for a remark.
+After the function come the clauses that refuse the edit, if they have names. A third line,
+`because: ...`, is for a remark.
 
-Then comes the change. Each `new` text replaces an `old` one, which is in the `file` once; or `body` replaces the whole body of
-the function `fn`, named by the end of the path by which the prover names it. In a body, the function's own name is the right
-function, which is taken by its contract.
+Then comes the change. Each `new` text replaces an `old` one, which is in the `file` once; or `body`
+replaces the whole body of the function `fn`, named by the end of the path by which the prover names
+it. In a body, the function's own name is the right function, which is taken by its contract.
 """
 import collections
 import glob
@@ -49,19 +50,23 @@ def name_of(file):
 
 
 def head_of(text):
-    """The title of an edit, the function and the clauses that refuse it, and the remark; None if there is no title."""
+    """The title of an edit, the function and the clauses that refuse it, and the remark; None if
+    there is no title."""
     found = HEAD.match(text)
     return found and Head(found[1], found[2], re.findall(r"\w+", found[3]), found[4] or "")
 
 
 class Edit:
-    """The texts that it puts in place, as (file, from, to, text), the functions that these are in, and the clauses to try it under."""
+    """The texts that it puts in place, as (file, from, to, text), the functions that these are in,
+    and the clauses to try it under."""
 
     def __init__(self, file, crate, known):
         self.file, self.name = file, f"{crate.name}/{name_of(file)}"
         self.number, self.clauses, self.seconds = 0, set(), 0.0
         self.spans, self.functions, self.is_alone, self.bad = [], [], False, ""
-        head, lines = head_of(text_of(file)), re.findall(r"(?m)^(file|old|new|fn|body): ?(.*)$", text_of(file))
+        head, lines = head_of(text_of(file)), re.findall(
+            r"(?m)^(file|old|new|fn|body): ?(.*)$", text_of(file)
+        )
         self.is_whole = [key for key, _ in lines] == ["file", "fn", "body"]
         if not head:
             self.bad = NO_HEAD
@@ -69,7 +74,12 @@ class Edit:
             self.take_body(crate, known, *[value.strip() for _, value in lines])
         else:
             self.take_pairs(crate, known, lines)
-        if head and not self.is_alone and self.can_be_copied() and self.functions[0].name == head.function.split("::")[-1]:
+        if (
+            head
+            and not self.is_alone
+            and self.can_be_copied()
+            and self.functions[0].name == head.function.split("::")[-1]
+        ):
             self.clauses = self.clauses_alone(crate, set(head.clauses))
 
     def take_body(self, crate, known, path, name, body):
@@ -101,11 +111,14 @@ class Edit:
                 self.spans.append((path, at, end, value))
 
     def clauses_alone(self, crate, clauses):
-        """These clauses, if its copy can have them alone: not if they are all that the function ensures, or its proof is by hand."""
+        """These clauses, if its copy can have them alone: not if they are all that the function
+        ensures, or its proof is by hand."""
         [function] = self.functions
         lines = text_of(f"{crate.folder}/{function.file}").split("\n")
         contract = "\n".join(lines[function.first : function.body])
-        has_proof = not self.is_whole and os.path.exists(f"{crate.folder}/proofs/{function.proofs()}/Proof.antt")
+        has_proof = not self.is_whole and os.path.exists(
+            f"{crate.folder}/proofs/{function.proofs()}/Proof.antt"
+        )
         return clauses if clauses < set(ENSURES.findall(contract)) and not has_proof else set()
 
     def can_be_copied(self):
@@ -117,9 +130,15 @@ class Edit:
 
 
 def rows(crate):
-    """The rows of a crate's table, those that one function refuses together, those that a test refuses last."""
-    heads = {it: head_of(text_of(it)) for it in sorted(glob.glob(f"{crate.folder}/wrong-bodies/*.edit"))}
-    tests = {it: TESTED.match(text_of(it)) for it in sorted(glob.glob(f"{crate.folder}/refused-by-tests/*.edit"))}
+    """The rows of a crate's table, those that one function refuses together, those that a test
+    refuses last."""
+    heads = {
+        it: head_of(text_of(it)) for it in sorted(glob.glob(f"{crate.folder}/wrong-bodies/*.edit"))
+    }
+    tests = {
+        it: TESTED.match(text_of(it))
+        for it in sorted(glob.glob(f"{crate.folder}/refused-by-tests/*.edit"))
+    }
     bad = [it for it, head in [*heads.items(), *tests.items()] if not head]
     if bad:
         sys.exit(f"{bad[0]}: {NO_HEAD}")
@@ -134,4 +153,6 @@ def page(crates):
     """The text of docs/WRONG_BODIES.md."""
     tables = sorted((it.name, "".join(rows(it))) for it in crates)
     heading = "| edit | wrong body | refused by |\n|---|---|---|\n"
-    return INTRODUCTION + "".join(f"\n## `{name}`\n\n{heading}{table}" for name, table in tables if table)
+    return INTRODUCTION + "".join(
+        f"\n## `{name}`\n\n{heading}{table}" for name, table in tables if table
+    )
