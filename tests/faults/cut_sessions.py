@@ -1,0 +1,85 @@
+#!/usr/bin/env python3
+"""Runs the program on the input of cases cut after each byte.
+
+Each result must be a named fault of the setup and no reply, or the replies to the lines that had
+ended, then to the cut line none, a named fault of that line, or its whole reply. Usage:
+cut_anywhere.py PROGRAM CASE.."""
+import re
+import subprocess
+import sys
+import time
+from concurrent.futures import ThreadPoolExecutor
+
+SETUP_FAULT = re.compile(rb"fault setup [A-Za-z]+( row [0-9]+)?\n")
+LINE_FAULT = re.compile(rb"line ([0-9]+) bad [A-Za-z]+( [a-z]+)?\n")
+
+
+def run(program, given):
+    """The program's status, output and error text."""
+    ended = subprocess.run([program], input=given, capture_output=True, timeout=20, check=False)
+    return ended.returncode, ended.stdout, ended.stderr
+
+
+class Case:
+    """A case, and what the program says to its input through each line feed after the head."""
+
+    def __init__(self, program, folder):
+        self.program = program
+        self.folder = folder
+        with open(f"{folder}/stdin", "rb") as file:
+            self.given = file.read()
+        with open(f"{folder}/stdout", "rb") as file:
+            self.wanted = file.read()
+        self.lines_from = self.given.index(b"\n\n") + 2
+        ends = [
+            at + 1 for at, byte in enumerate(self.given) if byte == 10 and at + 1 >= self.lines_from
+        ]
+        self.replies = {end: self.reply_to(end) for end in ends + [len(self.given)]}
+
+    def reply_to(self, end):
+        """What is said to whole lines, which must be the first of the replies that are wanted."""
+        status, out, errors = run(self.program, self.given[:end])
+        if status or errors or not self.wanted.startswith(out) or (out and out[-1:] != b"\n"):
+            sys.exit(f"{self.folder}: the first {end} bytes")
+        return out
+
+    def is_right(self, cut):
+        """Whether the result for the first bytes is one of those that may be."""
+        status, out, errors = run(self.program, self.given[:cut])
+        if cut < self.lines_from - 1:
+            return out == b"" and (
+                SETUP_FAULT.fullmatch(errors) if status == 1 else status == 0 and errors == b""
+            )
+        if status or errors:
+            return False
+        if cut < self.lines_from:
+            return out == b""
+        start = max(end for end in self.replies if end <= cut)
+        if not out.startswith(self.replies[start]):
+            return False
+        last = out[len(self.replies[start]) :]
+        number = self.given.count(b"\n", self.lines_from, cut) + 1
+        fault = LINE_FAULT.fullmatch(last)
+        whole = min((end for end in self.replies if end > cut), default=None)
+        if cut == start:
+            return last == b""
+        if fault is not None:
+            return int(fault[1]) == number
+        return cut == whole - 1 and out == self.replies[whole]
+
+
+def main():
+    program, folders, cuts, began = sys.argv[1], sys.argv[2:], 0, time.monotonic()
+    for folder in folders:
+        case = Case(program, folder)
+        with ThreadPoolExecutor(2) as pool:
+            results = pool.map(case.is_right, range(len(case.given) + 1))
+            for cut, right in enumerate(results):
+                if not right:
+                    sys.exit(f"{folder}: cut after {cut} bytes")
+                cuts += 1
+    print(f"{cuts} cuts, in {time.monotonic() - began:.0f} s")
+
+
+if __name__ == "__main__":
+    main()
