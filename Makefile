@@ -40,7 +40,7 @@ try:
 	$(call show,bin/pairsalder_unproved)
 
 test:
-	@RT="$(RT)" checks/test
+	@RT="$(RT)" tests/gate
 
 # The man page and the completions are written from the help of the program that is installed.
 install: bin/pairsalder

@@ -1,20 +1,13 @@
-#!/usr/bin/env python3
-"""The largest setup: 64 stations, 10,000 places and 100,000 things, and one more of each.
-
-    checks/large_setup.py PROGRAM
-
-The program is to take the largest setup and to answer for its last station, place and thing; and of
-a setup with one row more of a sort it is to tell TooMany with that row's number. A store of the
-largest setup is to have each of its rows, the last one among them, as a stock SQLite reads it. The
-rows are read once by Python's own `csv`, too, which is to find each code once."""
+"""The largest setup has 64 stations, 10,000 places and 100,000 things; one more of each is
+TooMany."""
 import csv
+import functools
 import io
-import sqlite3
-import subprocess
-import sys
-import tempfile
-from pathlib import Path
 
+from common.museum import MuseumRoom
+from common.sqlite import read
+
+ROOM = MuseumRoom
 STATIONS, PLACES, THINGS = 64, 10_000, 100_000
 KINDS = ["box", "own", "lent"]
 
@@ -37,29 +30,10 @@ def thing(number):
     }[kind]
 
 
+@functools.cache
 def rows(stations, places, things):
     counts = [(station, stations), (place, places), (thing, things)]
     return [row(number) for row, count in counts for number in range(1, count + 1)]
-
-
-def run(program, setup, lines):
-    """What the program answers: its status, its replies and its fault."""
-    session = "\n".join([*setup, "", *lines]) + "\n"
-    done = subprocess.run(
-        [program], input=session, capture_output=True, text=True, timeout=120, check=False
-    )
-    return done.returncode, done.stdout, done.stderr
-
-
-def stored(program, setup):
-    """The rows of the setup that a new store keeps."""
-    with tempfile.TemporaryDirectory() as folder:
-        museum, store = Path(folder, "museum.csv"), Path(folder, "museum.db")
-        museum.write_text("\n".join(setup) + "\n", encoding="utf-8")
-        words = [program, "replay", "--setup", museum, "--store", store]
-        subprocess.run(words, input="", text=True, timeout=120, check=True)
-        with sqlite3.connect(store) as connection:
-            return [text for (text,) in connection.execute("SELECT txt FROM setup ORDER BY id")]
 
 
 def lines_of_the_last():
@@ -76,35 +50,40 @@ def lines_of_the_last():
     return lines, replies
 
 
-def holds(name, is_so):
-    print(f"{name}: {'ok' if is_so else 'FAILED'}")
-    return is_so
+def replay(room, setup, lines):
+    """What a session of a setup and lines says."""
+    return room.run(given="\n".join([*setup, "", *lines]) + "\n")
 
 
-def main(program):
+def test_largest_setup(room):
+    """The largest setup lists each code once, and the program answers for its last station, place
+    and thing."""
     largest = rows(STATIONS, PLACES, THINGS)
-    codes = [row[1] for row in csv.reader(io.StringIO("\n".join(largest)))]
-    passed = [
-        holds("each code stands once", len(set(codes)) == len(codes) == STATIONS + PLACES + THINGS)
-    ]
+    codes = {row[1] for row in csv.reader(io.StringIO("\n".join(largest)))}
     lines, replies = lines_of_the_last()
-    passed.append(holds("the largest setup", run(program, largest, lines) == (0, replies, "")))
-    passed.append(holds("the largest setup, stored", stored(program, largest) == largest))
+    return len(codes) == len(largest) and replay(room, largest, lines) == (0, replies, "")
+
+
+def test_largest_setup_stored(room):
+    """A store has each row of the largest setup, as a stock SQLite reads it."""
+    largest = rows(STATIONS, PLACES, THINGS)
+    room.write("setup.csv", "\n".join(largest) + "\n")
+    room.replay()
+    return read(room.store)[0]["setup"] == list(enumerate(largest, 1))
+
+
+def test_one_more(room):
+    """One station, place or thing more is TooMany, and the last thing twice is Repeated, with the
+    number of the row."""
+    largest = rows(STATIONS, PLACES, THINGS)
+    lines, _ = lines_of_the_last()
     more = {
-        "a station": (station, STATIONS),
-        "a place": (place, PLACES),
-        "a thing": (thing, THINGS),
+        station(STATIONS + 1): "TooMany",
+        place(PLACES + 1): "TooMany",
+        thing(THINGS + 1): "TooMany",
+        largest[-1]: "Repeated",
     }
-    for sort, (row, most) in more.items():
-        setup = [*largest, row(most + 1)]
-        wanted = 1, "", f"fault setup TooMany row {len(setup)}\n"
-        passed.append(holds(f"{sort} more", run(program, setup, lines) == wanted))
-    # a row that is wrong stands behind all that are right
-    repeated = [*largest, largest[-1]]
-    wanted = 1, "", f"fault setup Repeated row {len(repeated)}\n"
-    passed.append(holds("the last thing twice", run(program, repeated, lines) == wanted))
-    return 0 if all(passed) else 1
-
-
-if __name__ == "__main__":
-    sys.exit(main(sys.argv[1]))
+    wanted = {
+        row: (1, "", f"fault setup {fault} row {len(largest) + 1}\n") for row, fault in more.items()
+    }
+    return all([replay(room, [*largest, row], lines) == wanted[row] for row in more])

@@ -1,11 +1,7 @@
-#!/usr/bin/env python3
-"""The longest loan: 256 objects go out in a crate and come back, and a loan of one object more.
+"""The longest loan has 256 objects; one of 257 is rejected."""
+from common.museum import AUTHORISE, MuseumRoom, agree, leave, move, pack, scan, scans
 
-Usage: long_loan.py PROGRAM. Each check prints its name and ok or FAILED; the last line is
-'N passed, M failed'."""
-import sys
-
-from store_room import AUTHORISE, agree, leave, move, pack, report, scan
+ROOM = MuseumRoom
 
 MOST = 256
 OBJECTS = [f"2000.{number}" for number in range(1, MOST + 2)]
@@ -22,7 +18,7 @@ def come_back(thing):
 
 def are_applied(room, first, messages):
     """Whether messages are posted and applied, from this number on."""
-    lines = "".join(scan(n, message) for n, message in enumerate(messages, first))
+    lines = scans(messages, first=first)
     wanted = [f"PACK {n} posted {n} Applied\n" for n in range(first, first + len(messages))]
     return room.replay(lines, setup="longest.csv") == (0, "".join(wanted), "")
 
@@ -40,8 +36,8 @@ def out(room):
     return are_applied(room, 1, OUT) and is_loan(room, "Running", ["Away"] * MOST)
 
 
-def back_in_the_crate(room):
-    """They come back in it."""
+def test_back_in_the_crate(room):
+    """A loan of 256 objects goes out in a crate and comes back in it."""
     back = [come_back("C1")]
     if not out(room) or not are_applied(room, len(OUT) + 1, back):
         return False
@@ -49,8 +45,8 @@ def back_in_the_crate(room):
     return is_loan(room, "Closed", ["Back"] * MOST) and len(carried) == MOST + 1
 
 
-def back_one_by_one(room):
-    """They come back one by one, the last one first; until then the loan is running."""
+def test_back_one_by_one(room):
+    """A loan of 256 objects comes back one by one; until the last one it is running."""
     back = [come_back(code) for code in reversed(OBJECTS[:MOST])]
     if not out(room) or not are_applied(room, len(OUT) + 1, back[:-1]):
         return False
@@ -60,14 +56,10 @@ def back_one_by_one(room):
     return last and is_loan(room, "Closed", ["Back"] * MOST)
 
 
-def one_object_more(room):
-    """A list of 257 objects isn't read, whether each is listed once or one of them twice."""
+def test_one_object_more(room):
+    """A loan of 257 objects is rejected, whether each is listed once or one of them twice."""
     room.write("longest.csv", SETUP)
     lists = [OBJECTS, OBJECTS[:MOST] + OBJECTS[:1]]
     lines = "".join(scan(1, agree(objects)) for objects in lists)
     wanted = "line 1 bad BadField objects\nline 2 bad BadField objects\n"
     return room.replay(lines, setup="longest.csv") == (0, wanted, "")
-
-
-if __name__ == "__main__":
-    sys.exit(report(sys.argv[1], [back_in_the_crate, back_one_by_one, one_object_more]))

@@ -1,18 +1,11 @@
-#!/usr/bin/env python3
-"""What `replay --progress` prints on standard error: the replies stay as they are, the last line
-has the right counts, a line comes about once a second while it runs, and without the option nothing
-is printed.
-
-Usage: progress.py PROGRAM."""
-import os
+"""`replay --progress` prints how far it is on standard error, and changes no reply."""
 import re
 import subprocess
-import sys
-import tempfile
 import time
 
-from store_room import SETUP, move, pack, scan
+from common.museum import MuseumRoom, move, pack, scan
 
+ROOM = MuseumRoom
 LINE = re.compile(
     r"(\d+) lines, (\d+) posted, (\d+) not applied(?: \(([^)]*)\))?, (\d+) held, (\d+) refused(?: \(([^)]*)\))?, "
     r"(\d+) bad, (\d+) questions, (\d+) lines a second"
@@ -37,53 +30,36 @@ def session():
     return moves + late + others + ['{"station":"PACK","ask":"C1"}\n', "no JSON\n", "\n"]
 
 
-def main():
-    program = os.path.abspath(sys.argv[1])
-    with tempfile.TemporaryDirectory() as folder:
-        setup = os.path.join(folder, "setup.csv")
-        with open(setup, "w", encoding="ascii") as file:
-            file.write(SETUP)
-        words = [program, "replay", "--setup", setup]
-        given = "".join(session())
-        plain = subprocess.run(words, input=given, capture_output=True, text=True, check=True)
-        told = subprocess.run(
-            [*words, "--progress"], input=given, capture_output=True, text=True, check=True
-        )
-        last = LINE.fullmatch(told.stderr.splitlines()[-1])
-        counts = last and last.groups()[:9]
-        good = plain.stderr == "" and told.stdout == plain.stdout
-        refused = "UnknownStation 1, Double 2, TooEarly 1"
-        good = good and counts == (
-            "12",
-            "6",
-            "3",
-            "UnknownPlace 2, Cycle 1",
-            "1",
-            "4",
-            refused,
-            "1",
-            "1",
-        )
-        if not good:
-            print(f"  {plain}\n  {told}")
-        # a line each tenth of a second: some three of them are told of before the last
-        with subprocess.Popen(
-            [*words, "--progress"], stdin=-1, stdout=-3, stderr=-1, text=True
-        ) as slow:
-            for number in range(1, 36):
-                slow.stdin.write(scan(number, move("C1", "S1")))
-                slow.stdin.flush()
-                time.sleep(0.1)
-            slow.stdin.close()
-            lines = slow.stderr.read().splitlines()
-        steady = all(LINE.fullmatch(line) for line in lines) and 3 <= len(lines) <= 6
-        steady = steady and lines[-1].startswith(
-            "35 lines, 35 posted, 0 not applied, 0 held, 0 refused, 0 bad, 0 questions, "
-        )
-        if not steady:
-            print(f"  {lines}")
-    return not (good and steady)
+def test_counts(room):
+    """The replies stay as they are, and the last line has the right counts; without the option
+    nothing is printed."""
+    words, given = ["replay", "--setup", "setup.csv"], "".join(session())
+    plain, told = room.run(*words, given=given), room.run(*words, "--progress", given=given)
+    last = LINE.fullmatch(told[2].splitlines()[-1])
+    counts = last and last.groups()[:9]
+    refused = "UnknownStation 1, Double 2, TooEarly 1"
+    print(plain, told)
+    return (
+        told[:2] == plain[:2]
+        and plain[2] == ""
+        and counts == ("12", "6", "3", "UnknownPlace 2, Cycle 1", "1", "4", refused, "1", "1")
+    )
 
 
-if __name__ == "__main__":
-    sys.exit(main())
+def test_each_second(room):
+    """A line comes about once a second while a replay runs."""
+    words = ["replay", "--setup", "setup.csv", "--progress"]
+    # a line each tenth of a second: some three lines come before the last one
+    with room.begin(*words, stdout=subprocess.DEVNULL, stderr=subprocess.PIPE) as slow:
+        for number in range(1, 36):
+            slow.stdin.write(scan(number, move("C1", "S1")).encode())
+            time.sleep(0.1)
+        slow.stdin.close()
+        lines = slow.stderr.read().decode().splitlines()
+    print(lines)
+    counted = "35 lines, 35 posted, 0 not applied, 0 held, 0 refused, 0 bad, 0 questions, "
+    return (
+        all(LINE.fullmatch(line) for line in lines)
+        and 3 <= len(lines) <= 6
+        and lines[-1].startswith(counted)
+    )

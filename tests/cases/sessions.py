@@ -1,86 +1,88 @@
-#!/usr/bin/env python3
-"""Runs the cases that take several runs of the program, as days over one store.
-
-Usage: steps.py PROGRAM CASE.. A case is a folder whose files are copied to where the program runs.
-Run K has its words in K.args, one a line. A last one `< FILE` names what it is given, and a last
-one `> FILE` the file that gets its output. It may have K.stdin, K.stdout, K.stderr and K.status:
-nothing, nothing, nothing and 0 where they aren't there. It may have environment variables in K.env,
-as lines NAME=VALUE; no other variable PAIRSALDER_.. is set. Each case prints its name and ok or
-FAILED; the last line is 'N passed, M failed'."""
+"""Each case of cases/ and of the examples prints what it must."""
+import functools
 import os
-import shutil
+import re
 import subprocess
-import sys
-import tempfile
+
+from common.case import CASES, EXAMPLES, Copy, Run, all_cases, bytes_of, has_session, runs_of
+from common.room import repository_text, told
+
+END_OF_HEAD = re.compile(rb"(?m)^\r?\n")
 
 
-def text(folder, name):
-    path = os.path.join(folder, name)
-    if not os.path.exists(path):
-        return b""
-    with open(path, "rb") as file:
-        return file.read()
+def is_right(room, run, folder):
+    """Whether a run gives the status, the output and the errors that it must, over the files of
+    this folder."""
+    how = {"cwd": folder, "env": run.environment(), "input": bytes_of(folder / run.given)}
+    ran = subprocess.run([room.program, *run.words], capture_output=True, check=False, **how)
+    if run.target:
+        (folder / run.target).write_bytes(ran.stdout)
+    said = ran.returncode, ran.stdout, ran.stderr
+    if said != run.wanted:
+        print(f"run {run.name}: {said}, not {run.wanted}")
+    return said == run.wanted
 
 
-def environment(folder, step):
-    """The environment of a run: ours without our own variables, and those of the case."""
-    own = dict(line.split(b"=", 1) for line in text(folder, f"{step}.env").splitlines())
-    return {
-        name: value for name, value in os.environb.items() if not name.startswith(b"PAIRSALDER_")
-    } | own
+def passes(case, room):
+    """the status, the output and the errors are those of the case"""
+    with Copy(case) as folder:
+        return all([is_right(room, run, folder) for run in runs_of(case)])
 
 
-def is_right(program, folder, step):
-    """Whether a run writes and answers what it has to."""
-    words, given, target = text(folder, f"{step}.args").decode().splitlines(), f"{step}.stdin", None
-    if words and words[-1].startswith("< "):
-        given = words.pop()[2:]
-    if words and words[-1].startswith("> "):
-        target = words.pop()[2:]
-    ran = subprocess.run(
-        [program, *words],
-        cwd=folder,
-        env=environment(folder, step),
-        input=text(folder, given),
-        capture_output=True,
+def passes_over_a_store(case, room):
+    """the replies are the same over a store"""
+    run = Run(case)
+    head, lines = parts_of(bytes_of(case / run.given))
+    room.write("setup.csv", head)
+    _, replies, _ = room.run("replay", "--setup", "setup.csv", "--store", "museum.db", given=lines)
+    return replies.encode() == run.wanted[1]
+
+
+def parts_of(session):
+    """The setup of a session, and the lines after the first empty one."""
+    found = END_OF_HEAD.search(session)
+    return (session[: found.start()], session[found.end() :]) if found else (session, b"")
+
+
+def shown():
+    """What each case shows, by the index of the cases."""
+    for names, text in re.findall(
+        r"(?m)^\| (`.*`) \| (.*) \|$", repository_text("cases", "README.md")
+    ):
+        yield from ((name, text) for name in re.findall(r"`(\w+)`", names))
+
+
+def tested(function, case, shows):
+    """The function for one case, with what the case shows."""
+    test = functools.partial(function, case)
+    test.__doc__ = (
+        f"{shows[case.name]}: {function.__doc__}" if case.name in shows else function.__doc__
     )
-    if target:
-        with open(os.path.join(folder, target), "wb") as file:
-            file.write(ran.stdout)
-    wanted = (
-        int(text(folder, f"{step}.status") or b"0"),
-        text(folder, f"{step}.stdout"),
-        text(folder, f"{step}.stderr"),
+    return test
+
+
+def tests():
+    """A test of each case, and one over a store of each session that has no fault."""
+    shows = dict(shown())
+    for case in all_cases(EXAMPLES, CASES):
+        yield case.name, tested(passes, case, shows)
+        if has_session(case) and Run(case).wanted[0] == 0:
+            yield f"{case.name}/over_a_store", tested(passes_over_a_store, case, shows)
+
+
+def test_readme(room):
+    """The session of the README prints the replies that it shows."""
+    readme = repository_text("README.md")
+    session, replies = (
+        re.search(rf"(?ms)^```{name}\n(.*?)^```$", readme)[1] for name in ("session", "replies")
     )
-    said = (ran.returncode, ran.stdout, ran.stderr)
-    if said != wanted:
-        print(f"  run {step}: {said}, not {wanted}")
-    return said == wanted
-
-
-def passes(program, case):
-    """Whether each run of the case is right, in a folder of their own."""
-    room = tempfile.mkdtemp()
-    try:
-        folder = shutil.copytree(case, os.path.join(room, "case"))
-        steps = sorted(
-            int(name[: -len(".args")]) for name in os.listdir(folder) if name.endswith(".args")
-        )
-        return bool(steps) and all([is_right(program, folder, step) for step in steps])
-    finally:
-        shutil.rmtree(room)
-
-
-def main():
-    program, cases = os.path.abspath(sys.argv[1]), [case.rstrip("/") for case in sys.argv[2:]]
-    passed = 0
-    for case in cases:
-        good = passes(program, case)
-        passed += good
-        print(f"{case}: {'ok' if good else 'FAILED'}")
-    print(f"{passed} passed, {len(cases) - passed} failed")
-    return passed < len(cases)
-
-
-if __name__ == "__main__":
-    sys.exit(main())
+    os.mkdir(room.path("bin"))
+    os.symlink(room.program, room.path("bin/pairsalder"))
+    return (
+        told(
+            subprocess.run(
+                ["bash", "-c", session], cwd=room.folder, capture_output=True, check=False
+            )
+        )[1]
+        == replies
+    )

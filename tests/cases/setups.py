@@ -1,11 +1,9 @@
-#!/usr/bin/env python3
-"""Setups that have a fault, and the rows that a store has of those that have none.
+"""A setup with a fault is rejected with its first one, and a store has the rows of a setup without
+any."""
+from common.museum import SETUP, MuseumRoom
+from common.sqlite import read
 
-Usage: setups.py PROGRAM. Each check prints its name and ok or FAILED; the last line is 'N passed, M
-failed'."""
-import sys
-
-from store_room import SETUP, read, report
+ROOM = MuseumRoom
 
 # each fault's smallest example, and beside it the nearest right file
 FILES = [
@@ -74,12 +72,13 @@ def is_told(room, setup, fault):
     ran = given(room, setup)
     good = ran == ((0, "", "") if fault is None else (1, "", f"fault setup {fault}\n"))
     if not good:
-        print(f"  {setup}: {ran}, not {fault}")
+        print(f"{setup}: {ran}, not {fault}")
     return good
 
 
-def setup_faults(room):
-    """The first fault of a file, with its row."""
+def test_setup_faults(room):
+    """The smallest example of each fault of a setup has that fault, with its row, and the nearest
+    right file has none."""
     return all([is_told(room, setup, fault) for setup, fault in FILES])
 
 
@@ -89,14 +88,11 @@ def is_kept(room, setup, rows):
     kept = read(room.store)[0]["setup"]
     good = ran == (0, "", "") and kept == list(enumerate(rows, 1))
     if not good:
-        print(f"  {ran}, {kept}")
+        print(f"{ran}, {kept}")
     return good
 
 
-def setup_row_text(room):
-    """Each row of a setup, in the order of their numbers: stations, then places, then things."""
+def test_setup_row_text(room):
+    """A store has each row of the setup, in the order of the numbers: stations, then places, then
+    things."""
     return all([is_kept(room, SETUP, ROWS), is_kept(room, MIXED, MIXED_ROWS)])
-
-
-if __name__ == "__main__":
-    sys.exit(report(sys.argv[1], [setup_faults, setup_row_text]))

@@ -1,18 +1,12 @@
-#!/usr/bin/env python3
-"""Spreadsheets in, and work lists out: `lines`, `check`, `audit`, `resend` and `gap` of the real
-program.
-
-Usage: tables.py PROGRAM [--seed N]. Each check prints its name and ok or FAILED; the last line is
-'N passed, M failed'."""
+"""A table becomes exactly the messages of its rows: `lines`, `check`, `audit`, `resend` and
+`gap`."""
 import csv
 import io
 import json
-import os
-import random
 import shutil
 import subprocess
-import sys
-import tempfile
+
+from common.room import Room, Skipped
 
 OBJECTS = [f"2001.{group}.{number}" for group in range(1, 4) for number in range(1, 5)]
 SETUP = "".join(
@@ -31,30 +25,11 @@ HEADING = ["thing", "place", "day"]
 ROWS = [[it, "S1" if i % 2 else "S2", f"2024-05-{i + 1:02}"] for i, it in enumerate(OBJECTS)]
 
 
-class Room:
-    """A folder with a setup, in which the program runs."""
+class ROOM(Room):
+    """A room with a setup, museum.csv."""
 
-    def __init__(self, program):
-        self.program, self.folder = os.path.abspath(program), tempfile.mkdtemp()
+    def furnish(self):
         self.write("museum.csv", SETUP)
-
-    def write(self, name, text):
-        with open(os.path.join(self.folder, name), "wb") as file:
-            file.write(text if isinstance(text, bytes) else text.encode())
-        return name
-
-    def run(self, *words, given=b""):
-        """The status, the output and the errors of a command."""
-        given = given if isinstance(given, bytes) else given.encode()
-        ran = subprocess.run(
-            [self.program, *words],
-            cwd=self.folder,
-            input=given,
-            capture_output=True,
-            timeout=120,
-            check=False,
-        )
-        return ran.returncode, ran.stdout.decode(), ran.stderr.decode()
 
     def lines(self, table, *words):
         return self.run(
@@ -88,7 +63,7 @@ def line(number, thing, place, day="2024-05-01", station="REG"):
     )
 
 
-def as_saved(room, _):
+def test_as_saved(room):
     """One table, saved in all the ways that spreadsheets know, gives the same lines."""
     wanted = "".join(line(i + 1, *row) for i, row in enumerate(ROWS))
     good = True
@@ -105,7 +80,7 @@ def as_saved(room, _):
     return good
 
 
-def all_faults(room, _):
+def test_all_faults(room):
     """Each faulty cell is named, and no line is printed."""
     rows = [
         HEADING,
@@ -138,12 +113,10 @@ def all_faults(room, _):
     return (status, output) == (1, "") and named
 
 
-def read_by_csvkit(room, _):
-    """csvkit reads the lines as a table with the cells that they came from. Not tried if csvkit
-    isn't installed."""
+def test_read_by_csvkit(room):
+    """csvkit reads the lines as a table with the cells that they came from."""
     if not shutil.which("in2csv"):
-        print("  csvkit is not installed, so it reads nothing here")
-        return True
+        raise Skipped("csvkit is not installed")
     heading = ["kind", "thing", "place", "day", "loan", "by"]
     rows = [["move", *row, "", ""] for row in ROWS]
     names = [
@@ -184,16 +157,15 @@ def cells_of(text):
     return [dict(zip(names, row)) for row in rows[1:] if any(cell.strip(" ") for cell in row)]
 
 
-def each_byte(room, seed):
+def test_each_byte(room):
     """A table with a byte changed or cut gives its own cells, or a named fault, and never a wrong
     line."""
-    dice = random.Random(seed)
     text = table([HEADING, *ROWS[:3]], ";").encode()
     for at in range(len(text)):
         for changed in (
             text[:at],
             text[:at] + text[at + 1 :],
-            text[:at] + bytes([dice.randrange(256)]) + text[at + 1 :],
+            text[:at] + bytes([room.draws.randrange(256)]) + text[at + 1 :],
         ):
             status, output, errors = room.lines(changed, "--day", "2024-05-01", "--place", "S1")
             if status == 1 and not output and errors.startswith("fault table "):
@@ -211,18 +183,17 @@ def each_byte(room, seed):
                 )
             )
             if status or not same:
-                print(f"  byte {at}: {changed!r} gives {status}, {output!r}, {errors!r}")
+                print(f"byte {at}: {changed!r} gives {status}, {output!r}, {errors!r}")
                 return False
     return True
 
 
-def first_fault(room, seed):
+def test_first_fault(room):
     """The first fault that `check` prints is the one of the command that reads the file."""
-    dice = random.Random(seed)
     for _ in range(150):
         changed = bytearray(SETUP.encode())
-        for _ in range(dice.randrange(1, 6)):
-            changed[dice.randrange(len(changed))] = dice.choice(b'\n,;SC129.\xff"')
+        for _ in range(room.draws.randrange(1, 6)):
+            changed[room.draws.randrange(len(changed))] = room.draws.choice(b'\n,;SC129.\xff"')
         room.write("changed.csv", bytes(changed))
         status, output, errors = room.run("check", "--setup", "changed.csv")
         read = room.run("replay", "--setup", "changed.csv")
@@ -231,14 +202,14 @@ def first_fault(room, seed):
             if status or not output.startswith("ok: "):
                 return False
         elif (status, output, first) != (1, "", read[2]):
-            print(f"  {bytes(changed)!r}: {status}, {output!r}, {errors!r}, not {read[2]!r}")
+            print(f"{bytes(changed)!r}: {status}, {output!r}, {errors!r}, not {read[2]!r}")
             return False
     return True
 
 
-def whole_way(room, _):
-    """From a table to the record: what the trial says, the replay does, and a second sending
-    changes nothing."""
+def test_whole_way(room):
+    """A table is tried and sent: what the trial says, the replay does, and a second sending changes
+    nothing."""
     rows = [
         ["kind", *HEADING],
         *(["move", *row] for row in ROWS),
@@ -265,9 +236,8 @@ def whole_way(room, _):
     return good
 
 
-def station_files(room, _):
-    """A station's file beside the record: what is there, what is other, what is next, and what
-    waits."""
+def test_station_files(room):
+    """A station's file is compared with the record, and a lost number is filled."""
     room.stored("replay", given=line(1, "2001.1.1", "S1") + line(2, "2001.1.2", "S1"))
     file = (
         line(1, "2001.1.1", "S1")
@@ -288,7 +258,7 @@ def station_files(room, _):
     )
 
 
-def audits(room, _):
+def test_audits(room):
     """After the lines of an audit are posted, the count finds each thing that isn't in a
     container."""
     moves = "".join(
@@ -328,8 +298,8 @@ def no_row_is_lost(room):
     return status == 0 and len(told) == len(rows)
 
 
-def checked_files(room, _):
-    """`check` tells all faults of count lists and of lines, and sums up a file without any."""
+def test_checked_files(room):
+    """`check` prints all faults of count lists and of lines, and the size of a file without any."""
     room.write("list.csv", "S1,2001.1.1\nS1,x,y\nS2,\nbad,C1\n")
     room.write("good.csv", "S1,2001.1.1\nS2\n")
     room.write("some.jsonl", line(1, "2001.1.1", "S1") + "{}\nx\n" + line(2, "2001.1.2", "S1"))
@@ -355,36 +325,3 @@ def checked_files(room, _):
         "",
     )
     return good and room.run("check")[0] == 2
-
-
-CHECKS = [
-    as_saved,
-    all_faults,
-    read_by_csvkit,
-    each_byte,
-    first_fault,
-    whole_way,
-    station_files,
-    audits,
-    checked_files,
-]
-
-
-def main():
-    words = sys.argv[1:]
-    seed = (
-        int(words.pop(words.index("--seed") + 1))
-        if "--seed" in words
-        else random.randrange(10**9)
-    )
-    program = words[0]
-    passed = failed = 0
-    for check in CHECKS:
-        good = check(Room(program), seed)
-        passed, failed = passed + good, failed + (not good)
-        print(f"{check.__name__}: {'ok' if good else f'FAILED with --seed {seed}'}", flush=True)
-    print(f"{passed} passed, {failed} failed")
-    sys.exit(failed > 0)
-
-
-main()

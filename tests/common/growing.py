@@ -1,15 +1,18 @@
 """A record whose setup grows, in the plain program and in a room: the runs that grow and print a
 setup, and a short story of growths."""
-import subprocess
-
-from plain import Taken, answers, whereabouts
-from plain_growth import Setup, further, grown, growth_lines
-from plain_store import text_of
-from store_room import AUTHORISE, CRATES, SETUP, agree, move, pack, scan, settle, told
+from common.museum import AUTHORISE, CRATES, SETUP, agree, move, pack, scans
+from common.room import Failed, same, without_advice
+from common.sqlite import settle
+from oracle.growth import Setup, further, grown, growth_lines
+from oracle.plain import Taken, answers, whereabouts
+from oracle.store import own_text
 
 # a file by which the store of the story can grow
 MORE = b"place,S5,inside\nown,2001.4.9,S5\nown,2001.4.1,S5\n"
-IN_USE = "fault store Store\nhelp: museum.db is in use by another program: wait for it to end, or close it\n"
+IN_USE = (
+    "fault store Store\n"
+    "help: museum.db is in use by another program: wait for it to end, or close it\n"
+)
 
 
 class Record:
@@ -39,7 +42,7 @@ class Record:
     def entries(self):
         """What `posted` prints."""
         return "".join(
-            f"{number} {entry.station} {entry.n} {entry.verdict} {text_of(entry.message)}\n"
+            f"{number} {entry.station} {entry.n} {entry.verdict} {own_text(entry.message)}\n"
             for number, entry in enumerate(self.posted, 1)
         )
 
@@ -57,40 +60,27 @@ class Record:
 # The program in a room. Its whole list is museum.csv, and new.csv a file of new rows
 
 
-def run(room, *words, given="", **how):
-    """The status, the output and the errors of a run in the folder."""
-    return told(
-        subprocess.run(
-            [room.program, *words],
-            cwd=room.folder,
-            input=given.encode(),
-            capture_output=True,
-            **how,
-        )
-    )
-
-
 def asks(room, command, *more, **how):
-    """The same of a command with the whole list."""
-    return run(room, command, "--setup", "museum.csv", "--store", "museum.db", *more, **how)
+    """What a command with the whole list says."""
+    return room.run(command, "--setup", "museum.csv", "--store", "museum.db", *more, **how)
 
 
 def grows(room, file, *more, **how):
     """The same of a growth by this file."""
     room.write("new.csv", file)
-    return run(room, "grow", "--setup", "new.csv", "--store", "museum.db", *more, **how)
+    return room.run("grow", "--setup", "new.csv", "--store", "museum.db", *more, **how)
 
 
 def prints(room):
     """The same of `setup`."""
-    return run(room, "setup", "--store", "museum.db")
+    return room.run("setup", "--store", "museum.db")
 
 
 def lists(room):
     """Writes museum.csv as `setup` prints it, and returns it."""
     status, output, errors = prints(room)
     if status or errors:
-        raise SystemExit(f"setup: {errors}")
+        raise Failed(f"setup: {errors}")
     room.write("museum.csv", output)
     return output
 
@@ -100,26 +90,7 @@ def file_of(rows):
     return "".join(f"{row}\n" for row in rows)
 
 
-def plain_line(said):
-    """A run without its help lines and notes."""
-    status, output, errors = said
-    kept = [line for line in errors.splitlines(True) if not line.startswith(("help: ", "note: "))]
-    return status, output, "".join(kept)
-
-
-def same(got, wanted):
-    if got != wanted:
-        print(f"  {str(got)[:2000]}, not {str(wanted)[:2000]}")
-    return got == wanted
-
-
 # A short story
-
-
-def at_desk(station, first, messages):
-    """The lines of a station's messages from this number on."""
-    return "".join(scan(n, message, station) for n, message in enumerate(messages, first))
-
 
 # before and after each growth a message names something that this growth adds
 EARLY = [
@@ -139,15 +110,15 @@ LAST = [move("2001.4.8", "S4"), move("C4", "S4"), pack("2001.4.3", "C4"), move("
 SIGNED = [move("2001.4.9", "S1"), {"kind": "signoff", "by": "Ann"}]
 # each file by which the setup grows, and the lines that come after it
 STORY = [
-    (b"", at_desk("PACK", 1, CRATES) + at_desk("GAL", 1, EARLY)),
+    (b"", scans(CRATES, "PACK", 1) + scans(EARLY, "GAL", 1)),
     (
         b"own,2001.4.1,S2\nplace,S3,inside\nbox,C3\nown,2001.4.7,S3\n",
-        at_desk("PACK", 6, LATER) + at_desk("GAL", 5, [AUTHORISE, move("2001.4.8", "S4")]),
+        scans(LATER, "PACK", 6) + scans([AUTHORISE, move("2001.4.8", "S4")], "GAL", 5),
     ),
-    (b"station,DOOR\nplace,S4,inside\nplace,MUSEUM-Z,elsewhere\n", at_desk("DOOR", 1, DOOR)),
+    (b"station,DOOR\nplace,S4,inside\nplace,MUSEUM-Z,elsewhere\n", scans(DOOR, "DOOR", 1)),
     (
         b"own,2001.4.8,S4\nbox,C4\nlent,L2000.1\nown,2001.4.2,S4\n",
-        at_desk("DOOR", 5, LAST) + at_desk("PACK", 10, SIGNED),
+        scans(LAST, "DOOR", 5) + scans(SIGNED, "PACK", 10),
     ),
 ]
 
@@ -160,9 +131,10 @@ def story(room, steps=len(STORY)):
     record, good = Record(), True
     for file, lines in STORY[:steps]:
         if file:
-            good &= same(plain_line(grows(room, file)), record.grow(file))
+            good &= same(without_advice(grows(room, file)), record.grow(file))
             good &= same(lists(room), record.setup.file())
-        good &= same(plain_line(asks(room, "replay", given=lines)), (0, record.replay(lines), ""))
+        good &= same(
+            without_advice(asks(room, "replay", given=lines)), (0, record.replay(lines), "")
+        )
     settle(room.store)
-    with open(room.store, "rb") as file:
-        return (file.read() if good else None), record
+    return (room.read("museum.db") if good else None), record

@@ -1,13 +1,5 @@
-#!/usr/bin/env python3
-"""Serves 64 stations at once, without a store and then over one for so long, and tells whether the
-log and the record are right and memory stays flat.
-
-Usage: load.py PROGRAM [--seconds N] [--replay MESSAGES] [--folder FOLDER]. First, without a store,
-each station sends more lines than its lane holds. A short serving tells how many messages the disk
-of the folder (one of the system's temporary folders where none is said) takes in a second; then one
-serving is made of as many as should take so many seconds (3 where it isn't said, as the gate does;
-by hand 600). With --replay it is one replay of so many messages, which come from all stations by
-turns.
+"""64 stations are served at once, or replayed: the log and the record are right, and memory stays
+flat.
 
 Each station packs an object of its own into a crate of its own and moves the crate to and fro; of
 each eight messages one comes late, so that two are held, and one is sent twice; where it is served,
@@ -17,14 +9,11 @@ Of the log has to hold: cut to a station it is what that station must be told; i
 numbered from 1, in order; each answer follows from the lines above it. Of the record: it has the
 messages of each station, in order, and each object where its crate is. Of memory: in the second
 half of the time it grows by no more than MOST_BYTES for each message, where there are FEWEST
-messages or more: of fewer, what is taken once for all of them outweighs the rest. It prints how
-long all took, the most memory, and what each message took of it then."""
-import argparse
+messages or more: of fewer, what is taken once for all of them outweighs the rest."""
 import itertools
 import os
 import re
 import subprocess
-import sys
 import tempfile
 import time
 
@@ -64,7 +53,8 @@ def line(station, n):
     if n == 2:
         message = f'"kind":"pack","thing":"{object_of(station)}","container":"{crate}",{DAY}'
     else:
-        message = f'"kind":"move","thing":"{crate}","place":"{"S1" if n == 1 or n % 2 == 0 else "S2"}",{DAY}'
+        place = "S1" if n == 1 or n % 2 == 0 else "S2"
+        message = f'"kind":"move","thing":"{crate}","place":"{place}",{DAY}'
     return f'{{"station":"ST{station}","n":{n},"message":{{{message}}}}}\n'
 
 
@@ -162,8 +152,11 @@ class Run:
 
     def run(self, words, given):
         log, self.memory, began = os.path.join(self.room, "log"), [], time.monotonic()
-        with open(log, "wb") as output, open(given, "rb") as lines:
-            running = subprocess.Popen([self.program, *words], stdin=lines, stdout=output)
+        with open(log, "wb") as output, open(f"{log}.txt", "wb") as notes, open(
+            given, "rb"
+        ) as lines:
+            how = {"stdin": lines, "stdout": output, "stderr": notes}
+            running = subprocess.Popen([self.program, *words], **how)
             while running.poll() is None:
                 if os.path.exists(self.record[-1]):
                     self.memory.append(resident(running))
@@ -187,7 +180,8 @@ class Run:
     def differences(self):
         """What of the log and of the record isn't as it must be."""
         if self.status:
-            yield f"status {self.status}"
+            with open(os.path.join(self.room, "log.txt"), encoding="utf-8") as notes:
+                yield f"status {self.status}: {notes.read()}"
         cuts = {f"ST{s}": [] for s in range(STATIONS)}
         for one in self.log:
             text = ANSWER.sub(r"\1 #", POSTED.sub(" posted # ", one))
@@ -252,34 +246,29 @@ def ran(program, blocks, is_served, folder, is_stored=True):
     return run, wrong
 
 
-def main():
-    parser, began = (
-        argparse.ArgumentParser(
-            description="serves 64 stations at once, or replays their messages"
-        ),
-        time.monotonic(),
-    )
-    parser.add_argument("program")
-    parser.add_argument("--seconds", type=float, default=3)
-    parser.add_argument("--replay", type=int)
-    parser.add_argument("--folder")
-    words = parser.parse_args()
-    program, wrong = os.path.abspath(words.program), []
-    if words.replay:
-        blocks = -(-words.replay // (STATIONS * BLOCK))
-    else:
-        _, wrong = ran(program, FULL, True, words.folder, False)
-        short, more = ran(program, FIRST, True, words.folder)
-        wrong += more
-        blocks = max(FIRST, round(FIRST * words.seconds / short.seconds))
-    run, more = ran(program, blocks, not words.replay, words.folder)
+def is_flat(run):
+    """Whether memory stays flat, where there are messages enough to tell."""
     each = run.growth()
-    print(
-        f"{run.messages / run.seconds:,.0f} messages a second; {max(run.memory) / 1e6:,.0f} MB at most, {each:,.0f} bytes more a message"
+    most = f"{max(run.memory) / 1e6:,.0f} MB at most, {each:,.0f} bytes more a message"
+    print(f"{run.messages / run.seconds:,.0f} messages a second; {most}")
+    return run.messages < FEWEST or each <= MOST_BYTES
+
+
+def test_served_without_a_store(room):
+    """64 stations are served at once, and each sends more lines than its lane holds."""
+    return not ran(room.program, FULL, True, None, False)[1]
+
+
+def test_served_onto_a_disk(room, seconds=3.0, folder=""):
+    """64 stations are served onto a disk, with as many messages as it takes in three seconds."""
+    short, wrong = ran(room.program, FIRST, True, folder or None)
+    run, more = ran(
+        room.program, max(FIRST, round(FIRST * seconds / short.seconds)), True, folder or None
     )
-    print(f"in all {time.monotonic() - began:.0f} s")
-    return bool(wrong or more or run.messages >= FEWEST and each > MOST_BYTES)
+    return not wrong and not more and is_flat(run)
 
 
-if __name__ == "__main__":
-    sys.exit(main())
+def test_replayed_onto_a_disk(room, messages=2048, folder=""):
+    """The messages of 64 stations, by turns, are replayed onto a disk."""
+    run, wrong = ran(room.program, -(-messages // (STATIONS * BLOCK)), False, folder or None)
+    return not wrong and is_flat(run)

@@ -1,11 +1,5 @@
-#!/usr/bin/env python3
 """Many desks over stock parts: the scripts of examples/many-desks, with a real broker, backup
-program and network.
-
-Usage: many_desks.py [--seed N] PROGRAM [MESSAGES [CHECK..]]. Each of three stations sends so many
-messages, usually 100. Each check prints its name and ok or FAILED; the last line is 'N passed, M
-failed'. A check whose parts aren't installed prints a line that names the first of them, and counts
-as passed."""
+program and network."""
 import json
 import os
 import re
@@ -13,27 +7,19 @@ import shutil
 import signal
 import socket
 import subprocess
-import sys
-import tempfile
 import time
 
-import seeds
+from common.room import ROOT, Failed, Room, Skipped
 
-EXAMPLE = os.path.join(
-    os.path.dirname(os.path.dirname(os.path.abspath(__file__))), "examples", "many-desks"
-)
+EXAMPLE = os.path.join(ROOT, "examples", "many-desks")
 THINGS = {
     "STORE": ["1987.12.3", "1987.12.4"],
     "PACKING": ["C1", "1987.12.1"],
     "GALLERY": ["1991.4.7", "1991.4.8"],
 }
 PLACES = ["A-1", "A-2", "PACK", "DOCK", "GAL1", "GAL2"]
-# seconds that a check waits for a part before it fails
+# seconds that a test waits for a part before it fails
 PATIENCE = 40
-
-
-class Late(Exception):
-    """A part didn't do its work in time."""
 
 
 def until(holds, what):
@@ -41,45 +27,40 @@ def until(holds, what):
     end = time.monotonic() + PATIENCE
     while not holds():
         if time.monotonic() > end:
-            raise Late(f"waited too long for {what}")
+            raise Failed(f"waited too long for {what}")
         time.sleep(0.02)
 
 
-def missing(*names):
-    """Whether one of these commands is not installed: a line names it."""
-    lacking = [name for name in names if not shutil.which(name)]
-    if lacking:
-        print(f"  {lacking[0]} is not installed, so this is not tried")
-    return bool(lacking)
+class ROOM(Room):
+    """A room with a museum, and the processes that were started in it. Each station sends so many
+    messages."""
 
+    messages = 100
 
-class Room:
-    """A folder with a museum, and the processes that were started in it."""
-
-    def __init__(self, program, messages, dice):
-        self.folder, self.messages, self.dice, self.running = tempfile.mkdtemp(), messages, dice, []
+    def furnish(self):
+        self.running = []
         os.mkdir(self.path("bin"))
-        os.symlink(os.path.abspath(program), self.path("bin/pairsalder"))
+        os.symlink(self.program, self.path("bin/pairsalder"))
         shutil.copy(os.path.join(EXAMPLE, "museum.csv"), self.folder)
         own = {
             name: value
             for name, value in os.environ.items()
             if not name.startswith(("PAIRSALDER_", "RESTIC_"))
         }
-        own["PATH"] = self.path("bin") + ":" + own["PATH"]
+        # brokers and `ip` are often outside a user's path
+        own["PATH"] = self.path("bin") + ":" + own["PATH"] + ":/usr/sbin:/sbin"
         self.environment = own | {"HOME": self.folder}
 
-    def path(self, name):
-        return os.path.join(self.folder, name)
+    def need(self, *names, messages):
+        """Skips the test if one of these commands is not installed, and sets how many messages each
+        station sends."""
+        self.messages = messages
+        for name in names:
+            if not shutil.which(name, path=self.environment["PATH"]):
+                raise Skipped(f"{name} is not installed")
 
-    def write(self, name, text):
-        with open(self.path(name), "w", encoding="utf-8") as file:
-            file.write(text)
-        return name
-
-    def read(self, name):
-        with open(self.path(name), encoding="utf-8") as file:
-            return file.read()
+    def text(self, name):
+        return self.read(name).decode()
 
     def start(self, *words, log="log.txt", given=None):
         """A process with a group of its own, whose output goes to a file."""
@@ -106,7 +87,7 @@ class Room:
             os.killpg(process.pid, signal.SIGKILL)
             process.wait(PATIENCE)
 
-    def run(self, *words):
+    def do(self, *words):
         """The status and the output of a command, with its errors."""
         ran = subprocess.run(
             words,
@@ -121,15 +102,23 @@ class Room:
         return ran.returncode, ran.stdout.decode()
 
     def report(self, name, store):
-        status, text = self.run("pairsalder", name, "--setup", "museum.csv", "--store", store)
+        status, text = self.do("pairsalder", name, "--setup", "museum.csv", "--store", store)
         if status:
-            print(f"  {name} of {store}: {text.strip()}")
+            print(f"{name} of {store}: {text.strip()}")
         return text
 
+    def are_same(self, *stores):
+        """Whether these stores have the same entries."""
+        return len({self.report("posted", store) for store in stores}) == 1
+
     def end(self):
+        """Stops all that was started."""
         for process in self.running:
             self.stop(process)
-        shutil.rmtree(self.folder)
+
+    def __exit__(self, *_):
+        self.end()
+        super().__exit__()
 
     def feed(self, station):
         """A station's messages, a few of them late and some of them twice, as a file."""
@@ -137,16 +126,16 @@ class Room:
         for n in range(1, self.messages + 1):
             move = {
                 "kind": "move",
-                "thing": self.dice.choice(THINGS[station]),
-                "place": self.dice.choice(PLACES),
+                "thing": self.draws.choice(THINGS[station]),
+                "place": self.draws.choice(PLACES),
             }
             line = json.dumps(
                 {"station": station, "n": n, "message": move | {"day": "2024-06-03"}},
                 separators=(",", ":"),
             )
-            lines += [(n + self.dice.randrange(9), line)] + [
-                (n + self.dice.randrange(40), line)
-            ] * (self.dice.random() < 0.3)
+            lines += [(n + self.draws.randrange(9), line)] + [
+                (n + self.draws.randrange(40), line)
+            ] * (self.draws.random() < 0.3)
         lines.sort(key=lambda it: it[0])
         return self.write(f"{station}.jsonl", "".join(f"{line}\n" for _, line in lines))
 
@@ -158,7 +147,7 @@ class Room:
 
     def posted(self, log):
         """How many messages a hub has posted, by its replies."""
-        return len(re.findall(r" posted ", self.read(log)))
+        return len(re.findall(r" posted ", self.text(log)))
 
     def complete(self, store):
         """Whether a record has all messages of all stations, each once."""
@@ -197,13 +186,13 @@ def redis(room, *more, inside=(), address="127.0.0.1", port):
         log="redis.txt",
     )
     ping = [*inside, "redis-cli", "-h", address, "-p", str(port), "ping"]
-    until(lambda: room.run(*ping)[1].strip() == "PONG", "redis-server")
+    until(lambda: room.do(*ping)[1].strip() == "PONG", "redis-server")
     return broker
 
 
 def on_stream(room, url, inside=()):
     """How many entries the stream has."""
-    return int(room.run(*inside, "redis-cli", "-u", url, "--raw", "XLEN", "pairsalder")[1])
+    return int(room.do(*inside, "redis-cli", "-u", url, "--raw", "XLEN", "pairsalder")[1])
 
 
 def sent(senders):
@@ -211,11 +200,10 @@ def sent(senders):
     return all(it.returncode == 0 for it in senders)
 
 
-def stream(room):
+def test_stream(room, messages=100):
     """Three stations send at once, the broker and a hub are killed and come back: both hubs have
     the same, whole record."""
-    if missing("redis-server", "redis-cli"):
-        return True
+    room.need("redis-server", "redis-cli", messages=messages)
     port = free_port()
     url = f"redis://127.0.0.1:{port}"
     broker = redis(room, port=port)
@@ -233,20 +221,13 @@ def stream(room):
     )
     room.script("hub.sh", url, "museum.csv", "two.db", log="two.txt")
     for log in ("one.again.txt", "two.txt"):
-        until(lambda log=log: "STORE ask " in room.read(log), f"the whole stream in {log}")
-    for process in room.running:
-        room.stop(process)
-    return (
-        good
-        and room.complete("one.db")
-        and room.report("posted", "one.db") == room.report("posted", "two.db")
-    )
+        until(lambda log=log: "STORE ask " in room.text(log), f"the whole stream in {log}")
+    room.end()
+    return good and room.complete("one.db") and room.are_same("one.db", "two.db")
 
 
-def scanners(room):
-    """MQTT: messages twice and out of order, and a hub that is killed and comes back."""
-    if missing("mosquitto", "mosquitto_pub", "mosquitto_sub"):
-        return True
+def mosquitto(room):
+    """The topic of a broker for MQTT, which answers."""
     port = free_port()
     topic = f"mqtt://127.0.0.1:{port}/pairsalder"
     with open(os.path.join(EXAMPLE, "mosquitto.conf"), encoding="utf-8") as file:
@@ -254,11 +235,19 @@ def scanners(room):
     user = "user root\n" if os.geteuid() == 0 else ""
     room.write("mosquitto.conf", text + user + f"persistence_location {room.folder}/\n")
     room.start("mosquitto", "-c", "mosquitto.conf", log="mosquitto.txt")
-    until(lambda: room.run("mosquitto_pub", "-L", topic + "/try", "-m", "1")[0] == 0, "mosquitto")
+    until(lambda: room.do("mosquitto_pub", "-L", topic + "/try", "-m", "1")[0] == 0, "mosquitto")
+    return topic
+
+
+def test_scanners(room, messages=100):
+    """Messages over MQTT come twice and out of order, and the hub is killed and comes back: it ends
+    with the whole record."""
+    room.need("mosquitto", "mosquitto_pub", "mosquitto_sub", messages=messages)
+    topic = mosquitto(room)
     words = ["mqtt_hub.sh", topic, "hub-1", "journal.jsonl", "museum.csv", "one.db"]
     hub = room.script(*words, log="one.txt")
     until(
-        lambda: re.search(r"Received SUBSCRIBE|hub-1", room.read("mosquitto.txt")),
+        lambda: re.search(r"Received SUBSCRIBE|hub-1", room.text("mosquitto.txt")),
         "the hub's subscription",
     )
     time.sleep(0.3)
@@ -271,37 +260,23 @@ def scanners(room):
     late = [room.script("mqtt_send.sh", topic, room.feed("GALLERY"), log="GALLERY.txt")]
     good = sent(first + late)
     room.script(*words, log="one.again.txt")
-    until(lambda: "GALLERY" in room.read("one.again.txt"), "the messages that the broker kept")
+    until(lambda: "GALLERY" in room.text("one.again.txt"), "the messages that the broker kept")
     # what the killed hub had taken from the broker, but not kept, comes with the files once more
     good &= sent(
         [room.script("mqtt_send.sh", topic, f"{it}.jsonl", log=f"{it}.txt") for it in THINGS]
     )
     good &= sent([room.script("mqtt_send.sh", topic, room.question("STORE"), log="ask.txt")])
-    until(lambda: "STORE ask " in room.read("one.again.txt"), "all messages")
-    for process in room.running:
-        room.stop(process)
-    room.start(
-        "pairsalder",
-        "replay",
-        "-s",
-        "museum.csv",
-        "-d",
-        "two.db",
-        log="two.txt",
-        given="journal.jsonl",
-    ).wait(PATIENCE)
-    return (
-        good
-        and room.complete("one.db")
-        and room.report("posted", "one.db") == room.report("posted", "two.db")
-    )
+    until(lambda: "STORE ask " in room.text("one.again.txt"), "all messages")
+    room.end()
+    words = ["pairsalder", "replay", "-s", "museum.csv", "-d", "two.db"]
+    room.start(*words, log="two.txt", given="journal.jsonl").wait(PATIENCE)
+    return good and room.complete("one.db") and room.are_same("one.db", "two.db")
 
 
-def backups(room):
+def test_backups(room, messages=100):
     """restic takes a copy, and gives it back; a store in use is refused, and no backup is
     overwritten."""
-    if missing("restic"):
-        return True
+    room.need("restic", messages=messages)
     room.environment |= {
         "RESTIC_REPOSITORY": room.path("vault"),
         "RESTIC_PASSWORD_FILE": room.path("secret"),
@@ -313,18 +288,18 @@ def backups(room):
     hub = room.start(
         "pairsalder", "replay", "-s", "museum.csv", "-d", "one.db", log="one.txt", given="lines"
     )
-    lines = "".join(room.read(room.feed(it)) for it in THINGS)
+    lines = "".join(room.text(room.feed(it)) for it in THINGS)
     os.write(held, lines.encode())
     until(lambda: room.posted("one.txt") == 3 * room.messages, "the record")
-    good = room.run("restic", "init")[0] == 0
-    status, text = room.run(*words)
+    good = room.do("restic", "init")[0] == 0
+    status, text = room.do(*words)
     good &= (
         status == 1 and "fault store Store" in text and not os.path.exists(room.path("backup-1"))
     )
     os.close(held)
     hub.wait(PATIENCE)
-    good &= room.run(*words)[0] == 0 and room.run(*words)[0] != 0
-    good &= room.run("restic", "restore", "latest", "--target", "back")[0] == 0
+    good &= room.do(*words)[0] == 0 and room.do(*words)[0] != 0
+    good &= room.do("restic", "restore", "latest", "--target", "back")[0] == 0
     found = [
         os.path.join(at, "museum.db")
         for at, _, names in os.walk(room.path("back"))
@@ -334,103 +309,69 @@ def backups(room):
     return good and room.report("posted", found[0]) == room.report("posted", "one.db")
 
 
-def cut(room):
-    """Two hosts with a hub each, and a link between them that is cut for a while."""
-    if missing("redis-server", "redis-cli", "ip"):
-        return True
-    names = [f"psa{os.getpid()}", f"psb{os.getpid()}"]
-    if os.geteuid() or room.run("ip", "netns", "add", names[0])[0]:
-        print("  no network namespace can be made here, so no link is cut")
-        return True
-    try:
-        here, there = (["ip", "netns", "exec", it] for it in names)
-        made = [room.run("ip", "netns", "add", names[1])]
+class Link:
+    """Two hosts, which are network namespaces, and a link between them."""
+
+    def __init__(self, room):
+        self.room, self.names = room, [f"psa{os.getpid()}", f"psb{os.getpid()}"]
+        self.here, self.there = (["ip", "netns", "exec", it] for it in self.names)
+
+    def __enter__(self):
+        if os.geteuid() or self.room.do("ip", "netns", "add", self.names[0])[0]:
+            raise Skipped("no network namespace can be made here")
+        one, other = self.names
+        made = [self.room.do("ip", "netns", "add", other)]
         made += [
-            room.run(
-                *"ip link add va netns".split(),
-                names[0],
-                *"type veth peer name vb netns".split(),
-                names[1],
+            self.room.do(
+                *"ip link add va netns".split(), one, *"type veth peer name vb netns".split(), other
             )
         ]
-        for name, link, address in (
-            (names[0], "va", "10.231.7.1/24"),
-            (names[1], "vb", "10.231.7.2/24"),
-        ):
+        for name, link, address in ((one, "va", "10.231.7.1/24"), (other, "vb", "10.231.7.2/24")):
             for words in (
                 f"addr add {address} dev {link}",
                 f"link set {link} up",
                 "link set lo up",
             ):
-                made.append(room.run("ip", "-n", name, *words.split()))
+                made.append(self.room.do("ip", "-n", name, *words.split()))
         if any(status for status, _ in made):
-            print("  no link between two network namespaces can be made here, so none is cut")
-            return True
-        url = "redis://10.231.7.1:6379"
-        redis(room, "--protected-mode", "no", inside=here, address="10.231.7.1", port=6379)
-        room.script("hub.sh", url, "museum.csv", "one.db", log="one.txt", inside=here)
-        room.script("hub.sh", url, "museum.csv", "two.db", log="two.txt", inside=there)
-        hosts = {"STORE": here, "PACKING": there, "GALLERY": there}
+            self.__exit__()
+            raise Skipped("no link between two network namespaces can be made here")
+        return self
+
+    def set(self, state):
+        """Whether the link could be set up or down."""
+        return self.room.do("ip", "-n", self.names[0], "link", "set", "va", state)[0] == 0
+
+    def __exit__(self, *_):
+        self.room.end()
+        for name in self.names:
+            self.room.do("ip", "netns", "del", name)
+
+
+def test_cut(room, messages=100):
+    """Two hosts have a hub each, and the link between them is cut for a while: both end with the
+    same, whole record."""
+    room.need("redis-server", "redis-cli", "ip", messages=messages)
+    url = "redis://10.231.7.1:6379"
+    with Link(room) as link:
+        redis(room, "--protected-mode", "no", inside=link.here, address="10.231.7.1", port=6379)
+        room.script("hub.sh", url, "museum.csv", "one.db", log="one.txt", inside=link.here)
+        room.script("hub.sh", url, "museum.csv", "two.db", log="two.txt", inside=link.there)
+        hosts = {"STORE": link.here, "PACKING": link.there, "GALLERY": link.there}
         senders = [
             room.script("send.sh", url, room.feed(it), log=f"{it}.txt", inside=hosts[it])
             for it in THINGS
         ]
-        until(lambda: on_stream(room, url, here) > room.messages // 2, "the first messages")
-        down = room.run("ip", "-n", names[0], "link", "set", "va", "down")[0]
+        until(lambda: on_stream(room, url, link.here) > room.messages // 2, "the first messages")
+        good = link.set("down")
         until(lambda: senders[0].poll() is not None, "the station beside the broker")
-        good = down == 0 and senders[1].poll() is None
+        good &= senders[1].poll() is None
         time.sleep(1)
-        good &= room.run("ip", "-n", names[0], "link", "set", "va", "up")[0] == 0
-        good &= sent(senders) and sent(
-            [room.script("send.sh", url, room.question("STORE"), log="ask.txt", inside=there)]
+        good &= link.set("up") and sent(senders)
+        good &= sent(
+            [room.script("send.sh", url, room.question("STORE"), log="ask.txt", inside=link.there)]
         )
         for log in ("one.txt", "two.txt"):
-            until(lambda log=log: "STORE ask " in room.read(log), f"the whole stream in {log}")
-        for process in room.running:
-            room.stop(process)
-        return (
-            good
-            and room.complete("one.db")
-            and room.report("posted", "one.db") == room.report("posted", "two.db")
-        )
-    finally:
-        for process in room.running:
-            room.stop(process)
-        for name in names:
-            room.run("ip", "netns", "del", name)
-
-
-CHECKS = [stream, scanners, backups, cut]
-
-
-def passes(check, program, messages, seed):
-    room = Room(program, messages, seeds.draws(seed, check.__name__))
-    try:
-        return check(room)
-    except (Late, OSError, ValueError, subprocess.SubprocessError) as it:
-        print(f"  {it}")
-        return False
-    finally:
+            until(lambda log=log: "STORE ask " in room.text(log), f"the whole stream in {log}")
         room.end()
-
-
-def main():
-    words = sys.argv[1:]
-    seed = seeds.taken(words)
-    program, messages = words[0], int((words + ["100"])[1])
-    # brokers and `ip` are often outside a user's path
-    os.environ["PATH"] += ":/usr/sbin:/sbin"
-    # whoever ends this program ends what it has started
-    signal.signal(signal.SIGTERM, lambda *_: sys.exit(1))
-    passed = failed = 0
-    for check in CHECKS:
-        if len(words) > 2 and check.__name__ not in words[2:]:
-            continue
-        good = passes(check, program, messages, seed)
-        passed, failed = passed + good, failed + (not good)
-        print(f"{check.__name__}: {'ok' if good else f'FAILED with --seed {seed}'}", flush=True)
-    print(f"{passed} passed, {failed} failed")
-    sys.exit(failed > 0)
-
-
-main()
+        return good and room.complete("one.db") and room.are_same("one.db", "two.db")

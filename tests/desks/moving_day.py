@@ -1,35 +1,17 @@
-#!/usr/bin/env python3
-"""Serves the feeds of a folder over and over, and tells whether each log is a merge of them, each
-whole.
+"""The feeds of four stations, served over and over, give logs that are merges of them, each whole.
 
-Usage: moving_day.py PROGRAM FOLDER [TIMES]. The folder has museum.csv and a file NAME.jsonl for
-each of its stations; told.txt has what each station is told, with # for the number of an entry, and
-where.txt where each thing stands at the end. Of each log has to hold: cut to a station it is that
-of told.txt; its entries are numbered from 1, in order; and the record that it leaves in a store has
-each thing where where.txt says, and as many entries. It prints what differs, and how many logs
-there were."""
-import os
+In examples/moving-day told.txt has what each station is told, with # for the number of an entry,
+and where.txt where each thing is at the end."""
 import re
-import subprocess
-import sys
-import tempfile
-import time
 
+from common.room import ROOT, none_of, repository_text
+
+FOLDER = f"{ROOT}/examples/moving-day"
 POSTED = re.compile(r" posted (\d+) ")
 
 
-def lines_of(folder, name):
-    with open(os.path.join(folder, name), encoding="ascii") as file:
-        return file.read().splitlines()
-
-
-def told(program, *words):
-    """What a run prints, which has to end without a fault."""
-    return (
-        subprocess.run([program, *words], capture_output=True, check=True)
-        .stdout.decode()
-        .splitlines()
-    )
+def lines_of(name):
+    return repository_text("examples", "moving-day", name).splitlines()
 
 
 def cut(lines, station):
@@ -37,20 +19,13 @@ def cut(lines, station):
     return [POSTED.sub(" posted # ", line) for line in lines if line.startswith(station + " ")]
 
 
-def differences(program, folder, store):
-    """What of a serving isn't as the folder says."""
-    setup = os.path.join(folder, "museum.csv")
-    record = ["--setup", setup, "--store", store]
-    stations = [
-        row.split(",")[1] for row in lines_of(folder, "museum.csv") if row.startswith("station,")
-    ]
-    log = told(
-        program,
-        "serve",
-        *record,
-        *[os.path.join(folder, name.lower() + ".jsonl") for name in stations],
-    )
-    wanted = lines_of(folder, "told.txt")
+def differences(room, store):
+    """What of a serving isn't as the example says."""
+    record = ["--setup", f"{FOLDER}/museum.csv", "--store", store]
+    stations = [row.split(",")[1] for row in lines_of("museum.csv") if row.startswith("station,")]
+    feeds = [f"{FOLDER}/{name.lower()}.jsonl" for name in stations]
+    log = room.printed("serve", *record, *feeds).splitlines()
+    wanted = lines_of("told.txt")
     for station in stations:
         if cut(log, station) != cut(wanted, station):
             yield f"{station}: {cut(log, station)}"
@@ -59,28 +34,14 @@ def differences(program, folder, store):
     entries = [int(number) for line in log for number in POSTED.findall(line)]
     if entries != list(range(1, len(entries) + 1)):
         yield f"entries {entries}"
-    if len(told(program, "posted", *record)) != len(entries):
+    if len(room.printed("posted", *record).splitlines()) != len(entries):
         yield "another number of entries on record"
-    for line in lines_of(folder, "where.txt"):
-        if told(program, "where", *record, line.split(" ")[0]) != [line]:
+    for line in lines_of("where.txt"):
+        if room.printed("where", *record, line.split(" ")[0]).splitlines() != [line]:
             yield f"not {line}"
 
 
-def main():
-    program, folder, times = (
-        os.path.abspath(sys.argv[1]),
-        sys.argv[2],
-        int((sys.argv[3:] or ["20"])[0]),
-    )
-    failed, began = 0, time.monotonic()
-    for _ in range(times):
-        with tempfile.TemporaryDirectory() as room:
-            wrong = list(differences(program, folder, os.path.join(room, "museum.db")))
-        failed += bool(wrong)
-        print("".join(text + "\n" for text in wrong), end="")
-    print(f"{times} logs, {failed} wrong, in {time.monotonic() - began:.0f} s")
-    return failed or not times
-
-
-if __name__ == "__main__":
-    sys.exit(main())
+def test_moving_day(room, rounds=50):
+    """Each log, cut to a station, is what the station must be told, and its entries are numbered in
+    order; the record has each thing where it must be."""
+    return none_of(line for turn in range(rounds) for line in differences(room, f"{turn}.db"))

@@ -1,26 +1,18 @@
-#!/usr/bin/env python3
-"""Cuts count lists and feeds after each byte.
-
-Usage: cut_files.py [--seed N] PROGRAM [LISTS]. A list with every answer, some with a fault, and so
-many random lists (3 by default) are counted, cut after each byte: the program has to print what the
-plain program of plain_counts.py prints for these bytes. Two feeds are served, and each in turn is
-cut after each byte: the lines that ended before the cut have the replies that they have in the
-whole file, and the line that is cut has none, its reply, or the fault that it then has. It prints
-how many cuts were tried, or the first that is wrong."""
+"""A count list or a feed that is cut after any byte has the answers to its whole lines, and a named
+fault or no answer to the line that is cut."""
 import json
 import os
 import re
 import shutil
-import subprocess
-import sys
-import tempfile
-import time
 from concurrent.futures import ThreadPoolExecutor
 
-import plain_counts
-import seeds
-from plain_text import line_fault
-from streams import Draws
+from common.museum import MuseumRoom, move
+from common.room import Failed
+from oracle import counts
+from oracle.streams import Draws
+from oracle.text import line_fault
+
+ROOM = MuseumRoom
 
 POSTED = re.compile(r" posted \d+ ")
 ONE = "1 message", "it is not kept, send it again"
@@ -38,10 +30,6 @@ LIST = (
     "S1-A,L1999.7,,\nS1,2009.1.1\nMUSEUM-X,C1\nS1-A,2001.4.3"
 ).encode()
 BAD_LISTS = [b"S1\nS1,2001.4.1,x\nS2\n", b"S1\nS1,C01\n", b"S2,\xc3\xa5\n"]
-
-
-def move(thing, place):
-    return {"kind": "move", "thing": thing, "place": place, "day": "2024-05-01"}
 
 
 def scan(n, message):
@@ -63,76 +51,65 @@ GAL_FEED = "\n".join(
 ).encode()
 
 
-class Differs(Exception):
-    """The program printed something else than it has to."""
-
-
-def run(program, folder, *words):
-    """The status, output and errors of a command, without the lines of help."""
-    words = [program, *words]
-    ran = subprocess.run(words, cwd=folder, capture_output=True, timeout=60, check=False)
-    errors = ran.stderr.decode().splitlines(True)
-    kept = "".join(line for line in errors if not line.startswith("help: "))
-    return ran.returncode, ran.stdout.decode(), kept
-
-
-def write(folder, name, data):
-    with open(os.path.join(folder, name), "wb") as file:
-        file.write(data)
-    return name
+def run(room, *words):
+    """What a command says, without the lines of help."""
+    status, output, errors = room.run(*words)
+    return (
+        status,
+        output,
+        "".join(line for line in errors.splitlines(True) if not line.startswith("help: ")),
+    )
 
 
 class Lists:
     """A record, and lists that are counted against it, each cut after each byte."""
 
-    def __init__(self, program, folder, head, messages, lists):
-        self.program, self.folder, self.head = program, folder, head
+    def __init__(self, room, head, messages, lists):
+        self.room, self.head = room, head
         self.lines = "".join(
             json.dumps({"station": "GAL", "n": n, "message": message}) + "\n"
             for n, message in enumerate(messages, 1)
         ).encode()
-        write(folder, "setup.csv", head.encode())
-        words = [program, "replay", "--setup", "setup.csv", "--store", "museum.db"]
-        subprocess.run(words, input=self.lines, cwd=folder, capture_output=True, check=True)
+        room.clear()
+        room.write("setup.csv", head)
+        room.replay(self.lines)
         self.cuts = [text[:cut] for text in lists for cut in range(len(text) + 1)]
 
     def try_cut(self, which):
-        text, store = self.cuts[which], os.path.join(self.folder, f"{which}.db")
-        shutil.copy(os.path.join(self.folder, "museum.db"), store)
-        words = "--setup", "setup.csv", "--store", store, write(self.folder, f"{which}.csv", text)
-        got = run(self.program, self.folder, "count", *words)
+        text, store = self.cuts[which], self.room.path(f"{which}.db")
+        shutil.copy(self.room.store, store)
+        words = "--setup", "setup.csv", "--store", store, self.room.write(f"{which}.csv", text)
+        got = run(self.room, "count", *words)
         os.remove(store)
-        status, lines, errors = plain_counts.wanted(self.head, self.lines, text)
+        status, lines, errors = counts.wanted(self.head, self.lines, text)
         want = status, "".join(line + "\n" for line in lines), errors
         if got != want:
-            raise Differs(f"the list {text!r}: {got}, and the plain program says {want}")
+            raise Failed(f"the list {text!r}: {got}, and the plain program says {want}")
 
 
 class Feeds:
     """Two feeds that don't touch each other's things, one of which is cut after each byte."""
 
-    def __init__(self, program, folder):
-        self.program, self.folder = program, folder
+    def __init__(self, room):
+        self.room = room
         self.feeds = {"PACK": PACK_FEED, "GAL": GAL_FEED}
-        write(folder, "setup.csv", HEAD.encode())
+        room.write("setup.csv", HEAD)
         for station, feed in self.feeds.items():
-            write(folder, f"{station}.jsonl", feed)
+            room.write(f"{station}.jsonl", feed)
         self.replies = {station: self.replies_of(station) for station in self.feeds}
         self.cuts = [(s, cut) for s, feed in self.feeds.items() for cut in range(len(feed) + 1)]
 
     def served(self, station, feed, name):
         """The replies to each station, where this one's feed is this."""
         names = {other: f"{other}.jsonl" for other in self.feeds}
-        names[station] = write(self.folder, name, feed)
-        status, log, errors = run(
-            self.program, self.folder, "serve", "--setup", "setup.csv", *names.values()
-        )
+        names[station] = self.room.write(name, feed)
+        status, log, errors = run(self.room, "serve", "--setup", "setup.csv", *names.values())
         log = POSTED.sub(" posted # ", log).splitlines(True)
         cut = {each: [line for line in log if line.startswith(each + " ")] for each in self.feeds}
         if status or sum(map(len, cut.values())) != len(log):
-            raise Differs(f"{station}, {feed!r}: status {status}, {log}, {errors!r}")
+            raise Failed(f"{station}, {feed!r}: status {status}, {log}, {errors!r}")
         if errors != "".join(notes(cut)):
-            raise Differs(f"{station}, {feed!r}: {errors!r} after {cut}")
+            raise Failed(f"{station}, {feed!r}: {errors!r} after {cut}")
         return cut
 
     def replies_of(self, station):
@@ -143,7 +120,7 @@ class Feeds:
         replies = {end: self.served(station, feed[:end], "front")[station] for end in ends}
         for said in replies.values():
             if said != whole[: len(said)]:
-                raise Differs(f"{station}: {said} is no front of {whole}")
+                raise Failed(f"{station}: {said} is no front of {whole}")
         return replies
 
     def try_cut(self, which):
@@ -161,7 +138,7 @@ class Feeds:
             want.append(f"{station} line {number} bad {fault_of(line)}\n")
         other = {each: said[len(self.feeds[each])] for each, said in self.replies.items()}
         if got != other | {station: want}:
-            raise Differs(f"{station}, cut after {cut} bytes: {got}, not {want}")
+            raise Failed(f"{station}, cut after {cut} bytes: {got}, not {want}")
 
 
 def fault_of(line):
@@ -186,32 +163,26 @@ def notes(cut):
 
 def try_all(tried):
     """How many cuts were tried; each has to be right."""
-    try:
-        with ThreadPoolExecutor(2) as pool:
-            return len(list(pool.map(tried.try_cut, range(len(tried.cuts)))))
-    except Differs as differs:
-        sys.exit(str(differs))
+    with ThreadPoolExecutor(2) as pool:
+        return len(list(pool.map(tried.try_cut, range(len(tried.cuts)))))
 
 
-def main():
-    words, began = sys.argv[1:], time.monotonic()
-    seed = seeds.taken(words)
-    program, *more = words
-    program, count = os.path.abspath(program), int(more[0]) if more else 3
-    kept = "/dev/shm" if os.path.isdir("/dev/shm") else None
+def test_lists(room, rounds=3):
+    """A count list that is cut after any byte has the answers, or the fault, that the definitions
+    give. One list has every answer, some have a fault, and some are random."""
     records = [(HEAD, [move(*put) for put in PUTS], [LIST, *BAD_LISTS])]
-    for number in range(seed, seed + count):
-        draws = Draws(number)
-        head = plain_counts.setup(draws)
-        records.append((head, list(plain_counts.messages(draws)), [plain_counts.count_list(draws)]))
-    lists = feeds = 0
-    for record in records:
-        with tempfile.TemporaryDirectory(dir=kept) as folder:
-            lists += try_all(Lists(program, folder, *record))
-    with tempfile.TemporaryDirectory(dir=kept) as folder:
-        feeds = try_all(Feeds(program, folder))
-    print(f"{lists} cuts of lists and {feeds} of feeds, in {time.monotonic() - began:.0f} s")
+    for _ in range(rounds):
+        draws = Draws(room.draws.randrange(1 << 32))
+        head = counts.setup(draws)
+        records.append((head, list(counts.messages(draws)), [counts.count_list(draws)]))
+    cuts = sum(try_all(Lists(room, *record)) for record in records)
+    print(f"{cuts} cuts")
+    return cuts > 0
 
 
-if __name__ == "__main__":
-    main()
+def test_feeds(room):
+    """Of two feeds that are served, each in turn is cut after each byte: the lines that ended
+    before the cut have the replies that they have in the whole file."""
+    cuts = try_all(Feeds(room))
+    print(f"{cuts} cuts")
+    return cuts > 0

@@ -1,14 +1,14 @@
-#!/usr/bin/env python3
-"""Runs the program on the input of cases cut after each byte.
+"""A session that is cut after any byte is answered as far as it goes, or with a named fault.
 
 Each result must be a named fault of the setup and no reply, or the replies to the lines that had
-ended, then to the cut line none, a named fault of that line, or its whole reply. Usage:
-cut_anywhere.py PROGRAM CASE.."""
+ended, then to the cut line none, a named fault of that line, or its whole reply."""
 import re
 import subprocess
-import sys
-import time
 from concurrent.futures import ThreadPoolExecutor
+
+from common.room import Failed
+
+CASES = ["first_run", "bad_lines", "bad_packs", "crate_in_crate", "loan_out", "loan_in"]
 
 SETUP_FAULT = re.compile(rb"fault setup [A-Za-z]+( row [0-9]+)?\n")
 LINE_FAULT = re.compile(rb"line ([0-9]+) bad [A-Za-z]+( [a-z]+)?\n")
@@ -16,7 +16,7 @@ LINE_FAULT = re.compile(rb"line ([0-9]+) bad [A-Za-z]+( [a-z]+)?\n")
 
 def run(program, given):
     """The program's status, output and error text."""
-    ended = subprocess.run([program], input=given, capture_output=True, timeout=20, check=False)
+    ended = subprocess.run([program], input=given, capture_output=True, timeout=60, check=False)
     return ended.returncode, ended.stdout, ended.stderr
 
 
@@ -26,9 +26,9 @@ class Case:
     def __init__(self, program, folder):
         self.program = program
         self.folder = folder
-        with open(f"{folder}/stdin", "rb") as file:
+        with open(f"cases/{folder}/stdin", "rb") as file:
             self.given = file.read()
-        with open(f"{folder}/stdout", "rb") as file:
+        with open(f"cases/{folder}/stdout", "rb") as file:
             self.wanted = file.read()
         self.lines_from = self.given.index(b"\n\n") + 2
         ends = [
@@ -40,7 +40,7 @@ class Case:
         """What is said to whole lines, which must be the first of the replies that are wanted."""
         status, out, errors = run(self.program, self.given[:end])
         if status or errors or not self.wanted.startswith(out) or (out and out[-1:] != b"\n"):
-            sys.exit(f"{self.folder}: the first {end} bytes")
+            raise Failed(f"{self.folder}: the first {end} bytes")
         return out
 
     def is_right(self, cut):
@@ -68,18 +68,16 @@ class Case:
         return cut == whole - 1 and out == self.replies[whole]
 
 
-def main():
-    program, folders, cuts, began = sys.argv[1], sys.argv[2:], 0, time.monotonic()
-    for folder in folders:
-        case = Case(program, folder)
+def test_sessions(room):
+    """The input of six cases is cut after each byte: the lines that ended before the cut have their
+    replies."""
+    cuts = 0
+    for folder in CASES:
+        case = Case(room.program, folder)
         with ThreadPoolExecutor(2) as pool:
-            results = pool.map(case.is_right, range(len(case.given) + 1))
-            for cut, right in enumerate(results):
+            for cut, right in enumerate(pool.map(case.is_right, range(len(case.given) + 1))):
                 if not right:
-                    sys.exit(f"{folder}: cut after {cut} bytes")
+                    raise Failed(f"{folder}: cut after {cut} bytes")
                 cuts += 1
-    print(f"{cuts} cuts, in {time.monotonic() - began:.0f} s")
-
-
-if __name__ == "__main__":
-    main()
+    print(f"{cuts} cuts")
+    return cuts > 0

@@ -1,34 +1,25 @@
-#!/usr/bin/env python3
-"""Damages what the program is given, byte by byte, and tells whether each answer is one of those
-that may be.
+"""Input and words that are damaged, byte by byte, are answered in whole lines, or with a named
+fault.
 
-Usage: damaged_input.py [--each N] [--seed N] [--peer PEER] PROGRAM [CASE..]. Of all cases, or of
-these folders, each input is cut after each byte, and each of its bytes is turned to 0, 255, a quote
-and a line feed: the session, or of a run with words each file that they name, and each word. With
---each only every Nth of these is tried, from a place that is another for each run and seed; of a
-run with few of them each is tried.
+The input of each case is cut after each byte, and each of its bytes is turned to 0, 255, a quote
+and a line feed: the session, or of a run with words each file that they name, and each word. Only
+every Nth of these is tried, from a place that is another for each run and seed; of a run with few
+of them each is tried.
 
 What is answered has to be a named fault, on one line of standard error and with status 1 or 2,
 after whole lines of output; or status 0, whole lines, and nothing on standard error but notes;
 `resend`, and a run with --strict, may also end so with status 1. `grow`, `check` and `lines` print
 a line for each fault of a file. Words that aren't right may have the text of their reader, with
-status 2, and may ask for help. With a PEER, the plain program that bench/run builds, the answer to
-a session has to be the peer's, to the byte. It prints how many were tried, and the first that is
-wrong."""
+status 2, and may ask for help."""
 import os
-import pathlib
 import re
-import shutil
 import subprocess
-import sys
-import tempfile
-import time
 from collections import Counter
 from concurrent.futures import ThreadPoolExecutor
 
-import seeds
+from common.case import CASES, Copy, all_cases, bytes_of, has_session, steps
+from common.room import Failed
 
-CASES = pathlib.Path(__file__).resolve().parents[2] / "cases"
 FAULT = re.compile(rb"fault [a-z]+( [A-Za-z0-9]+)?( row [0-9]+)?\n")
 FILE_FAULTS = re.compile(
     rb"(fault (setup|counts|lines) [A-Za-z]+ row [0-9]+\n|fault table row [0-9]+ [^\x00-\x1f]+\n)+"
@@ -103,16 +94,8 @@ class Runs:
     """The damages of what a run of a case is given, its words included; each in a copy of the files
     as they stand before it."""
 
-    def __init__(self, case, step, before):
-        self.name, self.before = f"{case.name} {step}", before
-        self.words = (case / f"{step}.args").read_text(encoding="ascii").splitlines()
-        self.given = f"{step}.stdin"
-        if self.words and self.words[-1].startswith("< "):
-            self.given = self.words.pop()[2:]
-
-    def data(self, name):
-        path = self.before / name
-        return path.read_bytes() if path.exists() else b""
+    def __init__(self, run, before):
+        self.name, self.words, self.given, self.before = run.name, run.words, run.given, before
 
     def inputs(self):
         """Each file that the words name, and each word, with what it holds."""
@@ -124,7 +107,7 @@ class Runs:
                 if (self.before / word).is_file() and not word.endswith(".db")
             ),
         }
-        yield from ((name, self.data(name)) for name in sorted(named))
+        yield from ((name, bytes_of(self.before / name)) for name in sorted(named))
         yield from ((at, word.encode()) for at, word in enumerate(self.words))
 
     def count(self):
@@ -139,64 +122,49 @@ class Runs:
         words, of_words = list(map(str.encode, self.words)), isinstance(where, int)
         if of_words and b"\0" in data:
             return True
-        with tempfile.TemporaryDirectory() as room:
-            folder = shutil.copytree(self.before, pathlib.Path(room) / "case")
+        with Copy(self.before) as folder:
             if of_words:
                 words[where] = data
             else:
                 (folder / where).write_bytes(data)
-            given = (folder / self.given).read_bytes() if (folder / self.given).exists() else b""
-            said = answer(program, words, given, folder)
+            said = answer(program, words, bytes_of(folder / self.given), folder)
         return may_be(said, of_words, words) or said
 
     def run(self, program, folder):
         """The run itself, so that the next one stands on it."""
-        answer(program, self.words, self.data(self.given), folder)
+        answer(program, self.words, bytes_of(folder / self.given), folder)
 
 
-def tried(program, source, each, seed, pool):
+def tried(room, source, each, pool):
     """How many damages of a source were tried; every one has to be right."""
     count = source.count()
-    first, step = (0, 1) if count <= FEW else (seeds.offset(seed, source.name, each), each)
-    chosen = range(first, count, step)
+    chosen = range(count) if count <= FEW else range(room.draws.randrange(each), count, each)
     for which, right in zip(
-        chosen, pool.map(lambda which: source.is_right(program, which), chosen)
+        chosen, pool.map(lambda which: source.is_right(room.program, which), chosen)
     ):
         if right is not True:
-            sys.exit(f"{source.name}, damage {which}: {right}")
+            raise Failed(f"{source.name}, damage {which}: {right}")
     return len(chosen)
 
 
-def main():
-    words, each, peer, began = sys.argv[1:], 1, None, time.monotonic()
-    seed = seeds.taken(words)
-    while words[0].startswith("--"):
-        if words[0] == "--each":
-            each = int(words[1])
-        else:
-            peer = os.path.abspath(words[1])
-        words = words[2:]
-    program, count = os.path.abspath(words[0]), Counter()
-    cases = [pathlib.Path(word).resolve() for word in words[1:]] or sorted(
-        path for path in CASES.iterdir() if path.is_dir()
-    )
+def test_damaged_input(room, each=997, peer="", case=""):
+    """Every 997th byte of the input of each case is damaged, and the answer is whole lines or a
+    named fault. With a `peer`, the plain program that bench/run builds, the answer to a session has
+    to be the peer's, to the byte. `case` names the only case to damage."""
+    count = Counter()
     with ThreadPoolExecutor(2) as pool:
-        for case in cases:
-            if (case / "stdin").exists():
-                count["sessions"] += tried(program, Sessions(case, peer), each, seed, pool)
-            with tempfile.TemporaryDirectory() as room:
-                files = shutil.copytree(case, pathlib.Path(room) / "case")
-                for step in sorted(int(path.stem) for path in case.glob("*.args")):
-                    runs = Runs(case, step, files)
+        for found in all_cases(CASES):
+            if case not in ("", found.name):
+                continue
+            if has_session(found):
+                source = Sessions(found, peer and os.path.abspath(peer))
+                count["sessions"] += tried(room, source, each, pool)
+            with Copy(found) as files:
+                for run in steps(found):
+                    source = Runs(run, files)
                     # a run whose words are wrong from the start reads no file
-                    if not runs.data(f"{step}.stderr").startswith(b"error: "):
-                        count["files and words"] += tried(program, runs, each, seed, pool)
-                    runs.run(program, files)
-    print(
-        ", ".join(f"{number:,} damages of {kind}" for kind, number in count.items())
-        + f": all was right, in {time.monotonic() - began:.0f} s"
-    )
-
-
-if __name__ == "__main__":
-    main()
+                    if not run.wanted[2].startswith(b"error: "):
+                        count["files and words"] += tried(room, source, each, pool)
+                    source.run(room.program, files)
+    print(", ".join(f"{number:,} damages of {kind}" for kind, number in count.items()))
+    return count.total() > 0

@@ -1,39 +1,17 @@
-#!/usr/bin/env python3
-"""What the program does where a disk or a kill takes its work away.
-
-Usage: hostile.py PROGRAM [TIMES]. Each check is made so many times (60 where it isn't said, as the
-gate does), prints its name and ok or FAILED; the last line is 'N passed, M failed'. A thousand take
-some minutes."""
+"""A store that a disk, a kill or damage has changed is refused by a named fault, or has a lawful
+record."""
 import os
-import signal
-import subprocess
-import sys
-import time
 
-import seeds
-from plain_store import refusal, setup_rows
-from store_room import (
-    AUTHORISE,
-    LOAN,
-    MUSEUM,
-    NORMAL,
-    agree,
-    built,
-    leave,
-    move,
-    pack,
-    read,
-    report,
-    said,
-    scans,
-    settle,
-    stops,
-)
+from common.museum import AUTHORISE, LOAN, MUSEUM, NORMAL, MuseumRoom
+from common.museum import agree, leave, move, pack, scans, to_and_fro
+from common.obstacles import built, stops
+from common.room import without_advice
+from common.sqlite import read, settle
+from oracle.store import refusal, setup_rows
 
-MOVES = {
-    "PACK": [move("C1", ("S1", "S2")[n % 2]) for n in range(150)],
-    "GAL": [move("C2", ("S2", "S1")[n % 2]) for n in range(150)],
-}
+ROOM = MuseumRoom
+
+MOVES = {"PACK": to_and_fro(150), "GAL": to_and_fro(150, "C2", ("S2", "S1"))}
 
 
 def opened(room, text):
@@ -53,11 +31,10 @@ def may_open(room):
         return None
 
 
-def damaged_file(room, times):
-    """Some bytes of the store's file turned: an opening says Store, or that something is damaged or
-    another's, or it is Ok and the rows are lawful."""
+def test_damaged_file(room, rounds=60):
+    """A store with some bytes changed is refused with a named fault, or its rows are lawful."""
     draws, text, opens = room.draws, room.made(LOAN), 0
-    for _ in range(times):
+    for _ in range(rounds):
         damaged = bytearray(text)
         for _ in range(draws.choice((1, 1, 1, 2, 8))):
             damaged[draws.randrange(len(text))] = draws.randrange(256)
@@ -65,26 +42,25 @@ def damaged_file(room, times):
         if said == (0, "", ""):
             opens += 1
             if may_open(room) is False:
-                print("  opened, and the rows aren't lawful")
+                print("opened, and the rows aren't lawful")
                 return False
         elif said[0] != 1 or said[1] or not said[2].startswith("fault store "):
-            print(f"  {said}")
+            print(f"{said}")
             return False
-    print(f"  {opens} of {times} opened")
+    print(f"{opens} of {rounds} opened")
     return True
 
 
-def cut_file(room, times):
-    """The store's file cut at some byte: an opening never makes a record of what is left that isn't
-    lawful."""
+def test_cut_file(room, rounds=60):
+    """A store that is cut at some byte is refused with a named fault, or its rows are lawful."""
     draws, text = room.draws, room.made(LOAN)
-    for _ in range(times):
+    for _ in range(rounds):
         said = opened(room, text[: draws.randrange(1, len(text))])
         if said[0] not in (0, 1) or said[1] or (said[0] == 1) != said[2].startswith("fault store "):
-            print(f"  {said}")
+            print(f"{said}")
             return False
         if said[0] == 0 and may_open(room) is False:
-            print("  opened, and the rows aren't lawful")
+            print("opened, and the rows aren't lawful")
             return False
     return True
 
@@ -94,118 +70,99 @@ def record(room):
     nothing is half there."""
     if not os.path.exists(room.store):
         return {"PACK": 0, "GAL": 0}
-    ran = subprocess.run(room.words("posted"), capture_output=True, check=False)
-    posted = said(ran)
-    if b" has no record yet" in ran.stderr:
+    ran = room.run(*room.words("posted"))
+    posted = without_advice(ran)
+    if " has no record yet" in ran[2]:
         return {"PACK": 0, "GAL": 0}
     if posted[0] != 0:
-        print(f"  {posted}")
+        print(f"{posted}")
         return None
     counts = {"PACK": 0, "GAL": 0}
     for line in posted[1].splitlines():
         _, station, number, verdict, _ = line.split(" ", 4)
         counts[station] += 1
         if int(number) != counts[station] or verdict != "Applied":
-            print(f"  {line}")
+            print(f"{line}")
             return None
     return counts
 
 
-def serve_killed(room, times):
-    """A serving killed at a random moment, again and again: what each station has on record are the
-    first of its feed; served again, the rest comes."""
-    draws = room.draws
+def test_serve_killed(room, rounds=60):
+    """A serving that is killed at a random moment leaves the first messages of each feed on record;
+    served again, it posts the rest."""
     feeds = [room.write(f"{station}.jsonl", scans(messages)) for station, messages in MOVES.items()]
     words = [*room.words("serve"), *feeds]
     stopped = 0
-    for _ in range(times):
+    for _ in range(rounds):
         room.clear()
-        serving = subprocess.Popen(words, stdout=subprocess.DEVNULL, stderr=subprocess.DEVNULL)
-        time.sleep(draws.uniform(0, 0.04))
-        serving.send_signal(signal.SIGKILL)
-        stopped += serving.wait() != 0
+        stopped += room.killed(room.draws.uniform(0, 0.04), *words)
         kept = record(room)
-        again = subprocess.run(words, capture_output=True, check=False)
-        told = again.stdout.decode().splitlines()
+        _, log, errors = room.run(*words)
         for station, messages in MOVES.items():
             wanted = ["refused Double"] * (kept or {}).get(station, 0)
             wanted += ["posted"] * (len(messages) - len(wanted))
-            own = [line.split(" ", 2)[2] for line in told if line.startswith(station + " ")]
-            if (
-                kept is None
-                or [word if word == "refused Double" else word.split(" ")[0] for word in own]
-                != wanted
-            ):
-                print(f"  {station}: {kept}, {own[:3]} {again.stderr}")
+            lines = [line.split(" ", 2)[2] for line in log.splitlines() if line.startswith(station)]
+            own = [it if it == "refused Double" else it.split(" ")[0] for it in lines]
+            if kept is None or own != wanted:
+                print(f"{station}: {kept}, {lines[:3]} {errors}")
                 return False
         settle(room.store)
         if not read(room.store)[2]:
             return False
-    print(f"  {stopped} of {times} were stopped before their end")
+    print(f"{stopped} of {rounds} were stopped before their end")
     return True
 
 
-def disk_stops(room):
-    """A replay whose log, or whose database file, stops at each call on it in turn, over a new
-    store and over one with two of its messages: each answered message is on record, perhaps with
-    one more, and the others can be posted.
-"""
-    extend = {"kind": "extend", "loan": "LO2024.1", "last": "2024-06-30"}
-    messages = [
-        agree(["2001.4.1"]),
-        move("C1", "S1"),
-        pack("2001.4.1", "C1"),
-        AUTHORISE,
-        extend,
-        leave("2024-06-15"),
-    ]
-    given, library, good = scans(messages), built(room, "stop_disk.c"), True
-    replies = lambda kept: [
-        f"PACK {n} refused Double" if n <= kept else f"PACK {n} posted {n} Applied"
-        for n in range(1, len(messages) + 1)
-    ]
-    for count in (0, 2):
-        text, found = count and room.made(messages[:count]), set()
-
-        def begin():
-            room.clear()
-            if text:
-                room.write("museum.db", text)
-
-        for at, (status, output, errors) in stops(
-            room, library, begin, lambda env: room.replay(given, env=env)
-        ):
-            answered = output.splitlines()
-            again = room.replay(given)
-            kept = again[1].count(" refused Double\n")
-            found.add((len(answered), kept))
-            right = answered == replies(count)[: len(answered)] and kept - max(
-                len(answered), count
-            ) in (0, 1)
-            right = (
-                right
-                and (status, errors) in ((0, ""), (1, "fault store Store\n"))
-                and (status or kept == len(messages))
-            )
-            right = (
-                right
-                and again == (0, "".join(f"{it}\n" for it in replies(kept)), "")
-                and read(room.store)[2]
-            )
-            if not right:
-                print(f"  {count}, {at}: {status}, {errors!r}, {answered}, then {again}")
-                good = False
-        print(f"  answered, and on record: {sorted(found)}")
-        good = good and {(0, count), (len(messages), len(messages))} <= found
-    return good
+EXTEND = {"kind": "extend", "loan": "LO2024.1", "last": "2024-06-30"}
+POSTINGS = [agree(["2001.4.1"]), move("C1", "S1"), pack("2001.4.1", "C1"), AUTHORISE, EXTEND]
+POSTINGS.append(leave("2024-06-15"))
 
 
-def main():
-    words = sys.argv[1:]
-    seed = seeds.taken(words)
-    program, times = words[0], int(words[1]) if len(words) > 1 else 60
-    return report(program, [disk_stops], [damaged_file, cut_file, serve_killed], times, seed)
+def replies(kept):
+    """The replies to the postings, if so many of them are on record."""
+    doubles = [f"PACK {n} refused Double\n" for n in range(1, kept + 1)]
+    return doubles + [f"PACK {n} posted {n} Applied\n" for n in range(kept + 1, len(POSTINGS) + 1)]
 
 
-if __name__ == "__main__":
-    sys.exit(main())
+def is_kept(room, count, ran):
+    """Whether a replay whose disk stopped, over a store of so many postings, lost nothing; and how
+    many it answered, and how many are on record."""
+    status, output, errors = ran
+    answered, again = output.splitlines(True), room.replay(scans(POSTINGS))
+    kept = again[1].count(" refused Double\n")
+    right = (
+        answered == replies(count)[: len(answered)]
+        and kept - max(len(answered), count) in (0, 1)
+        and (status, errors) in ((0, ""), (1, "fault store Store\n"))
+        and (status or kept == len(POSTINGS))
+        and again == (0, "".join(replies(kept)), "")
+        and read(room.store)[2]
+    )
+    return right, (len(answered), kept)
+
+
+def stopped(room, library, count):
+    """Whether no disk that stops, under a replay over a store of so many postings, loses one."""
+    text, found, good = count and room.made(POSTINGS[:count]), set(), True
+
+    def begin():
+        room.clear()
+        if text:
+            room.write("museum.db", text)
+
+    given = scans(POSTINGS)
+    for at, ran in stops(room, library, begin, lambda env: room.replay(given, env=env)):
+        right, numbers = is_kept(room, count, ran)
+        found.add(numbers)
+        if not right:
+            print(f"{count}, {at}: {ran}, then {numbers}")
+            good = False
+    print(f"answered, and on record: {sorted(found)}")
+    return good and {(0, count), (len(POSTINGS), len(POSTINGS))} <= found
+
+
+def test_disk_stops(room):
+    """A replay meets a log, or a database file, that stops at each call in turn: each answered
+    message is on record, perhaps with one more, and the others can be posted."""
+    library = built(room, "stop_disk.c")
+    return all([stopped(room, library, count) for count in (0, 2)])

@@ -1,5 +1,5 @@
-"""Cases of servings with long feeds, made for checks/growths: a feed of one item more than its lane
-holds, and two feeds of 1,000 items.
+"""Cases of servings with long feeds, made for refused_growths.py: a feed of one item more than its
+lane holds, and two feeds of 1,000 items.
 
 Each station moves a crate of its own to and fro. After each move it asks where the crate is, and
 last sends a faulty line."""

@@ -1,48 +1,27 @@
-#!/usr/bin/env python3
-"""Refuses each growth of the program in turn, over the runs of all cases.
+"""A growth that is refused is `fault memory` after whole lines, and takes nothing from the record.
 
-    checks/growths [--each N] [--seed N] [CASE..]      every Nth growth, each by default; of all cases, or of these folders
-
-All cases are those of cases/ and the servings of long_feeds.py.
-
-It needs bin/pairsalder (or PROGRAM=..) and gcc. A run of a case is made once to count its requests
-for memory, and then once for each of them, which answers none. What then must hold is told at
-`Run`. The sessions have some 27,000 growths in all, which take a minute; a run over a store has
-thousands, and each takes three runs of the program. So the gate tries every Nth, from a place that
-is another for each run and seed; of a run with few growths it tries each."""
-import os
+A run of a case is made once to count its requests for memory, and then once for each of them, which
+answers none. What then must hold is told at `Refused`. The sessions have some 27,000 growths in
+all, which take a minute; a run over a store has thousands, and each takes three runs of the
+program. So only every Nth is tried, from a place that is another for each run and seed; of a run
+with few growths each is tried."""
 import pathlib
 import re
-import shutil
 import subprocess
-import sys
-import tempfile
-import time
 from concurrent.futures import ThreadPoolExecutor
 
-import long_feeds
-import seeds
+from common.case import CASES, Copy, all_cases, bytes_of, runs_of
+from common.obstacles import built
+from common.room import Failed
+from faults import long_feeds
 
-ROOT = pathlib.Path(__file__).resolve().parents[2]
-PROGRAM = pathlib.Path(os.environ.get("PROGRAM", ROOT / "bin/pairsalder")).resolve()
-LIBRARY = ROOT / "bin/refuse_growth.so"
 POSTED = re.compile(rb" posted \d+ ")
 NEW_STORE = re.compile(rb"\Anote: new store .*\n")
 ENTRY = re.compile(rb" posted (\d+) ")
 FEW = 16  # a run with no more growths is tried at each of them
 
 
-def build():
-    LIBRARY.parent.mkdir(exist_ok=True)
-    source = ROOT / "checks/refuse_growth.c"
-    subprocess.run(["gcc", "-O2", "-Wall", "-shared", "-fPIC", "-o", LIBRARY, source], check=True)
-
-
-def text(path):
-    return path.read_bytes() if path.exists() else b""
-
-
-class Run:
+class Refused:
     """One run of a case, with the files that stand before it.
 
     A run with a refused growth writes a front of its lines, each whole, and then `fault memory`,
@@ -54,22 +33,10 @@ class Run:
     again: what it left on record is a front of the record of a run with nothing refused, and has
     each entry that it answered."""
 
-    def __init__(self, case, step, files):
-        self.name, self.files = f"{case.name} {step or ''}".strip(), files
-        given = "stdin" if step is None else f"{step}.stdin"
-        self.words = [] if step is None else text(case / f"{step}.args").decode().splitlines()
-        if self.words and self.words[-1].startswith("< "):
-            given = self.words.pop()[2:]
-        wanted = [
-            case / (name if step is None else f"{step}.{name}")
-            for name in ("status", "stdout", "stderr")
-        ]
-        # a file that an earlier run wrote stands before this one
-        self.given, self.wanted = text(case / given) or text(pathlib.Path(files) / given), (
-            int(text(wanted[0]) or b"0"),
-            text(wanted[1]),
-            text(wanted[2]),
-        )
+    def __init__(self, room, library, run, files):
+        self.room, self.library, self.files = room, library, files
+        self.name, self.words, self.wanted = run.name, run.words, run.wanted
+        self.given = bytes_of(files / run.given)
         self.lines = self.wanted[1].splitlines(keepends=True)
         self.merges = self.words[:1] == ["serve"]
         self.standing, self.entries = (
@@ -81,7 +48,7 @@ class Run:
     def ended(self, folder, words=None, **names):
         """The status, output and error text of the run in a folder."""
         ended = subprocess.run(
-            [PROGRAM, *(self.words if words is None else words)],
+            [self.room.program, *(self.words if words is None else words)],
             cwd=folder,
             input=self.given,
             capture_output=True,
@@ -94,9 +61,9 @@ class Run:
     def growths(self):
         """How many requests for memory the run makes; it also leaves what stands after it."""
         count = self.files / "growths.txt"
-        said = self.ended(self.files, LD_PRELOAD=str(LIBRARY), GROWTHS=str(count))
+        said = self.ended(self.files, LD_PRELOAD=self.library, GROWTHS=str(count))
         if not self.is_whole(said):
-            sys.exit(f"{self.name}: with nothing refused it isn't what the case wants: {said}")
+            raise Failed(f"{self.name}: with nothing refused it isn't what the case wants: {said}")
         number = int(count.read_text(encoding="ascii"))
         count.unlink()
         return number
@@ -169,38 +136,37 @@ class Run:
 
     def refused(self, before, record, growth):
         """How many lines are written where this growth is refused; the files before are copied."""
-        with tempfile.TemporaryDirectory() as room:
-            folder = shutil.copytree(before, pathlib.Path(room) / "case")
-            said = self.ended(folder, LD_PRELOAD=str(LIBRARY), REFUSED=str(growth))
+        with Copy(before) as folder:
+            said = self.ended(folder, LD_PRELOAD=self.library, REFUSED=str(growth))
             # a desk has printed the note on a new store before its first line
             errors = NEW_STORE.sub(b"", said[2]) if self.words[:1] == ["desk"] else said[2]
             told = (said[0], errors) == (1, b"fault memory\n") and self.is_front(said[1])
             if not (told or self.is_whole(said)):
-                sys.exit(f"{self.name}, growth {growth}: {said}")
+                raise Failed(f"{self.name}, growth {growth}: {said}")
             if record is not None and said != self.wanted:
                 if self.merges and not self.is_earned(folder, said[1]):
-                    sys.exit(f"{self.name}, growth {growth}: entries that aren't written: {said}")
+                    raise Failed(
+                        f"{self.name}, growth {growth}: entries that aren't written: {said}"
+                    )
                 if self.words[0] == "desk":
                     if not self.is_begun(folder, said[1]):
-                        sys.exit(f"{self.name}, growth {growth}: another record: {said}")
+                        raise Failed(f"{self.name}, growth {growth}: another record: {said}")
                     return said[1].count(b"\n") if told else len(self.lines)
                 self.ended(folder)
                 if self.record(folder) != record:
-                    sys.exit(
+                    raise Failed(
                         f"{self.name}, growth {growth}: another record after the run was made again"
                     )
         return said[1].count(b"\n") if told else len(self.lines)
 
-    def told(self, pool, each, seed):
+    def told(self, pool, each):
         """Refuses growths, and answers how many and a line of the table."""
-        with tempfile.TemporaryDirectory() as room:
-            before = shutil.copytree(self.files, pathlib.Path(room) / "before")
-            standing = self.record(shutil.copytree(before, pathlib.Path(room) / "standing"))
-            self.standing = len(standing[1]) if standing else 0
+        with Copy(self.files) as standing:
+            record = self.record(standing)
+            self.standing = len(record[1]) if record else 0
+        with Copy(self.files) as before:
             count = self.growths()
-            first, step = (
-                (1, 1) if count <= FEW else (1 + seeds.offset(seed, self.name, each), each)
-            )
+            first, step = (1, 1) if count <= FEW else (1 + self.room.draws.randrange(each), each)
             growths = set(range(first, count + 1, step))
             if self.merges:  # a log is printed by the last ones
                 growths.update(range(max(1, count - FEW), count + 1))
@@ -211,46 +177,36 @@ class Run:
             written = list(pool.map(lambda growth: self.refused(before, record, growth), growths))
         fronts = [lines for lines in written if lines < len(self.lines)]
         if not self.may_do_without and fronts != sorted(fronts):
-            sys.exit(f"{self.name}: fewer lines than where an earlier growth is refused")
+            raise Failed(f"{self.name}: fewer lines than where an earlier growth is refused")
         return (
             len(growths),
             f"| `{self.name}` | {len(growths):,} | {len(self.lines)} | {len(set(written))} |",
         )
 
 
-def runs(case, files):
-    """The runs of a case, one after the other."""
-    if (case / "stdin").exists():
-        yield Run(case, None, files)
-    for step in sorted(int(path.stem) for path in case.glob("*.args")):
-        yield Run(case, step, files)
-
-
-def main():
-    words, each, began = sys.argv[1:], 1, time.monotonic()
-    seed = seeds.taken(words)
-    if words[:1] == ["--each"]:
-        each, words = int(words[1]), words[2:]
-    build()
-    cases = [pathlib.Path(word).resolve() for word in words] or sorted(
-        path for path in (ROOT / "cases").iterdir() if path.is_dir() and not any(path.glob("*.env"))
+def cases(room):
+    """The cases without environment variables, and servings with long feeds."""
+    return [it for it in all_cases(CASES) if not any(it.glob("*.env"))] + long_feeds.cases(
+        pathlib.Path(room.folder)
     )
+
+
+def test_refused_growths(room, each=397, case=""):
+    """Every 397th growth of each run of the cases, and of servings with long feeds, is refused in a
+    run of its own. `case` names the only case to run."""
     total = count = 0
+    library = built(room, "refuse_growth.c")
     print(
         "| run | growths | lines | different numbers of lines that were left |\n|---|---|---|---|"
     )
-    with ThreadPoolExecutor(2) as pool, tempfile.TemporaryDirectory() as made:
-        cases += [] if words else long_feeds.cases(pathlib.Path(made))
-        for case in cases:
-            with tempfile.TemporaryDirectory() as room:
-                for run in runs(case, shutil.copytree(case, pathlib.Path(room) / "case")):
-                    growths, line = run.told(pool, each, seed)
+    with ThreadPoolExecutor(2) as pool:
+        for found in cases(room):
+            if case not in ("", found.name):
+                continue
+            with Copy(found) as files:
+                for run in runs_of(found):
+                    growths, line = Refused(room, library, run, files).told(pool, each)
                     total, count = total + growths, count + 1
-                    print(line, flush=True)
-    print(
-        f"\n{total:,} growths of {count} runs were refused, each in a run of its own: all was right, in {time.monotonic() - began:.0f} s"
-    )
-
-
-if __name__ == "__main__":
-    main()
+                    print(line)
+    print(f"{total:,} growths of {count} runs")
+    return total > 0

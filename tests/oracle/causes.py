@@ -1,6 +1,6 @@
 """The cause of a verdict in the plain program: which thing, place or loan it is, and the sentence
 that `why` prints."""
-from plain_book import agreement, is_container, is_out, last_day, objects_in, place, stage, targets
+from oracle.book import agreement, is_container, is_out, last_day, objects_in, place, stage, targets
 
 FIXED = {
     "UnknownThing": "was not in the setup",
@@ -93,11 +93,13 @@ def sentence_on(museum, before, message, verdict, culprit):
         )
         return f"{culprit} went to {to}"
     return {
-        "WrongOwner": lambda: f"{culprit} belongs to {'a lender' if is_out(loan) else 'the museum'}",
+        "WrongOwner": lambda: f"{culprit} belongs to {('the museum', 'a lender')[is_out(loan)]}",
         "WrongDirection": lambda: f"{culprit} is a loan {'out' if is_out(loan) else 'in'}",
         "TooDeep": lambda: f"{culprit} would be too deep in {message['container']}",
         "NotListed": lambda: f"{culprit} {within}is not on {loan}",
-        "WrongStage": lambda: f"{culprit} {within}is {stage(museum, before, loan, culprit)} on {loan}",
+        "WrongStage": lambda: " ".join(
+            [f"{culprit} {within}is", stage(museum, before, loan, culprit), f"on {loan}"]
+        ),
         "TermOver": lambda: f"{culprit} ended on {last_day(before, loan)}",
         "NotLater": lambda: f"{culprit} ends on {last_day(before, loan)}",
     }[verdict]()

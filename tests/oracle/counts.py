@@ -1,25 +1,12 @@
-#!/usr/bin/env python3
-"""What a plain slow program over the definitions says to count lists, on museums, records and lists
-that look drawn and are the same in every run: places within places, some of whose codes begin
-alike, crates in crates, and objects on loan. A list may have a byte order mark, fields in quotes,
-empty fields and empty rows; of four lists one has a fault.
-
-Usage: plain_counts.py PROGRAM [LISTS] compares a program with it, which replays each record onto a
-store and counts the list; plain_counts.py --peer PEER [LISTS] compares the plain program of
-bench/peer, which takes a session and the list's name."""
+"""Count lists, on museums and records that look drawn and are the same in every run, and what the
+plain program says to them: places within places, some of whose codes begin alike, crates in crates,
+and objects on loan. A list may have a byte order mark, fields in quotes, empty fields and empty
+rows; of four lists one has a fault."""
 import csv
 import io
-import json
-import os
-import subprocess
-import sys
-import tempfile
-from collections import Counter
 
-import seeds
-from plain_reports import Record
-from plain_text import is_place, is_thing
-from streams import Draws
+from oracle.reports import Record
+from oracle.text import is_place, is_thing
 
 PLACES = [
     "S1",
@@ -44,19 +31,6 @@ BAD_ROWS = ["S1,C1,C2\n", "s1\n", "S1-\n", "S1,C0\n", "S1,2001\n", ",C1\n", "S1,
 ENDS = ["\n", "\n", "\n", "\r\n", ",\n", ",,\n"]
 DAY = {"day": "2024-05-02"}
 TERM = {"first": "2024-05-01", "last": "2024-05-31"}
-EVENTS = [
-    "UnknownPlace",
-    "Counted",
-    "UnknownObject",
-    "Again",
-    "Unplaced",
-    "Found",
-    "Elsewhere",
-    "missing",
-    "NotCsv",
-    "BadFields",
-    "BadCode",
-]
 
 
 def setup(draws):
@@ -148,72 +122,3 @@ def wanted(head, lines, text):
         if fault
         else (0, Record.of(head, lines).counted(rows), "")
     )
-
-
-def count(program, folder, lines):
-    """What a program says, by its commands."""
-    store = ["--setup", "setup.csv", "--store", "museum.db"]
-    subprocess.run(
-        [program, "replay", *store], input=lines, cwd=folder, capture_output=True, check=True
-    )
-    return subprocess.run(
-        [program, "count", *store, "list.csv"], cwd=folder, capture_output=True, check=False
-    )
-
-
-def count_by_peer(program, folder, lines):
-    """What the plain program of bench/peer says: without a fault its error text is the time that it
-    took."""
-    with open(os.path.join(folder, "setup.csv"), "rb") as file:
-        session = file.read() + b"\n" + lines
-    ran = subprocess.run(
-        [program, "list.csv"], input=session, cwd=folder, capture_output=True, check=False
-    )
-    ran.stderr = ran.stderr if ran.returncode else b""
-    return ran
-
-
-def compare(program, counted, numbers):
-    """Compares a program on these lists, and counts what was said."""
-    seen = Counter()
-    for seed in numbers:
-        draws = Draws(seed)
-        head = setup(draws)
-        lines = "".join(
-            json.dumps({"station": "GAL", "n": n, "message": message}) + "\n"
-            for n, message in enumerate(messages(draws), 1)
-        ).encode()
-        text = count_list(draws)
-        want = wanted(head, lines, text)
-        with tempfile.TemporaryDirectory(
-            dir="/dev/shm" if os.path.isdir("/dev/shm") else None
-        ) as folder:
-            for name, data in {"setup.csv": head.encode(), "list.csv": text}.items():
-                with open(os.path.join(folder, name), "wb") as file:
-                    file.write(data)
-            ran = counted(program, folder, lines)
-        errors = [
-            line for line in ran.stderr.decode().splitlines(True) if not line.startswith("help: ")
-        ]
-        got = ran.returncode, ran.stdout.decode().splitlines(), "".join(errors)
-        if got != want:
-            sys.exit(f"list {seed}: {got}, and the plain program says {want}")
-        seen.update(word for said in [*want[1], want[2]] for word in said.split())
-    return seen
-
-
-def main():
-    words = sys.argv[1:]
-    seed = seeds.taken(words)
-    counted = count_by_peer if words[0] == "--peer" else count
-    program, *lists = words[1:] if words[0] == "--peer" else words
-    numbers = seeds.streams(seed, int(lists[0]) if lists else 60)
-    seen = compare(os.path.abspath(program), counted, numbers)
-    missing = [event for event in EVENTS if not seen[event]]
-    if missing:
-        sys.exit(f"no list has {', '.join(missing)}")
-    print(f"{len(numbers)} lists agree: " + ", ".join(f"{event} {seen[event]}" for event in EVENTS))
-
-
-if __name__ == "__main__":
-    main()

@@ -6,9 +6,9 @@ import itertools
 import re
 from collections import namedtuple
 
-from plain_book import is_container
-from plain_store import bound_refusal, entry_of, lines, may_follow, setup_rows, spots, terms
-from plain_text import NUMBER, OBJECT, Museum, is_place, is_text
+from oracle.book import is_container
+from oracle.store import bound_refusal, entry_of, lines, may_follow, setup_rows, spots, terms
+from oracle.text import NUMBER, OBJECT, Museum, is_place, is_text
 
 MOST = {"station": 64, "place": 10_000, "thing": 100_000}
 MOST_GROWTHS = 10_000

@@ -1,21 +1,9 @@
-#!/usr/bin/env python3
-"""What a plain slow program over the definitions says to the commands that read a record, on mixed
-streams that are the same in every run (streams.py), each with a count list of its own.
-
-Usage: plain_reports.py PROGRAM [STREAMS] compares a program with it, and prints which streams
-differ."""
+"""What the plain program prints for the commands that read a record, in each form."""
 import json
-import os
-import subprocess
-import sys
-import tempfile
 import unicodedata
 
-import plain_causes
-import seeds
-import streams
-from plain import arrival
-from plain_book import (
+from oracle import causes
+from oracle.book import (
     agreement,
     applied,
     chain,
@@ -26,16 +14,12 @@ from plain_book import (
     stage,
     targets,
 )
-from plain_store import day_number, loans, spots, text_of
-from plain_text import museum_of, read_line
+from oracle.plain import arrival
+from oracle.store import day_number, loans, own_text, spots
+from oracle.text import museum_of, read_line
 
 NORMAL = {"2001.4.1": "S1-A", "2001.4.2": "S1-A"}
-PLACES = ["S1", "S1-A", "S2", *streams.ELSEWHERE, "S9"]
 STILL_OUT = ("Away", "Here")
-LOANS = "loan state partner first last objects awaiting out back on days_left authorised_by"
-DUES = "loan object last stage partner"
-LOCATIONS = "entry day place containers loan station n kind"
-WHY = "entry station n kind verdict culprit cause"
 
 
 class Record:
@@ -139,9 +123,12 @@ class Record:
         ]
         return [*head, *numbers, "", "", names[0] if names else ""]
 
+    def partner(self, loan):
+        return agreement(self.posted, loan)["partner"]
+
     def dues(self, by):
         return [
-            f"{loan} {thing} {last_day(self.posted, loan)} {found} {agreement(self.posted, loan)['partner']}"
+            " ".join([loan, thing, last_day(self.posted, loan), found, self.partner(loan)])
             for loan in loans(self.posted)
             if last_day(self.posted, loan) <= by
             for thing, found in self.stages(loan)
@@ -195,7 +182,7 @@ class Record:
 
     def entries(self):
         return [
-            f"{number} {entry.station} {entry.n} {entry.verdict} {text_of(entry.message)}"
+            f"{number} {entry.station} {entry.n} {entry.verdict} {own_text(entry.message)}"
             for number, entry in enumerate(self.posted, 1)
         ]
 
@@ -212,17 +199,11 @@ class Record:
 
     def why(self, number):
         """The line on the cause of an entry's verdict, if there is the entry."""
-        return (
-            [plain_causes.why(self.museum, self.posted, number)]
-            if number <= len(self.posted)
-            else []
-        )
+        return [causes.why(self.museum, self.posted, number)] if number <= len(self.posted) else []
 
     def why_values(self, number):
         return (
-            [plain_causes.values(self.museum, self.posted, number)]
-            if number <= len(self.posted)
-            else []
+            [causes.values(self.museum, self.posted, number)] if number <= len(self.posted) else []
         )
 
     def counted(self, rows, sealed=False):
@@ -334,128 +315,3 @@ def width(text):
         2 if unicodedata.east_asian_width(mark) in "WF" else not unicodedata.combining(mark)
         for mark in text
     )
-
-
-def named(message):
-    """The things that a message names."""
-    return [message.get("thing"), message.get("container"), *message.get("objects", [])]
-
-
-def json_lines(seed):
-    return "".join(json.dumps(line) + "\n" for line in streams.lines(seed)).encode()
-
-
-def count_rows(seed):
-    """A count list: places and things, some of them unknown, some named twice."""
-    draws = streams.Draws(seed)
-    return [
-        (
-            draws.one_of(PLACES),
-            draws.one_of([*streams.THINGS, *streams.OBJECTS * 3, "2009.1", None]),
-        )
-        for _ in range(12)
-    ]
-
-
-def asked(record, rows):
-    """Each command's words, and what it has to print."""
-    yield ["count", "list.csv"], record.counted(rows)
-    yield ["count", "list.csv", "--sealed"], record.counted(rows, sealed=True)
-    for number in {*range(1, len(record.posted) + 2, 3), *record.refused()}:
-        yield ["why", str(number)], record.why(number)
-    for number in {1, *record.refused()}:
-        yield ["why", str(number), "--table"], table(WHY, record.why_values(number))
-    yield ["away"], record.away()
-    yield ["away", "--table"], table("object place normal", record.away_values())
-    yield ["posted"], record.entries()
-    yield ["posted", "--from", "3", "--to", "9"], record.entries()[2:9]
-    yield ["posted", "--refused"], record.entries_by(lambda entry: entry.verdict != "Applied")
-    for station in record.museum.stations:
-        yield ["posted", "--station", station], record.entries_by(
-            lambda entry: entry.station == station
-        )
-    for thing in ("C1", "2001.4.1"):
-        yield ["posted", "--thing", thing], record.entries_by(
-            lambda entry: thing in named(entry.message)
-        )
-    yield ["posted", "--loan", "LO2024.1"], record.entries_by(
-        lambda entry: entry.message.get("loan") == "LO2024.1"
-    )
-    for day in ("2024-05-31", "2024-06-01", "2024-07-01"):
-        yield ["overdue", "--on", day], record.overdue(day)
-        yield ["loans", "--on", day], record.loans(day, False)
-        yield ["loans", "--open", "--on", day], record.loans(day, True)
-        yield ["loans", "--csv", "--by", day], separated(LOANS, record.loan_values(day))
-        yield ["loans", "--table", "--by", day], table(LOANS, record.loan_values(day))
-        yield ["dues", "--by", day], record.dues(day)
-        # These plain lines have a word for each value.
-        yield ["dues", "--table", "--by", day], table(
-            DUES, [line.split() for line in record.dues(day)]
-        )
-    for thing in ("C1", "C2", *streams.OBJECTS):
-        locations = record.locations(thing)
-        yield ["history", thing], history(locations)
-        yield ["history", thing, "--long"], long_history(locations)
-        yield ["history", "--long", thing, "--csv"], separated(LOCATIONS, long_values(locations))
-        yield ["history", "--long", thing, "--table"], table(LOCATIONS, long_values(locations))
-        yield ["history", thing, "--long", "--json"], long_objects(locations)
-        yield ["history", thing, "--table"], table(
-            "entry day place", [line.split() for line in history(locations)]
-        )
-    for sought in PLACES[:-1]:
-        yield ["at", sought], record.at(sought)
-    yield ["contents", "C1"], record.contents("C1")
-
-
-def asked_then(record, rows, seed):
-    """The same about the record as it was after an entry, which may be one that it doesn't have
-    yet."""
-    entry = seed % (len(record.posted) + 2)
-    for words, wanted in asked(record.upto(entry), rows):
-        yield [*words, "--upto", str(entry)], wanted
-
-
-def is_same(program, seed, folder):
-    """Whether the program prints what the plain one does."""
-    record, rows = Record.of(streams.SETUP, json_lines(seed)), count_rows(seed)
-    files = {
-        "setup.csv": streams.SETUP,
-        "list.csv": "".join(f"{at},{thing or ''}\n" for at, thing in rows),
-    }
-    for name, text in files.items():
-        with open(os.path.join(folder, name), "w", encoding="ascii") as file:
-            file.write(text)
-    store = ["--setup", "setup.csv", "--store", f"{seed}.db"]
-    subprocess.run(
-        [program, "replay", *store],
-        input=json_lines(seed),
-        cwd=folder,
-        capture_output=True,
-        check=True,
-    )
-    for (command, *words), wanted in (*asked(record, rows), *asked_then(record, rows, seed)):
-        ran = subprocess.run(
-            [program, command, *store, *words], cwd=folder, capture_output=True, check=False
-        )
-        if ran.returncode != 0 or ran.stdout.decode().splitlines() != wanted:
-            print(f"stream {seed}: {command} {words} differs")
-            return False
-    return True
-
-
-def main():
-    words = sys.argv[1:]
-    seed = seeds.taken(words)
-    program, numbers = os.path.abspath(words[0]), seeds.streams(
-        seed, int(words[1]) if len(words) > 1 else 30
-    )
-    with tempfile.TemporaryDirectory(
-        dir="/dev/shm" if os.path.isdir("/dev/shm") else None
-    ) as folder:
-        same = [is_same(program, number, folder) for number in numbers]
-    print(f"{sum(same)} of {len(numbers)} streams are the same")
-    return not all(same)
-
-
-if __name__ == "__main__":
-    sys.exit(main())

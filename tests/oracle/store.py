@@ -5,13 +5,14 @@ import datetime
 import json
 from collections import namedtuple
 
-from plain_book import agreement, applied, last_day, place, stage, targets, verdict
-from plain_text import message_fault
+from oracle.book import agreement, applied, last_day, place, stage, targets, verdict
+from oracle.text import message_fault
 
 Entry = namedtuple("Entry", "station n message verdict")
 VERDICTS = (
-    "Applied UnknownThing UnknownPlace ElsewherePlace UnknownContainer UnknownLoan LoanKnown InsidePartner NoObjects "
-    "NotObject Repeated WrongOwner BadTerm AlreadyAuthorised NotAuthorised WrongDirection NotHere ContainerNotHere Cycle "
+    "Applied UnknownThing UnknownPlace ElsewherePlace UnknownContainer UnknownLoan LoanKnown "
+    "InsidePartner NoObjects NotObject Repeated WrongOwner BadTerm AlreadyAuthorised "
+    "NotAuthorised WrongDirection NotHere ContainerNotHere Cycle "
     "TooDeep NotWithPartner AlreadyHere NotListed WrongStage TermOver NotLater"
 ).split()
 STAGES = "Awaiting Away Back Here GivenBack".split()
@@ -42,7 +43,7 @@ def day_number(day):
     return (datetime.date.fromisoformat(day) - datetime.date(1970, 1, 1)).days
 
 
-def text_of(message):
+def own_text(message):
     return json.dumps(message, separators=(",", ":"), sort_keys=True, ensure_ascii=False)
 
 
@@ -103,7 +104,7 @@ def entry_of(museum, number, row):
         message = json.loads(body)
     except ValueError:
         return None
-    if not isinstance(message, dict) or message_fault(message) or text_of(message) != body:
+    if not isinstance(message, dict) or message_fault(message) or own_text(message) != body:
         return None
     return Entry(station, n, message, VERDICTS[code])
 

@@ -190,6 +190,6 @@ def lines(seed):
     return said
 
 
-def session(seed):
-    """The session of a stream: the setup, an empty line, and its lines."""
-    return (SETUP + "\n" + "".join(json.dumps(line) + "\n" for line in lines(seed))).encode()
+def session(said):
+    """The session of these lines: the setup, an empty line, and the lines."""
+    return (SETUP + "\n" + "".join(json.dumps(line) + "\n" for line in said)).encode()

@@ -1,11 +1,14 @@
-"""Random records that grow now and then, beside the same in the plain program."""
+"""Records whose setups grow are those of the plain program."""
 import collections
 import json
 
-import plain_causes
-import streams
-from growing_room import Record, asks, file_of, grows, lists, plain_line, same
-from store_room import read
+from common.growing import Record, asks, file_of, grows, lists
+from common.museum import MuseumRoom
+from common.room import same, without_advice
+from common.sqlite import read
+from oracle import causes, streams
+
+ROOM = MuseumRoom
 
 NEW = ["station,NONE", "place,S9,inside", "box,C99", "own,2009.1,S1"]
 KINDS = ["station", "place", "box", "own", "lent"]
@@ -81,17 +84,18 @@ def renumbered(record, lines):
         yield json.dumps(line) + "\n"
 
 
-def random_records(room, count):
-    """Random records that grow now and then, beside the same in the plain program."""
-    seen, fixed = collections.Counter(), count * 4 // 5
+def test_growing_records(room, rounds=20):
+    """A record that grows now and then has the replies, the reports and the store that the
+    definitions give."""
+    seen, fixed = collections.Counter(), rounds * 4 // 5
     for number in [
         *range(1, fixed + 1),
-        *(fixed + room.draws.randrange(1 << 32) for _ in range(count - fixed)),
+        *(fixed + room.draws.randrange(1 << 32) for _ in range(rounds - fixed)),
     ]:
         if not grows_at_random(room, number, seen):
-            print(f"  record {number}")
+            print(f"record {number}")
             return False
-    print(f"  {', '.join(f'{event} {seen[event]}' for event in EVENTS)}")
+    print(f"{', '.join(f'{event} {seen[event]}' for event in EVENTS)}")
     return same([event for event in EVENTS if not seen[event]], [])
 
 
@@ -108,12 +112,12 @@ def grows_at_random(room, number, seen):
             wanted = record.grow(file)
             seen.update(line.split(" ")[0] for line in wanted[1].splitlines())
             seen.update(fault.split(" ")[2] for fault in wanted[2].splitlines())
-            good &= same((file, plain_line(grows(room, file))), (file, wanted))
+            good &= same((file, without_advice(grows(room, file))), (file, wanted))
             good &= same(lists(room), record.setup.file())
         given = "".join(renumbered(record, lines[begin:end]))
         wanted = record.replay(given)
         seen.update(reply.split(" ")[-1] for reply in wanted.splitlines())
-        good &= same(plain_line(asks(room, "replay", given=given)), (0, wanted, ""))
+        good &= same(without_advice(asks(room, "replay", given=given)), (0, wanted, ""))
         good = good and is_record(room, record, draws)
     return good and same(read(room.store)[0]["setup"], record.setup.table())
 
@@ -128,6 +132,6 @@ def is_record(room, record, draws):
     good &= same(asks(room, "where", thing), (0, record.where(thing), ""))
     unknown = [k for k, entry in enumerate(record.posted) if entry.verdict in EVENTS[1:4]]
     for k in [draws.one_of(unknown)] if unknown else []:
-        why = plain_causes.why(record.setup.museum_at(k), record.posted, k + 1)
+        why = causes.why(record.setup.museum_at(k), record.posted, k + 1)
         good &= same(asks(room, "why", str(k + 1)), (0, why + "\n", ""))
     return good

@@ -1,17 +1,11 @@
-#!/usr/bin/env python3
-"""Whether `explain` knows each word that the reference and the sources of the replies, reports and
-faults know, in any letter case, and suggests it for a slip.
-
-Usage: explained.py PROGRAM. It prints each word that is not explained, or not in three or four
-lines of 80 columns."""
+"""`explain` knows each word that is printed."""
 import functools
 import glob
 import os
 import re
-import subprocess
-import sys
 
-ROOT = os.path.dirname(os.path.dirname(os.path.abspath(__file__)))
+from common.room import ROOT, Failed, none_of, repository_text
+
 # the pages of the reference, in docs/
 PAGES = ("FORMATS", "REPLIES", "COMMANDS", "REPORTS", "FAULTS", "STORE")
 NAME = r"[A-Z][A-Za-z]+"
@@ -76,11 +70,6 @@ REPLIES += ["to", "into", "out", "not sent", "no target", "no day", "nothing", "
 REPLIES += ["table", "lines", "same", "other", "waits", "ok"]
 
 
-def text_of(*path):
-    with open(os.path.join(ROOT, *path), encoding="utf-8") as file:
-        return file.read()
-
-
 def formats_names(formats):
     """The names that the formats define."""
     names = set(re.findall(rf"^\| [0-9]+ \| ({NAME}) \|", formats, re.M))
@@ -103,15 +92,15 @@ def source_names():
     """The variants of the enums that are printed, and the words of fault lines."""
     names = set()
     for path, enums in ENUMS.items():
-        source = text_of("crates", *path.split("/"))
+        source = repository_text("crates", *path.split("/"))
         for enum in enums:
             body = source.partition(f"enum {enum} {{")[2].partition("\n}")[0]
             variants = set(re.findall(r"^    ([A-Z]\w+)[,( ]", body, re.M))
             if not variants:
-                sys.exit(f"no enum {enum} in {path}")
+                raise Failed(f"no enum {enum} in {path}")
             names.update(variants)
     names.update(
-        re.findall(r'"fault ([a-z]+)', text_of("crates", "hub_program", "src", "fault.rt"))
+        re.findall(r'"fault ([a-z]+)', repository_text("crates", "hub_program", "src", "fault.rt"))
     )
     return names - UNPRINTED
 
@@ -122,7 +111,7 @@ def explained_words():
     return [
         word
         for path in sources
-        for word in re.findall(r'^        word: "([^"]+)"', text_of(path), re.M)
+        for word in re.findall(r'^        word: "([^"]+)"', repository_text(path), re.M)
     ]
 
 
@@ -135,11 +124,6 @@ def edits(one, other):
         for j, b in enumerate(other, 1):
             row.append(min(row[-1] + 1, before[j] + 1, before[j - 1] + (a != b)))
     return row[-1]
-
-
-def ran(program, word):
-    run = subprocess.run([program, "explain", word], capture_output=True, text=True, check=False)
-    return run.returncode, run.stdout, run.stderr
 
 
 def is_explained(said, word):
@@ -166,7 +150,7 @@ def slips(word):
     return word[:-1], f"{word[:middle]}x{word[middle + 1:]}"
 
 
-def wrong_slips(program, words, word):
+def wrong_slips(room, words, word):
     """Slips of a word for which another is suggested than the nearest, and the word if none of its
     slips suggests it."""
     lowered, right = {other.lower(): other for other in words}, False
@@ -175,7 +159,7 @@ def wrong_slips(program, words, word):
             continue
         least = min(edits(slip.lower(), other) for other in lowered)
         nearest = [lowered[other] for other in lowered if edits(slip.lower(), other) == least]
-        said = ran(program, slip)
+        said = room.run("explain", slip)
         if said not in [suggestion(other) for other in nearest]:
             yield f"{slip}: {said}, not one of {nearest}"
         right = right or said == suggestion(word)
@@ -187,32 +171,36 @@ def suggestion(word):
     return 2, "", f"fault name\nhelp: did you mean {word}?\n"
 
 
-def main():
-    program, words = os.path.abspath(sys.argv[1]), explained_words()
-    formats = "\n".join(text_of("docs", f"{page}.md") for page in PAGES)
+def wrong_words(words):
+    """What is wrong with the list of explained words."""
+    reference = "\n".join(repository_text("docs", f"{page}.md") for page in PAGES)
     lowered = [word.lower() for word in words]
-    wrong = [f"{word}: twice" for word in set(lowered) if lowered.count(word) > 1]
-    wanted = formats_names(formats) | source_names() | set(REPLIES)
-    wrong += [f"{word}: not explained" for word in wanted if word.lower() not in lowered]
-    wrong += [
+    yield from (f"{word}: twice" for word in set(lowered) if lowered.count(word) > 1)
+    wanted = formats_names(reference) | source_names() | set(REPLIES)
+    yield from (f"{word}: not explained" for word in wanted if word.lower() not in lowered)
+    yield from (
         f"{word}: not in the reference"
         for word in words
-        if not re.search(rf"\b{word}\b", formats, re.I)
-    ]
+        if not re.search(rf"\b{word}\b", reference, re.I)
+    )
+
+
+def wrong_texts(room, words):
+    """What is wrong with the texts of the words."""
     for word in words:
-        said = ran(program, word)
+        said = room.run("explain", word)
         if not is_explained(said, word):
-            wrong.append(f"{word}: {said}")
-        wrong += [
-            f"{other}: {ran(program, other)}"
-            for other in (word.lower(), word.upper())
-            if ran(program, other) != said
-        ]
+            yield f"{word}: {said}"
+        for other in (word.lower(), word.upper()):
+            if room.run("explain", other) != said:
+                yield f"{other}: another text than {word}"
         if len(word) > 3:
-            wrong += wrong_slips(program, words, word)
-    print("\n".join(sorted(wrong)) or f"{len(words)} words explained")
-    return bool(wrong)
+            yield from wrong_slips(room, words, word)
 
 
-if __name__ == "__main__":
-    sys.exit(main())
+def test_explained(room):
+    """Each word of the reference and of the sources is explained, in any letter case, and suggested
+    for a slip."""
+    words = explained_words()
+    print(f"{len(words)} words")
+    return none_of([*wrong_words(words), *wrong_texts(room, words)])

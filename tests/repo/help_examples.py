@@ -1,15 +1,10 @@
-#!/usr/bin/env python3
-"""Runs the examples of the program's help, over a record with the files that they name.
-
-Usage: help_examples.py PROGRAM. Each example has to end with status 0. It prints what fails, and
-how many ran."""
+"""Each example of the help runs, over a record with the files that it names."""
 import os
-import re
 import subprocess
-import sys
-import tempfile
 
-from store_room import LOAN, SETUP, move, scan, scans
+from common.help import commands, examples
+from common.museum import LOAN, SETUP, move, scan, scans
+from common.room import none_of
 
 FILES = {
     "museum.csv": SETUP,
@@ -17,53 +12,39 @@ FILES = {
     "shelves.csv": "S1,2001.4.3\nS2\n",
     "packing.jsonl": "",
     "gallery.jsonl": "",
-}
-FILES |= {
     "moves.csv": "kind,thing,place,day\nmove,2001.4.1,S1-A,2024-06-01\n",
     "gal.jsonl": scan(1, move("C2", "S1"), "GAL"),
 }
 
 
-def told(program, *words):
-    return subprocess.run([program, *words], capture_output=True, check=True).stdout.decode()
-
-
-def main():
-    program, failed = os.path.abspath(sys.argv[1]), 0
-    overview = told(program, "--help")
-    commands = re.findall(
-        r"^  (\w+)  +\w", overview.partition("Commands:")[2].partition("Options:")[0], re.M
-    )
-    topics = [told(program, "help", name) for name in ("setup", "lines", "counts")]
-    helps = [overview, *[told(program, name, "--help") for name in commands], *topics]
-    for name in commands:
-        if f"\n  pairsalder {name} " not in told(program, name, "--help"):
-            failed += 1
-            print(f"help {name}: no example")
-    examples = [
-        line.strip() for text in helps for line in re.findall(r"^  pairsalder .*$", text, re.M)
+def test_commands_have_examples(room):
+    """The help of each command has an example of it."""
+    names = commands(room)
+    lacking = [
+        name for name in names if f"\n  pairsalder {name} " not in room.printed(name, "--help")
     ]
-    with tempfile.TemporaryDirectory() as folder:
-        for name, text in FILES.items():
-            with open(os.path.join(folder, name), "w", encoding="ascii") as file:
-                file.write(text)
-        os.symlink(program, os.path.join(folder, "pairsalder"))
-        os.makedirs(os.path.join(folder, "media/usb"))
-        for example in sorted(examples, key=lambda line: " replay " not in line):
-            line = example.replace(" /media/", " media/")
-            ran = subprocess.run(
-                ["bash", "-c", f"./{line}"],
-                cwd=folder,
-                stdin=subprocess.DEVNULL,
-                capture_output=True,
-                check=False,
-            )
-            if ran.returncode:
-                failed += 1
-                print(f"{example}: {ran}")
-    print(f"{len(examples)} examples, {failed} failed")
-    return failed or len(examples) < len(commands)
+    return len(names) > 1 and none_of(f"help {name}: no example" for name in lacking)
 
 
-if __name__ == "__main__":
-    sys.exit(main())
+def failing(room):
+    """The examples that fail."""
+    for example in sorted(examples(room), key=lambda line: " replay " not in line):
+        line = example.replace(" /media/", " media/")
+        how = {
+            "cwd": room.folder,
+            "stdin": subprocess.DEVNULL,
+            "capture_output": True,
+            "check": False,
+        }
+        ran = subprocess.run(["bash", "-c", f"./{line}"], **how)
+        if ran.returncode:
+            yield f"{example}: {ran}"
+
+
+def test_help_examples(room):
+    """Each example of the help ends with status 0."""
+    for name, text in FILES.items():
+        room.write(name, text)
+    os.symlink(room.program, room.path("pairsalder"))
+    os.makedirs(room.path("media/usb"))
+    return len(examples(room)) >= len(commands(room)) and none_of(failing(room))

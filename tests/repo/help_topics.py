@@ -1,19 +1,14 @@
-#!/usr/bin/env python3
-"""Whether the program accepts each example on the pages of its help, and whether the pages have
-every kind that the reference lists.
-
-Usage: help_topics.py PROGRAM. It prints what is wrong, and how many pages it has read."""
+"""The program accepts each example on the pages of its help, and the pages have every kind that the
+reference lists."""
 import os
 import re
-import shutil
 import subprocess
-import sys
-import tempfile
 
-ROOT = os.path.dirname(os.path.dirname(os.path.abspath(__file__)))
+from common.help import TOPICS, commands
+from common.room import Room, none_of, repository_text
+
 # the pages of the reference, in docs/, whose tables are compared
 REFERENCE = ["FORMATS", "REPLIES", "REPORTS"]
-TOPICS = ["setup", "lines", "counts", "verdicts", "files"]
 WIDTH, HEIGHT = 80, 40
 # what the loan in of a page needs before its object can come
 BEFORE = [
@@ -22,40 +17,18 @@ BEFORE = [
 ]
 
 
-def text_of(*path):
-    with open(os.path.join(ROOT, *path), encoding="utf-8") as file:
-        return file.read()
-
-
 def table(formats, head):
     """The first cells of the rows of a table, with the other cells."""
     rows = formats.partition(head)[2].partition("\n\n")[0].splitlines()[2:]
     return [[cell.strip() for cell in row.strip("|").split("|")] for row in rows]
 
 
-class Pages:
-    def __init__(self, program, folder):
-        self.program, self.folder = os.path.abspath(program), folder
+class ROOM(Room):
+    """A room with the program, and what each page of its help is compared with."""
+
+    def furnish(self):
         os.symlink(self.program, self.path("pairsalder"))
-        self.formats = "\n".join(text_of("docs", f"{page}.md") for page in REFERENCE)
-
-    def path(self, name):
-        return os.path.join(self.folder, name)
-
-    def write(self, name, text):
-        with open(self.path(name), "w", encoding="utf-8") as file:
-            file.write(text)
-
-    def run(self, *words, given=""):
-        how = {
-            "cwd": self.folder,
-            "input": given,
-            "capture_output": True,
-            "text": True,
-            "check": False,
-        }
-        ran = subprocess.run([self.program, *words], **how)
-        return ran.returncode, ran.stdout, ran.stderr
+        self.formats = "\n".join(repository_text("docs", f"{page}.md") for page in REFERENCE)
 
     def page(self, topic):
         return self.run("help", topic)[1]
@@ -103,10 +76,7 @@ class Pages:
             yield "help isn't --help"
         if "setup, lines, counts, verdicts or files" not in " ".join(overview.split()):
             yield "--help doesn't list the topics"
-        commands = re.findall(
-            r"^  (\w+)  +\w", overview.partition("Commands:")[2].partition("Options:")[0], re.M
-        )
-        for command in commands:
+        for command in commands(self):
             # a name of both is the topic's
             if command not in TOPICS and self.run("help", command) != self.run(command, "--help"):
                 yield f"help {command} isn't {command} --help"
@@ -200,8 +170,8 @@ class Pages:
         os.mkdir(self.path("elsewhere"))
         posted = ("posted", "--setup", "museum.csv", "--store", "museum.db")
         before = self.run(*posted)
-        commands = re.findall(r"^  ((?:pairsalder|cp|mkdir) .*)$", self.page("files"), re.M)
-        for command in commands:
+        shown = re.findall(r"^  ((?:pairsalder|cp|mkdir) .*)$", self.page("files"), re.M)
+        for command in shown:
             line = f"PATH=.:$PATH; {command}"
             ran = subprocess.run(
                 ["bash", "-c", line], cwd=self.folder, capture_output=True, check=False
@@ -209,29 +179,20 @@ class Pages:
             if ran.returncode or self.run(*posted) != before:
                 yield f"help files: {command}: {ran} {self.run(*posted)}"
         moved = self.run(*[word.replace("museum.", "elsewhere/museum.") for word in posted])
-        if before[0] or moved != before or len(commands) < 3:
-            yield f"help files: {commands}: {moved}, not {before}"
+        if before[0] or moved != before or len(shown) < 3:
+            yield f"help files: {shown}: {moved}, not {before}"
 
 
-def main():
-    folder = tempfile.mkdtemp()
-    try:
-        pages = Pages(sys.argv[1], folder)
-        checks = [
-            pages.forms,
-            pages.overview,
-            pages.setup,
-            pages.lines,
-            pages.counts,
-            pages.verdicts,
-            pages.files,
-        ]
-        wrong = [line for check in checks for line in check()]
-    finally:
-        shutil.rmtree(folder)
-    print("\n".join(wrong) or f"{len(TOPICS)} pages read")
-    return bool(wrong)
-
-
-if __name__ == "__main__":
-    sys.exit(main())
+def test_help_topics(room):
+    """The program accepts each example on the pages, and the pages have each kind, answer and
+    verdict."""
+    pages = [
+        room.forms,
+        room.overview,
+        room.setup,
+        room.lines,
+        room.counts,
+        room.verdicts,
+        room.files,
+    ]
+    return none_of(line for page in pages for line in page())

@@ -1,16 +1,12 @@
-#!/usr/bin/env python3
-"""Whether the man page and the completions have every command and option of the help, offer them
-in the shells that are installed, and agree on the version with the program and CHANGELOG.md.
-
-Usage: packaging.py PROGRAM. It prints what is wrong."""
+"""The man page and the completions agree with the help and the version."""
 import os
 import re
 import shutil
 import subprocess
-import sys
-import tempfile
 
-ROOT = os.path.dirname(os.path.dirname(os.path.abspath(__file__)))
+from common.help import commands
+from common.room import ROOT, none_of, repository_text
+
 MAN = "man/man1/pairsalder.1"
 # each file, and the parts of it that are about one command
 FILES = {
@@ -31,10 +27,6 @@ SHELLS = {
         zpty -r inner said '*offers:replay*'; echo $said""",
     "fish": "source $argv[2]; complete -C 'pairsalder re'",
 }
-
-
-def printed(*words):
-    return subprocess.run(words, capture_output=True, check=True, encoding="utf-8").stdout
 
 
 def flags(text):
@@ -87,35 +79,24 @@ def of_man(path):
             yield f"man: status {ran.returncode} {ran.stderr.decode()}"
 
 
-def of_versions(program, page):
+def of_versions(room, page):
     """The version, if it is not the same everywhere."""
-    with open(os.path.join(ROOT, "CHANGELOG.md"), encoding="utf-8") as file:
-        newest = re.search(r"^## \[(\d+\.\d+\.\d+)\]", file.read(), re.M)
+    newest = re.search(r"^## \[(\d+\.\d+\.\d+)\]", repository_text("CHANGELOG.md"), re.M)
     titles = re.findall(r'^\.TH .* "" "(.*?)"', page, re.M)
-    found = [printed(program, "--version").split("\n")[0], *titles]
+    found = [room.printed("--version").split("\n")[0], *titles]
     if not newest or found != [f"pairsalder {newest[1]}"] * 2:
         yield f"versions: CHANGELOG.md {newest and newest[1]}, --version and man page {found}"
 
 
-def main():
-    program = os.path.abspath(sys.argv[1])
-    overview = printed(program, "--help")
-    listed = overview.partition("Commands:")[2].partition("Options:")[0]
-    names = re.findall(r"^  (\w+)  +\w", listed, re.M)
-    helps = {"": overview} | {name: printed(program, name, "--help") for name in names}
-    with tempfile.TemporaryDirectory() as folder:
-        generate = os.path.join(ROOT, "packaging", "generate.py")
-        subprocess.run([generate, program, folder], check=True)
-        texts = {}
-        for path in FILES:
-            with open(os.path.join(folder, path), encoding="utf-8") as file:
-                texts[path] = file.read()
-        wrong = [it for path, text in texts.items() for it in of_text(path, text, helps)]
-        wrong += [*of_shells(folder), *of_man(os.path.join(folder, MAN))]
-        wrong += of_versions(program, texts[MAN])
-    print("\n".join(wrong) or f"{len(names)} commands in {len(FILES)} files")
-    return bool(wrong) or len(names) < 2
-
-
-if __name__ == "__main__":
-    sys.exit(main())
+def test_packaging(room):
+    """The man page and the completions have each command and option, shells offer them, and the
+    version is the same everywhere."""
+    names = commands(room)
+    helps = {"": room.printed("--help")} | {name: room.printed(name, "--help") for name in names}
+    subprocess.run(
+        [os.path.join(ROOT, "packaging", "generate.py"), room.program, room.folder], check=True
+    )
+    texts = {path: room.read(path).decode() for path in FILES}
+    wrong = [it for path, text in texts.items() for it in of_text(path, text, helps)]
+    wrong += [*of_shells(room.folder), *of_man(room.path(MAN)), *of_versions(room, texts[MAN])]
+    return len(names) > 1 and none_of(wrong)

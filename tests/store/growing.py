@@ -1,28 +1,15 @@
-#!/usr/bin/env python3
-"""Setups that grow: years of a museum, files that people save, growths that are refused or killed,
-and stores whose growths another program changed.
-
-Usage: growing.py [--seed N] PROGRAM [--years N] [--kills N] [--records N] [CHECK..]. Each check
-prints its name and ok or FAILED; the last line is 'N passed, M failed'. Without options it takes
-less than a minute. By hand: `growing.py bin/pairsalder --years 10 years` grows 120 times, to 80,000
-objects; `--kills 1000 killed` kills 1,000 growths, and `--records 1000 random_records` compares
-1,000 records with those of the plain program."""
-import argparse
-import functools
+"""A setup grows by the files that people save, and is refused by name where it can't."""
 import os
 import sqlite3
 import subprocess
-import sys
 
-import seeds
-from growing_changes import changed_growths, cut_below_a_growth
-from growing_kills import failing_at_each_call, full_disk, killed, killed_at_each_call, together
-from growing_records import random_records
-from growing_room import MORE, asks, file_of, grows, lists, plain_line, prints, run, same, story
-from growing_years import years
-from migrate import make
-from store import changed_by
-from store_room import SETUP, read, report, settle
+from common.growing import MORE, asks, file_of, grows, lists, prints, story
+from common.museum import SETUP, MuseumRoom
+from common.room import same, without_advice
+from common.sqlite import changed_by, read, settle
+from store.migration import make
+
+ROOM = MuseumRoom
 
 NO_STORE = (
     "fault store Store\nhelp: museum.db does not exist: replay, serve and desk start a new record\n"
@@ -34,29 +21,17 @@ NO_RECORD = (
 )
 
 
-# Files as people save them
+NEW = ["place,S5,inside", "own,2001.4.9,S5", "station,DOOR", "lent,L2000.1", "box,C9"]
+MOVED = "own,2001.4.1,S5"
 
 
-def by_hand(room):
-    """The same additions in each way in which people save a file, and by the variables and short
-    options."""
-    bytes_of, record = story(room, 1)
-    if bytes_of is None:
-        return False
-    listed = record.setup.rows()
-    new = [
-        "place,S5,inside",
-        "own,2001.4.9,S5",
-        "station,DOOR",
-        "lent,L2000.1",
-        "box,C9",
-        "own,2001.4.1,S5",
-    ]
-    wanted = record.grow(file_of(new).encode())
-    added = new[:-1]
+def files_with(listed):
+    """The same additions to this list, in each way in which people save a file."""
+    new = [*NEW, MOVED]
     changed = [row.replace("2001.4.1,S1-A", "2001.4.1,S5") for row in listed]
+    mixed = sorted(changed, key=lambda row: (not row.startswith("place,"), row[::-1]))
     quoted = [",".join(f'"{field}"' for field in row.split(",")) for row in new]
-    files = [
+    return [
         file_of(new),
         file_of(new).removesuffix("\n"),
         file_of(new).replace("\n", "\r\n"),
@@ -65,39 +40,42 @@ def by_hand(room):
         file_of(quoted),
         file_of(new).replace("\n", "\n\n,,\n"),
         # the whole list, with what is new at its end or at its start, or in any order
-        file_of(added[:1] + changed + added[1:]),
-        file_of(added + changed),
-        file_of(
-            added[:1]
-            + sorted(changed, key=lambda row: (not row.startswith("place,"), row[::-1]))
-            + added[1:]
-        ),
+        file_of(NEW[:1] + changed + NEW[1:]),
+        file_of(NEW + changed),
+        file_of(NEW[:1] + mixed + NEW[1:]),
     ]
-    good = True
-    for file in files:
+
+
+def test_by_hand(room):
+    """The same additions are read in each way in which people save a file, and by the variables and
+    the short options."""
+    bytes_of, record = story(room, 1)
+    if bytes_of is None:
+        return False
+    listed, good = record.setup.rows(), True
+    wanted = record.grow(file_of([*NEW, MOVED]).encode())
+    for file in files_with(listed):
         room.clear()
         room.write("museum.db", bytes_of)
-        good &= same((file, plain_line(grows(room, file))), (file, wanted)) and same(
-            lists(room), record.setup.file()
-        )
+        good &= same((file, without_advice(grows(room, file))), (file, wanted))
+        good &= same(lists(room), record.setup.file())
     room.write("museum.db", bytes_of)
     env = {**os.environ, "PAIRSALDER_STORE": "museum.db", "PAIRSALDER_SETUP": "new.csv"}
-    good &= same(plain_line(run(room, "grow", "--check", env=env)), wanted)
-    good &= same(run(room, "setup", env=env), (0, file_of(listed), ""))
-    good &= same(plain_line(run(room, "grow", "-s", "new.csv", "-d", "museum.db")), wanted)
-    good &= same(run(room, "setup", "-d", "museum.db"), (0, record.setup.file(), ""))
+    good &= same(without_advice(room.run("grow", "--check", env=env)), wanted)
+    good &= same(room.run("setup", env=env), (0, file_of(listed), ""))
+    good &= same(without_advice(room.run("grow", "-s", "new.csv", "-d", "museum.db")), wanted)
+    good &= same(room.run("setup", "-d", "museum.db"), (0, record.setup.file(), ""))
     return good and mixed_up(room)
 
 
 def mixed_up(room):
     """The names of the file and the store in each other's place change neither."""
     before = read(room.store)
-    run_mixed = run(room, "grow", "--setup", "museum.db", "--store", "museum.csv")
+    run_mixed = room.run("grow", "--setup", "museum.db", "--store", "museum.csv")
     good = same(
         run_mixed, (1, "", "fault store Store\nhelp: museum.csv is not an SQLite database\n")
     )
-    with open(room.path("museum.csv"), encoding="ascii") as file:
-        good &= same(file.read(), prints(room)[1])
+    good &= same(room.read("museum.csv").decode(), prints(room)[1])
     return (
         good and same(read(room.store), before) and not os.path.exists(room.path("museum.csv-wal"))
     )
@@ -178,7 +156,7 @@ def fault_lines(fault, why):
     return f"fault setup {fault}\nhelp: new.csv {fault.split(' ', 1)[1]}: {why}\n"
 
 
-def refused_growths(room):
+def test_refused_growths(room):
     """A growth that fails prints why and adds nothing; so does one with --check, or with nothing to
     add."""
     bytes_of, record = story(room)
@@ -197,12 +175,11 @@ def refused_growths(room):
     for file, wanted in runs:
         for more in ([], ["--check"]):
             good &= same((file, grows(room, file, *more)), (file, wanted))
-        good &= same(record.grow(file), plain_line(wanted))
-    good &= same(plain_line(grows(room, MORE, "--check")), record.grow(MORE, check=True))
+        good &= same(record.grow(file), without_advice(wanted))
+    good &= same(without_advice(grows(room, MORE, "--check")), record.grow(MORE, check=True))
     good &= same(prints(room), (0, record.setup.file(), "")) and same(read(room.store), stored)
     settle(room.store)
-    with open(room.store, "rb") as file:
-        good &= same(file.read() == bytes_of, True)
+    good &= same(room.read("museum.db") == bytes_of, True)
     return good and other_faults(room, bytes_of, record)
 
 
@@ -210,12 +187,12 @@ def other_faults(room, bytes_of, record):
     """Files and stores that can't be read, and an output that can't be written."""
     store = ["--store", "museum.db"]
     missing = (1, "", "fault file\nhelp: none.csv does not exist\n")
-    good = same(run(room, "grow", "--setup", "none.csv", *store), missing)
+    good = same(room.run("grow", "--setup", "none.csv", *store), missing)
     good &= same(
-        run(room, "grow", "--setup", ".", *store), (1, "", "fault file\nhelp: . is a folder\n")
+        room.run("grow", "--setup", ".", *store), (1, "", "fault file\nhelp: . is a folder\n")
     )
     room.clear()
-    good &= same(run(room, "grow", "--setup", "none.csv", *store), missing)
+    good &= same(room.run("grow", "--setup", "none.csv", *store), missing)
     for file in (MORE, b"shelf,S9\n"):
         good &= same(grows(room, file), (1, "", NO_STORE)) and same(prints(room), (1, "", NO_STORE))
     good &= not os.path.exists(room.store)
@@ -231,7 +208,7 @@ def other_faults(room, bytes_of, record):
         changed_by(room, bytes_of, (change,))
         stored = read(room.store)
         good &= same(
-            (change, plain_line(grows(room, MORE))), (change, (1, "", f"fault store {fault}\n"))
+            (change, without_advice(grows(room, MORE))), (change, (1, "", f"fault store {fault}\n"))
         )
         good &= same(read(room.store), stored)
     return good and version_1(room) and full_output(room, bytes_of, record)
@@ -241,7 +218,7 @@ def version_1(room):
     """A store of version 1 prints its setup, and grows once it is migrated. It keeps its depth."""
     make(room)
     room.write("museum.csv", SETUP)
-    good = same(plain_line(grows(room, MORE)), (1, "", "fault store OtherVersion\n"))
+    good = same(without_advice(grows(room, MORE)), (1, "", "fault store OtherVersion\n"))
     good &= same(prints(room), (0, SETUP, ""))
     good &= same(asks(room, "migrate")[0], 0) and same(grows(room, MORE)[0], 0)
     return good and same(sorted(read(room.store)[0]["meta"]), [("depth", 8), ("version", 2)])
@@ -264,7 +241,10 @@ def full_output(room, bytes_of, record):
     return good and same(prints(room), (0, record.setup.file(), ""))
 
 
-def most_growths(room):
+TOO_MANY = "fault setup TooManyGrowths\nhelp: a setup can grow 10000 times: begin a new store\n"
+
+
+def test_most_growths(room):
     """A setup grows 10,000 times, and not once more."""
     bytes_of, record = story(room, 1)
     if bytes_of is None:
@@ -277,7 +257,7 @@ def most_growths(room):
             (
                 1,
                 "",
-                "fault setup TooManyGrowths\nhelp: a setup can grow 10000 times: begin a new store\n",
+                TOO_MANY,
             ),
             0,
         ),
@@ -298,45 +278,3 @@ def most_growths(room):
         good &= same(grows(room, more, "--check"), wanted) and same(grows(room, more), wanted)
         good &= same(len(read(room.store)[0]["setup"]), len(rows) + count + added)
     return good
-
-
-def main():
-    words = sys.argv[1:]
-    seed = seeds.taken(words)
-    parser = argparse.ArgumentParser()
-    parser.add_argument("program")
-    parser.add_argument("checks", nargs="*")
-    parser.add_argument("--years", type=int)
-    parser.add_argument("--kills", type=int, default=20)
-    parser.add_argument("--records", type=int, default=20)
-    given = parser.parse_intermixed_args(words)
-    months, objects = (12 * given.years, 8_000 * given.years) if given.years else (10, 300)
-
-    def sized(check, *sizes):
-        return functools.update_wrapper(lambda room: check(room, *sizes), check)
-
-    checks = [
-        sized(years, months, objects),
-        by_hand,
-        refused_growths,
-        most_growths,
-        changed_growths,
-        cut_below_a_growth,
-    ]
-    checks += [
-        sized(killed, given.kills),
-        killed_at_each_call,
-        failing_at_each_call,
-        full_disk,
-        together,
-    ]
-    checks += [sized(random_records, given.records)]
-    return report(
-        given.program,
-        [it for it in checks if it.__name__ in given.checks or not given.checks],
-        seed=seed,
-    )
-
-
-if __name__ == "__main__":
-    sys.exit(main())

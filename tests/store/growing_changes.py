@@ -1,12 +1,16 @@
-"""Stores whose growths another program changed, and stores that have lost entries."""
+"""A store whose growths another program changed, or that has lost entries, is refused by the fault
+that the definitions give."""
 import itertools
 import sqlite3
 
-from growing_room import MORE, asks, grows, plain_line, prints, same, story
-from plain_growth import Setup, further, list_refusal, opening_refusal, own_setup, rows_given
-from plain_store import TABLES
-from store import changed_by
-from store_room import read
+from common.growing import MORE, asks, grows, prints, story
+from common.museum import MuseumRoom
+from common.room import same, without_advice
+from common.sqlite import changed_by, read
+from oracle.growth import Setup, further, list_refusal, opening_refusal, own_setup, rows_given
+from oracle.store import TABLES
+
+ROOM = MuseumRoom
 
 CELLS = [
     "0",
@@ -70,7 +74,7 @@ def changes(rows):
     yield [(write, plain[-1], last), (write, growths[-1], first - 1)]
 
 
-def changed_growths(room):
+def test_changed_growths(room):
     """A store with a changed growth is refused for what the plain program finds, or it has the
     record that it had."""
     bytes_of, record = story(room)
@@ -89,26 +93,25 @@ def changed_growths(room):
         fault = opening_refusal(setup, rows)
         opened += fault is None
         if not is_refused(room, record, fault, rows):
-            print(f"  {statements}")
+            print(f"{statements}")
             return False
-    print(f"  {tried} changes, {opened} without effect on a verdict")
+    print(f"{tried} changes, {opened} without effect on a verdict")
     return tried > 100 and opened > 5
 
 
 def changed(room, statement):
     """The same as `changed_by` on the store as it is."""
-    with open(room.store, "rb") as file:
-        return changed_by(room, file.read(), statement)
+    return changed_by(room, room.read("museum.db"), statement)
 
 
 def is_refused(room, record, fault, rows):
     """Whether each command finds this fault or none. `grow` and `setup` take the list from the
     store."""
     own = own_setup(rows["setup"])
-    good = same(plain_line(asks(room, "posted")), refused(fault) or (0, record.entries(), ""))
+    good = same(without_advice(asks(room, "posted")), refused(fault) or (0, record.entries(), ""))
     own_fault = list_refusal(own, rows) if own else "Damaged 0"
-    good &= same(plain_line(prints(room)), (0, own.file(), "") if own else refused("Damaged 0"))
-    status, output, errors = plain_line(grows(room, MORE, "--check"))
+    good &= same(without_advice(prints(room)), (0, own.file(), "") if own else refused("Damaged 0"))
+    status, output, errors = without_advice(grows(room, MORE, "--check"))
     good &= same(
         (status, "" if own_fault is None else output, errors), refused(own_fault) or (0, "", "")
     )
@@ -120,7 +123,7 @@ def refused(fault):
     return (1, "", f"fault store {fault}\n") if fault else None
 
 
-def cut_below_a_growth(room):
+def test_cut_below_a_growth(room):
     """A store with fewer entries than its newest growth found is Damaged 0; one with as many
     opens."""
     bytes_of, record = story(room)
@@ -131,7 +134,9 @@ def cut_below_a_growth(room):
         room.write("museum.db", bytes_of)
         keep(room, record, entries[:count])
         for ran in (asks(room, "stations"), grows(room, MORE, "--check")):
-            good &= same((count, plain_line(ran) == refused("Damaged 0")), (count, count < after))
+            good &= same(
+                (count, without_advice(ran) == refused("Damaged 0")), (count, count < after)
+            )
     return good
 
 

@@ -1,10 +1,14 @@
-"""Years of a museum whose setup grows at the end of each month."""
+"""Years of a museum whose setup grows at the end of each month keep the record as it was."""
 import json
 
-from growing_room import asks, at_desk, file_of, grows, lists, plain_line, same
-from plain_growth import Setup, further, grown, growth_lines
-from plain_store import Entry
-from store_room import held, move, pack, read
+from common.growing import asks, file_of, grows, lists
+from common.museum import MuseumRoom, move, pack, scans
+from common.room import same, without_advice
+from common.sqlite import held, read
+from oracle.growth import Setup, further, grown, growth_lines
+from oracle.store import Entry
+
+ROOM = MuseumRoom
 
 
 def own(number):
@@ -36,7 +40,7 @@ class Years:
         """The lines of a station, which go on with its next number."""
         first = self.next[station]
         self.next[station] += len(messages)
-        return at_desk(station, first, messages)
+        return scans(messages, station, first)
 
     def day(self):
         year, month = divmod(self.month - 1, 12)
@@ -151,10 +155,10 @@ def entries_of(posted):
         yield Entry(station, int(number), json.loads(text), verdict)
 
 
-# The check
+# The test
 
 
-def years(room, months, objects):
+def test_years(room, months=10, objects=300):
     """After each growth the record gives the same answers about what it had, and takes what it
     refused as unknown."""
     museum = Years(room.draws, months, objects)
@@ -166,9 +170,9 @@ def years(room, months, objects):
         setup, is_good = grows_in_a_month(room, museum, setup)
         good &= is_good
         if not good:
-            print(f"  in month {month}")
+            print(f"in month {month}")
             return False
-    print(f"  {months} growths, {len(setup.things)} things, {len(museum.next)} stations")
+    print(f"{months} growths, {len(setup.things)} things, {len(museum.next)} stations")
     return good and goes_on(room, museum)
 
 
@@ -190,11 +194,11 @@ def grows_in_a_month(room, museum, setup):
     file = as_file(museum.draws, listed, rows, moved).encode()
     after, faults = further(setup, file)
     good &= same(
-        (faults, plain_line(grows(room, file))),
+        (faults, without_advice(grows(room, file))),
         ([], (0, file_of(growth_lines(setup, after, posted)), "")),
     )
     new = grown(setup, after, len(posted))
-    good &= same(plain_line(asks(room, "stations")), (1, "", "fault store OtherSetup\n"))
+    good &= same(without_advice(asks(room, "stations")), (1, "", "fault store OtherSetup\n"))
     good &= same(lists(room), new.file()) and same(
         read(room.store)[0], {**stored, "setup": new.table()}
     )

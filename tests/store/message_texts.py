@@ -1,15 +1,13 @@
-#!/usr/bin/env python3
-"""Messages as a store has them: each by its own text, with its verdict by its number.
-
-Usage: message_texts.py PROGRAM. Each check prints its name and ok or FAILED; the last line is 'N
-passed, M failed'."""
+"""A store has each message by its own text, and each verdict by its number."""
 import pathlib
 import re
-import sys
 
-from plain_store import VERDICTS
-from store import opens_as
-from store_room import SETUP, move, read, report
+from common.museum import SETUP, MuseumRoom, move
+from common.sqlite import read
+from oracle.store import VERDICTS
+from store.stock_sqlite import opens_as
+
+ROOM = MuseumRoom
 
 # a message as it is sent, and its own text
 EXTEND = (
@@ -102,22 +100,22 @@ def are_stored(room, texts):
     """Whether each message is stored by its own text, whatever its verdict is."""
     rows, wanted = stored(room, [text for text, _ in texts]), [own for _, own in texts]
     for row in set(rows) ^ set(enumerate(wanted, 1)):
-        print(f"  {row}")
+        print(f"{row}")
     return rows == list(enumerate(wanted, 1))
 
 
-def message_texts(room):
-    """A message's own text."""
+def test_message_texts(room):
+    """A store has each message by its own text, whatever spelling was sent."""
     return are_stored(room, TEXTS)
 
 
-def extend_text(room):
-    """The own text of an extension."""
+def test_extend_text(room):
+    """A store has an extension by its own text."""
     return are_stored(room, [EXTEND])
 
 
-def read_back(room):
-    """The same texts, told of the store by a run that opens it."""
+def test_read_back(room):
+    """A run that opens the store prints the same texts."""
     stored(room, [text for text, _ in TEXTS])
     told = [line.split(" ", 4) for line in room.command("posted", "many.csv")[1].splitlines()]
     return [(*words[:3], words[4]) for words in told] == [
@@ -125,8 +123,8 @@ def read_back(room):
     ]
 
 
-def no_message(room):
-    """Texts that spell no message: their row is no entry."""
+def test_no_message(room):
+    """A row whose text spells no message is Damaged."""
     text = room.made([move("C1", "S1")])
     return all(
         [
@@ -140,9 +138,7 @@ def verdicts_of(room, case):
     """What a case's replies, the rows of its store, and a run that opens it say of each entry: its
     verdict, by its name."""
     head, lines = (
-        (pathlib.Path(__file__).parent.parent / "cases" / case / "stdin")
-        .read_text(encoding="utf-8")
-        .split("\n\n", 1)
+        (pathlib.Path("cases") / case / "stdin").read_text(encoding="utf-8").split("\n\n", 1)
     )
     room.clear()
     room.write("case.csv", head + "\n")
@@ -158,19 +154,13 @@ def verdicts_of(room, case):
     )
 
 
-def verdicts_by_number(room):
-    """Each verdict stored by its number, and read back."""
+def test_verdicts_by_number(room):
+    """A store has each verdict by its number, and a run that opens it prints its name."""
     good, came = True, set()
     for case in CASES:
         replied, rows, told = verdicts_of(room, case)
         if not replied == rows == told:
-            print(f"  {case}: {replied}, {rows}, {told}")
+            print(f"{case}: {replied}, {rows}, {told}")
             good = False
         came |= {verdict for _, verdict in replied}
     return good and came == set(VERDICTS)
-
-
-if __name__ == "__main__":
-    sys.exit(
-        report(sys.argv[1], [message_texts, extend_text, read_back, no_message, verdicts_by_number])
-    )

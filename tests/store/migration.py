@@ -1,44 +1,27 @@
-#!/usr/bin/env python3
-"""What the program does with stores of version 1, which a stock SQLite (Python's sqlite3) makes and
-reads.
-
-Usage: migrate.py PROGRAM [TIMES]. TIMES is how often a migration is killed at a random moment (60
-where it isn't said). Each check prints its name and ok or FAILED; the last line is 'N passed, M
-failed'."""
+"""A store of version 1, which a stock SQLite makes, is migrated whole or stays as it is."""
 import sqlite3
-import subprocess
-import sys
-import time
 
-import seeds
-from plain_store import Entry, lines, setup_rows, spots, terms, text_of
-from store_room import (
-    CRATES,
-    LOAN,
-    MUSEUM,
-    NORMAL,
-    agree,
-    built,
-    held,
-    move,
-    read,
-    read_copy,
-    report,
-    said,
-    scan,
-    settle,
-    stops,
-)
+from common.museum import CRATES, LOAN, MUSEUM, NORMAL, MuseumRoom
+from common.museum import agree, scan, to_and_fro
+from common.obstacles import built, stops
+from common.room import without_advice
+from common.sqlite import held, read, read_copy, settle
+from oracle.store import Entry, lines, own_text, setup_rows, spots, terms
+
+ROOM = MuseumRoom
 
 # the texts of the first five tables
 FIRST = (
     "CREATE TABLE meta (name TEXT PRIMARY KEY, val INTEGER NOT NULL) STRICT",
     "CREATE TABLE setup (id INTEGER PRIMARY KEY, txt TEXT NOT NULL) STRICT",
-    "CREATE TABLE posting (id INTEGER PRIMARY KEY, station INTEGER NOT NULL, n INTEGER NOT NULL, body TEXT NOT NULL, "
+    "CREATE TABLE posting (id INTEGER PRIMARY KEY, station INTEGER NOT NULL, "
+    "n INTEGER NOT NULL, body TEXT NOT NULL, "
     "verdict INTEGER NOT NULL, UNIQUE (station, n)) STRICT",
-    "CREATE TABLE spot (thing INTEGER, k INTEGER, entry INTEGER NOT NULL, place INTEGER NOT NULL, day INTEGER NOT NULL, "
+    "CREATE TABLE spot (thing INTEGER, k INTEGER, entry INTEGER NOT NULL, "
+    "place INTEGER NOT NULL, day INTEGER NOT NULL, "
     "PRIMARY KEY (thing, k)) STRICT",
-    "CREATE TABLE line (loan TEXT, object INTEGER, stage INTEGER NOT NULL, PRIMARY KEY (loan, object)) STRICT",
+    "CREATE TABLE line (loan TEXT, object INTEGER, stage INTEGER NOT NULL, "
+    "PRIMARY KEY (loan, object)) STRICT",
 )
 VERDICTS = {"loan": [0, 0, 0, 0, 0, 14, 0, 22, 0, 24, 0], "crates": [0] * len(CRATES)}
 NAMES = {0: "Applied", 14: "NotAuthorised", 22: "NotListed", 24: "TermOver"}
@@ -62,7 +45,7 @@ def make(room, *changes, entries=posted(LOAN, VERDICTS["loan"])):
         conn.executemany("INSERT INTO meta VALUES (?, ?)", [("version", 1), ("depth", 8)])
         conn.executemany("INSERT INTO setup VALUES (?, ?)", setup_rows(MUSEUM, NORMAL))
         rows = [
-            (i, e.station, e.n, text_of(e.message), numbers[e.verdict])
+            (i, e.station, e.n, own_text(e.message), numbers[e.verdict])
             for i, e in enumerate(entries, 1)
         ]
         conn.executemany("INSERT INTO posting VALUES (?, ?, ?, ?, ?)", rows)
@@ -96,9 +79,9 @@ def is_version_2(room, before, entries):
     )
 
 
-def migrated_store(room):
-    """Before it, no opening takes the store; after it, each does, and the record goes on. Again it
-    changes nothing."""
+def test_migrated_store(room):
+    """No command opens a store of version 1; once it is migrated, each does, and the record goes
+    on. A second migration changes nothing."""
     entries = posted(LOAN, VERDICTS["loan"])
     before = make(room)
     refused = [room.replay(""), room.command("stations", "setup.csv")]
@@ -121,8 +104,8 @@ def migrated_store(room):
     )
 
 
-def no_loans(room):
-    """A record without loans gets a table without rows."""
+def test_no_loans(room):
+    """A record without loans gets a table of last days without rows."""
     entries = posted(CRATES, VERDICTS["crates"])
     before = make(room, entries=entries)
     return (
@@ -132,10 +115,10 @@ def no_loans(room):
     )
 
 
-def migrate_refusals(room):
-    """Why a store isn't migrated, and that it is left as it is; so is one that says it is of
-    version 2."""
-    body = text_of({"kind": "extend", "loan": "LO2024.1", "last": "2024-06-30"})
+def test_migrate_refusals(room):
+    """A store that can't be migrated is refused with a named fault, and stays as it is; so does one
+    that says it is of version 2."""
+    body = own_text({"kind": "extend", "loan": "LO2024.1", "last": "2024-06-30"})
     rows = [
         ("UPDATE meta SET val = 2 WHERE name = 'version'", None),
         ("UPDATE meta SET val = 3 WHERE name = 'version'", "OtherVersion"),
@@ -160,13 +143,14 @@ def migrate_refusals(room):
         settle(room.store)
         answer = (1, "", f"fault store {fault}\n") if fault else (0, "migrated\n", "")
         if ran != answer or held(room)[0] != kept[0] or read(room.store)[0] != before:
-            print(f"  {change}: {ran}, not {fault}")
+            print(f"{change}: {ran}, not {fault}")
             return False
     return True
 
 
-def no_store(room):
-    """A file that isn't there yet, one that holds no database, and a setup that can't be read."""
+def test_no_store(room):
+    """A file that isn't there, one that has no database, and a setup that can't be read are named
+    faults."""
     room.clear()
     new = migrate(room) == (1, "", "fault store OtherVersion\n")
     room.clear()
@@ -180,49 +164,42 @@ def no_store(room):
     )
 
 
-def migration_killed(room, times):
-    """A migration killed at a random moment, again and again, leaves version 1 whole or version 2
-    whole, and can be made again."""
-    draws, stopped = room.draws, 0
-    entries = posted([move("C1", ("S1", "S2")[n % 2]) for n in range(200)], [0] * 200)
+def test_migration_killed(room, rounds=60):
+    """A migration that is killed at a random moment leaves version 1 whole or version 2 whole, and
+    can be made again."""
+    stopped = 0
+    entries = posted(to_and_fro(200), [0] * 200)
     entries.append(Entry(0, 201, agree(["2001.4.1"]), "Applied"))
     before = make(room, entries=entries)
-    with open(room.store, "rb") as file:
-        text = file.read()
-    for _ in range(times):
+    text = room.read("museum.db")
+    for _ in range(rounds):
         room.clear()
         room.write("museum.db", text)
-        migrating = subprocess.Popen(
-            room.words("migrate"), stdout=subprocess.DEVNULL, stderr=subprocess.DEVNULL
-        )
-        time.sleep(draws.uniform(0, 0.02))
-        migrating.kill()
-        stopped += migrating.wait() != 0
+        stopped += room.killed(room.draws.uniform(0, 0.02), *room.words("migrate"))
         rows, _, sound = read(room.store)
         whole = is_version_2(room, before, entries) if "term" in rows else rows == before
         if not (sound and whole and migrate(room)[0] == 0 and is_version_2(room, before, entries)):
-            print(f"  {sorted(rows)} {rows['meta']}")
+            print(f"{sorted(rows)} {rows['meta']}")
             return False
         if room.replay("") != (0, "", ""):
             return False
-    print(f"  {stopped} of {times} were stopped before their end")
+    print(f"{stopped} of {rounds} were stopped before their end")
     return True
 
 
-def disk_stops(room):
-    """A migration whose log, or whose database file, stops at each call on it in turn leaves
-    version 1 whole or version 2 whole, and can be made again."""
+def test_disk_stops(room):
+    """A migration whose log or database file stops at any call leaves version 1 whole or version 2
+    whole, and can be made again."""
     entries = posted(LOAN, VERDICTS["loan"])
     before = make(room)
-    with open(room.store, "rb") as file:
-        text = file.read()
+    text = room.read("museum.db")
 
     def begin():
         room.clear()
         room.write("museum.db", text)
 
     def run(env):
-        return said(subprocess.run(room.words("migrate"), capture_output=True, env=env))
+        return without_advice(room.run(*room.words("migrate"), env=env))
 
     good, found = True, set()
     for at, ran in stops(room, built(room, "stop_disk.c"), begin, run):
@@ -241,24 +218,7 @@ def disk_stops(room):
             and is_version_2(room, before, entries)
             and room.replay("") == (0, "", "")
         ):
-            print(f"  {at}: {ran}, {sound}, {is_new}, then {again}")
+            print(f"{at}: {ran}, {sound}, {is_new}, then {again}")
             good = False
-    print(f"  {sorted(found)}")
+    print(f"{sorted(found)}")
     return good and found >= {(1, False), (1, True)}
-
-
-def main():
-    words = sys.argv[1:]
-    seed = seeds.taken(words)
-    program, times = words[0], int(words[1]) if len(words) > 1 else 60
-    return report(
-        program,
-        [migrated_store, no_loans, migrate_refusals, no_store, disk_stops],
-        [migration_killed],
-        times,
-        seed,
-    )
-
-
-if __name__ == "__main__":
-    sys.exit(main())

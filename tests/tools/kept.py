@@ -13,7 +13,7 @@ from functions import text_of
 HERE = os.path.dirname(os.path.abspath(__file__))
 SCRIPTS = [
     text_of(f"{HERE}/{it}")
-    for it in ("edits", "functions.py", "kept.py", "prover.py", "wrong_bodies.py")
+    for it in ("edits", "functions.py", "kept.py", "prover.py", "rounds.py", "wrong_bodies.py")
 ]
 CACHE = os.environ.get("XDG_CACHE_HOME") or os.path.expanduser("~/.cache")
 FOLDER = f"{CACHE}/pairsalder/refused"

@@ -25,13 +25,13 @@ INTRODUCTION = """\
 # Wrong bodies
 
 For anyone who wants to know what the contracts are worth: after this page you know which wrong programs they refuse. It is the
-output of `checks/edits --list`.
+output of `tests/tools/edits --list`.
 
 An *edit* is a file `crates/CRATE/wrong-bodies/NAME.edit`. It changes the body of a function so that the program does something
 wrong. The prover must refuse each edit; `make test` tries them all.
 
 The last column names the function whose contract refuses the edit, and the clauses if they have names. This is the nearest
-contract, often that of a private function. A few edits keep every contract and are refused by a test; `checks/tested_edits`
+contract, often that of a private function. A few edits keep every contract and are refused by a test; `tests/tools/tested_edits`
 tries these, and `make test` doesn't.
 
 [PROMISES](PROMISES.md#what-is-neither-proved-nor-tested) lists what no contract can exclude. [CONTRIBUTING](../CONTRIBUTING.md) describes how to
@@ -39,7 +39,10 @@ write an edit.
 """
 HEAD = re.compile(r"wrong: (.+)\nrefused by: ([\w:]+)((?:, \w+)*)\n(?:because: (.+)\n)?(?=file: )")
 TESTED = re.compile(r"wrong: (.+)\ntest: (?:\w+::)*(\w+)\n(?=file: )")
-NO_HEAD = "it doesn't begin with 'wrong: TITLE' and 'refused by: FUNCTION, CLAUSE..', or 'test: NAME' if a test refuses it"
+NO_HEAD = (
+    "it doesn't begin with 'wrong: TITLE' and 'refused by: FUNCTION, CLAUSE..', "
+    "or 'test: NAME' if a test refuses it"
+)
 ENSURES = re.compile(r"^ *ensures (\w+) \{", re.M)
 
 Head = collections.namedtuple("Head", "title function clauses remark")

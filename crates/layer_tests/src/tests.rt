@@ -1,4 +1,4 @@
-//! Tests of the other crates, through their public calls. `cases/` and `checks/` have the tests that
+//! Tests of the other crates, through their public calls. `cases/` and `tests/` have the tests that
 //! run through the program.
 //!
 //! A setup, a register, a ledger and a hub are dropped by `drop`, and no `?` is used while one of

@@ -1,1 +1,0 @@
-../tests/faults/cut_files.py

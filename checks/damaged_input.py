@@ -1,1 +1,0 @@
-../tests/faults/damaged_input.py

@@ -1,1 +1,0 @@
-../tests/repo/explained.py

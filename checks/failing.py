@@ -1,1 +1,0 @@
-../tests/faults/failing.py

@@ -1,1 +1,0 @@
-../tests/store/files.py

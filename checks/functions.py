@@ -1,1 +1,0 @@
-../tests/tools/functions.py

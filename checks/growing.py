@@ -1,1 +1,0 @@
-../tests/store/growing.py

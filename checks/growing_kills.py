@@ -1,1 +1,0 @@
-../tests/faults/growing_kills.py

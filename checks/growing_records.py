@@ -1,1 +1,0 @@
-../tests/properties/growing_records.py

@@ -1,1 +1,0 @@
-../tests/repo/help_examples.py

@@ -1,1 +1,0 @@
-../tests/repo/help_topics.py

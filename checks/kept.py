@@ -1,1 +1,0 @@
-../tests/tools/kept.py

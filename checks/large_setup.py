@@ -1,1 +1,0 @@
-../tests/cases/large_setup.py

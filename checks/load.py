@@ -1,1 +1,0 @@
-../tests/desks/load.py

@@ -1,1 +1,0 @@
-../tests/faults/long_feeds.py

@@ -1,1 +1,0 @@
-../tests/cases/long_loan.py

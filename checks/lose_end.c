@@ -1,1 +1,0 @@
-../tests/faults/lose_end.c

@@ -1,1 +1,0 @@
-../tests/desks/many_desks.py

@@ -1,1 +1,0 @@
-../tests/store/message_texts.py

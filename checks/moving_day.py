@@ -1,1 +1,0 @@
-../tests/desks/moving_day.py

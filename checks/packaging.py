@@ -1,1 +1,0 @@
-../tests/repo/packaging.py

@@ -1,1 +1,0 @@
-../tests/faults/refuse_growth.c

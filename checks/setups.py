@@ -1,1 +1,0 @@
-../tests/cases/setups.py

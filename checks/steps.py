@@ -1,1 +1,0 @@
-../tests/cases/sessions.py

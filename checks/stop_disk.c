@@ -1,1 +1,0 @@
-../tests/faults/stop_disk.c

@@ -1,1 +1,0 @@
-../tests/store/stock_sqlite.py

@@ -1,1 +1,0 @@
-../tests/common/museum.py

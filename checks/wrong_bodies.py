@@ -1,1 +1,0 @@
-../tests/tools/wrong_bodies.py
